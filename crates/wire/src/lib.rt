@@ -1,0 +1,13 @@
+//! The values that cross a boundary: who is there, what is asked for, and what is agreed on.
+//!
+//! Every value of these types may stand in a frame between seven nodes. Their bytes come with the frames.
+#![tactic(auto)]
+
+mod command;
+mod nodes;
+mod number;
+
+pub use command::{Command, Op, Request};
+pub use nodes::{NodeId, Nodes};
+pub use number::Number;
+pub use synod::{Ballot, MOST_NODES, SLOTS, Slot, Vote};
