@@ -1,0 +1,6 @@
+//! Stable records.
+#![tactic(auto)]
+
+mod failing;
+
+pub use failing::Failing;
