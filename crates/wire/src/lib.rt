@@ -4,10 +4,12 @@
 #![tactic(auto)]
 
 mod command;
+mod message;
 mod nodes;
 mod number;
 
 pub use command::{Command, Op, Request};
+pub use message::{Entries, Envelope, Message, Nack, Prepare, Promise};
 pub use nodes::{NodeId, Nodes};
 pub use number::Number;
 pub use synod::{Ballot, MOST_NODES, SLOTS, Slot, Vote};
