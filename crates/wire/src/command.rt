@@ -4,12 +4,13 @@ ghost use Rattle.std.specs.Prelude.{◌≡◌};
 
 use super::number::Number;
 use std::marker::Model;
+use tpoint::Id;
 
 /// A change to the database.
 #[derive(Clone, Debug, Drop, PartialEq, Eq)]
 pub enum Op {
     /// The feature of this id goes.
-    Remove(u8),
+    Remove(Id),
 }
 
 /// A client's request. It is known by its client and number alone.

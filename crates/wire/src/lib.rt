@@ -13,3 +13,4 @@ pub use message::{Entries, Envelope, Message, Nack, Prepare, Promise};
 pub use nodes::{NodeId, Nodes};
 pub use number::Number;
 pub use synod::{Ballot, MOST_NODES, SLOTS, Slot, Vote};
+pub use tpoint::Id;
