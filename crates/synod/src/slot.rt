@@ -31,7 +31,11 @@ impl Slot {
         ensures valid { IsSome result ↔ (value < SLOTS) }
         ensures value { IfSome result (λ slot. slot ≡ value) }
     {
-        if value < SLOTS { Some(Slot { value }) } else { None }
+        if value < SLOTS {
+            Some(Slot { value })
+        } else {
+            None
+        }
     }
 
     /// Its number.
