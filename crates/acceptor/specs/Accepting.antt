@@ -1,6 +1,20 @@
 -- What an acceptor holds, and what it makes of a prepare and of an accept.
-use Rattle.std.specs.Prelude.{◌≡◌, ◌≢◌, ℕ, ◌==◌, ◌≤◌, ◌⊎◌, nat_lt, List, Option, Some, None,
-  option_map, if◌then◌else◌, IfSome}
+use Rattle.std.specs.Prelude.{
+  ◌≡◌,
+  ◌≢◌,
+  ℕ,
+  ◌==◌,
+  ◌≤◌,
+  ◌⊎◌,
+  nat_lt,
+  List,
+  Option,
+  Some,
+  None,
+  option_map,
+  if◌then◌else◌,
+  IfSome,
+}
 use Rattle.std.specs.Option.{option_to_list}
 use Rattle.synod.specs.Ballots.{rank, rank_of}
 use Rattle.synod.specs.declared.ballot.Ballot.{Ballot}
@@ -32,7 +46,7 @@ pub record IsGreatest (promised : Option Ballot) (vote : ℕ → Option (Vote Co
   pub not_below_the_record : rank_of promised ≤ rank_of promise
   pub not_below_a_vote : (s : ℕ) → IfSome (vote s) (λ v. rank v.ballot ≤ rank_of promise)
   pub among_them : (promise ≡ promised)
-    ⊎ ((s : ℕ) × (v : Vote Command) × (vote s ≡ Some v) × (promise ≡ Some v.ballot))
+      ⊎ ((s : ℕ) × (v : Vote Command) × (vote s ≡ Some v) × (promise ≡ Some v.ballot))
 
 -- each record is the spelling of what the acceptor holds
 pub record RecordsSay (records : Key → Option (List ℕ)) (a : Accepting) : Type 0 where
