@@ -1,3 +1,5 @@
 pub mod Faults
 pub mod Memory
 pub mod Records
+pub mod Script
+pub mod ScriptLaws

@@ -1,2 +1,15 @@
 pub mod Ids
 pub mod Instants
+pub mod Coordinates
+pub mod Places
+pub mod Fraction
+pub mod Moving
+pub mod Same
+pub mod Extents
+pub mod Faults
+pub mod Pieces
+pub mod Lowest
+pub mod Reduced
+pub mod FracText
+pub mod Signs
+pub mod Ways

@@ -1,8 +1,28 @@
 //! Moving points: where something is at every instant, told by a list of instants with positions.
+//!
+//! A `Seq` has a value at an instant, or none; `Seq::value_at` gives it as fractions, never rounded.
+//! Instants are whole milliseconds and coordinates whole millimetres, but what a value is stands in
+//! `specs/Moving.antt` for every fraction of a millisecond, so that the crates above can cut and clip.
 #![tactic(auto)]
 
+mod coordinate;
+mod faults;
+mod frac;
 mod id;
 mod instant;
+mod interp;
+mod period;
+mod point;
+mod rect;
+mod seq;
 
+pub use coordinate::{FURTHEST, is_coordinate};
+pub use faults::{AppendFault, SeqFault};
+pub use frac::Frac;
 pub use id::{Id, LONGEST_ID, is_id_byte};
 pub use instant::{Instant, LAST_MS};
+pub use interp::Interp;
+pub use period::Period;
+pub use point::Point;
+pub use rect::Rect;
+pub use seq::{MOST_POINTS, Seq};

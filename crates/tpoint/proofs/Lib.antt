@@ -1,0 +1,9 @@
+pub mod Polynomials
+pub mod Fractions
+pub mod PlaceLemmas
+pub mod PieceLemmas
+pub mod Gcds
+pub mod SubLegs
+pub mod Unique
+pub mod Parameters
+pub mod Appending

@@ -1,0 +1,43 @@
+-- Why points are refused.
+use Rattle.std.specs.Prelude.{◌≡◌, ℕ, ◌+◌, ◌-◌, ◌<◌, ◌≤◌, List, length}
+use Rattle.tpoint.specs.Places.{EachAt}
+use Rattle.tpoint.specs.Moving.{Rises, InBounds}
+use Rattle.tpoint.specs.declared.point.Point.{Point}
+use Rattle.tpoint.specs.declared.seq.TheConstants.{MOST_POINTS}
+use Rattle.tpoint.specs.declared.faults.SeqFault.{SeqFault}
+use Rattle.tpoint.specs.declared.faults.SeqFault.TheVariants as seq_fault
+use Rattle.tpoint.specs.declared.faults.AppendFault.{AppendFault}
+use Rattle.tpoint.specs.declared.faults.AppendFault.TheVariants as append_fault
+
+-- ---- a list of points that is no sequence: of all faults the first kind, and of that kind the first place
+-- i is the first place at which P fails
+pub record FirstFailure (P : ℕ → Type 0) (count i : ℕ) : Type 0 where
+  pub within : i < count
+  pub before : (k : ℕ) → k < i → P k
+  pub fails : ¬ P i
+
+abbrev pub RightCount : List Point → Type 0
+RightCount ps = (1 ≤ length ps) × (length ps ≤ MOST_POINTS)
+
+abbrev pub IsFault : List Point → SeqFault → Type 0
+IsFault ps seq_fault.Empty = length ps ≡ 0
+IsFault ps seq_fault.TooMany = MOST_POINTS < length ps
+IsFault ps (seq_fault.NotIncreasing i) = RightCount ps × ((k : ℕ) × (i ≡ k + 1) × (i < length ps) × FirstFailure (Rises ps) (length ps) k)
+IsFault ps (seq_fault.Range i) = RightCount ps × ((k : ℕ) → Rises ps k) × FirstFailure (EachAt ps InBounds) (length ps) i
+
+-- ---- a point that is not appended
+-- it is later than the last point
+pub record IsLater (ps : List Point) (p : Point) : Type 0 where
+  pub after_last : EachAt ps (λ (last : Point). last.t < p.t) (length ps - 1)
+
+-- it may be appended
+pub record MayFollow (ps : List Point) (p : Point) : Type 0 where
+  pub later : IsLater ps p
+  pub room : length ps < MOST_POINTS
+  pub in_bounds : InBounds p
+
+abbrev pub IsAppendFault : List Point → Point → AppendFault → Type 0
+IsAppendFault ps p append_fault.NotLater = ¬ IsLater ps p
+IsAppendFault ps p append_fault.Full = IsLater ps p × (length ps ≡ MOST_POINTS)
+IsAppendFault ps p append_fault.Range = IsLater ps p × (length ps < MOST_POINTS) × (¬ InBounds p)
+IsAppendFault ps p append_fault.Memory = MayFollow ps p

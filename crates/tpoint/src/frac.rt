@@ -1,0 +1,33 @@
+//! Fractions in lowest terms.
+
+ghost use Rattle.std.specs.Prelude.{pos, ◌≤ℤ◌, unsigned_abs};
+ghost use Rattle.tpoint.specs.Lowest.{IsLowest};
+
+use std::fmt;
+
+/// A fraction in lowest terms: `num / den`, with `den` at least 1.
+///
+/// It prints `n` where `den` is 1, else `n/d`; a minus sign comes first.
+#[derive(Clone, Copy, Debug, PartialEq, Eq)]
+pub struct Frac {
+    pub num: i128,
+    pub den: i64,
+    pub ghost positive: { pos 1 ≤ℤ den },
+    pub ghost lowest: { IsLowest (unsigned_abs num) (unsigned_abs den) },
+}
+
+impl fmt::Display for Frac {
+    ghost use Rattle.tpoint.specs.FracText.{frac_text};
+    ghost use Rattle.std.specs.Prelude.{Some};
+
+    ghost output = { λ f. Some (frac_text f) };
+
+    fn fmt<W: fmt::Write>(&self, f: &mut fmt::Formatter<W>) -> fmt::Result {
+        let num = self.num;
+        let den = self.den;
+        if den == 1 {
+            return write!(f, "{num}");
+        }
+        write!(f, "{num}/{den}")
+    }
+}
