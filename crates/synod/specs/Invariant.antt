@@ -3,6 +3,7 @@ use Rattle.std.specs.Prelude.{◌≡◌, ℕ, ◌<◌, ◌≤◌, ◌⊎◌, Lis
 use Rattle.synod.specs.Ballots.{Ballot, rank}
 use Rattle.synod.specs.Majorities.{Majority}
 use Rattle.synod.specs.Messages.{Vote, Message, Promise, Accept, Accepted, Decided}
+use Rattle.synod.specs.Records.{Records, VoteWrite}
 use Rattle.synod.specs.History.{Learning, History, Sent, Proposed, Voted}
 use Rattle.synod.specs.Chosen.{Chosen, Safe}
 use Rattle.synod.specs.Minds.{Campaign, Mind, proposal, Covers, IsSettled}
@@ -21,6 +22,19 @@ pub record Told {C : Type 0} (h : History C) (a : ℕ) (b : Ballot) (first last 
   -- what is told was voted
   pub only : (v : Vote C) → Contains votes v → Voted h a v
 
+-- The records of a node are sound: they stand for its votes. (Section 2.2: an acceptor remembers
+-- "the highest-numbered proposal that it has ever accepted and the number of the highest-numbered
+-- prepare request to which it has responded".)
+pub record AreSound {C : Type 0} (r : Records C) : Type 0 where
+  -- no vote is above the promise
+  pub promised : (v : Vote C) → Contains r.writes (VoteWrite v) → rank v.ballot ≤ r.promise
+  -- from the floor on, the record of a slot is the highest vote there
+  pub highest : (v : Vote C) → Contains r.writes (VoteWrite v) → r.floor ≤ v.slot →
+      (u : Vote C) × (r.vote v.slot ≡ Some u) × (rank v.ballot ≤ rank u.ballot)
+  -- the record of a slot is a vote there
+  pub kept : (s : ℕ) (v : Vote C) → r.vote s ≡ Some v →
+      (v.slot ≡ s) × Contains r.writes (VoteWrite v)
+
 -- The past is lawful. (Section 2.2.)
 pub record IsLawful {C : Type 0} (f : Fleet C) (h : History C) : Type 0 where
   -- a proposal's ballot is of a round that its node has written
@@ -34,13 +48,8 @@ pub record IsLawful {C : Type 0} (f : Fleet C) (h : History C) : Type 0 where
   pub asked : (v : Vote C) → Proposed h v → (v.command ≡ f.noop) ⊎ Contains h.submitted v.command
   -- each vote is for a proposal
   pub backed : (a : ℕ) (v : Vote C) → Voted h a v → Proposed h v
-  -- no vote is above the promise
-  pub promised : (a : ℕ) (v : Vote C) → Voted h a v → rank v.ballot ≤ (h.records a).promise
-  -- from the floor on, the record of a slot is the highest vote there
-  pub highest : (a : ℕ) (v : Vote C) → Voted h a v → (h.records a).floor ≤ v.slot →
-      (u : Vote C) × ((h.records a).vote v.slot ≡ Some u) × (rank v.ballot ≤ rank u.ballot)
-  -- the record of a slot is a vote there
-  pub kept : (a s : ℕ) (v : Vote C) → (h.records a).vote s ≡ Some v → (v.slot ≡ s) × Voted h a v
+  -- each node's records are sound
+  pub records : (a : ℕ) → AreSound (h.records a)
   -- what a promise told is so
   pub told : (a : ℕ) (b : Ballot) (first last : ℕ) (votes : List (Vote C)) →
       Sent h a (Promise b first last votes) → Told h a b first last votes

@@ -1,0 +1,9 @@
+pub mod Meeting
+pub mod Puts
+pub mod Stable
+pub mod Pasts
+pub mod Choosing
+pub mod Thinking
+pub mod Writing
+pub mod Acting
+pub mod Running
