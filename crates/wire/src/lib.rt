@@ -5,11 +5,13 @@
 
 mod command;
 mod message;
+mod node_set;
 mod nodes;
 mod number;
 
 pub use command::{Command, Op, Request};
 pub use message::{Entries, Envelope, Message, Nack, Prepare, Promise};
+pub use node_set::NodeSet;
 pub use nodes::{NodeId, Nodes};
 pub use number::Number;
 pub use synod::{Ballot, MOST_NODES, SLOTS, Slot, Vote};

@@ -43,6 +43,13 @@ impl Entries {
         Ok(())
     }
 
+    /// The votes themselves.
+    pub fn into_vec(self) -> Vec<Vote<Command>>
+        ensures { result.items ≡ self }
+    {
+        self.votes
+    }
+
     /// The votes.
     pub fn as_slice(&self) -> &[Vote<Command>]
         ensures { result.now ≡ self.now }
