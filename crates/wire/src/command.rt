@@ -1,8 +1,9 @@
 //! What clients ask for, and what nodes agree on.
 
-ghost use Rattle.std.specs.Prelude.{◌≡◌};
+ghost use Rattle.std.specs.Prelude.{◌≡◌, IfOk};
 
 use super::number::Number;
+use std::alloc::AllocError;
 use std::marker::Model;
 use tpoint::Id;
 
@@ -53,6 +54,13 @@ impl Request {
         self.number
     }
 
+    /// A copy, equal to it.
+    pub fn try_clone(&self) -> Result<Request, AllocError>
+        ensures { IfOk result (λ copy. copy ≡ self.now) }
+    {
+        Ok(self.clone()?)
+    }
+
     /// What is asked for.
     pub fn op(&self) -> &Op
         ensures { result.now ≡ self.now.op }
@@ -68,4 +76,13 @@ pub enum Command {
     NoOp,
     /// What a client asked for.
     Request(Request),
+}
+
+impl Command {
+    /// A copy, equal to it.
+    pub fn try_clone(&self) -> Result<Command, AllocError>
+        ensures { IfOk result (λ copy. copy ≡ self.now) }
+    {
+        Ok(self.clone()?)
+    }
 }

@@ -96,6 +96,15 @@ pub enum Message {
     Accepted(Vote<Command>),
 }
 
+impl Message {
+    /// A copy, equal to it.
+    pub fn try_clone(&self) -> Result<Message, AllocError>
+        ensures { IfOk result (λ copy. copy ≡ self.now) }
+    {
+        Ok(self.clone()?)
+    }
+}
+
 /// A message on its way.
 #[derive(Clone, Debug, Drop)]
 pub struct Envelope {
@@ -104,9 +113,11 @@ pub struct Envelope {
     pub message: Message,
 }
 
-/// A copy of a message, equal to it.
-pub fn copy(message: &Message) -> Result<Message, AllocError>
-    ensures { IfOk result (λ m. m ≡ message.now) }
-{
-    Ok(message.clone()?)
+impl Envelope {
+    /// A copy, equal to it.
+    pub fn try_clone(&self) -> Result<Envelope, AllocError>
+        ensures { IfOk result (λ copy. copy ≡ self.now) }
+    {
+        Ok(self.clone()?)
+    }
 }

@@ -42,6 +42,16 @@ impl Nodes {
     {
         self.count
     }
+
+    /// The node of this number, which the run has.
+    pub fn node(self, number: u8) -> NodeId
+        requires { number < self }
+        ensures { result ≡ number }
+    {
+        // Read, so that it is known how many nodes there are at most.
+        let _count = self.count;
+        NodeId { value: number }
+    }
 }
 
 /// The name of a node: its number, from 0, below that of the nodes in the largest run.
