@@ -99,3 +99,15 @@ pub record IsAcceptWrite (a : Accepting) (v : Vote Command) (write : Write) : Ty
   pub already : a.vote v.slot ≡ Some v → write ≡ None
   pub cast : refusing a.promise v.ballot ≡ None → a.vote v.slot ≢ Some v
       → write ≡ Some (key.Vote v.slot, vote_bytes v)
+
+-- ---- what a call makes of the storage, whose relations are given
+-- the write is made, or where there is none the storage is at most read
+abbrev pub HasWritten : {S : Type 0} → (S → S → Type 0) → (S → Key → List ℕ → S → Type 0)
+    → S → S → Write → Type 0
+HasWritten reads puts old new None = reads old new
+HasWritten reads puts old new (Some w) = puts old w.0 w.1 new
+
+-- there was a write to make, and the device failed on it
+abbrev pub HasFailed : {S : Type 0} → (S → Key → List ℕ → S → Type 0) → S → S → Write → Type 0
+HasFailed fails old new None = ⊥
+HasFailed fails old new (Some w) = fails old w.0 w.1 new

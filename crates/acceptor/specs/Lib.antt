@@ -1,2 +1,5 @@
-pub mod Spelling
 pub mod Accepting
+pub mod Forms
+pub mod Loading
+pub mod Spelling
+pub mod State

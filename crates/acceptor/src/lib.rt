@@ -1,6 +1,12 @@
 //! One node's acceptor: what it has promised, what it has voted for, and that both are written before they are told.
 #![tactic(auto)]
 
+mod acceptor;
 mod answer;
+mod cast;
+mod reading;
+mod records;
+mod spelling;
 
+pub use acceptor::Acceptor;
 pub use answer::Answer;

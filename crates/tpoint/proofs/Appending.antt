@@ -1,5 +1,6 @@
 -- A point more at the end of a sequence.
-use Rattle.std.proofs.Common.{◌≡◌, ℕ, ◌+◌, ◌-◌, ◌<◌, ◌≤◌, suc, zero, inl, inr, List, [], ◌∷◌, ◌++◌, length, slice_get, Some, ap, subst, length-append, arith}
+use Rattle.std.proofs.Common.{◌≡◌, ℕ, ◌+◌, ◌-◌, ◌<◌, ◌≤◌, suc, zero, inl, inr, List, [], ◌∷◌, ◌++◌, length, slice_get, Some, ap, subst}
+use Rattle.std.proofs.Common.{length-append, arith}
 use Rattle.std.proofs.lemmas.Bool.{cases_lt}
 use Rattle.std.proofs.lemmas.Option.{same_Some, none-some, slice_get_within}
 use Rattle.tpoint.specs.Faults.{IsLater, MayFollow}
@@ -33,7 +34,8 @@ rises_more ps p rise later k a b e f =
       | inl h ↦ rise k a b (kept_at ps p a k (omega arith) e) (kept_at ps p b (k + 1) h f)
       | inr h ↦
           let within : k + 1 < length ps + 1 = omega (arith, slice_get_within (ps ++ p ∷ []) (k + 1) b f, length-append ps (p ∷ [])) in
-          let at_last : slice_get ps (length ps - 1) ≡ Some a = subst (λ (j : ℕ). slice_get ps j ≡ Some a) (omega arith) (kept_at ps p a k (omega arith) e) in
+          let at_last : slice_get ps (length ps - 1) ≡ Some a = subst (λ (j : ℕ). slice_get ps j ≡ Some a) (omega arith)
+          (kept_at ps p a k (omega arith) e) in
           let new : p ≡ b = added_at ps p b (k + 1) h f in
           omega (arith, later.after_last a at_last, ap (λ (q : Point). q.t) new)
     ]

@@ -7,3 +7,5 @@ pub mod SubLegs
 pub mod Unique
 pub mod Parameters
 pub mod Appending
+pub mod ValueLemmas
+pub mod IdTexts

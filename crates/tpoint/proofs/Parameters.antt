@@ -33,7 +33,8 @@ time_at t0 D h t =
     let A = nat t0 in
     record { cross = eq_from (N ⊛ e) ((A ⊛ e ⊕ (nat (t0 + D) ⊝ A) ⊛ (N ⊝ A ⊛ d)) ⊛ d) (omega arith) }
 
-value_at : (v : Fraction) (x0 x1 : ℤ) (t0 D : ℕ) (h : 1 ≤ D) (t : Fraction) → InProportion v (whole x0) (whole x1) t (moment t0) (moment (t0 + D)) → v ≈ way x0 x1 (parameter t0 D h t)
+value_at : (v : Fraction) (x0 x1 : ℤ) (t0 D : ℕ) (h : 1 ≤ D) (t : Fraction) →
+    InProportion v (whole x0) (whole x1) t (moment t0) (moment (t0 + D)) → v ≈ way x0 x1 (parameter t0 D h t)
 value_at v x0 x1 t0 D h t p =
     let N = int t.num in
     let d = nat t.den in
@@ -50,7 +51,8 @@ value_at v x0 x1 t0 D h t p =
     p.cross in
     record { cross = eq_from (V ⊛ e) ((X ⊛ e ⊕ (Y ⊝ X) ⊛ (N ⊝ A ⊛ d)) ⊛ w) (omega (arith, q)) }
 
-unit_at : (t0 D : ℕ) (h : 1 ≤ D) (t : Fraction) → moment t0 ≤ᶠ t → t ≤ᶠ moment (t0 + D) → (whole (pos 0) ≤ᶠ parameter t0 D h t) × (parameter t0 D h t ≤ᶠ whole (pos 1))
+unit_at : (t0 D : ℕ) (h : 1 ≤ D) (t : Fraction) → moment t0 ≤ᶠ t → t ≤ᶠ moment (t0 + D) →
+    (whole (pos 0) ≤ᶠ parameter t0 D h t) × (parameter t0 D h t ≤ᶠ whole (pos 1))
 unit_at t0 D h t p q =
     let N = int t.num in
     let d = nat t.den in
@@ -68,17 +70,25 @@ begun_at t0 D u p =
     let n = int u.num in
     let d = nat u.den in
     let A = nat t0 in
-    record { cross = le_from (A ⊛ d) ((A ⊛ d ⊕ (nat (t0 + D) ⊝ A) ⊛ n) ⊛ nat 1) (omega (arith, mul-le-mul_right D (le_parts (nat 0 ⊛ d) (n ⊛ nat 1) p.cross))) }
+    record {
+      cross = le_from (A ⊛ d) ((A ⊛ d ⊕ (nat (t0 + D) ⊝ A) ⊛ n) ⊛ nat 1)
+          (omega (arith, mul-le-mul_right D (le_parts (nat 0 ⊛ d) (n ⊛ nat 1) p.cross)));
+    }
 
 not_over_at : (t0 D : ℕ) (u : Fraction) → u ≤ᶠ whole (pos 1) → way (pos t0) (pos (t0 + D)) u ≤ᶠ moment (t0 + D)
 not_over_at t0 D u p =
     let n = int u.num in
     let d = nat u.den in
     let A = nat t0 in
-    record { cross = le_from ((A ⊛ d ⊕ (nat (t0 + D) ⊝ A) ⊛ n) ⊛ nat 1) (nat (t0 + D) ⊛ d) (omega (arith, mul-le-mul_right D (le_parts (n ⊛ nat 1) (nat 1 ⊛ d) p.cross))) }
+    record {
+      cross = le_from ((A ⊛ d ⊕ (nat (t0 + D) ⊝ A) ⊛ n) ⊛ nat 1) (nat (t0 + D) ⊛ d)
+          (omega (arith, mul-le-mul_right D (le_parts (n ⊛ nat 1) (nat 1 ⊛ d) p.cross)));
+    }
 
 -- with the two upper numbers as variables: written out, the products have too many terms for `omega`
-proportion : (v n m : ℤ) (x0 x1 : ℤ) (t0 D d : ℕ) → v ≡ x0 *ℤ pos d +ℤ (x1 -ℤ x0) *ℤ n → m ≡ pos t0 *ℤ pos d +ℤ (pos (t0 + D) -ℤ pos t0) *ℤ n → ((v *ℤ pos 1 -ℤ x0 *ℤ pos d) *ℤ (pos (t0 + D) *ℤ pos 1 -ℤ pos t0 *ℤ pos 1)) *ℤ pos (1 * 1 * (d * 1)) ≡ ((x1 *ℤ pos 1 -ℤ x0 *ℤ pos 1) *ℤ (m *ℤ pos 1 -ℤ pos t0 *ℤ pos d)) *ℤ pos (d * 1 * (1 * 1))
+proportion : (v n m : ℤ) (x0 x1 : ℤ) (t0 D d : ℕ) → v ≡ x0 *ℤ pos d +ℤ (x1 -ℤ x0) *ℤ n →
+    m ≡ pos t0 *ℤ pos d +ℤ (pos (t0 + D) -ℤ pos t0) *ℤ n → ((v *ℤ pos 1 -ℤ x0 *ℤ pos d) *ℤ (pos (t0 + D) *ℤ pos 1 -ℤ pos t0 *ℤ pos 1)) *ℤ
+    pos (1 * 1 * (d * 1)) ≡ ((x1 *ℤ pos 1 -ℤ x0 *ℤ pos 1) *ℤ (m *ℤ pos 1 -ℤ pos t0 *ℤ pos d)) *ℤ pos (d * 1 * (1 * 1))
 proportion v n m x0 x1 t0 D d e f =
     let V = int v in
     let M = int m in
@@ -94,12 +104,14 @@ proportion v n m x0 x1 t0 D d e f =
     (((Y ⊛ nat 1 ⊝ X ⊛ nat 1) ⊛ (M ⊛ nat 1 ⊝ A ⊛ k)) ⊛ nat (d * 1 * (1 * 1)))
     (omega (arith, e', f'))
 
-in_proportion_at : (x0 x1 : ℤ) (t0 D : ℕ) (u : Fraction) → InProportion (way x0 x1 u) (whole x0) (whole x1) (way (pos t0) (pos (t0 + D)) u) (moment t0) (moment (t0 + D))
+in_proportion_at : (x0 x1 : ℤ) (t0 D : ℕ) (u : Fraction) → InProportion (way x0 x1 u) (whole x0) (whole x1) (way (pos t0) (pos (t0 + D)) u)
+    (moment t0) (moment (t0 + D))
 in_proportion_at x0 x1 t0 D u =
     record { cross = proportion ((way x0 x1 u).num) u.num ((way (pos t0) (pos (t0 + D)) u).num) x0 x1 t0 D u.den refl refl }
 
 -- ---- for a leg
-parameter_by : (a b : Point) (D : ℕ) (t : Fraction) (v : Position) → 1 ≤ D → b.t ≡ a.t + D → OnLeg (vertex a) (vertex b) t v → (u : Fraction) × Placed a b u t v
+parameter_by : (a b : Point) (D : ℕ) (t : Fraction) (v : Position) → 1 ≤ D → b.t ≡ a.t + D → OnLeg (vertex a) (vertex b) t v →
+    (u : Fraction) × Placed a b u t v
 parameter_by a b D t v one e on =
     let over : t ≤ᶠ moment (a.t + D) = rw e at on.not_over in
     let unit = unit_at a.t D one t on.begun over in (
@@ -113,10 +125,12 @@ parameter_by a b D t v one e on =
       },
     )
 
-pub leg_parameter : (a b : Point) (t : Fraction) (v : Position) → a.t < b.t → OnLeg (vertex a) (vertex b) t v → (u : Fraction) × Placed a b u t v
+pub leg_parameter : (a b : Point) (t : Fraction) (v : Position) → a.t < b.t → OnLeg (vertex a) (vertex b) t v →
+    (u : Fraction) × Placed a b u t v
 leg_parameter a b t v h on = parameter_by a b (b.t - a.t) t v (omega arith) (omega arith) on
 
-pub leg_value : (a b : Point) (u : Fraction) → a.t < b.t → whole (pos 0) ≤ᶠ u → u ≤ᶠ whole (pos 1) → OnLeg (vertex a) (vertex b) (way (pos a.t) (pos b.t) u) (record { x = way a.x b.x u; y = way a.y b.y u })
+pub leg_value : (a b : Point) (u : Fraction) → a.t < b.t → whole (pos 0) ≤ᶠ u → u ≤ᶠ whole (pos 1) →
+    OnLeg (vertex a) (vertex b) (way (pos a.t) (pos b.t) u) (record { x = way a.x b.x u; y = way a.y b.y u })
 leg_value a b u h p q =
     let D = b.t - a.t in
     let e : b.t ≡ a.t + D = omega arith in

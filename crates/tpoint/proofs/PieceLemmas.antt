@@ -1,5 +1,6 @@
--- The pieces of a sequence: what D3's cases at one place of the list say of the points there.
-use Rattle.std.proofs.Common.{◌≡◌, ℕ, ◌+◌, ◌-◌, ◌<◌, ◌≤◌, suc, zero, inl, inr, List, [], ◌∷◌, map, length, slice_get, Some, refl, sym, ◌∙◌, ap, subst, get_or, arith}
+-- The pieces of a sequence: what the value relation at one place of the list says of the points there.
+use Rattle.std.proofs.Common.{◌≡◌, ℕ, ◌+◌, ◌-◌, ◌<◌, ◌≤◌, suc, zero, inl, inr, List, [], ◌∷◌, map, length, slice_get, Some, refl, sym, ◌∙◌}
+use Rattle.std.proofs.Common.{ap, subst, get_or, arith}
 use Rattle.std.proofs.lemmas.Option.{same_Some, none-some, slice_get-map, slice_get_within, slice_get-get_or}
 use Rattle.std.proofs.lemmas.List.{length-map}
 use Rattle.std.specs.Option.{option_map}
@@ -15,16 +16,19 @@ use Rattle.tpoint.specs.Pieces.{AtPoint, HeldUntil, Piece}
 pub mapped : (ps : List Point) (k : ℕ) (q : Point) → slice_get ps k ≡ Some q → slice_get (map vertex ps) k ≡ Some (vertex q)
 mapped ps k q e = slice_get-map vertex ps k ∙ ap (option_map vertex) e
 
-pub unmap : (ps : List Point) (k : ℕ) (w : Vertex) → slice_get (map vertex ps) k ≡ Some w → (q : Point) × (slice_get ps k ≡ Some q) × (vertex q ≡ w)
+pub unmap : (ps : List Point) (k : ℕ) (w : Vertex) → slice_get (map vertex ps) k ≡ Some w →
+    (q : Point) × (slice_get ps k ≡ Some q) × (vertex q ≡ w)
 unmap [] k w e = absurd (none-some w e)
 unmap (x ∷ ps) zero w e = (x, refl, same_Some (vertex x) w e)
 unmap (x ∷ ps) (suc k) w e = unmap ps k w e
 
-pub the_vertex : (ps : List Point) (k : ℕ) (q : Point) (w : Vertex) → slice_get ps k ≡ Some q → slice_get (map vertex ps) k ≡ Some w → w ≡ vertex q
+pub the_vertex : (ps : List Point) (k : ℕ) (q : Point) (w : Vertex) → slice_get ps k ≡ Some q → slice_get (map vertex ps) k ≡ Some w →
+    w ≡ vertex q
 the_vertex ps k q w e f = same_Some w (vertex q) (sym f ∙ mapped ps k q e)
 
 -- ---- instants rise along the list
-pub rises_by : (ps : List Point) → ((k : ℕ) → Rises ps k) → (d i j : ℕ) (p q : Point) → j ≡ i + d → slice_get ps i ≡ Some p → slice_get ps j ≡ Some q → p.t ≤ q.t
+pub rises_by : (ps : List Point) → ((k : ℕ) → Rises ps k) → (d i j : ℕ) (p q : Point) → j ≡ i + d → slice_get ps i ≡ Some p →
+    slice_get ps j ≡ Some q → p.t ≤ q.t
 rises_by ps rise zero i j p q e a b =
     let at : slice_get ps i ≡ Some q = subst (λ (k : ℕ). slice_get ps k ≡ Some q) (omega arith) b in
     let same = same_Some p q (sym a ∙ at) in
@@ -35,20 +39,24 @@ rises_by ps rise (suc d) i j p q e a b =
     let there : slice_get ps (i + d) ≡ Some m = slice_get-get_or ps (i + d) p (omega (arith, slice_get_within ps (i + d + 1) q at)) in
     omega (arith, rises_by ps rise d i (i + d) p m refl a there, rise (i + d) m q there at)
 
-pub rises_le : (ps : List Point) → ((k : ℕ) → Rises ps k) → (i j : ℕ) (p q : Point) → i ≤ j → slice_get ps i ≡ Some p → slice_get ps j ≡ Some q → p.t ≤ q.t
+pub rises_le : (ps : List Point) → ((k : ℕ) → Rises ps k) → (i j : ℕ) (p q : Point) → i ≤ j → slice_get ps i ≡ Some p →
+    slice_get ps j ≡ Some q → p.t ≤ q.t
 rises_le ps rise i j p q h a b = rises_by ps rise (j - i) i j p q (omega arith) a b
 
 -- ---- the pieces
-pub discrete_to : (ps : List Point) (i : ℕ) (p : Point) → slice_get ps i ≡ Some p → (t : Fraction) (v : Position) → AtPoint p t v → AtListed (map vertex ps) i t v
+pub discrete_to : (ps : List Point) (i : ℕ) (p : Point) → slice_get ps i ≡ Some p → (t : Fraction) (v : Position) → AtPoint p t v →
+    AtListed (map vertex ps) i t v
 discrete_to ps i p e t v h = record { point = vertex p; listed = mapped ps i p e; then = h.then; there = h.there }
 
-pub discrete_from : (ps : List Point) (i : ℕ) (p : Point) → slice_get ps i ≡ Some p → (t : Fraction) (v : Position) → AtListed (map vertex ps) i t v → AtPoint p t v
+pub discrete_from : (ps : List Point) (i : ℕ) (p : Point) → slice_get ps i ≡ Some p → (t : Fraction) (v : Position) →
+    AtListed (map vertex ps) i t v → AtPoint p t v
 discrete_from ps i p e t v h =
     let P : Vertex → Type 0 = λ w. (t ≈ moment w.time) × IsPlace v w.place in
     let r = subst P (the_vertex ps i p h.point e h.listed) (h.then, h.there) in
     record { then = r.0; there = r.1 }
 
-pub held_to : (ps : List Point) → ((k : ℕ) → Rises ps k) → (i : ℕ) (p q : Point) → slice_get ps i ≡ Some p → slice_get ps (i + 1) ≡ Some q → (t : Fraction) (v : Position) → HeldUntil p q t v → AtStep (map vertex ps) i t v
+pub held_to : (ps : List Point) → ((k : ℕ) → Rises ps k) → (i : ℕ) (p q : Point) → slice_get ps i ≡ Some p →
+    slice_get ps (i + 1) ≡ Some q → (t : Fraction) (v : Position) → HeldUntil p q t v → AtStep (map vertex ps) i t v
 held_to ps rise i p q e f t v h =
     record {
       point = vertex p;
@@ -63,13 +71,15 @@ held_to ps rise i p q e f t v h =
       there = h.there;
     }
 
-pub held_from : (ps : List Point) (i : ℕ) (p q : Point) → slice_get ps i ≡ Some p → slice_get ps (i + 1) ≡ Some q → (t : Fraction) (v : Position) → AtStep (map vertex ps) i t v → HeldUntil p q t v
+pub held_from : (ps : List Point) (i : ℕ) (p q : Point) → slice_get ps i ≡ Some p → slice_get ps (i + 1) ≡ Some q →
+    (t : Fraction) (v : Position) → AtStep (map vertex ps) i t v → HeldUntil p q t v
 held_from ps i p q e f t v h =
     let P : Vertex → Type 0 = λ w. (moment w.time ≤ᶠ t) × IsPlace v w.place in
     let r = subst P (the_vertex ps i p h.point e h.listed) (h.reached, h.there) in
     record { reached = r.0; not_left = h.not_left (i + 1) (vertex q) (omega arith) (mapped ps (i + 1) q f); there = r.1 }
 
-pub last_to : (ps : List Point) (i : ℕ) (p : Point) → length ps ≤ i + 1 → slice_get ps i ≡ Some p → (t : Fraction) (v : Position) → AtPoint p t v → AtStep (map vertex ps) i t v
+pub last_to : (ps : List Point) (i : ℕ) (p : Point) → length ps ≤ i + 1 → slice_get ps i ≡ Some p → (t : Fraction) (v : Position) →
+    AtPoint p t v → AtStep (map vertex ps) i t v
 last_to ps i p over e t v h =
     record {
       point = vertex p;
@@ -80,7 +90,8 @@ last_to ps i p over e t v h =
       there = h.there;
     }
 
-pub last_from : (ps : List Point) → ((k : ℕ) → Rises ps k) → (i : ℕ) (p : Point) → length ps ≤ i + 1 → slice_get ps i ≡ Some p → (t : Fraction) (v : Position) → AtStep (map vertex ps) i t v → AtPoint p t v
+pub last_from : (ps : List Point) → ((k : ℕ) → Rises ps k) → (i : ℕ) (p : Point) → length ps ≤ i + 1 → slice_get ps i ≡ Some p →
+    (t : Fraction) (v : Position) → AtStep (map vertex ps) i t v → AtPoint p t v
 last_from ps rise i p over e t v h =
     let P : Vertex → Type 0 = λ w. (moment w.time ≤ᶠ t) × IsPlace v w.place in
     let r = subst P (the_vertex ps i p h.point e h.listed) (h.reached, h.there) in
@@ -92,11 +103,13 @@ last_from ps rise i p over e t v h =
     let order = rises_le ps rise j i found.0 p (omega (arith, slice_get_within ps j found.0 found.1)) found.1 e in
     record { then = ≈_from_≤ᶠ (≤ᶠ_trans before ((moment_le found.0.t p.t).0 order)) r.0; there = r.1 }
 
-pub leg_to : (ps : List Point) (i : ℕ) (p q : Point) → slice_get ps i ≡ Some p → slice_get ps (i + 1) ≡ Some q → (t : Fraction) (v : Position) → OnLeg (vertex p) (vertex q) t v → AtPlace Linear (map vertex ps) i t v
+pub leg_to : (ps : List Point) (i : ℕ) (p q : Point) → slice_get ps i ≡ Some p → slice_get ps (i + 1) ≡ Some q →
+    (t : Fraction) (v : Position) → OnLeg (vertex p) (vertex q) t v → AtPlace Linear (map vertex ps) i t v
 leg_to ps i p q e f t v h =
     inl (record { point = vertex p; next = vertex q; listed = mapped ps i p e; next_listed = mapped ps (i + 1) q f; between = h })
 
-pub leg_from : (ps : List Point) (i : ℕ) (p q : Point) → i + 1 < length ps → slice_get ps i ≡ Some p → slice_get ps (i + 1) ≡ Some q → (t : Fraction) (v : Position) → AtPlace Linear (map vertex ps) i t v → OnLeg (vertex p) (vertex q) t v
+pub leg_from : (ps : List Point) (i : ℕ) (p q : Point) → i + 1 < length ps → slice_get ps i ≡ Some p → slice_get ps (i + 1) ≡ Some q →
+    (t : Fraction) (v : Position) → AtPlace Linear (map vertex ps) i t v → OnLeg (vertex p) (vertex q) t v
 leg_from ps i p q within e f t v h =
     elim h [
       | inl b ↦
@@ -106,17 +119,20 @@ leg_from ps i p q within e f t v h =
       | inr s ↦ absurd (omega (arith, s.0, length-map ps vertex))
     ]
 
-pub single_to : (ps : List Point) (i : ℕ) (p : Point) → length ps ≡ 1 → slice_get ps i ≡ Some p → (t : Fraction) (v : Position) → AtPoint p t v → AtPlace Linear (map vertex ps) i t v
+pub single_to : (ps : List Point) (i : ℕ) (p : Point) → length ps ≡ 1 → slice_get ps i ≡ Some p → (t : Fraction) (v : Position) →
+    AtPoint p t v → AtPlace Linear (map vertex ps) i t v
 single_to ps i p one e t v h = inr (length-map ps vertex ∙ one, discrete_to ps i p e t v h)
 
-pub single_from : (ps : List Point) (i : ℕ) (p : Point) → length ps ≡ 1 → slice_get ps i ≡ Some p → (t : Fraction) (v : Position) → AtPlace Linear (map vertex ps) i t v → AtPoint p t v
+pub single_from : (ps : List Point) (i : ℕ) (p : Point) → length ps ≡ 1 → slice_get ps i ≡ Some p → (t : Fraction) (v : Position) →
+    AtPlace Linear (map vertex ps) i t v → AtPoint p t v
 single_from ps i p one e t v h =
     elim h [
       | inl b ↦ let found = unmap ps (i + 1) b.next b.next_listed in absurd (omega (arith, slice_get_within ps (i + 1) found.0 found.1))
       | inr s ↦ discrete_from ps i p e t v s.1
     ]
 
-pub no_leg : (ps : List Point) (i : ℕ) → length ps ≤ i + 1 → ¬ (length ps ≡ 1) → (t : Fraction) (v : Position) → ¬ AtPlace Linear (map vertex ps) i t v
+pub no_leg : (ps : List Point) (i : ℕ) → length ps ≤ i + 1 → ¬ (length ps ≡ 1) → (t : Fraction) (v : Position) →
+    ¬ AtPlace Linear (map vertex ps) i t v
 no_leg ps i over many t v h =
     elim h [
       | inl b ↦ let found = unmap ps (i + 1) b.next b.next_listed in absurd (omega (arith, slice_get_within ps (i + 1) found.0 found.1))

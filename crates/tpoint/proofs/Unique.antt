@@ -1,5 +1,6 @@
 -- A sequence has at most one value at an instant.
-use Rattle.std.proofs.Common.{◌≡◌, ℕ, ◌+◌, ◌-◌, ◌*◌, ◌≤◌, ◌<◌, ℤ, pos, ◌+ℤ◌, ◌*ℤ◌, ◌-ℤ◌, ◌↔◌, inl, inr, List, map, length, slice_get, get_or, Some, ap, sym, subst, ◌∙◌, refl, arith}
+use Rattle.std.proofs.Common.{◌≡◌, ℕ, ◌+◌, ◌-◌, ◌*◌, ◌≤◌, ◌<◌, ℤ, pos, ◌+ℤ◌, ◌*ℤ◌, ◌-ℤ◌, ◌↔◌, inl, inr, List, map, length, slice_get}
+use Rattle.std.proofs.Common.{get_or, Some, ap, sym, subst, ◌∙◌, refl, arith}
 use Rattle.std.proofs.lemmas.Int.{ints}
 use Rattle.std.proofs.lemmas.Bool.{cases_lt}
 use Rattle.std.proofs.lemmas.List.{length-map}
@@ -9,14 +10,16 @@ use Rattle.tpoint.proofs.Fractions.{scale_eq_back, ≤ᶠ_of_≈, ≈_sym, ≈_t
 use Rattle.tpoint.proofs.PieceLemmas.{unmap, rises_le, leg_to}
 use Rattle.tpoint.proofs.SubLegs.{OnLine, line_from, line_to}
 use Rattle.tpoint.specs.Fraction.{Fraction, ◌≈◌, ◌≤ᶠ◌, whole, one_le-mul}
-use Rattle.tpoint.specs.Moving.{Position, Vertex, IsPlace, OnLeg, BetweenNeighbours, AtListed, AtStep, HasValue, Sequence, At, IsValid, Rises, moment, vertex}
+use Rattle.tpoint.specs.Moving.{Position, Vertex, IsPlace, OnLeg, BetweenNeighbours, AtListed, AtStep, HasValue, Sequence, At, IsValid}
+use Rattle.tpoint.specs.Moving.{Rises, moment, vertex}
 use Rattle.tpoint.specs.Pieces.{place, AtPoint, Piece}
 use Rattle.tpoint.specs.declared.point.Point.{Point}
 use Rattle.tpoint.specs.declared.interp.Interp.{Interp}
 use Rattle.tpoint.specs.declared.interp.Interp.TheVariants.{Discrete, Step, Linear}
 
 -- ---- a leg's values at its ends, and that there is one at each instant
-end_line : (x0 x1 : ℤ) (t0 D : ℕ) (v t : Fraction) → 1 ≤ D → t ≈ moment (t0 + D) → OnLine x0 (x1 -ℤ x0) t0 D v.num v.den t.num t.den ↔ (v ≈ whole x1)
+end_line : (x0 x1 : ℤ) (t0 D : ℕ) (v t : Fraction) → 1 ≤ D → t ≈ moment (t0 + D) →
+    OnLine x0 (x1 -ℤ x0) t0 D v.num v.den t.num t.den ↔ (v ≈ whole x1)
 end_line x0 x1 t0 D v t h e =
     let V = int v.num in
     let w = nat v.den in
@@ -29,11 +32,16 @@ end_line x0 x1 t0 D v t h e =
     let f = eq_parts ((Y ⊝ X) ⊛ N ⊛ w) ((Y ⊝ X) ⊛ (nat (t0 + D) ⊛ d) ⊛ w) (ap (λ (z : ℤ). (x1 -ℤ x0) *ℤ z *ℤ pos v.den) n) in
     let l = V ⊛ (nat D ⊛ d) in
     let r = (X ⊛ (nat D ⊛ d) ⊕ (Y ⊝ X) ⊛ (N ⊝ A ⊛ d)) ⊛ w in (
-      λ o. record { cross = scale_eq_back (v.num *ℤ pos 1) (x1 *ℤ pos v.den) (D * t.den) (one_le-mul D t.den h t.at_least_one) (eq_from (V ⊛ nat 1 ⊛ nat (D * t.den)) (Y ⊛ w ⊛ nat (D * t.den)) (omega (arith, f, eq_parts l r o))) },
-      λ o. let g = eq_parts (V ⊛ nat 1 ⊛ nat (D * t.den)) (Y ⊛ w ⊛ nat (D * t.den)) (ap (λ (z : ℤ). z *ℤ pos (D * t.den)) o.cross) in eq_from l r (omega (arith, f, g)),
+      λ o. record {
+        cross = scale_eq_back (v.num *ℤ pos 1) (x1 *ℤ pos v.den) (D * t.den) (one_le-mul D t.den h t.at_least_one)
+            (eq_from (V ⊛ nat 1 ⊛ nat (D * t.den)) (Y ⊛ w ⊛ nat (D * t.den)) (omega (arith, f, eq_parts l r o)));
+      },
+      λ o. let g = eq_parts (V ⊛ nat 1 ⊛ nat (D * t.den)) (Y ⊛ w ⊛ nat (D * t.den))
+          (ap (λ (z : ℤ). z *ℤ pos (D * t.den)) o.cross) in eq_from l r (omega (arith, f, g)),
     )
 
-begin_line : (x0 x1 : ℤ) (t0 D : ℕ) (v t : Fraction) → 1 ≤ D → t ≈ moment t0 → OnLine x0 (x1 -ℤ x0) t0 D v.num v.den t.num t.den ↔ (v ≈ whole x0)
+begin_line : (x0 x1 : ℤ) (t0 D : ℕ) (v t : Fraction) → 1 ≤ D → t ≈ moment t0 →
+    OnLine x0 (x1 -ℤ x0) t0 D v.num v.den t.num t.den ↔ (v ≈ whole x0)
 begin_line x0 x1 t0 D v t h e =
     let V = int v.num in
     let w = nat v.den in
@@ -46,11 +54,16 @@ begin_line x0 x1 t0 D v t h e =
     let f = eq_parts ((Y ⊝ X) ⊛ N ⊛ w) ((Y ⊝ X) ⊛ (A ⊛ d) ⊛ w) (ap (λ (z : ℤ). (x1 -ℤ x0) *ℤ z *ℤ pos v.den) n) in
     let l = V ⊛ (nat D ⊛ d) in
     let r = (X ⊛ (nat D ⊛ d) ⊕ (Y ⊝ X) ⊛ (N ⊝ A ⊛ d)) ⊛ w in (
-      λ o. record { cross = scale_eq_back (v.num *ℤ pos 1) (x0 *ℤ pos v.den) (D * t.den) (one_le-mul D t.den h t.at_least_one) (eq_from (V ⊛ nat 1 ⊛ nat (D * t.den)) (X ⊛ w ⊛ nat (D * t.den)) (omega (arith, f, eq_parts l r o))) },
-      λ o. let g = eq_parts (V ⊛ nat 1 ⊛ nat (D * t.den)) (X ⊛ w ⊛ nat (D * t.den)) (ap (λ (z : ℤ). z *ℤ pos (D * t.den)) o.cross) in eq_from l r (omega (arith, f, g)),
+      λ o. record {
+        cross = scale_eq_back (v.num *ℤ pos 1) (x0 *ℤ pos v.den) (D * t.den) (one_le-mul D t.den h t.at_least_one)
+            (eq_from (V ⊛ nat 1 ⊛ nat (D * t.den)) (X ⊛ w ⊛ nat (D * t.den)) (omega (arith, f, eq_parts l r o)));
+      },
+      λ o. let g = eq_parts (V ⊛ nat 1 ⊛ nat (D * t.den)) (X ⊛ w ⊛ nat (D * t.den))
+          (ap (λ (z : ℤ). z *ℤ pos (D * t.den)) o.cross) in eq_from l r (omega (arith, f, g)),
     )
 
-same_line : (x0 k : ℤ) (t0 D : ℕ) (v w t : Fraction) → 1 ≤ D → OnLine x0 k t0 D v.num v.den t.num t.den → OnLine x0 k t0 D w.num w.den t.num t.den → v ≈ w
+same_line : (x0 k : ℤ) (t0 D : ℕ) (v w t : Fraction) → 1 ≤ D → OnLine x0 k t0 D v.num v.den t.num t.den →
+    OnLine x0 k t0 D w.num w.den t.num t.den → v ≈ w
 same_line x0 k t0 D v w t h p q =
     let V = int v.num in
     let W = int w.num in
@@ -69,33 +82,40 @@ same_line x0 k t0 D v w t h p q =
 sum_of : (a b : Point) → a.t < b.t → b.t ≡ a.t + (b.t - a.t)
 sum_of a b h = omega arith
 
-line_of_leg : (a b : Point) (D : ℕ) (t : Fraction) (v : Position) → b.t ≡ a.t + D → OnLeg (vertex a) (vertex b) t v → OnLine a.x (b.x -ℤ a.x) a.t D v.x.num v.x.den t.num t.den × OnLine a.y (b.y -ℤ a.y) a.t D v.y.num v.y.den t.num t.den
+line_of_leg : (a b : Point) (D : ℕ) (t : Fraction) (v : Position) → b.t ≡ a.t + D → OnLeg (vertex a) (vertex b) t v →
+    OnLine a.x (b.x -ℤ a.x) a.t D v.x.num v.x.den t.num t.den × OnLine a.y (b.y -ℤ a.y) a.t D v.y.num v.y.den t.num t.den
 line_of_leg a b D t v e l = (line_from a.x b.x a.t D v.x t (rw e at l.along_x), line_from a.y b.y a.t D v.y t (rw e at l.along_y))
 
-leg_unique_by : (a b : Point) (D : ℕ) (t : Fraction) (v w : Position) → 1 ≤ D → b.t ≡ a.t + D → OnLeg (vertex a) (vertex b) t v → OnLeg (vertex a) (vertex b) t w → IsPlace v w
+leg_unique_by : (a b : Point) (D : ℕ) (t : Fraction) (v w : Position) → 1 ≤ D → b.t ≡ a.t + D → OnLeg (vertex a) (vertex b) t v →
+    OnLeg (vertex a) (vertex b) t w → IsPlace v w
 leg_unique_by a b D t v w h e l m =
     let p = line_of_leg a b D t v e l in
     let q = line_of_leg a b D t w e m in
     record { same_x = same_line a.x (b.x -ℤ a.x) a.t D v.x w.x t h p.0 q.0; same_y = same_line a.y (b.y -ℤ a.y) a.t D v.y w.y t h p.1 q.1 }
 
-pub leg_unique : (a b : Point) (t : Fraction) (v w : Position) → a.t < b.t → OnLeg (vertex a) (vertex b) t v → OnLeg (vertex a) (vertex b) t w → IsPlace v w
+pub leg_unique : (a b : Point) (t : Fraction) (v w : Position) → a.t < b.t → OnLeg (vertex a) (vertex b) t v →
+    OnLeg (vertex a) (vertex b) t w → IsPlace v w
 leg_unique a b t v w h l m = leg_unique_by a b (b.t - a.t) t v w (omega arith) (omega arith) l m
 
-leg_end_by : (a b : Point) (D : ℕ) (t : Fraction) (v : Position) → 1 ≤ D → b.t ≡ a.t + D → t ≈ moment b.t → OnLeg (vertex a) (vertex b) t v → IsPlace v (place b)
+leg_end_by : (a b : Point) (D : ℕ) (t : Fraction) (v : Position) → 1 ≤ D → b.t ≡ a.t + D → t ≈ moment b.t →
+    OnLeg (vertex a) (vertex b) t v → IsPlace v (place b)
 leg_end_by a b D t v h e f l =
     let p = line_of_leg a b D t v e l in
     let g : t ≈ moment (a.t + D) = rw e at f in
     record { same_x = (end_line a.x b.x a.t D v.x t h g).0 p.0; same_y = (end_line a.y b.y a.t D v.y t h g).0 p.1 }
 
-pub leg_end : (a b : Point) (t : Fraction) (v : Position) → a.t < b.t → t ≈ moment b.t → OnLeg (vertex a) (vertex b) t v → IsPlace v (place b)
+pub leg_end : (a b : Point) (t : Fraction) (v : Position) → a.t < b.t → t ≈ moment b.t → OnLeg (vertex a) (vertex b) t v →
+    IsPlace v (place b)
 leg_end a b t v h f l = leg_end_by a b (b.t - a.t) t v (omega arith) (omega arith) f l
 
-leg_begin_by : (a b : Point) (D : ℕ) (t : Fraction) (v : Position) → 1 ≤ D → b.t ≡ a.t + D → t ≈ moment a.t → OnLeg (vertex a) (vertex b) t v → IsPlace v (place a)
+leg_begin_by : (a b : Point) (D : ℕ) (t : Fraction) (v : Position) → 1 ≤ D → b.t ≡ a.t + D → t ≈ moment a.t →
+    OnLeg (vertex a) (vertex b) t v → IsPlace v (place a)
 leg_begin_by a b D t v h e f l =
     let p = line_of_leg a b D t v e l in
     record { same_x = (begin_line a.x b.x a.t D v.x t h f).0 p.0; same_y = (begin_line a.y b.y a.t D v.y t h f).0 p.1 }
 
-pub leg_begin : (a b : Point) (t : Fraction) (v : Position) → a.t < b.t → t ≈ moment a.t → OnLeg (vertex a) (vertex b) t v → IsPlace v (place a)
+pub leg_begin : (a b : Point) (t : Fraction) (v : Position) → a.t < b.t → t ≈ moment a.t → OnLeg (vertex a) (vertex b) t v →
+    IsPlace v (place a)
 leg_begin a b t v h f l = leg_begin_by a b (b.t - a.t) t v (omega arith) (omega arith) f l
 
 -- ---- positions
@@ -107,13 +127,15 @@ same_trans e f = record { same_x = ≈_trans e.same_x f.same_x; same_y = ≈_tra
 
 -- ---- for one piece after another, v at i and w at j with i < j
 -- a point of the list, for each of its vertices
-of_vertex : (ps : List Point) (i : ℕ) (w : Vertex) → slice_get (map vertex ps) i ≡ Some w → (p : Point) × (slice_get ps i ≡ Some p) × (vertex p ≡ w)
+of_vertex : (ps : List Point) (i : ℕ) (w : Vertex) → slice_get (map vertex ps) i ≡ Some w →
+    (p : Point) × (slice_get ps i ≡ Some p) × (vertex p ≡ w)
 of_vertex ps i w e = unmap ps i w e
 
 next_of : (ps : List Point) (i : ℕ) (d : Point) → i + 1 < length ps → (m : Point) × (slice_get ps (i + 1) ≡ Some m)
 next_of ps i d h = (get_or ps (i + 1) d, slice_get-get_or ps (i + 1) d h)
 
-strictly : (ps : List Point) → ((k : ℕ) → Rises ps k) → (i j : ℕ) (p q : Point) → i < j → slice_get ps i ≡ Some p → slice_get ps j ≡ Some q → p.t < q.t
+strictly : (ps : List Point) → ((k : ℕ) → Rises ps k) → (i j : ℕ) (p q : Point) → i < j → slice_get ps i ≡ Some p →
+    slice_get ps j ≡ Some q → p.t < q.t
 strictly ps rise i j p q h a b =
     let m = next_of ps i q (omega (arith, slice_get_within ps j q b)) in
     omega (arith, rise i p m.0 a m.1, rises_le ps rise (i + 1) j m.0 q (omega arith) m.1 b)
@@ -149,17 +171,20 @@ leg_points ps i t v h =
     record { a = f.0; b = g.0; a_listed = f.1; b_listed = g.1; on = subst Q (sym g.2) (subst P (sym f.2) h.between) }
 
 -- at one place
-here_listed : (ps : List Point) (i : ℕ) (t : Fraction) (v w : Position) → AtListed (map vertex ps) i t v → AtListed (map vertex ps) i t w → IsPlace v w
+here_listed : (ps : List Point) (i : ℕ) (t : Fraction) (v w : Position) → AtListed (map vertex ps) i t v → AtListed (map vertex ps) i t w →
+    IsPlace v w
 here_listed ps i t v w h k =
     let P : Vertex → Type 0 = λ x. IsPlace v x.place in
     same_trans (subst P (same_Some h.point k.point (sym h.listed ∙ k.listed)) h.there) (same_sym k.there)
 
-here_step : (ps : List Point) (i : ℕ) (t : Fraction) (v w : Position) → AtStep (map vertex ps) i t v → AtStep (map vertex ps) i t w → IsPlace v w
+here_step : (ps : List Point) (i : ℕ) (t : Fraction) (v w : Position) → AtStep (map vertex ps) i t v → AtStep (map vertex ps) i t w →
+    IsPlace v w
 here_step ps i t v w h k =
     let P : Vertex → Type 0 = λ x. IsPlace v x.place in
     same_trans (subst P (same_Some h.point k.point (sym h.listed ∙ k.listed)) h.there) (same_sym k.there)
 
-here_leg : (ps : List Point) → ((k : ℕ) → Rises ps k) → (i : ℕ) (t : Fraction) (v w : Position) → BetweenNeighbours (map vertex ps) i t v → BetweenNeighbours (map vertex ps) i t w → IsPlace v w
+here_leg : (ps : List Point) → ((k : ℕ) → Rises ps k) → (i : ℕ) (t : Fraction) (v w : Position) → BetweenNeighbours (map vertex ps) i t v →
+    BetweenNeighbours (map vertex ps) i t w → IsPlace v w
 here_leg ps rise i t v w h k =
     let p = leg_points ps i t v h in
     let q = leg_points ps i t w k in
@@ -170,16 +195,19 @@ here_leg ps rise i t v w h k =
     leg_unique p.a p.b t v w (rise i p.a p.b p.a_listed p.b_listed) p.on (subst Q eb (subst P ea q.on))
 
 -- at one place and a later one
-apart_listed : (ps : List Point) → ((k : ℕ) → Rises ps k) → (i j : ℕ) (t : Fraction) (v w : Position) → i < j → AtListed (map vertex ps) i t v → AtListed (map vertex ps) j t w → ⊥
+apart_listed : (ps : List Point) → ((k : ℕ) → Rises ps k) → (i j : ℕ) (t : Fraction) (v w : Position) → i < j →
+    AtListed (map vertex ps) i t v → AtListed (map vertex ps) j t w → ⊥
 apart_listed ps rise i j t v w l h k =
     let p = listed_point ps i t v h in
     let q = listed_point ps j t w k in
     clash p.point q.point t (strictly ps rise i j p.point q.point l p.listed q.listed) (≤ᶠ_of_≈ (≈_sym q.at.then)) (≤ᶠ_of_≈ p.at.then)
 
-apart_step : (ps : List Point) (i j : ℕ) (t : Fraction) (v w : Position) → i < j → AtStep (map vertex ps) i t v → AtStep (map vertex ps) j t w → ⊥
+apart_step : (ps : List Point) (i j : ℕ) (t : Fraction) (v w : Position) → i < j → AtStep (map vertex ps) i t v →
+    AtStep (map vertex ps) j t w → ⊥
 apart_step ps i j t v w l h k = <ᶠ_of_≤ᶠ_not t (moment k.point.time) (h.not_left j k.point l k.listed) k.reached
 
-meet_legs : (ps : List Point) → ((k : ℕ) → Rises ps k) → (i j : ℕ) (t : Fraction) (v w : Position) → i < j → BetweenNeighbours (map vertex ps) i t v → BetweenNeighbours (map vertex ps) j t w → IsPlace v w
+meet_legs : (ps : List Point) → ((k : ℕ) → Rises ps k) → (i j : ℕ) (t : Fraction) (v w : Position) → i < j →
+    BetweenNeighbours (map vertex ps) i t v → BetweenNeighbours (map vertex ps) j t w → IsPlace v w
 meet_legs ps rise i j t v w l h k =
     let p = leg_points ps i t v h in
     let q = leg_points ps j t w k in
@@ -199,14 +227,16 @@ meet_legs ps rise i j t v w l h k =
 by_places : (P : Type 0) (i j : ℕ) → (i < j → P) → (i ≡ j → P) → (j < i → P) → P
 by_places P i j f g h = elim (cases_lt i j) [ inl l ↦ f l | inr l ↦ elim (cases_lt j i) [ inl m ↦ h m | inr m ↦ g (omega arith) ] ]
 
-unique_listed : (ps : List Point) → ((k : ℕ) → Rises ps k) → (i j : ℕ) (t : Fraction) (v w : Position) → AtListed (map vertex ps) i t v → AtListed (map vertex ps) j t w → IsPlace v w
+unique_listed : (ps : List Point) → ((k : ℕ) → Rises ps k) → (i j : ℕ) (t : Fraction) (v w : Position) → AtListed (map vertex ps) i t v →
+    AtListed (map vertex ps) j t w → IsPlace v w
 unique_listed ps rise i j t v w h k =
     by_places (IsPlace v w) i j
     (λ l. absurd (apart_listed ps rise i j t v w l h k))
     (λ e. here_listed ps i t v w h (subst (λ (n : ℕ). AtListed (map vertex ps) n t w) (sym e) k))
     (λ l. absurd (apart_listed ps rise j i t w v l k h))
 
-unique : (interp : Interp) (ps : List Point) → ((k : ℕ) → Rises ps k) → (i j : ℕ) (t : Fraction) (v w : Position) → Piece interp ps i t v → Piece interp ps j t w → IsPlace v w
+unique : (interp : Interp) (ps : List Point) → ((k : ℕ) → Rises ps k) → (i j : ℕ) (t : Fraction) (v w : Position) → Piece interp ps i t v →
+    Piece interp ps j t w → IsPlace v w
 unique Discrete ps rise i j t v w h k = unique_listed ps rise i j t v w h k
 unique Step ps rise i j t v w h k =
     by_places (IsPlace v w) i j
@@ -218,15 +248,18 @@ unique Linear ps rise i j t v w (inl h) (inl k) =
     (λ l. meet_legs ps rise i j t v w l h k)
     (λ e. here_leg ps rise i t v w h (subst (λ (n : ℕ). BetweenNeighbours (map vertex ps) n t w) (sym e) k))
     (λ l. same_sym (meet_legs ps rise j i t w v l k h))
-unique Linear ps rise i j t v w (inl h) (inr k) = absurd (let p = leg_points ps i t v h in omega (arith, k.0, length-map ps vertex, slice_get_within ps (i + 1) p.b p.b_listed))
-unique Linear ps rise i j t v w (inr h) (inl k) = absurd (let p = leg_points ps j t w k in omega (arith, h.0, length-map ps vertex, slice_get_within ps (j + 1) p.b p.b_listed))
+unique Linear ps rise i j t v w (inl h) (inr k) = absurd (let p =
+    leg_points ps i t v h in omega (arith, k.0, length-map ps vertex, slice_get_within ps (i + 1) p.b p.b_listed))
+unique Linear ps rise i j t v w (inr h) (inl k) = absurd (let p =
+    leg_points ps j t w k in omega (arith, h.0, length-map ps vertex, slice_get_within ps (j + 1) p.b p.b_listed))
 unique Linear ps rise i j t v w (inr h) (inr k) = unique_listed ps rise i j t v w h.1 k.1
 
 pub at_unique : (s : Sequence) → IsValid s → (t : Fraction) (v w : Position) → At s t v → At s t w → IsPlace v w
 at_unique s valid t v w h k = unique s.interp s.points valid.increasing h.i k.i t v w h.at_i k.at_i
 
 -- ---- the values of a list of points on one of its legs are that leg's
-line_same : (x0 k : ℤ) (t0 D : ℕ) (v w t : Fraction) → v ≈ w → OnLine x0 k t0 D w.num w.den t.num t.den → OnLine x0 k t0 D v.num v.den t.num t.den
+line_same : (x0 k : ℤ) (t0 D : ℕ) (v w t : Fraction) → v ≈ w → OnLine x0 k t0 D w.num w.den t.num t.den →
+    OnLine x0 k t0 D v.num v.den t.num t.den
 line_same x0 k t0 D v w t e q =
     let V = int v.num in
     let W = int w.num in
@@ -236,10 +269,12 @@ line_same x0 k t0 D v w t e q =
     let R = int (x0 *ℤ pos (D * t.den) +ℤ k *ℤ (t.num -ℤ pos t0 *ℤ pos t.den)) in
     let f = eq_parts (V ⊛ b ⊛ nat (D * t.den)) (W ⊛ a ⊛ nat (D * t.den)) (ap (λ (z : ℤ). z *ℤ pos (D * t.den)) e.cross) in
     let g = eq_parts (W ⊛ (nat D ⊛ d) ⊛ a) (R ⊛ b ⊛ a) (ap (λ (z : ℤ). z *ℤ pos v.den) q) in
-    scale_eq_back (v.num *ℤ pos (D * t.den)) ((x0 *ℤ pos (D * t.den) +ℤ k *ℤ (t.num -ℤ pos t0 *ℤ pos t.den)) *ℤ pos v.den) w.den w.at_least_one
+    scale_eq_back (v.num *ℤ pos (D * t.den)) ((x0 *ℤ pos (D * t.den) +ℤ k *ℤ (t.num -ℤ pos t0 *ℤ pos t.den)) *ℤ pos v.den) w.den
+    w.at_least_one
     (eq_from (V ⊛ (nat D ⊛ d) ⊛ b) (R ⊛ a ⊛ b) (omega (arith, f, g)))
 
-leg_same_by : (a b : Point) (D : ℕ) (t : Fraction) (v w : Position) → b.t ≡ a.t + D → IsPlace v w → OnLeg (vertex a) (vertex b) t w → OnLeg (vertex a) (vertex b) t v
+leg_same_by : (a b : Point) (D : ℕ) (t : Fraction) (v w : Position) → b.t ≡ a.t + D → IsPlace v w → OnLeg (vertex a) (vertex b) t w →
+    OnLeg (vertex a) (vertex b) t v
 leg_same_by a b D t v w e same l =
     let q = line_of_leg a b D t w e l in
     record {
@@ -249,7 +284,8 @@ leg_same_by a b D t v w e same l =
       along_y = rw e (line_to a.y b.y a.t D v.y t (line_same a.y (b.y -ℤ a.y) a.t D v.y w.y t same.same_y q.1));
     }
 
-pub leg_same : (a b : Point) (t : Fraction) (v w : Position) → a.t < b.t → IsPlace v w → OnLeg (vertex a) (vertex b) t w → OnLeg (vertex a) (vertex b) t v
+pub leg_same : (a b : Point) (t : Fraction) (v w : Position) → a.t < b.t → IsPlace v w → OnLeg (vertex a) (vertex b) t w →
+    OnLeg (vertex a) (vertex b) t v
 leg_same a b t v w h same l = leg_same_by a b (b.t - a.t) t v w (omega arith) same l
 
 -- a leg has a value at each of its instants
@@ -263,13 +299,24 @@ line_value x0 k t0 D h t = (
   refl,
 )
 
-leg_has : (a b : Point) (D : ℕ) (t : Fraction) → 1 ≤ D → b.t ≡ a.t + D → moment a.t ≤ᶠ t → t ≤ᶠ moment b.t → (w : Position) × OnLeg (vertex a) (vertex b) t w
+leg_has : (a b : Point) (D : ℕ) (t : Fraction) → 1 ≤ D → b.t ≡ a.t + D → moment a.t ≤ᶠ t → t ≤ᶠ moment b.t →
+    (w : Position) × OnLeg (vertex a) (vertex b) t w
 leg_has a b D t h e from to =
     let x = line_value a.x (b.x -ℤ a.x) a.t D h t in
-    let y = line_value a.y (b.y -ℤ a.y) a.t D h t in
-    (record { x = x.0; y = y.0 }, record { begun = from; not_over = to; along_x = rw e (line_to a.x b.x a.t D x.0 t x.1); along_y = rw e (line_to a.y b.y a.t D y.0 t y.1) })
+    let y = line_value a.y (b.y -ℤ a.y) a.t D h t in (
+      record { x = x.0; y = y.0 },
+      record {
+        begun = from;
+        not_over = to;
+        along_x = rw e (line_to a.x b.x a.t D x.0 t x.1);
+        along_y =
+            rw e (line_to a.y b.y a.t D y.0 t y.1);
+      },
+    )
 
-pub leg_local : (ps : List Point) → ((k : ℕ) → Rises ps k) → (i : ℕ) (a b : Point) → slice_get ps i ≡ Some a → slice_get ps (i + 1) ≡ Some b → (t : Fraction) (v : Position) → moment a.t ≤ᶠ t → t ≤ᶠ moment b.t → HasValue Linear (map vertex ps) t v → OnLeg (vertex a) (vertex b) t v
+pub leg_local : (ps : List Point) → ((k : ℕ) → Rises ps k) → (i : ℕ) (a b : Point) → slice_get ps i ≡ Some a →
+    slice_get ps (i + 1) ≡ Some b → (t : Fraction) (v : Position) → moment a.t ≤ᶠ t → t ≤ᶠ moment b.t →
+    HasValue Linear (map vertex ps) t v → OnLeg (vertex a) (vertex b) t v
 leg_local ps rise i a b ea eb t v from to h =
     let order = rise i a b ea eb in
     let w = leg_has a b (b.t - a.t) t (omega arith) (omega arith) from to in

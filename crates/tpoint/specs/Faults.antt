@@ -9,21 +9,31 @@ use Rattle.tpoint.specs.declared.faults.SeqFault.TheVariants as seq_fault
 use Rattle.tpoint.specs.declared.faults.AppendFault.{AppendFault}
 use Rattle.tpoint.specs.declared.faults.AppendFault.TheVariants as append_fault
 
--- ---- a list of points that is no sequence: of all faults the first kind, and of that kind the first place
+-- ---- a list of points that is no sequence: of all faults the first kind, and of that kind the
+-- first place
 -- i is the first place at which P fails
 pub record FirstFailure (P : ℕ → Type 0) (count i : ℕ) : Type 0 where
   pub within : i < count
   pub before : (k : ℕ) → k < i → P k
   pub fails : ¬ P i
 
+-- the point at i is the first that is not later than the one before it
+pub record FirstFall (ps : List Point) (i : ℕ) : Type 0 where
+  pub before : ℕ
+  pub next : i ≡ before + 1
+  pub within : i < length ps
+  pub first : FirstFailure (Rises ps) (length ps) before
+
+-- as many points as a sequence may have
 abbrev pub RightCount : List Point → Type 0
 RightCount ps = (1 ≤ length ps) × (length ps ≤ MOST_POINTS)
 
 abbrev pub IsFault : List Point → SeqFault → Type 0
 IsFault ps seq_fault.Empty = length ps ≡ 0
 IsFault ps seq_fault.TooMany = MOST_POINTS < length ps
-IsFault ps (seq_fault.NotIncreasing i) = RightCount ps × ((k : ℕ) × (i ≡ k + 1) × (i < length ps) × FirstFailure (Rises ps) (length ps) k)
-IsFault ps (seq_fault.Range i) = RightCount ps × ((k : ℕ) → Rises ps k) × FirstFailure (EachAt ps InBounds) (length ps) i
+IsFault ps (seq_fault.NotIncreasing i) = RightCount ps × FirstFall ps i
+IsFault ps (seq_fault.Range i) = RightCount ps × ((k : ℕ) → Rises ps k) ×
+    FirstFailure (EachAt ps InBounds) (length ps) i
 
 -- ---- a point that is not appended
 -- it is later than the last point

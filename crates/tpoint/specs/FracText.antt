@@ -6,4 +6,5 @@ use Rattle.tpoint.specs.declared.frac.Frac.{Frac}
 
 -- the upper number, and after a slash the lower one, which is left out where it is 1
 abbrev pub frac_text : Frac → List ℕ
-frac_text f = if int_eq f.den (pos 1) then signed_decimal f.num else signed_decimal f.num ++ codes "/" ++ signed_decimal f.den
+frac_text f = if int_eq f.den (pos 1) then signed_decimal f.num
+    else signed_decimal f.num ++ codes "/" ++ signed_decimal f.den

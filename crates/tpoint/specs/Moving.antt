@@ -1,7 +1,8 @@
 -- Moving points and their values at every instant, whole or fractional.
 --
--- OGC 19-045r3 has the subject, a moving point: a list of instants, a list of positions and an interpolation. What `Discrete`,
--- `Step` and `Linear` mean is this profile's own, and stands here: a relation on all fractions, with no search.
+-- OGC 19-045r3 has the subject, a moving point: a list of instants, a list of positions and an
+-- interpolation. What `Discrete`, `Step` and `Linear` mean is this product's own, and stands here:
+-- a relation on all fractions of a millisecond, with no search.
 use Rattle.std.specs.Prelude.{◌≡◌, ℕ, ◌+◌, ◌<◌, ◌≤◌, List, map, length, slice_get, pos, ◌⊎◌, Some}
 use Rattle.tpoint.specs.Places.{EachAt}
 use Rattle.tpoint.specs.Coordinates.{InRange}
@@ -38,13 +39,16 @@ pub record AtListed (list : List Vertex) (i : ℕ) (t : Fraction) (v : Position)
   pub then : t ≈ moment point.time
   pub there : IsPlace v point.place
 
--- ---- Step: t lies from the first to the last instant, the one at i is the last that is not after t, and v is its position
+-- ---- Step: t lies from the first to the last instant, the one at i is the last that is not after
+-- t, and v is its position
 pub record AtStep (list : List Vertex) (i : ℕ) (t : Fraction) (v : Position) : Type 0 where
   pub point : Vertex
   pub listed : slice_get list i ≡ Some point
   pub reached : moment point.time ≤ᶠ t
-  pub not_left : (j : ℕ) (later : Vertex) → i < j → slice_get list j ≡ Some later → t <ᶠ moment later.time
-  pub not_over : (j : ℕ) × (last : Vertex) × (slice_get list j ≡ Some last) × (t ≤ᶠ moment last.time)
+  pub not_left : (j : ℕ) (later : Vertex) → i < j → slice_get list j ≡ Some later →
+      t <ᶠ moment later.time
+  pub not_over : (j : ℕ) × (last : Vertex) × (slice_get list j ≡ Some last) ×
+      (t ≤ᶠ moment last.time)
   pub there : IsPlace v point.place
 
 -- ---- Linear: t lies between neighbours, and v is in proportion on the way from one to the other
@@ -58,12 +62,13 @@ pub record OnLeg (a b : Vertex) (t : Fraction) (v : Position) : Type 0 where
   pub along_x : InProportion v.x a.place.x b.place.x t (moment a.time) (moment b.time)
   pub along_y : InProportion v.y a.place.y b.place.y t (moment a.time) (moment b.time)
 
-pub record BetweenNeighbours (list : List Vertex) (i : ℕ) (t : Fraction) (v : Position) : Type 0 where
-  pub point : Vertex
-  pub next : Vertex
-  pub listed : slice_get list i ≡ Some point
-  pub next_listed : slice_get list (i + 1) ≡ Some next
-  pub between : OnLeg point next t v
+pub record BetweenNeighbours (list : List Vertex) (i : ℕ) (t : Fraction) (v : Position) : Type 0
+  where
+    pub point : Vertex
+    pub next : Vertex
+    pub listed : slice_get list i ≡ Some point
+    pub next_listed : slice_get list (i + 1) ≡ Some next
+    pub between : OnLeg point next t v
 
 -- a single point has its position at its own instant
 abbrev pub AtLinear : List Vertex → ℕ → Fraction → Position → Type 0
@@ -76,9 +81,10 @@ AtPlace Step = AtStep
 AtPlace Linear = AtLinear
 
 -- the value at t is v
-pub record HasValue (interp : Interp) (list : List Vertex) (t : Fraction) (v : Position) : Type 0 where
-  pub i : ℕ
-  pub at_i : AtPlace interp list i t v
+pub record HasValue (interp : Interp) (list : List Vertex) (t : Fraction) (v : Position) : Type 0
+  where
+    pub i : ℕ
+    pub at_i : AtPlace interp list i t v
 
 -- ---- a sequence: its interpolation and its points, in the order in which they are listed
 pub record Sequence : Type 0 where
@@ -100,7 +106,7 @@ pub record InBounds (p : Point) : Type 0 where
   pub x_fits : InRange p.x
   pub y_fits : InRange p.y
 
--- a valid sequence: 1 to 1,024 points, instants strictly increasing, coordinates in range
+-- a valid sequence: 1 to `MOST_POINTS` points, instants strictly increasing, coordinates in range
 -- (every instant of the type is in range)
 pub record IsValid (s : Sequence) : Type 0 where
   pub not_empty : 1 ≤ length s.points

@@ -21,7 +21,7 @@ abbrev pub same_point : Point → Point → Bool
 same_point p q = p.t == q.t && (int_eq p.x q.x && int_eq p.y q.y)
 
 abbrev pub same_sequence : Sequence → Sequence → Bool
-same_sequence r s = same_interp r.interp s.interp && pointwise same_point r.points s.points
+same_sequence r s = pointwise same_point r.points s.points && same_interp r.interp s.interp
 
 -- ---- these tests tell what is equal
 pub same_interp_Decides : (a b : Interp) → Decides (same_interp a b) (a ≡ b)
@@ -35,29 +35,31 @@ same_interp_Decides Linear Discrete = (λ e. absurd (cc), λ e. absurd (cc))
 same_interp_Decides Linear Step = (λ e. absurd (cc), λ e. absurd (cc))
 same_interp_Decides Linear Linear = (λ _. refl, λ _. refl)
 
+same_place_Decides : (p q : Point) →
+    Decides (int_eq p.x q.x && int_eq p.y q.y) ((p.x ≡ q.x) × (p.y ≡ q.y))
+same_place_Decides p q =
+    Decides-and _ _ (signed_Decides p.x q.x) (signed_Decides p.y q.y)
+
+same_point_parts : (p q : Point) → (p.t ≡ q.t) × ((p.x ≡ q.x) × (p.y ≡ q.y)) → p ≡ q
+same_point_parts p q h = λ i. record { t = h.0 i; x = h.1.0 i; y = h.1.1 i }
+
 pub same_point_Decides : (p q : Point) → Decides (same_point p q) (p ≡ q)
 same_point_Decides p q =
-    let parts =
-    Decides-and
-    (p.t == q.t)
-    (int_eq p.x q.x && int_eq p.y q.y)
-    (unsigned_Decides p.t q.t)
-    (Decides-and (int_eq p.x q.x) (int_eq p.y q.y) (signed_Decides p.x q.x) (signed_Decides p.y q.y)) in (
-      λ e i. let h = parts.0 e in record { t = h.0 i; x = h.1.0 i; y = h.1.1 i },
-      λ e. parts.1 (ap (λ (r : Point). r.t) e, (ap (λ (r : Point). r.x) e, ap (λ (r : Point). r.y) e)),
-    )
+    let parts = Decides-and _ _ (unsigned_Decides p.t q.t) (same_place_Decides p q) in
+    let x = λ (e : p ≡ q). ap (λ (r : Point). r.x) e in
+    let y = λ (e : p ≡ q). ap (λ (r : Point). r.y) e in
+    (λ e. same_point_parts p q (parts.0 e), λ e. parts.1 (ap (λ (r : Point). r.t) e, (x e, y e)))
+
+same_sequence_parts : (r s : Sequence) → (r.points ≡ s.points) × (r.interp ≡ s.interp) → r ≡ s
+same_sequence_parts r s h = λ i. record { points = h.0 i; interp = h.1 i }
 
 pub same_sequence_Decides : (r s : Sequence) → Decides (same_sequence r s) (r ≡ s)
 same_sequence_Decides r s =
-    let parts =
-    Decides-and
-    (same_interp r.interp s.interp)
-    (pointwise same_point r.points s.points)
-    (same_interp_Decides r.interp s.interp)
-    (pointwise_decides same_point_Decides r.points s.points) in (
-      λ e i. let h = parts.0 e in record { interp = h.0 i; points = h.1 i },
-      λ e. parts.1 (ap (λ (q : Sequence). q.interp) e, ap (λ (q : Sequence). q.points) e),
-    )
+    let points = pointwise_decides same_point_Decides r.points s.points in
+    let parts = Decides-and _ _ points (same_interp_Decides r.interp s.interp) in
+    let of_points = λ (e : r ≡ s). ap (λ (q : Sequence). q.points) e in
+    let of_interp = λ (e : r ≡ s). ap (λ (q : Sequence). q.interp) e in
+    (λ e. same_sequence_parts r s (parts.0 e), λ e. parts.1 (of_points e, of_interp e))
 
 pub same_sequence_equiv : IsEquivalence same_sequence
 same_sequence_equiv = decided same_sequence same_sequence_Decides

@@ -16,6 +16,19 @@ pub struct Frac {
     pub ghost lowest: { IsLowest (unsigned_abs num) (unsigned_abs den) },
 }
 
+impl From<i64> for Frac {
+    ghost use Rattle.tpoint.specs.Reduced.{IsWholeNumber};
+
+    ghost from_gives = { IsWholeNumber };
+
+    fn from(whole: i64) -> Frac {
+        Frac {
+            num: whole as i128,
+            den: 1,
+        }
+    }
+}
+
 impl fmt::Display for Frac {
     ghost use Rattle.tpoint.specs.FracText.{frac_text};
     ghost use Rattle.std.specs.Prelude.{Some};

@@ -1,14 +1,16 @@
 //! Names of moving points.
 
-ghost use Rattle.std.specs.Prelude.{◌≡◌, ◌-◌, ◌≤◌, ◌↔◌, ◌++◌, length, replicate, nat_eq, IsTrue, IsSome, IfSome};
+ghost use Rattle.std.specs.Prelude.{◌≡◌, ◌≤◌, ◌↔◌, length, nat_eq, IsTrue, IsSome, IfSome};
 ghost use Rattle.std.specs.Ordering.{nat_cmp, as_partial_cmp};
 ghost use Rattle.std.specs.Cmp.{partial_equiv_from_equiv, partial_order_from_agreeing_total};
-ghost use Rattle.std.specs.Cmp.Lexicographic.{pointwise, slice_cmp, nat_list_eq_equiv, nat_list_cmp_total, texts_ties};
+ghost use Rattle.std.specs.Cmp.Lexicographic.{pointwise, slice_cmp};
+ghost use Rattle.std.specs.Cmp.Lexicographic.{nat_list_eq_equiv, nat_list_cmp_total, texts_ties};
 ghost use Rattle.std.proofs.Common.{refl};
-ghost use Rattle.tpoint.specs.Ids.{IsId, is_id_byte};
+ghost use Rattle.tpoint.specs.Ids.{IsId, is_id_byte, with_zeros};
 
 use std::cmp::Ordering;
 use std::marker::Model;
+use std::str;
 
 /// An id has at most this many bytes.
 pub const LONGEST_ID: usize = 64;
@@ -31,19 +33,25 @@ pub struct Id {
 }
 
 impl Model for Id {
-    ghost use Rattle.std.specs.Prelude.{ℕ, ◌-◌, List, ◌++◌, length, take, replicate};
+    ghost use Rattle.std.specs.Prelude.{ℕ, List, length, take};
 
     ghost Value = { List ℕ };
 
-    ghost use Rattle.tpoint.specs.Ids.{KeepsId, kept_bytes_back, kept_len_back};
+    ghost use Rattle.tpoint.specs.Ids.{KeepsId, with_zeros, kept_bytes_back, kept_len_back};
 
     ghost view = { λ id. take id.len id.bytes };
 
     ghost invariant = { λ id. KeepsId id.bytes id.len };
 
-    ghost inverse = { λ text. record { bytes = text ++ replicate (64 - length text) 0; len = length text } };
+    ghost inverse = { λ text. record {
+      bytes = with_zeros text;
+      len = length text;
+    } };
 
-    ghost inverse_ok = { λ id h i. record { bytes = kept_bytes_back id.bytes id.len h i; len = kept_len_back id.bytes id.len h i } };
+    ghost inverse_ok = { λ id h i. record {
+      bytes = kept_bytes_back id.bytes id.len h i;
+      len = kept_len_back id.bytes id.len h i;
+    } };
 }
 
 impl Id {
@@ -68,6 +76,14 @@ impl Id {
     {
         &self.bytes[..usize::from(self.len)]
     }
+
+    /// Its text.
+    pub fn as_str(&self) -> &str
+        ensures value { result.now ≡ self.now }
+        ensures valid { IsId self.now }
+    {
+        str::from_utf8(self.bytes()).unwrap()
+    }
 }
 
 /// Whether the text is an id.
@@ -80,7 +96,7 @@ fn is_id(text: &[u8]) -> bool
 /// The text and zeros after it, up to `LONGEST_ID` bytes.
 fn with_zeros(text: &[u8]) -> [u8; LONGEST_ID]
     requires { length text.now ≤ LONGEST_ID }
-    ensures { result ≡ text.now ++ replicate (LONGEST_ID - length text.now) 0 }
+    ensures { result ≡ with_zeros text.now }
 {
     let mut bytes = [0; LONGEST_ID];
     bytes[..text.len()].copy_from_slice(text);
@@ -107,7 +123,8 @@ impl Eq for Id {
 impl PartialOrd for Id {
     ghost partial_cmp = { as_partial_cmp (slice_cmp nat_cmp) };
 
-    ghost laws = { partial_order_from_agreeing_total (slice_cmp nat_cmp) nat_list_cmp_total (λ _ _. refl) texts_ties };
+    ghost laws = { partial_order_from_agreeing_total (slice_cmp nat_cmp) nat_list_cmp_total
+        (λ _ _. refl) texts_ties };
 
     fn partial_cmp(&self, other: &Id) -> Option<Ordering> {
         Some(self.cmp(other))
@@ -123,7 +140,8 @@ impl Ord for Id {
 
     ghost matches_eq = { texts_ties };
 
-    /// The byte order of the two texts: the first byte that differs decides, and else the shorter text comes first.
+    /// The byte order of the two texts: the first byte that differs decides, and else the shorter
+    /// text comes first.
     fn cmp(&self, other: &Id) -> Ordering {
         self.bytes().cmp(other.bytes())
     }

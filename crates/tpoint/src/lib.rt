@@ -1,8 +1,11 @@
 //! Moving points: where something is at every instant, told by a list of instants with positions.
 //!
-//! A `Seq` has a value at an instant, or none; `Seq::value_at` gives it as fractions, never rounded.
-//! Instants are whole milliseconds and coordinates whole millimetres, but what a value is stands in
-//! `specs/Moving.antt` for every fraction of a millisecond, so that the crates above can cut and clip.
+//! A `Seq` has a value at an instant, or none, and `Seq::value_at` gives it as fractions, never
+//! rounded. Instants are whole milliseconds and coordinates whole millimetres. What a value is
+//! stands in `specs/Moving.antt` for every fraction of a millisecond, so that the crates above can
+//! cut and clip by it.
+//!
+//! Nothing here takes memory but `Seq::append` and the clone of a `Seq`.
 #![tactic(auto)]
 
 mod coordinate;
@@ -14,7 +17,9 @@ mod interp;
 mod period;
 mod point;
 mod rect;
+mod reducing;
 mod seq;
+mod values;
 
 pub use coordinate::{FURTHEST, is_coordinate};
 pub use faults::{AppendFault, SeqFault};
@@ -26,3 +31,7 @@ pub use period::Period;
 pub use point::Point;
 pub use rect::Rect;
 pub use seq::{MOST_POINTS, Seq};
+pub use values::Found;
+
+#[cfg(test)]
+mod tests;

@@ -6,7 +6,8 @@ ghost use Rattle.tpoint.specs.Extents.{Area, IsArea};
 use crate::is_coordinate;
 use std::marker::Model;
 
-/// A rectangle with its bounds, in millimetres. A point is a rectangle, and so is a line along an axis.
+/// A rectangle with its bounds, in millimetres. A point is a rectangle, and so is a line along an
+/// axis.
 #[derive(Clone, Copy, Debug, PartialEq, Eq)]
 pub struct Rect {
     x0: i64,
@@ -28,7 +29,8 @@ impl Model for Rect {
 }
 
 impl Rect {
-    /// The rectangle between two corners, or None where a bound is out of range or two are reversed.
+    /// The rectangle between two corners, or None where a bound is out of range or two are
+    /// reversed.
     pub fn new(x0: i64, y0: i64, x1: i64, y1: i64) -> Option<Rect>
         ensures valid { IsSome result ↔ IsArea (record { x0 = x0; y0 = y0; x1 = x1; y1 = y1 }) }
         ensures value { IfSome result (λ r. r ≡ record { x0 = x0; y0 = y0; x1 = x1; y1 = y1 }) }

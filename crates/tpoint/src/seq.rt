@@ -1,13 +1,14 @@
 //! Sequences of points.
 
-ghost use Rattle.std.specs.Prelude.{◌≡◌, ℕ, ◌+◌, ◌-◌, ◌<◌, ◌≤◌, ◌↔◌, ◌++◌, ◌∷◌, [], length, MatchOption, IsTrue, IsOk, IfOk, IfErr, OnOk, OnErr};
-ghost use Rattle.tpoint.specs.Moving.{Sequence, IsValid, Rises, InBounds};
+ghost use Rattle.std.specs.Prelude.{◌≡◌, ℕ, ◌+◌, ◌<◌, ◌≤◌, ◌↔◌, ◌++◌, ◌∷◌, [], length};
+ghost use Rattle.std.specs.Prelude.{IsTrue, MatchOption, IsOk, IfOk, IfErr, OnOk, OnErr};
+ghost use Rattle.tpoint.specs.Moving.{IsValid, Rises, InBounds};
 ghost use Rattle.tpoint.specs.Same.{same_sequence, same_sequence_equiv};
 ghost use Rattle.std.specs.Cmp.{partial_equiv_from_equiv};
 ghost use Rattle.tpoint.specs.Places.{EachAt};
 ghost use Rattle.tpoint.specs.Faults.{FirstFailure, IsFault, IsAppendFault, IsLater, MayFollow};
 
-use crate::{AppendFault, Interp, Point, SeqFault, is_coordinate};
+use crate::{AppendFault, Interp, Point, SeqFault};
 use std::alloc::AllocError;
 use std::marker::Model;
 
@@ -72,7 +73,8 @@ impl Seq {
     /// Adds a point at the end. After a fault the sequence is as it was.
     pub fn append(&mut self, point: Point) -> Result<(), AppendFault>
         ensures ok { OnOk result (MayFollow self.old.points point) }
-        ensures value { OnOk result (self.new ≡ record self.old { points = self.old.points ++ point ∷ [] }) }
+        ensures value { OnOk result
+            (self.new ≡ record self.old { points = self.old.points ++ point ∷ [] }) }
         ensures fault { IfErr result (λ fault. IsAppendFault self.old.points point fault) }
         ensures unchanged { OnErr result (self.new ≡ self.old) }
     {
@@ -82,7 +84,7 @@ impl Seq {
         if self.points.len() == MOST_POINTS {
             return Err(AppendFault::Full);
         }
-        if !in_range(&point) {
+        if !point.is_in_range() {
             return Err(AppendFault::Range);
         }
         self.points.push(point)?;
@@ -120,18 +122,11 @@ fn first_out_of_range(points: &[Point]) -> Option<usize>
         (λ k. FirstFailure (EachAt points.now InBounds) (length points.now) k) }
 {
     for k in 0..points.len() {
-        if !in_range(&points[k]) {
+        if !points[k].is_in_range() {
             return Some(k);
         }
     }
     None
-}
-
-/// Whether both coordinates are in range.
-fn in_range(point: &Point) -> bool
-    ensures { IsTrue result ↔ InBounds point.now }
-{
-    is_coordinate(point.x) && is_coordinate(point.y)
 }
 
 impl Clone for Seq {
@@ -155,7 +150,7 @@ impl PartialEq for Seq {
         ensures value { result ≡ same_sequence self.now other.now }
         ensures same { IsTrue result ↔ (self.now ≡ other.now) }
     {
-        self.interp == other.interp && self.points == other.points
+        self.points == other.points && self.interp == other.interp
     }
 }
 

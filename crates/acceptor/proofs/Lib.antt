@@ -1,0 +1,5 @@
+pub mod BallotLemmas
+pub mod FieldLemmas
+pub mod LoadLemmas
+pub mod RecordLemmas
+pub mod VoteLemmas

@@ -1,0 +1,16 @@
+use Rattle.std.proofs.Common.{ap, option_map}
+use Rattle.std.specs.BTreeMap.{get}
+use Rattle.std.specs.Ordering.{nat_cmp}
+use Rattle.acceptor.specs.Loading.{raised}
+use Rattle.acceptor.specs.State.{accepting_of, vote_at}
+use Rattle.acceptor.proofs.RecordLemmas.{RecordsSay-see_promise, RecordsSay-holds}
+use Rattle.acceptor.proofs.acceptor.Acceptor.take_promise.Goals as goal
+
+-- the ballot is seen, and raises the promise
+pub returns-in-Some : goal.returns-in-Some
+returns-in-Some c = λ seen fresh says.
+    let a = accepting_of c.args.self.now in
+    let ballot = c.in-Some.ballot in
+    let there = RecordsSay-see_promise seen a ballot fresh says in
+    rw c.in-Some.is (RecordsSay-holds _ (record a { promise = raised a.promise ballot }) (accepting_of c.raise.new.self) c.raise.ensures.promise
+      (λ s. ap (λ m. option_map (vote_at s) (get nat_cmp m s)) c.raise.ensures.votes) there)

@@ -1,0 +1,12 @@
+use Rattle.std.proofs.Common.{rules, ◌≡◌, Some, List, ℕ, Option, sym, ◌∙◌, ap, option_map}
+use Rattle.stable.specs.declared.key.Key.TheVariants as key
+use Rattle.acceptor.proofs.RecordLemmas.{promise_of_its_form}
+use Rattle.acceptor.proofs.records.promised.Goals as goal
+
+-- the record spells the ballot that was read
+pub returns-in-Some-ballot_of-clause-form : goal.returns-in-Some-ballot_of-clause-form
+returns-in-Some-ballot_of-clause-form g c = λ honest.
+    let told = c.in_ok-bytes.ensures.told honest in
+    let found : g.S.Stable.contents c.args.storage.now key.Promise ≡ Some c.in-Some.bytes.items = search rules in
+    let read = c.in-Some-ballot_of.ensures.spelled in
+    promise_of_its_form _ c.in-Some.bytes.items c.in-Some-ballot_of.ballot found read.0 (search rules)

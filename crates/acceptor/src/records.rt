@@ -1,0 +1,66 @@
+//! From a storage's records to votes and ballots.
+
+ghost use Rattle.std.specs.Prelude.{◌≡◌, ◌<◌, IfSome, IfOk, OnOk, IsErrOf, option_map};
+ghost use Rattle.acceptor.specs.Forms.{IsOfItsForm, HasDamagedRecord};
+ghost use Rattle.acceptor.specs.Spelling.{ballot_bytes, vote_bytes};
+ghost use Rattle.acceptor.specs.State.{vote_at};
+
+use super::cast::Cast;
+use super::reading::{ballot_of, cast_of};
+use stable::{Key, Stable, StableFault};
+use std::alloc::Global;
+use synod::{Ballot, Slot};
+
+/// The ballot in record Promise, or None without the record.
+pub(super) fn promised<S: Stable>(
+    alloc: Global,
+    storage: &mut S,
+) -> Result<Option<Ballot>, StableFault>
+    ensures told { S.IsHonest storage.new → IfOk result (λ found.
+        S.contents storage.old Key.Promise ≡ option_map ballot_bytes found) }
+    ensures form { S.IsHonest storage.new → OnOk result
+        (IfSome (S.contents storage.old Key.Promise) (IsOfItsForm Key.Promise)) }
+    ensures reads { S.reads storage.old storage.new }
+
+    // Each error.
+    ensures device { S.IsHonest storage.new → IsErrOf result StableFault.Device
+        → S.failures storage.old < S.failures storage.new }
+    ensures damaged { S.IsHonest storage.new → IsErrOf result StableFault.Damaged
+        → HasDamagedRecord (S.contents storage.old) }
+{
+    let Some(bytes) = storage.get(alloc, Key::Promise)? else {
+        return Ok(None);
+    };
+    match ballot_of(&bytes) {
+        Some(ballot) => Ok(Some(ballot)),
+        None => Err(StableFault::Damaged),
+    }
+}
+
+/// The vote in the record of a slot, or None without the record.
+pub(super) fn voted<S: Stable>(
+    alloc: Global,
+    storage: &mut S,
+    slot: Slot,
+) -> Result<Option<Cast>, StableFault>
+    ensures told { S.IsHonest storage.new → IfOk result (λ found.
+        S.contents storage.old (Key.Vote slot)
+            ≡ option_map vote_bytes (option_map (vote_at slot) found)) }
+    ensures form { S.IsHonest storage.new → OnOk result
+        (IfSome (S.contents storage.old (Key.Vote slot)) (IsOfItsForm (Key.Vote slot))) }
+    ensures reads { S.reads storage.old storage.new }
+
+    // Each error.
+    ensures device { S.IsHonest storage.new → IsErrOf result StableFault.Device
+        → S.failures storage.old < S.failures storage.new }
+    ensures damaged { S.IsHonest storage.new → IsErrOf result StableFault.Damaged
+        → HasDamagedRecord (S.contents storage.old) }
+{
+    let Some(bytes) = storage.get(alloc, Key::Vote(slot))? else {
+        return Ok(None);
+    };
+    match cast_of(&bytes) {
+        Some(cast) => Ok(Some(cast)),
+        None => Err(StableFault::Damaged),
+    }
+}

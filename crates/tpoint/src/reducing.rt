@@ -1,0 +1,48 @@
+//! To bring a fraction to lowest terms.
+
+ghost use Rattle.std.specs.Prelude.{◌≡◌, ℕ, ◌*◌, ◌^◌, ◌<◌, ◌≤◌, ℤ, pos, ◌*ℤ◌, ◌≤ℤ◌, unsigned_abs};
+ghost use Rattle.std.specs.Int.{IsGcd};
+ghost use Rattle.tpoint.specs.Signs.{with_sign};
+
+use crate::Frac;
+
+/// The greatest common divisor.
+fn gcd(a: u128, b: u128) -> u128
+    ensures { IsGcd a b result }
+{
+    let mut x = a;
+    let mut y = b;
+    while y != 0 {
+        let rest = x % y;
+        x = y;
+        y = rest;
+    }
+    x
+}
+
+/// A number with the sign of another.
+fn with_sign_of(size: u128, of: i128) -> i128
+    requires { size < 2 ^ 127 }
+    ensures { result ≡ with_sign size of }
+{
+    if of < 0 {
+        -(size as i128)
+    } else {
+        size as i128
+    }
+}
+
+/// `num / den` in lowest terms.
+pub fn reduce(num: i128, den: i64) -> Frac
+    requires positive { pos 1 ≤ℤ den }
+    requires small { unsigned_abs num < 2 ^ 127 }
+    ensures { result.num *ℤ den ≡ num *ℤ result.den }
+{
+    let size = num.unsigned_abs();
+    let below = den.unsigned_abs() as u128;
+    let divisor = gcd(size, below);
+    Frac {
+        num: with_sign_of(size / divisor, num),
+        den: (below / divisor) as i64,
+    }
+}
