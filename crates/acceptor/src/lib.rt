@@ -10,3 +10,6 @@ mod spelling;
 
 pub use acceptor::Acceptor;
 pub use answer::Answer;
+
+#[cfg(test)]
+mod tests;

@@ -1,0 +1,63 @@
+-- Which words write a number.
+use Rattle.std.proofs.Common.{◌≡◌, ◌≢◌, ℕ, ◌<◌, ◌≤◌, ◌^◌, zero, suc, List, length, get_or, Option, Some, None, Result, Ok, Err, MatchOption, arith, ap, sym, ◌∙◌, refl, ◌↔◌, IsSome, IfSome}
+use Rattle.std.specs.Fmt.{decimal}
+use Rattle.std.specs.Result.{result_ok}
+use Rattle.std.specs.Str.{IsUtf8}
+use Rattle.std.specs.Str.Parse.{ParsesUnsigned, AllDigits, digits_value}
+use Rattle.std.proofs.lemmas.Fmt.{decimal_is_IsNumeral, parse-decimal, decimal-digits_value, decimal_digit, first_decimal, decimal_nonempty, decimal_injective, IsAscii-decimal}
+use Rattle.std.proofs.lemmas.Str.{IsUtf8-from_ascii}
+use Rattle.std.proofs.lemmas.Str.Parse.{IsNumeralModel, numerals_by_value, tells_digits, parse_plain, digit_at}
+use Rattle.schedule.specs.Numbers.{Writes, IsPlain}
+
+own : IsNumeralModel (AllDigits 10) (digits_value 10)
+own = numerals_by_value (AllDigits 10) tells_digits
+
+-- the text of zero is one digit, and that of another number begins with another
+zero_alone : (value : ℕ) → value < 2 ^ 64 → get_or (decimal value) 0 0 ≡ 48 → length (decimal value) ≡ 1
+zero_alone zero small first = ap length (decimal_digit 0 (omega arith))
+zero_alone (suc k) small first = absurd (omega (arith, first_decimal (suc k) (omega arith) small, first))
+
+no_plus : (value : ℕ) → value < 2 ^ 64 → get_or (decimal value) 0 0 ≢ 43
+no_plus value small plus =
+    let numeral = decimal_is_IsNumeral value small in
+    let digit = digit_at (decimal value) 0 numeral.0.1 numeral.0.0 in
+    omega (arith, digit, plus)
+
+-- the text of a number is plain
+pub writes_plainly : (word : List ℕ) (value : ℕ) → Writes 0 (2 ^ 64) word value → IsPlain word
+writes_plainly word value w = rw w.text (record {
+  not_empty = decimal_nonempty value w.below;
+  no_plus = no_plus value w.below;
+  zero_alone = zero_alone value w.below;
+})
+
+pub writes_text : (word : List ℕ) (value : ℕ) → Writes 0 (2 ^ 64) word value → IsUtf8 word
+writes_text word value w = rw w.text (IsUtf8-from_ascii _ (IsAscii-decimal value w.below))
+
+-- what `parse` reads from a plain word is what the word writes
+pub parsed_writes : {E : Type 0} (word : List ℕ) (read : Result ℕ E) → ParsesUnsigned 64 10 word read → IsPlain word
+    → MatchOption (result_ok read) ((value : ℕ) → ¬ (Writes 0 (2 ^ 64) word value)) (Writes 0 (2 ^ 64) word)
+parsed_writes {E = E} word (Ok value) parses plain =
+    let p = parse_plain own {E = E} 64 word (Ok value) parses plain.no_plus in
+    let text : decimal (digits_value 10 word) ≡ word =
+    decimal-digits_value own word p.0.0 plain.not_empty plain.zero_alone p.0.2 in
+    rw p.1 (record { from = omega arith; below = p.0.2; text = sym text })
+parsed_writes word (Err error) parses plain =
+    λ value w. let read = parse-decimal 64 value word (Err error) w.below w.below w.text parses in cc
+
+-- a word writes one number
+pub writes_one : (word : List ℕ) (least limit value other : ℕ) → limit ≤ 2 ^ 64 → Writes 0 (2 ^ 64) word value
+    → Writes least limit word other → other ≡ value
+writes_one word least limit value other small w o =
+    decimal_injective other value (omega (arith, o.below)) w.below (sym o.text ∙ w.text)
+
+-- a number that is written and isn't 0 is a request's
+pub written_from_one : (word : List ℕ) (value : ℕ) (made : Option ℕ) → Writes 0 (2 ^ 64) word value → IsSome made ↔ (1 ≤ value)
+    → IfSome made (λ number. number ≡ value)
+    → MatchOption made ((number : ℕ) → ¬ (Writes 1 (2 ^ 64) word number)) (Writes 1 (2 ^ 64) word)
+written_from_one word value None w valid same =
+    λ number o.
+    let one = writes_one word 1 (2 ^ 64) value number (omega arith) w o in
+    let none = valid.1 (omega (arith, one, o.from)) in cc
+written_from_one word value (Some number) w valid same =
+    rw same (record { from = valid.0 refl; below = w.below; text = w.text })

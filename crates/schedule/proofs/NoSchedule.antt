@@ -1,0 +1,70 @@
+-- Bytes with a faulty line spell no schedule.
+use Rattle.std.proofs.Common.{◌≡◌, ℕ, true, nat_le, ◌&&◌, List, [], ◌∷◌, ◌++◌, codes, refl, sym, ◌∙◌, ap, subst, arith}
+use Rattle.std.specs.List.{All}
+use Rattle.std.proofs.lemmas.List.Sums.{AllPass-from_list_all}
+use Rattle.std.proofs.lemmas.Bool.Decides.{nat_tests}
+use Rattle.schedule.specs.Lines.{NumberedText}
+use Rattle.schedule.specs.Schedules.{Plan, SpellEach, IsScheduleOf, IsFirstFault, no_line, first_line, later_line, IsRefusal, IsNoSchedule}
+use Rattle.schedule.specs.Spelling.{Spells}
+use Rattle.schedule.specs.Table.{HasFirstFault, IsPrintable}
+use Rattle.schedule.specs.declared.action.Action.{Action}
+use Rattle.schedule.specs.declared.keyword.Keyword.TheVariants.{Nodes}
+use Rattle.schedule.specs.declared.fault.ParseFault.{ParseFault}
+use Rattle.schedule.specs.declared.fault.ParseFault.TheVariants.{Line, Memory}
+use Rattle.schedule.specs.declared.fault.ScheduleFault.{ScheduleFault}
+use Rattle.schedule.specs.declared.fault.ScheduleFault.TheVariants.{NotPrintable, UnknownWord, NodesLine, WordCount, WordForm}
+use Rattle.schedule.specs.declared.plan.ScheduleLine.{ScheduleLine}
+use Rattle.schedule.proofs.Faults.{prints_throughout}
+use Rattle.schedule.proofs.Spelled.{spelled_faultless}
+
+-- two lists have one first and one rest
+pub heads : {X : Type 0} (x y : X) (xs ys : List X) → x ∷ xs ≡ y ∷ ys → x ≡ y
+heads x y xs ys e = cc
+
+pub tails : {X : Type 0} (x y : X) (xs ys : List X) → x ∷ xs ≡ y ∷ ys → xs ≡ ys
+tails x y xs ys e = cc
+
+-- a right first line prints, and its word is known
+test_prints : (byte : ℕ) → (nat_le 0x20 byte && nat_le byte 0x7E) ≡ true → IsPrintable byte
+test_prints byte h = grind (arith, nat_tests)
+
+nodes_line_prints : All IsPrintable (codes "nodes 3")
+nodes_line_prints k d h =
+    test_prints _ (AllPass-from_list_all (λ byte. nat_le 0x20 byte && nat_le byte 0x7E) (codes "nodes 3") refl k d h)
+
+pub right_faultless : (fault : ScheduleFault) → ¬ (HasFirstFault (codes "nodes 3") fault)
+right_faultless NotPrintable h = prints_throughout (codes "nodes 3") nodes_line_prints h
+right_faultless UnknownWord h = h Nodes (codes "3" ∷ []) refl tt
+right_faultless NodesLine h = h 3 (record { spelled = refl; three = refl })
+right_faultless WordCount h = h
+right_faultless WordForm h = h
+
+-- a line among spelled ones spells an action
+spelled_at : (n : ℕ) (before after : List NumberedText) (line : NumberedText) (read : List ScheduleLine)
+    → SpellEach n (before ++ line ∷ after) read → (action : Action) × Spells n line.text action
+spelled_at n [] after line [] each = absurd each
+spelled_at n [] after line (r ∷ rs) each = (r.action, each.1)
+spelled_at n (t ∷ ts) after line [] each = absurd each
+spelled_at n (t ∷ ts) after line (r ∷ rs) each = spelled_at n ts after line rs each.2
+
+pub faulty_is_none : (bytes : List ℕ) (number : ℕ) (fault : ScheduleFault) (plan : Plan) → IsFirstFault bytes number fault
+    → ¬ (IsScheduleOf bytes plan)
+faulty_is_none bytes number fault plan (no_line none is_one is_nodes) s = let e = sym none ∙ s.lines in cc
+faulty_is_none bytes number fault plan (first_line first others lines at lowest) s =
+    let same : first ≡ s.first = heads _ _ _ _ (sym lines ∙ s.lines) in
+    let text : first.text ≡ codes "nodes 3" = ap (λ (l : NumberedText). l.text) same ∙ s.nodes_line.spelled in
+    right_faultless fault (subst (λ (t : List ℕ). HasFirstFault t fault) text lowest.is_there)
+faulty_is_none bytes number fault plan (later_line n line reached at lowest) s =
+    let others : s.others ≡ reached.others = tails _ _ _ _ (sym s.lines ∙ reached.lines) in
+    let size : plan.nodes ≡ n = s.nodes_line.three ∙ sym reached.nodes_line.three in
+    let each : SpellEach n reached.others plan.lines =
+    subst (λ (m : ℕ). SpellEach m reached.others plan.lines) size
+    (subst (λ (ts : List NumberedText). SpellEach plan.nodes ts plan.lines) others s.spelled) in
+    let each_part = subst (λ (ts : List NumberedText). SpellEach n ts plan.lines) reached.next.parts each in
+    let spelled = spelled_at n reached.next.before reached.next.after line plan.lines each_part in
+    spelled_faultless n line.text spelled.0 spelled.1 fault lowest.is_there
+
+-- a refusal that tells a line tells that there is no schedule
+pub refused_is_none : (bytes : List ℕ) (fault : ParseFault) → IsRefusal bytes fault → IsNoSchedule bytes fault
+refused_is_none bytes (Line at) r = λ plan s. faulty_is_none bytes at.line at.fault plan r s
+refused_is_none bytes (Memory number) r = tt

@@ -1,0 +1,60 @@
+-- Reading line by line.
+use Rattle.std.proofs.Common.{◌≡◌, ℕ, List, [], ◌∷◌, ◌++◌, append_assoc, refl, sym, ◌∙◌, ap}
+use Rattle.std.specs.List.{All}
+use Rattle.std.proofs.lemmas.List.Elements.{All-cons, All-nil}
+use Rattle.schedule.specs.Lines.{NumberedText, lines_of}
+use Rattle.schedule.specs.Reading.{AreRead, Adds, IsLineRefusal, IsLaterRefusal}
+use Rattle.schedule.specs.Schedules.{SpellEach, IsFaultless, later_line, IsRefusal}
+use Rattle.schedule.specs.Spelling.{Spells}
+use Rattle.schedule.specs.Table.{IsNodesLine}
+use Rattle.schedule.specs.declared.action.Action.{Action}
+use Rattle.schedule.specs.declared.fault.ParseFault.{ParseFault}
+use Rattle.schedule.specs.declared.fault.ParseFault.TheVariants.{Line, Memory}
+use Rattle.schedule.specs.declared.plan.ScheduleLine.{ScheduleLine}
+use Rattle.schedule.proofs.Spelled.{spelled_faultless}
+
+-- one line more
+spelled_more : (n : ℕ) (before : List NumberedText) (read : List ScheduleLine) (line : NumberedText) (action : Action)
+    → SpellEach n before read → Spells n line.text action
+    → SpellEach n (before ++ line ∷ []) (read ++ record { number = line.number; action = action } ∷ [])
+spelled_more n [] [] line action each spells = (refl, spells, tt)
+spelled_more n [] (r ∷ rs) line action each spells = absurd each
+spelled_more n (t ∷ ts) [] line action each spells = absurd each
+spelled_more n (t ∷ ts) (r ∷ rs) line action each spells = (each.0, each.1, spelled_more n ts rs line action each.2 spells)
+
+pub read_more : (n : ℕ) (lines left more : List NumberedText) (line : NumberedText) (read now : List ScheduleLine)
+    → AreRead n lines left read → left ≡ line ∷ more → Adds n line read now → AreRead n lines more now
+read_more n lines left more line read now r next adds = record {
+  before = r.before ++ line ∷ [];
+  parts = r.parts ∙ ap (λ (xs : List NumberedText). r.before ++ xs) next ∙ sym (append_assoc r.before (line ∷ []) more);
+  spelled = rw adds.added (spelled_more n r.before read line adds.action r.spelled adds.spelled);
+}
+
+-- what was read has no fault
+read_faultless : (n : ℕ) (before : List NumberedText) (read : List ScheduleLine) → SpellEach n before read → All (IsFaultless n) before
+read_faultless n [] read each = All-nil (IsFaultless n)
+read_faultless n (t ∷ ts) [] each = absurd each
+read_faultless n (t ∷ ts) (r ∷ rs) each =
+    All-cons (IsFaultless n) t ts (spelled_faultless n t.text r.action each.1) (read_faultless n ts rs each.2)
+
+pub stops_there : (n : ℕ) (lines left more : List NumberedText) (line : NumberedText) (read : List ScheduleLine)
+    (fault : ParseFault) → AreRead n lines left read → left ≡ line ∷ more → IsLineRefusal n line fault
+    → IsLaterRefusal n lines fault
+stops_there n lines left more line read fault r next refusal = (
+  line,
+  record {
+    before = r.before;
+    after = more;
+    parts = r.parts ∙ ap (λ (xs : List NumberedText). r.before ++ xs) next;
+    faultless = read_faultless n r.before read r.spelled;
+  },
+  refusal,
+)
+
+-- a later line's refusal is the file's
+pub refused_later : (bytes : List ℕ) (n : ℕ) (first : NumberedText) (others : List NumberedText) (fault : ParseFault)
+    → lines_of bytes ≡ first ∷ others → IsNodesLine first.text n → IsLaterRefusal n others fault → IsRefusal bytes fault
+refused_later bytes n first others (Line at) lines nodes (line, next, (same, lowest)) =
+    later_line n line (record { first = first; others = others; lines = lines; nodes_line = nodes; next = next }) same lowest
+refused_later bytes n first others (Memory number) lines nodes (line, next, same) =
+    (n, line, same, record { first = first; others = others; lines = lines; nodes_line = nodes; next = next })

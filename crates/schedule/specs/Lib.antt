@@ -1,0 +1,13 @@
+pub mod Codes
+pub mod Entries
+pub mod Keywords
+pub mod Laws
+pub mod Lines
+pub mod Numbers
+pub mod Reading
+pub mod Rows
+pub mod Schedules
+pub mod Spelling
+pub mod Submissions
+pub mod Table
+pub mod Words

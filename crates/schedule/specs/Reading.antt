@@ -1,0 +1,34 @@
+-- How far the lines after the first were read.
+use Rattle.std.specs.Prelude.{◌≡◌, ℕ, List, [], ◌∷◌, ◌++◌}
+use Rattle.schedule.specs.Codes.{IsLowest}
+use Rattle.schedule.specs.Lines.{NumberedText}
+use Rattle.schedule.specs.Schedules.{ComesNext, SpellEach}
+use Rattle.schedule.specs.Spelling.{Spells}
+use Rattle.schedule.specs.Table.{HasFault}
+use Rattle.schedule.specs.declared.action.Action.{Action}
+use Rattle.schedule.specs.declared.fault.ParseFault.{ParseFault}
+use Rattle.schedule.specs.declared.fault.ParseFault.TheVariants.{Line, Memory}
+use Rattle.schedule.specs.declared.plan.ScheduleLine.{ScheduleLine}
+
+-- the first lines of the list were read as these, and the others are left
+pub record AreRead (n : ℕ) (lines left : List NumberedText) (read : List ScheduleLine)
+    : Type 0 where
+  pub before : List NumberedText
+  pub parts : lines ≡ before ++ left
+  pub spelled : SpellEach n before read
+
+-- why a line was not read
+abbrev pub IsLineRefusal : ℕ → NumberedText → ParseFault → Type 0
+IsLineRefusal n line (Line at) = (at.line ≡ line.number) × IsLowest (HasFault n line.text) at.fault
+IsLineRefusal n line (Memory number) = number ≡ line.number
+
+-- why the lines were not read
+abbrev pub IsLaterRefusal : ℕ → List NumberedText → ParseFault → Type 0
+IsLaterRefusal n lines fault =
+    (line : NumberedText) × ComesNext n lines line × IsLineRefusal n line fault
+
+-- what was read grew by an action that the line spells
+pub record Adds (n : ℕ) (line : NumberedText) (old new : List ScheduleLine) : Type 0 where
+  pub action : Action
+  pub added : new ≡ old ++ record { number = line.number; action = action } ∷ []
+  pub spelled : Spells n line.text action

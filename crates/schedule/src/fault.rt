@@ -1,0 +1,51 @@
+//! Why a file is no schedule.
+
+ghost use Rattle.std.specs.Prelude.{◌≡◌};
+ghost use Rattle.schedule.specs.Codes.{code_of};
+
+/// What is wrong with a line. Of a line's faults the one with the lowest number is told.
+#[derive(Clone, Copy, Debug, PartialEq, Eq)]
+pub enum ScheduleFault {
+    /// A byte is outside 20 to 7E (hexadecimal).
+    NotPrintable,
+    /// No line begins so: the first word, or the one that says what a submit or a query is for.
+    UnknownWord,
+    /// The first line that is not empty isn't `nodes 3`, or a later one begins with `nodes`.
+    NodesLine,
+    /// There are too few or too many words.
+    WordCount,
+    /// A word isn't what its place wants.
+    WordForm,
+}
+
+impl ScheduleFault {
+    /// Its number, from 1.
+    pub fn code(self) -> u8
+        ensures { result ≡ code_of self }
+    {
+        match self {
+            ScheduleFault::NotPrintable => 1,
+            ScheduleFault::UnknownWord => 2,
+            ScheduleFault::NodesLine => 3,
+            ScheduleFault::WordCount => 4,
+            ScheduleFault::WordForm => 5,
+        }
+    }
+}
+
+/// The first faulty line, and the lowest of its faults.
+#[derive(Clone, Copy, Debug, PartialEq, Eq)]
+pub struct LineFault {
+    /// Which line of the file it is, counted from 1.
+    pub line: u64,
+    pub fault: ScheduleFault,
+}
+
+/// Why no schedule was read.
+#[derive(Clone, Copy, Debug, PartialEq, Eq)]
+pub enum ParseFault {
+    /// The file is none.
+    Line(LineFault),
+    /// A growth was refused at the line of this number, before which no line is faulty.
+    Memory(u64),
+}

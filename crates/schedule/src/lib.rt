@@ -1,0 +1,27 @@
+//! Runs as texts: a schedule says how many nodes there are and what is done, line by line.
+//!
+//! `parse_schedule` reads the schedule that bytes spell, or tells the first faulty line and the
+//! lowest of its faults. Which bytes spell which schedule stands in `specs/Schedules.antt`, and
+//! below it in `specs/Spelling.antt` and `specs/Table.antt`; no bytes spell two.
+#![tactic(auto)]
+
+mod action;
+mod cut;
+mod fault;
+mod forms;
+mod keyword;
+mod laws;
+mod lines;
+mod parse;
+mod plan;
+mod reading;
+mod rows;
+#[cfg(test)]
+mod tests;
+mod words;
+
+pub use action::Action;
+pub use fault::{LineFault, ParseFault, ScheduleFault};
+pub use laws::{faulty_is_no_schedule, first_faults_are_one, schedules_are_one};
+pub use parse::parse_schedule;
+pub use plan::{Schedule, ScheduleLine};

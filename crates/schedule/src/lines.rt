@@ -1,0 +1,74 @@
+//! The lines of a file that are not empty, one after another.
+
+ghost use Rattle.std.specs.Prelude.{◌≡◌, [], ◌∷◌, Some, filter, MatchOption};
+ghost use Rattle.schedule.specs.Lines.{pieces, numbered, is_filled, line_feed, lines_of};
+
+use super::cut::cut;
+use std::marker::Model;
+
+/// A line, without its line feed.
+#[derive(Clone, Copy, Debug)]
+pub(crate) struct Line<'a> {
+    /// Which line of the file it is, counted from 1.
+    pub number: u64,
+    pub text: &'a [u8],
+}
+
+/// The lines that were not read yet.
+#[derive(Debug, Drop)]
+pub(crate) struct Lines<'a> {
+    rest: Option<&'a [u8]>,
+    /// The number of the first of them.
+    number: u64,
+}
+
+impl<'a> Model for Lines<'a> {
+    ghost use Rattle.std.specs.Prelude.{◌+◌, ◌<◌, ◌^◌, List, length};
+    ghost use Rattle.std.specs.Option.{option_copied};
+    ghost use Rattle.schedule.specs.Lines.{NumberedText, pieces, numbered, line_feed};
+
+    ghost Value = { List NumberedText };
+
+    ghost view = { λ l. numbered l.number (pieces line_feed (option_copied l.rest)) };
+
+    // Each line that is left has a number.
+    ghost invariant = { λ l. l.number + length (pieces line_feed (option_copied l.rest)) < 2 ^ 64 };
+}
+
+impl<'a> Lines<'a> {
+    /// All lines of the file.
+    pub(crate) fn of(bytes: &'a [u8]) -> Lines<'a>
+        ensures { filter is_filled result ≡ lines_of bytes.now }
+    {
+        Lines {
+            rest: Some(bytes),
+            number: 1,
+        }
+    }
+
+    /// Takes the next line, which may be empty.
+    fn next_piece(&mut self) -> Option<Line<'a>>
+        ensures { MatchOption result (self.old ≡ [])
+            (λ line. self.old ≡ record { number = line.number; text = line.text.now } ∷ self.new) }
+    {
+        let (text, rest) = cut(self.rest?, b'\n');
+        let number = self.number;
+        self.rest = rest;
+        self.number += 1;
+        Some(Line { number, text })
+    }
+
+    /// Takes the next line that is not empty.
+    pub(crate) fn next(&mut self) -> Option<Line<'a>>
+        ensures { MatchOption result (filter is_filled self.old ≡ [])
+            (λ line. filter is_filled self.old
+            ≡ record { number = line.number; text = line.text.now } ∷ filter is_filled self.new) }
+    {
+        while let Some(line) = self.next_piece() {
+            if !line.text.is_empty() {
+                return Some(line);
+            }
+        }
+        None
+    }
+}

@@ -1,0 +1,188 @@
+use super::*;
+use stable::Failing;
+use std::alloc::Global;
+use std::test::Fail;
+use tpoint::Id;
+use wire::{NodeId, Number, Op};
+use world::{Event, Query};
+
+// a line after `nodes 3`, and the fault that is told of it
+const LATER: [(&[u8], u8); 62] = [
+    (b"\tflush", 1),
+    (b"deliver 8\t", 1),
+    (b"flush\r", 1),
+    (b"foo\x7F", 1),
+    (b"submit 0 7 1 remove \xC3\xA9", 1),
+    (b" ", 2),
+    (b" flush", 2),
+    (b" deliver 4", 2),
+    (b"0", 2),
+    (b"foo", 2),
+    (b"Flush", 2),
+    (b"deliver0", 2),
+    (b"dTeliver 6", 2),
+    (b"timeou 2", 2),
+    (b"round 0  0", 2),
+    (b"checkpoint 9", 2),
+    (b"query 0 foo", 2),
+    (b"query 0 ", 2),
+    (b"query 0 counet", 2),
+    (b"query 0 get a", 2),
+    (b"query x foo 1", 2),
+    (b"submit 0 7 1 ", 2),
+    (b"submit 0 7 1 put", 2),
+    (b"submit 0 7 1 put {}", 2),
+    (b"submit 0 245 1 1 remove c", 2),
+    (b"submit 9 7 0 append a b", 2),
+    (b"nodes 3", 3),
+    (b"nodes", 3),
+    (b"nodes 4 x", 3),
+    (b"flush ", 4),
+    (b"flush 0", 4),
+    (b"deliver", 4),
+    (b"deliver 0 1", 4),
+    (b"deliver x ", 4),
+    (b"timeout  0", 4),
+    (b"tick", 4),
+    (b"restart 0 0", 4),
+    (b"fault 0", 4),
+    (b"fault 0 old now", 4),
+    (b"query 0", 4),
+    (b"query 0 count ", 4),
+    (b"submit", 4),
+    (b"submit 0", 4),
+    (b"submit 0 7 1", 4),
+    (b"submit 0 7 1 remove", 4),
+    (b"submit 0 7 1 remove a b", 4),
+    (b"deliver ", 5),
+    (b"deliver x", 5),
+    (b"deliver -1", 5),
+    (b"deliver +1", 5),
+    (b"deliver 00", 5),
+    (b"drop 18446744073709551616", 5),
+    (b"timeout 3", 5),
+    (b"tick 00", 5),
+    (b"query  count", 5),
+    (b"fault 0 other", 5),
+    (b"fault 3 new", 5),
+    (b"submit 0 256 1 remove a", 5),
+    (b"submit 0 7 0 remove a", 5),
+    (b"submit 0 255 18446744073709551616 remove a", 5),
+    (b"submit 0 7 1 remove a/b", 5),
+    (
+        b"submit 0 7 1 remove xxxxxxxxxxxxxxxxxxxxxxxxxxxxxxxxxxxxxxxxxxxxxxxxxxxxxxxxxxxxxxxxx",
+        5,
+    ),
+];
+
+// a file, the first faulty line, and the fault that is told of it
+const FILES: [(&[u8], u64, u8); 22] = [
+    (b"", 1, 3),
+    (b"\n\n", 1, 3),
+    (b"nodes 4", 1, 3),
+    (b"nodes 5\n", 1, 3),
+    (b"nodes 03", 1, 3),
+    (b"nodes 3 ", 1, 3),
+    (b"nodes ", 1, 3),
+    (b"nodes", 1, 3),
+    (b"flush", 1, 3),
+    (b"submit 0 7 1", 1, 3),
+    (b"query 0 count", 1, 3),
+    (b"\n\nflush\nfoo", 3, 3),
+    (b"nodes 3\r\nflush\r\n", 1, 1),
+    (b" nodes 3", 1, 2),
+    (b" ", 1, 2),
+    (b"foo", 1, 2),
+    (b"query 0 foo", 1, 2),
+    (b"submit 0 7 1 put {}", 1, 2),
+    (b"nodes 3\nflush\n\nnodes 3\nfoo\n", 4, 3),
+    (b"nodes 3\n\n\ntick 3", 4, 5),
+    (b"nodes 3\nflush\n \n", 3, 2),
+    (b"nodes 3\nflush\ntick\n\t\n", 3, 4),
+];
+
+fn refusal(alloc: Global, bytes: &[u8]) -> Option<(u64, u8)> {
+    match parse_schedule(alloc, bytes) {
+        Err(ParseFault::Line(at)) => Some((at.line, at.fault.code())),
+        _ => None,
+    }
+}
+
+#[test]
+fn faults_of_later_lines(rt: HostRuntime) -> Result<(), Fail> {
+    for (line, fault) in LATER {
+        let mut file = b"nodes 3\n".to_vec(rt.alloc())?;
+        file.extend_from_slice(line)?;
+        assert_eq!(rt; refusal(rt.alloc(), &file), Some((2, fault)), "of {line:?}");
+    }
+    Ok(())
+}
+
+#[test]
+fn first_faults_of_files(rt: HostRuntime) -> Result<(), Fail> {
+    for (file, line, fault) in FILES {
+        assert_eq!(rt;
+            refusal(rt.alloc(), file),
+            Some((line, fault)),
+            "of {file:?}"
+        );
+    }
+    Ok(())
+}
+
+// each kind of line, empty ones among them, and the greatest numbers; no line feed ends the last
+const WHOLE: &[u8] = b"\n\nnodes 3\n\
+submit 0 7 1 remove bus-7\n\
+submit 2 255 18446744073709551615 remove _.Z9\n\
+\n\
+deliver 0\ndrop 18446744073709551615\nflush\n\n\n\
+timeout 1\ntick 2\nrestart 0\nfault 1 old\nfault 2 new\nquery 0 count";
+
+fn node(value: u8) -> Result<NodeId, Fail> {
+    Ok(NodeId::new(value).ok_or("a node")?)
+}
+
+fn removal(to: u8, client: u8, number: u64, id: &[u8]) -> Result<Action, Fail> {
+    Ok(Action::Step(Event::Submit {
+        node: node(to)?,
+        client,
+        number: Number::new(number).ok_or("a number")?,
+        op: Op::Remove(Id::new(id).ok_or("an id")?),
+    }))
+}
+
+#[test]
+fn whole_schedule(rt: HostRuntime) -> Result<(), Fail> {
+    let schedule = parse_schedule(rt.alloc(), WHOLE).ok().ok_or("a schedule")?;
+    let nodes = schedule.nodes();
+    assert_eq!(rt; nodes.count(), 3);
+    let wanted = [
+        (4, removal(0, 7, 1, b"bus-7")?),
+        (5, removal(2, 255, u64::MAX, b"_.Z9")?),
+        (7, Action::Step(Event::Deliver(0))),
+        (8, Action::Step(Event::Drop(u64::MAX))),
+        (9, Action::Flush),
+        (12, Action::Step(Event::Timeout(node(1)?))),
+        (13, Action::Step(Event::Tick(node(2)?))),
+        (14, Action::Step(Event::Restart(node(0)?))),
+        (15, Action::Step(Event::Fault(node(1)?, Failing::Old))),
+        (16, Action::Step(Event::Fault(node(2)?, Failing::New))),
+        (17, Action::Step(Event::Query(node(0)?, Query::Count))),
+    ];
+    let lines = schedule.lines();
+    assert_eq!(rt; lines.len(), wanted.len());
+    for (line, (number, action)) in lines.iter().zip(wanted.iter()) {
+        assert_eq!(rt; line.number, *number);
+        assert!(rt; line.action == *action, "at line {number}");
+    }
+    let taken = schedule.into_lines();
+    assert_eq!(rt; taken.len(), wanted.len());
+    Ok(())
+}
+
+#[test]
+fn laws_run_nothing() {
+    schedules_are_one();
+    faulty_is_no_schedule();
+    first_faults_are_one();
+}

@@ -1,0 +1,82 @@
+//! The words of a line, one after another.
+
+ghost use Rattle.std.specs.Prelude.{◌≡◌, ◌≢◌, [], ◌∷◌, length, MatchOption, MatchResult};
+ghost use Rattle.schedule.specs.Words.{words_of};
+
+use super::cut::cut;
+use super::fault::ScheduleFault;
+use std::marker::Model;
+
+/// The words that were not read yet.
+#[derive(Debug, Drop)]
+pub(crate) struct Words<'a> {
+    rest: Option<&'a [u8]>,
+}
+
+impl<'a> Model for Words<'a> {
+    ghost use Rattle.std.specs.Prelude.{ℕ, List};
+    ghost use Rattle.std.specs.Option.{option_copied};
+    ghost use Rattle.schedule.specs.Lines.{pieces};
+    ghost use Rattle.schedule.specs.Words.{blank};
+
+    ghost Value = { List (List ℕ) };
+
+    ghost view = { λ w. pieces blank (option_copied w.rest) };
+}
+
+impl<'a> Words<'a> {
+    /// All words of the line.
+    pub(crate) fn of(text: &'a [u8]) -> Words<'a>
+        ensures { result ≡ words_of text.now }
+    {
+        Words { rest: Some(text) }
+    }
+
+    /// Takes the next word.
+    pub(crate) fn next(&mut self) -> Option<&'a [u8]>
+        ensures { MatchOption result (self.old ≡ []) (λ word. self.old ≡ word.now ∷ self.new) }
+    {
+        let (word, rest) = cut(self.rest?, b' ');
+        self.rest = rest;
+        Some(word)
+    }
+
+    /// Takes the next word, which has to be there.
+    pub(crate) fn needed(&mut self) -> Result<&'a [u8], ScheduleFault>
+        ensures { MatchResult result (λ word. self.old ≡ word.now ∷ self.new)
+            (λ fault. (fault ≡ ScheduleFault.WordCount) × (self.old ≡ [])) }
+    {
+        self.next().ok_or(ScheduleFault::WordCount)
+    }
+
+    /// Nothing may be left.
+    pub(crate) fn end(mut self) -> Result<(), ScheduleFault>
+        ensures { MatchResult result (λ _. self.entry ≡ [])
+            (λ fault. (fault ≡ ScheduleFault.WordCount) × (length self.entry ≢ 0)) }
+    {
+        match self.next() {
+            Some(_) => Err(ScheduleFault::WordCount),
+            None => Ok(()),
+        }
+    }
+
+    /// The one word that is left.
+    pub(crate) fn only(mut self) -> Result<&'a [u8], ScheduleFault>
+        ensures { MatchResult result (λ word. self.entry ≡ word.now ∷ [])
+            (λ fault. (fault ≡ ScheduleFault.WordCount) × (length self.entry ≢ 1)) }
+    {
+        let word = self.needed()?;
+        self.end()?;
+        Ok(word)
+    }
+
+    /// The two words that are left.
+    pub(crate) fn pair(mut self) -> Result<(&'a [u8], &'a [u8]), ScheduleFault>
+        ensures { MatchResult result (λ words. self.entry ≡ words.0.now ∷ words.1.now ∷ [])
+            (λ fault. (fault ≡ ScheduleFault.WordCount) × (length self.entry ≢ 2)) }
+    {
+        let first = self.needed()?;
+        let second = self.only()?;
+        Ok((first, second))
+    }
+}
