@@ -1,0 +1,11 @@
+pub mod Latest
+pub mod Ordered
+pub mod PartOfLeg
+pub mod Samples
+pub mod Spans
+pub mod Transport
+pub mod Values
+pub mod InsideLemmas
+pub mod Joining
+pub mod OwnValues
+pub mod Assembly
