@@ -1,0 +1,6 @@
+pub mod BoundLemmas
+pub mod Margins
+pub mod WindowLemmas
+pub mod LegLemmas
+pub mod StayLemmas
+pub mod SequenceLemmas

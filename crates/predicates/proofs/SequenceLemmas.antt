@@ -1,0 +1,257 @@
+-- From the pieces of a moving point to the whole.
+use Rattle.std.proofs.Common.{◌≡◌, ℕ, ◌+◌, ◌<◌, ◌≤◌, inl, inr, true, false, List}
+use Rattle.std.proofs.Common.{[], ◌∷◌, map, length, get_or, slice_get, Some, sym, subst, refl, arith}
+use Rattle.std.proofs.lemmas.Bool.{cases_lt}
+use Rattle.std.proofs.lemmas.Option.{slice_get_within, slice_get-get_or}
+use Rattle.std.proofs.lemmas.List.{length-map}
+use Rattle.std.specs.List.Sorted.{IsNonDecreasingBy}
+use borrow.Author.Count.{below_more}
+use Rattle.tpoint.proofs.Fractions.{≤ᶠ_trans, ≤ᶠ_of_≈, ≤ᶠ_of_<ᶠ, ≈_sym, moment_le, moment_lt, <ᶠ-≤ᶠ, ≤ᶠ-<ᶠ, <ᶠ_of_≤ᶠ_not}
+use Rattle.tpoint.proofs.PieceLemmas.{mapped, unmap, the_vertex, rises_le, place_within}
+use Rattle.tpoint.specs.Fraction.{Fraction, ◌≈◌, ◌≤ᶠ◌, ◌<ᶠ◌}
+use Rattle.tpoint.specs.Moving.{Position, Vertex, Sequence, HasValue, At, AtListed, Rises, moment, vertex}
+use Rattle.tpoint.specs.Extents.{Span, Area}
+use Rattle.tpoint.specs.Places.{EachAt}
+use Rattle.tpoint.specs.Pieces.{Piece}
+use Rattle.tpoint.specs.declared.point.Point.{Point}
+use Rattle.tpoint.specs.declared.interp.Interp.{Interp}
+use Rattle.tpoint.specs.declared.interp.Interp.TheVariants.{Discrete, Step, Linear}
+use Rattle.predicates.specs.declared.questions.Question.{Question}
+use Rattle.predicates.specs.declared.questions.Question.TheVariants.{Ever, Always}
+use Rattle.predicates.specs.declared.questions.Tri.{Tri}
+use Rattle.predicates.specs.declared.questions.Tri.TheVariants.{Yes, No, None}
+use Rattle.predicates.specs.Predicates.{Shares, SomeInside, AllInside}
+use Rattle.predicates.specs.Questions.{Answers, decides}
+
+-- the values of a list of points
+abbrev pub Whole : Interp → List Point → Fraction → Position → Type 0
+Whole interp ps t v = HasValue interp (map vertex ps) t v
+
+-- ---- when a piece has its values
+-- not before its own instant
+listed_from : (ps : List Point) (j : ℕ) (p : Point) (t : Fraction) (v : Position) → slice_get ps j ≡ Some p →
+    AtListed (map vertex ps) j t v → moment p.t ≤ᶠ t
+listed_from ps j p t v e h =
+    let P : Vertex → Type 0 = λ w. t ≈ moment w.time in
+    ≤ᶠ_of_≈ (≈_sym (subst P (the_vertex ps j p h.point e h.listed) h.then))
+
+pub piece_from : (interp : Interp) (ps : List Point) (j : ℕ) (p : Point) (t : Fraction) (v : Position) → slice_get ps j ≡ Some p →
+    Piece interp ps j t v → moment p.t ≤ᶠ t
+piece_from Discrete ps j p t v e h = listed_from ps j p t v e h
+piece_from Step ps j p t v e h =
+    let P : Vertex → Type 0 = λ w. moment w.time ≤ᶠ t in
+    subst P (the_vertex ps j p h.point e h.listed) h.reached
+piece_from Linear ps j p t v e h =
+    elim h [
+      | inl b ↦
+          let P : Vertex → Type 0 = λ w. moment w.time ≤ᶠ t in
+          subst P (the_vertex ps j p b.point e b.listed) b.between.begun
+      | inr s ↦ listed_from ps j p t v e s.1
+    ]
+
+-- nor after the next one
+pub piece_until : (interp : Interp) (ps : List Point) (j : ℕ) (next : Point) (t : Fraction) (v : Position) → ((k : ℕ) → Rises ps k) →
+    slice_get ps (j + 1) ≡ Some next → Piece interp ps j t v → t ≤ᶠ moment next.t
+piece_until Discrete ps j next t v rise e h =
+    let found = unmap ps j h.point h.listed in
+    let P : Vertex → Type 0 = λ w. t ≈ moment w.time in
+    let then = subst P (sym found.2) h.then in
+    let order = rise j found.0 next found.1 e in
+    ≤ᶠ_trans (≤ᶠ_of_≈ then) ((moment_le found.0.t next.t).0 (omega arith))
+piece_until Step ps j next t v rise e h =
+    ≤ᶠ_of_<ᶠ (h.not_left (j + 1) (vertex next) (omega arith) (mapped ps (j + 1) next e))
+piece_until Linear ps j next t v rise e h =
+    elim h [
+      | inl b ↦
+          let P : Vertex → Type 0 = λ w. t ≤ᶠ moment w.time in
+          subst P (the_vertex ps (j + 1) next b.next e b.next_listed) b.between.not_over
+      | inr s ↦ absurd (omega (arith, s.0, length-map ps vertex, slice_get_within ps (j + 1) next e))
+    ]
+
+-- ---- pieces that do not meet the period
+-- one that ends before it
+pub ends_before : (interp : Interp) (ps : List Point) (p : Span) (j : ℕ) (next : Point) → ((k : ℕ) → Rises ps k) →
+    slice_get ps (j + 1) ≡ Some next → next.t < p.begin → ¬ Shares (Piece interp ps j) p
+ends_before interp ps p j next rise e before s =
+    let until = piece_until interp ps j next s.t s.v rise e s.value in
+    let apart = ≤ᶠ-<ᶠ until ((moment_lt next.t p.begin).0 before) in
+    <ᶠ_of_≤ᶠ_not s.t (moment p.begin) apart s.in_period.begun
+
+-- those before a place up to which each next point is before it
+pub before_place : (interp : Interp) (ps : List Point) (p : Span) (n : ℕ) → ((k : ℕ) → Rises ps k) → n < length ps →
+    ((k : ℕ) → k < n → EachAt ps (λ (next : Point). next.t < p.begin) (k + 1)) → (j : ℕ) → j < n → ¬ Shares (Piece interp ps j) p
+before_place interp [] p n rise within earlier j h = absurd (omega arith)
+before_place interp (x ∷ xs) p n rise within earlier j h =
+    let ps = x ∷ xs in
+    let next = get_or ps (j + 1) x in
+    let there = slice_get-get_or ps (j + 1) x (omega arith) in
+    ends_before interp ps p j next rise there (earlier j h next there)
+
+-- one from a point on that is after it
+pub begins_after : (interp : Interp) (ps : List Point) (p : Span) (i j : ℕ) (point : Point) → ((k : ℕ) → Rises ps k) →
+    slice_get ps i ≡ Some point → p.end < point.t → i ≤ j → ¬ Shares (Piece interp ps j) p
+begins_after interp ps p i j point rise e after h s =
+    let within = place_within interp ps j s.t s.v s.value in
+    let own = get_or ps j point in
+    let there = slice_get-get_or ps j point within in
+    let order = rises_le ps rise i j point own h e there in
+    let from = piece_from interp ps j own s.t s.v there s.value in
+    let apart : moment p.end <ᶠ s.t = <ᶠ-≤ᶠ ((moment_lt p.end own.t).0 (omega arith)) from in
+    <ᶠ_of_≤ᶠ_not (moment p.end) s.t apart s.in_period.not_over
+
+-- one past the last point
+pub past_the_last : (interp : Interp) (ps : List Point) (p : Span) (j : ℕ) → length ps ≤ j → ¬ Shares (Piece interp ps j) p
+past_the_last interp ps p j over s = absurd (omega (arith, place_within interp ps j s.t s.v s.value))
+
+-- ---- what the answer of a piece tells of the whole
+abbrev pub Undecided : Question → (Fraction → Position → Type 0) → Span → Area → Type 0
+Undecided Ever R p r = ¬ SomeInside R p r
+Undecided Always R p r = AllInside R p r
+
+some_shares : (R : Fraction → Position → Type 0) (p : Span) (r : Area) → SomeInside R p r → Shares R p
+some_shares R p r s = record { t = s.t; v = s.v; in_period = s.in_period; value = s.value }
+
+all_of_none : (R : Fraction → Position → Type 0) (p : Span) (r : Area) → ¬ Shares R p → AllInside R p r
+all_of_none R p r none =
+    record { inside = λ t v lies k. absurd (none (record { t = t; v = v; in_period = lies; value = k })) }
+
+undecided_of_none : (q : Question) (R : Fraction → Position → Type 0) (p : Span) (r : Area) → ¬ Shares R p → Undecided q R p r
+undecided_of_none Ever R p r none = λ s. none (some_shares R p r s)
+undecided_of_none Always R p r none = all_of_none R p r none
+
+undecided_by : (q : Question) (R : Fraction → Position → Type 0) (p : Span) (r : Area) (part : Tri) → Answers q R p r part →
+    decides q part ≡ false → Undecided q R p r
+undecided_by Ever R p r Yes h e = absurd (cc)
+undecided_by Ever R p r No h e = h.1
+undecided_by Ever R p r None h e = undecided_of_none Ever R p r h
+undecided_by Always R p r Yes h e = h.1
+undecided_by Always R p r No h e = absurd (cc)
+undecided_by Always R p r None h e = undecided_of_none Always R p r h
+
+-- an answer but None comes from a value in the period
+shares_by : (q : Question) (R : Fraction → Position → Type 0) (p : Span) (r : Area) (part : Tri) → Answers q R p r part → ¬ (part ≡ None) →
+    Shares R p
+shares_by Ever R p r Yes h n = some_shares R p r h
+shares_by Ever R p r No h n = h.0
+shares_by Ever R p r None h n = absurd (n refl)
+shares_by Always R p r Yes h n = h.0
+shares_by Always R p r No h n = h.0
+shares_by Always R p r None h n = absurd (n refl)
+
+shares_whole : (interp : Interp) (ps : List Point) (p : Span) (i : ℕ) → Shares (Piece interp ps i) p → Shares (Whole interp ps) p
+shares_whole interp ps p i s =
+    record { t = s.t; v = s.v; in_period = s.in_period; value = record { i = i; at_i = s.value } }
+
+none_by : (q : Question) (R : Fraction → Position → Type 0) (p : Span) (r : Area) → Answers q R p r None → ¬ Shares R p
+none_by Ever R p r h = h
+none_by Always R p r h = h
+
+-- a piece that decides
+pub decided : (q : Question) (interp : Interp) (ps : List Point) (p : Span) (r : Area) (i : ℕ) (part : Tri) →
+    Answers q (Piece interp ps i) p r part → decides q part ≡ true → Answers q (Whole interp ps) p r part
+decided Ever interp ps p r i Yes s e =
+    record { t = s.t; v = s.v; in_period = s.in_period; value = record { i = i; at_i = s.value }; inside = s.inside }
+decided Ever interp ps p r i No h e = absurd (cc)
+decided Ever interp ps p r i None h e = absurd (cc)
+decided Always interp ps p r i Yes h e = absurd (cc)
+decided Always interp ps p r i No h e = (
+  shares_whole interp ps p i h.0,
+  λ all. h.1 (record { inside = λ t v lies k. all.inside t v lies (record { i = i; at_i = k }) }),
+)
+decided Always interp ps p r i None h e = absurd (cc)
+
+-- ---- the pieces before the one at i
+pub record SoFar (q : Question) (interp : Interp) (ps : List Point) (p : Span) (r : Area) (i : ℕ) (answer : Tri) : Type 0 where
+  pub undecided : (j : ℕ) → j < i → Undecided q (Piece interp ps j) p r
+  pub none : answer ≡ None → (j : ℕ) → j < i → ¬ Shares (Piece interp ps j) p
+  pub some : ¬ (answer ≡ None) → Shares (Whole interp ps) p
+  pub not_yet : decides q answer ≡ false
+
+decides_none : (q : Question) → decides q None ≡ false
+decides_none Ever = refl
+decides_none Always = refl
+
+pub so_far_none : (q : Question) (interp : Interp) (ps : List Point) (p : Span) (r : Area) (i : ℕ) →
+    ((j : ℕ) → j < i → ¬ Shares (Piece interp ps j) p) → SoFar q interp ps p r i None
+so_far_none q interp ps p r i none =
+    record {
+      undecided = λ j h. undecided_of_none q (Piece interp ps j) p r (none j h);
+      none = λ _. none;
+      some = λ n. absurd (n refl);
+      not_yet = decides_none q;
+    }
+
+-- a piece without a value in the period
+pub next_none : (q : Question) (interp : Interp) (ps : List Point) (p : Span) (r : Area) (i : ℕ) (answer : Tri) →
+    SoFar q interp ps p r i answer → Answers q (Piece interp ps i) p r None → SoFar q interp ps p r (i + 1) answer
+next_none q interp ps p r i answer s h =
+    let none = none_by q (Piece interp ps i) p r h in
+    record {
+      undecided = below_more (λ j. Undecided q (Piece interp ps j) p r) i s.undecided (undecided_of_none q (Piece interp ps i) p r none);
+      none = λ e. below_more (λ j. ¬ Shares (Piece interp ps j) p) i (s.none e) none;
+      some = s.some;
+      not_yet = s.not_yet;
+    }
+
+-- a piece with one that does not decide
+pub next_some : (q : Question) (interp : Interp) (ps : List Point) (p : Span) (r : Area) (i : ℕ) (answer part : Tri) →
+    SoFar q interp ps p r i answer → Answers q (Piece interp ps i) p r part → ¬ (part ≡ None) → decides q part ≡ false →
+    SoFar q interp ps p r (i + 1) part
+next_some q interp ps p r i answer part s h some open_still =
+    let here = undecided_by q (Piece interp ps i) p r part h open_still in
+    record {
+      undecided = below_more (λ j. Undecided q (Piece interp ps j) p r) i s.undecided here;
+      none = λ e. absurd (some e);
+      some = λ _. shares_whole interp ps p i (shares_by q (Piece interp ps i) p r part h some);
+      not_yet = open_still;
+    }
+
+-- ---- when no piece is left that meets the period
+undecided_whole : (q : Question) (interp : Interp) (ps : List Point) (p : Span) (r : Area) →
+    ((j : ℕ) → Undecided q (Piece interp ps j) p r) → Undecided q (Whole interp ps) p r
+undecided_whole Ever interp ps p r all = λ s.
+    all s.value.i (record { t = s.t; v = s.v; in_period = s.in_period; value = s.value.at_i; inside = s.inside })
+undecided_whole Always interp ps p r all =
+    record { inside = λ t v lies k. (all k.i).inside t v lies k.at_i }
+
+all_undecided : (q : Question) (interp : Interp) (ps : List Point) (p : Span) (r : Area) (i : ℕ) (answer : Tri) →
+    SoFar q interp ps p r i answer → ((j : ℕ) → i ≤ j → ¬ Shares (Piece interp ps j) p) → (j : ℕ) → Undecided q (Piece interp ps j) p r
+all_undecided q interp ps p r i answer s rest j =
+    elim (cases_lt j i) [
+      | inl h ↦ s.undecided j h
+      | inr h ↦ undecided_of_none q (Piece interp ps j) p r (rest j h)
+    ]
+
+none_whole : (interp : Interp) (ps : List Point) (p : Span) (i : ℕ) → ((j : ℕ) → j < i → ¬ Shares (Piece interp ps j) p) →
+    ((j : ℕ) → i ≤ j → ¬ Shares (Piece interp ps j) p) → ¬ Shares (Whole interp ps) p
+none_whole interp ps p i before rest s =
+    let own : Shares (Piece interp ps s.value.i) p = record { t = s.t; v = s.v; in_period = s.in_period; value = s.value.at_i } in
+    elim (cases_lt s.value.i i) [ inl h ↦ before s.value.i h own | inr h ↦ rest s.value.i h own ]
+
+answer_whole : (q : Question) (R : Fraction → Position → Type 0) (p : Span) (r : Area) (answer : Tri) → Undecided q R p r →
+    (answer ≡ None → ¬ Shares R p) → (¬ (answer ≡ None) → Shares R p) → decides q answer ≡ false → Answers q R p r answer
+answer_whole Ever R p r Yes u none some e = absurd (cc)
+answer_whole Ever R p r No u none some e = (some (λ k. cc), u)
+answer_whole Ever R p r None u none some e = none refl
+answer_whole Always R p r Yes u none some e = (some (λ k. cc), u)
+answer_whole Always R p r No u none some e = absurd (cc)
+answer_whole Always R p r None u none some e = none refl
+
+pub answered : (q : Question) (interp : Interp) (ps : List Point) (p : Span) (r : Area) (i : ℕ) (answer : Tri) →
+    SoFar q interp ps p r i answer → ((j : ℕ) → i ≤ j → ¬ Shares (Piece interp ps j) p) → Answers q (Whole interp ps) p r answer
+answered q interp ps p r i answer s rest =
+    answer_whole q (Whole interp ps) p r answer
+    (undecided_whole q interp ps p r (all_undecided q interp ps p r i answer s rest))
+    (λ e. none_whole interp ps p i (s.none e) rest)
+    s.some s.not_yet
+
+-- a sequence is its interpolation and its points
+pub of_sequence : (q : Question) (s : Sequence) (interp : Interp) (ps : List Point) (p : Span) (r : Area) (answer : Tri) →
+    interp ≡ s.interp → ps ≡ s.points → Answers q (Whole interp ps) p r answer → Answers q (At s) p r answer
+of_sequence q s interp ps p r answer e f h =
+    subst (λ (qs : List Point). Answers q (Whole s.interp qs) p r answer) f (subst (λ (k : Interp). Answers q (Whole k ps) p r answer) e h)
+
+-- ---- the instants of a list of points do not fall
+pub instants_rise : (ps : List Point) → ((k : ℕ) → Rises ps k) → IsNonDecreasingBy (λ (p : Point). p.t) ps
+instants_rise ps rise i j d h k =
+    rises_le ps rise i j (get_or ps i d) (get_or ps j d) h (slice_get-get_or ps i d (omega arith)) (slice_get-get_or ps j d k)

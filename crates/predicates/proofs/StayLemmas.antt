@@ -1,0 +1,150 @@
+-- What a position answers that stays as it is listed.
+use Rattle.std.proofs.Common.{◌≡◌, ℕ, ◌<◌, ◌≤◌, ℤ, ◌≤ℤ◌, ◌↔◌, inl, inr, Bool, false, IsTrue, arith}
+use Rattle.std.proofs.lemmas.Bool.{cases_lt}
+use Rattle.tpoint.proofs.Fractions.{≤ᶠ_trans, ≤ᶠ_refl, ≈-≤ᶠ, ≤ᶠ-≈, ≈_sym, ≈_refl, ≤ᶠ-<ᶠ, whole_le, moment_le, moment_lt}
+use Rattle.tpoint.specs.Fraction.{Fraction, ◌≈◌, ◌≤ᶠ◌, ◌<ᶠ◌}
+use Rattle.tpoint.specs.Moving.{Position, IsPlace, moment}
+use Rattle.tpoint.specs.Extents.{Span, LiesIn, Area, Between, Inside}
+use Rattle.tpoint.specs.Pieces.{place, AtPoint, HeldUntil}
+use Rattle.tpoint.specs.declared.point.Point.{Point}
+use Rattle.predicates.specs.declared.questions.Question.{Question}
+use Rattle.predicates.specs.declared.questions.Question.TheVariants.{Ever, Always}
+use Rattle.predicates.specs.declared.questions.Tri.{Tri}
+use Rattle.predicates.specs.declared.questions.Tri.TheVariants.{Yes, No, None}
+use Rattle.predicates.specs.Predicates.{Shares, SomeInside, AllInside}
+use Rattle.predicates.specs.Questions.{Answers}
+use Rattle.predicates.specs.Stays.{IsStayAnswer}
+
+-- ---- two relations with the same pairs answer alike
+shares_same : (R S : Fraction → Position → Type 0) (p : Span) → ((t : Fraction) (v : Position) → R t v → S t v) → Shares R p → Shares S p
+shares_same R S p f s = record { t = s.t; v = s.v; in_period = s.in_period; value = f s.t s.v s.value }
+
+some_same : (R S : Fraction → Position → Type 0) (p : Span) (r : Area) → ((t : Fraction) (v : Position) → R t v → S t v) →
+    SomeInside R p r → SomeInside S p r
+some_same R S p r f s =
+    record { t = s.t; v = s.v; in_period = s.in_period; value = f s.t s.v s.value; inside = s.inside }
+
+all_same : (R S : Fraction → Position → Type 0) (p : Span) (r : Area) → ((t : Fraction) (v : Position) → S t v → R t v) → AllInside R p r →
+    AllInside S p r
+all_same R S p r g all = record { inside = λ t v lies k. all.inside t v lies (g t v k) }
+
+pub answers_same : (q : Question) (R S : Fraction → Position → Type 0) (p : Span) (r : Area) (answer : Tri) →
+    ((t : Fraction) (v : Position) → R t v → S t v) → ((t : Fraction) (v : Position) → S t v → R t v) → Answers q R p r answer →
+    Answers q S p r answer
+answers_same Ever R S p r Yes f g h = some_same R S p r f h
+answers_same Ever R S p r No f g h = (shares_same R S p f h.0, λ s. h.1 (some_same S R p r g s))
+answers_same Ever R S p r None f g h = λ s. h (shares_same S R p g s)
+answers_same Always R S p r Yes f g h = (shares_same R S p f h.0, all_same R S p r g h.1)
+answers_same Always R S p r No f g h = (shares_same R S p f h.0, λ s. h.1 (all_same S R p r f s))
+answers_same Always R S p r None f g h = λ s. h (shares_same S R p g s)
+
+-- where there is no value at all
+pub answers_nothing : (q : Question) (R : Fraction → Position → Type 0) (p : Span) (r : Area) → ((t : Fraction) (v : Position) → ¬ R t v) →
+    Answers q R p r None
+answers_nothing Ever R p r nothing = λ s. nothing s.t s.v s.value
+answers_nothing Always R p r nothing = λ s. nothing s.t s.v s.value
+
+-- ---- a position that stays while S holds
+Between-≈ : {s t : Fraction} {a b : ℤ} → s ≈ t → Between a b s → Between a b t
+Between-≈ e h = record { from = ≤ᶠ-≈ h.from e; to = ≈-≤ᶠ (≈_sym e) h.to }
+
+inside_there : (r : Area) (v w : Position) → IsPlace v w → Inside v r → Inside w r
+inside_there r v w e i = record { across = Between-≈ e.same_x i.across; along = Between-≈ e.same_y i.along }
+
+there_inside : (r : Area) (v w : Position) → IsPlace v w → Inside w r → Inside v r
+there_inside r v w e i = record { across = Between-≈ (≈_sym e.same_x) i.across; along = Between-≈ (≈_sym e.same_y) i.along }
+
+is_place : (v : Position) → IsPlace v v
+is_place v = record { same_x = ≈_refl v.x; same_y = ≈_refl v.y }
+
+record Stays (S : Fraction → Type 0) (w : Position) (t : Fraction) (v : Position) : Type 0 where
+  pub while : S t
+  pub there : IsPlace v w
+
+-- it is there in the period
+abbrev pub MeetsStay : (Fraction → Type 0) → Span → Type 0
+MeetsStay S p = (t : Fraction) × LiesIn t p × S t
+
+stay_shares : (S : Fraction → Type 0) (w : Position) (p : Span) → MeetsStay S p → Shares (Stays S w) p
+stay_shares S w p m = record { t = m.0; v = w; in_period = m.1; value = record { while = m.2; there = is_place w } }
+
+stay_some : (S : Fraction → Type 0) (w : Position) (p : Span) (r : Area) → MeetsStay S p → Inside w r → SomeInside (Stays S w) p r
+stay_some S w p r m i =
+    record { t = m.0; v = w; in_period = m.1; value = record { while = m.2; there = is_place w }; inside = i }
+
+stay_apart : (S : Fraction → Type 0) (w : Position) (p : Span) (there : Bool) → (IsTrue there ↔ MeetsStay S p) → there ≡ false →
+    ¬ Shares (Stays S w) p
+stay_apart S w p there when e s = let t = when.1 (s.t, s.in_period, s.value.while) in absurd (cc)
+
+stay_answers : (q : Question) (S : Fraction → Type 0) (w : Position) (p : Span) (r : Area) (there : Bool) (answer : Tri) →
+    (IsTrue there ↔ MeetsStay S p) → IsStayAnswer there (Inside w r) answer → Answers q (Stays S w) p r answer
+stay_answers Ever S w p r there Yes when h = stay_some S w p r (when.0 h.0) h.1
+stay_answers Ever S w p r there No when h =
+    (stay_shares S w p (when.0 h.0), λ s. h.1 (inside_there r s.v w s.value.there s.inside))
+stay_answers Ever S w p r there None when h = stay_apart S w p there when h
+stay_answers Always S w p r there Yes when h =
+    (stay_shares S w p (when.0 h.0), record { inside = λ t v lies k. there_inside r v w k.there h.1 })
+stay_answers Always S w p r there No when h =
+    let m = when.0 h.0 in
+    (stay_shares S w p m, λ all. h.1 (all.inside m.0 w m.1 (record { while = m.2; there = is_place w })))
+stay_answers Always S w p r there None when h = stay_apart S w p there when h
+
+-- ---- when it is there
+at_instant : (p : Span) (n : ℕ) → ((p.begin ≤ n) × (n ≤ p.end)) ↔ MeetsStay (λ t. t ≈ moment n) p
+at_instant p n = (
+  λ h. (moment n, record { begun = (moment_le p.begin n).0 h.0; not_over = (moment_le n p.end).0 h.1 }, ≈_refl (moment n)),
+  λ s. ((moment_le p.begin n).1 (≤ᶠ-≈ s.1.begun s.2), (moment_le n p.end).1 (≈-≤ᶠ (≈_sym s.2) s.1.not_over)),
+)
+
+until_next : (p : Span) (m n : ℕ) → m < n → p.begin ≤ p.end →
+    ((m ≤ p.end) × (p.begin < n)) ↔ MeetsStay (λ t. (moment m ≤ᶠ t) × (t <ᶠ moment n)) p
+until_next p m n h o = (
+  λ k.
+      elim (cases_lt p.begin m) [
+        | inl l ↦
+            let lies : LiesIn (moment m) p =
+            record { begun = (moment_le p.begin m).0 (omega arith); not_over = (moment_le m p.end).0 k.0 } in
+            (moment m, lies, (≤ᶠ_refl (moment m), (moment_lt m n).0 h))
+        | inr l ↦
+            let lies : LiesIn (moment p.begin) p = record { begun = ≤ᶠ_refl (moment p.begin); not_over = (moment_le p.begin p.end).0 o } in
+            (moment p.begin, lies, ((moment_le m p.begin).0 l, (moment_lt p.begin n).0 k.1))
+      ],
+  λ s. ((moment_le m p.end).1 (≤ᶠ_trans s.2.0 s.1.not_over), (moment_lt p.begin n).1 (≤ᶠ-<ᶠ s.1.begun s.2.1)),
+)
+
+-- ---- the two kinds
+pub point_answers : (q : Question) (point : Point) (p : Span) (r : Area) (there : Bool) (answer : Tri) →
+    (IsTrue there ↔ ((p.begin ≤ point.t) × (point.t ≤ p.end))) → IsStayAnswer there (Inside (place point) r) answer →
+    Answers q (AtPoint point) p r answer
+point_answers q point p r there answer when h =
+    let S : Fraction → Type 0 = λ t. t ≈ moment point.t in
+    let i = at_instant p point.t in
+    answers_same q (Stays S (place point)) (AtPoint point) p r answer
+    (λ t v k. record { then = k.while; there = k.there })
+    (λ t v k. record { while = k.then; there = k.there })
+    (stay_answers q S (place point) p r there answer (λ e. i.0 (when.0 e), λ m. when.1 (i.1 m)) h)
+
+pub held_answers : (q : Question) (point next : Point) (p : Span) (r : Area) (there : Bool) (answer : Tri) → point.t < next.t →
+    p.begin ≤ p.end → (IsTrue there ↔ ((point.t ≤ p.end) × (p.begin < next.t))) → IsStayAnswer there (Inside (place point) r) answer →
+    Answers q (HeldUntil point next) p r answer
+held_answers q point next p r there answer later ordered when h =
+    let S : Fraction → Type 0 = λ t. (moment point.t ≤ᶠ t) × (t <ᶠ moment next.t) in
+    let i = until_next p point.t next.t later ordered in
+    answers_same q (Stays S (place point)) (HeldUntil point next) p r answer
+    (λ t v k. record { reached = k.while.0; not_left = k.while.1; there = k.there })
+    (λ t v k. record { while = (k.reached, k.not_left); there = k.there })
+    (stay_answers q S (place point) p r there answer (λ e. i.0 (when.0 e), λ m. when.1 (i.1 m)) h)
+
+-- a listed position lies in a rectangle
+pub inside_numbers : (point : Point) (r : Area) →
+    (((r.x0 ≤ℤ point.x) × (point.x ≤ℤ r.x1)) × ((r.y0 ≤ℤ point.y) × (point.y ≤ℤ r.y1))) ↔ Inside (place point) r
+inside_numbers point r = (
+  λ h. record {
+    across = record { from = (whole_le r.x0 point.x).0 h.0.0; to = (whole_le point.x r.x1).0 h.0.1 };
+    along = record { from = (whole_le r.y0 point.y).0 h.1.0; to = (whole_le point.y r.y1).0 h.1.1 };
+  },
+  λ i. (
+    ((whole_le r.x0 point.x).1 i.across.from, (whole_le point.x r.x1).1 i.across.to),
+    ((whole_le r.y0 point.y).1 i.along.from, (whole_le point.y r.y1).1 i.along.to),
+  ),
+)

@@ -1,0 +1,79 @@
+use Rattle.std.proofs.Common.{ℕ, List, sym, subst, refl, length, ◌<◌, arith, rules}
+use Rattle.std.proofs.lemmas.Option.{slice_get_read}
+use Rattle.tpoint.specs.Places.{EachAt}
+use Rattle.tpoint.specs.Moving.{Rises, InBounds}
+use Rattle.tpoint.specs.declared.point.Point.{Point}
+use Rattle.predicates.proofs.SequenceLemmas.{so_far_none, next_none, next_some, decided}
+use Rattle.predicates.proofs.SequenceLemmas.{answered, before_place, begins_after, past_the_last, of_sequence}
+use Rattle.predicates.proofs.sequences.answer.Goals as goal
+use Rattle.predicates.proofs.sequences.answer.Goals.{in-None, in_default}
+
+pub loop-i-init : goal.loop-i-init
+loop-i-init c =
+    let interp = c.interp-interp.result in
+    let ps = c.points-points.result.now in
+    let P : List Point → Type 0 = λ qs. (k : ℕ) → Rises qs k in
+    let rise = subst P (sym c.points-points.ensures.value) c.points-points.ensures.valid.increasing in
+    let first = c.first_piece-i in
+    let p = c.args.period.now in
+    so_far_none c.args.question interp ps p c.args.area.now first.result
+    (before_place interp ps p first.result rise first.ensures.within first.ensures.before)
+
+-- the rest begins after the period
+pub returns-then-lt : goal.returns-then-lt
+returns-then-lt c =
+    let interp = c.interp-interp.result in
+    let ps = c.points-points.result.now in
+    let P : List Point → Type 0 = λ qs. (k : ℕ) → Rises qs k in
+    let rise = subst P (sym c.points-points.ensures.value) c.points-points.ensures.valid.increasing in
+    let i = c.loop-i.i in
+    let point = c.index-points-i.result in
+    let there = slice_get_read ps (length ps) i point refl (omega arith) c.index-points-i.is in
+    let after : c.args.period.now.end < point.t = search rules in
+    of_sequence c.args.question c.args.seq.now interp ps _ _ _ c.interp-interp.ensures.value c.points-points.ensures.value
+    (answered c.args.question interp ps _ _ i _ c.loop-i.invariant
+    (λ j h. begins_after interp ps c.args.period.now i j point rise there after h))
+
+pub piece-requires-clause-in_range : goal.piece-requires-clause-in_range
+piece-requires-clause-in_range c =
+    let P : List Point → Type 0 = λ qs. (k : ℕ) → EachAt qs InBounds k in
+    subst P (sym c.points-points.ensures.value) c.points-points.ensures.valid.in_range
+
+pub returns-then-decides : goal.returns-then-decides
+returns-then-decides c =
+    let interp = c.interp-interp.result in
+    let ps = c.points-points.result.now in
+    elim c.match-piece.branch [
+      | in-None w ↦
+          let same = w.answer-is in
+          let test = c.decides.ensures in
+          let passed = c.if-decides.true in
+          let not_yet = c.loop-i.invariant.not_yet in
+          absurd (cc)
+      | in_default w ↦
+          rw w.answer-is
+          (of_sequence c.args.question c.args.seq.now interp ps _ _ _ c.interp-interp.ensures.value c.points-points.ensures.value
+          (decided c.args.question interp ps _ _ c.loop-i.i c.piece.result c.piece.ensures
+          (let same = w.answer-is in let test = c.decides.ensures in let passed = c.if-decides.true in cc)))
+    ]
+
+pub loop-i-preserved : goal.loop-i-preserved
+loop-i-preserved c =
+    let interp = c.interp-interp.result in
+    let ps = c.points-points.result.now in
+    elim c.match-piece.branch [
+      | in-None w ↦ rw w.answer-is (next_none c.args.question interp ps _ _ c.loop-i.i _ c.loop-i.invariant w.in-None.ensures)
+      | in_default w ↦
+          rw w.answer-is
+          (next_some c.args.question interp ps _ _ c.loop-i.i _ c.piece.result c.loop-i.invariant c.piece.ensures w.in_default.not-None
+          (let same = w.answer-is in let test = c.decides.ensures in let failed = c.if-decides.false in cc))
+    ]
+
+-- no piece is left
+pub returns : goal.returns
+returns c =
+    let interp = c.interp-interp.result in
+    let ps = c.points-points.result.now in
+    of_sequence c.args.question c.args.seq.now interp ps _ _ _ c.interp-interp.ensures.value c.points-points.ensures.value
+    (answered c.args.question interp ps _ _ c.loop-i.i _ c.loop-i.invariant
+    (λ j h. past_the_last interp ps c.args.period.now j (omega arith)))

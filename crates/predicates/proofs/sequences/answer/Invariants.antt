@@ -1,0 +1,5 @@
+use Rattle.predicates.proofs.SequenceLemmas.{SoFar}
+use Rattle.predicates.proofs.sequences.answer.Given as goal
+
+abbrev pub invariant-loop-i : goal.invariant-loop-i
+invariant-loop-i l = SoFar l.question l.interp l.points l.period l.area l.i l.answer

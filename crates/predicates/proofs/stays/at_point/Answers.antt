@@ -1,0 +1,6 @@
+use Rattle.predicates.proofs.StayLemmas.{point_answers}
+use Rattle.predicates.proofs.stays.at_point.Goals as goal
+
+pub returns : goal.returns
+returns c =
+    λ q. point_answers q c.args.point.now _ _ c.in_period.result _ c.in_period.ensures c.answer.ensures

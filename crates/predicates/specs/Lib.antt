@@ -1,0 +1,5 @@
+pub mod Predicates
+pub mod Bounds
+pub mod Windows
+pub mod Questions
+pub mod Stays

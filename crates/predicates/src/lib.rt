@@ -1,0 +1,21 @@
+//! Whether a moving point is ever, or always, in a rectangle during a period.
+//!
+//! Every instant of the period counts, whole or fractional, and so do the bounds of the rectangle.
+//! Nothing is rounded: on the way from one listed instant to the next, the instants in question are
+//! a window between two fractions. A call takes no memory; it costs one binary search, and then a
+//! few comparisons for each point within the period, up to the first one that decides.
+#![tactic(auto)]
+
+mod bounds;
+mod clipping;
+mod legs;
+mod pieces;
+mod questions;
+mod sequences;
+mod stays;
+#[cfg(test)]
+mod tests;
+mod windows;
+
+pub use questions::Tri;
+pub use sequences::{always, ever};

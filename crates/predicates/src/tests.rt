@@ -1,0 +1,265 @@
+//! What no clause says: that the definitions give the answers that were worked out by hand.
+
+use crate::{Tri, always, ever};
+use Interp::{Discrete, Linear, Step};
+use Tri::{No, Yes};
+use std::alloc::Global;
+use std::process::Abort;
+use std::test::Fail;
+use tpoint::{Instant, Interp, Period, Point, Rect, Seq};
+
+/// The start of 2020, in milliseconds.
+const START: i64 = 1_577_836_800_000;
+
+/// A period, the bounds x0, y0, x1 and y1 of a rectangle, and what ever and always answer.
+type Row = ((i64, i64), (i64, i64, i64, i64), Tri, Tri);
+
+/// A moving point by milliseconds and coordinates.
+fn seq(alloc: Global, interp: Interp, listed: &[(i64, i64, i64)]) -> Result<Seq, Fail> {
+    let mut points = Vec::with_capacity(alloc, listed.len())?;
+    for &(ms, x, y) in listed {
+        let t = Instant::new(ms).ok_or("instant")?;
+        points.push(Point { t, x, y })?;
+    }
+    Ok(Seq::new(interp, points)?)
+}
+
+fn answers_are(rt: &impl Abort, seq: &Seq, rows: &[Row]) -> Result<(), Fail> {
+    for &((begin, end), (x0, y0, x1, y1), once, throughout) in rows {
+        let begin = Instant::new(begin).ok_or("begin")?;
+        let end = Instant::new(end).ok_or("end")?;
+        let period = Period::new(begin, end).ok_or("period")?;
+        let area = Rect::new(x0, y0, x1, y1).ok_or("rectangle")?;
+        assert_eq!(rt;
+            ever(seq, &period, &area),
+            once,
+            "ever in {area:?}, {period:?}"
+        );
+        assert_eq!(rt;
+            always(seq, &period, &area),
+            throughout,
+            "always in {area:?}, {period:?}"
+        );
+    }
+    Ok(())
+}
+
+#[test]
+fn worked_rows(rt: HostRuntime) -> Result<(), Fail> {
+    let corner = seq(rt.alloc(), Linear, &[(START, 0, 0), (START + 1000, 10, 10)])?;
+    let second = (START, START + 1000);
+    answers_are(
+        &rt,
+        &corner,
+        &[
+            (second, (5, 0, 10, 5), Yes, No),
+            (second, (6, 0, 10, 5), No, No),
+        ],
+    )?;
+    let thirds = seq(rt.alloc(), Linear, &[(START, 0, 0), (START + 1000, 3, 3)])?;
+    answers_are(&rt, &thirds, &[(second, (1, 1, 1, 1), Yes, No)])?;
+    let bus = seq(rt.alloc(), Linear, &[(START, 0, 0), (START + 3000, 10, 5)])?;
+    answers_are(
+        &rt,
+        &bus,
+        &[
+            (
+                (START + 4000, START + 5000),
+                (0, 0, 10, 10),
+                Tri::None,
+                Tri::None,
+            ),
+            ((START + 3000, START + 4000), (0, 0, 10, 10), Yes, Yes),
+        ],
+    )?;
+    let steps = seq(rt.alloc(), Step, &[(START, 0, 0), (START + 3000, 9, 9)])?;
+    answers_are(
+        &rt,
+        &steps,
+        &[
+            ((START, START + 2999), (0, 0, 5, 5), Yes, Yes),
+            ((START, START + 3000), (0, 0, 5, 5), Yes, No),
+        ],
+    )
+}
+
+/// From corner to corner of all coordinates, in all of time.
+#[test]
+fn extremes(rt: HostRuntime) -> Result<(), Fail> {
+    const FAR: i64 = 10_000_000_000;
+    const LAST: i64 = 253_402_300_799_999;
+    let way = seq(rt.alloc(), Linear, &[(0, -FAR, -FAR), (LAST, FAR, FAR)])?;
+    let all = (0, LAST);
+    answers_are(
+        &rt,
+        &way,
+        &[
+            (all, (0, 0, 0, 0), Yes, No),
+            (all, (0, 1, 0, 1), No, No),
+            (all, (-FAR, -FAR, FAR, FAR), Yes, Yes),
+            // Half of the time is no whole millisecond, and the middle is passed then alone.
+            ((0, LAST / 2), (0, 0, FAR, FAR), No, No),
+            ((LAST / 2, LAST / 2 + 1), (0, 0, 0, 0), Yes, No),
+        ],
+    )
+}
+
+#[test]
+fn diagonal(rt: HostRuntime) -> Result<(), Fail> {
+    let way = seq(rt.alloc(), Linear, &[(0, 0, 0), (1000, 3, 3)])?;
+    answers_are(
+        &rt,
+        &way,
+        &[
+            // (1, 1) is passed a third of a millisecond after 333.
+            ((0, 1000), (1, 1, 1, 1), Yes, No),
+            ((333, 334), (1, 1, 1, 1), Yes, No),
+            ((0, 333), (1, 1, 1, 1), No, No),
+            ((334, 1000), (1, 1, 1, 1), No, No),
+            // A millimetre beside the way.
+            ((0, 1000), (1, 2, 1, 2), No, No),
+            // The corner (1, 1), from outside; the corner (2, 1) is not on the way.
+            ((0, 1000), (1, 0, 3, 1), Yes, No),
+            ((0, 1000), (2, 0, 3, 1), No, No),
+            // The corner where the way ends: until then, until before, at that instant, from it on.
+            ((0, 1000), (3, 3, 9, 9), Yes, No),
+            ((0, 999), (3, 3, 9, 9), No, No),
+            ((1000, 1000), (3, 3, 9, 9), Yes, Yes),
+            ((1000, 2000), (3, 3, 9, 9), Yes, Yes),
+            // After the last instant there is no value.
+            ((1001, 2000), (0, 0, 3, 3), Tri::None, Tri::None),
+            // The first instant alone, in and out.
+            ((0, 0), (0, 0, 0, 0), Yes, Yes),
+            ((0, 0), (1, 1, 3, 3), No, No),
+            // The rectangle from corner to corner of the way.
+            ((0, 1000), (0, 0, 3, 3), Yes, Yes),
+            // y is 2 two thirds of a millisecond after 666, and more from then on.
+            ((0, 1000), (0, 0, 3, 2), Yes, No),
+            ((0, 666), (0, 0, 3, 2), Yes, Yes),
+            ((0, 667), (0, 0, 3, 2), Yes, No),
+            // One instant, at one and a half millimetres.
+            ((500, 500), (1, 1, 2, 2), Yes, Yes),
+            ((500, 500), (2, 2, 3, 3), No, No),
+        ],
+    )
+}
+
+#[test]
+fn along_an_edge(rt: HostRuntime) -> Result<(), Fail> {
+    let way = seq(rt.alloc(), Linear, &[(0, 10, 5), (10, 0, 5)])?;
+    answers_are(
+        &rt,
+        &way,
+        &[
+            // The lower edge; a millimetre below it; a rectangle that is a line.
+            ((0, 10), (0, 5, 10, 9), Yes, Yes),
+            ((0, 10), (0, 6, 10, 9), No, No),
+            ((0, 10), (0, 5, 10, 5), Yes, Yes),
+            // The upper right corner at the last instant, and a millisecond before.
+            ((0, 10), (-9, 0, 0, 5), Yes, No),
+            ((0, 9), (-9, 0, 0, 5), No, No),
+            // A point of the edge, at its instant and a millisecond longer.
+            ((7, 7), (3, 5, 3, 5), Yes, Yes),
+            ((7, 8), (3, 5, 3, 5), Yes, No),
+        ],
+    )
+}
+
+#[test]
+fn up_and_down(rt: HostRuntime) -> Result<(), Fail> {
+    let way = seq(rt.alloc(), Linear, &[(10, 0, 0), (14, 4, 4), (18, 8, 0)])?;
+    answers_are(
+        &rt,
+        &way,
+        &[
+            // The edge where it turns, through both legs; a millimetre above it.
+            ((10, 18), (0, 4, 8, 9), Yes, No),
+            ((10, 18), (0, 5, 8, 9), No, No),
+            // Until before it turns, just then, and from after it on.
+            ((10, 13), (0, 4, 8, 9), No, No),
+            ((14, 14), (4, 4, 4, 4), Yes, Yes),
+            ((15, 18), (0, 4, 8, 9), No, No),
+            // From one lower corner to the other, and a millisecond more at either end.
+            ((12, 16), (2, 2, 6, 4), Yes, Yes),
+            ((11, 16), (2, 2, 6, 4), Yes, No),
+            ((12, 17), (2, 2, 6, 4), Yes, No),
+            // Before the first instant, up to it, and after the last.
+            ((0, 9), (0, 0, 8, 8), Tri::None, Tri::None),
+            ((0, 10), (0, 0, 0, 0), Yes, Yes),
+            ((19, 20), (0, 0, 8, 8), Tri::None, Tri::None),
+        ],
+    )
+}
+
+#[test]
+fn at_rest(rt: HostRuntime) -> Result<(), Fail> {
+    let way = seq(rt.alloc(), Linear, &[(0, 5, 5), (10, 5, 5)])?;
+    answers_are(
+        &rt,
+        &way,
+        &[
+            ((3, 30), (5, 5, 5, 5), Yes, Yes),
+            ((3, 30), (6, 5, 7, 5), No, No),
+        ],
+    )
+}
+
+#[test]
+fn steps(rt: HostRuntime) -> Result<(), Fail> {
+    let way = seq(rt.alloc(), Step, &[(0, 0, 0), (3000, 9, 9)])?;
+    answers_are(
+        &rt,
+        &way,
+        &[
+            // Nothing is passed between the two.
+            ((0, 3000), (1, 1, 8, 8), No, No),
+            // The second is there from its instant on, and the last at its own instant alone.
+            ((2999, 2999), (9, 9, 9, 9), No, No),
+            ((2999, 3000), (9, 9, 9, 9), Yes, No),
+            ((3000, 3000), (9, 9, 9, 9), Yes, Yes),
+            ((3000, 4000), (9, 9, 9, 9), Yes, Yes),
+            ((3001, 4000), (9, 9, 9, 9), Tri::None, Tri::None),
+            // The first stays until then, fractions of its last millisecond included.
+            ((2999, 3000), (0, 0, 9, 9), Yes, Yes),
+            ((1, 2999), (0, 0, 0, 0), Yes, Yes),
+        ],
+    )
+}
+
+#[test]
+fn listed_alone(rt: HostRuntime) -> Result<(), Fail> {
+    let way = seq(rt.alloc(), Discrete, &[(0, 0, 0), (1000, 3, 3)])?;
+    answers_are(
+        &rt,
+        &way,
+        &[
+            // There is no value between the two.
+            ((0, 1000), (1, 1, 1, 1), No, No),
+            ((1, 999), (0, 0, 3, 3), Tri::None, Tri::None),
+            ((1, 1000), (3, 3, 3, 3), Yes, Yes),
+            ((0, 1000), (0, 0, 0, 0), Yes, No),
+            ((0, 999), (0, 0, 0, 0), Yes, Yes),
+            ((1001, 2000), (0, 0, 3, 3), Tri::None, Tri::None),
+        ],
+    )
+}
+
+/// A single point has its position at its own instant, whatever the interpolation.
+#[test]
+fn single_points(rt: HostRuntime) -> Result<(), Fail> {
+    for interp in [Discrete, Step, Linear] {
+        let way = seq(rt.alloc(), interp, &[(5, 2, 2)])?;
+        answers_are(
+            &rt,
+            &way,
+            &[
+                ((5, 5), (2, 2, 2, 2), Yes, Yes),
+                ((0, 9), (2, 2, 2, 2), Yes, Yes),
+                ((0, 9), (3, 2, 4, 2), No, No),
+                ((0, 4), (2, 2, 2, 2), Tri::None, Tri::None),
+                ((6, 9), (2, 2, 2, 2), Tri::None, Tri::None),
+            ],
+        )?;
+    }
+    Ok(())
+}
