@@ -4,7 +4,6 @@ use Rattle.std.proofs.lemmas.List.{take-append-drop, length-take, get_or-take, g
 use Rattle.std.proofs.lemmas.Bool.{cases_lt}
 use Rattle.std.proofs.lemmas.Nat.{be_bytes_8}
 use Rattle.byteorder.specs.Endian.{big_number, big_bytes}
-use Rattle.byteorder.specs.Numbers.{big_from-take}
 
 abbrev AreBytes : List ℕ → Type 0
 AreBytes bytes = (i : ℕ) → get_or bytes i 0 < 256
@@ -27,5 +26,5 @@ number_behind_first bytes rest front first number fit is long taken read =
     let fit_rest : AreBytes rest = λ i. subst AreBytes is fit (suc i) in
     let eight : length (take 8 rest) ≡ 8 = omega (arith, length-take 8 rest) in
     let spelled : big_bytes 8 number ≡ take 8 rest =
-      ap (big_bytes 8) (read ∙ ap (big_number 8) taken) ∙ number_spelled (take 8 rest) eight (AreBytes-take 8 rest fit_rest) in
+    ap (big_bytes 8) (read ∙ ap (big_number 8) taken) ∙ number_spelled (take 8 rest) eight (AreBytes-take 8 rest fit_rest) in
     is ∙ ap (λ (xs : List ℕ). first ∷ xs) (sym (ap (λ (xs : List ℕ). xs ++ drop 8 rest) spelled ∙ take-append-drop 8 rest))

@@ -1,5 +1,5 @@
 -- Records under some keys, taken in one after the other.
-use Rattle.std.proofs.Common.{◌≡◌, ◌⊎◌, ◌↔◌, ℕ, suc, ◌+◌, ◌<◌, ◌≤◌, Bool, true, false, eqb, List, [], ◌∷◌, ◌++◌, length, take, drop, get_or, Option, Some, None, Contains, IsSome, IfSome, refl, sym, ap, subst, ◌∙◌, arith, inl, inr, option_map}
+use Rattle.std.proofs.Common.{◌≡◌, ◌↔◌, ℕ, suc, ◌+◌, ◌<◌, ◌≤◌, Bool, true, false, eqb, List, [], ◌∷◌, ◌++◌, length, take, drop, get_or, Option, Some, None, Contains, IsSome, IfSome, refl, sym, ap, subst, ◌∙◌, arith, inl, inr, option_map}
 use Rattle.std.specs.declared.cmp.Ordering.TheVariants.{Less}
 use Rattle.std.specs.List.{list_any, AllByRecursion}
 use Rattle.std.specs.List.Sorted.{IsStrictlySortedBy}
@@ -120,8 +120,8 @@ none_unless None h = refl
 absent : (r : Records) (keys : List Key) → ((k : Key) → Contains keys k ↔ IsSome (r k)) → (q : Key) → among q keys ≡ false → r q ≡ None
 absent r keys told q lacks =
     none_unless (r q) (λ there.
-      let has : among q keys ≡ true = list_any-from_Contains (on_equiv place nat_eq_equiv) q keys ((told q).1 there) in
-      absurd cc)
+    let has : among q keys ≡ true = list_any-from_Contains (on_equiv place nat_eq_equiv) q keys ((told q).1 there) in
+    absurd cc)
 
 -- the records under all keys that hold one are the records
 pub says_all : (r : Records) (keys : List Key) (a : Accepting) → ((k : Key) → Contains keys k ↔ IsSome (r k)) → RecordsSay (records_at r keys) a → RecordsSay r a

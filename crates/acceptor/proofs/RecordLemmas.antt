@@ -1,5 +1,5 @@
 -- Records that say what an acceptor holds, as records are written or read one by one.
-use Rattle.std.proofs.Common.{◌≡◌, ◌⊎◌, ℕ, ◌+◌, ◌≤◌, ◌<◌, List, Option, Some, None, cond, eqb, ltb, inl, inr, refl, sym, ap, subst, ◌∙◌, arith, IfSome, option_map}
+use Rattle.std.proofs.Common.{◌≡◌, ◌⊎◌, ℕ, ◌+◌, ◌≤◌, List, Option, Some, None, inl, inr, refl, sym, ap, subst, ◌∙◌, arith, IfSome, IsSome, option_map}
 use Rattle.std.proofs.lemmas.Bool.{cases_eq, cases_lt, lt-ltb, le-ltb, eq-eqb, ne_eqb}
 use Rattle.std.proofs.lemmas.Bool.Decides.{eqb_tells}
 use Rattle.std.proofs.lemmas.Option.{IfSome_then}
@@ -13,7 +13,10 @@ use Rattle.stable.specs.declared.key.Key.{Key}
 use Rattle.stable.specs.declared.key.Key.TheVariants as key
 use Rattle.stable.proofs.KeyLemmas.{same_rank as same_key}
 use Rattle.acceptor.specs.Forms.{BallotFits, VoteFits, IsOfItsForm}
-use Rattle.acceptor.specs.Accepting.{Accepting, put, IsGreatest, RecordsSay}
+use Rattle.std.specs.Prelude.{◌==◌, if◌then◌else◌}
+use Rattle.acceptor.proofs.BallotLemmas.{same_rank}
+use Rattle.acceptor.specs.Accepting.{Accepting, Write, put, RecordsSay, refusing, records_after}
+use Rattle.acceptor.specs.Accepting.{prepare_write, after_prepare, IsAcceptWrite, after_accept}
 use Rattle.acceptor.specs.Loading.{raised, with_seen}
 use Rattle.acceptor.specs.Spelling.{ballot_bytes, vote_bytes}
 
@@ -72,7 +75,7 @@ RecordsSay-same r q a same says =
       promise_record = same key.Promise ∙ says.promise_record;
       vote_record = λ s. same (key.Vote s) ∙ says.vote_record s;
       at_its_slot = says.at_its_slot;
-      promise = says.promise
+      promise = says.promise;
     }
 
 -- a promise in its record that is not below the old one
@@ -87,8 +90,8 @@ RecordsSay-promise r a b says le =
       promise = record {
         not_below_the_record = omega arith;
         not_below_a_vote = λ s. IfSome_then (a.vote s) (says.promise.not_below_a_vote s) (λ v low. omega arith);
-        among_them = inl refl
-      }
+        among_them = inl refl;
+      };
     }
 
 -- a vote in its record whose ballot is not below the promise
@@ -103,9 +106,9 @@ RecordsSay-vote r a v says le =
       promise = record {
         not_below_the_record = let low = says.promise.not_below_the_record in omega arith;
         not_below_a_vote = λ s. IfSome-put a.vote v.slot s v (λ w. rank w.ballot ≤ rank v.ballot) (λ e. omega arith)
-          (IfSome_then (a.vote s) (says.promise.not_below_a_vote s) (λ w low. omega arith));
-        among_them = inr (v.slot, v, put_here a.vote v.slot v.slot (Some v) refl, refl)
-      }
+            (IfSome_then (a.vote s) (says.promise.not_below_a_vote s) (λ w low. omega arith));
+        among_them = inr (v.slot, v, put_here a.vote v.slot v.slot (Some v) refl, refl);
+      };
     }
 
 -- ---- records that are seen one after the other
@@ -142,8 +145,8 @@ low_promise r a b fresh says le =
         among_them = elim says.promise.among_them [
           | inl e ↦ absurd (begun b (subst (λ (p : Option Ballot). rank b ≤ rank_of p) (e ∙ none) le))
           | inr w ↦ inr w
-        ]
-      }
+        ];
+      };
     }
 
 other : (a : Accepting) (v : Vote Command) (s : ℕ) (w : Vote Command) → a.vote v.slot ≡ None → a.vote s ≡ Some w → s ≡ v.slot → ⊥
@@ -166,8 +169,8 @@ low_vote r a v fresh says le =
         among_them = elim says.promise.among_them [
           | inl e ↦ inl e
           | inr w ↦ inr (w.0, w.1, put_elsewhere a.vote v.slot w.0 (Some v) (λ e. other a v w.0 w.1 none w.2 e) ∙ w.2, w.3)
-        ]
-      }
+        ];
+      };
     }
 
 -- record Promise is seen for the first time
@@ -176,9 +179,9 @@ pub RecordsSay-see_promise : (r : Records) (a : Accepting) (b : Ballot) → r ke
 RecordsSay-see_promise r a b fresh says =
     elim (raised_cases a.promise b) [
       | inl h ↦ subst (λ (p : Option Ballot). RecordsSay (with_record r key.Promise (ballot_bytes b)) (record a { promise = p })) (sym h.1)
-        (RecordsSay-promise r a b says h.0)
+          (RecordsSay-promise r a b says h.0)
       | inr h ↦ subst (λ (p : Option Ballot). RecordsSay (with_record r key.Promise (ballot_bytes b)) (record a { promise = p })) (sym h.1)
-        (low_promise r a b fresh says h.0)
+          (low_promise r a b fresh says h.0)
     ]
 
 -- the record of a vote is seen for the first time
@@ -205,7 +208,7 @@ RecordsSay-nothing =
       promise_record = refl;
       vote_record = λ s. refl;
       at_its_slot = λ s. tt;
-      promise = record { not_below_the_record = omega arith; not_below_a_vote = λ s. tt; among_them = inl refl }
+      promise = record { not_below_the_record = omega arith; not_below_a_vote = λ s. tt; among_them = inl refl };
     }
 
 -- ---- records of their form
@@ -218,3 +221,77 @@ pub vote_of_its_form : (found : Option (List ℕ)) (slot : ℕ) (bytes : List �
     → IfSome found (IsOfItsForm (key.Vote slot))
 vote_of_its_form found slot bytes v e fits spelled =
     subst (λ (o : Option (List ℕ)). IfSome o (IsOfItsForm (key.Vote slot))) (sym e) (v, fits, spelled)
+
+-- ---- a prepare and an accept
+refusing_cases : (p : Option Ballot) (b : Ballot) → ((refusing p b ≡ None) × (rank_of p ≤ rank b)) ⊎ ((q : Ballot) × (refusing p b ≡ Some q))
+refusing_cases None b = inl (refl, omega arith)
+refusing_cases (Some p) b =
+    elim (cases_lt (rank b) (rank p)) [
+      | inl lt ↦ inr (p, rw (lt-ltb _ _ lt) refl)
+      | inr le ↦ inl (rw (le-ltb _ _ le) refl, le)
+    ]
+
+same_promise : (p : Option Ballot) (b : Ballot) → rank b ≡ rank_of p → p ≡ Some b
+same_promise None b e = absurd (begun b (omega arith))
+same_promise (Some p) b e = ap Some (same_rank p b (sym e))
+
+prepare_taken : (r : Records) (a : Accepting) (b : Ballot) → RecordsSay r a → rank_of a.promise ≤ rank b
+    → RecordsSay (records_after r (if rank b == rank_of a.promise then None else Some (key.Promise, ballot_bytes b))) (record a { promise = Some b })
+prepare_taken r a b says le =
+    elim (eqb_tells (rank b) (rank_of a.promise)) [
+      | inl same ↦ rw same.0 (subst (λ (p : Option Ballot). RecordsSay r (record a { promise = p })) (same_promise a.promise b same.1) says)
+      | inr apart ↦ rw apart.0 (RecordsSay-promise r a b says le)
+    ]
+
+-- records that say what an acceptor holds say so after a prepare and its write
+pub prepare_kept : (r : Records) (a : Accepting) (b : Ballot) → RecordsSay r a → RecordsSay (records_after r (prepare_write a b)) (after_prepare a b)
+prepare_kept r a b says =
+    elim (refusing_cases a.promise b) [
+      | inl h ↦ rw h.0 (prepare_taken r a b says h.1)
+      | inr h ↦ rw h.1 says
+    ]
+
+-- a vote that stands there already raises the promise to its ballot
+vote_stands : (r : Records) (a : Accepting) (v : Vote Command) → RecordsSay r a → rank_of a.promise ≤ rank v.ballot → a.vote v.slot ≡ Some v
+    → RecordsSay r (record { promise = Some v.ballot; vote = put a.vote v.slot (Some v) })
+vote_stands r a v says le stands =
+    let same : (s : ℕ) → put a.vote v.slot (Some v) s ≡ a.vote s = λ s.
+    elim (eqb_tells s v.slot) [
+      | inl e ↦ rw e.0 (sym (ap a.vote e.1 ∙ stands))
+      | inr ne ↦ rw ne.0 refl
+    ] in
+    RecordsSay-holds r (record a { promise = Some v.ballot }) (record { promise = Some v.ballot; vote = put a.vote v.slot (Some v) }) refl same
+    (record {
+      promised = says.promised;
+      promise_record = says.promise_record;
+      vote_record = says.vote_record;
+      at_its_slot = says.at_its_slot;
+      promise = record {
+        not_below_the_record = let low = says.promise.not_below_the_record in omega arith;
+        not_below_a_vote = λ s. IfSome_then (a.vote s) (says.promise.not_below_a_vote s) (λ w low. omega arith);
+        among_them = inr (v.slot, v, stands, refl);
+      };
+    })
+
+accept_taken : (r : Records) (a : Accepting) (v : Vote Command) (w : Write) → IsAcceptWrite a v w → RecordsSay r a → refusing a.promise v.ballot ≡ None
+    → rank_of a.promise ≤ rank v.ballot → RecordsSay (records_after r w) (record { promise = Some v.ballot; vote = put a.vote v.slot (Some v) })
+accept_taken r a v None is says taken le =
+    elim (is.nothing refl) [
+      | inl refused ↦ (let none : IsSome {T = Ballot} None = rw taken at refused in absurd cc)
+      | inr stands ↦ vote_stands r a v says le stands
+    ]
+accept_taken r a v (Some w) is says taken le =
+    let written : Some w ≡ Some (key.Vote v.slot, vote_bytes v) = is.cast taken (λ stands. let none = is.already stands in absurd cc) in
+    subst (λ (x : Write). RecordsSay (records_after r x) (record { promise = Some v.ballot; vote = put a.vote v.slot (Some v) })) (sym written)
+    (RecordsSay-vote r a v says le)
+
+-- records that say what an acceptor holds say so after an accept and its write
+pub accept_kept : (r : Records) (a : Accepting) (v : Vote Command) (w : Write) → IsAcceptWrite a v w → RecordsSay r a
+    → RecordsSay (records_after r w) (after_accept a v)
+accept_kept r a v w is says =
+    elim (refusing_cases a.promise v.ballot) [
+      | inl h ↦ rw h.0 (accept_taken r a v w is says h.0 h.1)
+      | inr h ↦
+          let none : w ≡ None = rw h.1 at is.refused in
+          rw h.1 (subst (λ (x : Write). RecordsSay (records_after r x) a) (sym none) says)
+    ]

@@ -5,6 +5,7 @@ use Rattle.std.specs.BTreeMap.{BTreeMap, get, Updates}
 use Rattle.std.proofs.lemmas.Grind.{common_steps}
 use Rattle.std.proofs.lemmas.Bool.Decides.{nat_tests, eqb_tells}
 use Rattle.std.proofs.lemmas.Bool.{eq-eqb}
+use Rattle.synod.specs.declared.ballot.Ballot.{Ballot}
 use Rattle.synod.specs.declared.vote.Vote.{Vote}
 use Rattle.wire.specs.declared.command.Command.{Command}
 use Rattle.acceptor.specs.declared.cast.Cast.{Cast}
@@ -61,9 +62,20 @@ always None p = tt
 -- the write of an accept that is taken, and that is no vote yet
 pub cast_write : (a : Accepting) (v : Vote Command) → refusing a.promise v.ballot ≡ None → ¬ (a.vote v.slot ≡ Some v)
     → IsAcceptWrite a v (Some (key.Vote v.slot, vote_bytes v))
-cast_write a v taken fresh = record { refused = rw taken tt; already = λ e. absurd (fresh e); cast = λ _ _. refl }
+cast_write a v taken fresh = record { refused = rw taken tt; already = λ e. absurd (fresh e); cast = λ _ _. refl; nothing = λ e. absurd cc }
 
 -- there is nothing to write where the vote stands there already
 pub no_write : (a : Accepting) (v : Vote Command) → a.vote v.slot ≡ Some v → IsAcceptWrite a v None
 no_write a v cast =
-    record { refused = always (refusing a.promise v.ballot) refl; already = λ _. refl; cast = λ _ fresh. absurd (fresh cast) }
+    record { refused = always (refusing a.promise v.ballot) refl; already = λ _. refl; cast = λ _ fresh. absurd (fresh cast); nothing = λ _. inr cast }
+
+-- there is nothing to write where the ballot is refused
+pub refused_write : (a : Accepting) (v : Vote Command) (p : Ballot) → refusing a.promise v.ballot ≡ Some p → IsAcceptWrite a v None
+refused_write a v p is =
+    let refused : IsSome (refusing a.promise v.ballot) = rw is refl in
+    record {
+      refused = always (refusing a.promise v.ballot) refl;
+      already = λ _. refl;
+      cast = λ taken _. absurd cc;
+      nothing = λ _. inl refused;
+    }

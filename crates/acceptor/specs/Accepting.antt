@@ -14,11 +14,13 @@ use Rattle.std.specs.Prelude.{
   option_map,
   if◌then◌else◌,
   IfSome,
+  IsSome,
 }
 use Rattle.std.specs.Option.{option_to_list}
 use Rattle.synod.specs.Ballots.{rank, rank_of}
 use Rattle.synod.specs.declared.ballot.Ballot.{Ballot}
 use Rattle.synod.specs.declared.vote.Vote.{Vote}
+use Rattle.stable.specs.Records.{Records, with_record}
 use Rattle.stable.specs.declared.key.Key.{Key}
 use Rattle.stable.specs.declared.key.Key.TheVariants as key
 use Rattle.wire.specs.declared.command.Command.{Command}
@@ -93,12 +95,13 @@ abbrev pub after_accept : Accepting → Vote Command → Accepting
 after_accept a v = unless_refused (refusing a.promise v.ballot) (λ _. a)
     (record { promise = Some v.ballot; vote = put a.vote v.slot (Some v) })
 
--- a vote is written, unless the vote is that already
+-- a vote is written, unless its ballot is refused or the vote is that already
 pub record IsAcceptWrite (a : Accepting) (v : Vote Command) (write : Write) : Type 0 where
   pub refused : IfSome (refusing a.promise v.ballot) (λ _. write ≡ None)
   pub already : a.vote v.slot ≡ Some v → write ≡ None
   pub cast : refusing a.promise v.ballot ≡ None → a.vote v.slot ≢ Some v
       → write ≡ Some (key.Vote v.slot, vote_bytes v)
+  pub nothing : write ≡ None → IsSome (refusing a.promise v.ballot) ⊎ (a.vote v.slot ≡ Some v)
 
 -- ---- what a call makes of the storage, whose relations are given
 -- the write is made, or where there is none the storage is at most read
@@ -111,3 +114,8 @@ HasWritten reads puts old new (Some w) = puts old w.0 w.1 new
 abbrev pub HasFailed : {S : Type 0} → (S → Key → List ℕ → S → Type 0) → S → S → Write → Type 0
 HasFailed fails old new None = ⊥
 HasFailed fails old new (Some w) = fails old w.0 w.1 new
+
+-- the records after a write, if there is one
+abbrev pub records_after : Records → Write → Records
+records_after records None = records
+records_after records (Some w) = with_record records w.0 w.1

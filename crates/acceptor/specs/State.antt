@@ -1,5 +1,5 @@
 -- What an acceptor in memory holds.
-use Rattle.std.specs.Prelude.{ℕ, Option, option_map}
+use Rattle.std.specs.Prelude.{ℕ, option_map}
 use Rattle.std.specs.BTreeMap.{get}
 use Rattle.std.specs.Ordering.{nat_cmp}
 use Rattle.synod.specs.declared.vote.Vote.{Vote}

@@ -28,7 +28,9 @@ use std::collections::BTreeMap;
 use synod::{Ballot, Slot, Vote};
 use wire::{Command, Entries, Nack, Promise};
 
-/// One node's acceptor.
+/// What one node has promised, and what it has voted for at each slot.
+///
+/// One promise serves all slots. A look-up takes a number of steps that grows with the logarithm of the votes.
 #[derive(Drop)]
 pub struct Acceptor {
     promise: Option<Ballot>,
@@ -36,19 +38,23 @@ pub struct Acceptor {
 }
 
 impl Acceptor {
-    /// The acceptor of these records.
+    /// The acceptor that the records tell of: its votes are those recorded, and its promise is the greatest of record
+    /// Promise and of the ballots of all votes.
+    ///
+    /// A record Promise, or of a vote, that is not of its form is refused: `Damaged`. The round is not read.
     pub fn load<S: Stable>(alloc: Global, storage: &mut S) -> Result<Acceptor, StableFault>
         ensures told { S.IsHonest storage.new → IfOk result (λ loaded.
             RecordsSay (S.contents storage.old) (accepting_of loaded)) }
         ensures form { S.IsHonest storage.new → OnOk result
             (AreOfTheirForm (S.contents storage.old)) }
-        ensures reads { S.reads storage.old storage.new }
+        ensures reads { OnOk result (S.reads storage.old storage.new) }
         ensures settled { OnOk result (S.IsSettled storage.new) }
 
         // Each error.
-        ensures device { S.IsHonest storage.new → IsErrOf result StableFault.Device
-            → S.failures storage.old < S.failures storage.new }
-        ensures damaged { S.IsHonest storage.new → IsErrOf result StableFault.Damaged
+        ensures device { IsErrOf result StableFault.Device → S.read_fails storage.old storage.new }
+        ensures memory { IsErrOf result StableFault.Memory → S.reads storage.old storage.new }
+        ensures damaged { IsErrOf result StableFault.Damaged → S.reads storage.old storage.new }
+        ensures damaged_record { S.IsHonest storage.new → IsErrOf result StableFault.Damaged
             → S.HasStrayKey storage.old ⊎ HasDamagedRecord (S.contents storage.old) }
     {
         let keys = storage.keys(alloc)?;
@@ -72,15 +78,16 @@ impl Acceptor {
         ensures told { S.IsHonest storage.new → OnOk result ((seen : Records) → seen key ≡ None
             → RecordsSay seen (accepting_of self.old)
             → RecordsSay (with_seen seen key (S.contents storage.old key))
-                (accepting_of self.new)) }
+            (accepting_of self.new)) }
         ensures form { S.IsHonest storage.new → OnOk result
             (IfSome (S.contents storage.old key) (IsOfItsForm key)) }
-        ensures reads { S.reads storage.old storage.new }
+        ensures reads { OnOk result (S.reads storage.old storage.new) }
 
         // Each error.
-        ensures device { S.IsHonest storage.new → IsErrOf result StableFault.Device
-            → S.failures storage.old < S.failures storage.new }
-        ensures damaged { S.IsHonest storage.new → IsErrOf result StableFault.Damaged
+        ensures device { IsErrOf result StableFault.Device → S.read_fails storage.old storage.new }
+        ensures memory { IsErrOf result StableFault.Memory → S.reads storage.old storage.new }
+        ensures damaged { IsErrOf result StableFault.Damaged → S.reads storage.old storage.new }
+        ensures damaged_record { S.IsHonest storage.new → IsErrOf result StableFault.Damaged
             → HasDamagedRecord (S.contents storage.old) }
     {
         match key {
@@ -102,7 +109,7 @@ impl Acceptor {
         ensures { (seen : Records) → seen key.Promise ≡ None
             → RecordsSay seen (accepting_of self.old)
             → RecordsSay (with_seen seen key.Promise (option_map ballot_bytes found))
-                (accepting_of self.new) }
+            (accepting_of self.new) }
     {
         if let Some(ballot) = found {
             self.raise(ballot);
@@ -114,8 +121,8 @@ impl Acceptor {
         ensures { OnOk result ((seen : Records) → seen (key.Vote slot) ≡ None
             → RecordsSay seen (accepting_of self.old)
             → RecordsSay (with_seen seen (key.Vote slot)
-                    (option_map vote_bytes (option_map (vote_at slot) found)))
-                (accepting_of self.new)) }
+            (option_map vote_bytes (option_map (vote_at slot) found)))
+            (accepting_of self.new)) }
     {
         if let Some(cast) = found {
             self.raise(cast.ballot);
@@ -134,7 +141,11 @@ impl Acceptor {
         }
     }
 
-    /// Answers a prepare: the ballot is promised, or refused since a greater one is.
+    /// Answers a prepare: the ballot is promised, and the vote at the slot told, or it is refused since a greater one
+    /// is promised.
+    ///
+    /// A promise is written before it is told. `storage` is the one that was loaded. After `Device` only another load
+    /// tells what is promised. After `Memory` nothing is written or changed.
     pub fn on_prepare<S: Stable>(
         &mut self,
         alloc: Global,
@@ -152,7 +163,7 @@ impl Acceptor {
         // Each error.
         ensures device { IsErrOf result StableFault.Device
             → HasFailed S.fails storage.old storage.new
-                (prepare_write (accepting_of self.old) ballot) }
+            (prepare_write (accepting_of self.old) ballot) }
         ensures memory { IsErrOf result StableFault.Memory → S.reads storage.old storage.new }
         ensures memory_state { IsErrOf result StableFault.Memory
             → accepting_of self.new ≡ accepting_of self.old }
@@ -175,6 +186,9 @@ impl Acceptor {
     }
 
     /// Answers an accept: the vote is cast, or refused since a greater ballot is promised.
+    ///
+    /// A vote is written before it is told. `storage` is the one that was loaded. After `Device` only another load
+    /// tells what is voted for. After `Memory` nothing is written or changed.
     pub fn on_accept<S: Stable>(
         &mut self,
         alloc: Global,
@@ -190,7 +204,7 @@ impl Acceptor {
         // Each error.
         ensures device { IsErrOf result StableFault.Device
             → (w : Write) × IsAcceptWrite (accepting_of self.old) vote w
-                × HasFailed S.fails storage.old storage.new w }
+            × HasFailed S.fails storage.old storage.new w }
         ensures memory { IsErrOf result StableFault.Memory → S.reads storage.old storage.new }
         ensures memory_state { IsErrOf result StableFault.Memory
             → accepting_of self.new ≡ accepting_of self.old }

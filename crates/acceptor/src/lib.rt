@@ -4,12 +4,14 @@
 mod acceptor;
 mod answer;
 mod cast;
+mod kept;
 mod reading;
 mod records;
 mod spelling;
 
 pub use acceptor::Acceptor;
 pub use answer::Answer;
+pub use kept::{accept_keeps_records, prepare_keeps_records};
 
 #[cfg(test)]
 mod tests;

@@ -79,7 +79,9 @@ fn op_of(bytes: &[u8]) -> Option<Op>
     ensures read { (op : Op) → OpFits op → bytes.now ≡ op_bytes op → result ≡ Some op }
 {
     match bytes {
-        [REMOVES, len, text @ ..] if text.len() == usize::from(*len) => Some(Op::Remove(Id::new(text)?)),
+        [REMOVES, len, text @ ..] if text.len() == usize::from(*len) => Some(Op::Remove(Id::new(
+            text,
+        )?)),
         _ => None,
     }
 }

@@ -1,6 +1,6 @@
 //! From a storage's records to votes and ballots.
 
-ghost use Rattle.std.specs.Prelude.{◌≡◌, ◌<◌, IfSome, IfOk, OnOk, IsErrOf, option_map};
+ghost use Rattle.std.specs.Prelude.{◌≡◌, IfSome, IfOk, OnOk, IsErrOf, option_map};
 ghost use Rattle.acceptor.specs.Forms.{IsOfItsForm, HasDamagedRecord};
 ghost use Rattle.acceptor.specs.Spelling.{ballot_bytes, vote_bytes};
 ghost use Rattle.acceptor.specs.State.{vote_at};
@@ -20,12 +20,13 @@ pub(super) fn promised<S: Stable>(
         S.contents storage.old Key.Promise ≡ option_map ballot_bytes found) }
     ensures form { S.IsHonest storage.new → OnOk result
         (IfSome (S.contents storage.old Key.Promise) (IsOfItsForm Key.Promise)) }
-    ensures reads { S.reads storage.old storage.new }
+    ensures reads { OnOk result (S.reads storage.old storage.new) }
 
     // Each error.
-    ensures device { S.IsHonest storage.new → IsErrOf result StableFault.Device
-        → S.failures storage.old < S.failures storage.new }
-    ensures damaged { S.IsHonest storage.new → IsErrOf result StableFault.Damaged
+    ensures device { IsErrOf result StableFault.Device → S.read_fails storage.old storage.new }
+    ensures memory { IsErrOf result StableFault.Memory → S.reads storage.old storage.new }
+    ensures damaged { IsErrOf result StableFault.Damaged → S.reads storage.old storage.new }
+    ensures damaged_record { S.IsHonest storage.new → IsErrOf result StableFault.Damaged
         → HasDamagedRecord (S.contents storage.old) }
 {
     let Some(bytes) = storage.get(alloc, Key::Promise)? else {
@@ -45,15 +46,16 @@ pub(super) fn voted<S: Stable>(
 ) -> Result<Option<Cast>, StableFault>
     ensures told { S.IsHonest storage.new → IfOk result (λ found.
         S.contents storage.old (Key.Vote slot)
-            ≡ option_map vote_bytes (option_map (vote_at slot) found)) }
+        ≡ option_map vote_bytes (option_map (vote_at slot) found)) }
     ensures form { S.IsHonest storage.new → OnOk result
         (IfSome (S.contents storage.old (Key.Vote slot)) (IsOfItsForm (Key.Vote slot))) }
-    ensures reads { S.reads storage.old storage.new }
+    ensures reads { OnOk result (S.reads storage.old storage.new) }
 
     // Each error.
-    ensures device { S.IsHonest storage.new → IsErrOf result StableFault.Device
-        → S.failures storage.old < S.failures storage.new }
-    ensures damaged { S.IsHonest storage.new → IsErrOf result StableFault.Damaged
+    ensures device { IsErrOf result StableFault.Device → S.read_fails storage.old storage.new }
+    ensures memory { IsErrOf result StableFault.Memory → S.reads storage.old storage.new }
+    ensures damaged { IsErrOf result StableFault.Damaged → S.reads storage.old storage.new }
+    ensures damaged_record { S.IsHonest storage.new → IsErrOf result StableFault.Damaged
         → HasDamagedRecord (S.contents storage.old) }
 {
     let Some(bytes) = storage.get(alloc, Key::Vote(slot))? else {

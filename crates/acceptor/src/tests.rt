@@ -94,7 +94,11 @@ fn calls_have_their_answers(rt: HostRuntime) {
         return assert!(rt; false, "loaded");
     };
     for (call, answer) in CALLS {
-        assert_eq!(rt; made(alloc, &mut storage, &mut acceptor, call), Some(answer), "at {call:?}");
+        assert_eq!(rt;
+            made(alloc, &mut storage, &mut acceptor, call),
+            Some(answer),
+            "at {call:?}"
+        );
     }
 }
 
@@ -117,7 +121,10 @@ fn records_have_their_bytes(rt: HostRuntime) {
         return assert!(rt; false, "a slot");
     };
     for call in [Call::Prepare(1, 2, 0), Call::Accept(259, 0, 0)] {
-        assert!(rt; made(alloc, &mut storage, &mut acceptor, call).is_some(), "at {call:?}");
+        assert!(rt;
+            made(alloc, &mut storage, &mut acceptor, call).is_some(),
+            "at {call:?}"
+        );
     }
     let promise = b"\x00\x00\x00\x00\x00\x00\x00\x01\x02";
     assert!(rt; holds(alloc, &mut storage, Key::Promise, promise));
@@ -134,9 +141,18 @@ const DAMAGED: [(bool, &[u8]); 9] = [
     (false, b"\x00\x00\x00\x00\x00\x00\x00\x01\x00\x00"),
     (true, b"\x00\x00\x00\x00\x00\x00\x00\x01\x00\x00\x00"),
     (true, b"\x00\x00\x00\x00\x00\x00\x00\x01\x00\x02"),
-    (true, b"\x00\x00\x00\x00\x00\x00\x00\x01\x00\x01\x07\x00\x00\x00\x00\x00\x00\x00\x00\x03\x01a"),
-    (true, b"\x00\x00\x00\x00\x00\x00\x00\x01\x00\x01\x07\x00\x00\x00\x00\x00\x00\x00\x01\x03\x01/"),
-    (true, b"\x00\x00\x00\x00\x00\x00\x00\x01\x00\x01\x07\x00\x00\x00\x00\x00\x00\x00\x01\x03\x00"),
+    (
+        true,
+        b"\x00\x00\x00\x00\x00\x00\x00\x01\x00\x01\x07\x00\x00\x00\x00\x00\x00\x00\x00\x03\x01a",
+    ),
+    (
+        true,
+        b"\x00\x00\x00\x00\x00\x00\x00\x01\x00\x01\x07\x00\x00\x00\x00\x00\x00\x00\x01\x03\x01/",
+    ),
+    (
+        true,
+        b"\x00\x00\x00\x00\x00\x00\x00\x01\x00\x01\x07\x00\x00\x00\x00\x00\x00\x00\x01\x03\x00",
+    ),
 ];
 
 #[test]
@@ -147,7 +163,11 @@ fn damaged_records_are_refused(rt: HostRuntime) {
     };
     for (of_a_vote, bytes) in DAMAGED {
         let mut storage = MemStable::new(alloc);
-        let key = if of_a_vote { Key::Vote(slot) } else { Key::Promise };
+        let key = if of_a_vote {
+            Key::Vote(slot)
+        } else {
+            Key::Promise
+        };
         assert!(rt; storage.put(alloc, key, bytes).is_ok(), "at {bytes:?}");
         let fault = Acceptor::load(alloc, &mut storage).err();
         assert_eq!(rt; fault, Some(StableFault::Damaged), "at {bytes:?}");

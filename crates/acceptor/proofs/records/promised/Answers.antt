@@ -1,4 +1,4 @@
-use Rattle.std.proofs.Common.{rules, ◌≡◌, Some, List, ℕ, Option, sym, ◌∙◌, ap, option_map}
+use Rattle.std.proofs.Common.{rules, ◌≡◌, Some}
 use Rattle.stable.specs.declared.key.Key.TheVariants as key
 use Rattle.acceptor.proofs.RecordLemmas.{promise_of_its_form}
 use Rattle.acceptor.proofs.records.promised.Goals as goal

@@ -1,4 +1,4 @@
-use Rattle.std.proofs.Common.{rules, ◌≡◌, Some, List, ℕ, Option, sym, ◌∙◌, ap, option_map}
+use Rattle.std.proofs.Common.{rules, ◌≡◌, Some, ◌∙◌, ap}
 use Rattle.stable.specs.declared.key.Key.TheVariants as key
 use Rattle.acceptor.specs.State.{vote_at}
 use Rattle.acceptor.specs.Spelling.{vote_bytes}

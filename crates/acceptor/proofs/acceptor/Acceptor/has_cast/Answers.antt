@@ -14,6 +14,7 @@ returns-then-eq c =
     let found : get nat_cmp c.args.self.now.votes vote.slot ≡ Some cast = search rules in
     let round : cast.ballot.round ≡ vote.ballot.round = grind (arith, nat_tests, c.eq.ensures, c.if-eq.true) in
     let node : cast.ballot.node ≡ vote.ballot.node = grind (arith, nat_tests, c.eq.ensures, c.if-eq.true) in
-    let ballot = same_ballot cast.ballot vote.ballot round node in
-    (λ same. rw found (ap Some (same_vote cast vote ballot (c.is_same.ensures.0 same))),
-      λ told. c.is_same.ensures.1 (command_told cast vote _ found told))
+    let ballot = same_ballot cast.ballot vote.ballot round node in (
+      λ same. rw found (ap Some (same_vote cast vote ballot (c.is_same.ensures.0 same))),
+      λ told. c.is_same.ensures.1 (command_told cast vote _ found told),
+    )

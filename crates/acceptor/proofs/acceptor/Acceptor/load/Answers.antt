@@ -1,42 +1,44 @@
-use Rattle.std.proofs.Common.{rules, refl, arith, ◌≡◌, ◌<◌, ◌≤◌, ◌∙◌, sym, ap, subst, length, inr, List}
+use Rattle.std.proofs.Common.{rules, refl, arith, ◌<◌, ◌∙◌, sym, subst, length, inr, List}
 use Rattle.stable.specs.Records.{IsAscending}
 use Rattle.stable.specs.declared.key.Key.{Key}
-use Rattle.acceptor.specs.Accepting.{RecordsSay}
-use Rattle.acceptor.specs.Forms.{HasDamagedRecord, AreOfTheirForm}
-use Rattle.acceptor.specs.Loading.{records_at, with_seen}
-use Rattle.acceptor.specs.State.{accepting_of}
 use Rattle.acceptor.proofs.LoadLemmas.{take_all, says_more, forms_at, says_all, forms_all, no_votes}
 use Rattle.acceptor.proofs.RecordLemmas.{RecordsSay-same, RecordsSay-holds, RecordsSay-nothing}
 use Rattle.acceptor.proofs.acceptor.Acceptor.load.Goals as goal
 
 pub loop-key-init : goal.loop-key-init
-loop-key-init g c =
-    (g.met.S.Stable.reads_none c.keys.new.self,
-      λ honest. RecordsSay-same _ _ _ (λ k. refl) (RecordsSay-holds _ _ _ refl (no_votes c.new.result c.new.ensures.empty) RecordsSay-nothing),
-      λ honest q has. absurd cc)
+loop-key-init g c = (
+  g.met.S.Stable.reads_none c.keys.new.self,
+  λ honest. RecordsSay-same _ _ _ (λ k. refl) (RecordsSay-holds _ _ _ refl (no_votes c.new.result c.new.ensures.empty) RecordsSay-nothing),
+  λ honest q has. absurd cc,
+)
 
-pub returns-in_err-take_in-clause-reads : goal.returns-in_err-take_in-clause-reads
-returns-in_err-take_in-clause-reads g c =
-    let law = g.met.S.Stable in
-    let before = law.reads_reads _ _ _ c.keys.ensures.reads c.loop-key.invariant.0 in
-    law.reads_reads _ _ _ before c.take_in.ensures.reads
-
+-- a read that fails comes after reads that did not
 pub returns-in_err-take_in-clause-device : goal.returns-in_err-take_in-clause-device
-returns-in_err-take_in-clause-device g c = λ honest device.
+returns-in_err-take_in-clause-device g c = λ device.
     let law = g.met.S.Stable in
-    let still = law.reads_honest _ _ c.take_in.ensures.reads honest in
-    let before = law.reads_reads _ _ _ c.keys.ensures.reads c.loop-key.invariant.0 in
-    let least = law.reads_failures _ _ before still in
-    let more = c.in_err-take_in.ensures.device honest (search rules) in
-    omega (arith, least, more)
+    let before = law.reads_reads _ _ _ c.in_ok-keys.ensures.ok c.loop-key.invariant.0 in
+    law.reads_read_fails _ _ _ before (c.in_err-take_in.ensures.device (search rules))
+
+pub returns-in_err-take_in-clause-memory : goal.returns-in_err-take_in-clause-memory
+returns-in_err-take_in-clause-memory g c = λ memory.
+    let law = g.met.S.Stable in
+    let before = law.reads_reads _ _ _ c.in_ok-keys.ensures.ok c.loop-key.invariant.0 in
+    law.reads_reads _ _ _ before (c.in_err-take_in.ensures.memory (search rules))
 
 pub returns-in_err-take_in-clause-damaged : goal.returns-in_err-take_in-clause-damaged
-returns-in_err-take_in-clause-damaged g c = λ honest damaged.
+returns-in_err-take_in-clause-damaged g c = λ damaged.
     let law = g.met.S.Stable in
-    let still = law.reads_honest _ _ c.take_in.ensures.reads honest in
-    let before = law.reads_reads _ _ _ c.keys.ensures.reads c.loop-key.invariant.0 in
+    let before = law.reads_reads _ _ _ c.in_ok-keys.ensures.ok c.loop-key.invariant.0 in
+    law.reads_reads _ _ _ before (c.in_err-take_in.ensures.damaged (search rules))
+
+pub returns-in_err-take_in-clause-damaged_record : goal.returns-in_err-take_in-clause-damaged_record
+returns-in_err-take_in-clause-damaged_record g c = λ honest damaged.
+    let law = g.met.S.Stable in
+    let reads = c.in_err-take_in.ensures.damaged (search rules) in
+    let still = law.reads_honest _ _ reads honest in
+    let before = law.reads_reads _ _ _ c.in_ok-keys.ensures.ok c.loop-key.invariant.0 in
     let same = law.reads_contents _ _ before still in
-    inr (rw same at (c.in_err-take_in.ensures.damaged honest (search rules)))
+    inr (rw same at (c.in_err-take_in.ensures.damaged_record honest (search rules)))
 
 -- the next key is none of those before, and its record is taken in
 pub loop-key-preserved : goal.loop-key-preserved
@@ -45,18 +47,19 @@ loop-key-preserved g c =
     let keys = c.deref-key-items.result.now in
     let i = c.loop-key.key-index in
     let lt : i < length keys = omega arith in
-    let read = law.reads_reads _ _ _ c.keys.ensures.reads c.loop-key.invariant.0 in
-    (law.reads_reads _ _ _ c.loop-key.invariant.0 c.take_in.ensures.reads,
+    let read = law.reads_reads _ _ _ c.in_ok-keys.ensures.ok c.loop-key.invariant.0 in (
+      law.reads_reads _ _ _ c.loop-key.invariant.0 c.in_ok-take_in.ensures.reads,
       λ honest.
-        let still = law.reads_honest _ _ c.take_in.ensures.reads honest in
-        let listed = law.reads_honest _ _ c.loop-key.invariant.0 still in
-        let same = law.reads_contents _ _ read still in
-        let sorted = subst (λ (xs : List Key). IsAscending xs) (sym c.deref-key-items.ensures.value) (c.in_ok-keys.ensures.ascending listed) in
-        says_more _ _ keys i c.key-item.result _ _ sorted lt c.key-item.is same (c.in_ok-take_in.ensures.told honest) (c.loop-key.invariant.1 still),
+          let still = law.reads_honest _ _ c.in_ok-take_in.ensures.reads honest in
+          let listed = law.reads_honest _ _ c.loop-key.invariant.0 still in
+          let same = law.reads_contents _ _ read still in
+          let sorted = subst (λ (xs : List Key). IsAscending xs) (sym c.deref-key-items.ensures.value) (c.in_ok-keys.ensures.ascending listed) in
+          says_more _ _ keys i c.key-item.result _ _ sorted lt c.key-item.is same (c.in_ok-take_in.ensures.told honest) (c.loop-key.invariant.1 still),
       λ honest.
-        let still = law.reads_honest _ _ c.take_in.ensures.reads honest in
-        let same = law.reads_contents _ _ read still in
-        forms_at _ _ keys i c.key-item.result lt c.key-item.is same (c.loop-key.invariant.2 still) (c.in_ok-take_in.ensures.form honest))
+          let still = law.reads_honest _ _ c.in_ok-take_in.ensures.reads honest in
+          let same = law.reads_contents _ _ read still in
+          forms_at _ _ keys i c.key-item.result lt c.key-item.is same (c.loop-key.invariant.2 still) (c.in_ok-take_in.ensures.form honest),
+    )
 
 -- what the listed keys hold is all that is held
 pub returns-clause-told : goal.returns-clause-told
@@ -78,7 +81,7 @@ returns-clause-form g c = λ honest.
     forms_all _ c.in_ok-keys.keys.items (c.in_ok-keys.ensures.told listed) all
 
 pub returns-clause-reads : goal.returns-clause-reads
-returns-clause-reads g c = g.met.S.Stable.reads_reads _ _ _ c.keys.ensures.reads c.loop-key.invariant.0
+returns-clause-reads g c = g.met.S.Stable.reads_reads _ _ _ c.in_ok-keys.ensures.ok c.loop-key.invariant.0
 
 pub returns-clause-settled : goal.returns-clause-settled
 returns-clause-settled g c = g.met.S.Stable.reads_settled _ _ c.loop-key.invariant.0 c.in_ok-keys.ensures.settled

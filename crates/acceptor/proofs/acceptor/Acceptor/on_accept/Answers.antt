@@ -9,7 +9,7 @@ use Rattle.acceptor.proofs.acceptor.Acceptor.on_accept.Goals.{then-not-has_cast+
 
 -- the device failed on the write of the vote
 pub returns-in_err-cast-clause-device : goal.returns-in_err-cast-clause-device
-returns-in_err-cast-clause-device g c = λ device. 
+returns-in_err-cast-clause-device g c = λ device.
     let a = accepting_of c.args.self.now in
     let vote = c.args.vote in
     let taken : refusing a.promise vote.ballot ≡ None = search rules in

@@ -13,4 +13,4 @@ returns-in-Some c = λ seen fresh says.
     let ballot = c.in-Some.ballot in
     let there = RecordsSay-see_promise seen a ballot fresh says in
     rw c.in-Some.is (RecordsSay-holds _ (record a { promise = raised a.promise ballot }) (accepting_of c.raise.new.self) c.raise.ensures.promise
-      (λ s. ap (λ m. option_map (vote_at s) (get nat_cmp m s)) c.raise.ensures.votes) there)
+    (λ s. ap (λ m. option_map (vote_at s) (get nat_cmp m s)) c.raise.ensures.votes) there)

@@ -17,6 +17,6 @@ returns-in_ok-insert c = λ seen fresh says.
     let there = RecordsSay-see_vote seen a vote fresh says in
     let updates = rw c.raise.ensures.votes at c.in_ok-insert.ensures.updates in
     rw c.in-Some.is (RecordsSay-holds _ (record { promise = raised a.promise vote.ballot; vote = put a.vote vote.slot (Some vote) })
-      (accepting_of (record { promise = c.raise.new.self.promise; votes = c.insert.new.self })) c.raise.ensures.promise
-      (λ s. ap (option_map (vote_at s)) (get-updated c.args.self.now.votes c.insert.new.self c.args.slot (Some cast) updates s)
-        ∙ votes-put (get nat_cmp c.args.self.now.votes) cast vote refl s) there)
+    (accepting_of (record { promise = c.raise.new.self.promise; votes = c.insert.new.self })) c.raise.ensures.promise
+    (λ s. ap (option_map (vote_at s)) (get-updated c.args.self.now.votes c.insert.new.self c.args.slot (Some cast) updates s)
+    ∙ votes-put (get nat_cmp c.args.self.now.votes) cast vote refl s) there)

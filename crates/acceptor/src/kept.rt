@@ -1,0 +1,22 @@
+//! Laws of an acceptor's calls, for proofs about many of them.
+
+ghost use Rattle.synod.specs.declared.ballot.Ballot.{Ballot};
+ghost use Rattle.synod.specs.declared.vote.Vote.{Vote};
+ghost use Rattle.wire.specs.declared.command.Command.{Command};
+ghost use Rattle.stable.specs.Records.{Records};
+ghost use Rattle.acceptor.specs.Accepting.{Accepting, Write, RecordsSay, records_after};
+ghost use Rattle.acceptor.specs.Accepting.{prepare_write, after_prepare};
+ghost use Rattle.acceptor.specs.Accepting.{IsAcceptWrite, after_accept};
+
+/// Records that say what an acceptor holds say so after a prepare and its write.
+pub fn prepare_keeps_records()
+    ensures { (records : Records) (a : Accepting) (b : Ballot) → RecordsSay records a
+        → RecordsSay (records_after records (prepare_write a b)) (after_prepare a b) }
+{}
+
+/// Records that say what an acceptor holds say so after an accept and its write.
+pub fn accept_keeps_records()
+    ensures { (records : Records) (a : Accepting) (v : Vote Command) (w : Write)
+        → IsAcceptWrite a v w → RecordsSay records a
+        → RecordsSay (records_after records w) (after_accept a v) }
+{}
