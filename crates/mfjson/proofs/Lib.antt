@@ -1,0 +1,11 @@
+pub mod Years
+pub mod DigitsLemmas
+pub mod ClockTexts
+pub mod DateTexts
+pub mod SecondTexts
+pub mod OneText
+pub mod PairLemmas
+pub mod AsciiTexts
+pub mod Canonical
+pub mod Standing
+pub mod OneFeature

@@ -1,0 +1,103 @@
+-- What a JSON value stands for, and the canonical document of a feature.
+use Rattle.std.specs.Prelude.{◌≡◌, ℕ, ℤ, zero, List, codes, Some}
+use Rattle.serde_json.specs.Data.{Data, number, string, array, object, item, no_items, member, no_members}
+use Rattle.serde_json.specs.Find.{get, as_i64, of_integer}
+use Rattle.serde_json.specs.Read.{read as read_text}
+use Rattle.serde_json.specs.View.{items_of}
+use Rattle.serde_json.specs.Events.{members_len}
+use Rattle.serde_json.specs.Written.{compact_text}
+use Rattle.serde_json.specs.Data.{Num}
+use Rattle.tpoint.specs.declared.interp.Interp.{Interp}
+use Rattle.tpoint.specs.declared.interp.Interp.TheVariants.{Discrete, Step, Linear}
+use Rattle.tpoint.specs.declared.point.Point.{Point}
+use Rattle.tpoint.specs.Ids.{IsId}
+use Rattle.tpoint.specs.Moving.{IsValid}
+use Rattle.mfjson.specs.declared.feature.Feature.{Feature}
+use Rattle.mfjson.specs.Datetime.{IsDatetime, ReadsAs}
+use Rattle.mfjson.specs.Pairs.{Pairwise}
+
+-- how many members a value has
+abbrev pub member_count : Data → ℕ
+member_count (object ms) = members_len ms
+member_count _ = zero
+
+abbrev pub interp_name : Interp → List ℕ
+interp_name Discrete = codes "Discrete"
+interp_name Step = codes "Step"
+interp_name Linear = codes "Linear"
+
+-- the value is a text that may be read as the instant of the point
+pub record SaysWhen (d : Data) (p : Point) : Type 0 where
+  pub text : List ℕ
+  pub is_text : d ≡ string text
+  pub read : ReadsAs text p.t
+
+-- the value is an array of the point's two coordinates, each a whole number
+pub record SaysWhere (d : Data) (p : Point) : Type 0 where
+  pub x : Num
+  pub y : Num
+  pub pair : d ≡ array (item (number x) (item (number y) no_items))
+  pub x_is : as_i64 x ≡ Some p.x
+  pub y_is : as_i64 y ≡ Some p.y
+
+-- the value is the geometry of a moving point with exactly four members
+pub record IsGeometry (d : Data) (f : Feature) : Type 0 where
+  pub times : List Data
+  pub places : List Data
+  pub four_members : member_count d ≡ 4
+  pub kind : get (codes "type") d ≡ Some (string (codes "MovingPoint"))
+  pub datetimes : get (codes "datetimes") d ≡ Some (array (items_of times))
+  pub coordinates : get (codes "coordinates") d ≡ Some (array (items_of places))
+  pub interpolation : get (codes "interpolation") d ≡ Some (string (interp_name f.seq.interp))
+  pub when : Pairwise SaysWhen times f.seq.points
+  pub where_to : Pairwise SaysWhere places f.seq.points
+
+-- the value stands for the feature: an object with exactly three members
+pub record StandsFor (d : Data) (f : Feature) : Type 0 where
+  pub geometry : Data
+  pub three_members : member_count d ≡ 3
+  pub kind : get (codes "type") d ≡ Some (string (codes "Feature"))
+  pub id : get (codes "id") d ≡ Some (string f.id)
+  pub temporal_geometry : get (codes "temporalGeometry") d ≡ Some geometry
+  pub is_geometry : IsGeometry geometry f
+  pub id_is : IsId f.id
+  pub seq_is : IsValid f.seq
+
+-- the text shows such a value
+pub record IsDocumentOf (text : List ℕ) (f : Feature) : Type 0 where
+  pub value : Data
+  pub shown : read_text text ≡ Some value
+  pub stands : StandsFor value f
+
+-- and no value of another feature
+abbrev pub IsDocumentOfNoOther : List ℕ → Feature → Type 0
+IsDocumentOfNoOther text f = (other : Feature) → IsDocumentOf text other → other ≡ f
+
+-- ---- the canonical document: compact, its members in byte order, its datetimes with three digits
+pub record WritesWhen (d : Data) (p : Point) : Type 0 where
+  pub text : List ℕ
+  pub is_text : d ≡ string text
+  pub is_datetime : IsDatetime text p.t
+
+abbrev pub position : ℤ → ℤ → Data
+position x y = array (item (number (of_integer x)) (item (number (of_integer y)) no_items))
+
+abbrev pub WritesWhere : Data → Point → Type 0
+WritesWhere d p = d ≡ position p.x p.y
+
+abbrev pub canonical : List ℕ → List ℕ → List Data → List Data → Data
+canonical id interpolation times places =
+    object (member (codes "id") (string id)
+    (member (codes "temporalGeometry") (object
+    (member (codes "coordinates") (array (items_of places))
+    (member (codes "datetimes") (array (items_of times))
+    (member (codes "interpolation") (string interpolation)
+    (member (codes "type") (string (codes "MovingPoint")) no_members)))))
+    (member (codes "type") (string (codes "Feature")) no_members)))
+
+pub record IsCanonical (text : List ℕ) (f : Feature) : Type 0 where
+  pub times : List Data
+  pub places : List Data
+  pub when : Pairwise WritesWhen times f.seq.points
+  pub where_to : Pairwise WritesWhere places f.seq.points
+  pub compact : text ≡ compact_text (canonical f.id (interp_name f.seq.interp) times places)

@@ -1,0 +1,4 @@
+pub mod Digits
+pub mod Datetime
+pub mod Pairs
+pub mod Document

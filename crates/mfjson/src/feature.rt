@@ -1,0 +1,10 @@
+//! Features.
+
+use tpoint::{Id, Seq};
+
+/// A moving point with its name.
+#[derive(Debug, Drop)]
+pub struct Feature {
+    pub id: Id,
+    pub seq: Seq,
+}

@@ -1,0 +1,16 @@
+//! Documents of moving points, and their datetimes.
+//!
+//! A document is a JSON text of one moving point with its name, in a profile of OGC 19-045r3
+//! (MF-JSON). A datetime is a text of an instant, in a profile of RFC 3339. The words of the
+//! contracts stand in `specs/`.
+#![tactic(auto)]
+
+mod datetime;
+mod feature;
+#[cfg(test)]
+mod tests;
+mod writing;
+
+pub use datetime::{datetime_read, datetime_text};
+pub use feature::Feature;
+pub use writing::write;
