@@ -1,3 +1,4 @@
+pub mod Causes
 pub mod Codes
 pub mod Entries
 pub mod Keywords
@@ -10,4 +11,5 @@ pub mod Schedules
 pub mod Spelling
 pub mod Submissions
 pub mod Table
+pub mod Transcripts
 pub mod Words

@@ -3,8 +3,8 @@ use stable::Failing;
 use std::alloc::Global;
 use std::test::Fail;
 use tpoint::Id;
-use wire::{NodeId, Number, Op};
-use world::{Event, Query};
+use wire::{Command, NodeId, Number, Op, Request, Slot};
+use world::{Answered, Event, Learnt, NodeFault, Outcome, Query, Replied, Reply, Text};
 
 // a line after `nodes 3`, and the fault that is told of it
 const LATER: [(&[u8], u8); 62] = [
@@ -185,4 +185,65 @@ fn laws_run_nothing() {
     schedules_are_one();
     faulty_is_no_schedule();
     first_faults_are_one();
+}
+
+// outcomes of each kind, and what is told of them
+#[test]
+fn told_run(rt: HostRuntime) -> Result<(), Fail> {
+    let alloc = rt.alloc();
+    let number = Number::new(1).ok_or("a number")?;
+    let op = Op::Remove(Id::new(b"bus-7").ok_or("an id")?);
+    let outcomes = [
+        Outcome::Done(false, false),
+        Outcome::Done(true, true),
+        Outcome::Lost,
+        Outcome::Done(true, false),
+        Outcome::Refused(node(1)?, NodeFault::Down),
+        Outcome::Answered,
+        Outcome::Stopped(node(2)?, NodeFault::Device),
+    ];
+    let learnt = [
+        Learnt {
+            node: node(0)?,
+            slot: Slot::first(),
+            command: Command::Request(Request::new(7, number, op)),
+        },
+        Learnt {
+            node: node(1)?,
+            slot: Slot::first(),
+            command: Command::NoOp,
+        },
+    ];
+    let replies = [Replied {
+        node: node(0)?,
+        client: 7,
+        number,
+        reply: Reply::UnknownId,
+        position: 1,
+    }];
+    let answers = [Answered {
+        node: node(0)?,
+        position: 1,
+        text: Text::new(b"count 0".to_vec(alloc)?),
+    }];
+    let text = transcript(alloc, &outcomes, &learnt, &replies, &answers)?;
+    let wanted = b"learn 0 0 7:1\nreply 0 7:1 21\nlearn 1 0 noop\nrefuse 1 41\n\
+answer 0 1 count 0\nstop 2 46\n";
+    assert!(rt; text.as_slice() == wanted.as_slice(), "of {outcomes:?}");
+    Ok(())
+}
+
+#[test]
+fn numbers_of_causes(rt: HostRuntime) -> Result<(), Fail> {
+    let causes = [
+        (ReplayCause::Schedule(ScheduleFault::WordForm), 5),
+        (ReplayCause::NoSuchMessage, 51),
+        (ReplayCause::NoSuchNode, 52),
+        (ReplayCause::FlushLimit, 53),
+        (ReplayCause::Memory, 54),
+    ];
+    for (cause, number) in causes {
+        assert_eq!(rt; cause.number(), number);
+    }
+    Ok(())
 }

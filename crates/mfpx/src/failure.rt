@@ -1,0 +1,114 @@
+//! Why a run ends without a transcript, and what the program says and answers then.
+
+ghost use Rattle.std.specs.Prelude.{◌≡◌, ◌≢◌, OnOk};
+ghost use Rattle.std.specs.Io.KnownBytes.{Appends};
+ghost use Rattle.std.specs.IoError.{error_kind};
+ghost use Rattle.schedule.specs.Codes.{code_of};
+ghost use Rattle.schedule.specs.declared.fault.ScheduleFault.{ScheduleFault};
+ghost use Rattle.mfpx.specs.Failures.{line_text, status_of};
+ghost use Rattle.mfpx.specs.declared.failure.Failure.TheVariants.{Memory};
+
+use schedule::{ReplayCause, ReplayFault};
+use std::alloc::{AllocError, AllocFailed};
+use std::io::{self, ErrorKind, Write};
+use thiserror::Error;
+
+/// Where a schedule is wrong, or what its World refused there.
+#[derive(Clone, Copy, Debug, PartialEq, Eq)]
+pub struct FaultyLine {
+    /// Which line of the file it is, counted from 1.
+    pub line: u64,
+    /// The number of the fault.
+    pub fault: u8,
+}
+
+/// Why a run ends without a transcript.
+#[derive(Clone, Copy, Debug, Drop, PartialEq, Eq, Error)]
+pub enum Failure {
+    /// The schedule is none, or can't be run to its end.
+    #[error("fault {} at line {}", .0.fault, .0.line)]
+    Schedule(FaultyLine),
+    /// The words after the program's name ask for nothing that it does.
+    #[error("unknown words")]
+    Usage,
+    /// A file or a stream failed.
+    #[error("a device failed")]
+    Device,
+    /// A growth was refused.
+    #[error("memory ran out")]
+    Memory,
+}
+
+impl Failure {
+    /// The exit status of a run that ends so.
+    pub fn status(self) -> u8
+        ensures { result ≡ status_of self }
+    {
+        match self {
+            Failure::Schedule(_) => 1,
+            Failure::Usage => 2,
+            Failure::Device | Failure::Memory => 3,
+        }
+    }
+
+    /// Writes the line of standard error that tells it. It takes no memory of its own, so that
+    /// the want of memory can be told too.
+    pub fn tell<E: Write>(self, err: &mut E) -> io::Result<()>
+        ensures { OnOk result (Appends (E.contents err.old) (E.contents err.new)
+            (line_text self)) }
+    {
+        match self {
+            Failure::Schedule(at) => { write!(err, "mfpx: line {} fault {}\n", at.line, at.fault) }
+            Failure::Usage => err.write_all(b"mfpx: usage\n"),
+            Failure::Device => err.write_all(b"mfpx: device\n"),
+            Failure::Memory => err.write_all(b"mfpx: out of memory\n"),
+        }
+    }
+}
+
+impl From<AllocError> for Failure {
+    ghost from_gives = { λ _ failure. failure ≡ Memory };
+
+    fn from(_refused: AllocError) -> Failure {
+        Failure::Memory
+    }
+}
+
+impl<T: Drop> From<AllocFailed<T>> for Failure {
+    ghost from_gives = { λ _ failure. failure ≡ Memory };
+
+    fn from(_refused: AllocFailed<T>) -> Failure {
+        Failure::Memory
+    }
+}
+
+/// What a stream's or a file's error is to the program.
+pub(crate) fn device_failure(error: &io::Error) -> Failure
+    ensures memory { error_kind error.now ≡ ErrorKind.OutOfMemory → result ≡ Failure.Memory }
+    ensures device { error_kind error.now ≢ ErrorKind.OutOfMemory → result ≡ Failure.Device }
+{
+    match error.kind() {
+        ErrorKind::OutOfMemory => Failure::Memory,
+        _ => Failure::Device,
+    }
+}
+
+/// What a replay's fault is to the program. Want of memory has no line, wherever it came.
+pub(crate) fn replay_failure(fault: ReplayFault) -> Failure
+    ensures memory { fault.cause ≡ ReplayCause.Memory → result ≡ Failure.Memory }
+    ensures no_message { fault.cause ≡ ReplayCause.NoSuchMessage
+        → result ≡ Failure.Schedule (record { line = fault.line; fault = 51 }) }
+    ensures flush_limit { fault.cause ≡ ReplayCause.FlushLimit
+        → result ≡ Failure.Schedule (record { line = fault.line; fault = 53 }) }
+    ensures never_usage { result ≢ Failure.Usage }
+    ensures schedule { (wrong : ScheduleFault) → fault.cause ≡ ReplayCause.Schedule wrong
+        → result ≡ Failure.Schedule (record { line = fault.line; fault = code_of wrong }) }
+{
+    match fault.cause {
+        ReplayCause::Memory => Failure::Memory,
+        cause => Failure::Schedule(FaultyLine {
+            line: fault.line,
+            fault: cause.number(),
+        }),
+    }
+}

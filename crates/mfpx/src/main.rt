@@ -1,0 +1,65 @@
+//! The program `mfpx`: a schedule is replayed, and its transcript is printed.
+//!
+//! `mfpx replay FILE` reads the file, `mfpx replay -` and `mfpx` with no words read standard
+//! input. `words` says what the words ask for, `run` does it over any streams, and `failure`
+//! says how a run ends that has no transcript. Here the streams are those of the process.
+#![tactic(auto)]
+
+mod failure;
+mod run;
+#[cfg(test)]
+mod runs;
+#[cfg(test)]
+mod tests;
+mod words;
+
+ghost use Rattle.std.specs.Prelude.{◌≡◌, ◌≢◌, ◌⊎◌, IfErr};
+ghost use Rattle.std.specs.IoError.{error_kind};
+
+use crate::failure::Failure;
+use crate::run::command;
+use std::env;
+use std::io::{self, ErrorKind};
+use std::process::ExitCode;
+
+fn main(rt: HostRuntime) -> ExitCode {
+    let mut input = rt.stdin();
+    let mut out = rt.stdout();
+    let mut err = rt.stderr();
+    let status = match own_words(&rt) {
+        Ok(words) => command(&rt, words, &mut input, &mut out, &mut err),
+        Err(failure) => {
+            let _ = failure.tell(&mut err);
+            failure.status()
+        }
+    };
+    ExitCode::from(status)
+}
+
+/// The words after the program's name.
+fn own_words(rt: &HostRuntime) -> Result<Vec<String>, Failure>
+    ensures { IfErr result (λ failure. (failure ≡ Failure.Usage)
+        ⊎ (failure ≡ Failure.Memory)) }
+{
+    let all = match env::args(rt) {
+        Ok(all) => all,
+        Err(error) => return Err(args_failure(&error)),
+    };
+    let mut words = Vec::new(rt.alloc());
+    for word in all.skip(1) {
+        words.push(word)?;
+    }
+    Ok(words)
+}
+
+/// What words that can't be had are to the program: those that are no text are none of its forms.
+fn args_failure(error: &io::Error) -> Failure
+    ensures memory { error_kind error.now ≡ ErrorKind.OutOfMemory → result ≡ Failure.Memory }
+    ensures usage { error_kind error.now ≢ ErrorKind.OutOfMemory → result ≡ Failure.Usage }
+    ensures either { (result ≡ Failure.Usage) ⊎ (result ≡ Failure.Memory) }
+{
+    match error.kind() {
+        ErrorKind::OutOfMemory => Failure::Memory,
+        _ => Failure::Usage,
+    }
+}

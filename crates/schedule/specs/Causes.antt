@@ -1,0 +1,22 @@
+-- The numbers under which it is told why a run ended.
+use Rattle.std.specs.Prelude.{ℕ}
+use Rattle.world.specs.declared.fault.WorldFault.{WorldFault}
+use Rattle.world.specs.declared.fault.WorldFault.TheVariants as world_fault
+use Rattle.schedule.specs.Codes.{code_of}
+use Rattle.schedule.specs.declared.replay_fault.ReplayCause.{ReplayCause}
+use Rattle.schedule.specs.declared.replay_fault.ReplayCause.TheVariants.{Schedule, NoSuchMessage, NoSuchNode, FlushLimit, Memory}
+
+-- the number of a cause
+abbrev pub cause_code : ReplayCause → ℕ
+cause_code (Schedule fault) = code_of fault
+cause_code NoSuchMessage = 51
+cause_code NoSuchNode = 52
+cause_code FlushLimit = 53
+cause_code Memory = 54
+
+-- a world's fault, as the cause
+abbrev pub cause_of : WorldFault → ReplayCause
+cause_of world_fault.NoSuchMessage = NoSuchMessage
+cause_of world_fault.NoSuchNode = NoSuchNode
+cause_of world_fault.FlushLimit = FlushLimit
+cause_of world_fault.Memory = Memory

@@ -1,0 +1,64 @@
+//! The lines of a transcript.
+
+ghost use Rattle.std.specs.Prelude.{◌≡◌, ◌++◌, OnOk};
+ghost use Rattle.schedule.specs.Transcripts.{answer_line, learn_line, refuse_line, reply_line, stop_line};
+
+use std::io::{self, Write};
+use wire::{Command, NodeId};
+use world::{Answered, Learnt, NodeFault, Replied};
+
+/// Adds the line of what a node learnt: `learn 0 0 7:1`, or `learn 0 0 noop`.
+pub(crate) fn print_learnt(text: &mut Vec<u8>, learnt: &Learnt) -> io::Result<()>
+    ensures { OnOk result (text.new.items ≡ text.old.items ++ learn_line learnt.now) }
+{
+    let node = learnt.node.value();
+    let slot = learnt.slot.value();
+    match &learnt.command {
+        Command::NoOp => writeln!(text, "learn {node} {slot} noop"),
+        Command::Request(request) => {
+            let client = request.client();
+            let number = request.number().value();
+            writeln!(text, "learn {node} {slot} {client}:{number}")
+        }
+    }
+}
+
+/// Adds the line of a reply: `reply 0 7:1 21`.
+pub(crate) fn print_reply(text: &mut Vec<u8>, replied: &Replied) -> io::Result<()>
+    ensures { OnOk result (text.new.items ≡ text.old.items ++ reply_line replied.now) }
+{
+    let node = replied.node.value();
+    let client = replied.client;
+    let number = replied.number.value();
+    let code = replied.reply.code();
+    writeln!(text, "reply {node} {client}:{number} {code}")
+}
+
+/// Adds the line of an answer: `answer 0 1 count 0`.
+pub(crate) fn print_answer(text: &mut Vec<u8>, answered: &Answered) -> io::Result<()>
+    ensures { OnOk result (text.new.items ≡ text.old.items ++ answer_line answered.now) }
+{
+    let node = answered.node.value();
+    let position = answered.position;
+    write!(text, "answer {node} {position} ")?;
+    text.write_all(answered.text.as_bytes())?;
+    text.write_all(b"\n")
+}
+
+/// Adds the line of a refusal: `refuse 0 41`.
+pub(crate) fn print_refusal(text: &mut Vec<u8>, node: NodeId, fault: NodeFault) -> io::Result<()>
+    ensures { OnOk result (text.new.items ≡ text.old.items ++ refuse_line node fault) }
+{
+    let node = node.value();
+    let code = fault.code();
+    writeln!(text, "refuse {node} {code}")
+}
+
+/// Adds the line of a node that went down: `stop 0 46`.
+pub(crate) fn print_stop(text: &mut Vec<u8>, node: NodeId, fault: NodeFault) -> io::Result<()>
+    ensures { OnOk result (text.new.items ≡ text.old.items ++ stop_line node fault) }
+{
+    let node = node.value();
+    let code = fault.code();
+    writeln!(text, "stop {node} {code}")
+}

@@ -1,0 +1,58 @@
+//! Why a run ends without a transcript.
+
+ghost use Rattle.std.specs.Prelude.{◌≡◌};
+ghost use Rattle.schedule.specs.Causes.{cause_code, cause_of};
+
+use super::fault::ScheduleFault;
+use world::WorldFault;
+
+/// Why a line of a run was not done.
+#[derive(Clone, Copy, Debug, PartialEq, Eq)]
+pub enum ReplayCause {
+    /// The line is none of a schedule.
+    Schedule(ScheduleFault),
+    /// No frame of this number was sent.
+    NoSuchMessage,
+    /// The run has no such node. No line that was read from bytes names one.
+    NoSuchNode,
+    /// A flush delivered as many frames as it may, and one still waits.
+    FlushLimit,
+    /// A growth was refused.
+    Memory,
+}
+
+impl ReplayCause {
+    /// The number under which it is told.
+    pub fn number(self) -> u8
+        ensures { result ≡ cause_code self }
+    {
+        match self {
+            ReplayCause::Schedule(fault) => fault.code(),
+            ReplayCause::NoSuchMessage => 51,
+            ReplayCause::NoSuchNode => 52,
+            ReplayCause::FlushLimit => 53,
+            ReplayCause::Memory => 54,
+        }
+    }
+}
+
+impl From<WorldFault> for ReplayCause {
+    ghost from_gives = { λ fault cause. cause ≡ cause_of fault };
+
+    fn from(fault: WorldFault) -> ReplayCause {
+        match fault {
+            WorldFault::NoSuchMessage => ReplayCause::NoSuchMessage,
+            WorldFault::NoSuchNode => ReplayCause::NoSuchNode,
+            WorldFault::FlushLimit => ReplayCause::FlushLimit,
+            WorldFault::Memory => ReplayCause::Memory,
+        }
+    }
+}
+
+/// The line at which a run ended, and why.
+#[derive(Clone, Copy, Debug, PartialEq, Eq)]
+pub struct ReplayFault {
+    /// Which line of the file it is, counted from 1.
+    pub line: u64,
+    pub cause: ReplayCause,
+}

@@ -1,0 +1,4 @@
+pub mod Deciding
+pub mod SendLemmas
+pub mod Proposals
+pub mod WorldLemmas

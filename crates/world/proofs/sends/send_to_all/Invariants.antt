@@ -1,0 +1,9 @@
+use Rattle.std.proofs.Common.{◌≡◌, ◌≤◌, vec_len}
+use Rattle.world.specs.Sending.{to_all}
+use Rattle.world.proofs.sends.send_to_all.Given as goal
+
+abbrev pub invariant-loop-value : goal.invariant-loop-value
+invariant-loop-value l = record {
+  sends : l.sends.items ≡ to_all l.from l.value l.message;
+  few : vec_len l.sends ≤ l.value;
+}

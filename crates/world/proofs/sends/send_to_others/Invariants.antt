@@ -1,0 +1,10 @@
+use Rattle.std.proofs.Common.{◌≡◌, ◌≤◌, vec_len, filter, not}
+use Rattle.wire.specs.NodeSets.{has_node}
+use Rattle.world.specs.Sending.{to_all}
+use Rattle.world.proofs.sends.send_to_others.Given as goal
+
+abbrev pub invariant-loop-value : goal.invariant-loop-value
+invariant-loop-value l = record {
+  sends : l.sends.items ≡ filter (λ e. not (has_node l.set e.to)) (to_all l.from l.value l.message);
+  few : vec_len l.sends ≤ l.value;
+}

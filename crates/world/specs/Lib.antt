@@ -1,0 +1,15 @@
+pub mod Learning
+pub mod Learners
+pub mod Campaigning
+pub mod Sending
+pub mod Proposing
+pub mod Rounds
+pub mod Faults
+pub mod Minds
+pub mod Outputs
+pub mod Machines
+pub mod Running
+pub mod Nodes
+pub mod Worlds
+pub mod Loading
+pub mod States

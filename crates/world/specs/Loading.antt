@@ -1,0 +1,37 @@
+-- What a node holds that has just loaded its records.
+use Rattle.std.specs.Prelude.{◌≡◌, ℕ, ◌⊎◌, List, Option, Some, None, Result, IsSome, IfSome, OnOk, OnErr, IfErr, IsErrOf}
+use Rattle.stable.specs.Records.{Records}
+use Rattle.stable.specs.declared.key.Key.TheVariants as key
+use Rattle.acceptor.specs.Accepting.{RecordsSay}
+use Rattle.world.specs.declared.fault.NodeFault.{NodeFault}
+use Rattle.world.specs.declared.fault.NodeFault.TheVariants as fault
+use Rattle.world.specs.Learning.{unlearnt}
+use Rattle.world.specs.Minds.{Mind}
+use Rattle.world.specs.States.{NodeState}
+use Rattle.world.specs.Proposing.{Proposing, loaded}
+use Rattle.world.specs.Rounds.{IsRound}
+
+-- a proposer that has just loaded the record of its round, if there is one
+abbrev pub LoadsRound : Option (List ℕ) → ℕ → ℕ → Proposing → Type 0
+LoadsRound None id nodes p = p ≡ loaded id nodes 0
+LoadsRound (Some bytes) id nodes p = IsRound bytes p.round × (p ≡ loaded id nodes p.round)
+
+-- the records say what it has promised and voted for, and its round; the rest is as at the start
+pub record IsLoaded (records : Records) (id nodes : ℕ) (m : Mind) : Type 0 where
+  pub number : m.id ≡ id
+  pub of_all : m.nodes ≡ nodes
+  pub accepting : RecordsSay records m.accepting
+  pub learning : m.learning ≡ unlearnt nodes
+  pub proposing : LoadsRound (records key.Round) id nodes m.proposing
+
+-- what a restart makes of a node: it holds what its records leave, or it is down
+pub record Restarts {S : Type 0} (contents : S → Records) (IsHonest : S → Type 0) (reads read_fails : S → S → Type 0)
+    (old : NodeState S) (result : Result (Unit {0}) NodeFault) (new : NodeState S) : Type 0 where
+  pub leaves : new ≡ record old { storage = new.storage; up = new.up }
+  pub up : OnOk result (IsSome new.up × reads old.storage new.storage)
+  pub loads : IsHonest new.storage → OnOk result
+      (IfSome new.up (IsLoaded (contents old.storage) old.id old.nodes))
+  pub down : OnErr result (new.up ≡ None)
+  pub device : IsErrOf result fault.Device → read_fails old.storage new.storage
+  pub other : IfErr result (λ f. (f ≡ fault.Device)
+      ⊎ (((f ≡ fault.Memory) ⊎ (f ≡ fault.Damaged)) × reads old.storage new.storage))

@@ -1,0 +1,78 @@
+-- One node: its records, and what it holds while it is up.
+use Rattle.std.specs.Prelude.{◌≡◌, ℕ, ◌⊎◌, List, Bool, true, false, Option, Some, None, Result, Ok, Err, codes, IfSome, IfOk, IfErr, MatchBool, option_map}
+use Rattle.stable.specs.Records.{Records}
+use Rattle.stable.specs.declared.key.Key.{Key}
+use Rattle.stable.specs.declared.key.Key.TheVariants as key
+use Rattle.acceptor.specs.Accepting.{RecordsSay}
+use Rattle.world.specs.declared.fault.NodeFault.{NodeFault}
+use Rattle.world.specs.declared.fault.NodeFault.TheVariants as fault
+use Rattle.world.specs.declared.input.Input.{Input}
+use Rattle.world.specs.declared.node.Node.{Node}
+use Rattle.world.specs.Faults.{is_stop_fault}
+use Rattle.world.specs.Learning.{unlearnt}
+use Rattle.world.specs.Minds.{Mind, position, refuses, Writes, Takes, HasMade, HasFailedToMake}
+use Rattle.world.specs.Outputs.{Told}
+use Rattle.world.specs.Proposing.{Proposing, loaded}
+use Rattle.world.specs.Rounds.{IsRound}
+use Rattle.world.specs.Running.{mind_of}
+pub use Rattle.world.specs.States.{NodeState}
+
+abbrev pub state_of : {S : Type 0} → Node S → NodeState S
+state_of n = record {
+  id = n.id;
+  nodes = n.nodes;
+  storage = n.storage;
+  up = option_map mind_of n.running;
+}
+
+-- ---- an input comes to a node that is up
+-- it is taken, and the one write that it makes is made
+pub record TakesInput {S : Type 0} (reads : S → S → Type 0) (puts : S → Key → List ℕ → S → Type 0)
+    (old : NodeState S) (m : Mind) (input : Input) (told : Told) (new : NodeState S) : Type 0 where
+  pub mind : Mind
+  pub takes : Takes m input mind told
+  pub made : HasMade reads puts old.storage new.storage (Writes m input)
+  pub leaves : new ≡ record old { storage = new.storage; up = Some mind }
+
+-- it is refused, and nothing changes
+pub record RefusesInput {S : Type 0} (old : NodeState S) (m : Mind) (input : Input) (f : NodeFault)
+    (new : NodeState S) : Type 0 where
+  pub refused : refuses m input ≡ Some f
+  pub leaves : new ≡ old
+
+-- what is left of the storage where the node goes down: the device failed on the write that the input
+-- makes, or memory was wanting, and the write was made or not
+abbrev pub StorageStops : {S : Type 0} → (S → S → Type 0) → (S → Key → List ℕ → S → Type 0)
+    → (S → Key → List ℕ → S → Type 0) → S → Mind → Input → NodeFault → S → Type 0
+StorageStops reads puts fails old m input fault.Device new = HasFailedToMake fails old new (Writes m input)
+StorageStops reads puts fails old m input fault.Memory new =
+    reads old new ⊎ HasMade reads puts old new (Writes m input)
+StorageStops reads puts fails old m input fault.Down new = ⊥
+StorageStops reads puts fails old m input fault.LogFull new = ⊥
+StorageStops reads puts fails old m input fault.RoundsUsedUp new = ⊥
+StorageStops reads puts fails old m input fault.QueueFull new = ⊥
+StorageStops reads puts fails old m input fault.Damaged new = ⊥
+
+-- the node goes down
+pub record StopsOnInput {S : Type 0} (reads : S → S → Type 0) (puts fails : S → Key → List ℕ → S → Type 0)
+    (old : NodeState S) (m : Mind) (input : Input) (f : NodeFault) (new : NodeState S) : Type 0 where
+  pub storage : StorageStops reads puts fails old.storage m input f new.storage
+  pub leaves : new ≡ record old { storage = new.storage; up = None }
+
+-- what a node makes of an input
+pub record NodeSteps {S : Type 0} (reads : S → S → Type 0) (puts fails : S → Key → List ℕ → S → Type 0)
+    (old : NodeState S) (input : Input) (result : Result Told NodeFault) (new : NodeState S) : Type 0 where
+  -- one that is down refuses every input
+  pub down : old.up ≡ None → (result ≡ Err fault.Down) × (new ≡ old)
+  -- one that is up takes it, refuses it or goes down on it
+  pub taken : IfSome old.up (λ m. IfOk result (λ told. TakesInput reads puts old m input told new))
+  pub refused : IfSome old.up (λ m. IfErr result (λ f. MatchBool (is_stop_fault f)
+      (StopsOnInput reads puts fails old m input f new) (RefusesInput old m input f new)))
+  -- what is to be refused is refused
+  pub refuses_ : IfSome old.up (λ m. IfSome (refuses m input) (λ f. result ≡ Err f))
+
+-- what a node answers to a query: its position, and the text
+pub record NodeAnswers {S : Type 0} (node : NodeState S) (result : Result (ℕ × List ℕ) NodeFault) : Type 0 where
+  pub down : node.up ≡ None → result ≡ Err fault.Down
+  pub answer : IfSome node.up (λ m. IfOk result (λ told. told ≡ (position m, codes "count 0")))
+  pub memory : IfSome node.up (λ m. IfErr result (λ f. f ≡ fault.Memory))

@@ -1,0 +1,243 @@
+-- The world: all nodes, everything that was sent, and everything that came of it.
+use Rattle.std.specs.Prelude.{
+  ◌≡◌,
+  ℕ,
+  zero,
+  ◌+◌,
+  ◌<◌,
+  ◌≤◌,
+  List,
+  [],
+  ◌∷◌,
+  ◌++◌,
+  length,
+  replicate,
+  map,
+  slice_get,
+  slice_set,
+  Bool,
+  true,
+  false,
+  Option,
+  Some,
+  None,
+  is_some,
+  is_ok,
+  Result,
+  Ok,
+  Err,
+  option_map,
+  IsSome,
+  IfSome,
+  codes,
+  ◌⊎◌,
+  vec_len,
+  vec_capacity,
+  if◌then◌else◌,
+}
+use Rattle.std.specs.Option.{option_to_list}
+use Rattle.stable.specs.Records.{Records}
+use Rattle.stable.specs.Script.{Script}
+use Rattle.stable.specs.declared.key.Key.{Key}
+use Rattle.stable.specs.declared.scripted.Failing.{Failing}
+use Rattle.wire.specs.Asked.{Asked}
+use Rattle.wire.specs.declared.command.Command.{Command}
+use Rattle.wire.specs.declared.message.Envelope.{Envelope}
+use Rattle.world.specs.declared.event.Event.{Event}
+use Rattle.world.specs.declared.event.Event.TheVariants as event
+use Rattle.world.specs.declared.fault.NodeFault.{NodeFault}
+use Rattle.world.specs.declared.fault.NodeFault.TheVariants as node_fault
+use Rattle.world.specs.declared.input.Input.{Input}
+use Rattle.world.specs.declared.input.Input.TheVariants as input
+use Rattle.world.specs.declared.lists.Submission.{Submission}
+use Rattle.world.specs.declared.lists.Learnt.{Learnt}
+use Rattle.world.specs.declared.lists.Replied.{Replied}
+use Rattle.world.specs.declared.lists.Answered.{Answered}
+use Rattle.world.specs.declared.lists.Outcome.{Outcome}
+use Rattle.world.specs.declared.lists.Outcome.TheVariants.{Done, Lost, Refused, Stopped, Answered as AnsweredOutcome}
+use Rattle.world.specs.declared.outputs.Executed.{Executed}
+use Rattle.world.specs.declared.world.World.{World}
+use Rattle.world.specs.Faults.{is_stop_fault}
+use Rattle.world.specs.Loading.{Restarts}
+use Rattle.world.specs.States.{NodeState}
+use Rattle.world.specs.Nodes.{state_of, NodeSteps, NodeAnswers}
+use Rattle.world.specs.Outputs.{Told, replied_at}
+
+-- all nodes over their storages, and everything that happened
+pub record WorldState (S : Type 0) : Type 0 where
+  pub nodes : List (NodeState (Script S))
+  pub submitted : List Submission
+  pub frames : List Envelope
+  -- which frames wait to be delivered: a flag for each
+  pub waiting : List Bool
+  pub learnt : List Learnt
+  pub replies : List Replied
+  pub answers : List Answered
+  pub outcomes : List Outcome
+
+abbrev pub world_of : {S : Type 0} → World S → WorldState S
+world_of w = record {
+  nodes = map state_of w.nodes.items;
+  submitted = w.submitted.items;
+  frames = w.frames.items;
+  waiting = w.waiting.items;
+  learnt = w.learnt.items;
+  replies = w.replies.items;
+  answers = w.answers.items;
+  outcomes = w.outcomes.items;
+}
+
+-- ---- what a node told joins the lists
+abbrev pub learnt_by : ℕ → Option Command → List Learnt
+learnt_by node None = []
+learnt_by node (Some c) = record { node = node; slot = zero; command = c } ∷ []
+
+abbrev pub replied_by : ℕ → Option Executed → List Replied
+replied_by node None = []
+replied_by node (Some e) = replied_at node e ∷ []
+
+abbrev pub with_outcome : {S : Type 0} → WorldState S → Outcome → WorldState S
+with_outcome w outcome = record w { outcomes = w.outcomes ++ outcome ∷ [] }
+
+abbrev pub with_told : {S : Type 0} → WorldState S → ℕ → Told → WorldState S
+with_told w node told = record w {
+  frames = w.frames ++ told.sends;
+  waiting = w.waiting ++ replicate (length told.sends) true;
+  learnt = w.learnt ++ learnt_by node told.learnt;
+  replies = w.replies ++ replied_by node told.executed;
+  outcomes = w.outcomes ++ Done (is_some told.learnt) (is_some told.executed) ∷ [];
+}
+
+-- a refusal and a failure are told, and nothing else
+abbrev pub outcome_of : ℕ → NodeFault → Outcome
+outcome_of node f = if is_stop_fault f then Stopped node f else Refused node f
+
+-- the world once a node's answer to an input is recorded
+abbrev pub recorded : {S : Type 0} → WorldState S → ℕ → Result Told NodeFault → WorldState S
+recorded w node (Ok told) = with_told w node told
+recorded w node (Err f) = with_outcome w (outcome_of node f)
+
+abbrev pub with_node : {S : Type 0} → WorldState S → ℕ → NodeState (Script S) → WorldState S
+with_node w i n = record w { nodes = slice_set w.nodes i n }
+
+-- ---- a node takes an input, and what it tells is recorded
+pub record TakesAt {S : Type 0} (reads : Script S → Script S → Type 0)
+    (puts fails : Script S → Key → List ℕ → Script S → Type 0)
+    (old : WorldState S) (node : ℕ) (input : Input) (taken : Bool) (new : WorldState S) : Type 0 where
+  pub before : NodeState (Script S)
+  pub here : slice_get old.nodes node ≡ Some before
+  pub after : NodeState (Script S)
+  pub result : Result Told NodeFault
+  pub steps : NodeSteps reads puts fails before input result after
+  pub taken_ : taken ≡ is_ok result
+  pub leaves : new ≡ recorded (with_node old node after) node result
+
+-- ---- room for all that one step may add
+pub record HasRoom {S : Type 0} (w : World S) : Type 0 where
+  pub submitted : vec_len w.submitted + 1 ≤ vec_capacity w.submitted
+  pub frames : vec_len w.frames + 7 ≤ vec_capacity w.frames
+  pub waiting : vec_len w.waiting + 7 ≤ vec_capacity w.waiting
+  pub learnt : vec_len w.learnt + 1 ≤ vec_capacity w.learnt
+  pub replies : vec_len w.replies + 1 ≤ vec_capacity w.replies
+  pub answers : vec_len w.answers + 1 ≤ vec_capacity w.answers
+  pub outcomes : vec_len w.outcomes + 1 ≤ vec_capacity w.outcomes
+
+-- ---- the kinds of step
+-- frame k waits no more
+abbrev pub without_wait : {S : Type 0} → WorldState S → ℕ → WorldState S
+without_wait w k = record w { waiting = slice_set w.waiting k false }
+
+-- the step is made, and there is nothing to tell
+abbrev pub quiet : {S : Type 0} → WorldState S → WorldState S
+quiet w = with_outcome w (Done false false)
+
+-- a request that a node took joins the list of submissions
+abbrev pub with_submission : {S : Type 0} → WorldState S → Bool → ℕ → Asked → WorldState S
+with_submission w taken node r =
+    if taken then record w { submitted = w.submitted ++ record { node = node; request = r } ∷ [] } else w
+
+-- a client's request comes to a node
+pub record SubmitsAt {S : Type 0} (reads : Script S → Script S → Type 0)
+    (puts fails : Script S → Key → List ℕ → Script S → Type 0)
+    (old : WorldState S) (node : ℕ) (r : Asked) (new : WorldState S) : Type 0 where
+  pub taken : Bool
+  pub between : WorldState S
+  pub takes : TakesAt reads puts fails old node (input.Submit r) taken between
+  pub leaves : new ≡ with_submission between taken node r
+
+-- a frame has come: a node that is up takes it, and one that is down loses it
+pub record ReceivesAt {S : Type 0} (reads : Script S → Script S → Type 0)
+    (puts fails : Script S → Key → List ℕ → Script S → Type 0)
+    (old : WorldState S) (frame : Envelope) (new : WorldState S) : Type 0 where
+  pub receiver : NodeState (Script S)
+  pub here : slice_get old.nodes frame.to ≡ Some receiver
+  pub lost : receiver.up ≡ None → new ≡ with_outcome old Lost
+  pub taken : IsSome receiver.up → (taken : Bool)
+      × TakesAt reads puts fails old frame.to (input.Message frame.from frame.message) taken new
+
+-- frame k comes to its receiver, and waits no more
+pub record DeliversFrame {S : Type 0} (reads : Script S → Script S → Type 0)
+    (puts fails : Script S → Key → List ℕ → Script S → Type 0)
+    (old : WorldState S) (k : ℕ) (new : WorldState S) : Type 0 where
+  pub frame : Envelope
+  pub sent : slice_get old.frames k ≡ Some frame
+  pub receives : ReceivesAt reads puts fails (without_wait old k) frame new
+
+-- the next put of a node fails so
+pub record ArmsAt {S : Type 0} (old : WorldState S) (node : ℕ) (failing : Failing) (new : WorldState S) : Type 0 where
+  pub before : NodeState (Script S)
+  pub here : slice_get old.nodes node ≡ Some before
+  pub leaves : new ≡ quiet (with_node old node
+      (record before { storage = record before.storage { armed = Some failing } }))
+
+-- a node's answer to a query joins the list of answers
+abbrev pub with_answer : {S : Type 0} → WorldState S → ℕ → ℕ → List ℕ → WorldState S
+with_answer w node position text = record w {
+  answers = w.answers ++ record { node = node; position = position; text = text } ∷ [];
+  outcomes = w.outcomes ++ AnsweredOutcome ∷ [];
+}
+
+-- a refusal to answer is told, and nothing else
+abbrev pub answered : {S : Type 0} → WorldState S → ℕ → Result (ℕ × List ℕ) NodeFault → WorldState S
+answered w node (Ok told) = with_answer w node told.0 told.1
+answered w node (Err f) = with_outcome w (Refused node f)
+
+-- a node is asked, and is as it was
+pub record AsksAt {S : Type 0} (old : WorldState S) (node : ℕ) (new : WorldState S) : Type 0 where
+  pub asked : NodeState (Script S)
+  pub here : slice_get old.nodes node ≡ Some asked
+  pub result : Result (ℕ × List ℕ) NodeFault
+  pub answers : NodeAnswers asked result
+  pub leaves : new ≡ answered old node result
+
+-- a node restarts
+abbrev pub restart_outcome : ℕ → Result (Unit {0}) NodeFault → Outcome
+restart_outcome node (Ok x) = Done false false
+restart_outcome node (Err f) = Stopped node f
+
+pub record RestartsAt {S : Type 0} (contents : Script S → Records) (IsHonest : Script S → Type 0)
+    (reads read_fails : Script S → Script S → Type 0) (old : WorldState S) (node : ℕ) (new : WorldState S) : Type 0 where
+  pub before : NodeState (Script S)
+  pub here : slice_get old.nodes node ≡ Some before
+  pub after : NodeState (Script S)
+  pub result : Result (Unit {0}) NodeFault
+  pub restarts : Restarts contents IsHonest reads read_fails before result after
+  pub leaves : new ≡ with_outcome (with_node old node after) (restart_outcome node result)
+
+-- ---- one atomic step
+abbrev pub Steps : {S : Type 0} (contents : Script S → Records) (IsHonest : Script S → Type 0)
+    (reads read_fails : Script S → Script S → Type 0) (puts fails : Script S → Key → List ℕ → Script S → Type 0)
+    → WorldState S → Event → WorldState S → Type 0
+Steps contents IsHonest reads read_fails puts fails old (event.Submit node client number op) new =
+    SubmitsAt reads puts fails old node (record { client = client; number = number; op = op }) new
+Steps contents IsHonest reads read_fails puts fails old (event.Deliver k) new =
+    DeliversFrame reads puts fails old k new
+Steps contents IsHonest reads read_fails puts fails old (event.Drop k) new = new ≡ quiet (without_wait old k)
+Steps contents IsHonest reads read_fails puts fails old (event.Timeout node) new =
+    (taken : Bool) × TakesAt reads puts fails old node input.Timeout taken new
+Steps contents IsHonest reads read_fails puts fails old (event.Tick node) new =
+    (taken : Bool) × TakesAt reads puts fails old node input.Tick taken new
+Steps contents IsHonest reads read_fails puts fails old (event.Restart node) new =
+    RestartsAt contents IsHonest reads read_fails old node new
+Steps contents IsHonest reads read_fails puts fails old (event.Fault node failing) new = ArmsAt old node failing new
+Steps contents IsHonest reads read_fails puts fails old (event.Query node query) new = AsksAt old node new

@@ -1,0 +1,87 @@
+//! What a world remembers of its run.
+
+ghost use Rattle.std.specs.Prelude.{◌≡◌};
+
+use super::fault::NodeFault;
+use super::machine::Reply;
+use std::marker::Model;
+use synod::Slot;
+use wire::{Command, NodeId, Number, Request};
+
+/// A request that a node took.
+#[derive(Clone, Debug, Drop, PartialEq, Eq)]
+pub struct Submission {
+    pub node: NodeId,
+    pub request: Request,
+}
+
+/// What a node learnt.
+#[derive(Clone, Debug, Drop, PartialEq, Eq)]
+pub struct Learnt {
+    pub node: NodeId,
+    pub slot: Slot,
+    pub command: Command,
+}
+
+/// A reply to a request that waited at a node. Its position is one more than the slot at which it was executed.
+#[derive(Clone, Debug, Drop, PartialEq, Eq)]
+pub struct Replied {
+    pub node: NodeId,
+    pub client: u8,
+    pub number: Number,
+    pub reply: Reply,
+    pub position: u32,
+}
+
+/// The text of an answer.
+#[derive(Debug, Drop)]
+pub struct Text {
+    bytes: Vec<u8>,
+}
+
+impl Model for Text {
+    ghost use Rattle.std.specs.Prelude.{List, ℕ};
+
+    ghost Value = { List ℕ };
+
+    ghost view = { λ t. t.bytes.items };
+}
+
+impl Text {
+    /// The text of these bytes.
+    pub fn new(bytes: Vec<u8>) -> Text
+        ensures { result ≡ bytes.items }
+    {
+        Text { bytes }
+    }
+
+    /// Its bytes.
+    pub fn as_bytes(&self) -> &[u8]
+        ensures { result.now ≡ self.now }
+    {
+        self.bytes.as_slice()
+    }
+}
+
+/// A node's answer to a query: the text, and the position of which it speaks.
+#[derive(Debug, Drop)]
+pub struct Answered {
+    pub node: NodeId,
+    pub position: u32,
+    pub text: Text,
+}
+
+/// What came of a step. What was learnt, replied and answered stands in the world's lists, in the order of the steps.
+#[derive(Clone, Copy, Debug, PartialEq, Eq)]
+pub enum Outcome {
+    /// The step was made: whether a node learnt a slot by it, and whether a request that waited there has its reply.
+    Done(bool, bool),
+    /// A query was answered.
+    Answered,
+    /// A frame came to a node that is down, and was lost.
+    Lost,
+    /// The node refused, and is as it was.
+    Refused(NodeId, NodeFault),
+    /// The node went down.
+    Stopped(NodeId, NodeFault),
+}
