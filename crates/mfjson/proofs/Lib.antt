@@ -9,3 +9,11 @@ pub mod AsciiTexts
 pub mod Canonical
 pub mod Standing
 pub mod OneFeature
+pub mod Results
+pub mod Counts
+pub mod FirstFaults
+pub mod Lists
+pub mod PlaceLemmas
+pub mod PartLemmas
+pub mod FeatureLemmas
+pub mod NeverBroken

@@ -10,7 +10,7 @@ use Rattle.tpoint.specs.declared.point.Point.{Point}
 use Rattle.mfjson.specs.declared.feature.Feature.{Feature}
 use Rattle.mfjson.specs.Datetime.{ReadsAs}
 use Rattle.mfjson.specs.Pairs.{Pairwise}
-use Rattle.mfjson.specs.Document.{SaysWhen, SaysWhere, IsGeometry, StandsFor, IsDocumentOf, interp_name}
+use Rattle.mfjson.specs.Document.{SaysInstant, SaysWhen, SaysWhere, IsGeometry, StandsFor, IsDocumentOf, interp_name}
 use Rattle.mfjson.proofs.OneText.{instant_of_one}
 
 name_injective : (i j : Interp) → interp_name i ≡ interp_name j → i ≡ j
@@ -40,10 +40,10 @@ same_text a b e = cc
 same_items : (a b : List Data) → array (items_of a) ≡ array (items_of b) → a ≡ b
 same_items a b e = let inside : items_of a ≡ items_of b = cc in items_injective a b inside
 
-same_when : (d : Data) (p q : Point) → SaysWhen d p → SaysWhen d q → p.t ≡ q.t
-same_when d p q a b =
+pub one_instant : (d : Data) (t u : ℕ) → SaysInstant d t → SaysInstant d u → t ≡ u
+one_instant d t u a b =
     let texts = same_text a.text b.text (sym a.is_text ∙ b.is_text) in
-    instant_of_one b.text p.t q.t (subst (λ s. ReadsAs s p.t) texts a.read) b.read
+    instant_of_one b.text t u (subst (λ s. ReadsAs s t) texts a.read) b.read
 
 pairs_injective : (x y u v : Num) →
     array (item (number x) (item (number y) no_items)) ≡ array (item (number u) (item (number v) no_items)) →
@@ -60,7 +60,7 @@ same_where d p q a b =
 same_point : (d e : Data) (p q : Point) → SaysWhen d p → SaysWhen d q → SaysWhere e p → SaysWhere e q → p ≡ q
 same_point d e p q a b c f =
     let place = same_where e p q c f in
-    let when = same_when d p q a b in
+    let when = one_instant d p.t q.t a b in
     λ i. record { t = when i; x = place.0 i; y = place.1 i }
 
 same_points : (ds es : List Data) (ps qs : List Point) → Pairwise SaysWhen ds ps → Pairwise SaysWhen ds qs →
@@ -96,5 +96,5 @@ stands_for_one d f g a b =
 
 pub document_of_one : (text : List ℕ) (f g : Feature) → IsDocumentOf text f → IsDocumentOf text g → f ≡ g
 document_of_one text f g a b =
-    let values = same_Some _ _ (sym a.shown ∙ b.shown) in
+    let values = same_Some _ _ (sym a.shown.read ∙ b.shown.read) in
     stands_for_one b.value f g (subst (λ d. StandsFor d f) values a.stands) b.stands

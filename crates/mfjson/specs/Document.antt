@@ -1,7 +1,7 @@
 -- What a JSON value stands for, and the canonical document of a feature.
-use Rattle.std.specs.Prelude.{◌≡◌, ℕ, ℤ, zero, List, codes, Some}
-use Rattle.serde_json.specs.Data.{Data, number, string, array, object, item, no_items, member, no_members}
-use Rattle.serde_json.specs.Find.{get, as_i64, of_integer}
+use Rattle.std.specs.Prelude.{◌≡◌, ℕ, ℤ, List, codes, Option, Some, None, IsUtf8}
+use Rattle.serde_json.specs.Data.{Data, number, string, array, object, item, no_items, Members, member, no_members}
+use Rattle.serde_json.specs.Find.{get, as_i64, as_object, of_integer}
 use Rattle.serde_json.specs.Read.{read as read_text}
 use Rattle.serde_json.specs.View.{items_of}
 use Rattle.serde_json.specs.Events.{members_len}
@@ -16,29 +16,38 @@ use Rattle.mfjson.specs.declared.feature.Feature.{Feature}
 use Rattle.mfjson.specs.Datetime.{IsDatetime, ReadsAs}
 use Rattle.mfjson.specs.Pairs.{Pairwise}
 
--- how many members a value has
+-- how many members an object has; nothing else has any
+abbrev pub count_in : Option Members → ℕ
+count_in None = 0
+count_in (Some ms) = members_len ms
+
 abbrev pub member_count : Data → ℕ
-member_count (object ms) = members_len ms
-member_count _ = zero
+member_count d = count_in (as_object d)
 
 abbrev pub interp_name : Interp → List ℕ
 interp_name Discrete = codes "Discrete"
 interp_name Step = codes "Step"
 interp_name Linear = codes "Linear"
 
--- the value is a text that may be read as the instant of the point
-pub record SaysWhen (d : Data) (p : Point) : Type 0 where
+-- the value is a text that may be read as the instant t
+pub record SaysInstant (d : Data) (t : ℕ) : Type 0 where
   pub text : List ℕ
   pub is_text : d ≡ string text
-  pub read : ReadsAs text p.t
+  pub read : ReadsAs text t
 
--- the value is an array of the point's two coordinates, each a whole number
-pub record SaysWhere (d : Data) (p : Point) : Type 0 where
+abbrev pub SaysWhen : Data → Point → Type 0
+SaysWhen d p = SaysInstant d p.t
+
+-- the value is an array of two coordinates, each a whole number
+pub record SaysPlace (d : Data) (px py : ℤ) : Type 0 where
   pub x : Num
   pub y : Num
   pub pair : d ≡ array (item (number x) (item (number y) no_items))
-  pub x_is : as_i64 x ≡ Some p.x
-  pub y_is : as_i64 y ≡ Some p.y
+  pub x_is : as_i64 x ≡ Some px
+  pub y_is : as_i64 y ≡ Some py
+
+abbrev pub SaysWhere : Data → Point → Type 0
+SaysWhere d p = SaysPlace d p.x p.y
 
 -- the value is the geometry of a moving point with exactly four members
 pub record IsGeometry (d : Data) (f : Feature) : Type 0 where
@@ -63,13 +72,18 @@ pub record StandsFor (d : Data) (f : Feature) : Type 0 where
   pub id_is : IsId f.id
   pub seq_is : IsValid f.seq
 
--- the text shows such a value
+-- the bytes are a JSON text, in UTF-8, and this is its value
+pub record Shows (text : List ℕ) (d : Data) : Type 0 where
+  pub utf8 : IsUtf8 text
+  pub read : read_text text ≡ Some d
+
+-- the bytes are the text of a value that stands for the feature
 pub record IsDocumentOf (text : List ℕ) (f : Feature) : Type 0 where
   pub value : Data
-  pub shown : read_text text ≡ Some value
+  pub shown : Shows text value
   pub stands : StandsFor value f
 
--- and no value of another feature
+-- and not of another feature
 abbrev pub IsDocumentOfNoOther : List ℕ → Feature → Type 0
 IsDocumentOfNoOther text f = (other : Feature) → IsDocumentOf text other → other ≡ f
 

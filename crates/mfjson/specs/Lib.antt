@@ -2,3 +2,5 @@ pub mod Digits
 pub mod Datetime
 pub mod Pairs
 pub mod Document
+pub mod Faults
+pub mod Outline

@@ -6,11 +6,17 @@
 #![tactic(auto)]
 
 mod datetime;
+#[cfg(test)]
+mod documents;
+mod fault;
 mod feature;
+mod reading;
 #[cfg(test)]
 mod tests;
 mod writing;
 
 pub use datetime::{datetime_read, datetime_text};
+pub use fault::MfFault;
 pub use feature::Feature;
+pub use reading::read;
 pub use writing::write;

@@ -90,21 +90,21 @@ Between-≈ : {s t : Fraction} {a b : ℤ} → s ≈ t → Between a b s → Bet
 Between-≈ e h = record { from = ≤ᶠ-≈ h.from e; to = ≈-≤ᶠ (≈_sym e) h.to }
 
 -- an instant of the period on the leg has a parameter
-time_of : (a b : Point) (p : Span) (t : Fraction) (v : Position) → a.t < b.t → LiesIn t p → OnLeg (vertex a) (vertex b) t v →
+pub time_of : (a b : Point) (p : Span) (t : Fraction) (v : Position) → a.t < b.t → LiesIn t p → OnLeg (vertex a) (vertex b) t v →
     (u : Fraction) × Placed a b u t v × InTime a b p u
 time_of a b p t v later lies on =
     let found = leg_parameter a b t v later on in
     let at = found.1 in
     (found.0, at, record { in_leg = record { from = at.from; to = at.to }; in_period = LiesIn-≈ at.time lies })
 
-value_at : (a b : Point) (p : Span) (u : Fraction) → a.t < b.t → InTime a b p u →
+pub value_at : (a b : Point) (p : Span) (u : Fraction) → a.t < b.t → InTime a b p u →
     OnLeg (vertex a) (vertex b) (instant_at a b u) (place_at a b u)
 value_at a b p u later at = leg_value a b u later at.in_leg.from at.in_leg.to
 
-placed_inside : (a b : Point) (r : Area) (u t : Fraction) (v : Position) → Placed a b u t v → Inside v r → Inside (place_at a b u) r
+pub placed_inside : (a b : Point) (r : Area) (u t : Fraction) (v : Position) → Placed a b u t v → Inside v r → Inside (place_at a b u) r
 placed_inside a b r u t v at i = record { across = Between-≈ at.across i.across; along = Between-≈ at.along i.along }
 
-inside_placed : (a b : Point) (r : Area) (u t : Fraction) (v : Position) → Placed a b u t v → Inside (place_at a b u) r → Inside v r
+pub inside_placed : (a b : Point) (r : Area) (u t : Fraction) (v : Position) → Placed a b u t v → Inside (place_at a b u) r → Inside v r
 inside_placed a b r u t v at i = record { across = Between-≈ (≈_sym at.across) i.across; along = Between-≈ (≈_sym at.along) i.along }
 
 -- ---- what the window of the period tells of the leg

@@ -4,3 +4,4 @@ pub mod WindowLemmas
 pub mod LegLemmas
 pub mod StayLemmas
 pub mod SequenceLemmas
+pub mod EndLemmas

@@ -37,14 +37,14 @@ at_most_of : (m from to n : ℤ) (d k r : ℕ) → n ≡ pos k → d ≡ k + r �
     ((from *ℤ pos d +ℤ (to -ℤ from) *ℤ n) *ℤ pos 1) ≤ℤ (m *ℤ pos d)
 at_most_of m from to n d k r e f h g = rw (e, f) (at_most m from to k r h g)
 
-way_at_least : (m from to : ℤ) (u : Fraction) → InLeg u → m ≤ℤ from → m ≤ℤ to → whole m ≤ᶠ way from to u
+pub way_at_least : (m from to : ℤ) (u : Fraction) → InLeg u → m ≤ℤ from → m ≤ℤ to → whole m ≤ᶠ way from to u
 way_at_least m from to u in_leg h g =
     let k = unsigned_abs u.num in
     let e : u.num ≡ pos k = omega (arith, ints, in_leg.from.cross) in
     let f : u.den ≡ k + (u.den - k) = omega (arith, ints, in_leg.from.cross, in_leg.to.cross) in
     record { cross = at_least_of m from to u.num u.den k (u.den - k) e f h g }
 
-way_at_most : (m from to : ℤ) (u : Fraction) → InLeg u → from ≤ℤ m → to ≤ℤ m → way from to u ≤ᶠ whole m
+pub way_at_most : (m from to : ℤ) (u : Fraction) → InLeg u → from ≤ℤ m → to ≤ℤ m → way from to u ≤ᶠ whole m
 way_at_most m from to u in_leg h g =
     let k = unsigned_abs u.num in
     let e : u.num ≡ pos k = omega (arith, ints, in_leg.from.cross) in

@@ -1,21 +1,19 @@
 -- From the pieces of a moving point to the whole.
 use Rattle.std.proofs.Common.{◌≡◌, ℕ, ◌+◌, ◌<◌, ◌≤◌, inl, inr, true, false, List}
-use Rattle.std.proofs.Common.{[], ◌∷◌, map, length, get_or, slice_get, Some, sym, subst, refl, arith}
+use Rattle.std.proofs.Common.{[], ◌∷◌, map, length, get_or, slice_get, Some, subst, refl, arith}
 use Rattle.std.proofs.lemmas.Bool.{cases_lt}
-use Rattle.std.proofs.lemmas.Option.{slice_get_within, slice_get-get_or}
-use Rattle.std.proofs.lemmas.List.{length-map}
+use Rattle.std.proofs.lemmas.Option.{slice_get-get_or}
 use Rattle.std.specs.List.Sorted.{IsNonDecreasingBy}
 use borrow.Author.Count.{below_more}
-use Rattle.tpoint.proofs.Fractions.{≤ᶠ_trans, ≤ᶠ_of_≈, ≤ᶠ_of_<ᶠ, ≈_sym, moment_le, moment_lt, <ᶠ-≤ᶠ, ≤ᶠ-<ᶠ, <ᶠ_of_≤ᶠ_not}
-use Rattle.tpoint.proofs.PieceLemmas.{mapped, unmap, the_vertex, rises_le, place_within}
-use Rattle.tpoint.specs.Fraction.{Fraction, ◌≈◌, ◌≤ᶠ◌, ◌<ᶠ◌}
-use Rattle.tpoint.specs.Moving.{Position, Vertex, Sequence, HasValue, At, AtListed, Rises, moment, vertex}
+use Rattle.tpoint.proofs.Fractions.{moment_lt, <ᶠ-≤ᶠ, ≤ᶠ-<ᶠ, <ᶠ_of_≤ᶠ_not}
+use Rattle.tpoint.proofs.PieceLemmas.{rises_le, place_within, piece_from, piece_until}
+use Rattle.tpoint.specs.Fraction.{Fraction, ◌<ᶠ◌}
+use Rattle.tpoint.specs.Moving.{Position, Sequence, HasValue, At, Rises, moment, vertex}
 use Rattle.tpoint.specs.Extents.{Span, Area}
 use Rattle.tpoint.specs.Places.{EachAt}
 use Rattle.tpoint.specs.Pieces.{Piece}
 use Rattle.tpoint.specs.declared.point.Point.{Point}
 use Rattle.tpoint.specs.declared.interp.Interp.{Interp}
-use Rattle.tpoint.specs.declared.interp.Interp.TheVariants.{Discrete, Step, Linear}
 use Rattle.predicates.specs.declared.questions.Question.{Question}
 use Rattle.predicates.specs.declared.questions.Question.TheVariants.{Ever, Always}
 use Rattle.predicates.specs.declared.questions.Tri.{Tri}
@@ -26,47 +24,6 @@ use Rattle.predicates.specs.Questions.{Answers, decides}
 -- the values of a list of points
 abbrev pub Whole : Interp → List Point → Fraction → Position → Type 0
 Whole interp ps t v = HasValue interp (map vertex ps) t v
-
--- ---- when a piece has its values
--- not before its own instant
-listed_from : (ps : List Point) (j : ℕ) (p : Point) (t : Fraction) (v : Position) → slice_get ps j ≡ Some p →
-    AtListed (map vertex ps) j t v → moment p.t ≤ᶠ t
-listed_from ps j p t v e h =
-    let P : Vertex → Type 0 = λ w. t ≈ moment w.time in
-    ≤ᶠ_of_≈ (≈_sym (subst P (the_vertex ps j p h.point e h.listed) h.then))
-
-pub piece_from : (interp : Interp) (ps : List Point) (j : ℕ) (p : Point) (t : Fraction) (v : Position) → slice_get ps j ≡ Some p →
-    Piece interp ps j t v → moment p.t ≤ᶠ t
-piece_from Discrete ps j p t v e h = listed_from ps j p t v e h
-piece_from Step ps j p t v e h =
-    let P : Vertex → Type 0 = λ w. moment w.time ≤ᶠ t in
-    subst P (the_vertex ps j p h.point e h.listed) h.reached
-piece_from Linear ps j p t v e h =
-    elim h [
-      | inl b ↦
-          let P : Vertex → Type 0 = λ w. moment w.time ≤ᶠ t in
-          subst P (the_vertex ps j p b.point e b.listed) b.between.begun
-      | inr s ↦ listed_from ps j p t v e s.1
-    ]
-
--- nor after the next one
-pub piece_until : (interp : Interp) (ps : List Point) (j : ℕ) (next : Point) (t : Fraction) (v : Position) → ((k : ℕ) → Rises ps k) →
-    slice_get ps (j + 1) ≡ Some next → Piece interp ps j t v → t ≤ᶠ moment next.t
-piece_until Discrete ps j next t v rise e h =
-    let found = unmap ps j h.point h.listed in
-    let P : Vertex → Type 0 = λ w. t ≈ moment w.time in
-    let then = subst P (sym found.2) h.then in
-    let order = rise j found.0 next found.1 e in
-    ≤ᶠ_trans (≤ᶠ_of_≈ then) ((moment_le found.0.t next.t).0 (omega arith))
-piece_until Step ps j next t v rise e h =
-    ≤ᶠ_of_<ᶠ (h.not_left (j + 1) (vertex next) (omega arith) (mapped ps (j + 1) next e))
-piece_until Linear ps j next t v rise e h =
-    elim h [
-      | inl b ↦
-          let P : Vertex → Type 0 = λ w. t ≤ᶠ moment w.time in
-          subst P (the_vertex ps (j + 1) next b.next e b.next_listed) b.between.not_over
-      | inr s ↦ absurd (omega (arith, s.0, length-map ps vertex, slice_get_within ps (j + 1) next e))
-    ]
 
 -- ---- pieces that do not meet the period
 -- one that ends before it

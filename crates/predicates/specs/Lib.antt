@@ -3,3 +3,4 @@ pub mod Bounds
 pub mod Windows
 pub mod Questions
 pub mod Stays
+pub mod Ends

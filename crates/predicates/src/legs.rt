@@ -10,6 +10,7 @@ ghost use Rattle.predicates.specs.Windows.{InWindow, IsWindowOf, InTime, place_a
 ghost use Rattle.predicates.specs.Questions.{Answers};
 
 use crate::clipping::{at_least, at_most};
+use crate::ends::{is_within, settle, settled};
 use crate::questions::{Question, Tri};
 use crate::windows::Window;
 use tpoint::{Period, Point, Rect};
@@ -23,6 +24,20 @@ const END_COUNTS: bool = true;
 /// What the leg from `a` to `b` answers.
 #[inline(always)]
 pub fn leg(question: Question, a: &Point, b: &Point, period: &Period, area: &Rect) -> Tri
+    requires later { a.now.t < b.now.t }
+    requires a_fits { InBounds a.now }
+    requires b_fits { InBounds b.now }
+    ensures { Answers question (OnLeg (vertex a.now) (vertex b.now)) period.now area.now result }
+{
+    // Most legs lie in a long period and well away from the bounds: they need no window.
+    if is_within(period, a, b) && settle(question, a, b, area) {
+        return settled(question);
+    }
+    clipped(question, a, b, period, area)
+}
+
+/// The same by windows: the part of the leg that is in the period, and then in the rectangle.
+fn clipped(question: Question, a: &Point, b: &Point, period: &Period, area: &Rect) -> Tri
     requires later { a.now.t < b.now.t }
     requires a_fits { InBounds a.now }
     requires b_fits { InBounds b.now }

@@ -8,6 +8,7 @@
 
 mod bounds;
 mod clipping;
+mod ends;
 mod legs;
 mod pieces;
 mod questions;

@@ -57,7 +57,7 @@ fn meets_stay(period: &Period, from: Instant, until: Instant) -> bool
 }
 
 /// Whether the rectangle has the position, its bounds included.
-fn contains(area: &Rect, point: &Point) -> bool
+pub fn contains(area: &Rect, point: &Point) -> bool
     ensures { IsTrue result ↔ Inside (place point.now) area.now }
 {
     let across = is_between(area.x0(), point.x, area.x1());

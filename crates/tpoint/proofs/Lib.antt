@@ -9,3 +9,4 @@ pub mod Parameters
 pub mod Appending
 pub mod ValueLemmas
 pub mod IdTexts
+pub mod Searching

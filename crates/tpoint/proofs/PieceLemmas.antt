@@ -148,3 +148,44 @@ place_within Linear ps i t v h =
       | inl b ↦ let f = unmap ps i b.point b.listed in slice_get_within ps i f.0 f.1
       | inr s ↦ let f = unmap ps i s.1.point s.1.listed in slice_get_within ps i f.0 f.1
     ]
+
+-- ---- when a piece has its values
+-- not before its own instant
+listed_from : (ps : List Point) (j : ℕ) (p : Point) (t : Fraction) (v : Position) → slice_get ps j ≡ Some p →
+    AtListed (map vertex ps) j t v → moment p.t ≤ᶠ t
+listed_from ps j p t v e h =
+    let P : Vertex → Type 0 = λ w. t ≈ moment w.time in
+    ≤ᶠ_of_≈ (≈_sym (subst P (the_vertex ps j p h.point e h.listed) h.then))
+
+pub piece_from : (interp : Interp) (ps : List Point) (j : ℕ) (p : Point) (t : Fraction) (v : Position) → slice_get ps j ≡ Some p →
+    Piece interp ps j t v → moment p.t ≤ᶠ t
+piece_from Discrete ps j p t v e h = listed_from ps j p t v e h
+piece_from Step ps j p t v e h =
+    let P : Vertex → Type 0 = λ w. moment w.time ≤ᶠ t in
+    subst P (the_vertex ps j p h.point e h.listed) h.reached
+piece_from Linear ps j p t v e h =
+    elim h [
+      | inl b ↦
+          let P : Vertex → Type 0 = λ w. moment w.time ≤ᶠ t in
+          subst P (the_vertex ps j p b.point e b.listed) b.between.begun
+      | inr s ↦ listed_from ps j p t v e s.1
+    ]
+
+-- nor after the next one
+pub piece_until : (interp : Interp) (ps : List Point) (j : ℕ) (next : Point) (t : Fraction) (v : Position) → ((k : ℕ) → Rises ps k) →
+    slice_get ps (j + 1) ≡ Some next → Piece interp ps j t v → t ≤ᶠ moment next.t
+piece_until Discrete ps j next t v rise e h =
+    let found = unmap ps j h.point h.listed in
+    let P : Vertex → Type 0 = λ w. t ≈ moment w.time in
+    let then = subst P (sym found.2) h.then in
+    let order = rise j found.0 next found.1 e in
+    ≤ᶠ_trans (≤ᶠ_of_≈ then) ((moment_le found.0.t next.t).0 (omega arith))
+piece_until Step ps j next t v rise e h =
+    ≤ᶠ_of_<ᶠ (h.not_left (j + 1) (vertex next) (omega arith) (mapped ps (j + 1) next e))
+piece_until Linear ps j next t v rise e h =
+    elim h [
+      | inl b ↦
+          let P : Vertex → Type 0 = λ w. t ≤ᶠ moment w.time in
+          subst P (the_vertex ps (j + 1) next b.next e b.next_listed) b.between.not_over
+      | inr s ↦ absurd (omega (arith, s.0, length-map ps vertex, slice_get_within ps (j + 1) next e))
+    ]

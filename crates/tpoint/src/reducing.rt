@@ -7,11 +7,13 @@ ghost use Rattle.tpoint.specs.Signs.{with_sign};
 use crate::Frac;
 
 /// The greatest common divisor.
-fn gcd(a: u128, b: u128) -> u128
+fn gcd(a: u128, b: u64) -> u64
+    requires { 1 ≤ b }
     ensures { IsGcd a b result }
 {
-    let mut x = a;
-    let mut y = b;
+    let mut x = b;
+    // One long division: what it leaves, and all that follows, has 64 bits.
+    let mut y = (a % b as u128) as u64;
     while y != 0 {
         let rest = x % y;
         x = y;
@@ -39,10 +41,10 @@ pub fn reduce(num: i128, den: i64) -> Frac
     ensures { result.num *ℤ den ≡ num *ℤ result.den }
 {
     let size = num.unsigned_abs();
-    let below = den.unsigned_abs() as u128;
+    let below = den.unsigned_abs();
     let divisor = gcd(size, below);
     Frac {
-        num: with_sign_of(size / divisor, num),
+        num: with_sign_of(size / divisor as u128, num),
         den: (below / divisor) as i64,
     }
 }

@@ -1,6 +1,6 @@
 //! The value of a sequence at an instant.
 
-ghost use Rattle.std.specs.Prelude.{◌≡◌, ℕ, ◌^◌, ◌<◌, length};
+ghost use Rattle.std.specs.Prelude.{◌≡◌, ℕ, ◌^◌, ◌<◌, ◌≤◌, length};
 ghost use Rattle.std.specs.Prelude.{pos, ◌+ℤ◌, ◌-ℤ◌, ◌*ℤ◌, ◌≤ℤ◌, unsigned_abs};
 ghost use Rattle.tpoint.specs.Places.{EachAt};
 ghost use Rattle.tpoint.specs.Moving.{IsPlace, OnLeg, Rises, InBounds, moment, vertex};
@@ -10,7 +10,7 @@ ghost use Rattle.tpoint.specs.Pieces.{place, AtPoint, HeldUntil, Piece};
 ghost use Rattle.tpoint.specs.Reduced.{position, Finds};
 
 use crate::reducing::reduce;
-use crate::{Frac, Instant, Interp, Point, Seq};
+use crate::{Frac, Instant, Interp, MOST_POINTS, Point, Seq};
 
 /// What was found at an instant.
 #[derive(Clone, Copy, Debug)]
@@ -29,18 +29,20 @@ impl Seq {
     {
         let interp = self.interp();
         let points = self.points();
-        for i in 0..points.len() {
+        let passed = search(points, t);
+        // A piece from before the last two of these has ended when the last one begins.
+        for i in passed.count.saturating_sub(2)..passed.count {
             let value = piece_value(interp, points, i, t);
             if value.is_some() {
                 return Found {
                     value,
-                    probes: i as u32 + 1,
+                    probes: passed.probes,
                 };
             }
         }
         Found {
             value: None,
-            probes: points.len() as u32,
+            probes: passed.probes,
         }
     }
 
@@ -52,6 +54,36 @@ impl Seq {
     {
         let _ = self.points();
     }
+}
+
+/// How many points are not after an instant, and how many of them were looked at to find out.
+#[derive(Clone, Copy)]
+struct Passed {
+    count: usize,
+    probes: u32,
+}
+
+/// How many of the points are not after the instant, by a binary search.
+fn search(points: &[Point], t: Instant) -> Passed
+    requires increasing { (k : ℕ) → Rises points.now k }
+    requires not_too_many { length points.now ≤ MOST_POINTS }
+    ensures within { result.count ≤ length points.now }
+    ensures passed { (k : ℕ) → k < result.count → EachAt points.now (λ p. p.t ≤ t) k }
+    ensures to_come { (k : ℕ) → result.count ≤ k → EachAt points.now (λ p. t < p.t) k }
+{
+    let mut low = 0;
+    let mut high = points.len();
+    let mut probes = 0;
+    while low < high {
+        let middle = low + (high - low) / 2;
+        probes += 1;
+        if points[middle].t <= t {
+            low = middle + 1;
+        } else {
+            high = middle;
+        }
+    }
+    Passed { count: low, probes }
 }
 
 /// The value of the piece at one of the points.

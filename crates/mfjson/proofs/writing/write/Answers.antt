@@ -9,6 +9,7 @@ use Rattle.mfjson.proofs.Canonical.{canonical_whole}
 use Rattle.mfjson.proofs.Standing.{canonical_stands, canonical_flat}
 use Rattle.serde_json.specs.Data.{depth}
 use Rattle.mfjson.proofs.OneFeature.{document_of_one}
+use Rattle.mfjson.proofs.Results.{both_ok}
 use Rattle.std.specs.Prelude.{IfOk}
 use Rattle.mfjson.proofs.writing.write.Goals as goal
 
@@ -34,11 +35,12 @@ returns c =
       where_to = where_to;
       compact = e whole ∙ ap compact_text shown;
     }) c.to_vec.ensures.text in
+    let reads = both_ok c.to_vec.result _ _ c.to_vec.ensures.utf8 c.to_vec.ensures.reads_back in
     let of_this : IfOk c.to_vec.result (λ text. IsDocumentOf text.items f) = IfOk-weaker c.to_vec.result _ _ (λ text e. record {
       value = canonical f.id name times places;
-      shown = e shallow ∙ ap Some shown;
+      shown = record { utf8 = e.0; read = e.1 shallow ∙ ap Some shown };
       stands = stands;
-    }) c.to_vec.ensures.reads_back in
+    }) reads in
     record {
       canonical = canonical_is;
       of_this = of_this;

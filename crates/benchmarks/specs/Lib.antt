@@ -1,0 +1,6 @@
+pub mod Faults
+pub mod Tasks
+pub mod Sums
+pub mod Scenes
+pub mod Numbers
+pub mod Rounds

@@ -1,0 +1,56 @@
+//! Why nothing is done.
+
+ghost use Rattle.std.specs.Prelude.{◌≡◌};
+ghost use Rattle.benchmarks.specs.Faults.{status_of};
+ghost use Rattle.benchmarks.specs.declared.fault.Fault.TheVariants.{Usage, Memory};
+
+use std::alloc::{AllocError, AllocFailed};
+use thiserror::Error;
+use tpoint::SeqFault;
+
+/// Why a task is not done.
+#[derive(Clone, Copy, Debug, Drop, PartialEq, Eq, Error)]
+pub enum Fault {
+    /// The words ask for no work, or for one of no points or of too many.
+    #[error("usage: benchmarks WORK POINTS ROUNDS, or benchmarks WORK ROUNDS for a single point")]
+    Usage,
+    /// A growth was refused.
+    #[error("out of memory")]
+    Memory,
+}
+
+impl Fault {
+    /// The exit status that tells it.
+    pub fn status(self) -> u8
+        ensures { result ≡ status_of self }
+    {
+        match self {
+            Fault::Usage => 2,
+            Fault::Memory => 3,
+        }
+    }
+}
+
+impl From<AllocError> for Fault {
+    ghost from_gives = { λ _ fault. fault ≡ Memory };
+
+    fn from(_refused: AllocError) -> Fault {
+        Fault::Memory
+    }
+}
+
+impl<T: Drop> From<AllocFailed<T>> for Fault {
+    ghost from_gives = { λ _ fault. fault ≡ Memory };
+
+    fn from(_refused: AllocFailed<T>) -> Fault {
+        Fault::Memory
+    }
+}
+
+impl From<SeqFault> for Fault {
+    ghost from_gives = { λ _ fault. fault ≡ Usage };
+
+    fn from(_refused: SeqFault) -> Fault {
+        Fault::Usage
+    }
+}

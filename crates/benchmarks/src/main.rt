@@ -1,0 +1,81 @@
+//! Timed loops over the queries and the documents.
+//!
+//! `benchmarks WORK POINTS ROUNDS` asks for one work in so many rounds, of a moving point with so
+//! many points, and prints the sum of what was answered, which is the same on every machine. It
+//! reads no clock: `bench/points.py` does.
+//!
+//! `task` reads the words, `scene` makes what is asked and of what, `numbers` has the answers as
+//! numbers, and `rounds` adds them up.
+#![tactic(auto)]
+
+mod fault;
+mod numbers;
+mod rounds;
+mod scene;
+mod task;
+#[cfg(test)]
+mod tests;
+
+ghost use Rattle.std.specs.Prelude.{◌≡◌, ◌≢◌, IfOk};
+ghost use Rattle.benchmarks.specs.Rounds.{IsSumOf};
+ghost use Rattle.std.specs.IoError.{error_kind};
+
+use crate::fault::Fault;
+use crate::rounds::total;
+use crate::scene::Scene;
+use crate::task::{Task, task_of};
+use std::env;
+use std::io::{self, ErrorKind};
+use std::process::ExitCode;
+
+fn main(rt: HostRuntime) -> ExitCode {
+    let task = match own_task(&rt) {
+        Ok(task) => task,
+        Err(fault) => return told(&rt, fault),
+    };
+    match sum(&rt, task) {
+        Ok(sum) => match println!(rt; "{sum}") {
+            Ok(()) => ExitCode::SUCCESS,
+            Err(_) => ExitCode::from(3),
+        },
+        Err(fault) => told(&rt, fault),
+    }
+}
+
+/// What the words after the program's name ask for.
+fn own_task(rt: &HostRuntime) -> Result<Task, Fault> {
+    let all = match env::args(rt) {
+        Ok(all) => all,
+        Err(error) => return Err(words_fault(&error)),
+    };
+    let mut words = Vec::new(rt.alloc());
+    for word in all.skip(1) {
+        words.push(word)?;
+    }
+    task_of(words.as_slice()).ok_or(Fault::Usage)
+}
+
+/// What words that can't be had are to the program: those that are no text ask for nothing.
+fn words_fault(error: &io::Error) -> Fault
+    ensures memory { error_kind error.now ≡ ErrorKind.OutOfMemory → result ≡ Fault.Memory }
+    ensures usage { error_kind error.now ≢ ErrorKind.OutOfMemory → result ≡ Fault.Usage }
+{
+    match error.kind() {
+        ErrorKind::OutOfMemory => Fault::Memory,
+        _ => Fault::Usage,
+    }
+}
+
+/// The sum of what the task's rounds answer.
+fn sum(rt: &HostRuntime, task: Task) -> Result<u64, Fault>
+    ensures { IfOk result (IsSumOf task) }
+{
+    let scene = Scene::new(rt.alloc(), task.points)?;
+    total(rt.alloc(), task.work, &scene, task.rounds)
+}
+
+/// Says why nothing is done, and the status that tells it.
+fn told(rt: &HostRuntime, fault: Fault) -> ExitCode {
+    let _ = eprintln!(rt; "benchmarks: {fault}");
+    ExitCode::from(fault.status())
+}

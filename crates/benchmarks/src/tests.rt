@@ -1,0 +1,88 @@
+//! What no clause says: the sums, which were computed from the definitions by another program, and
+//! which words are read.
+
+use crate::rounds::total;
+use crate::scene::Scene;
+use crate::task::{Work, task_of};
+use Work::{
+    AlwaysMiddle, AlwaysWhole, CutMiddle, CutWhole, Datetimes, EverMiddle, EverWhole, ValueAt,
+    Write,
+};
+use std::test::Fail;
+
+/// A work, how many points it is done on, and the sum of three rounds.
+const SUMS: [(Work, u16, u64); 26] = [
+    (ValueAt, 1, 3),
+    (ValueAt, 2, 3679),
+    (ValueAt, 64, 3679),
+    (ValueAt, 1024, 3679),
+    // Each answer is No, which counts 2.
+    (EverMiddle, 1, 6),
+    (EverMiddle, 2, 6),
+    (EverMiddle, 64, 6),
+    (EverMiddle, 1024, 6),
+    (EverWhole, 2, 6),
+    (EverWhole, 64, 6),
+    (EverWhole, 1024, 6),
+    // Each answer is Yes, which counts 1.
+    (AlwaysMiddle, 2, 3),
+    (AlwaysMiddle, 64, 3),
+    (AlwaysWhole, 2, 3),
+    (AlwaysWhole, 64, 3),
+    (AlwaysWhole, 1024, 3),
+    (CutMiddle, 1, 3),
+    (CutMiddle, 2, 6),
+    (CutMiddle, 64, 6),
+    (CutWhole, 2, 6),
+    (CutWhole, 64, 192),
+    (CutWhole, 1024, 3072),
+    (Write, 2, 600),
+    (Write, 64, 8178),
+    (Write, 1024, 131_946),
+    (Datetimes, 1, 4_733_510_423_757),
+];
+
+#[test]
+fn sums(rt: HostRuntime) -> Result<(), Fail> {
+    for (work, points, want) in SUMS {
+        let scene = Scene::new(rt.alloc(), points)?;
+        let sum = total(rt.alloc(), work, &scene, 3)?;
+        assert_eq!(rt; sum, want, "{work:?} of {points}");
+    }
+    Ok(())
+}
+
+/// Words, and how many points and rounds they ask for.
+const WORDS: [(&[&str], Option<(u16, u32)>); 9] = [
+    (&["value_at", "64", "10"], Some((64, 10))),
+    (&["datetimes", "10"], Some((1, 10))),
+    (&["write", "1024", "0"], Some((1024, 0))),
+    (&[], None),
+    (&["write"], None),
+    (&["writes", "2", "3"], None),
+    (&["write", "2", "3", "4"], None),
+    (&["write", "65536", "3"], None),
+    (&["write", "2", "three"], None),
+];
+
+#[test]
+fn words(rt: HostRuntime) -> Result<(), Fail> {
+    for (texts, want) in WORDS {
+        let mut words = Vec::new(rt.alloc());
+        for text in texts {
+            words.push(String::from_str(rt.alloc(), text)?)?;
+        }
+        let task = task_of(words.as_slice());
+        let read = task.map(|task| (task.points, task.rounds));
+        assert_eq!(rt; read, want, "{texts:?}");
+    }
+    Ok(())
+}
+
+/// No sequence has as many points.
+#[test]
+fn no_scene(rt: HostRuntime) -> Result<(), Fail> {
+    assert_eq!(rt; Scene::new(rt.alloc(), 0).is_err(), true);
+    assert_eq!(rt; Scene::new(rt.alloc(), 1025).is_err(), true);
+    Ok(())
+}

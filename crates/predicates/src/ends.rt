@@ -1,0 +1,59 @@
+//! What the two ends of a leg tell of the whole of it.
+
+ghost use Rattle.std.specs.Prelude.{◌≡◌, ◌≤◌, ◌↔◌, IsTrue};
+ghost use Rattle.predicates.specs.Ends.{AreBeyond, Miss, Settle, settled};
+
+use crate::questions::{Question, Tri};
+use crate::stays::contains;
+use tpoint::{Period, Point, Rect};
+
+/// Whether a leg lies in the period, both of its ends included.
+#[inline(always)]
+pub fn is_within(period: &Period, a: &Point, b: &Point) -> bool
+    ensures { IsTrue result ↔ ((period.now.begin ≤ a.now.t) × (b.now.t ≤ period.now.end)) }
+{
+    period.begin() <= a.t && b.t <= period.end()
+}
+
+/// Whether the ends alone tell that the leg never meets the rectangle, or that it never leaves it.
+#[inline(always)]
+pub fn settle(question: Question, a: &Point, b: &Point, area: &Rect) -> bool
+    ensures { IsTrue result ↔ Settle question a.now b.now area.now }
+{
+    match question {
+        Question::Ever => miss(a, b, area),
+        Question::Always => {
+            let begins_inside = contains(area, a);
+            begins_inside && contains(area, b)
+        }
+    }
+}
+
+/// What the leg answers then.
+#[inline(always)]
+pub fn settled(question: Question) -> Tri
+    ensures { result ≡ settled question }
+{
+    match question {
+        Question::Ever => Tri::No,
+        Question::Always => Tri::Yes,
+    }
+}
+
+/// Whether the ends are beyond one and the same bound of the rectangle.
+#[inline(always)]
+fn miss(a: &Point, b: &Point, area: &Rect) -> bool
+    ensures { IsTrue result ↔ Miss a.now b.now area.now }
+{
+    let across = are_beyond(a.x, b.x, area.x0(), area.x1());
+    let along = are_beyond(a.y, b.y, area.y0(), area.y1());
+    across || along
+}
+
+/// Whether both numbers are below the lower of two bounds, or both are above the upper.
+#[inline(always)]
+fn are_beyond(from: i64, to: i64, low: i64, high: i64) -> bool
+    ensures { IsTrue result ↔ AreBeyond from to low high }
+{
+    (from < low && to < low) || (high < from && high < to)
+}

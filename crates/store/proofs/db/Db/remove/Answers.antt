@@ -1,0 +1,19 @@
+use Rattle.std.proofs.Common.{sym, ◌∙◌}
+use Rattle.store.proofs.EffectLemmas.{remove_known-reply, remove_known-write, remove_unknown-reply, remove_unknown-effect}
+use Rattle.store.proofs.db.Db.remove.Goals as goal
+
+-- the id is unknown
+pub returns-in_default-clause-reply : goal.returns-in_default-clause-reply
+returns-in_default-clause-reply c = sym (remove_unknown-reply c.args.self.now _ _ c.in_default.ensures.absent)
+
+pub returns-in_default-clause-effect : goal.returns-in_default-clause-effect
+returns-in_default-clause-effect c = sym (remove_unknown-effect c.args.self.now _ _ c.in_default.ensures.absent)
+
+-- the id is known, and its feature is taken out
+pub returns-clause-reply : goal.returns-clause-reply
+returns-clause-reply c = sym (remove_known-reply c.args.self.now _ _ c.in-Ok.ensures.found c.remove.result)
+
+pub returns-clause-effect : goal.returns-clause-effect
+returns-clause-effect c =
+    c.remove.ensures.items
+    ∙ remove_known-write c.args.self.now _ _ c.in-Ok.ensures.found c.remove.result _ c.self.view_is
