@@ -66,6 +66,14 @@ votes_say r f v says s =
       | inr ne ↦ vote_elsewhere r v.slot s _ ne ∙ says s ∙ sym (ap (option_map vote_bytes) (put_elsewhere f v.slot s (Some v) ne))
     ]
 
+pub refusing_cases : (p : Option Ballot) (b : Ballot) → ((refusing p b ≡ None) × (rank_of p ≤ rank b)) ⊎ ((q : Ballot) × (refusing p b ≡ Some q))
+refusing_cases None b = inl (refl, omega arith)
+refusing_cases (Some p) b =
+    elim (cases_lt (rank b) (rank p)) [
+      | inl lt ↦ inr (p, rw (lt-ltb _ _ lt) refl)
+      | inr le ↦ inl (rw (le-ltb _ _ le) refl, le)
+    ]
+
 -- ---- what is written under one key
 -- records that are the same say the same
 pub RecordsSay-same : (r q : Records) (a : Accepting) → ((k : Key) → q k ≡ r k) → RecordsSay r a → RecordsSay q a
@@ -76,12 +84,14 @@ RecordsSay-same r q a same says =
       vote_record = λ s. same (key.Vote s) ∙ says.vote_record s;
       at_its_slot = says.at_its_slot;
       promise = says.promise;
+      promised_fits = says.promised_fits;
+      votes_fit = says.votes_fit;
     }
 
 -- a promise in its record that is not below the old one
-pub RecordsSay-promise : (r : Records) (a : Accepting) (b : Ballot) → RecordsSay r a → rank_of a.promise ≤ rank b
+pub RecordsSay-promise : (r : Records) (a : Accepting) (b : Ballot) → BallotFits b → RecordsSay r a → rank_of a.promise ≤ rank b
     → RecordsSay (with_record r key.Promise (ballot_bytes b)) (record a { promise = Some b })
-RecordsSay-promise r a b says le =
+RecordsSay-promise r a b fits says le =
     record {
       promised = Some b;
       promise_record = refl;
@@ -92,12 +102,47 @@ RecordsSay-promise r a b says le =
         not_below_a_vote = λ s. IfSome_then (a.vote s) (says.promise.not_below_a_vote s) (λ v low. omega arith);
         among_them = inl refl;
       };
+      promised_fits = fits;
+      votes_fit = says.votes_fit;
     }
 
+-- the round is not the acceptor's
+pub RecordsSay-round : (r : Records) (a : Accepting) (bytes : List ℕ) → RecordsSay r a → RecordsSay (with_record r key.Round bytes) a
+RecordsSay-round r a bytes says =
+    record {
+      promised = says.promised;
+      promise_record = elsewhere r key.Round key.Promise (Some bytes) (λ e. absurd (omega arith)) ∙ says.promise_record;
+      vote_record = λ s. elsewhere r key.Round (key.Vote s) (Some bytes) (λ e. absurd (omega arith)) ∙ says.vote_record s;
+      at_its_slot = says.at_its_slot;
+      promise = says.promise;
+      promised_fits = says.promised_fits;
+      votes_fit = says.votes_fit;
+    }
+
+-- nor do a promise and a vote touch the round
+pub prepare_leaves_round : (r : Records) (a : Accepting) (b : Ballot) → records_after r (prepare_write a b) key.Round ≡ r key.Round
+prepare_leaves_round r a b =
+    elim (refusing_cases a.promise b) [
+      | inl h ↦ elim (eqb_tells (rank b) (rank_of a.promise)) [ inl same ↦ rw h.0 (rw same.0 refl) | inr apart ↦ rw h.0 (rw apart.0 refl) ]
+      | inr h ↦ rw h.1 refl
+    ]
+
+pub accept_leaves_round : (r : Records) (a : Accepting) (v : Vote Command) (w : Write) → IsAcceptWrite a v w
+    → records_after r w key.Round ≡ r key.Round
+accept_leaves_round r a v None is = refl
+accept_leaves_round r a v (Some w) is =
+    elim (refusing_cases a.promise v.ballot) [
+      | inl h ↦
+          let written : Some w ≡ Some (key.Vote v.slot, vote_bytes v) = is.cast h.0 (λ stands. let none = is.already stands in absurd cc) in
+          subst (λ (x : Write). records_after r x key.Round ≡ r key.Round) (sym written)
+          (elsewhere r (key.Vote v.slot) key.Round (Some (vote_bytes v)) (λ e. absurd (omega arith)))
+      | inr h ↦ (let none : Some w ≡ None = rw h.1 at is.refused in absurd cc)
+    ]
+
 -- a vote in its record whose ballot is not below the promise
-pub RecordsSay-vote : (r : Records) (a : Accepting) (v : Vote Command) → RecordsSay r a → rank_of a.promise ≤ rank v.ballot
+pub RecordsSay-vote : (r : Records) (a : Accepting) (v : Vote Command) → VoteFits v → RecordsSay r a → rank_of a.promise ≤ rank v.ballot
     → RecordsSay (with_record r (key.Vote v.slot) (vote_bytes v)) (record { promise = Some v.ballot; vote = put a.vote v.slot (Some v) })
-RecordsSay-vote r a v says le =
+RecordsSay-vote r a v fits says le =
     record {
       promised = says.promised;
       promise_record = elsewhere r (key.Vote v.slot) key.Promise _ (λ e. absurd (omega arith)) ∙ says.promise_record;
@@ -109,6 +154,8 @@ RecordsSay-vote r a v says le =
             (IfSome_then (a.vote s) (says.promise.not_below_a_vote s) (λ w low. omega arith));
         among_them = inr (v.slot, v, put_here a.vote v.slot v.slot (Some v) refl, refl);
       };
+      promised_fits = says.promised_fits;
+      votes_fit = λ s. IfSome-put a.vote v.slot s v VoteFits (λ e. fits) (says.votes_fit s);
     }
 
 -- ---- records that are seen one after the other
@@ -130,9 +177,9 @@ absent r k fresh q =
 pub RecordsSay-none : (r : Records) (k : Key) (a : Accepting) → r k ≡ None → RecordsSay r a → RecordsSay (with_seen r k None) a
 RecordsSay-none r k a fresh says = RecordsSay-same r (with_seen r k None) a (absent r k fresh) says
 
-low_promise : (r : Records) (a : Accepting) (b : Ballot) → r key.Promise ≡ None → RecordsSay r a → rank b ≤ rank_of a.promise
+low_promise : (r : Records) (a : Accepting) (b : Ballot) → BallotFits b → r key.Promise ≡ None → RecordsSay r a → rank b ≤ rank_of a.promise
     → RecordsSay (with_record r key.Promise (ballot_bytes b)) a
-low_promise r a b fresh says le =
+low_promise r a b fits fresh says le =
     let none : says.promised ≡ None = unmapped ballot_bytes says.promised (sym says.promise_record ∙ fresh) in
     record {
       promised = Some b;
@@ -147,6 +194,8 @@ low_promise r a b fresh says le =
           | inr w ↦ inr w
         ];
       };
+      promised_fits = fits;
+      votes_fit = says.votes_fit;
     }
 
 other : (a : Accepting) (v : Vote Command) (s : ℕ) (w : Vote Command) → a.vote v.slot ≡ None → a.vote s ≡ Some w → s ≡ v.slot → ⊥
@@ -154,9 +203,9 @@ other a v s w none some e =
     let both : a.vote s ≡ None = ap a.vote e ∙ none in
     absurd cc
 
-low_vote : (r : Records) (a : Accepting) (v : Vote Command) → r (key.Vote v.slot) ≡ None → RecordsSay r a → rank v.ballot ≤ rank_of a.promise
+low_vote : (r : Records) (a : Accepting) (v : Vote Command) → VoteFits v → r (key.Vote v.slot) ≡ None → RecordsSay r a → rank v.ballot ≤ rank_of a.promise
     → RecordsSay (with_record r (key.Vote v.slot) (vote_bytes v)) (record a { vote = put a.vote v.slot (Some v) })
-low_vote r a v fresh says le =
+low_vote r a v fits fresh says le =
     let none : a.vote v.slot ≡ None = unmapped vote_bytes (a.vote v.slot) (sym (says.vote_record v.slot) ∙ fresh) in
     record {
       promised = says.promised;
@@ -171,27 +220,29 @@ low_vote r a v fresh says le =
           | inr w ↦ inr (w.0, w.1, put_elsewhere a.vote v.slot w.0 (Some v) (λ e. other a v w.0 w.1 none w.2 e) ∙ w.2, w.3)
         ];
       };
+      promised_fits = says.promised_fits;
+      votes_fit = λ s. IfSome-put a.vote v.slot s v VoteFits (λ e. fits) (says.votes_fit s);
     }
 
 -- record Promise is seen for the first time
-pub RecordsSay-see_promise : (r : Records) (a : Accepting) (b : Ballot) → r key.Promise ≡ None → RecordsSay r a
+pub RecordsSay-see_promise : (r : Records) (a : Accepting) (b : Ballot) → BallotFits b → r key.Promise ≡ None → RecordsSay r a
     → RecordsSay (with_seen r key.Promise (Some (ballot_bytes b))) (record a { promise = raised a.promise b })
-RecordsSay-see_promise r a b fresh says =
+RecordsSay-see_promise r a b fits fresh says =
     elim (raised_cases a.promise b) [
       | inl h ↦ subst (λ (p : Option Ballot). RecordsSay (with_record r key.Promise (ballot_bytes b)) (record a { promise = p })) (sym h.1)
-          (RecordsSay-promise r a b says h.0)
+          (RecordsSay-promise r a b fits says h.0)
       | inr h ↦ subst (λ (p : Option Ballot). RecordsSay (with_record r key.Promise (ballot_bytes b)) (record a { promise = p })) (sym h.1)
-          (low_promise r a b fresh says h.0)
+          (low_promise r a b fits fresh says h.0)
     ]
 
 -- the record of a vote is seen for the first time
-pub RecordsSay-see_vote : (r : Records) (a : Accepting) (v : Vote Command) → r (key.Vote v.slot) ≡ None → RecordsSay r a
+pub RecordsSay-see_vote : (r : Records) (a : Accepting) (v : Vote Command) → VoteFits v → r (key.Vote v.slot) ≡ None → RecordsSay r a
     → RecordsSay (with_seen r (key.Vote v.slot) (Some (vote_bytes v))) (record { promise = raised a.promise v.ballot; vote = put a.vote v.slot (Some v) })
-RecordsSay-see_vote r a v fresh says =
+RecordsSay-see_vote r a v fits fresh says =
     let seen : Option Ballot → Type 0 = λ p. RecordsSay (with_record r (key.Vote v.slot) (vote_bytes v)) (record { promise = p; vote = put a.vote v.slot (Some v) }) in
     elim (raised_cases a.promise v.ballot) [
-      | inl h ↦ subst seen (sym h.1) (RecordsSay-vote r a v says h.0)
-      | inr h ↦ subst seen (sym h.1) (low_vote r a v fresh says h.0)
+      | inl h ↦ subst seen (sym h.1) (RecordsSay-vote r a v fits says h.0)
+      | inr h ↦ subst seen (sym h.1) (low_vote r a v fits fresh says h.0)
     ]
 
 -- an acceptor that holds the same holds what the records say
@@ -209,6 +260,8 @@ RecordsSay-nothing =
       vote_record = λ s. refl;
       at_its_slot = λ s. tt;
       promise = record { not_below_the_record = omega arith; not_below_a_vote = λ s. tt; among_them = inl refl };
+      promised_fits = tt;
+      votes_fit = λ s. tt;
     }
 
 -- ---- records of their form
@@ -223,31 +276,23 @@ vote_of_its_form found slot bytes v e fits spelled =
     subst (λ (o : Option (List ℕ)). IfSome o (IsOfItsForm (key.Vote slot))) (sym e) (v, fits, spelled)
 
 -- ---- a prepare and an accept
-refusing_cases : (p : Option Ballot) (b : Ballot) → ((refusing p b ≡ None) × (rank_of p ≤ rank b)) ⊎ ((q : Ballot) × (refusing p b ≡ Some q))
-refusing_cases None b = inl (refl, omega arith)
-refusing_cases (Some p) b =
-    elim (cases_lt (rank b) (rank p)) [
-      | inl lt ↦ inr (p, rw (lt-ltb _ _ lt) refl)
-      | inr le ↦ inl (rw (le-ltb _ _ le) refl, le)
-    ]
-
 same_promise : (p : Option Ballot) (b : Ballot) → rank b ≡ rank_of p → p ≡ Some b
 same_promise None b e = absurd (begun b (omega arith))
 same_promise (Some p) b e = ap Some (same_rank p b (sym e))
 
-prepare_taken : (r : Records) (a : Accepting) (b : Ballot) → RecordsSay r a → rank_of a.promise ≤ rank b
+prepare_taken : (r : Records) (a : Accepting) (b : Ballot) → BallotFits b → RecordsSay r a → rank_of a.promise ≤ rank b
     → RecordsSay (records_after r (if rank b == rank_of a.promise then None else Some (key.Promise, ballot_bytes b))) (record a { promise = Some b })
-prepare_taken r a b says le =
+prepare_taken r a b fits says le =
     elim (eqb_tells (rank b) (rank_of a.promise)) [
       | inl same ↦ rw same.0 (subst (λ (p : Option Ballot). RecordsSay r (record a { promise = p })) (same_promise a.promise b same.1) says)
-      | inr apart ↦ rw apart.0 (RecordsSay-promise r a b says le)
+      | inr apart ↦ rw apart.0 (RecordsSay-promise r a b fits says le)
     ]
 
 -- records that say what an acceptor holds say so after a prepare and its write
-pub prepare_kept : (r : Records) (a : Accepting) (b : Ballot) → RecordsSay r a → RecordsSay (records_after r (prepare_write a b)) (after_prepare a b)
-prepare_kept r a b says =
+pub prepare_kept : (r : Records) (a : Accepting) (b : Ballot) → BallotFits b → RecordsSay r a → RecordsSay (records_after r (prepare_write a b)) (after_prepare a b)
+prepare_kept r a b fits says =
     elim (refusing_cases a.promise b) [
-      | inl h ↦ rw h.0 (prepare_taken r a b says h.1)
+      | inl h ↦ rw h.0 (prepare_taken r a b fits says h.1)
       | inr h ↦ rw h.1 says
     ]
 
@@ -271,26 +316,28 @@ vote_stands r a v says le stands =
         not_below_a_vote = λ s. IfSome_then (a.vote s) (says.promise.not_below_a_vote s) (λ w low. omega arith);
         among_them = inr (v.slot, v, stands, refl);
       };
+      promised_fits = says.promised_fits;
+      votes_fit = says.votes_fit;
     })
 
-accept_taken : (r : Records) (a : Accepting) (v : Vote Command) (w : Write) → IsAcceptWrite a v w → RecordsSay r a → refusing a.promise v.ballot ≡ None
+accept_taken : (r : Records) (a : Accepting) (v : Vote Command) (w : Write) → VoteFits v → IsAcceptWrite a v w → RecordsSay r a → refusing a.promise v.ballot ≡ None
     → rank_of a.promise ≤ rank v.ballot → RecordsSay (records_after r w) (record { promise = Some v.ballot; vote = put a.vote v.slot (Some v) })
-accept_taken r a v None is says taken le =
+accept_taken r a v None fits is says taken le =
     elim (is.nothing refl) [
       | inl refused ↦ (let none : IsSome {T = Ballot} None = rw taken at refused in absurd cc)
       | inr stands ↦ vote_stands r a v says le stands
     ]
-accept_taken r a v (Some w) is says taken le =
+accept_taken r a v (Some w) fits is says taken le =
     let written : Some w ≡ Some (key.Vote v.slot, vote_bytes v) = is.cast taken (λ stands. let none = is.already stands in absurd cc) in
     subst (λ (x : Write). RecordsSay (records_after r x) (record { promise = Some v.ballot; vote = put a.vote v.slot (Some v) })) (sym written)
-    (RecordsSay-vote r a v says le)
+    (RecordsSay-vote r a v fits says le)
 
 -- records that say what an acceptor holds say so after an accept and its write
-pub accept_kept : (r : Records) (a : Accepting) (v : Vote Command) (w : Write) → IsAcceptWrite a v w → RecordsSay r a
+pub accept_kept : (r : Records) (a : Accepting) (v : Vote Command) (w : Write) → VoteFits v → IsAcceptWrite a v w → RecordsSay r a
     → RecordsSay (records_after r w) (after_accept a v)
-accept_kept r a v w is says =
+accept_kept r a v w fits is says =
     elim (refusing_cases a.promise v.ballot) [
-      | inl h ↦ rw h.0 (accept_taken r a v w is says h.0 h.1)
+      | inl h ↦ rw h.0 (accept_taken r a v w fits is says h.0 h.1)
       | inr h ↦
           let none : w ≡ None = rw h.1 at is.refused in
           rw h.1 (subst (λ (x : Write). RecordsSay (records_after r x) a) (sym none) says)

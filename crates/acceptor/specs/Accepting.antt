@@ -26,6 +26,7 @@ use Rattle.stable.specs.declared.key.Key.TheVariants as key
 use Rattle.wire.specs.declared.command.Command.{Command}
 use Rattle.acceptor.specs.declared.answer.Answer.{Answer}
 use Rattle.acceptor.specs.declared.answer.Answer.TheVariants.{Promise, Accepted, Nack}
+use Rattle.acceptor.specs.Forms.{BallotFits, VoteFits}
 use Rattle.acceptor.specs.Spelling.{ballot_bytes, vote_bytes}
 
 -- an acceptor's promise, and its vote at each slot
@@ -58,6 +59,9 @@ pub record RecordsSay (records : Key → Option (List ℕ)) (a : Accepting) : Ty
   pub vote_record : (s : ℕ) → records (key.Vote s) ≡ option_map vote_bytes (a.vote s)
   pub at_its_slot : (s : ℕ) → IfSome (a.vote s) (λ v. v.slot ≡ s)
   pub promise : IsGreatest promised a.vote a.promise
+  -- each fits its record, so that no two are spelled alike
+  pub promised_fits : IfSome promised BallotFits
+  pub votes_fit : (s : ℕ) → IfSome (a.vote s) VoteFits
 
 -- ---- a ballot is refused or promised
 -- the promise that refuses the ballot: the acceptor's, where the ballot is below it

@@ -1,5 +1,6 @@
 pub mod Accepting
 pub mod Forms
 pub mod Loading
+pub mod Protocol
 pub mod Spelling
 pub mod State

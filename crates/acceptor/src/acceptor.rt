@@ -12,7 +12,7 @@ ghost use Rattle.acceptor.specs.Accepting.{Write, RecordsSay, refusing, put};
 ghost use Rattle.acceptor.specs.Accepting.{prepare_answer, prepare_write, after_prepare};
 ghost use Rattle.acceptor.specs.Accepting.{accept_answer, after_accept, IsAcceptWrite};
 ghost use Rattle.acceptor.specs.Accepting.{HasWritten, HasFailed};
-ghost use Rattle.acceptor.specs.Forms.{IsOfItsForm, AreOfTheirForm, HasDamagedRecord};
+ghost use Rattle.acceptor.specs.Forms.{BallotFits, VoteFits, IsOfItsForm, AreOfTheirForm, HasDamagedRecord};
 ghost use Rattle.acceptor.specs.Loading.{raised, with_seen};
 ghost use Rattle.acceptor.specs.State.{accepting_of, vote_at};
 ghost use Rattle.stable.specs.declared.key.Key.TheVariants as key;
@@ -106,6 +106,7 @@ impl Acceptor {
 
     /// Takes in what record Promise says.
     fn take_promise(&mut self, found: Option<Ballot>)
+        requires { IfSome found BallotFits }
         ensures { (seen : Records) → seen key.Promise ≡ None
             → RecordsSay seen (accepting_of self.old)
             → RecordsSay (with_seen seen key.Promise (option_map ballot_bytes found))
@@ -118,6 +119,7 @@ impl Acceptor {
 
     /// Takes in what the record of a slot says.
     fn take_vote(&mut self, slot: Slot, found: Option<Cast>) -> Result<(), AllocError>
+        requires { IfSome found (λ cast. VoteFits (vote_at slot cast)) }
         ensures { OnOk result ((seen : Records) → seen (key.Vote slot) ≡ None
             → RecordsSay seen (accepting_of self.old)
             → RecordsSay (with_seen seen (key.Vote slot)

@@ -7,16 +7,17 @@ ghost use Rattle.stable.specs.Records.{Records};
 ghost use Rattle.acceptor.specs.Accepting.{Accepting, Write, RecordsSay, records_after};
 ghost use Rattle.acceptor.specs.Accepting.{prepare_write, after_prepare};
 ghost use Rattle.acceptor.specs.Accepting.{IsAcceptWrite, after_accept};
+ghost use Rattle.acceptor.specs.Forms.{BallotFits, VoteFits};
 
 /// Records that say what an acceptor holds say so after a prepare and its write.
 pub fn prepare_keeps_records()
-    ensures { (records : Records) (a : Accepting) (b : Ballot) → RecordsSay records a
+    ensures { (records : Records) (a : Accepting) (b : Ballot) → BallotFits b → RecordsSay records a
         → RecordsSay (records_after records (prepare_write a b)) (after_prepare a b) }
 {}
 
 /// Records that say what an acceptor holds say so after an accept and its write.
 pub fn accept_keeps_records()
     ensures { (records : Records) (a : Accepting) (v : Vote Command) (w : Write)
-        → IsAcceptWrite a v w → RecordsSay records a
+        → VoteFits v → IsAcceptWrite a v w → RecordsSay records a
         → RecordsSay (records_after records w) (after_accept a v) }
 {}

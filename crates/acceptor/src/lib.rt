@@ -2,6 +2,7 @@
 #![tactic(auto)]
 
 mod acceptor;
+mod allowed;
 mod answer;
 mod cast;
 mod kept;
@@ -10,6 +11,7 @@ mod records;
 mod spelling;
 
 pub use acceptor::Acceptor;
+pub use allowed::{accept_is_allowed, prepare_is_allowed, records_say_one};
 pub use answer::Answer;
 pub use kept::{accept_keeps_records, prepare_keeps_records};
 

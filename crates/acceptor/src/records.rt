@@ -1,7 +1,7 @@
 //! From a storage's records to votes and ballots.
 
 ghost use Rattle.std.specs.Prelude.{◌≡◌, IfSome, IfOk, OnOk, IsErrOf, option_map};
-ghost use Rattle.acceptor.specs.Forms.{IsOfItsForm, HasDamagedRecord};
+ghost use Rattle.acceptor.specs.Forms.{BallotFits, VoteFits, IsOfItsForm, HasDamagedRecord};
 ghost use Rattle.acceptor.specs.Spelling.{ballot_bytes, vote_bytes};
 ghost use Rattle.acceptor.specs.State.{vote_at};
 
@@ -20,6 +20,7 @@ pub(super) fn promised<S: Stable>(
         S.contents storage.old Key.Promise ≡ option_map ballot_bytes found) }
     ensures form { S.IsHonest storage.new → OnOk result
         (IfSome (S.contents storage.old Key.Promise) (IsOfItsForm Key.Promise)) }
+    ensures fits { IfOk result (λ found. IfSome found BallotFits) }
     ensures reads { OnOk result (S.reads storage.old storage.new) }
 
     // Each error.
@@ -49,6 +50,7 @@ pub(super) fn voted<S: Stable>(
         ≡ option_map vote_bytes (option_map (vote_at slot) found)) }
     ensures form { S.IsHonest storage.new → OnOk result
         (IfSome (S.contents storage.old (Key.Vote slot)) (IsOfItsForm (Key.Vote slot))) }
+    ensures fits { IfOk result (λ found. IfSome found (λ cast. VoteFits (vote_at slot cast))) }
     ensures reads { OnOk result (S.reads storage.old storage.new) }
 
     // Each error.

@@ -1,10 +1,12 @@
 -- What a node holds that has just loaded its records.
 use Rattle.std.specs.Prelude.{◌≡◌, ℕ, ◌⊎◌, List, Option, Some, None, Result, IsSome, IfSome, OnOk, OnErr, IfErr, IsErrOf}
+use Rattle.std.specs.Option.{ForSome}
 use Rattle.stable.specs.Records.{Records}
 use Rattle.stable.specs.declared.key.Key.TheVariants as key
 use Rattle.acceptor.specs.Accepting.{RecordsSay}
 use Rattle.world.specs.declared.fault.NodeFault.{NodeFault}
 use Rattle.world.specs.declared.fault.NodeFault.TheVariants as fault
+use Rattle.world.specs.Fleets.{IsMindOf}
 use Rattle.world.specs.Learning.{unlearnt}
 use Rattle.world.specs.Minds.{Mind}
 use Rattle.world.specs.States.{NodeState}
@@ -28,6 +30,7 @@ pub record IsLoaded (records : Records) (id nodes : ℕ) (m : Mind) : Type 0 whe
 pub record Restarts {S : Type 0} (contents : S → Records) (IsHonest : S → Type 0) (reads read_fails : S → S → Type 0)
     (old : NodeState S) (result : Result (Unit {0}) NodeFault) (new : NodeState S) : Type 0 where
   pub leaves : new ≡ record old { storage = new.storage; up = new.up }
+  pub own : ForSome new.up (IsMindOf old.id old.nodes)
   pub up : OnOk result (IsSome new.up × reads old.storage new.storage)
   pub loads : IsHonest new.storage → OnOk result
       (IfSome new.up (IsLoaded (contents old.storage) old.id old.nodes))

@@ -80,7 +80,7 @@ refuses_submit m r =
 abbrev pub refuses_timeout : Mind → Option NodeFault
 refuses_timeout m =
     if is_full m then Some fault.LogFull
-    else if next_round m.proposing == 2 ^ 64 then Some fault.RoundsUsedUp
+    else if nat_le (2 ^ 64) (next_round m.proposing) then Some fault.RoundsUsedUp
     else None
 
 abbrev pub refuses : Mind → Input → Option NodeFault

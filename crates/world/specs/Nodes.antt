@@ -9,6 +9,7 @@ use Rattle.world.specs.declared.fault.NodeFault.TheVariants as fault
 use Rattle.world.specs.declared.input.Input.{Input}
 use Rattle.world.specs.declared.node.Node.{Node}
 use Rattle.world.specs.Faults.{is_stop_fault}
+use Rattle.world.specs.Fitting.{InputFits}
 use Rattle.world.specs.Learning.{unlearnt}
 use Rattle.world.specs.Minds.{Mind, position, refuses, Writes, Takes, HasMade, HasFailedToMake}
 use Rattle.world.specs.Outputs.{Told}
@@ -62,6 +63,8 @@ pub record StopsOnInput {S : Type 0} (reads : S → S → Type 0) (puts fails : 
 -- what a node makes of an input
 pub record NodeSteps {S : Type 0} (reads : S → S → Type 0) (puts fails : S → Key → List ℕ → S → Type 0)
     (old : NodeState S) (input : Input) (result : Result Told NodeFault) (new : NodeState S) : Type 0 where
+  -- what comes is of its type
+  pub fits : InputFits input
   -- one that is down refuses every input
   pub down : old.up ≡ None → (result ≡ Err fault.Down) × (new ≡ old)
   -- one that is up takes it, refuses it or goes down on it

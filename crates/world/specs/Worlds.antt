@@ -56,7 +56,7 @@ use Rattle.world.specs.declared.lists.Answered.{Answered}
 use Rattle.world.specs.declared.lists.Outcome.{Outcome}
 use Rattle.world.specs.declared.lists.Outcome.TheVariants.{Done, Lost, Refused, Stopped, Answered as AnsweredOutcome}
 use Rattle.world.specs.declared.outputs.Executed.{Executed}
-use Rattle.world.specs.declared.world.World.{World}
+use Rattle.world.specs.declared.run.Run.{Run}
 use Rattle.world.specs.Faults.{is_stop_fault}
 use Rattle.world.specs.Loading.{Restarts}
 use Rattle.world.specs.States.{NodeState}
@@ -75,8 +75,8 @@ pub record WorldState (S : Type 0) : Type 0 where
   pub answers : List Answered
   pub outcomes : List Outcome
 
-abbrev pub world_of : {S : Type 0} → World S → WorldState S
-world_of w = record {
+abbrev pub run_of : {S : Type 0} → Run S → WorldState S
+run_of w = record {
   nodes = map state_of w.nodes.items;
   submitted = w.submitted.items;
   frames = w.frames.items;
@@ -133,7 +133,7 @@ pub record TakesAt {S : Type 0} (reads : Script S → Script S → Type 0)
   pub leaves : new ≡ recorded (with_node old node after) node result
 
 -- ---- room for all that one step may add
-pub record HasRoom {S : Type 0} (w : World S) : Type 0 where
+pub record HasRoom {S : Type 0} (w : Run S) : Type 0 where
   pub submitted : vec_len w.submitted + 1 ≤ vec_capacity w.submitted
   pub frames : vec_len w.frames + 7 ≤ vec_capacity w.frames
   pub waiting : vec_len w.waiting + 7 ≤ vec_capacity w.waiting

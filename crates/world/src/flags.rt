@@ -1,13 +1,15 @@
 //! Lists of flags.
 
-ghost use Rattle.std.specs.Prelude.{◌≡◌, ℕ, ◌≤◌, ◌<◌, length, slice_get, Some, true, false};
+ghost use Rattle.std.specs.Prelude.{◌≡◌, ◌≤◌, ◌<◌, length, slice_get, Some, true};
+ghost use Rattle.world.specs.Waiting.{NoneWaitsBelow};
 
-/// The first place at or after `from` whose flag is set; past the end where there is none.
+/// The first place from `from` on whose flag is set, where none below `from` is; the length where none is set.
 pub fn first_set(flags: &[bool], from: usize) -> usize
+    requires none_below { NoneWaitsBelow flags.now from }
+    requires within { from ≤ length flags.now }
     ensures set { result < length flags.now → slice_get flags.now result ≡ Some true }
-    ensures not_before { from ≤ result }
-    ensures first { (k : ℕ) → from ≤ k → k < result → k < length flags.now
-        → slice_get flags.now k ≡ Some false }
+    ensures first { NoneWaitsBelow flags.now result }
+    ensures within { result ≤ length flags.now }
 {
     let mut index = from;
     while index < flags.len() && !flags[index] {

@@ -1,11 +1,14 @@
 //! All nodes of a run in one process, and everything that happened in it.
 #![tactic(auto)]
 
+mod allowed;
 mod campaign;
 mod event;
+mod explaining;
 mod fault;
 mod flags;
 mod input;
+mod laws;
 mod learner;
 mod lists;
 mod log;
@@ -15,13 +18,18 @@ mod node;
 mod outputs;
 mod proposer;
 mod rounds;
+mod run;
 mod running;
 mod sends;
+mod start;
 mod telling;
+#[cfg(test)]
+mod tests;
 mod world;
 
 pub use event::{Event, Query};
 pub use fault::{NodeFault, WorldFault};
+pub use laws::lists_are_as_told;
 pub use lists::{Answered, Learnt, Outcome, Replied, Submission, Text};
 pub use log::{LOG_SLOTS, MOST_DELIVERIES, MOST_WAITING};
 pub use machine::Reply;

@@ -24,12 +24,13 @@ pub struct Node<S> {
 }
 
 impl<S: Stable> Node<S> {
+    ghost use Rattle.world.specs.Fleets.{IsMember};
     ghost use Rattle.world.specs.Loading.{IsLoaded, Restarts};
     ghost use Rattle.world.specs.Nodes.{state_of, NodeSteps, NodeAnswers};
 
     /// A node over these records, which it loads. It begins down where they can't be loaded.
     pub fn start(alloc: Global, storage: S, id: NodeId, nodes: Nodes) -> Node<S>
-        ensures named { ((state_of result).id ≡ id) × ((state_of result).nodes ≡ nodes) }
+        ensures member { IsMember id nodes (state_of result) }
         ensures loads { S.IsHonest (state_of result).storage → IfSome (state_of result).up
             (IsLoaded (S.contents storage) id nodes) }
         ensures up { IsSome (state_of result).up → S.reads storage (state_of result).storage }
@@ -75,6 +76,7 @@ impl<S: Stable> Node<S> {
         ensures steps { NodeSteps S.reads S.puts S.fails (state_of self.old) input result (state_of self.new) }
         ensures few { IfOk result (λ told. length told.sends ≤ MOST_NODES) }
     {
+        input.look();
         let Some(running) = &mut self.running else {
             return Err(NodeFault::Down);
         };

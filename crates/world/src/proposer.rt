@@ -4,6 +4,7 @@ ghost use Rattle.std.specs.Prelude.{◌≡◌, ◌≤◌, ◌<◌, ◌^◌, ◌+
 ghost use Rattle.std.specs.List.{list_any};
 ghost use Rattle.byteorder.specs.Endian.{big_bytes};
 ghost use Rattle.stable.specs.declared.key.Key.TheVariants as key;
+ghost use Rattle.world.specs.Fleets.{IsProposerOf};
 ghost use Rattle.world.specs.Rounds.{IsRound};
 ghost use Rattle.world.specs.Proposing.{loaded, is_of, next_round, StartsCampaign, HearsPromise, HearsRefusal, filled, fill_sends, closed, sends_again};
 
@@ -55,6 +56,7 @@ impl Proposer {
         id: NodeId,
         nodes: Nodes,
     ) -> Result<Proposer, StableFault>
+        ensures own { IfOk result (IsProposerOf id nodes) }
         ensures reads { OnOk result (S.reads storage.old storage.new) }
         ensures round { S.IsHonest storage.new → IfOk result (λ p.
             MatchOption (S.contents storage.old key.Round) (p ≡ loaded id nodes 0)
@@ -107,7 +109,7 @@ impl Proposer {
 
     /// Whether a campaign could have a round of its own.
     pub fn has_round_left(&self) -> bool
-        ensures { result ≡ not (next_round self.now == 2 ^ 64) }
+        ensures { result ≡ not (nat_le (2 ^ 64) (next_round self.now)) }
     {
         self.round.max(self.refused) != u64::MAX
     }
@@ -125,7 +127,7 @@ impl Proposer {
 
         // Each error.
         ensures used_up { IsErrOf result NodeFault.RoundsUsedUp
-            → (next_round self.old ≡ 2 ^ 64) × (self.new ≡ self.old) × (storage.new ≡ storage.old) }
+            → (2 ^ 64 ≤ next_round self.old) × (self.new ≡ self.old) × (storage.new ≡ storage.old) }
         ensures device { IsErrOf result NodeFault.Device
             → S.fails storage.old key.Round (big_bytes 8 (next_round self.old)) storage.new }
         ensures memory { IsErrOf result NodeFault.Memory → S.reads storage.old storage.new }

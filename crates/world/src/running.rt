@@ -35,6 +35,7 @@ pub struct Running {
 
 impl Running {
     ghost use Rattle.world.specs.Running.{mind_of};
+    ghost use Rattle.world.specs.Fleets.{IsMindOf};
     ghost use Rattle.world.specs.Loading.{IsLoaded};
     ghost use Rattle.world.specs.Outputs.{sent};
     ghost use Rattle.world.specs.Minds.{position, refuses, refuses_submit, refuses_timeout, Writes, WritesOnMessage, Takes, TakesMessage, answer_sends, one_send};
@@ -48,6 +49,7 @@ impl Running {
     ) -> Result<Running, StableFault>
         ensures loads { S.IsHonest storage.new → IfOk result (λ running.
             IsLoaded (S.contents storage.old) id nodes (mind_of running)) }
+        ensures own { IfOk result (λ running. IsMindOf id nodes (mind_of running)) }
         ensures reads { OnOk result (S.reads storage.old storage.new) }
 
         // Each error.

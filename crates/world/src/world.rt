@@ -1,109 +1,108 @@
-//! The world: all nodes, everything that was sent, and everything that came of it.
+//! The world: all nodes of a run, everything that happened in it, and what is promised of that.
 
-ghost use Rattle.std.specs.Prelude.{◌≡◌, ◌≤◌, ◌<◌, ◌+◌, ◌++◌, ◌∷◌, [], ◌↔◌, ℕ, true, length, vec_len, vec_capacity, Some, None, OnOk, OnErr, IsOk, IsErrOf, ◌⊎◌, Bool, IfOk, IfErr, IfSome, IsTrue, is_ok, slice_get, MatchBool};
-ghost use Rattle.world.specs.Outputs.{replied_at};
+ghost use Rattle.std.specs.Prelude.{◌≡◌, ◌≤◌, ◌↔◌, ◌⊎◌, length, slice_get, IsNone, OnOk, OnErr, IfOk, IfErr, IfSome, IsErrOf};
+ghost use Rattle.world.specs.Waiting.{NoneWaits, OneWaits};
+ghost use Rattle.world.specs.Worlds.{run_of};
+ghost use Rattle.world.specs.Safety.{IsSoundIfHonest, contents_inside, honest_inside};
 
-use super::event::{Event, Query};
-use super::fault::{NodeFault, WorldFault};
-use super::flags::first_set;
-use super::input::Input;
-use super::lists::{Answered, Learnt, Outcome, Replied, Submission, Text};
+use super::event::Event;
+use super::fault::WorldFault;
+use super::lists::{Answered, Learnt, Outcome, Replied, Submission};
 use super::log::MOST_DELIVERIES;
-use super::node::Node;
-use super::outputs::{Executed, Outputs};
-use stable::{Failing, MemStable, Put, Scripted, Stable};
+use super::run::Run;
+use stable::{MemStable, Put, Scripted, Stable};
 use std::alloc::Global;
-use synod::{MOST_NODES, Slot};
-use wire::{Envelope, NodeId, Nodes, Request};
+use wire::{Envelope, NodeId, Nodes};
 
 /// All nodes of a run, over storages of one kind.
+///
+/// As long as every storage is honest: no two commands are chosen for one slot, whatever any node learnt is chosen, and
+/// one list of commands, each a no-op or a request that a node took, explains everything that any node told. Whatever is
+/// learnt is its entry, and every reply and every answer at a position is that of one plain database that executed so
+/// many of its entries, each request once.
 #[derive(Drop)]
-pub struct World<S> {
-    nodes: Vec<Node<Scripted<S>>>,
-    submitted: Vec<Submission>,
-    frames: Vec<Envelope>,
-    // Which frames wait to be delivered. No frame below `lowest` waits.
-    waiting: Vec<bool>,
-    lowest: usize,
-    learnt: Vec<Learnt>,
-    replies: Vec<Replied>,
-    answers: Vec<Answered>,
-    outcomes: Vec<Outcome>,
-    ghost flags: { vec_len waiting ≡ vec_len frames },
+pub struct World<S: Stable> {
+    run: Run<S>,
+    ghost sound: { ∥ IsSoundIfHonest (contents_inside S.contents) (honest_inside S.IsHonest) (run_of run) ∥₁ },
 }
 
 impl World<MemStable> {
+    ghost use Rattle.world.specs.Seen.{world_of};
+    ghost use Rattle.world.specs.Flushing.{IsStart};
+    ghost use Rattle.world.specs.Reaching.{AreHonest};
+    ghost use Rattle.world.specs.Safety.{IsSafe};
+
     /// A world of so many nodes over empty records in memory. `Memory` is its only fault.
     pub fn new(alloc: Global, count: Nodes) -> Result<World<MemStable>, WorldFault>
+        ensures start { IfOk result (λ w. IsStart (⟦<Scripted<MemStable> as Stable>⟧.contents) count (world_of w)) }
         ensures faults { IfErr result (λ f. f ≡ WorldFault.Memory) }
+        ensures safe { IfOk result (λ w. AreHonest (⟦<Scripted<MemStable> as Stable>⟧.IsHonest) (world_of w).nodes
+            → ∥ IsSafe (world_of w) ∥₁) }
     {
-        let mut nodes = Vec::with_capacity(alloc, usize::from(count.count()))?;
-        for value in 0..count.count() {
-            let id = count.node(value);
-            let _ = nodes.push(Node::start(
-                alloc,
-                Scripted::new(alloc, MemStable::new(alloc)),
-                id,
-                count,
-            ));
-        }
-        Ok(World {
-            nodes,
-            submitted: Vec::new(alloc),
-            frames: Vec::new(alloc),
-            waiting: Vec::new(alloc),
-            lowest: 0,
-            learnt: Vec::new(alloc),
-            replies: Vec::new(alloc),
-            answers: Vec::new(alloc),
-            outcomes: Vec::new(alloc),
-        })
+        let run = Run::new(alloc, count)?;
+        Ok(World { run })
     }
 }
 
 impl<S: Stable> World<S> {
-    ghost use Rattle.world.specs.Worlds.{world_of, with_told, with_outcome, outcome_of, TakesAt, SubmitsAt, ArmsAt, AsksAt, ReceivesAt, DeliversFrame, RestartsAt, Steps, with_answer, quiet, without_wait, HasRoom};
+    ghost use Rattle.world.specs.Seen.{world_of};
+    ghost use Rattle.world.specs.Worlds.{Steps};
+    ghost use Rattle.world.specs.Events.{NamesNoFrame, NamesNoNode};
+    ghost use Rattle.world.specs.Flushing.{Delivers, DeliversSome};
+    ghost use Rattle.world.specs.Reaching.{AreHonest};
+    ghost use Rattle.world.specs.Safety.{IsSafe};
 
     /// The requests that nodes took.
     pub fn submitted(&self) -> &[Submission]
         ensures { result.now ≡ (world_of self.now).submitted }
     {
-        self.submitted.as_slice()
+        self.run.submitted()
     }
 
     /// Every frame that was sent.
     pub fn frames(&self) -> &[Envelope]
         ensures { result.now ≡ (world_of self.now).frames }
     {
-        self.frames.as_slice()
+        self.run.frames()
     }
 
     /// What nodes learnt.
     pub fn learnt(&self) -> &[Learnt]
         ensures { result.now ≡ (world_of self.now).learnt }
     {
-        self.learnt.as_slice()
+        self.run.learnt()
     }
 
     /// The replies to requests.
     pub fn replies(&self) -> &[Replied]
         ensures { result.now ≡ (world_of self.now).replies }
     {
-        self.replies.as_slice()
+        self.run.replies()
     }
 
     /// The answers to queries.
     pub fn answers(&self) -> &[Answered]
         ensures { result.now ≡ (world_of self.now).answers }
     {
-        self.answers.as_slice()
+        self.run.answers()
     }
 
-    /// What came of each step.
+    /// What came of each step. Whoever looks knows that all of it is safe.
     pub fn outcomes(&self) -> &[Outcome]
-        ensures { result.now ≡ (world_of self.now).outcomes }
+        ensures outcomes { result.now ≡ (world_of self.now).outcomes }
+        ensures safe { AreHonest (⟦<Scripted<S> as Stable>⟧.IsHonest) (world_of self.now).nodes
+            → ∥ IsSafe (world_of self.now) ∥₁ }
     {
-        self.outcomes.as_slice()
+        self.run.outcomes()
+    }
+
+    /// The puts that took effect at a node, the oldest first; None where the run has no such node.
+    pub fn writes(&self, node: NodeId) -> Option<&[Put]>
+        ensures no_node { IsNone result ↔ (length (world_of self.now).nodes ≤ node) }
+        ensures writes { IfSome result (λ puts. IfSome (slice_get (world_of self.now).nodes node) (λ n.
+            puts.now ≡ n.storage.writes)) }
+    {
+        self.run.writes(node)
     }
 
     /// One atomic step. After a fault the world is as it was.
@@ -113,371 +112,44 @@ impl<S: Stable> World<S> {
             (⟦<Scripted<S> as Stable>⟧.read_fails) (⟦<Scripted<S> as Stable>⟧.puts)
             (⟦<Scripted<S> as Stable>⟧.fails) (world_of self.old) event (world_of self.new)) }
         ensures err { OnErr result (world_of self.new ≡ world_of self.old) }
+
+        // Each fault.
+        ensures no_frame { IsErrOf result WorldFault.NoSuchMessage
+            ↔ NamesNoFrame (length (world_of self.old).frames) event }
+        ensures no_node { IsErrOf result WorldFault.NoSuchNode
+            ↔ NamesNoNode (length (world_of self.old).nodes) event }
+        ensures faults { IfErr result (λ f. (f ≡ WorldFault.NoSuchMessage) ⊎ (f ≡ WorldFault.NoSuchNode)
+            ⊎ (f ≡ WorldFault.Memory)) }
+
+        // Whatever came of it.
+        ensures safe { AreHonest (⟦<Scripted<S> as Stable>⟧.IsHonest) (world_of self.new).nodes
+            → ∥ IsSafe (world_of self.new) ∥₁ }
     {
-        match event {
-            Event::Submit {
-                node,
-                client,
-                number,
-                op,
-            } => self.submit(alloc, node, Request::new(client, number, op)),
-            Event::Deliver(frame) => self.deliver(alloc, frame),
-            Event::Drop(frame) => self.drop_frame(frame),
-            Event::Timeout(node) => self.input(alloc, node, Input::Timeout),
-            Event::Tick(node) => self.input(alloc, node, Input::Tick),
-            Event::Restart(node) => self.restart(alloc, node),
-            Event::Fault(node, failing) => self.arm(node, failing),
-            Event::Query(node, query) => self.query(alloc, node, &query),
-        }
+        self.run.step(alloc, event)
     }
 
     /// Delivers the lowest waiting frame until none waits: how many. What was delivered before a fault stays so.
     pub fn flush(&mut self, alloc: Global) -> Result<u32, WorldFault>
-        ensures most { IfOk result (λ delivered. delivered ≤ MOST_DELIVERIES) }
-    {
-        for delivered in 0..MOST_DELIVERIES {
-            match self.next_waiting() {
-                Some(frame) => self.deliver(alloc, frame)?,
-                None => return Ok(delivered),
-            }
-        }
-        match self.next_waiting() {
-            Some(_) => Err(WorldFault::FlushLimit),
-            None => Ok(MOST_DELIVERIES),
-        }
-    }
-
-    // The lowest frame that waits. One that waits no more never waits again, so the search goes on where it ended.
-    fn next_waiting(&mut self) -> Option<u64>
-        ensures same { world_of self.new ≡ world_of self.old }
-        ensures waits { IfSome result (λ frame. slice_get (world_of self.old).waiting frame ≡ Some true) }
-    {
-        self.lowest = first_set(self.waiting.as_slice(), self.lowest);
-        if self.lowest < self.waiting.len() {
-            Some(self.lowest as u64)
-        } else {
-            None
-        }
-    }
-
-    // A client's request comes to a node.
-    fn submit(&mut self, alloc: Global, node: NodeId, request: Request) -> Result<(), WorldFault>
-        ensures submits { OnOk result (SubmitsAt (⟦<Scripted<S> as Stable>⟧.reads)
+        ensures delivers { IfOk result (λ n. Delivers (⟦<Scripted<S> as Stable>⟧.reads)
             (⟦<Scripted<S> as Stable>⟧.puts) (⟦<Scripted<S> as Stable>⟧.fails)
-            (world_of self.old) node request (world_of self.new)) }
-        ensures err { OnErr result (world_of self.new ≡ world_of self.old) }
-        ensures no_node { IsErrOf result WorldFault.NoSuchNode ↔ (length (world_of self.old).nodes ≤ node) }
-        ensures faults { IfErr result (λ f. (f ≡ WorldFault.NoSuchNode) ⊎ (f ≡ WorldFault.Memory)) }
-    {
-        self.find(node)?;
-        self.reserve()?;
-        let copy = request.try_clone()?;
-        if self.take(alloc, node, Input::Submit(request)) {
-            let _ = self.submitted.push(Submission {
-                node,
-                request: copy,
-            });
-        }
-        Ok(())
-    }
+            (world_of self.old) n (world_of self.new)) }
+        ensures to_the_end { OnOk result (NoneWaits (world_of self.new).waiting) }
+        ensures most { IfOk result (λ n. n ≤ MOST_DELIVERIES) }
 
-    // Anything but a frame or a client's request comes to a node.
-    fn input(&mut self, alloc: Global, node: NodeId, input: Input) -> Result<(), WorldFault>
-        ensures takes { OnOk result ((taken : Bool) × TakesAt (⟦<Scripted<S> as Stable>⟧.reads)
+        // What a fault leaves.
+        ensures limit { IsErrOf result WorldFault.FlushLimit → Delivers (⟦<Scripted<S> as Stable>⟧.reads)
             (⟦<Scripted<S> as Stable>⟧.puts) (⟦<Scripted<S> as Stable>⟧.fails)
-            (world_of self.old) node input taken (world_of self.new)) }
-        ensures err { OnErr result (world_of self.new ≡ world_of self.old) }
-        ensures no_node { IsErrOf result WorldFault.NoSuchNode ↔ (length (world_of self.old).nodes ≤ node) }
-        ensures faults { IfErr result (λ f. (f ≡ WorldFault.NoSuchNode) ⊎ (f ≡ WorldFault.Memory)) }
-    {
-        self.find(node)?;
-        self.reserve()?;
-        let _taken = self.take(alloc, node, input);
-        Ok(())
-    }
-
-    // A frame comes to its receiver.
-    fn deliver(&mut self, alloc: Global, frame: u64) -> Result<(), WorldFault>
-        ensures delivers { OnOk result (DeliversFrame (⟦<Scripted<S> as Stable>⟧.reads)
+            (world_of self.old) MOST_DELIVERIES (world_of self.new) }
+        ensures memory { IsErrOf result WorldFault.Memory → DeliversSome (⟦<Scripted<S> as Stable>⟧.reads)
             (⟦<Scripted<S> as Stable>⟧.puts) (⟦<Scripted<S> as Stable>⟧.fails)
-            (world_of self.old) frame (world_of self.new)) }
-        ensures err { OnErr result (world_of self.new ≡ world_of self.old) }
-        ensures no_frame { IsErrOf result WorldFault.NoSuchMessage
-            ↔ (length (world_of self.old).frames ≤ frame) }
-        ensures faults { IfErr result (λ f. (f ≡ WorldFault.NoSuchMessage) ⊎ (f ≡ WorldFault.NoSuchNode)
-            ⊎ (f ≡ WorldFault.Memory)) }
-    {
-        let index = self.sent(frame)?;
-        let envelope = self.frames[index].try_clone()?;
-        self.find(envelope.to)?;
-        self.reserve()?;
-        self.stop_waiting(index);
-        self.receive(alloc, envelope);
-        Ok(())
-    }
+            (world_of self.old) MOST_DELIVERIES (world_of self.new) }
+        ensures not_to_the_end { OnErr result (OneWaits (world_of self.new).waiting) }
+        ensures faults { IfErr result (λ f. (f ≡ WorldFault.FlushLimit) ⊎ (f ≡ WorldFault.Memory)) }
 
-    // A frame has come: a node that is up takes it, and one that is down loses it.
-    fn receive(&mut self, alloc: Global, envelope: Envelope)
-        requires there { envelope.to < vec_len self.old.nodes }
-        requires room { HasRoom self.old }
-        ensures { ReceivesAt (⟦<Scripted<S> as Stable>⟧.reads) (⟦<Scripted<S> as Stable>⟧.puts)
-            (⟦<Scripted<S> as Stable>⟧.fails) (world_of self.old) envelope (world_of self.new) }
+        // Whatever came of it.
+        ensures safe { AreHonest (⟦<Scripted<S> as Stable>⟧.IsHonest) (world_of self.new).nodes
+            → ∥ IsSafe (world_of self.new) ∥₁ }
     {
-        let Envelope { from, to, message } = envelope;
-        let at = &self.nodes[usize::from(to.value())];
-        if !at.is_up() {
-            let _ = self.outcomes.push(Outcome::Lost);
-            return;
-        }
-        let _taken = self.take(alloc, to, Input::Message(from, message));
-    }
-
-    // A frame waits no more.
-    fn drop_frame(&mut self, frame: u64) -> Result<(), WorldFault>
-        ensures drops { OnOk result (world_of self.new ≡ quiet (without_wait (world_of self.old) frame)) }
-        ensures err { OnErr result (world_of self.new ≡ world_of self.old) }
-        ensures no_frame { IsErrOf result WorldFault.NoSuchMessage
-            ↔ (length (world_of self.old).frames ≤ frame) }
-        ensures faults { IfErr result (λ f. (f ≡ WorldFault.NoSuchMessage) ⊎ (f ≡ WorldFault.Memory)) }
-    {
-        let index = self.sent(frame)?;
-        self.reserve()?;
-        self.waiting[index] = false;
-        let _ = self.outcomes.push(QUIET);
-        Ok(())
-    }
-
-    // The next put of a node fails so.
-    fn arm(&mut self, node: NodeId, failing: Failing) -> Result<(), WorldFault>
-        ensures arms { OnOk result (ArmsAt (world_of self.old) node failing (world_of self.new)) }
-        ensures err { OnErr result (world_of self.new ≡ world_of self.old) }
-        ensures no_node { IsErrOf result WorldFault.NoSuchNode ↔ (length (world_of self.old).nodes ≤ node) }
-        ensures faults { IfErr result (λ f. (f ≡ WorldFault.NoSuchNode) ⊎ (f ≡ WorldFault.Memory)) }
-    {
-        self.find(node)?;
-        self.reserve()?;
-        self.arm_node(node, failing);
-        Ok(())
-    }
-
-    // A node is asked for what its database holds.
-    fn query(&mut self, alloc: Global, node: NodeId, query: &Query) -> Result<(), WorldFault>
-        ensures asks { OnOk result (AsksAt (world_of self.old) node (world_of self.new)) }
-        ensures err { OnErr result (world_of self.new ≡ world_of self.old) }
-        ensures no_node { IsErrOf result WorldFault.NoSuchNode ↔ (length (world_of self.old).nodes ≤ node) }
-        ensures faults { IfErr result (λ f. (f ≡ WorldFault.NoSuchNode) ⊎ (f ≡ WorldFault.Memory)) }
-    {
-        self.find(node)?;
-        self.reserve()?;
-        self.ask(alloc, node, query);
-        Ok(())
-    }
-
-    // A node's next put fails so.
-    fn arm_node(&mut self, node: NodeId, failing: Failing)
-        requires there { node < vec_len self.old.nodes }
-        requires room { HasRoom self.old }
-        ensures { ArmsAt (world_of self.old) node failing (world_of self.new) }
-    {
-        let at = &mut self.nodes[usize::from(node.value())];
-        at.arm(failing);
-        let _ = self.outcomes.push(QUIET);
-    }
-
-    // A node answers, and its answer joins the list.
-    fn ask(&mut self, alloc: Global, node: NodeId, query: &Query)
-        requires there { node < vec_len self.old.nodes }
-        requires room { HasRoom self.old }
-        ensures { AsksAt (world_of self.old) node (world_of self.new) }
-    {
-        let at = &self.nodes[usize::from(node.value())];
-        match at.query(alloc, query) {
-            Ok((position, text)) => self.answer(node, position, text),
-            Err(fault) => {
-                let _ = self.outcomes.push(Outcome::Refused(node, fault));
-            }
-        }
-    }
-
-    // An answer joins the list.
-    fn answer(&mut self, node: NodeId, position: u32, text: Text)
-        requires room { HasRoom self.old }
-        ensures { world_of self.new ≡ with_answer (world_of self.old) node position text }
-    {
-        let _ = self.answers.push(Answered {
-            node,
-            position,
-            text,
-        });
-        let _ = self.outcomes.push(Outcome::Answered);
-    }
-
-    // A frame waits no more.
-    fn stop_waiting(&mut self, index: usize)
-        requires there { index < vec_len self.old.frames }
-        requires room { HasRoom self.old }
-        ensures stops { world_of self.new ≡ without_wait (world_of self.old) index }
-        ensures nodes { self.new.nodes ≡ self.old.nodes }
-        ensures room { HasRoom self.new }
-    {
-        self.waiting[index] = false;
-    }
-
-    // A node loses what is not in its records, and loads these.
-    fn restart(&mut self, alloc: Global, node: NodeId) -> Result<(), WorldFault>
-        ensures restarts { OnOk result (RestartsAt (⟦<Scripted<S> as Stable>⟧.contents)
-            (⟦<Scripted<S> as Stable>⟧.IsHonest) (⟦<Scripted<S> as Stable>⟧.reads)
-            (⟦<Scripted<S> as Stable>⟧.read_fails) (world_of self.old) node (world_of self.new)) }
-        ensures err { OnErr result (world_of self.new ≡ world_of self.old) }
-        ensures no_node { IsErrOf result WorldFault.NoSuchNode ↔ (length (world_of self.old).nodes ≤ node) }
-        ensures faults { IfErr result (λ f. (f ≡ WorldFault.NoSuchNode) ⊎ (f ≡ WorldFault.Memory)) }
-    {
-        self.find(node)?;
-        self.reserve()?;
-        self.restart_node(alloc, node);
-        Ok(())
-    }
-
-    // A node restarts, and what came of it is told.
-    fn restart_node(&mut self, alloc: Global, node: NodeId)
-        requires there { node < vec_len self.old.nodes }
-        requires room { HasRoom self.old }
-        ensures { RestartsAt (⟦<Scripted<S> as Stable>⟧.contents) (⟦<Scripted<S> as Stable>⟧.IsHonest)
-            (⟦<Scripted<S> as Stable>⟧.reads) (⟦<Scripted<S> as Stable>⟧.read_fails)
-            (world_of self.old) node (world_of self.new) }
-    {
-        let at = &mut self.nodes[usize::from(node.value())];
-        match at.restart(alloc) {
-            Ok(()) => {
-                let _ = self.outcomes.push(QUIET);
-            }
-            Err(fault) => {
-                let _ = self.outcomes.push(Outcome::Stopped(node, fault));
-            }
-        }
-    }
-
-    // Whether the run has the node.
-    fn find(&self, node: NodeId) -> Result<(), WorldFault>
-        ensures found { OnOk result (node < vec_len self.now.nodes) }
-        ensures no_node { IfErr result (λ f. (f ≡ WorldFault.NoSuchNode) × (vec_len self.now.nodes ≤ node)) }
-    {
-        if usize::from(node.value()) < self.nodes.len() {
-            Ok(())
-        } else {
-            Err(WorldFault::NoSuchNode)
-        }
-    }
-
-    // Where the frame of this number stands.
-    fn sent(&self, frame: u64) -> Result<usize, WorldFault>
-        ensures found { IfOk result (λ index. (index ≡ frame) × (index < vec_len self.now.frames)) }
-        ensures no_frame { IfErr result (λ f.
-            (f ≡ WorldFault.NoSuchMessage) × (vec_len self.now.frames ≤ frame)) }
-    {
-        let Ok(index) = usize::try_from(frame) else {
-            return Err(WorldFault::NoSuchMessage);
-        };
-        if index < self.frames.len() {
-            Ok(index)
-        } else {
-            Err(WorldFault::NoSuchMessage)
-        }
-    }
-
-    // A node takes an input, and what it tells joins the lists: whether it took it.
-    fn take(&mut self, alloc: Global, node: NodeId, input: Input) -> bool
-        requires there { node < vec_len self.old.nodes }
-        requires room { HasRoom self.old }
-        ensures taken { TakesAt (⟦<Scripted<S> as Stable>⟧.reads) (⟦<Scripted<S> as Stable>⟧.puts)
-            (⟦<Scripted<S> as Stable>⟧.fails) (world_of self.old) node input result (world_of self.new) }
-        ensures submitted { self.new.submitted ≡ self.old.submitted }
-    {
-        let at = &mut self.nodes[usize::from(node.value())];
-        match at.step(alloc, input) {
-            Ok(outputs) => {
-                self.record(node, outputs);
-                true
-            }
-            Err(fault) => {
-                self.fail(node, fault);
-                false
-            }
-        }
-    }
-
-    // Room for all that one step may add, so that nothing is refused once a node has made it.
-    fn reserve(&mut self) -> Result<(), WorldFault>
-        ensures same { world_of self.new ≡ world_of self.old }
-        ensures room { OnOk result (HasRoom self.new) }
-        ensures memory { IfErr result (λ fault. fault ≡ WorldFault.Memory) }
-    {
-        self.submitted.try_reserve(1)?;
-        self.frames.try_reserve(usize::from(MOST_NODES))?;
-        self.waiting.try_reserve(usize::from(MOST_NODES))?;
-        self.learnt.try_reserve(1)?;
-        self.replies.try_reserve(1)?;
-        self.answers.try_reserve(1)?;
-        self.outcomes.try_reserve(1)?;
-        Ok(())
-    }
-
-    // The outputs of a node join the lists.
-    fn record(&mut self, node: NodeId, outputs: Outputs)
-        requires room { HasRoom self.old }
-        requires few { length outputs.sends ≤ MOST_NODES }
-        ensures lists { world_of self.new ≡ with_told (world_of self.old) node outputs }
-        ensures submitted { self.new.submitted ≡ self.old.submitted }
-    {
-        let Outputs {
-            learnt,
-            executed,
-            mut sends,
-        } = outputs;
-        let outcome = Outcome::Done(learnt.is_some(), executed.is_some());
-        if let Some(command) = learnt {
-            let slot = Slot::first();
-            let _ = self.learnt.push(Learnt {
-                node,
-                slot,
-                command,
-            });
-        }
-        if let Some(executed) = executed {
-            let _ = self.replies.push(replied(node, executed));
-        }
-        let _ = self.frames.append(&mut sends);
-        let _ = self.waiting.resize(self.frames.len(), true);
-        let _ = self.outcomes.push(outcome);
-    }
-
-    // A node has refused, or went down.
-    fn fail(&mut self, node: NodeId, fault: NodeFault)
-        requires room { HasRoom self.old }
-        ensures lists { world_of self.new ≡ with_outcome (world_of self.old) (outcome_of node fault) }
-        ensures submitted { self.new.submitted ≡ self.old.submitted }
-    {
-        let outcome = if fault.is_stop() {
-            Outcome::Stopped(node, fault)
-        } else {
-            Outcome::Refused(node, fault)
-        };
-        let _ = self.outcomes.push(outcome);
+        self.run.flush(alloc)
     }
 }
-
-// A reply, at the position of the one slot.
-fn replied(node: NodeId, executed: Executed) -> Replied
-    ensures { result ≡ replied_at node executed }
-{
-    Replied {
-        node,
-        client: executed.client,
-        number: executed.number,
-        reply: executed.reply,
-        position: 1,
-    }
-}
-
-// The step was made, and there is nothing to tell.
-const QUIET: Outcome = Outcome::Done(false, false);

@@ -1,10 +1,11 @@
-use Rattle.std.proofs.Common.{◌≡◌, ℕ, ◌-◌, ◌≤◌, ◌<◌, length, slice_get, Some, false}
+use Rattle.std.proofs.Common.{◌-◌, ◌≤◌, length}
+use Rattle.world.specs.Waiting.{NoneWaitsBelow}
 use Rattle.world.proofs.flags.first_set.Given as goal
 
 abbrev pub invariant-loop-index : goal.invariant-loop-index
 invariant-loop-index l = record {
-  after : l.initial.index ≤ l.index;
-  unset : (k : ℕ) → l.initial.index ≤ k → k < l.index → k < length l.flags → slice_get l.flags k ≡ Some false;
+  none_below : NoneWaitsBelow l.flags l.index;
+  within : l.index ≤ length l.flags;
 }
 
 abbrev pub decreases-loop-index : goal.decreases-loop-index

@@ -11,6 +11,6 @@ pub returns-in-Some : goal.returns-in-Some
 returns-in-Some c = λ seen fresh says.
     let a = accepting_of c.args.self.now in
     let ballot = c.in-Some.ballot in
-    let there = RecordsSay-see_promise seen a ballot fresh says in
+    let there = RecordsSay-see_promise seen a ballot (rw c.in-Some.is at c.requires) fresh says in
     rw c.in-Some.is (RecordsSay-holds _ (record a { promise = raised a.promise ballot }) (accepting_of c.raise.new.self) c.raise.ensures.promise
     (λ s. ap (λ m. option_map (vote_at s) (get nat_cmp m s)) c.raise.ensures.votes) there)

@@ -14,7 +14,7 @@ returns-in_ok-insert c = λ seen fresh says.
     let a = accepting_of c.args.self.now in
     let cast = c.in-Some.cast in
     let vote = vote_at c.args.slot cast in
-    let there = RecordsSay-see_vote seen a vote fresh says in
+    let there = RecordsSay-see_vote seen a vote (rw c.in-Some.is at c.requires) fresh says in
     let updates = rw c.raise.ensures.votes at c.in_ok-insert.ensures.updates in
     rw c.in-Some.is (RecordsSay-holds _ (record { promise = raised a.promise vote.ballot; vote = put a.vote vote.slot (Some vote) })
     (accepting_of (record { promise = c.raise.new.self.promise; votes = c.insert.new.self })) c.raise.ensures.promise

@@ -1,0 +1,126 @@
+-- What an acceptor does is allowed by the protocol.
+use Rattle.std.proofs.Common.{◌≡◌, ℕ, ◌≤◌, List, [], ◌∷◌, ◌++◌, Option, Some, None, Contains, inl, inr, refl, sym, ap, ◌∙◌, subst, arith, le_refl}
+use Rattle.std.specs.Option.{option_to_list}
+use Rattle.std.proofs.lemmas.Bool.Decides.{eqb_tells}
+use Rattle.std.proofs.lemmas.List.Elements.{Contains-push, Contains-push_cases}
+use Rattle.synod.specs.Ballots.{rank, rank_of}
+use Rattle.synod.specs.declared.ballot.Ballot.{Ballot}
+use Rattle.synod.specs.declared.vote.Vote.{Vote}
+use Rattle.synod.specs.Messages.{Frame, Plain, Promise, Accept, Accepted, to_first}
+use Rattle.synod.specs.Records.{TellsVotes, with_promise, with_vote}
+use Rattle.synod.specs.Records.{put as put_one}
+use Rattle.synod.specs.Acts as act
+use Rattle.synod.specs.Acts.{Fleet, Input, Local, Brings}
+use Rattle.synod.proofs.Doing.{does_nothing, does_one, does_then, confirms_to_first}
+use Rattle.synod.proofs.Puts.{put_same}
+use Rattle.synod.proofs.Thinking.{none_in}
+use Rattle.wire.specs.declared.command.Command.{Command}
+use Rattle.acceptor.specs.Accepting.{Accepting, put, prepare_answer, after_prepare, accept_answer, after_accept}
+use Rattle.acceptor.specs.Protocol.{RecordsStand, MayWrite, MayAnswer, answer_frames}
+use Rattle.acceptor.proofs.RecordLemmas.{refusing_cases}
+
+-- the one vote that an option holds
+one_told : (o : Option (Vote Command)) (v : Vote Command) → o ≡ Some v → Contains (option_to_list o) v
+one_told None v e = absurd cc
+one_told (Some w) v e = (let same : w ≡ v = cc in subst (λ (u : Vote Command). Contains (w ∷ []) u) same (Contains-push [] w))
+
+only_told : (o : Option (Vote Command)) (v : Vote Command) → Contains (option_to_list o) v → o ≡ Some v
+only_told None v c = absurd (none_in v c)
+only_told (Some w) v c = elim (Contains-push_cases [] w v c) [ inl old ↦ absurd (none_in v old) | inr new ↦ ap Some new ]
+
+-- two lists of votes with one vote more
+put_alike : (f g : ℕ → Option (Vote Command)) (i : ℕ) (x : Option (Vote Command)) → ((s : ℕ) → f s ≡ g s) → (s : ℕ) → put_one f i x s ≡ put g i x s
+put_alike f g i x same s = elim (eqb_tells s i) [ inl e ↦ rw e.0 refl | inr ne ↦ rw ne.0 (same s) ]
+
+module _ (f : Fleet Command) (i : ℕ) (input : Input Command) (x : Local Command) (a : Accepting) (round : ℕ) (stands : RecordsStand a round x.records) where
+  same_records : MayWrite f i input x a round
+  same_records = record { after = x.records; does = does_nothing f i input x; stands = stands }
+
+  refuses : (to : ℕ) → MayAnswer f i input x a round (record { sender = i; receiver = to; message = Plain } ∷ [])
+  refuses to = record { after = x.records; does = does_one f i input x (act.Says to) tt; stands = stands }
+
+  low : (b : Ballot) → rank_of a.promise ≤ rank b → x.records.promise ≤ rank b
+  low b le = omega (arith, stands.promise, le)
+
+  promised : (b : Ballot) → RecordsStand (record a { promise = Some b }) round (with_promise x.records b)
+  promised b = record { promise = refl; vote = stands.vote; round_ = stands.round_; floor = stands.floor }
+
+  promises : (b : Ballot) → rank_of a.promise ≤ rank b → MayWrite f i input x (record a { promise = Some b }) round
+  promises b le = record {
+    after = with_promise x.records b;
+    does = does_one f i input x (act.Promises b) (low b le);
+    stands = promised b;
+  }
+
+  tells : (b : Ballot) (first : ℕ) → TellsVotes (with_promise x.records b) first first (option_to_list (a.vote first))
+  tells b first = record {
+    floor = omega (arith, stands.floor);
+    all = λ s v from to e.
+        let here : s ≡ first = omega (arith, from, to) in
+        one_told (a.vote first) v (sym (stands.vote first) ∙ ap x.records.vote (sym here) ∙ e);
+    only = λ v c. (first, stands.vote first ∙ only_told (a.vote first) v c);
+  }
+
+  promises_and_tells : (nodes to first : ℕ) (b : Ballot) → rank_of a.promise ≤ rank b
+      → MayAnswer f i input x (record a { promise = Some b }) round
+      (record { sender = i; receiver = to; message = Promise b first first (option_to_list (a.vote first)) } ∷ [])
+  promises_and_tells nodes to first b le = record {
+    after = with_promise x.records b;
+    does = does_then f i input (does_one f i input x (act.Promises b) (low b le))
+        (does_one f i input (record x { records = with_promise x.records b }) (act.Tells to b first first (option_to_list (a.vote first)))
+        (le_refl _, tells b first));
+    stands = promised b;
+  }
+
+  -- a prepare
+  pub prepare_writes : (b : Ballot) → MayWrite f i input x (after_prepare a b) round
+  prepare_writes b = elim (refusing_cases a.promise b) [
+    | inl h ↦ rw h.0 (promises b h.1)
+    | inr h ↦ rw h.1 same_records
+  ]
+
+  pub prepare_answers : (nodes to first : ℕ) (b : Ballot) → MayAnswer f i input x (after_prepare a b) round (answer_frames i nodes to (prepare_answer a b first))
+  prepare_answers nodes to first b = elim (refusing_cases a.promise b) [
+    | inl h ↦ rw h.0 (promises_and_tells nodes to first b h.1)
+    | inr h ↦ rw h.1 (refuses to)
+  ]
+
+  -- an accept
+  voted : (v : Vote Command) → RecordsStand (record { promise = Some v.ballot; vote = put a.vote v.slot (Some v) }) round (with_vote x.records v)
+  voted v = record {
+    promise = refl;
+    vote = put_alike x.records.vote a.vote v.slot (Some v) stands.vote;
+    round_ = stands.round_;
+    floor = stands.floor;
+  }
+
+  votes : (v : Vote Command) → Brings input (Accept v) → rank_of a.promise ≤ rank v.ballot
+      → MayWrite f i input x (record { promise = Some v.ballot; vote = put a.vote v.slot (Some v) }) round
+  votes v came le = record {
+    after = with_vote x.records v;
+    does = does_one f i input x (act.Votes v) (came, low v.ballot le);
+    stands = voted v;
+  }
+
+  votes_and_confirms : (nodes : ℕ) (v : Vote Command) → Brings input (Accept v) → rank_of a.promise ≤ rank v.ballot
+      → MayAnswer f i input x (record { promise = Some v.ballot; vote = put a.vote v.slot (Some v) }) round
+      (to_first nodes i (Accepted v))
+  votes_and_confirms nodes v came le = record {
+    after = with_vote x.records v;
+    does = does_then f i input (does_one f i input x (act.Votes v) (came, low v.ballot le))
+        (confirms_to_first f i input (record x { records = with_vote x.records v }) v (put_same x.records.vote v.slot (Some v)) nodes);
+    stands = voted v;
+  }
+
+  pub accept_writes : (v : Vote Command) → Brings input (Accept v) → MayWrite f i input x (after_accept a v) round
+  accept_writes v came = elim (refusing_cases a.promise v.ballot) [
+    | inl h ↦ rw h.0 (votes v came h.1)
+    | inr h ↦ rw h.1 same_records
+  ]
+
+  pub accept_answers : (nodes to : ℕ) (v : Vote Command) → Brings input (Accept v)
+      → MayAnswer f i input x (after_accept a v) round (answer_frames i nodes to (accept_answer a v))
+  accept_answers nodes to v came = elim (refusing_cases a.promise v.ballot) [
+    | inl h ↦ rw h.0 (votes_and_confirms nodes v came h.1)
+    | inr h ↦ rw h.1 (refuses to)
+  ]

@@ -1,0 +1,8 @@
+use Rattle.acceptor.proofs.SayingOne.{one_promise, one_vote_each}
+use Rattle.acceptor.proofs.allowed.records_say_one.Goals as goal
+
+pub returns-clause-promise : goal.returns-clause-promise
+returns-clause-promise c = one_promise
+
+pub returns-clause-vote : goal.returns-clause-vote
+returns-clause-vote c = one_vote_each

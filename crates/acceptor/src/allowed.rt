@@ -1,0 +1,42 @@
+//! What an acceptor does is allowed by the protocol.
+//!
+//! Each law is the contract of a function that does nothing.
+
+ghost use Rattle.std.specs.Prelude.{◌≡◌, ℕ};
+ghost use Rattle.synod.specs.Ballots.{rank_of};
+ghost use Rattle.synod.specs.declared.ballot.Ballot.{Ballot};
+ghost use Rattle.synod.specs.declared.vote.Vote.{Vote};
+ghost use Rattle.synod.specs.Messages.{Accept};
+ghost use Rattle.synod.specs.Acts.{Fleet, Input, Local, Brings};
+ghost use Rattle.wire.specs.declared.command.Command.{Command};
+ghost use Rattle.stable.specs.Records.{Records};
+ghost use Rattle.acceptor.specs.Accepting.{Accepting, RecordsSay};
+ghost use Rattle.acceptor.specs.Accepting.{prepare_answer, after_prepare, accept_answer, after_accept};
+ghost use Rattle.acceptor.specs.Protocol.{RecordsStand, MayWrite, MayAnswer, answer_frames};
+
+/// A prepare's write is allowed, and so is its answer after that write.
+pub fn prepare_is_allowed()
+    ensures write { (f : Fleet Command) (i : ℕ) (input : Input Command) (x : Local Command) (a : Accepting)
+        (round : ℕ) (b : Ballot) → RecordsStand a round x.records → MayWrite f i input x (after_prepare a b) round }
+    ensures answer { (f : Fleet Command) (i : ℕ) (input : Input Command) (x : Local Command) (a : Accepting)
+        (round nodes to first : ℕ) (b : Ballot) → RecordsStand a round x.records → MayAnswer f i input x
+        (after_prepare a b) round (answer_frames i nodes to (prepare_answer a b first)) }
+{}
+
+/// The write of an accept that has come is allowed, and so is its answer after that write.
+pub fn accept_is_allowed()
+    ensures write { (f : Fleet Command) (i : ℕ) (input : Input Command) (x : Local Command) (a : Accepting)
+        (round : ℕ) (v : Vote Command) → Brings input (Accept v) → RecordsStand a round x.records
+        → MayWrite f i input x (after_accept a v) round }
+    ensures answer { (f : Fleet Command) (i : ℕ) (input : Input Command) (x : Local Command) (a : Accepting)
+        (round nodes to : ℕ) (v : Vote Command) → Brings input (Accept v) → RecordsStand a round x.records
+        → MayAnswer f i input x (after_accept a v) round (answer_frames i nodes to (accept_answer a v)) }
+{}
+
+/// Records say one thing: what two acceptors hold of whom they say it is the same, as far as ranks and votes go.
+pub fn records_say_one()
+    ensures promise { (records : Records) (a b : Accepting) → RecordsSay records a → RecordsSay records b
+        → rank_of a.promise ≡ rank_of b.promise }
+    ensures vote { (records : Records) (a b : Accepting) → RecordsSay records a → RecordsSay records b
+        → (s : ℕ) → a.vote s ≡ b.vote s }
+{}

@@ -1,0 +1,169 @@
+-- Every step leaves the nodes their names, and all frames between them.
+use Rattle.std.proofs.Common.{◌≡◌, ℕ, zero, suc, ◌<◌, ◌⊎◌, inl, inr, List, [], ◌∷◌, ◌++◌, All, Bool, true, false, length, slice_get, slice_set, map, Option, Some, None, IsSome, IfOk, Result, Ok, Err, refl, sym, ap, subst, ◌∙◌, arith}
+use Rattle.std.proofs.Math.ListN.{get_or, length-set}
+use Rattle.std.proofs.lemmas.List.{length-map}
+use Rattle.std.proofs.lemmas.List.Elements.{All-append}
+use Rattle.std.proofs.lemmas.Option.{same_Some, slice_get_within, get_or_from_slice_get}
+use Rattle.stable.specs.Records.{Records}
+use Rattle.stable.specs.Script.{Script}
+use Rattle.stable.specs.declared.key.Key.{Key}
+use Rattle.stable.specs.declared.scripted.Failing.{Failing}
+use Rattle.wire.specs.Asked.{Asked}
+use Rattle.wire.specs.declared.message.Envelope.{Envelope}
+use Rattle.world.specs.declared.event.Event.{Event}
+use Rattle.world.specs.declared.event.Event.TheVariants as event
+use Rattle.world.specs.declared.fault.NodeFault.{NodeFault}
+use Rattle.world.specs.declared.input.Input.{Input}
+use Rattle.world.specs.declared.input.Input.TheVariants as input
+use Rattle.world.specs.declared.node.Node.{Node}
+use Rattle.world.specs.Fleets.{IsMember, IsBetween, IsFleet, ComesFrom}
+use Rattle.world.specs.Minds.{Mind}
+use Rattle.world.specs.Nodes.{NodeState, NodeSteps, state_of}
+use Rattle.world.specs.Outputs.{Told}
+use Rattle.world.specs.Worlds.{WorldState, TakesAt, ReceivesAt, DeliversFrame, Steps, with_node, recorded, with_submission, answered, without_wait}
+use Rattle.world.proofs.WorldLemmas.{lent_at, shown_set}
+use Rattle.world.proofs.FleetLemmas.{NodeLeaves, node_leaves, restart_leaves}
+
+-- what stands at a place where one element was replaced: that one, or what stood there
+pub set_at : {A : Type 0} (xs : List A) (i j : ℕ) (y z : A) → slice_get (slice_set xs i y) j ≡ Some z
+    → ((j ≡ i) × (y ≡ z)) ⊎ (slice_get xs j ≡ Some z)
+set_at [] i j y z e = inr e
+set_at (x ∷ xs) zero zero y z e = inl (refl, same_Some y z e)
+set_at (x ∷ xs) zero (suc j) y z e = inr e
+set_at (x ∷ xs) (suc i) zero y z e = inr e
+set_at (x ∷ xs) (suc i) (suc j) y z e = elim (set_at xs i j y z e) [ inl here ↦ inl (ap suc here.0, here.1) | inr there ↦ inr there ]
+
+module _ {S : Type 0} where
+  -- one node is another member of the same name
+  pub fleet_with : (nodes : List (NodeState S)) (frames : List Envelope) (i : ℕ) (n : NodeState S) → IsFleet nodes frames
+      → IsMember i (length nodes) n → IsFleet (slice_set nodes i n) frames
+  fleet_with nodes frames i n fleet member =
+      let same : length (slice_set nodes i n) ≡ length nodes = length-set nodes i n in
+      record {
+        few = omega (arith, same, fleet.few);
+        members = λ j m here. subst (λ k. IsMember j k m) (sym same) (elim (set_at nodes i j n m here) [
+          | inl this ↦ subst (λ (x : NodeState S). IsMember j (length nodes) x) this.1
+              (subst (λ k. IsMember k (length nodes) n) (sym this.0) member)
+          | inr other ↦ fleet.members j m other
+        ]);
+        between = subst (λ k. All (IsBetween k) frames) (sym same) fleet.between;
+      }
+
+  -- frames between nodes of the run are sent
+  pub fleet_sent : (nodes : List (NodeState S)) (frames sends : List Envelope) → IsFleet nodes frames
+      → All (IsBetween (length nodes)) sends → IsFleet nodes (frames ++ sends)
+  fleet_sent nodes frames sends fleet between = record {
+    few = fleet.few;
+    members = fleet.members;
+    between = All-append (IsBetween (length nodes)) frames sends fleet.between between;
+  }
+
+  -- a frame that was sent goes between nodes of the run
+  pub frame_at : (nodes : List (NodeState S)) (frames : List Envelope) (k : ℕ) (frame : Envelope) → IsFleet nodes frames
+      → slice_get frames k ≡ Some frame → IsBetween (length nodes) frame
+  frame_at nodes frames k frame fleet sent =
+      subst (λ (e : Envelope). IsBetween (length nodes) e) (get_or_from_slice_get frames k frame frame sent)
+      (fleet.between k frame (slice_get_within frames k frame sent))
+
+module _ {S : Type 0} where
+  -- a node whose next put fails
+  pub armed_member : (i len : ℕ) (n m : NodeState (Script S)) (failing : Failing)
+      → m ≡ record n { storage = record n.storage { armed = Some failing } } → IsMember i len n → IsMember i len m
+  armed_member i len n m failing e member = subst (λ (x : NodeState (Script S)). IsMember i len x) (sym e)
+      (record { number = member.number; of_all = member.of_all; up = member.up })
+
+  -- what a node told is recorded
+  pub recorded_fleet : (w : WorldState S) (node : ℕ) (r : Result Told NodeFault) → IsFleet w.nodes w.frames
+      → IfOk r (λ told. All (IsBetween (length w.nodes)) told.sends) → IsFleet (recorded w node r).nodes (recorded w node r).frames
+  recorded_fleet w node (Ok told) fleet between = fleet_sent w.nodes w.frames told.sends fleet between
+  recorded_fleet w node (Err f) fleet between = fleet
+
+  submitted_fleet : (w : WorldState S) (taken : Bool) (node : ℕ) (r : Asked) → IsFleet w.nodes w.frames
+      → IsFleet (with_submission w taken node r).nodes (with_submission w taken node r).frames
+  submitted_fleet w true node r fleet = fleet
+  submitted_fleet w false node r fleet = fleet
+
+  answered_fleet : (w : WorldState S) (node : ℕ) (r : Result (ℕ × List ℕ) NodeFault) → IsFleet w.nodes w.frames
+      → IsFleet (answered w node r).nodes (answered w node r).frames
+  answered_fleet w node (Ok told) fleet = fleet
+  answered_fleet w node (Err f) fleet = fleet
+
+  another_world : (v w : WorldState S) → v ≡ w → IsFleet w.nodes w.frames → IsFleet v.nodes v.frames
+  another_world v w e fleet = subst (λ (x : WorldState S). IsFleet x.nodes x.frames) (sym e) fleet
+
+  module _ (reads : Script S → Script S → Type 0) (puts fails : Script S → Key → List ℕ → Script S → Type 0) where
+    takes_fleet : (old : WorldState S) (node : ℕ) (i : Input) (taken : Bool) (new : WorldState S)
+        → TakesAt reads puts fails old node i taken new → ComesFrom (length old.nodes) i → IsFleet old.nodes old.frames
+        → IsFleet new.nodes new.frames
+    takes_fleet old node i taken new h sender fleet =
+        let left = node_leaves node (length old.nodes) (slice_get_within old.nodes node h.before h.here) reads puts fails
+        h.before i h.result h.after h.steps (fleet.members node h.before h.here) sender in
+        let same : length (slice_set old.nodes node h.after) ≡ length old.nodes = length-set old.nodes node h.after in
+        another_world new _ h.leaves (recorded_fleet (with_node old node h.after) node h.result
+        (fleet_with old.nodes old.frames node h.after fleet left.member)
+        (subst (λ k. IfOk h.result (λ told. All (IsBetween k) told.sends)) (sym same) left.between))
+
+    receives_fleet : (old : WorldState S) (frame : Envelope) (new : WorldState S) (o : Option Mind)
+        → (h : ReceivesAt reads puts fails old frame new) → h.receiver.up ≡ o → IsBetween (length old.nodes) frame
+        → IsFleet old.nodes old.frames → IsFleet new.nodes new.frames
+    receives_fleet old frame new None h up between fleet = another_world new _ (h.lost up) fleet
+    receives_fleet old frame new (Some m) h up between fleet =
+        let takes = h.taken (subst (λ (o : Option Mind). IsSome o) (sym up) refl) in
+        takes_fleet old frame.to (input.Message frame.from frame.message) takes.0 new takes.1 between.from fleet
+
+    delivers_fleet : (old : WorldState S) (k : ℕ) (new : WorldState S) → DeliversFrame reads puts fails old k new
+        → IsFleet old.nodes old.frames → IsFleet new.nodes new.frames
+    delivers_fleet old k new h fleet =
+        receives_fleet (without_wait old k) h.frame new h.receives.receiver.up h.receives refl
+        (frame_at old.nodes old.frames k h.frame fleet h.sent) fleet
+
+    -- one step
+    pub step_fleet : (contents : Script S → Records) (IsHonest : Script S → Type 0) (read_fails : Script S → Script S → Type 0)
+        (old : WorldState S) (e : Event) (new : WorldState S) → Steps contents IsHonest reads read_fails puts fails old e new
+        → IsFleet old.nodes old.frames → IsFleet new.nodes new.frames
+    step_fleet contents IsHonest read_fails old (event.Submit node client number op) new h fleet =
+        another_world new _ h.leaves (submitted_fleet h.between h.taken node _
+        (takes_fleet old node _ h.taken h.between h.takes tt fleet))
+    step_fleet contents IsHonest read_fails old (event.Deliver k) new h fleet = delivers_fleet old k new h fleet
+    step_fleet contents IsHonest read_fails old (event.Drop k) new h fleet = another_world new _ h fleet
+    step_fleet contents IsHonest read_fails old (event.Timeout node) new h fleet = takes_fleet old node input.Timeout h.0 new h.1 tt fleet
+    step_fleet contents IsHonest read_fails old (event.Tick node) new h fleet = takes_fleet old node input.Tick h.0 new h.1 tt fleet
+    step_fleet contents IsHonest read_fails old (event.Restart node) new h fleet =
+        another_world new _ h.leaves (fleet_with old.nodes old.frames node h.after fleet
+        (restart_leaves node (length old.nodes) (slice_get_within old.nodes node h.before h.here) h.before h.result h.after
+        h.restarts (fleet.members node h.before h.here)))
+    step_fleet contents IsHonest read_fails old (event.Fault node failing) new h fleet =
+        let member = fleet.members node h.before h.here in
+        another_world new _ h.leaves (fleet_with old.nodes old.frames node _ fleet
+        (record { number = member.number; of_all = member.of_all; up = member.up }))
+    step_fleet contents IsHonest read_fails old (event.Query node query) new h fleet =
+        another_world new _ h.leaves (answered_fleet old node h.result fleet)
+
+-- ---- in the code
+module _ {S : Type 0} where
+  counted : (nodes : List (Node (Script S))) (len : ℕ) → len ≡ length nodes → len ≡ length (map state_of nodes)
+  counted nodes len e = e ∙ sym (length-map nodes state_of)
+
+  -- the node at a place was changed, and kept its name
+  pub lent_fleet : (nodes : List (Node (Script S))) (frames : List Envelope) (len i j : ℕ) (n m : Node (Script S))
+      → len ≡ length nodes → j ≡ i → i < len → n ≡ get_or nodes j n → IsFleet (map state_of nodes) frames
+      → (IsMember i len (state_of n) → IsMember i len (state_of m)) → IsFleet (map state_of (slice_set nodes j m)) frames
+  lent_fleet nodes frames len i j n m e named there lent fleet keeps =
+      let same = counted nodes len e in
+      let before = fleet.members i (state_of n) (lent_at nodes len i j n e named there lent) in
+      let after = keeps (subst (λ k. IsMember i k (state_of n)) (sym same) before) in
+      subst (λ k. IsFleet (map state_of (slice_set nodes k m)) frames) (sym named)
+      (subst (λ (ns : List (NodeState (Script S))). IsFleet ns frames) (sym (shown_set nodes i m))
+      (fleet_with (map state_of nodes) frames i (state_of m) fleet (subst (λ k. IsMember i k (state_of m)) same after)))
+
+  -- a node of the run has taken an input
+  pub stepped : {reads : Script S → Script S → Type 0} {puts fails : Script S → Key → List ℕ → Script S → Type 0}
+      (nodes : List (Node (Script S))) (frames : List Envelope) (len i j : ℕ) (n m : Node (Script S)) (input : Input)
+      (r : Result Told NodeFault) → len ≡ length nodes → j ≡ i → i < len → n ≡ get_or nodes j n
+      → IsFleet (map state_of nodes) frames → NodeSteps reads puts fails (state_of n) input r (state_of m)
+      → ComesFrom len input → NodeLeaves i len (state_of m) r
+  stepped {reads} {puts} {fails} nodes frames len i j n m input r e named there lent fleet steps sender =
+      let same = counted nodes len e in
+      let before = fleet.members i (state_of n) (lent_at nodes len i j n e named there lent) in
+      node_leaves i len there reads puts fails (state_of n) input r (state_of m) steps
+      (subst (λ k. IsMember i k (state_of n)) (sym same) before) sender

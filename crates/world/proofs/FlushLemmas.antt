@@ -1,0 +1,30 @@
+-- Frames that are delivered one after the other.
+use Rattle.std.proofs.Common.{◌≡◌, ℕ, ◌+◌, ◌<◌, ◌≤◌, List, Bool, true, length, Option, Some, MatchOption, sym, subst, add-one, arith}
+use Rattle.std.proofs.lemmas.Option.{MatchOption-at_some, slice_get_within}
+use Rattle.stable.specs.Script.{Script}
+use Rattle.stable.specs.declared.key.Key.{Key}
+use Rattle.world.specs.Flushing.{Delivers, none, more}
+use Rattle.world.specs.Waiting.{IsLowestWaiting, NoneWaits}
+use Rattle.world.specs.Worlds.{WorldState, DeliversFrame}
+
+module _ {S : Type 0} (reads : Script S → Script S → Type 0) (puts fails : Script S → Key → List ℕ → Script S → Type 0) where
+  -- nothing is delivered yet
+  pub none_delivered : (w : WorldState S) → Delivers reads puts fails w 0 w
+  none_delivered w = none
+
+  -- what was looked for and found is delivered, the world being as it was in between
+  pub one_delivered : (old now seen new : WorldState S) (n k : ℕ) (found : Option ℕ) → Delivers reads puts fails old n now
+      → seen ≡ now → MatchOption found (NoneWaits now.waiting) (IsLowestWaiting now.waiting) → found ≡ Some k
+      → DeliversFrame reads puts fails seen k new → Delivers reads puts fails old (n + 1) new
+  one_delivered old now seen new n k found before same lowest here delivers =
+      subst (λ m. Delivers reads puts fails old m new) (sym (add-one n))
+      (more n k now new before (MatchOption-at_some (NoneWaits now.waiting) (IsLowestWaiting now.waiting) k here lowest)
+      (subst (λ (w : WorldState S). DeliversFrame reads puts fails w k new) same delivers))
+
+-- a frame that waits was sent
+pub waiting_was_sent : (waiting : List Bool) (frames k : ℕ) (found : Option ℕ) → length waiting ≡ frames
+    → MatchOption found (NoneWaits waiting) (IsLowestWaiting waiting) → found ≡ Some k → frames ≤ k → ⊥
+waiting_was_sent waiting frames k found same lowest here past =
+    let waits = (MatchOption-at_some (NoneWaits waiting) (IsLowestWaiting waiting) k here lowest).waits in
+    let within : k < length waiting = slice_get_within waiting k true waits in
+    omega (arith, within, same, past)

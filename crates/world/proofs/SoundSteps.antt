@@ -1,0 +1,120 @@
+-- A sound world stays sound, and what is sound is safe.
+use Rattle.std.proofs.Common.{◌≡◌, ◌⊎◌, ℕ, ◌<◌, List, [], length, slice_get, slice_set, Option, Some, None, IfSome, IsSome, refl, sym, ap, subst, ◌∙◌}
+use Rattle.stable.specs.Records.{Records, no_records}
+use Rattle.stable.specs.Script.{Script}
+use Rattle.stable.specs.declared.key.Key.{Key}
+use Rattle.stable.specs.declared.scripted.Failing.{Failing}
+use Rattle.wire.specs.Asked.{Asked}
+use Rattle.world.specs.declared.event.Event.{Event}
+use Rattle.world.specs.declared.event.Event.TheVariants as event
+use Rattle.world.specs.declared.input.Input.TheVariants as input
+use Rattle.world.specs.Fleets.{IsFleet}
+use Rattle.world.specs.Flushing.{IsStart, IsStarted, Delivers}
+use Rattle.world.specs.Learning.{Learning}
+use Rattle.world.specs.Loading.{IsLoaded}
+use Rattle.world.specs.Minds.{Mind}
+use Rattle.world.specs.Nodes.{NodeState}
+use Rattle.world.specs.Reaching.{AreHonest}
+use Rattle.world.specs.Safety.{HasAgreed, IsSafe, IsSound, IsSoundIfHonest}
+use Rattle.world.specs.Worlds.{WorldState, Steps, TakesAt, ReceivesAt, without_wait}
+use Rattle.world.proofs.Explained.{explained}
+use Rattle.world.proofs.FleetSteps.{step_fleet}
+use Rattle.world.proofs.RestartLemmas.{restart_honest}
+use Rattle.world.proofs.SafetyLemmas.{allowed_agrees, learnt_agree, learnt_grounded, start_allowed}
+use Rattle.world.proofs.StorageLaws.{KeepsLaws}
+use Rattle.world.proofs.Tellings.{steps_tell, start_tells}
+use Rattle.world.proofs.WorldMoves.{honest_nodes, honest_took, step_allowed, submission_nodes, answered_nodes}
+
+-- what is sound is safe
+pub sound_is_safe : {S : Type 0} {contents : Script S → Records} (w : WorldState S) → IsSound contents w → IsSafe w
+sound_is_safe w sound =
+    let agreed : HasAgreed w = allowed_agrees w sound.allowed in
+    record { agreed = agreed; explained = explained w sound.tells (learnt_agree w agreed) (learnt_grounded w agreed) }
+
+pub safe_if_honest : {S : Type 0} {contents : Script S → Records} {IsHonest : Script S → Type 0} (w : WorldState S) → IsSoundIfHonest contents IsHonest w
+    → AreHonest IsHonest w.nodes → IsSafe w
+safe_if_honest w h honest = sound_is_safe w (h.sound honest)
+
+-- ---- the start
+unlearnt_yet : {S : Type 0} (contents : Script S → Records) (i count : ℕ) (n : NodeState (Script S)) (m : Mind) → IsStarted contents i count n → n.up ≡ Some m
+    → m.learning.learnt ≡ None
+unlearnt_yet contents i count n m h up =
+    let loads : IsLoaded no_records i count m = subst (λ (o : Option Mind). IfSome o (IsLoaded no_records i count)) up h.up in
+    ap (λ (l : Learning). l.learnt) loads.learning
+
+pub start_sound : {S : Type 0} (contents : Script S → Records) (IsHonest : Script S → Type 0) (count : ℕ) (w : WorldState S) → IsStart contents count w
+    → IsSoundIfHonest contents IsHonest w
+start_sound contents IsHonest count w start = record {
+  sound = λ honest. record {
+    allowed = start_allowed count w start;
+    tells = start_tells w (ap (λ (x : WorldState _). x.learnt) start.nothing) (ap (λ (x : WorldState _). x.replies) start.nothing)
+        (ap (λ (x : WorldState _). x.answers) start.nothing) (λ i n m e up. unlearnt_yet contents i count n m (start.nodes.each i n e) up);
+  };
+}
+
+module _ {S : Type 0} {contents : Script S → Records} {IsHonest : Script S → Type 0} {reads read_fails : Script S → Script S → Type 0}
+    {puts fails : Script S → Key → List ℕ → Script S → Type 0} (laws : KeepsLaws contents IsHonest reads read_fails puts fails)
+    (armed_honest : (s : Script S) (f : Failing) → IsHonest (record s { armed = Some f }) → IsHonest s)
+    (armed_contents : (s : Script S) (f : Failing) → contents (record s { armed = Some f }) ≡ contents s) where
+  -- ---- where every storage is honest after a step it was so before
+  abbrev Honest : WorldState S → Type 0
+  Honest w = AreHonest IsHonest w.nodes
+
+  same_nodes : (old new : WorldState S) → new.nodes ≡ old.nodes → Honest new → Honest old
+  same_nodes old new e honest = subst (λ (x : List (NodeState (Script S))). AreHonest IsHonest x) e honest
+
+  received_honest : (old : WorldState S) (frame : _) (new : WorldState S) (o : Option Mind) (h : ReceivesAt reads puts fails old frame new) → h.receiver.up ≡ o
+      → IsFleet old.nodes old.frames → Honest new → Honest old
+  received_honest old frame new None h up fleet honest = same_nodes old new (ap (λ (w : WorldState S). w.nodes) (h.lost up)) honest
+  received_honest old frame new (Some m) h up fleet honest =
+      let takes = h.taken (subst (λ (o : Option Mind). IsSome o) (sym up) refl) in
+      honest_took laws armed_honest armed_contents old frame.to (input.Message frame.from frame.message) takes.0 new takes.1 fleet honest
+
+  step_honest : (old : WorldState S) (e : Event) (new : WorldState S) → Steps contents IsHonest reads read_fails puts fails old e new
+      → IsFleet old.nodes old.frames → Honest new → Honest old
+  step_honest old (event.Submit node client number op) new h fleet honest =
+      let r : Asked = record { client = client; number = number; op = op } in
+      let then : Honest h.between = same_nodes h.between new
+      (ap (λ (w : WorldState S). w.nodes) h.leaves ∙ submission_nodes laws armed_honest armed_contents h.between h.taken node r) honest in
+      honest_took laws armed_honest armed_contents old node (input.Submit r) h.taken h.between h.takes fleet then
+  step_honest old (event.Deliver k) new h fleet honest =
+      received_honest (without_wait old k) h.frame new h.receives.receiver.up h.receives refl fleet honest
+  step_honest old (event.Drop k) new h fleet honest = same_nodes old new (ap (λ (w : WorldState S). w.nodes) h) honest
+  step_honest old (event.Timeout node) new h fleet honest = honest_took laws armed_honest armed_contents old node input.Timeout h.0 new h.1 fleet honest
+  step_honest old (event.Tick node) new h fleet honest = honest_took laws armed_honest armed_contents old node input.Tick h.0 new h.1 fleet honest
+  step_honest old (event.Restart node) new h fleet honest =
+      honest_nodes laws armed_honest armed_contents old.nodes node h.before h.after h.here (restart_honest laws h.before h.after h.result h.restarts)
+      (subst (λ (x : List (NodeState (Script S))). AreHonest IsHonest x) (ap (λ (w : WorldState S). w.nodes) h.leaves) honest)
+  step_honest old (event.Fault node failing) new h fleet honest =
+      honest_nodes laws armed_honest armed_contents old.nodes node h.before _ h.here (armed_honest h.before.storage failing)
+      (subst (λ (x : List (NodeState (Script S))). AreHonest IsHonest x) (ap (λ (w : WorldState S). w.nodes) h.leaves) honest)
+  step_honest old (event.Query node query) new h fleet honest =
+      same_nodes old new (ap (λ (w : WorldState S). w.nodes) h.leaves ∙ answered_nodes laws armed_honest armed_contents old node h.result) honest
+
+  -- ---- a step
+  pub step_sound : (old : WorldState S) (e : Event) (new : WorldState S) → Steps contents IsHonest reads read_fails puts fails old e new
+      → IsFleet old.nodes old.frames → IsSoundIfHonest contents IsHonest old → IsSoundIfHonest contents IsHonest new
+  step_sound old e new h fleet before = record {
+    sound = λ honest. record {
+      allowed = step_allowed laws armed_honest armed_contents old e new h fleet (λ was. (before.sound was).allowed) honest;
+      tells = steps_tell contents IsHonest reads read_fails puts fails old new e h honest (before.sound (step_honest old e new h fleet honest)).tells;
+    };
+  }
+
+  -- ---- deliveries one after the other
+  record Kept (w : WorldState S) : Type 0 where
+    fleet : IsFleet w.nodes w.frames
+    sound : IsSoundIfHonest contents IsHonest w
+
+  delivers_kept : (old : WorldState S) (n : ℕ) (new : WorldState S) → Delivers reads puts fails old n new → Kept old → Kept new
+  delivers_kept old _ new Delivers.none kept = kept
+  delivers_kept old _ new (Delivers.more n k between new_ before lowest delivers) kept =
+      let then = delivers_kept old n between before kept in
+      record {
+        fleet = step_fleet reads puts fails contents IsHonest read_fails between (event.Deliver k) new delivers then.fleet;
+        sound = step_sound between (event.Deliver k) new delivers then.fleet then.sound;
+      }
+
+  pub delivers_sound : (old : WorldState S) (n : ℕ) (new : WorldState S) → Delivers reads puts fails old n new → IsFleet old.nodes old.frames
+      → IsSoundIfHonest contents IsHonest old → IsSoundIfHonest contents IsHonest new
+  delivers_sound old n new h fleet sound = (delivers_kept old n new h (record { fleet = fleet; sound = sound })).sound

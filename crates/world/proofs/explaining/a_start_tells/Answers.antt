@@ -1,0 +1,5 @@
+use Rattle.world.proofs.Tellings.{start_tells}
+use Rattle.world.proofs.explaining.a_start_tells.Goals as goal
+
+pub returns : goal.returns
+returns g c = start_tells

@@ -1,0 +1,19 @@
+use Rattle.std.proofs.Common.{◌≡◌, refl, rules, sym, ap, ◌∙◌, arith, vec_len, slice_get, Some}
+use Rattle.std.proofs.lemmas.Option.{slice_get_read}
+use Rattle.world.specs.Worlds.{run_of, without_wait}
+use Rattle.world.proofs.run.Run.deliver.Goals as goal
+
+pub returns-clause-delivers : goal.returns-clause-delivers
+returns-clause-delivers g c =
+    let named : c.in_ok-index.index ≡ c.args.frame = c.in_ok-index.ensures.found.0 in
+    let there = c.in_ok-index.ensures.found.1 in
+    let read : slice_get c.args.self.now.frames.items c.in_ok-index.index ≡ Some c.index.result.now =
+    slice_get_read c.args.self.now.frames.items (vec_len c.args.self.now.frames) c.in_ok-index.index c.index.result.now
+    (search rules) there (search rules) in
+    let waits : run_of c.stop_waiting.new.self ≡ without_wait (run_of c.args.self.now) c.args.frame =
+    c.stop_waiting.ensures.stops ∙ (rw named (ap (λ w. without_wait w c.args.frame) c.reserve.ensures.same)) in
+    record {
+      frame = c.in_ok-envelope.envelope;
+      sent = rw (← named) (read ∙ search rules);
+      receives = rw waits at c.receive.ensures;
+    }

@@ -1,0 +1,53 @@
+use Rattle.std.proofs.Common.{◌≡◌, refl, rules, vec_len, Ok, Err}
+use Rattle.world.specs.Nodes.{state_of}
+use Rattle.world.specs.Worlds.{run_of, with_outcome, restart_outcome}
+use Rattle.world.proofs.FleetLemmas.{restart_leaves}
+use Rattle.world.proofs.FleetSteps.{lent_fleet}
+use Rattle.world.proofs.WorldLemmas.{lent_at, left_by}
+use Rattle.world.proofs.run.Run.restart_node.Goals as goal
+
+pub returns-in-Ok : goal.returns-in-Ok
+returns-in-Ok g c =
+    let named : c.from.result ≡ c.args.node = search rules in
+    record {
+      before = state_of c.index_mut-at.result.now;
+      here = lent_at c.args.self.now.nodes.items (vec_len c.args.self.now.nodes) c.args.node c.from.result
+          c.index_mut-at.result.now (search rules) named c.requires.there c.index_mut-at.ensures.value;
+      after = state_of c.restart.new.self;
+      result = Ok tt;
+      restarts = rw (← c.in-Ok.is) c.restart.ensures;
+      leaves = left_by _ (run_of c.args.self.now) c.args.self.now.nodes.items c.args.node c.restart.new.self
+          (λ w. with_outcome w (restart_outcome c.args.node (Ok tt))) (rw (← named) (search rules)) refl;
+    }
+
+pub returns-in-Err : goal.returns-in-Err
+returns-in-Err g c =
+    let named : c.from.result ≡ c.args.node = search rules in
+    record {
+      before = state_of c.index_mut-at.result.now;
+      here = lent_at c.args.self.now.nodes.items (vec_len c.args.self.now.nodes) c.args.node c.from.result
+          c.index_mut-at.result.now (search rules) named c.requires.there c.index_mut-at.ensures.value;
+      after = state_of c.restart.new.self;
+      result = Err c.in-Err.fault;
+      restarts = rw (← c.in-Err.is) c.restart.ensures;
+      leaves = left_by _ (run_of c.args.self.now) c.args.self.now.nodes.items c.args.node c.restart.new.self
+          (λ w. with_outcome w (restart_outcome c.args.node (Err c.in-Err.fault))) (rw (← named) (search rules)) refl;
+    }
+
+-- the node keeps its name
+pub invariant_of-self-clause-fleet : goal.invariant_of-self-clause-fleet
+invariant_of-self-clause-fleet g c =
+    let named : c.from.result ≡ c.args.node = search rules in
+    lent_fleet c.args.self.now.nodes.items c.args.self.now.frames.items (vec_len c.args.self.now.nodes) c.args.node c.from.result
+    c.index_mut-at.result.now c.restart.new.self (search rules) named c.requires.there c.index_mut-at.ensures.value
+    c.args.self.now.fleet
+    (λ member. restart_leaves c.args.node (vec_len c.args.self.now.nodes) c.requires.there _ _ _ c.restart.ensures member)
+
+-- the node keeps its name, down as it is
+pub invariant_of-self-in-Err-clause-fleet : goal.invariant_of-self-in-Err-clause-fleet
+invariant_of-self-in-Err-clause-fleet g c =
+    let named : c.from.result ≡ c.args.node = search rules in
+    lent_fleet c.args.self.now.nodes.items c.args.self.now.frames.items (vec_len c.args.self.now.nodes) c.args.node c.from.result
+    c.index_mut-at.result.now c.restart.new.self (search rules) named c.requires.there c.index_mut-at.ensures.value
+    c.args.self.now.fleet
+    (λ member. restart_leaves c.args.node (vec_len c.args.self.now.nodes) c.requires.there _ _ _ c.restart.ensures member)

@@ -1,5 +1,0 @@
-use Rattle.std.proofs.Common.{rules}
-use Rattle.world.proofs.world.World.restart.Goals as goal
-
-pub returns-clause-restarts : goal.returns-clause-restarts
-returns-clause-restarts g c = rw c.reserve.ensures.same at c.restart_node.ensures

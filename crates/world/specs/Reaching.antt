@@ -1,0 +1,63 @@
+-- A world whose storages are honest is one to which moves lead that the protocol allows.
+use Rattle.std.specs.Prelude.{◌≡◌, ℕ, zero, List, map, All, length, slice_get, Option, Some, None, IfSome}
+use Rattle.synod.specs.Records as synod_records
+use Rattle.synod.specs.Minds as synod_minds
+use Rattle.synod.specs.Runs as synod_runs
+use Rattle.synod.specs.Runs.{IsReached}
+use Rattle.stable.specs.Records.{Records}
+use Rattle.stable.specs.Script.{Script}
+use Rattle.stable.specs.declared.key.Key.TheVariants as key
+use Rattle.acceptor.specs.Accepting.{Accepting, RecordsSay}
+use Rattle.acceptor.specs.Protocol.{RecordsStand}
+use Rattle.wire.specs.declared.command.Command.{Command}
+use Rattle.wire.specs.declared.message.Envelope.{Envelope}
+use Rattle.world.specs.declared.lists.Submission.{Submission}
+use Rattle.world.specs.declared.lists.Learnt.{Learnt}
+use Rattle.world.specs.Minds.{Mind}
+use Rattle.world.specs.States.{NodeState}
+use Rattle.world.specs.Rounds.{IsRound}
+use Rattle.world.specs.Sized.{IsSized}
+use Rattle.world.specs.Protocol.{fleet, frame_of, learning_of, command_of, IsWellTold, MindStands}
+
+-- what the record of a round says: without one it is 0
+abbrev pub SaysRound : Option (List ℕ) → ℕ → Type 0
+SaysRound None round = round ≡ zero
+SaysRound (Some bytes) round = IsRound bytes round
+
+-- what a node holds while it is up is what its records say, and stands for the protocol's mind
+pub record HoldsSame (accepting : Accepting) (round : ℕ) (s : synod_minds.Mind Command) (m : Mind) : Type 0 where
+  pub accepting_ : m.accepting ≡ accepting
+  pub round_ : m.proposing.round ≡ round
+  pub sized : IsSized m
+  pub mind : MindStands m s
+
+-- a node's records say what the protocol's records do, and where it is up it holds that
+pub record NodeStands {S : Type 0} (contents : Script S → Records) (n : NodeState (Script S))
+    (r : synod_records.Records Command) (s : synod_minds.Mind Command) : Type 0 where
+  pub accepting : Accepting
+  pub round : ℕ
+  pub says : RecordsSay (contents n.storage) accepting
+  pub says_round : SaysRound (contents n.storage key.Round) round
+  pub stands : RecordsStand accepting round r
+  pub up : IfSome n.up (HoldsSame accepting round s)
+
+-- the nodes and the lists are those of the protocol's world
+pub record WorldStands {S : Type 0} (contents : Script S → Records) (nodes : List (NodeState (Script S)))
+    (frames : List Envelope) (learnt : List Learnt) (submitted : List Submission) (w : synod_runs.World Command) : Type 0 where
+  pub node : (i : ℕ) (n : NodeState (Script S)) → slice_get nodes i ≡ Some n
+      → NodeStands contents n (w.past.records i) (w.mind i)
+  pub frames_ : w.past.frames ≡ map frame_of frames
+  pub learnt_ : w.past.learnt ≡ map learning_of learnt
+  pub submitted_ : w.past.submitted ≡ map command_of submitted
+
+-- moves that the protocol allows lead there
+pub record IsAllowed {S : Type 0} (contents : Script S → Records) (nodes : List (NodeState (Script S)))
+    (frames : List Envelope) (learnt : List Learnt) (submitted : List Submission) : Type 0 where
+  pub state : synod_runs.World Command
+  pub reached : IsReached (fleet (length nodes)) state
+  pub stands : WorldStands contents nodes frames learnt submitted state
+  pub told : All (λ e. IsWellTold e.message) frames
+
+-- every storage is honest
+abbrev pub AreHonest : {S : Type 0} → (Script S → Type 0) → List (NodeState (Script S)) → Type 0
+AreHonest {S} IsHonest nodes = (i : ℕ) (n : NodeState (Script S)) → slice_get nodes i ≡ Some n → IsHonest n.storage

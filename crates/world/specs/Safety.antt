@@ -1,0 +1,44 @@
+-- What is promised of a world whose storages are honest.
+use Rattle.std.specs.Prelude.{◌≡◌, List, map, length, IsSome}
+use Rattle.stable.specs.Records.{Records}
+use Rattle.stable.specs.Script.{Script}
+use Rattle.synod.specs.History.{History}
+use Rattle.synod.specs.Invariant.{IsAgreed}
+use Rattle.wire.specs.declared.command.Command.{Command}
+use Rattle.world.specs.Explaining.{IsExplained}
+use Rattle.world.specs.Protocol.{fleet, frame_of, learning_of, command_of}
+use Rattle.world.specs.Reaching.{IsAllowed, AreHonest}
+use Rattle.world.specs.Telling.{Tells}
+use Rattle.world.specs.Worlds.{WorldState}
+
+-- a past of the protocol has led here: these are its frames, all that any node learnt, and what was submitted; in it
+-- no two commands are chosen for one slot, whatever any node learnt is chosen, and each chosen command is a no-op or
+-- was submitted
+pub record HasAgreed {S : Type 0} (w : WorldState S) : Type 0 where
+  pub history : History Command
+  pub frames : history.frames ≡ map frame_of w.frames
+  pub learnt : history.learnt ≡ map learning_of w.learnt
+  pub submitted : history.submitted ≡ map command_of w.submitted
+  pub agreed : IsAgreed (fleet (length w.nodes)) history
+
+-- and one list of commands explains everything that any node told
+pub record IsSafe {S : Type 0} (w : WorldState S) : Type 0 where
+  pub agreed : HasAgreed w
+  pub explained : IsExplained w
+
+-- ---- what is kept from call to call
+-- moves that the protocol allows lead there, and the lists tell what the nodes know
+pub record IsSound {S : Type 0} (contents : Script S → Records) (w : WorldState S) : Type 0 where
+  pub allowed : IsAllowed contents w.nodes w.frames w.learnt w.submitted
+  pub tells : Tells w
+
+-- of a scripted storage, by what holds of the storage inside
+abbrev pub contents_inside : {S : Type 0} → (S → Records) → Script S → Records
+contents_inside contents s = contents s.inner
+
+abbrev pub honest_inside : {S : Type 0} → (S → Type 0) → Script S → Type 0
+honest_inside IsHonest s = IsHonest s.inner × IsSome s.fired
+
+-- where every storage is honest
+pub record IsSoundIfHonest {S : Type 0} (contents : Script S → Records) (IsHonest : Script S → Type 0) (w : WorldState S) : Type 0 where
+  pub sound : AreHonest IsHonest w.nodes → IsSound contents w

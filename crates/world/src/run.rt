@@ -1,0 +1,521 @@
+//! The world: all nodes, everything that was sent, and everything that came of it.
+
+ghost use Rattle.std.specs.Prelude.{◌≡◌, ◌≤◌, ◌<◌, ◌+◌, ◌++◌, ◌∷◌, [], ◌↔◌, ℕ, true, length, vec_len, vec_capacity, Some, None, IsNone, OnOk, OnErr, IsOk, IsErrOf, ◌⊎◌, Bool, IfOk, IfErr, IfSome, IsTrue, is_ok, slice_get, MatchBool, MatchOption, All, map};
+ghost use Rattle.world.specs.Fleets.{IsBetween, IsFleet, ComesFrom};
+ghost use Rattle.world.specs.Nodes.{state_of};
+ghost use Rattle.world.specs.Outputs.{replied_at};
+ghost use Rattle.world.specs.Waiting.{NoneWaits, NoneWaitsBelow, OneWaits, IsLowestWaiting};
+
+use super::event::{Event, Query};
+use super::fault::{NodeFault, WorldFault};
+use super::flags::first_set;
+use super::input::Input;
+use super::lists::{Answered, Learnt, Outcome, Replied, Submission, Text};
+use super::log::MOST_DELIVERIES;
+use super::node::Node;
+use super::outputs::{Executed, Outputs};
+use super::start::start_nodes;
+use stable::{Failing, MemStable, Put, Scripted, Stable};
+use std::alloc::Global;
+use synod::{MOST_NODES, Slot};
+use wire::{Envelope, NodeId, Nodes, Request};
+
+/// All nodes of a run, over storages of one kind.
+#[derive(Drop)]
+pub struct Run<S> {
+    nodes: Vec<Node<Scripted<S>>>,
+    submitted: Vec<Submission>,
+    frames: Vec<Envelope>,
+    // Which frames wait to be delivered. No frame below `lowest` waits.
+    waiting: Vec<bool>,
+    lowest: usize,
+    learnt: Vec<Learnt>,
+    replies: Vec<Replied>,
+    answers: Vec<Answered>,
+    outcomes: Vec<Outcome>,
+    ghost flags: { vec_len waiting ≡ vec_len frames },
+    ghost within: { lowest ≤ vec_len waiting },
+    ghost swept: { NoneWaitsBelow waiting.items lowest },
+    ghost fleet: { IsFleet (map state_of nodes.items) frames.items },
+}
+
+impl Run<MemStable> {
+    ghost use Rattle.world.specs.Worlds.{run_of};
+    ghost use Rattle.world.specs.Flushing.{IsStart};
+
+    /// A world of so many nodes over empty records in memory. `Memory` is its only fault.
+    pub fn new(alloc: Global, count: Nodes) -> Result<Run<MemStable>, WorldFault>
+        ensures start { IfOk result (λ w. IsStart (⟦<Scripted<MemStable> as Stable>⟧.contents) count (run_of w)) }
+        ensures faults { IfErr result (λ f. f ≡ WorldFault.Memory) }
+    {
+        let nodes = start_nodes(alloc, count)?;
+        Ok(Run {
+            nodes,
+            submitted: Vec::new(alloc),
+            frames: Vec::new(alloc),
+            waiting: Vec::new(alloc),
+            lowest: 0,
+            learnt: Vec::new(alloc),
+            replies: Vec::new(alloc),
+            answers: Vec::new(alloc),
+            outcomes: Vec::new(alloc),
+        })
+    }
+}
+
+impl<S: Stable> Run<S> {
+    ghost use Rattle.world.specs.Worlds.{run_of, with_told, with_outcome, outcome_of, TakesAt, SubmitsAt, ArmsAt, AsksAt, ReceivesAt, DeliversFrame, RestartsAt, Steps, with_answer, quiet, without_wait, HasRoom};
+    ghost use Rattle.world.specs.Events.{NamesNoFrame, NamesNoNode};
+    ghost use Rattle.world.specs.Flushing.{Delivers, DeliversSome};
+
+    /// The requests that nodes took.
+    pub fn submitted(&self) -> &[Submission]
+        ensures { result.now ≡ (run_of self.now).submitted }
+    {
+        self.submitted.as_slice()
+    }
+
+    /// Every frame that was sent.
+    pub fn frames(&self) -> &[Envelope]
+        ensures { result.now ≡ (run_of self.now).frames }
+    {
+        self.frames.as_slice()
+    }
+
+    /// What nodes learnt.
+    pub fn learnt(&self) -> &[Learnt]
+        ensures { result.now ≡ (run_of self.now).learnt }
+    {
+        self.learnt.as_slice()
+    }
+
+    /// The replies to requests.
+    pub fn replies(&self) -> &[Replied]
+        ensures { result.now ≡ (run_of self.now).replies }
+    {
+        self.replies.as_slice()
+    }
+
+    /// The answers to queries.
+    pub fn answers(&self) -> &[Answered]
+        ensures { result.now ≡ (run_of self.now).answers }
+    {
+        self.answers.as_slice()
+    }
+
+    /// What came of each step.
+    pub fn outcomes(&self) -> &[Outcome]
+        ensures { result.now ≡ (run_of self.now).outcomes }
+    {
+        self.outcomes.as_slice()
+    }
+
+    /// The puts that took effect at a node, the oldest first; None where the run has no such node.
+    pub fn writes(&self, node: NodeId) -> Option<&[Put]>
+        ensures no_node { IsNone result ↔ (length (run_of self.now).nodes ≤ node) }
+        ensures writes { IfSome result (λ puts. IfSome (slice_get (run_of self.now).nodes node) (λ n.
+            puts.now ≡ n.storage.writes)) }
+    {
+        let at = self.nodes.get(usize::from(node.value()))?;
+        Some(at.writes())
+    }
+
+    /// One atomic step. After a fault the world is as it was.
+    pub fn step(&mut self, alloc: Global, event: Event) -> Result<(), WorldFault>
+        ensures steps { OnOk result (Steps (⟦<Scripted<S> as Stable>⟧.contents)
+            (⟦<Scripted<S> as Stable>⟧.IsHonest) (⟦<Scripted<S> as Stable>⟧.reads)
+            (⟦<Scripted<S> as Stable>⟧.read_fails) (⟦<Scripted<S> as Stable>⟧.puts)
+            (⟦<Scripted<S> as Stable>⟧.fails) (run_of self.old) event (run_of self.new)) }
+        ensures err { OnErr result (run_of self.new ≡ run_of self.old) }
+
+        // Each fault.
+        ensures no_frame { IsErrOf result WorldFault.NoSuchMessage
+            ↔ NamesNoFrame (length (run_of self.old).frames) event }
+        ensures no_node { IsErrOf result WorldFault.NoSuchNode
+            ↔ NamesNoNode (length (run_of self.old).nodes) event }
+        ensures faults { IfErr result (λ f. (f ≡ WorldFault.NoSuchMessage) ⊎ (f ≡ WorldFault.NoSuchNode)
+            ⊎ (f ≡ WorldFault.Memory)) }
+    {
+        match event {
+            Event::Submit {
+                node,
+                client,
+                number,
+                op,
+            } => self.submit(alloc, node, Request::new(client, number, op)),
+            Event::Deliver(frame) => self.deliver(alloc, frame),
+            Event::Drop(frame) => self.drop_frame(frame),
+            Event::Timeout(node) => self.input(alloc, node, Input::Timeout),
+            Event::Tick(node) => self.input(alloc, node, Input::Tick),
+            Event::Restart(node) => self.restart(alloc, node),
+            Event::Fault(node, failing) => self.arm(node, failing),
+            Event::Query(node, query) => self.query(alloc, node, &query),
+        }
+    }
+
+    /// Delivers the lowest waiting frame until none waits: how many. What was delivered before a fault stays so.
+    pub fn flush(&mut self, alloc: Global) -> Result<u32, WorldFault>
+        ensures delivers { IfOk result (λ n. Delivers (⟦<Scripted<S> as Stable>⟧.reads)
+            (⟦<Scripted<S> as Stable>⟧.puts) (⟦<Scripted<S> as Stable>⟧.fails)
+            (run_of self.old) n (run_of self.new)) }
+        ensures to_the_end { OnOk result (NoneWaits (run_of self.new).waiting) }
+        ensures most { IfOk result (λ n. n ≤ MOST_DELIVERIES) }
+
+        // What a fault leaves.
+        ensures limit { IsErrOf result WorldFault.FlushLimit → Delivers (⟦<Scripted<S> as Stable>⟧.reads)
+            (⟦<Scripted<S> as Stable>⟧.puts) (⟦<Scripted<S> as Stable>⟧.fails)
+            (run_of self.old) MOST_DELIVERIES (run_of self.new) }
+        ensures memory { IsErrOf result WorldFault.Memory → DeliversSome (⟦<Scripted<S> as Stable>⟧.reads)
+            (⟦<Scripted<S> as Stable>⟧.puts) (⟦<Scripted<S> as Stable>⟧.fails)
+            (run_of self.old) MOST_DELIVERIES (run_of self.new) }
+        ensures not_to_the_end { OnErr result (OneWaits (run_of self.new).waiting) }
+        ensures faults { IfErr result (λ f. (f ≡ WorldFault.FlushLimit) ⊎ (f ≡ WorldFault.Memory)) }
+    {
+        for delivered in 0..MOST_DELIVERIES {
+            match self.next_waiting() {
+                Some(frame) => self.deliver(alloc, frame)?,
+                None => return Ok(delivered),
+            }
+        }
+        match self.next_waiting() {
+            Some(_) => Err(WorldFault::FlushLimit),
+            None => Ok(MOST_DELIVERIES),
+        }
+    }
+
+    // The lowest frame that waits. One that waits no more never waits again, so the search goes on where it ended.
+    fn next_waiting(&mut self) -> Option<u64>
+        ensures same { run_of self.new ≡ run_of self.old }
+        ensures lowest { MatchOption result (NoneWaits (run_of self.old).waiting)
+            (IsLowestWaiting (run_of self.old).waiting) }
+    {
+        self.lowest = first_set(self.waiting.as_slice(), self.lowest);
+        if self.lowest < self.waiting.len() {
+            Some(self.lowest as u64)
+        } else {
+            None
+        }
+    }
+
+    // A client's request comes to a node.
+    fn submit(&mut self, alloc: Global, node: NodeId, request: Request) -> Result<(), WorldFault>
+        ensures submits { OnOk result (SubmitsAt (⟦<Scripted<S> as Stable>⟧.reads)
+            (⟦<Scripted<S> as Stable>⟧.puts) (⟦<Scripted<S> as Stable>⟧.fails)
+            (run_of self.old) node request (run_of self.new)) }
+        ensures err { OnErr result (run_of self.new ≡ run_of self.old) }
+        ensures no_node { IsErrOf result WorldFault.NoSuchNode ↔ (length (run_of self.old).nodes ≤ node) }
+        ensures faults { IfErr result (λ f. (f ≡ WorldFault.NoSuchNode) ⊎ (f ≡ WorldFault.Memory)) }
+    {
+        self.find(node)?;
+        self.reserve()?;
+        let copy = request.try_clone()?;
+        if self.take(alloc, node, Input::Submit(request)) {
+            let _ = self.submitted.push(Submission {
+                node,
+                request: copy,
+            });
+        }
+        Ok(())
+    }
+
+    // Anything but a frame or a client's request comes to a node.
+    fn input(&mut self, alloc: Global, node: NodeId, input: Input) -> Result<(), WorldFault>
+        requires sender { ComesFrom (vec_len self.old.nodes) input }
+        ensures takes { OnOk result ((taken : Bool) × TakesAt (⟦<Scripted<S> as Stable>⟧.reads)
+            (⟦<Scripted<S> as Stable>⟧.puts) (⟦<Scripted<S> as Stable>⟧.fails)
+            (run_of self.old) node input taken (run_of self.new)) }
+        ensures err { OnErr result (run_of self.new ≡ run_of self.old) }
+        ensures no_node { IsErrOf result WorldFault.NoSuchNode ↔ (length (run_of self.old).nodes ≤ node) }
+        ensures faults { IfErr result (λ f. (f ≡ WorldFault.NoSuchNode) ⊎ (f ≡ WorldFault.Memory)) }
+    {
+        self.find(node)?;
+        self.reserve()?;
+        let _taken = self.take(alloc, node, input);
+        Ok(())
+    }
+
+    // A frame comes to its receiver.
+    fn deliver(&mut self, alloc: Global, frame: u64) -> Result<(), WorldFault>
+        ensures delivers { OnOk result (DeliversFrame (⟦<Scripted<S> as Stable>⟧.reads)
+            (⟦<Scripted<S> as Stable>⟧.puts) (⟦<Scripted<S> as Stable>⟧.fails)
+            (run_of self.old) frame (run_of self.new)) }
+        ensures err { OnErr result (run_of self.new ≡ run_of self.old) }
+        ensures no_frame { IsErrOf result WorldFault.NoSuchMessage
+            ↔ (length (run_of self.old).frames ≤ frame) }
+        ensures faults { IfErr result (λ f. (f ≡ WorldFault.NoSuchMessage) ⊎ (f ≡ WorldFault.Memory)) }
+    {
+        let index = self.sent(frame)?;
+        let envelope = self.frames[index].try_clone()?;
+        self.reserve()?;
+        self.stop_waiting(index);
+        self.receive(alloc, envelope);
+        Ok(())
+    }
+
+    // A frame has come: a node that is up takes it, and one that is down loses it.
+    fn receive(&mut self, alloc: Global, envelope: Envelope)
+        requires between { IsBetween (vec_len self.old.nodes) envelope }
+        requires room { HasRoom self.old }
+        ensures { ReceivesAt (⟦<Scripted<S> as Stable>⟧.reads) (⟦<Scripted<S> as Stable>⟧.puts)
+            (⟦<Scripted<S> as Stable>⟧.fails) (run_of self.old) envelope (run_of self.new) }
+    {
+        let Envelope { from, to, message } = envelope;
+        let at = &self.nodes[usize::from(to.value())];
+        if !at.is_up() {
+            let _ = self.outcomes.push(Outcome::Lost);
+            return;
+        }
+        let _taken = self.take(alloc, to, Input::Message(from, message));
+    }
+
+    // A frame waits no more.
+    fn drop_frame(&mut self, frame: u64) -> Result<(), WorldFault>
+        ensures drops { OnOk result (run_of self.new ≡ quiet (without_wait (run_of self.old) frame)) }
+        ensures err { OnErr result (run_of self.new ≡ run_of self.old) }
+        ensures no_frame { IsErrOf result WorldFault.NoSuchMessage
+            ↔ (length (run_of self.old).frames ≤ frame) }
+        ensures faults { IfErr result (λ f. (f ≡ WorldFault.NoSuchMessage) ⊎ (f ≡ WorldFault.Memory)) }
+    {
+        let index = self.sent(frame)?;
+        self.reserve()?;
+        self.waiting[index] = false;
+        let _ = self.outcomes.push(QUIET);
+        Ok(())
+    }
+
+    // The next put of a node fails so.
+    fn arm(&mut self, node: NodeId, failing: Failing) -> Result<(), WorldFault>
+        ensures arms { OnOk result (ArmsAt (run_of self.old) node failing (run_of self.new)) }
+        ensures err { OnErr result (run_of self.new ≡ run_of self.old) }
+        ensures no_node { IsErrOf result WorldFault.NoSuchNode ↔ (length (run_of self.old).nodes ≤ node) }
+        ensures faults { IfErr result (λ f. (f ≡ WorldFault.NoSuchNode) ⊎ (f ≡ WorldFault.Memory)) }
+    {
+        self.find(node)?;
+        self.reserve()?;
+        self.arm_node(node, failing);
+        Ok(())
+    }
+
+    // A node is asked for what its database holds.
+    fn query(&mut self, alloc: Global, node: NodeId, query: &Query) -> Result<(), WorldFault>
+        ensures asks { OnOk result (AsksAt (run_of self.old) node (run_of self.new)) }
+        ensures err { OnErr result (run_of self.new ≡ run_of self.old) }
+        ensures no_node { IsErrOf result WorldFault.NoSuchNode ↔ (length (run_of self.old).nodes ≤ node) }
+        ensures faults { IfErr result (λ f. (f ≡ WorldFault.NoSuchNode) ⊎ (f ≡ WorldFault.Memory)) }
+    {
+        self.find(node)?;
+        self.reserve()?;
+        self.ask(alloc, node, query);
+        Ok(())
+    }
+
+    // A node's next put fails so.
+    fn arm_node(&mut self, node: NodeId, failing: Failing)
+        requires there { node < vec_len self.old.nodes }
+        requires room { HasRoom self.old }
+        ensures { ArmsAt (run_of self.old) node failing (run_of self.new) }
+    {
+        let at = &mut self.nodes[usize::from(node.value())];
+        at.arm(failing);
+        let _ = self.outcomes.push(QUIET);
+    }
+
+    // A node answers, and its answer joins the list.
+    fn ask(&mut self, alloc: Global, node: NodeId, query: &Query)
+        requires there { node < vec_len self.old.nodes }
+        requires room { HasRoom self.old }
+        ensures { AsksAt (run_of self.old) node (run_of self.new) }
+    {
+        let at = &self.nodes[usize::from(node.value())];
+        match at.query(alloc, query) {
+            Ok((position, text)) => self.answer(node, position, text),
+            Err(fault) => {
+                let _ = self.outcomes.push(Outcome::Refused(node, fault));
+            }
+        }
+    }
+
+    // An answer joins the list.
+    fn answer(&mut self, node: NodeId, position: u32, text: Text)
+        requires room { HasRoom self.old }
+        ensures { run_of self.new ≡ with_answer (run_of self.old) node position text }
+    {
+        let _ = self.answers.push(Answered {
+            node,
+            position,
+            text,
+        });
+        let _ = self.outcomes.push(Outcome::Answered);
+    }
+
+    // A frame waits no more.
+    fn stop_waiting(&mut self, index: usize)
+        requires there { index < vec_len self.old.frames }
+        requires room { HasRoom self.old }
+        ensures stops { run_of self.new ≡ without_wait (run_of self.old) index }
+        ensures nodes { self.new.nodes ≡ self.old.nodes }
+        ensures room { HasRoom self.new }
+    {
+        self.waiting[index] = false;
+    }
+
+    // A node loses what is not in its records, and loads these.
+    fn restart(&mut self, alloc: Global, node: NodeId) -> Result<(), WorldFault>
+        ensures restarts { OnOk result (RestartsAt (⟦<Scripted<S> as Stable>⟧.contents)
+            (⟦<Scripted<S> as Stable>⟧.IsHonest) (⟦<Scripted<S> as Stable>⟧.reads)
+            (⟦<Scripted<S> as Stable>⟧.read_fails) (run_of self.old) node (run_of self.new)) }
+        ensures err { OnErr result (run_of self.new ≡ run_of self.old) }
+        ensures no_node { IsErrOf result WorldFault.NoSuchNode ↔ (length (run_of self.old).nodes ≤ node) }
+        ensures faults { IfErr result (λ f. (f ≡ WorldFault.NoSuchNode) ⊎ (f ≡ WorldFault.Memory)) }
+    {
+        self.find(node)?;
+        self.reserve()?;
+        self.restart_node(alloc, node);
+        Ok(())
+    }
+
+    // A node restarts, and what came of it is told.
+    fn restart_node(&mut self, alloc: Global, node: NodeId)
+        requires there { node < vec_len self.old.nodes }
+        requires room { HasRoom self.old }
+        ensures { RestartsAt (⟦<Scripted<S> as Stable>⟧.contents) (⟦<Scripted<S> as Stable>⟧.IsHonest)
+            (⟦<Scripted<S> as Stable>⟧.reads) (⟦<Scripted<S> as Stable>⟧.read_fails)
+            (run_of self.old) node (run_of self.new) }
+    {
+        let at = &mut self.nodes[usize::from(node.value())];
+        match at.restart(alloc) {
+            Ok(()) => {
+                let _ = self.outcomes.push(QUIET);
+            }
+            Err(fault) => {
+                let _ = self.outcomes.push(Outcome::Stopped(node, fault));
+            }
+        }
+    }
+
+    // Whether the run has the node.
+    fn find(&self, node: NodeId) -> Result<(), WorldFault>
+        ensures found { OnOk result (node < vec_len self.now.nodes) }
+        ensures no_node { IfErr result (λ f. (f ≡ WorldFault.NoSuchNode) × (vec_len self.now.nodes ≤ node)) }
+    {
+        if usize::from(node.value()) < self.nodes.len() {
+            Ok(())
+        } else {
+            Err(WorldFault::NoSuchNode)
+        }
+    }
+
+    // Where the frame of this number stands.
+    fn sent(&self, frame: u64) -> Result<usize, WorldFault>
+        ensures found { IfOk result (λ index. (index ≡ frame) × (index < vec_len self.now.frames)) }
+        ensures no_frame { IfErr result (λ f.
+            (f ≡ WorldFault.NoSuchMessage) × (vec_len self.now.frames ≤ frame)) }
+    {
+        let Ok(index) = usize::try_from(frame) else {
+            return Err(WorldFault::NoSuchMessage);
+        };
+        if index < self.frames.len() {
+            Ok(index)
+        } else {
+            Err(WorldFault::NoSuchMessage)
+        }
+    }
+
+    // A node takes an input, and what it tells joins the lists: whether it took it.
+    fn take(&mut self, alloc: Global, node: NodeId, input: Input) -> bool
+        requires there { node < vec_len self.old.nodes }
+        requires sender { ComesFrom (vec_len self.old.nodes) input }
+        requires room { HasRoom self.old }
+        ensures taken { TakesAt (⟦<Scripted<S> as Stable>⟧.reads) (⟦<Scripted<S> as Stable>⟧.puts)
+            (⟦<Scripted<S> as Stable>⟧.fails) (run_of self.old) node input result (run_of self.new) }
+        ensures submitted { self.new.submitted ≡ self.old.submitted }
+    {
+        let at = &mut self.nodes[usize::from(node.value())];
+        match at.step(alloc, input) {
+            Ok(outputs) => {
+                self.record(node, outputs);
+                true
+            }
+            Err(fault) => {
+                self.fail(node, fault);
+                false
+            }
+        }
+    }
+
+    // Room for all that one step may add, so that nothing is refused once a node has made it.
+    fn reserve(&mut self) -> Result<(), WorldFault>
+        ensures same { run_of self.new ≡ run_of self.old }
+        ensures room { OnOk result (HasRoom self.new) }
+        ensures memory { IfErr result (λ fault. fault ≡ WorldFault.Memory) }
+    {
+        self.submitted.try_reserve(1)?;
+        self.frames.try_reserve(usize::from(MOST_NODES))?;
+        self.waiting.try_reserve(usize::from(MOST_NODES))?;
+        self.learnt.try_reserve(1)?;
+        self.replies.try_reserve(1)?;
+        self.answers.try_reserve(1)?;
+        self.outcomes.try_reserve(1)?;
+        Ok(())
+    }
+
+    // The outputs of a node join the lists.
+    fn record(&mut self, node: NodeId, outputs: Outputs)
+        requires room { HasRoom self.old }
+        requires few { length outputs.sends ≤ MOST_NODES }
+        requires between { All (IsBetween (vec_len self.old.nodes)) outputs.sends }
+        ensures lists { run_of self.new ≡ with_told (run_of self.old) node outputs }
+        ensures submitted { self.new.submitted ≡ self.old.submitted }
+    {
+        let Outputs {
+            learnt,
+            executed,
+            mut sends,
+        } = outputs;
+        let outcome = Outcome::Done(learnt.is_some(), executed.is_some());
+        if let Some(command) = learnt {
+            let slot = Slot::first();
+            let _ = self.learnt.push(Learnt {
+                node,
+                slot,
+                command,
+            });
+        }
+        if let Some(executed) = executed {
+            let _ = self.replies.push(replied(node, executed));
+        }
+        let _ = self.frames.append(&mut sends);
+        let _ = self.waiting.resize(self.frames.len(), true);
+        let _ = self.outcomes.push(outcome);
+    }
+
+    // A node has refused, or went down.
+    fn fail(&mut self, node: NodeId, fault: NodeFault)
+        requires room { HasRoom self.old }
+        ensures lists { run_of self.new ≡ with_outcome (run_of self.old) (outcome_of node fault) }
+        ensures submitted { self.new.submitted ≡ self.old.submitted }
+    {
+        let outcome = if fault.is_stop() {
+            Outcome::Stopped(node, fault)
+        } else {
+            Outcome::Refused(node, fault)
+        };
+        let _ = self.outcomes.push(outcome);
+    }
+}
+
+// A reply, at the position of the one slot.
+fn replied(node: NodeId, executed: Executed) -> Replied
+    ensures { result ≡ replied_at node executed }
+{
+    Replied {
+        node,
+        client: executed.client,
+        number: executed.number,
+        reply: executed.reply,
+        position: 1,
+    }
+}
+
+// The step was made, and there is nothing to tell.
+const QUIET: Outcome = Outcome::Done(false, false);
