@@ -3,8 +3,7 @@
 ghost use Rattle.std.specs.Prelude.{◌≡◌, ◌≢◌, OnOk};
 ghost use Rattle.std.specs.Io.KnownBytes.{Appends};
 ghost use Rattle.std.specs.IoError.{error_kind};
-ghost use Rattle.schedule.specs.Codes.{code_of};
-ghost use Rattle.schedule.specs.declared.fault.ScheduleFault.{ScheduleFault};
+ghost use Rattle.schedule.specs.Causes.{cause_code};
 ghost use Rattle.mfpx.specs.Failures.{line_text, status_of};
 ghost use Rattle.mfpx.specs.declared.failure.Failure.TheVariants.{Memory};
 
@@ -96,13 +95,8 @@ pub(crate) fn device_failure(error: &io::Error) -> Failure
 /// What a replay's fault is to the program. Want of memory has no line, wherever it came.
 pub(crate) fn replay_failure(fault: ReplayFault) -> Failure
     ensures memory { fault.cause ≡ ReplayCause.Memory → result ≡ Failure.Memory }
-    ensures no_message { fault.cause ≡ ReplayCause.NoSuchMessage
-        → result ≡ Failure.Schedule (record { line = fault.line; fault = 51 }) }
-    ensures flush_limit { fault.cause ≡ ReplayCause.FlushLimit
-        → result ≡ Failure.Schedule (record { line = fault.line; fault = 53 }) }
-    ensures never_usage { result ≢ Failure.Usage }
-    ensures schedule { (wrong : ScheduleFault) → fault.cause ≡ ReplayCause.Schedule wrong
-        → result ≡ Failure.Schedule (record { line = fault.line; fault = code_of wrong }) }
+    ensures line { fault.cause ≢ ReplayCause.Memory
+        → result ≡ Failure.Schedule (record { line = fault.line; fault = cause_code fault.cause }) }
 {
     match fault.cause {
         ReplayCause::Memory => Failure::Memory,

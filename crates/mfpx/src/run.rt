@@ -3,11 +3,14 @@
 ghost use Rattle.std.specs.Prelude.{◌≡◌, ◌≢◌, ◌≤◌, ◌⊎◌, [], ℕ, List, map, codes};
 ghost use Rattle.std.specs.Prelude.{string_bytes, IfOk, IfErr, IfSome, OnOk};
 ghost use Rattle.std.specs.Io.KnownBytes.{Appends};
+ghost use Rattle.schedule.specs.Runs.{IsReplay};
 ghost use Rattle.mfpx.specs.Forms.{file_of};
+ghost use Rattle.mfpx.specs.Replays.{AskFor, IsFaulty, IsReplayFailure, IsTranscript};
 
-use crate::failure::{Failure, device_failure, replay_failure};
+use crate::failure::{Failure, FaultyLine, device_failure, replay_failure};
 use crate::words::{Source, source_of};
 use schedule::replay;
+use stable::{MemStable, Scripted, Stable};
 use std::alloc::Global;
 use std::fs;
 use std::io::{Read, Write};
@@ -33,10 +36,13 @@ pub fn command<R: Read, O: Write, E: Write>(
     err: &mut E,
 ) -> u8
     ensures statuses { result ≤ 3 }
-    ensures done { result ≡ 0 → (text : List ℕ) × Appends (O.contents out.old)
-        (O.contents out.new) text }
+    ensures done { result ≡ 0 → (text : List ℕ)
+        × IsTranscript (⟦<Scripted<MemStable> as Stable>⟧) (map string_bytes words.items) (R.remaining input.old) text
+        × Appends (O.contents out.old) (O.contents out.new) text }
     ensures done_silently { result ≡ 0 → err.new ≡ err.old }
-    ensures faulty_line { result ≡ 1 → out.new ≡ out.old }
+    ensures faulty_line { result ≡ 1 → (at : FaultyLine)
+        × IsFaulty (⟦<Scripted<MemStable> as Stable>⟧) (map string_bytes words.items) (R.remaining input.old) at }
+    ensures faulty_unprinted { result ≡ 1 → out.new ≡ out.old }
     ensures usage { result ≡ 2 → out.new ≡ out.old }
     ensures words_come_first { result ≡ 2 → input.new ≡ input.old }
     ensures file_alone { words.items ≢ [] → (text : List ℕ)
@@ -61,8 +67,11 @@ fn run<R: Read, O: Write>(
     input: &mut R,
     out: &mut O,
 ) -> Result<(), Failure>
-    ensures ok { OnOk result ((text : List ℕ) × Appends (O.contents out.old)
-        (O.contents out.new) text) }
+    ensures done { OnOk result ((text : List ℕ)
+        × IsTranscript (⟦<Scripted<MemStable> as Stable>⟧) (map string_bytes words.now) (R.remaining input.old) text
+        × Appends (O.contents out.old) (O.contents out.new) text) }
+    ensures faulty { (at : FaultyLine) → result ≡ Err (Failure.Schedule at)
+        → IsFaulty (⟦<Scripted<MemStable> as Stable>⟧) (map string_bytes words.now) (R.remaining input.old) at }
     ensures untouched { IfErr result (λ failure. failure ≢ Failure.Device
         → out.new ≡ out.old) }
     ensures words_come_first { IfErr result (λ failure. failure ≡ Failure.Usage
@@ -72,13 +81,27 @@ fn run<R: Read, O: Write>(
         → input.new ≡ input.old }
     ensures no_words { words.now ≡ [] → IfErr result (λ failure. failure ≢ Failure.Usage) }
 {
-    let source = source_of(rt.alloc(), words)?;
-    let bytes = match source {
-        Source::Input => input_bytes(rt.alloc(), input)?,
-        Source::File(path) => file_bytes(rt, path)?,
-    };
+    let bytes = read(rt, words, input)?;
     let text = transcript(rt.alloc(), bytes.as_slice())?;
     print(out, text.as_slice())
+}
+
+/// The bytes that the words ask for.
+fn read<R: Read>(rt: &HostRuntime, words: &[String], input: &mut R) -> Result<Vec<u8>, Failure>
+    ensures asked { IfOk result (λ bytes.
+        AskFor (map string_bytes words.now) (R.remaining input.old) bytes.items) }
+    ensures no_line { (at : FaultyLine) → result ≢ Err (Failure.Schedule at) }
+    ensures words_come_first { IfErr result (λ failure. failure ≡ Failure.Usage
+        → input.new ≡ input.old) }
+    ensures file_alone { words.now ≢ [] → (text : List ℕ)
+        → file_of (map string_bytes words.now) ≡ Some text → text ≢ codes "-"
+        → input.new ≡ input.old }
+    ensures no_words { words.now ≡ [] → IfErr result (λ failure. failure ≢ Failure.Usage) }
+{
+    match source_of(rt.alloc(), words)? {
+        Source::Input => input_bytes(rt.alloc(), input),
+        Source::File(path) => file_bytes(rt, path),
+    }
 }
 
 /// All that is left of the input.
@@ -108,7 +131,10 @@ fn file_bytes(rt: &HostRuntime, path: &str) -> Result<Vec<u8>, Failure>
 
 /// The transcript of the schedule that the bytes spell.
 fn transcript(alloc: Global, bytes: &[u8]) -> Result<Vec<u8>, Failure>
-    ensures { IfErr result (λ failure. failure ≢ Failure.Usage) }
+    ensures replay { IfOk result (λ text.
+        IsReplay (⟦<Scripted<MemStable> as Stable>⟧) bytes.now text.items) }
+    ensures ends { IfErr result
+        (IsReplayFailure (⟦<Scripted<MemStable> as Stable>⟧) bytes.now) }
 {
     match replay(alloc, bytes) {
         Ok(text) => Ok(text),

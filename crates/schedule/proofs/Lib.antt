@@ -4,5 +4,7 @@ pub mod Faults
 pub mod NoSchedule
 pub mod One
 pub mod OneFault
+pub mod NodeCount
 pub mod Progress
+pub mod Running
 pub mod Spelled

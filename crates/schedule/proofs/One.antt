@@ -1,5 +1,5 @@
 -- No bytes spell two schedules.
-use Rattle.std.proofs.Common.{◌≡◌, ℕ, ◌≤◌, ◌^◌, List, [], ◌∷◌, Option, Some, None, cond, codes, refl, sym, ◌∙◌, subst, arith}
+use Rattle.std.proofs.Common.{◌≡◌, ℕ, ◌≤◌, ◌^◌, List, [], ◌∷◌, Option, Some, None, cond, codes, refl, sym, ◌∙◌, ap, subst, arith}
 use Rattle.std.specs.Option.{option_and_then}
 use Rattle.std.specs.Str.{bytes_eq}
 use Rattle.std.specs.Str.Parse.{digits_value}
@@ -20,7 +20,7 @@ use Rattle.schedule.specs.declared.keyword.Keyword.{Keyword}
 use Rattle.schedule.specs.declared.keyword.Keyword.TheVariants as keyword
 use Rattle.schedule.specs.declared.plan.ScheduleLine.{ScheduleLine}
 use Rattle.schedule.proofs.Faults.{read_back}
-use Rattle.schedule.proofs.NoSchedule.{tails}
+use Rattle.schedule.proofs.NoSchedule.{heads, tails}
 
 -- the number that a word writes
 abbrev value : List ℕ → ℕ
@@ -101,8 +101,8 @@ one_list n (t ∷ ts) (x ∷ xs) (y ∷ ys) small ea eb =
     let rest : xs ≡ ys = one_list n ts xs ys small ea.2 eb.2 in
     cc
 
-one_plan : (a b : Plan) → a.nodes ≡ b.nodes → a.lines ≡ b.lines → a ≡ b
-one_plan a b nodes lines = λ i. record { nodes = nodes i; lines = lines i }
+one_plan : (a b : Plan) → a.first ≡ b.first → a.nodes ≡ b.nodes → a.lines ≡ b.lines → a ≡ b
+one_plan a b first nodes lines = λ i. record { first = first i; nodes = nodes i; lines = lines i }
 
 pub one_schedule : (bytes : List ℕ) (a b : Plan) → IsScheduleOf bytes a → IsScheduleOf bytes b → a ≡ b
 one_schedule bytes a b sa sb =
@@ -112,4 +112,6 @@ one_schedule bytes a b sa sb =
     subst (λ (m : ℕ). SpellEach m sa.others b.lines) size
     (subst (λ (ts : List NumberedText). SpellEach b.nodes ts b.lines) others sb.spelled) in
     let small : a.nodes ≤ 2 ^ 64 = omega (arith, sa.nodes_line.three) in
-    one_plan a b (sym size) (one_list a.nodes sa.others a.lines b.lines small sa.spelled each)
+    let first : sb.first ≡ sa.first = heads _ _ _ _ (sym sb.lines ∙ sa.lines) in
+    let number : a.first ≡ b.first = sa.first_number ∙ sym (ap (λ (l : NumberedText). l.number) first) ∙ sym sb.first_number in
+    one_plan a b number (sym size) (one_list a.nodes sa.others a.lines b.lines small sa.spelled each)

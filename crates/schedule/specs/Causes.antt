@@ -3,7 +3,10 @@ use Rattle.std.specs.Prelude.{ℕ}
 use Rattle.world.specs.declared.fault.WorldFault.{WorldFault}
 use Rattle.world.specs.declared.fault.WorldFault.TheVariants as world_fault
 use Rattle.schedule.specs.Codes.{code_of}
+use Rattle.schedule.specs.declared.fault.ParseFault.{ParseFault}
+use Rattle.schedule.specs.declared.fault.ParseFault.TheVariants as parse_fault
 use Rattle.schedule.specs.declared.replay_fault.ReplayCause.{ReplayCause}
+use Rattle.schedule.specs.declared.replay_fault.ReplayFault.{ReplayFault}
 use Rattle.schedule.specs.declared.replay_fault.ReplayCause.TheVariants.{Schedule, NoSuchMessage, NoSuchNode, FlushLimit, Memory}
 
 -- the number of a cause
@@ -20,3 +23,8 @@ cause_of world_fault.NoSuchMessage = NoSuchMessage
 cause_of world_fault.NoSuchNode = NoSuchNode
 cause_of world_fault.FlushLimit = FlushLimit
 cause_of world_fault.Memory = Memory
+
+-- what is told of a schedule that was not read
+abbrev pub fault_of : ParseFault → ReplayFault
+fault_of (parse_fault.Line at) = record { line = at.line; cause = Schedule at.fault }
+fault_of (parse_fault.Memory line) = record { line = line; cause = Memory }

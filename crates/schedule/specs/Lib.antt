@@ -7,6 +7,7 @@ pub mod Lines
 pub mod Numbers
 pub mod Reading
 pub mod Rows
+pub mod Runs
 pub mod Schedules
 pub mod Spelling
 pub mod Submissions

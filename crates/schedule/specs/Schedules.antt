@@ -1,5 +1,5 @@
 -- Which bytes are the spelling of a schedule, and where else the first fault is.
-use Rattle.std.specs.Prelude.{◌≡◌, ℕ, List, [], ◌∷◌, ◌++◌, All}
+use Rattle.std.specs.Prelude.{◌≡◌, ℕ, ◌-◌, Option, Some, None, List, [], ◌∷◌, ◌++◌, length, slice_get, All}
 use Rattle.schedule.specs.Codes.{IsLowest}
 use Rattle.schedule.specs.Lines.{NumberedText, lines_of}
 use Rattle.schedule.specs.Spelling.{Spells}
@@ -10,10 +10,21 @@ use Rattle.schedule.specs.declared.fault.ParseFault.{ParseFault}
 use Rattle.schedule.specs.declared.fault.ParseFault.TheVariants.{Line, Memory}
 use Rattle.schedule.specs.declared.plan.ScheduleLine.{ScheduleLine}
 
--- a run of so many nodes, and its lines after the first, in order
+-- a run of so many nodes, as its first line says, and its lines after that, in order
 pub record Plan : Type 0 where
+  -- which line of the file is the first that is not empty, counted from 1
+  pub first : ℕ
   pub nodes : ℕ
   pub lines : List ScheduleLine
+
+-- the number of a line, or where there is none, another one
+abbrev pub number_or : ℕ → Option ScheduleLine → ℕ
+number_or other None = other
+number_or other (Some line) = line.number
+
+-- which line of the file is the last
+abbrev pub last_number : Plan → ℕ
+last_number plan = number_or plan.first (slice_get plan.lines (length plan.lines - 1))
 
 -- the texts spell the actions, one by one, and have their numbers
 abbrev pub SpellEach : ℕ → List NumberedText → List ScheduleLine → Type 0
@@ -28,6 +39,7 @@ pub record IsScheduleOf (bytes : List ℕ) (plan : Plan) : Type 0 where
   pub first : NumberedText
   pub others : List NumberedText
   pub lines : lines_of bytes ≡ first ∷ others
+  pub first_number : plan.first ≡ first.number
   pub nodes_line : IsNodesLine first.text plan.nodes
   pub spelled : SpellEach plan.nodes others plan.lines
 

@@ -32,7 +32,10 @@ pub fn parse_schedule(alloc: Global, bytes: &[u8]) -> Result<Schedule, ParseFaul
         }));
     };
     match nodes_line(first.text) {
-        Ok(nodes) => Ok(Schedule::new(nodes, later_lines(alloc, nodes, lines)?)),
+        Ok(nodes) => {
+            let later = later_lines(alloc, nodes, lines)?;
+            Ok(Schedule::new(first.number, nodes, later))
+        }
         Err(fault) => Err(ParseFault::Line(LineFault {
             line: first.number,
             fault,

@@ -17,6 +17,7 @@ pub struct ScheduleLine {
 /// A run that was written down: how many nodes it has, and what is done, line by line.
 #[derive(Debug, Drop)]
 pub struct Schedule {
+    first: u64,
     nodes: Nodes,
     lines: Vec<ScheduleLine>,
 }
@@ -26,15 +27,29 @@ impl Model for Schedule {
 
     ghost Value = { Plan };
 
-    ghost view = { λ s. record { nodes = s.nodes; lines = s.lines.items } };
+    ghost view = { λ s. record { first = s.first; nodes = s.nodes; lines = s.lines.items } };
 }
 
 impl Schedule {
-    /// The run of these nodes in which these lines are done in order.
-    pub(crate) fn new(nodes: Nodes, lines: Vec<ScheduleLine>) -> Schedule
-        ensures { result ≡ record { nodes = nodes; lines = lines.items } }
+    ghost use Rattle.schedule.specs.Schedules.{last_number};
+
+    /// The run of these nodes, as the line of the number `first` says, in which these lines are
+    /// done in order.
+    pub(crate) fn new(first: u64, nodes: Nodes, lines: Vec<ScheduleLine>) -> Schedule
+        ensures { result ≡ record { first = first; nodes = nodes; lines = lines.items } }
     {
-        Schedule { nodes, lines }
+        Schedule {
+            first,
+            nodes,
+            lines,
+        }
+    }
+
+    /// Which line of the file says how many nodes it has, counted from 1.
+    pub fn first(&self) -> u64
+        ensures { result ≡ self.now.first }
+    {
+        self.first
     }
 
     /// How many nodes it has.
@@ -42,6 +57,16 @@ impl Schedule {
         ensures { result ≡ self.now.nodes }
     {
         self.nodes
+    }
+
+    /// Which line of the file is its last, counted from 1.
+    pub fn last(&self) -> u64
+        ensures { result ≡ last_number self.now }
+    {
+        match self.lines.last() {
+            Some(line) => line.number,
+            None => self.first,
+        }
     }
 
     /// What is done, in order.

@@ -1,9 +1,9 @@
 //! Why a run ends without a transcript.
 
 ghost use Rattle.std.specs.Prelude.{◌≡◌};
-ghost use Rattle.schedule.specs.Causes.{cause_code, cause_of};
+ghost use Rattle.schedule.specs.Causes.{cause_code, cause_of, fault_of};
 
-use super::fault::ScheduleFault;
+use super::fault::{ParseFault, ScheduleFault};
 use world::WorldFault;
 
 /// Why a line of a run was not done.
@@ -55,4 +55,21 @@ pub struct ReplayFault {
     /// Which line of the file it is, counted from 1.
     pub line: u64,
     pub cause: ReplayCause,
+}
+
+impl From<ParseFault> for ReplayFault {
+    ghost from_gives = { λ given fault. fault ≡ fault_of given };
+
+    fn from(fault: ParseFault) -> ReplayFault {
+        match fault {
+            ParseFault::Line(at) => ReplayFault {
+                line: at.line,
+                cause: ReplayCause::Schedule(at.fault),
+            },
+            ParseFault::Memory(line) => ReplayFault {
+                line,
+                cause: ReplayCause::Memory,
+            },
+        }
+    }
 }

@@ -1,87 +1,142 @@
 //! A run of a schedule.
 
+ghost use Rattle.std.specs.Prelude.{◌≡◌, ◌≢◌, IfErr, IfOk, MatchResult};
+ghost use Rattle.world.specs.Flushing.{IsStart};
+ghost use Rattle.world.specs.Reaching.{AreHonest};
+ghost use Rattle.world.specs.Safety.{IsSafe};
+ghost use Rattle.world.specs.Seen.{world_of};
+ghost use Rattle.schedule.specs.Causes.{cause_of};
+ghost use Rattle.schedule.specs.Runs.{IsDone, IsRefused, IsReplay, IsStopped, Leads, ReplayEnds, RunEnds, RunsTo, EndsAt, told_of};
+
 use super::action::Action;
-use super::fault::ParseFault;
 use super::parse::parse_schedule;
-use super::plan::ScheduleLine;
+use super::plan::{Schedule, ScheduleLine};
 use super::replay_fault::{ReplayCause, ReplayFault};
 use super::report::transcript;
-use stable::Stable;
-use std::alloc::Global;
+use stable::{MemStable, Scripted, Stable};
+use std::alloc::{AllocError, Global};
 use world::{World, WorldFault};
 
 /// The transcript of the run that the bytes spell, over records in memory.
 ///
-/// Every line is parsed before the first event. An error is the first faulty line; else the line at which a frame was
-/// to be delivered that was never sent, a flush met its limit, or memory was wanting.
-pub fn replay(alloc: Global, bytes: &[u8]) -> Result<Vec<u8>, ReplayFault> {
-    let schedule = match parse_schedule(alloc, bytes) {
-        Ok(schedule) => schedule,
-        Err(fault) => return Err(unread(fault)),
-    };
+/// Every line is parsed before the first event. An error is the first faulty line; else the first
+/// line that can't be done, as it delivers or drops a frame that was never sent, or its flush meets
+/// the limit; or the line that was reached when memory was wanting. That is the line which was
+/// parsed or done just then, the first line of the schedule for the start of the nodes, and the last
+/// one for the transcript.
+pub fn replay(alloc: Global, bytes: &[u8]) -> Result<Vec<u8>, ReplayFault>
+    ensures transcript { IfOk result (λ text. IsReplay (⟦<Scripted<MemStable> as Stable>⟧) bytes.now text.items) }
+    ensures fault { IfErr result (ReplayEnds (⟦<Scripted<MemStable> as Stable>⟧) bytes.now) }
+    ensures nodes_are_there { IfErr result (λ fault. fault.cause ≢ ReplayCause.NoSuchNode) }
+{
+    let schedule = parse_schedule(alloc, bytes)?;
+    let world = start(alloc, &schedule)?;
+    run_lines(alloc, schedule, world)
+}
+
+/// The world in which a replay begins.
+fn start(alloc: Global, schedule: &Schedule) -> Result<World<MemStable>, ReplayFault>
+    ensures started { IfOk result (λ world.
+        IsStart (⟦<Scripted<MemStable> as Stable>⟧.contents) schedule.now.nodes (world_of world)) }
+    ensures refused { IfErr result (λ fault.
+        fault ≡ record { line = schedule.now.first; cause = ReplayCause.Memory }) }
+{
     match World::new(alloc, schedule.nodes()) {
-        Ok(world) => run_lines(alloc, schedule.into_lines(), world),
+        Ok(world) => Ok(world),
+        Err(fault) => Err(ReplayFault {
+            line: schedule.first(),
+            cause: ReplayCause::from(fault),
+        }),
+    }
+}
+
+/// The transcript of all that happened in the world once the schedule's lines are done in it.
+///
+/// The world may have any storages, and any past, which stands in the transcript too.
+pub fn run_lines<S: Stable + Drop>(
+    alloc: Global,
+    schedule: Schedule,
+    world: World<S>,
+) -> Result<Vec<u8>, ReplayFault>
+    ensures transcript { IfOk result (λ text.
+        RunsTo (⟦<Scripted<S> as Stable>⟧) schedule (world_of world) text.items) }
+    ensures fault { IfErr result
+        (RunEnds (⟦<Scripted<S> as Stable>⟧) schedule (world_of world)) }
+{
+    let mut world = world;
+    let last = schedule.last();
+    do_lines(alloc, &mut world, schedule.into_lines())?;
+    match world_transcript(alloc, &world) {
+        Ok(text) => Ok(text),
         Err(_) => Err(ReplayFault {
-            line: 1,
+            line: last,
             cause: ReplayCause::Memory,
         }),
     }
 }
 
-/// The transcript of the lines, run on the world.
-pub fn run_lines<S: Stable + Drop>(
-    alloc: Global,
-    lines: Vec<ScheduleLine>,
-    world: World<S>,
-) -> Result<Vec<u8>, ReplayFault> {
-    let mut world = world;
-    let mut reached = 1;
-    for line in lines {
-        let ScheduleLine { number, action } = line;
-        reached = number;
-        if let Err(fault) = act(alloc, &mut world, action) {
-            return Err(ReplayFault {
-                line: number,
-                cause: ReplayCause::from(fault),
-            });
-        }
-    }
-    match transcript(
+/// The transcript of all that happened in the world.
+fn world_transcript<S: Stable>(alloc: Global, world: &World<S>) -> Result<Vec<u8>, AllocError>
+    ensures told { IfOk result (λ text. text.items ≡ told_of (world_of world.now)) }
+    ensures safe { AreHonest (⟦<Scripted<S> as Stable>⟧.IsHonest) (world_of world.now).nodes
+        → ∥ IsSafe (world_of world.now) ∥₁ }
+{
+    transcript(
         alloc,
         world.outcomes(),
         world.learnt(),
         world.replies(),
         world.answers(),
-    ) {
-        Ok(text) => Ok(text),
-        Err(_) => Err(ReplayFault {
-            line: reached,
-            cause: ReplayCause::Memory,
+    )
+}
+
+/// Does the lines in order, up to the first that can't be done.
+fn do_lines<S: Stable>(
+    alloc: Global,
+    world: &mut World<S>,
+    lines: Vec<ScheduleLine>,
+) -> Result<(), ReplayFault>
+    ensures { MatchResult result
+        (λ _. Leads (⟦<Scripted<S> as Stable>⟧) lines.items (world_of world.old) (world_of world.new))
+        (EndsAt (⟦<Scripted<S> as Stable>⟧) lines.items (world_of world.old)) }
+{
+    for line in lines {
+        do_line(alloc, world, line)?;
+    }
+    Ok(())
+}
+
+/// Does one line, if it can be done.
+fn do_line<S: Stable>(
+    alloc: Global,
+    world: &mut World<S>,
+    line: ScheduleLine,
+) -> Result<(), ReplayFault>
+    ensures { MatchResult result
+        (λ _. IsDone (⟦<Scripted<S> as Stable>⟧) line.action (world_of world.old) (world_of world.new))
+        (IsStopped (⟦<Scripted<S> as Stable>⟧) line (world_of world.old)) }
+{
+    let ScheduleLine { number, action } = line;
+    match act(alloc, world, action) {
+        Ok(()) => Ok(()),
+        Err(fault) => Err(ReplayFault {
+            line: number,
+            cause: ReplayCause::from(fault),
         }),
     }
 }
 
-// One line.
-fn act<S: Stable>(alloc: Global, world: &mut World<S>, action: Action) -> Result<(), WorldFault> {
+/// Does what a line asks for.
+fn act<S: Stable>(alloc: Global, world: &mut World<S>, action: Action) -> Result<(), WorldFault>
+    ensures { MatchResult result
+        (λ _. IsDone (⟦<Scripted<S> as Stable>⟧) action (world_of world.old) (world_of world.new))
+        (λ fault. IsRefused (⟦<Scripted<S> as Stable>⟧) action (world_of world.old) (cause_of fault)) }
+{
     match action {
         Action::Step(event) => world.step(alloc, event),
         Action::Flush => {
             let _delivered = world.flush(alloc)?;
             Ok(())
         }
-    }
-}
-
-// Why no schedule was read.
-fn unread(fault: ParseFault) -> ReplayFault {
-    match fault {
-        ParseFault::Line(found) => ReplayFault {
-            line: found.line,
-            cause: ReplayCause::Schedule(found.fault),
-        },
-        ParseFault::Memory(line) => ReplayFault {
-            line,
-            cause: ReplayCause::Memory,
-        },
     }
 }

@@ -156,6 +156,7 @@ fn whole_schedule(rt: HostRuntime) -> Result<(), Fail> {
     let schedule = parse_schedule(rt.alloc(), WHOLE).ok().ok_or("a schedule")?;
     let nodes = schedule.nodes();
     assert_eq!(rt; nodes.count(), 3);
+    assert_eq!(rt; (schedule.first(), schedule.last()), (3, 17));
     let wanted = [
         (4, removal(0, 7, 1, b"bus-7")?),
         (5, removal(2, 255, u64::MAX, b"_.Z9")?),
@@ -244,6 +245,40 @@ fn numbers_of_causes(rt: HostRuntime) -> Result<(), Fail> {
     ];
     for (cause, number) in causes {
         assert_eq!(rt; cause.number(), number);
+    }
+    Ok(())
+}
+
+// a file, and its transcript
+const TOLD: [(&[u8], &[u8]); 2] = [
+    (b"nodes 3", b""),
+    (
+        b"nodes 3\nsubmit 0 7 1 remove bus-7\ntimeout 0\nflush\n",
+        b"learn 0 0 7:1\nreply 0 7:1 21\nlearn 1 0 7:1\nlearn 2 0 7:1\n",
+    ),
+];
+
+// a file that has none, the line that is told, and the number of the cause
+const ENDED: [(&[u8], u64, u8); 4] = [
+    (b"nodes 4", 1, 3),
+    (b"nodes 3\ndeliver 0\ntick 3", 3, 5),
+    (b"\nnodes 3\n\ndeliver 0", 4, 51),
+    (b"nodes 3\ntimeout 0\ndrop 2\ndrop 3\nflush", 4, 51),
+];
+
+#[test]
+fn replays(rt: HostRuntime) -> Result<(), Fail> {
+    for (file, transcript) in TOLD {
+        let text = replay(rt.alloc(), file).ok().ok_or("a transcript")?;
+        assert!(rt; text.as_slice() == transcript, "of {file:?}");
+    }
+    for (file, line, number) in ENDED {
+        let fault = replay(rt.alloc(), file).err().ok_or("a fault")?;
+        assert_eq!(rt;
+            (fault.line, fault.cause.number()),
+            (line, number),
+            "of {file:?}"
+        );
     }
     Ok(())
 }

@@ -5,19 +5,19 @@ use Rattle.schedule.proofs.NoSchedule.{refused_is_none, faulty_is_none}
 use Rattle.schedule.proofs.Progress.{refused_later}
 use Rattle.schedule.proofs.parse.parse_schedule.Goals as goal
 
-pub returns-in_err-later_lines-in-Ok-clause-refused :
-    goal.returns-in_err-later_lines-in-Ok-clause-refused
-returns-in_err-later_lines-in-Ok-clause-refused c =
+pub returns-in_err-later-in-Ok-clause-refused :
+    goal.returns-in_err-later-in-Ok-clause-refused
+returns-in_err-later-in-Ok-clause-refused c =
     let p = err_from_is_err_and c.from_residual.result c.from_residual.ensures.1 in
     rw (p.1, p.2) (refused_later _ _ _ _ _
-    (sym c.of-lines.ensures ∙ c.in-Some.ensures) c.in-Ok.ensures c.in_err-later_lines-in-Ok.ensures)
+    (sym c.of-lines.ensures ∙ c.in-Some.ensures) c.in-Ok.ensures c.in_err-later-in-Ok.ensures)
 
-pub returns-in_err-later_lines-in-Ok-clause-no_schedule :
-    goal.returns-in_err-later_lines-in-Ok-clause-no_schedule
-returns-in_err-later_lines-in-Ok-clause-no_schedule c =
+pub returns-in_err-later-in-Ok-clause-no_schedule :
+    goal.returns-in_err-later-in-Ok-clause-no_schedule
+returns-in_err-later-in-Ok-clause-no_schedule c =
     let p = err_from_is_err_and c.from_residual.result c.from_residual.ensures.1 in
     rw (p.1, p.2) (refused_is_none _ _
-    (refused_later _ _ _ _ _ (sym c.of-lines.ensures ∙ c.in-Some.ensures) c.in-Ok.ensures c.in_err-later_lines-in-Ok.ensures))
+    (refused_later _ _ _ _ _ (sym c.of-lines.ensures ∙ c.in-Some.ensures) c.in-Ok.ensures c.in_err-later-in-Ok.ensures))
 
 pub returns-in-Err-clause-refused : goal.returns-in-Err-clause-refused
 returns-in-Err-clause-refused c = first_line _ _ (sym c.of-lines.ensures ∙ c.in-Some.ensures) refl c.in-Err.ensures

@@ -1,0 +1,183 @@
+#!/usr/bin/env python3
+"""Runs `mfpx` again and again, each time with another request for memory refused, and judges how each run ends.
+
+    bench/failmalloc.py [PROGRAM]        PROGRAM is crates/mfpx/out/mfpx, which `rt run` in crates/mfpx builds
+
+The first run refuses the first request, the second the second, and so on until a run meets no refusal. A run ends well in
+one of these ways:
+
+    right         status 0 and the transcript of a run with ample memory
+    stopped       status 0; the lines before `stop NODE 47` are those of the right transcript, and one list explains all
+    refused       the same with `refuse NODE 47`, of a query
+    began down    as if that node had been down from the start
+    no frame      status 1 and fault 51 at a line that delivers or drops what was never sent, as a node was down by then
+    no memory     status 3, nothing printed, and `mfpx: out of memory`
+
+Every other end is told, and the script then ends with 1. It needs gcc, for a malloc that it preloads.
+"""
+
+import glob
+import os
+import subprocess
+import sys
+import tempfile
+
+HERE = os.path.dirname(os.path.abspath(__file__))
+ENDS = ("right", "stopped", "refused", "began down", "no frame", "no memory")
+AFTERWARDS = ["restart %d" % n for n in range(3)] + ["tick %d" % n for n in range(3)] + ["flush"] + [
+    "query %d count" % n for n in range(3)
+]
+
+
+class Runs:
+    """Runs of the program over schedules, with a request refused."""
+
+    def __init__(self, program, library):
+        self.program = program
+        self.library = library
+
+    def run(self, lines, words=(), refused=0):
+        """Status, transcript, standard error, and whether a request was refused."""
+        from_note, to_note = os.pipe()
+        environment = {"LD_PRELOAD": self.library, "FAIL_AT": str(refused), "FAIL_NOTE": str(to_note)} if refused else {}
+        text = "".join(line + "\n" for line in lines).encode()
+        with tempfile.NamedTemporaryFile() as file:
+            file.write(text)
+            file.flush()
+            given = [file.name if word == "FILE" else word for word in words]
+            done = subprocess.run([self.program] + given, input=text, capture_output=True, env=environment,
+                                  pass_fds=[to_note], timeout=60)
+        os.close(to_note)
+        met = os.read(from_note, 1) != b""
+        os.close(from_note)
+        return done.returncode, done.stdout.decode().splitlines(), done.stderr.decode(), met
+
+
+def is_explained(lines, transcript):
+    """Whether one log of one slot explains what nodes learnt, replied and answered."""
+    asked = {"%s:%s" % tuple(line.split()[2:4]): line.split()[1] for line in lines if line.startswith("submit ")}
+    chosen, learnt = None, set()
+    for told in transcript:
+        word, node, *rest = told.split()
+        if word == "learn":
+            slot, command = rest
+            if slot != "0" or (command != "noop" and command not in asked) or chosen not in (None, command):
+                return False
+            chosen = command
+            learnt.add(node)
+        elif word == "reply":
+            # No feature is there, so a removal has the reply 21.
+            if rest != [chosen, "21"] or node not in learnt or asked[chosen] != node:
+                return False
+        elif word == "answer":
+            if rest[1:] != ["count", "0"] or rest[0] not in "01" or (rest[0] == "1" and node not in learnt):
+                return False
+    return True
+
+
+def shared(a, b):
+    """How many lines two transcripts share at their beginning."""
+    return next((i for i, (x, y) in enumerate(zip(a, b)) if x != y), min(len(a), len(b)))
+
+
+def with_flushes(lines, number):
+    """The line of this number and all later ones as flushes, with as many bytes."""
+    kept = lines[:number - 1]
+    for line in lines[number - 1:]:
+        kept += ["flush"] + [""] * (len(line) - len("flush"))
+    return kept
+
+
+class Job:
+    """A schedule, and what comes of it with ample memory: as it is, and with each node down from the start."""
+
+    def __init__(self, runs, lines, words):
+        self.runs, self.lines, self.words = runs, lines, words
+        self.status, self.right, self.error, _ = runs.run(lines, words)
+        # A node whose first write fails is down, and nothing else has happened.
+        self.down = []
+        for node in range(3):
+            fails = ["fault %d old" % node, "timeout %d" % node]
+            status, told, _, _ = runs.run(lines[:1] + fails + lines[1:], words)
+            self.down.append((status, told[1:]))
+
+    def judged(self, refused, end):
+        """Which of the ends this is, of a run with this request refused; None if it is none of them."""
+        status, told, error, _ = end
+        if status == 3 and not told and error == "mfpx: out of memory\n":
+            return "no memory"
+        if status == 1 and not told and error.startswith("mfpx: line ") and error.endswith(" fault 51\n"):
+            return self.judged_line(refused, int(error.split()[2]))
+        if status != 0 or error:
+            return None
+        if told == self.right:
+            return "right"
+        if (0, told) in self.down:
+            return "began down"
+        return self.judged_stop(told)
+
+    def judged_line(self, refused, number):
+        """The same of a run that ended at this line, as its frame was never sent."""
+        if self.lines[number - 1].split()[0] not in ("deliver", "drop"):
+            return None
+        # What came before that line is told once the run goes on behind it.
+        job = Job(self.runs, with_flushes(self.lines, number), self.words)
+        kind = job.judged(refused, self.runs.run(job.lines, self.words, refused))
+        return "no frame" if kind in ("stopped", "began down") else None
+
+    def judged_stop(self, told):
+        """The same of a transcript in which one node has to tell the refusal, and the rest has to follow from it."""
+        at = [i for i, line in enumerate(told) if line.endswith(" 47")]
+        if len(at) != 1 or shared(told, self.right) < at[0] or not is_explained(self.lines, told):
+            return None
+        return "stopped" if told[at[0]].startswith("stop ") else "refused"
+
+
+def try_each(runs, name, lines, words):
+    """Refuses each request in turn. How many runs ended in which way, and those that ended badly."""
+    job = Job(runs, lines, words)
+    if job.status != 0 or job.error or not is_explained(lines, job.right):
+        sys.exit("%s does not run with ample memory: %s" % (name, job.error))
+    counts, bad, refused = dict.fromkeys(ENDS, 0), [], 1
+    while True:
+        end = runs.run(lines, words, refused)
+        if not end[3]:
+            return counts, bad
+        kind = job.judged(refused, end)
+        if kind is None:
+            bad.append((refused, end))
+        else:
+            counts[kind] += 1
+        refused += 1
+
+
+def main():
+    program = sys.argv[1] if len(sys.argv) > 1 else os.path.join(HERE, "..", "crates", "mfpx", "out", "mfpx")
+    failed = False
+    with tempfile.TemporaryDirectory() as folder:
+        library = os.path.join(folder, "failmalloc.so")
+        subprocess.run(["gcc", "-O2", "-Wall", "-shared", "-fPIC", os.path.join(HERE, "failmalloc.c"), "-o", library, "-ldl"],
+                       check=True)
+        runs = Runs(os.path.abspath(program), library)
+        print("%-24s %-14s %8s  %s" % ("schedule", "words", "requests", "  ".join(ENDS)))
+        for path in sorted(glob.glob(os.path.join(HERE, "..", "examples", "*.schedule"))):
+            with open(path) as file:
+                lines = file.read().splitlines()
+            name = os.path.splitext(os.path.basename(path))[0]
+            for title, tried, words in (
+                (name, lines, []),
+                (name, lines, ["replay", "FILE"]),
+                (name + " +", lines + AFTERWARDS, []),
+            ):
+                counts, bad = try_each(runs, title, tried, words)
+                print("%-24s %-14s %8d  %s" % (title, " ".join(words), sum(counts.values()) + len(bad),
+                                               "  ".join("%*d" % (len(e), counts[e]) for e in ENDS)))
+                for refused, end in bad:
+                    failed = True
+                    print("  request %d: status %d, %r, %r" % (refused, end[0], end[1], end[2]))
+    print("`+`: followed by a restart and a tick of each node, a flush, and a query of each")
+    sys.exit(1 if failed else 0)
+
+
+if __name__ == "__main__":
+    main()

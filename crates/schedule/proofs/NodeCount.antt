@@ -1,0 +1,145 @@
+-- A run has as many nodes in the end as at its start, so no line of it names a node that it lacks.
+use Rattle.std.proofs.Common.{◌≡◌, ◌≢◌, ℕ, List, [], ◌∷◌, ◌++◌, length, Bool, true, false, None, Some, Result, Ok, Err, IfErr, IsSome, refl, sym, ap, ◌∙◌, subst, arith, rules}
+use Rattle.std.proofs.lemmas.List.{length-set}
+use Rattle.stable.specs.Script.{Script}
+use Rattle.stable.specs.declared.stable.Stable.{Ghosts}
+use Rattle.wire.specs.Asked.{Asked}
+use Rattle.wire.specs.declared.message.Envelope.{Envelope}
+use Rattle.wire.specs.declared.command.Op.TheVariants.{Remove}
+use Rattle.world.specs.Flushing.{Delivers, none, more}
+use Rattle.world.specs.Events.{NamesNoNode}
+use Rattle.world.specs.Outputs.{Told}
+use Rattle.world.specs.Worlds.{WorldState, Steps, TakesAt, ReceivesAt, DeliversFrame, recorded, answered, with_submission}
+use Rattle.world.specs.declared.event.Event.{Event}
+use Rattle.world.specs.declared.event.Event.TheVariants.{Submit, Deliver, Drop, Timeout, Tick, Restart, Fault, Query}
+use Rattle.world.specs.declared.event.Query.TheVariants.{Count}
+use Rattle.world.specs.declared.fault.NodeFault.{NodeFault}
+use Rattle.world.specs.declared.input.Input.{Input}
+use Rattle.schedule.specs.Lines.{NumberedText}
+use Rattle.schedule.specs.Runs.{IsDone, IsRefused, Leads, RunEnds, at_a_line, at_the_last, ReplayEnds, not_read, not_begun, not_run}
+use Rattle.schedule.specs.Schedules.{Plan, SpellEach}
+use Rattle.schedule.specs.Spelling.{Spells, WordsSpell}
+use Rattle.schedule.specs.Words.{words_of}
+use Rattle.schedule.specs.declared.action.Action.{Action}
+use Rattle.schedule.specs.declared.action.Action.TheVariants.{Step, Flush}
+use Rattle.schedule.specs.declared.fault.ParseFault.TheVariants.{Line, Memory}
+use Rattle.schedule.specs.declared.plan.ScheduleLine.{ScheduleLine}
+use Rattle.schedule.specs.declared.replay_fault.ReplayCause.{ReplayCause}
+use Rattle.schedule.specs.declared.replay_fault.ReplayCause.TheVariants.{NoSuchNode}
+use Rattle.schedule.specs.declared.replay_fault.ReplayFault.{ReplayFault}
+
+-- how many nodes a world has
+abbrev size : {S : Type 0} → WorldState S → ℕ
+size w = length w.nodes
+
+module _ {S : Type 0} where
+  recorded_keeps : (w : WorldState S) (node : ℕ) (result : Result Told NodeFault) → size (recorded w node result) ≡ size w
+  recorded_keeps w node (Ok told) = refl
+  recorded_keeps w node (Err f) = refl
+
+  answered_keeps : (w : WorldState S) (node : ℕ) (result : Result (ℕ × List ℕ) NodeFault) → size (answered w node result) ≡ size w
+  answered_keeps w node (Ok told) = refl
+  answered_keeps w node (Err f) = refl
+
+  submission_keeps : (w : WorldState S) (taken : Bool) (node : ℕ) (r : Asked) → size (with_submission w taken node r) ≡ size w
+  submission_keeps w true node r = refl
+  submission_keeps w false node r = refl
+
+module _ {S : Type 0} (storages : Ghosts (Script S)) where
+  takes_keep : (old : WorldState S) (node : ℕ) (input : Input) (taken : Bool) (new : WorldState S)
+      → TakesAt storages.reads storages.puts storages.fails old node input taken new → size new ≡ size old
+  takes_keep old node input taken new t =
+      ap size t.leaves ∙ recorded_keeps _ node t.result ∙ length-set old.nodes node t.after
+
+  receives_keep : (old : WorldState S) (frame : Envelope) (new : WorldState S)
+      → ReceivesAt storages.reads storages.puts storages.fails old frame new → size new ≡ size old
+  receives_keep old frame new r =
+      elim (r.receiver.up) as (λ up. (up ≡ None → size new ≡ size old) → (IsSome up → size new ≡ size old) → size new ≡ size old) [
+        | None ↦ λ lost taken. lost refl
+        | Some m ↦ λ lost taken. taken (search rules)
+      ] (λ e. ap size (r.lost e)) (λ e. let t = r.taken e in takes_keep _ _ _ t.0 new t.1)
+
+  delivers_keep : (old : WorldState S) (k : ℕ) (new : WorldState S)
+      → DeliversFrame storages.reads storages.puts storages.fails old k new → size new ≡ size old
+  delivers_keep old k new d = receives_keep _ d.frame new d.receives
+
+  flush_keeps : (old : WorldState S) (n : ℕ) (new : WorldState S)
+      → Delivers storages.reads storages.puts storages.fails old n new → size new ≡ size old
+  flush_keeps old n new none = refl
+  flush_keeps old n new (more m k between last before lowest delivers) =
+      delivers_keep between k last delivers ∙ flush_keeps old m between before
+
+  step_keeps : (old : WorldState S) (event : Event) (new : WorldState S)
+      → Steps storages.contents storages.IsHonest storages.reads storages.read_fails storages.puts storages.fails old event new
+      → size new ≡ size old
+  step_keeps old (Submit node client number op) new s =
+      ap size s.leaves ∙ submission_keeps s.between s.taken node _ ∙ takes_keep old node _ s.taken s.between s.takes
+  step_keeps old (Deliver k) new s = delivers_keep old k new s
+  step_keeps old (Drop k) new s = ap size s
+  step_keeps old (Timeout node) new s = takes_keep old node _ s.0 new s.1
+  step_keeps old (Tick node) new s = takes_keep old node _ s.0 new s.1
+  step_keeps old (Restart node) new s = ap size s.leaves ∙ length-set old.nodes node s.after
+  step_keeps old (Fault node failing) new s = ap size s.leaves ∙ length-set old.nodes node _
+  step_keeps old (Query node query) new s = ap size s.leaves ∙ answered_keeps old node s.result
+
+  done_keeps : (action : Action) (old new : WorldState S) → IsDone storages action old new → size new ≡ size old
+  done_keeps (Step event) old new done = step_keeps old event new done.1
+  done_keeps Flush old new done = flush_keeps old done.0 new done.2
+
+  led_keeps : (lines : List ScheduleLine) (old new : WorldState S) → Leads storages lines old new → size new ≡ size old
+  led_keeps [] old new led = ap size led
+  led_keeps (line ∷ lines) old new led = led_keeps lines led.0 new led.2 ∙ done_keeps line.action old led.0 led.1
+
+-- no action that words spell names a node from n on
+pub named_below : {S : Type 0} (w : WorldState S) (n : ℕ) (words : List (List ℕ)) (event : Event) → size w ≡ n
+    → WordsSpell n words (Step event) → ¬ (NamesNoNode (length w.nodes) event)
+named_below w n words (Submit node client number (Remove id)) same spells lacks =
+    absurd (omega (arith, spells.2.to_node.below))
+named_below w n words (Deliver frame) same spells lacks = lacks
+named_below w n words (Drop frame) same spells lacks = lacks
+named_below w n words (Timeout node) same spells lacks = absurd (omega (arith, spells.2.2.below))
+named_below w n words (Tick node) same spells lacks = absurd (omega (arith, spells.2.2.below))
+named_below w n words (Restart node) same spells lacks = absurd (omega (arith, spells.2.2.below))
+named_below w n words (Fault node failing) same spells lacks = absurd (omega (arith, spells.2.2.below))
+named_below w n words (Query node Count) same spells lacks = absurd (omega (arith, spells.2.2.below))
+
+-- a line that was read spells what it asks for
+line_spelled : (n : ℕ) (texts : List NumberedText) (before after : List ScheduleLine) (line : ScheduleLine)
+    → SpellEach n texts (before ++ line ∷ after) → (text : NumberedText) × Spells n text.text line.action
+line_spelled n [] [] after line each = absurd each
+line_spelled n [] (l ∷ before) after line each = absurd each
+line_spelled n (text ∷ texts) [] after line each = (text, each.1)
+line_spelled n (text ∷ texts) (l ∷ before) after line each = line_spelled n texts before after line each.2
+
+module _ {S : Type 0} (storages : Ghosts (Script S)) where
+  -- what a spelled action asks for is not refused for want of a node
+  refused_otherwise : (w : WorldState S) (n : ℕ) (words : List (List ℕ)) (action : Action) → size w ≡ n
+      → WordsSpell n words action → ¬ (IsRefused storages action w NoSuchNode)
+  refused_otherwise w n words (Step event) same spells refused = named_below w n words event same spells refused
+  refused_otherwise w n words Flush same spells refused = refused
+
+  ends_otherwise : (plan : Plan) (texts : List NumberedText) (start : WorldState S) (fault : ReplayFault)
+      → SpellEach plan.nodes texts plan.lines → size start ≡ plan.nodes → RunEnds storages plan start fault
+      → fault.cause ≢ NoSuchNode
+  ends_otherwise plan texts start fault each same (at_a_line e) is =
+      let spelled = line_spelled plan.nodes texts e.before e.after e.line
+      (subst (λ (ls : List ScheduleLine). SpellEach plan.nodes texts ls) e.parts each) in
+      refused_otherwise e.reached plan.nodes (words_of spelled.0.text) e.line.action
+      (led_keeps storages e.before start e.reached e.led ∙ same) spelled.1.words
+      (subst (λ (cause : ReplayCause). IsRefused storages e.line.action e.reached cause) is e.stopped.refused)
+  ends_otherwise plan texts start fault each same (at_the_last end led memory last) is = let e = sym memory ∙ is in cc
+
+  -- a replay never ends for want of a node
+  pub replay_ends_otherwise : (bytes : List ℕ) (fault : ReplayFault) → ReplayEnds storages bytes fault → fault.cause ≢ NoSuchNode
+  replay_ends_otherwise bytes fault (not_read (Line at) refused same) is =
+      let e = sym (ap (λ (f : ReplayFault). f.cause) same) ∙ is in cc
+  replay_ends_otherwise bytes fault (not_read (Memory number) refused same) is =
+      let e = sym (ap (λ (f : ReplayFault). f.cause) same) ∙ is in cc
+  replay_ends_otherwise bytes fault (not_begun plan spelled memory first) is = let e = sym memory ∙ is in cc
+  replay_ends_otherwise bytes fault (not_run plan spelled start starts ends) is =
+      ends_otherwise plan spelled.others start fault spelled.spelled starts.nodes.all ends is
+
+  pub replay_ends_by_other : {T : Type 0} (bytes : List ℕ) (result : Result T ReplayFault)
+      → IfErr result (ReplayEnds storages bytes) → IfErr result (λ fault. fault.cause ≢ NoSuchNode)
+  replay_ends_by_other bytes (Ok x) ends = ends
+  replay_ends_by_other bytes (Err fault) ends = replay_ends_otherwise bytes fault ends

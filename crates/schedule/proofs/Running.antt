@@ -1,0 +1,73 @@
+-- Doing line by line.
+use Rattle.std.proofs.Common.{◌≡◌, ℕ, List, [], ◌∷◌, ◌++◌, length, refl, sym, ap, ◌∙◌, subst, arith, Result, Ok, Err, IfErr}
+use Rattle.stable.specs.Script.{Script}
+use Rattle.stable.specs.declared.stable.Stable.{Ghosts}
+use Rattle.world.specs.Flushing.{IsStart}
+use Rattle.world.specs.Reaching.{AreHonest}
+use Rattle.world.specs.Safety.{IsSafe}
+use Rattle.world.specs.Worlds.{WorldState}
+use Rattle.schedule.specs.Runs.{IsDone, IsStopped, Leads, EndsAt, RunsTo, RunEnds, at_a_line, at_the_last, ReplayEnds, not_run, told_of}
+use Rattle.schedule.specs.Schedules.{Plan, IsScheduleOf, last_number}
+use Rattle.schedule.specs.declared.plan.ScheduleLine.{ScheduleLine}
+use Rattle.schedule.specs.declared.replay_fault.ReplayFault.{ReplayFault}
+use Rattle.schedule.specs.declared.replay_fault.ReplayCause.TheVariants.{Memory}
+
+pub nothing_left : {T : Type 0} (l : List T) → length l ≡ 0 → l ≡ []
+nothing_left [] h = refl
+nothing_left (x ∷ xs) h = absurd (omega arith)
+
+module _ {S : Type 0} (storages : Ghosts (Script S)) where
+  -- one line more
+  pub led_on : (lines : List ScheduleLine) (line : ScheduleLine) (old between new : WorldState S)
+      → Leads storages lines old between → IsDone storages line.action between new
+      → Leads storages (lines ++ line ∷ []) old new
+  led_on [] line old between new led done =
+      (new, subst (λ (w : WorldState S). IsDone storages line.action w new) led done, refl)
+  led_on (first ∷ lines) line old between new (w, done_first, led) done =
+      (w, done_first, led_on lines line w between new led done)
+
+  -- a line that isn't done, after those that are
+  pub ends_here : (all done_lines left rest : List ScheduleLine) (line : ScheduleLine) (old reached : WorldState S)
+      (fault : ReplayFault) → done_lines ++ left ≡ all → left ≡ line ∷ rest
+      → Leads storages done_lines old reached → IsStopped storages line reached fault
+      → EndsAt storages all old fault
+  ends_here all done_lines left rest line old reached fault parts next led stopped = record {
+    before = done_lines;
+    line = line;
+    after = rest;
+    parts = sym parts ∙ ap (λ (ls : List ScheduleLine). done_lines ++ ls) next;
+    reached = reached;
+    led = led;
+    stopped = stopped;
+  }
+
+  -- the transcript after all lines
+  pub runs_to : (plan : Plan) (lines : List ScheduleLine) (start end : WorldState S) (text : List ℕ) → lines ≡ plan.lines
+      → Leads storages lines start end → text ≡ told_of end → (AreHonest storages.IsHonest end.nodes → ∥ IsSafe end ∥₁)
+      → RunsTo storages plan start text
+  runs_to plan lines start end text same led told safe = record {
+    end = end;
+    led = subst (λ (ls : List ScheduleLine). Leads storages ls start end) same led;
+    told = told;
+    safe = safe;
+  }
+
+  -- a line isn't done
+  pub run_ends_at : (plan : Plan) (lines : List ScheduleLine) (start : WorldState S) (fault : ReplayFault) → lines ≡ plan.lines
+      → EndsAt storages lines start fault → RunEnds storages plan start fault
+  run_ends_at plan lines start fault same ends =
+      at_a_line (subst (λ (ls : List ScheduleLine). EndsAt storages ls start fault) same ends)
+
+  -- there is no text after all lines
+  pub run_ends_last : (plan : Plan) (lines : List ScheduleLine) (start end : WorldState S) (last : ℕ) → lines ≡ plan.lines
+      → Leads storages lines start end → last ≡ last_number plan
+      → RunEnds storages plan start (record { line = last; cause = Memory })
+  run_ends_last plan lines start end last same led is_last =
+      at_the_last end (subst (λ (ls : List ScheduleLine). Leads storages ls start end) same led) refl is_last
+
+  -- why a run ended is why its replay did
+  pub replay_ends : {T : Type 0} (bytes : List ℕ) (plan : Plan) (start : WorldState S) (result : Result T ReplayFault)
+      → IsScheduleOf bytes plan → IsStart storages.contents plan.nodes start
+      → IfErr result (RunEnds storages plan start) → IfErr result (ReplayEnds storages bytes)
+  replay_ends bytes plan start (Ok text) spelled starts ends = ends
+  replay_ends bytes plan start (Err fault) spelled starts ends = not_run plan spelled start starts ends

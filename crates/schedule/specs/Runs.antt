@@ -1,0 +1,114 @@
+-- Runs: what the lines of a schedule do to a world, one after another, and where they end.
+use Rattle.std.specs.Prelude.{◌≡◌, ℕ, ◌≤◌, List, [], ◌∷◌, ◌++◌, length}
+use Rattle.stable.specs.Script.{Script}
+use Rattle.stable.specs.declared.stable.Stable.{Ghosts}
+use Rattle.world.specs.Flushing.{Delivers, DeliversSome, IsStart}
+use Rattle.world.specs.Events.{NamesNoFrame, NamesNoNode}
+use Rattle.world.specs.Waiting.{NoneWaits, OneWaits}
+use Rattle.world.specs.Reaching.{AreHonest}
+use Rattle.world.specs.Safety.{IsSafe}
+use Rattle.world.specs.Worlds.{WorldState, Steps}
+use Rattle.world.specs.declared.event.Event.{Event}
+use Rattle.world.specs.declared.log.TheConstants.{MOST_DELIVERIES}
+use Rattle.schedule.specs.Causes.{fault_of}
+use Rattle.schedule.specs.Schedules.{Plan, last_number, IsScheduleOf, IsRefusal}
+use Rattle.schedule.specs.Transcripts.{transcript_of}
+use Rattle.schedule.specs.declared.action.Action.{Action}
+use Rattle.schedule.specs.declared.action.Action.TheVariants.{Step, Flush}
+use Rattle.schedule.specs.declared.fault.ParseFault.{ParseFault}
+use Rattle.schedule.specs.declared.plan.ScheduleLine.{ScheduleLine}
+use Rattle.schedule.specs.declared.replay_fault.ReplayCause.{ReplayCause}
+use Rattle.schedule.specs.declared.replay_fault.ReplayCause.TheVariants.{NoSuchMessage, NoSuchNode, FlushLimit, Memory}
+use Rattle.schedule.specs.declared.replay_fault.ReplayFault.{ReplayFault}
+
+-- the transcript of all that happened in a world
+abbrev pub told_of : {S : Type 0} → WorldState S → List ℕ
+told_of w = transcript_of w.outcomes
+    (record { learnt = w.learnt; replies = w.replies; answers = w.answers })
+
+-- the event names no frame and no node that isn't there
+pub record NamesWhatIsThere {S : Type 0} (w : WorldState S) (event : Event) : Type 0 where
+  pub frame : ¬ (NamesNoFrame (length w.frames) event)
+  pub node : ¬ (NamesNoNode (length w.nodes) event)
+
+-- over storages of which it is known what their calls may do
+module _ {S : Type 0} (storages : Ghosts (Script S)) where
+  -- what a line asks for is done: the event happens, or frames are delivered until none waits
+  abbrev pub IsDone : Action → WorldState S → WorldState S → Type 0
+  IsDone (Step event) old new = NamesWhatIsThere old event
+      × Steps storages.contents storages.IsHonest storages.reads storages.read_fails storages.puts storages.fails old event new
+  IsDone Flush old new = (n : ℕ) × (n ≤ MOST_DELIVERIES)
+      × Delivers storages.reads storages.puts storages.fails old n new × NoneWaits new.waiting
+
+  -- the lines are done, one after another
+  abbrev pub Leads : List ScheduleLine → WorldState S → WorldState S → Type 0
+  Leads [] old new = new ≡ old
+  Leads (line ∷ lines) old new =
+      (between : WorldState S) × IsDone line.action old between × Leads lines between new
+
+  -- as many frames are delivered as one flush may, and one still waits
+  pub record MeetsLimit (old : WorldState S) : Type 0 where
+    pub new : WorldState S
+    pub delivers : Delivers storages.reads storages.puts storages.fails old MOST_DELIVERIES new
+    pub one_waits : OneWaits new.waiting
+
+  -- fewer are delivered, and one still waits
+  pub record IsInterrupted (old : WorldState S) : Type 0 where
+    pub new : WorldState S
+    pub delivers : DeliversSome storages.reads storages.puts storages.fails old MOST_DELIVERIES new
+    pub one_waits : OneWaits new.waiting
+
+  -- why a world does not do what a line asks for
+  abbrev pub IsRefused : Action → WorldState S → ReplayCause → Type 0
+  IsRefused (Step event) w NoSuchMessage = NamesNoFrame (length w.frames) event
+  IsRefused (Step event) w NoSuchNode = NamesNoNode (length w.nodes) event
+  IsRefused (Step event) w Memory = NamesWhatIsThere w event
+  IsRefused Flush w FlushLimit = MeetsLimit w
+  IsRefused Flush w Memory = IsInterrupted w
+  IsRefused _ w _ = ⊥
+
+  -- a line isn't done
+  pub record IsStopped (line : ScheduleLine) (w : WorldState S) (fault : ReplayFault) : Type 0 where
+    pub number : fault.line ≡ line.number
+    pub refused : IsRefused line.action w fault.cause
+
+  -- the lines before one are done, and it is not
+  pub record EndsAt (lines : List ScheduleLine) (old : WorldState S) (fault : ReplayFault) : Type 0 where
+    pub before : List ScheduleLine
+    pub line : ScheduleLine
+    pub after : List ScheduleLine
+    pub parts : lines ≡ before ++ line ∷ after
+    pub reached : WorldState S
+    pub led : Leads before old reached
+    pub stopped : IsStopped line reached fault
+
+  -- the lines lead to a world of which the text is the transcript
+  pub record RunsTo (plan : Plan) (start : WorldState S) (text : List ℕ) : Type 0 where
+    pub end : WorldState S
+    pub led : Leads plan.lines start end
+    pub told : text ≡ told_of end
+    -- as long as every storage is honest the protocol has held, and one list of commands explains all that is told
+    pub safe : AreHonest storages.IsHonest end.nodes → ∥ IsSafe end ∥₁
+
+  -- why a run has no transcript: a line isn't done, or at the last one memory is wanting for the text
+  pub data RunEnds (plan : Plan) (start : WorldState S) (fault : ReplayFault) : Type 0 where
+    at_a_line : EndsAt plan.lines start fault → RunEnds plan start fault
+    at_the_last : (end : WorldState S) → Leads plan.lines start end → fault.cause ≡ Memory
+        → fault.line ≡ last_number plan → RunEnds plan start fault
+
+  -- the bytes spell a schedule, whose lines lead from the start to a world of which the text is the transcript
+  pub record IsReplay (bytes text : List ℕ) : Type 0 where
+    pub plan : Plan
+    pub spelled : IsScheduleOf bytes plan
+    pub start : WorldState S
+    pub starts : IsStart storages.contents plan.nodes start
+    pub runs : RunsTo plan start text
+
+  -- why there is no transcript of the bytes: they were not read as a schedule, or no world was made at their first
+  -- line, or the run ended
+  pub data ReplayEnds (bytes : List ℕ) (fault : ReplayFault) : Type 0 where
+    not_read : (refusal : ParseFault) → IsRefusal bytes refusal → fault ≡ fault_of refusal → ReplayEnds bytes fault
+    not_begun : (plan : Plan) → IsScheduleOf bytes plan → fault.cause ≡ Memory → fault.line ≡ plan.first
+        → ReplayEnds bytes fault
+    not_run : (plan : Plan) → IsScheduleOf bytes plan → (start : WorldState S)
+        → IsStart storages.contents plan.nodes start → RunEnds plan start fault → ReplayEnds bytes fault
