@@ -215,67 +215,57 @@ fn numbered(alloc: Global, number: i64) -> Result<Id, Fail> {
     id(text.as_str())
 }
 
-/// The most features: another id is refused, and a known one taken.
-#[test]
-fn most_features(rt: HostRuntime) -> Result<(), Fail> {
-    let alloc = rt.alloc();
+/// A database with the most features. Each stands still at its own number, and they didn't come in order.
+fn full(rt: &impl Abort, alloc: Global) -> Result<Db, Fail> {
     let mut db = Db::new(alloc);
-    let mut want = format!(in alloc; "within 256")?;
     for k in 0..256 {
-        // Not in order: 0, 255, 1, 254, ..
+        // 0, 255, 1, 254, ..
         let number = if k % 2 == 0 { k / 2 } else { 255 - k / 2 };
         let put = Op::Put(
             numbered(alloc, number)?,
             seq(alloc, Interp::Step, &[(0, number, 0)])?,
         );
         assert_eq!(rt; db.apply(&put)?, Reply::Done);
-        want.push_str(format!(in alloc; " {k:04}")?.as_str())?;
     }
+    Ok(db)
+}
+
+/// The most features: another id is refused, and a known one taken.
+#[test]
+fn most_features(rt: HostRuntime) -> Result<(), Fail> {
+    let alloc = rt.alloc();
+    let mut db = full(&rt, alloc)?;
     let more = Op::Put(id("more")?, seq(alloc, Interp::Step, &BUS)?);
     assert_eq!(rt; db.apply(&more)?, Reply::TooMany);
     says(&rt, &db, alloc, Query::Count, "count 256")?;
     says(&rt, &db, alloc, Query::Get(id("more")?), "absent")?;
-
     let known = Op::Put(id("0200")?, seq(alloc, Interp::Step, &[(0, 7, 7)])?);
     assert_eq!(rt; db.apply(&known)?, Reply::Done);
+    let here = Query::At(id("0200")?, instant(0)?);
+    says(&rt, &db, alloc, here, "at 7 7")?;
+    Ok(())
+}
+
+/// The queries over the most features.
+#[test]
+fn queries_over_the_most_features(rt: HostRuntime) -> Result<(), Fail> {
+    let alloc = rt.alloc();
+    let db = full(&rt, alloc)?;
     let span = period(0, 0)?;
     let area = rect(0, 0, 255, 7)?;
-    says(
-        &rt,
-        &db,
-        alloc,
-        Query::At(id("0200")?, instant(0)?),
-        "at 7 7",
-    )?;
-    says(
-        &rt,
-        &db,
-        alloc,
-        Query::At(id("0199")?, instant(0)?),
-        "at 199 0",
-    )?;
-    says(
-        &rt,
-        &db,
-        alloc,
-        Query::Cut(id("0255")?, span),
-        "cut Step 1 | 1577836800000 255 0",
-    )?;
-    says(
-        &rt,
-        &db,
-        alloc,
-        Query::Ever(id("0000")?, span, area),
-        "ever yes",
-    )?;
-    says(
-        &rt,
-        &db,
-        alloc,
-        Query::Always(id("0128")?, span, area),
-        "always yes",
-    )?;
-    says(&rt, &db, alloc, Query::Within(span, area), want.as_str())?;
+    let mut all = format!(in alloc; "within 256")?;
+    for k in 0..256 {
+        all.push_str(format!(in alloc; " {k:04}")?.as_str())?;
+    }
+    let cut = "cut Step 1 | 1577836800000 255 0";
+    let at = Query::At(id("0199")?, instant(0)?);
+    says(&rt, &db, alloc, at, "at 199 0")?;
+    says(&rt, &db, alloc, Query::Cut(id("0255")?, span), cut)?;
+    let ever = Query::Ever(id("0000")?, span, area);
+    says(&rt, &db, alloc, ever, "ever yes")?;
+    let always = Query::Always(id("0128")?, span, area);
+    says(&rt, &db, alloc, always, "always yes")?;
+    says(&rt, &db, alloc, Query::Within(span, area), all.as_str())?;
     Ok(())
 }
 
