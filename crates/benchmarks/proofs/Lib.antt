@@ -1,2 +1,4 @@
 pub mod Adding
 pub mod FixLemmas
+pub mod NameLemmas
+pub mod Filling

@@ -5,12 +5,15 @@ use Rattle.benchmarks.specs.declared.scene.Scene.{Scene}
 use Rattle.benchmarks.specs.declared.scene.TheConstants.{START}
 use Rattle.benchmarks.specs.declared.numbers.TheConstants.{STEP}
 use Rattle.benchmarks.specs.declared.task.Work.{Work}
-use Rattle.benchmarks.specs.declared.task.Work.TheVariants.{ValueAt, EverMiddle, EverWhole, AlwaysMiddle, AlwaysWhole}
-use Rattle.benchmarks.specs.declared.task.Work.TheVariants.{CutMiddle, CutWhole, Write, Datetimes}
+use Rattle.benchmarks.specs.declared.task.Work.TheVariants.{Point, Query, Apply, Check}
+use Rattle.benchmarks.specs.declared.task.PointWork.{PointWork}
+use Rattle.benchmarks.specs.declared.task.PointWork.TheVariants.{ValueAt, EverMiddle, EverWhole, AlwaysMiddle, AlwaysWhole}
+use Rattle.benchmarks.specs.declared.task.PointWork.TheVariants.{CutMiddle, CutWhole, Write, Datetimes}
 use Rattle.benchmarks.specs.declared.task.Task.{Task}
 use Rattle.benchmarks.specs.Sums.{SumsTo}
 use Rattle.benchmarks.specs.Scenes.{IsScene}
 use Rattle.benchmarks.specs.Numbers.{IsValue, IsEverNumber, IsAlwaysNumber, IsCutNumber}
+use Rattle.benchmarks.specs.Fleets.{fleet_of, query_of, IsAnswerLength, IsReplyNumber}
 
 -- the length of the canonical document
 pub record IsLength (s : Scene) (number : ℕ) : Type 0 where
@@ -19,16 +22,22 @@ pub record IsLength (s : Scene) (number : ℕ) : Type 0 where
   pub told : number ≡ length text
 
 -- the number that a round answers
+abbrev pub PointAnswers : PointWork → Scene → ℕ → ℕ → Type 0
+PointAnswers ValueAt s round number = IsValue s round number
+PointAnswers EverMiddle s round number = IsEverNumber s s.middle round number
+PointAnswers EverWhole s round number = IsEverNumber s s.whole round number
+PointAnswers AlwaysMiddle s round number = IsAlwaysNumber s s.middle round number
+PointAnswers AlwaysWhole s round number = IsAlwaysNumber s s.whole round number
+PointAnswers CutMiddle s round number = IsCutNumber s s.middle number
+PointAnswers CutWhole s round number = IsCutNumber s s.whole number
+PointAnswers Write s round number = IsLength s number
+PointAnswers Datetimes s round number = number ≡ START + STEP * round
+
 abbrev pub Answers : Work → Scene → ℕ → ℕ → Type 0
-Answers ValueAt s round number = IsValue s round number
-Answers EverMiddle s round number = IsEverNumber s s.middle round number
-Answers EverWhole s round number = IsEverNumber s s.whole round number
-Answers AlwaysMiddle s round number = IsAlwaysNumber s s.middle round number
-Answers AlwaysWhole s round number = IsAlwaysNumber s s.whole round number
-Answers CutMiddle s round number = IsCutNumber s s.middle number
-Answers CutWhole s round number = IsCutNumber s s.whole number
-Answers Write s round number = IsLength s number
-Answers Datetimes s round number = number ≡ START + STEP * round
+Answers (Point work) s round number = PointAnswers work s round number
+Answers (Query work) s round number = IsAnswerLength (fleet_of s) (query_of work s round) number
+Answers (Apply work) s round number = IsReplyNumber work s round number
+Answers Check s round number = IsLength s number
 
 -- the sum that a task asks for
 pub record IsSumOf (task : Task) (total : ℕ) : Type 0 where

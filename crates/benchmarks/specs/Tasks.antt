@@ -3,20 +3,48 @@ use Rattle.std.specs.Prelude.{◌≡◌, ℕ, ◌^◌, ◌<◌, List, [], ◌∷
 use Rattle.std.specs.Str.Parse.{IsNumeral, digits_value, without_leading_plus}
 use Rattle.benchmarks.specs.declared.task.Task.{Task}
 use Rattle.benchmarks.specs.declared.task.Work.{Work}
-use Rattle.benchmarks.specs.declared.task.Work.TheVariants.{ValueAt, EverMiddle, EverWhole, AlwaysMiddle, AlwaysWhole}
-use Rattle.benchmarks.specs.declared.task.Work.TheVariants.{CutMiddle, CutWhole, Write, Datetimes}
+use Rattle.benchmarks.specs.declared.task.Work.TheVariants.{Point, Query, Apply, Check}
+use Rattle.benchmarks.specs.declared.task.PointWork.{PointWork}
+use Rattle.benchmarks.specs.declared.task.PointWork.TheVariants.{ValueAt, EverMiddle, EverWhole, AlwaysMiddle, AlwaysWhole}
+use Rattle.benchmarks.specs.declared.task.PointWork.TheVariants.{CutMiddle, CutWhole, Write, Datetimes}
+use Rattle.benchmarks.specs.declared.task.QueryWork.{QueryWork}
+use Rattle.benchmarks.specs.declared.task.QueryWork.TheVariants as query_work
+use Rattle.benchmarks.specs.declared.task.ApplyWork.{ApplyWork}
+use Rattle.benchmarks.specs.declared.task.ApplyWork.TheVariants as apply_work
 
 -- the word for a work
+abbrev pub point_name : PointWork → List ℕ
+point_name ValueAt = codes "value_at"
+point_name EverMiddle = codes "ever_middle"
+point_name EverWhole = codes "ever_whole"
+point_name AlwaysMiddle = codes "always_middle"
+point_name AlwaysWhole = codes "always_whole"
+point_name CutMiddle = codes "cut_middle"
+point_name CutWhole = codes "cut_whole"
+point_name Write = codes "write"
+point_name Datetimes = codes "datetimes"
+
+abbrev pub query_name : QueryWork → List ℕ
+query_name query_work.At = codes "store_at"
+query_name query_work.Cut = codes "store_cut"
+query_name query_work.CutWhole = codes "store_cut_whole"
+query_name query_work.Ever = codes "store_ever"
+query_name query_work.EverWhole = codes "store_ever_whole"
+query_name query_work.Always = codes "store_always"
+query_name query_work.Within = codes "store_within"
+query_name query_work.Get = codes "store_get"
+query_name query_work.Count = codes "store_count"
+
+abbrev pub apply_name : ApplyWork → List ℕ
+apply_name apply_work.Put = codes "store_put"
+apply_name apply_work.Append = codes "store_append"
+apply_name apply_work.Remove = codes "store_remove"
+
 abbrev pub name_of : Work → List ℕ
-name_of ValueAt = codes "value_at"
-name_of EverMiddle = codes "ever_middle"
-name_of EverWhole = codes "ever_whole"
-name_of AlwaysMiddle = codes "always_middle"
-name_of AlwaysWhole = codes "always_whole"
-name_of CutMiddle = codes "cut_middle"
-name_of CutWhole = codes "cut_whole"
-name_of Write = codes "write"
-name_of Datetimes = codes "datetimes"
+name_of (Point work) = point_name work
+name_of (Query work) = query_name work
+name_of (Apply work) = apply_name work
+name_of Check = codes "check"
 
 -- a word is read as a number below 2^bits: decimal digits, and a plus before them or not
 pub record IsReadAs (bits : ℕ) (word : List ℕ) (n : ℕ) : Type 0 where

@@ -4,12 +4,18 @@
 //! many points, and prints the sum of what was answered, which is the same on every machine. It
 //! reads no clock: `bench/points.py` does.
 //!
-//! `task` reads the words, `scene` makes what is asked and of what, `numbers` has the answers as
-//! numbers, and `rounds` adds them up.
+//! `task` reads the words, and `scene` makes a moving point and what is asked of it. `numbers` has
+//! the answers of one moving point as numbers, `queries` and `operations` those of a full database,
+//! which `fleet` makes, and `documents` those of reading; `rounds` adds them up. A further kind of
+//! work is a variant of `Work`, a module with the number of a round, and a loop in `rounds`.
 #![tactic(auto)]
 
+mod documents;
 mod fault;
+mod fleet;
 mod numbers;
+mod operations;
+mod queries;
 mod rounds;
 mod scene;
 mod task;
@@ -71,7 +77,7 @@ fn sum(rt: &HostRuntime, task: Task) -> Result<u64, Fault>
     ensures { IfOk result (IsSumOf task) }
 {
     let scene = Scene::new(rt.alloc(), task.points)?;
-    total(rt.alloc(), task.work, &scene, task.rounds)
+    Ok(total(rt.alloc(), task.work, &scene, task.rounds)?)
 }
 
 /// Says why nothing is done, and the status that tells it.

@@ -3,7 +3,7 @@
 ghost use Rattle.std.specs.Prelude.{◌≡◌, ◌+◌, ◌*◌, ◌%◌, ◌≤◌, ◌<◌, pos, ℕ, length, IfOk, unsigned_abs};
 ghost use Rattle.tpoint.specs.Instants.{IsInstant};
 ghost use Rattle.benchmarks.specs.Numbers.{IsValue, IsEverNumber, IsAlwaysNumber, IsCutNumber};
-ghost use Rattle.benchmarks.specs.Numbers.{corner_of, area_of, tri_number, rest_of};
+ghost use Rattle.benchmarks.specs.Numbers.{instant_of, corner_of, area_of, tri_number, rest_of};
 
 use crate::scene::{START, Scene, instant};
 use mfjson::{datetime_read, datetime_text};
@@ -19,12 +19,18 @@ pub const STEP: u64 = 7919;
 pub fn value_number(scene: &Scene, round: u32) -> u64
     ensures { IsValue scene.now round result }
 {
-    let extent = scene.extent;
-    let after = u64::from(round) * STEP % (u64::from(extent) + 1);
-    match scene.feature.seq.value_at(instant(START + after)).value {
+    match scene.feature.seq.value_at(instant_of(scene, round)).value {
         Some((x, y)) => 1 + rest_of(x) + rest_of(y),
         None => 0,
     }
+}
+
+/// The instant of a round: a step later than that of the round before, and from the start again.
+pub fn instant_of(scene: &Scene, round: u32) -> Instant
+    ensures { result ≡ instant_of scene.now round }
+{
+    let extent = scene.extent;
+    instant(START + u64::from(round) * STEP % (u64::from(extent) + 1))
 }
 
 /// What is left of a coordinate's upper number when thousands are taken away.
@@ -38,24 +44,36 @@ fn rest_of(z: Frac) -> u64
 pub fn ever_number(scene: &Scene, period: &Period, round: u32) -> u64
     ensures { IsEverNumber scene.now period.now round result }
 {
-    let corner = if round % 2 == 0 {
+    tri_number(ever(&scene.feature.seq, period, corner_of(scene, round)))
+}
+
+/// One of the two corners.
+pub fn corner_of(scene: &Scene, round: u32) -> &Rect
+    ensures { result.now ≡ corner_of scene.now round }
+{
+    if round % 2 == 0 {
         &scene.below
     } else {
         &scene.above
-    };
-    tri_number(ever(&scene.feature.seq, period, corner))
+    }
 }
 
 /// Whether the point is always in an area that has all of its positions, as a number.
 pub fn always_number(scene: &Scene, period: &Period, round: u32) -> u64
     ensures { IsAlwaysNumber scene.now period.now round result }
 {
-    let area = if round % 2 == 0 {
+    tri_number(always(&scene.feature.seq, period, area_of(scene, round)))
+}
+
+/// One of the two areas.
+pub fn area_of(scene: &Scene, round: u32) -> &Rect
+    ensures { result.now ≡ area_of scene.now round }
+{
+    if round % 2 == 0 {
         &scene.around
     } else {
         &scene.everywhere
-    };
-    tri_number(always(&scene.feature.seq, period, area))
+    }
 }
 
 /// The number of an answer.

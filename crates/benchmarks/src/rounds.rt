@@ -2,41 +2,112 @@
 
 ghost use Rattle.std.specs.Prelude.{IfOk};
 ghost use Rattle.benchmarks.specs.Sums.{SumsTo};
-ghost use Rattle.benchmarks.specs.Rounds.{Answers};
+ghost use Rattle.benchmarks.specs.Rounds.{Answers, PointAnswers};
+ghost use Rattle.benchmarks.specs.declared.task.Work.TheVariants.{Point, Query, Apply, Check};
 
-use crate::fault::Fault;
+use crate::documents::checked_length;
+use crate::fleet::fleet;
 use crate::numbers::{always_number, cut_number, datetime_number, ever_number, value_number};
+use crate::operations::reply_number;
+use crate::queries::answer_length;
 use crate::scene::Scene;
-use crate::task::Work;
+use crate::task::{ApplyWork, PointWork, QueryWork, Work};
 use mfjson::write;
 use std::alloc::{AllocError, Global};
 
 /// The sum of what the rounds answer, each as a number, in 64 bits.
-pub fn total(alloc: Global, work: Work, scene: &Scene, rounds: u32) -> Result<u64, Fault>
+pub fn total(alloc: Global, work: Work, scene: &Scene, rounds: u32) -> Result<u64, AllocError>
     ensures { IfOk result (SumsTo (Answers work scene.now) rounds) }
+{
+    match work {
+        Work::Point(work) => point_total(alloc, work, scene, rounds),
+        Work::Query(work) => query_total(alloc, work, scene, rounds),
+        Work::Apply(work) => apply_total(alloc, work, scene, rounds),
+        Work::Check => check_total(alloc, scene, rounds),
+    }
+}
+
+fn point_total(
+    alloc: Global,
+    work: PointWork,
+    scene: &Scene,
+    rounds: u32,
+) -> Result<u64, AllocError>
+    ensures { IfOk result (SumsTo (Answers (Point work) scene.now) rounds) }
 {
     let mut total = 0u64;
     for round in 0..rounds {
-        let number = answer(alloc, work, scene, round)?;
+        let number = point_number(alloc, work, scene, round)?;
         total = total.wrapping_add(number);
     }
     Ok(total)
 }
 
-/// What a round answers, as a number. No two rounds in succession ask the same of a predicate or
-/// of a value, so that none of them can be left out.
-fn answer(alloc: Global, work: Work, scene: &Scene, round: u32) -> Result<u64, AllocError>
-    ensures { IfOk result (Answers work scene.now round) }
+fn query_total(
+    alloc: Global,
+    work: QueryWork,
+    scene: &Scene,
+    rounds: u32,
+) -> Result<u64, AllocError>
+    ensures { IfOk result (SumsTo (Answers (Query work) scene.now) rounds) }
+{
+    let db = fleet(alloc, scene)?;
+    let mut total = 0u64;
+    for round in 0..rounds {
+        let number = answer_length(alloc, &db, work, scene, round)?;
+        total = total.wrapping_add(number);
+    }
+    Ok(total)
+}
+
+fn apply_total(
+    alloc: Global,
+    work: ApplyWork,
+    scene: &Scene,
+    rounds: u32,
+) -> Result<u64, AllocError>
+    ensures { IfOk result (SumsTo (Answers (Apply work) scene.now) rounds) }
+{
+    let mut db = fleet(alloc, scene)?;
+    let mut total = 0u64;
+    for round in 0..rounds {
+        let number = reply_number(&mut db, work, scene, round)?;
+        total = total.wrapping_add(number);
+    }
+    Ok(total)
+}
+
+fn check_total(alloc: Global, scene: &Scene, rounds: u32) -> Result<u64, AllocError>
+    ensures { IfOk result (SumsTo (Answers Check scene.now) rounds) }
+{
+    let document = write(alloc, &scene.feature)?;
+    let mut total = 0u64;
+    for round in 0..rounds {
+        let number = checked_length(alloc, &document, scene)?;
+        total = total.wrapping_add(number);
+    }
+    Ok(total)
+}
+
+/// What a round asks of a moving point, as a number. No two rounds in succession ask the same of a
+/// predicate or of a value, so that none of them can be left out.
+fn point_number(
+    alloc: Global,
+    work: PointWork,
+    scene: &Scene,
+    round: u32,
+) -> Result<u64, AllocError>
+    ensures { IfOk result (PointAnswers work scene.now round) }
 {
     match work {
-        Work::ValueAt => Ok(value_number(scene, round)),
-        Work::EverMiddle => Ok(ever_number(scene, &scene.middle, round)),
-        Work::EverWhole => Ok(ever_number(scene, &scene.whole, round)),
-        Work::AlwaysMiddle => Ok(always_number(scene, &scene.middle, round)),
-        Work::AlwaysWhole => Ok(always_number(scene, &scene.whole, round)),
-        Work::CutMiddle => cut_number(alloc, scene, &scene.middle),
-        Work::CutWhole => cut_number(alloc, scene, &scene.whole),
-        Work::Write => Ok(write(alloc, &scene.feature)?.len() as u64),
-        Work::Datetimes => Ok(datetime_number(round)),
+        PointWork::ValueAt => Ok(value_number(scene, round)),
+        PointWork::EverMiddle => Ok(ever_number(scene, &scene.middle, round)),
+        PointWork::EverWhole => Ok(ever_number(scene, &scene.whole, round)),
+        PointWork::AlwaysMiddle => Ok(always_number(scene, &scene.middle, round)),
+        PointWork::AlwaysWhole => Ok(always_number(scene, &scene.whole, round)),
+        PointWork::CutMiddle => cut_number(alloc, scene, &scene.middle),
+        PointWork::CutWhole => cut_number(alloc, scene, &scene.whole),
+        PointWork::Write => Ok(write(alloc, &scene.feature)?.len() as u64),
+        PointWork::Datetimes => Ok(datetime_number(round)),
     }
 }

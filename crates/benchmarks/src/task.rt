@@ -1,11 +1,24 @@
 //! What the words of the command line ask for.
 
 ghost use Rattle.std.specs.Prelude.{◌≡◌, ◌≢◌, ℕ, MatchOption, map, string_bytes};
-ghost use Rattle.benchmarks.specs.Tasks.{name_of, IsReadAs, Names, Asks};
+ghost use Rattle.benchmarks.specs.Tasks.{name_of, point_name, query_name, apply_name, IsReadAs, Names, Asks};
 
 /// What is timed.
 #[derive(Clone, Copy, Debug, PartialEq, Eq)]
 pub enum Work {
+    /// A question of one moving point.
+    Point(PointWork),
+    /// A query of a plain database.
+    Query(QueryWork),
+    /// An operation on a plain database.
+    Apply(ApplyWork),
+    /// A document, read and written again.
+    Check,
+}
+
+/// What is asked of one moving point.
+#[derive(Clone, Copy, Debug, PartialEq, Eq)]
+pub enum PointWork {
     /// A value at an instant.
     ValueAt,
     /// Ever in a corner that the point doesn't come to, for a short period in the middle.
@@ -24,6 +37,40 @@ pub enum Work {
     Write,
     /// The text of a datetime, read again.
     Datetimes,
+}
+
+/// What a full database of moving points is asked, each round another one of them.
+#[derive(Clone, Copy, Debug, PartialEq, Eq)]
+pub enum QueryWork {
+    /// Its value at an instant.
+    At,
+    /// Its cut to a short period in the middle.
+    Cut,
+    /// Its cut to all of its time.
+    CutWhole,
+    /// Whether it is ever in a corner that it doesn't come to, for a short period in the middle.
+    Ever,
+    /// The same for all of its time.
+    EverWhole,
+    /// Whether it is always in an area that has all of its positions, for a short period.
+    Always,
+    /// Which of all are ever in such an area.
+    Within,
+    /// Its canonical document.
+    Get,
+    /// How many there are.
+    Count,
+}
+
+/// What is done to a full database of moving points.
+#[derive(Clone, Copy, Debug, PartialEq, Eq)]
+pub enum ApplyWork {
+    /// Each round puts another known one.
+    Put,
+    /// Each round appends a point. Every 256th round begins with another one, and puts it anew.
+    Append,
+    /// One round removes, and the next puts it again.
+    Remove,
 }
 
 /// A work, how many points it is done on, and how many times.
@@ -76,20 +123,70 @@ fn number_of_rounds(word: &str) -> Option<u32>
 }
 
 /// The work of this name.
+#[tactic(auto, using(crate::proofs::NameLemmas::none_named))]
 fn work_of(name: &str) -> Option<Work>
     ensures { MatchOption result ((work : Work) → name.now ≢ name_of work)
         (λ work. name.now ≡ name_of work) }
 {
+    if let Some(work) = point_work_of(name) {
+        return Some(Work::Point(work));
+    }
+    if let Some(work) = query_work_of(name) {
+        return Some(Work::Query(work));
+    }
+    if let Some(work) = apply_work_of(name) {
+        return Some(Work::Apply(work));
+    }
     match name {
-        "value_at" => Some(Work::ValueAt),
-        "ever_middle" => Some(Work::EverMiddle),
-        "ever_whole" => Some(Work::EverWhole),
-        "always_middle" => Some(Work::AlwaysMiddle),
-        "always_whole" => Some(Work::AlwaysWhole),
-        "cut_middle" => Some(Work::CutMiddle),
-        "cut_whole" => Some(Work::CutWhole),
-        "write" => Some(Work::Write),
-        "datetimes" => Some(Work::Datetimes),
+        "check" => Some(Work::Check),
+        _ => None,
+    }
+}
+
+fn point_work_of(name: &str) -> Option<PointWork>
+    ensures { MatchOption result ((work : PointWork) → name.now ≢ point_name work)
+        (λ work. name.now ≡ point_name work) }
+{
+    match name {
+        "value_at" => Some(PointWork::ValueAt),
+        "ever_middle" => Some(PointWork::EverMiddle),
+        "ever_whole" => Some(PointWork::EverWhole),
+        "always_middle" => Some(PointWork::AlwaysMiddle),
+        "always_whole" => Some(PointWork::AlwaysWhole),
+        "cut_middle" => Some(PointWork::CutMiddle),
+        "cut_whole" => Some(PointWork::CutWhole),
+        "write" => Some(PointWork::Write),
+        "datetimes" => Some(PointWork::Datetimes),
+        _ => None,
+    }
+}
+
+fn query_work_of(name: &str) -> Option<QueryWork>
+    ensures { MatchOption result ((work : QueryWork) → name.now ≢ query_name work)
+        (λ work. name.now ≡ query_name work) }
+{
+    match name {
+        "store_at" => Some(QueryWork::At),
+        "store_cut" => Some(QueryWork::Cut),
+        "store_cut_whole" => Some(QueryWork::CutWhole),
+        "store_ever" => Some(QueryWork::Ever),
+        "store_ever_whole" => Some(QueryWork::EverWhole),
+        "store_always" => Some(QueryWork::Always),
+        "store_within" => Some(QueryWork::Within),
+        "store_get" => Some(QueryWork::Get),
+        "store_count" => Some(QueryWork::Count),
+        _ => None,
+    }
+}
+
+fn apply_work_of(name: &str) -> Option<ApplyWork>
+    ensures { MatchOption result ((work : ApplyWork) → name.now ≢ apply_name work)
+        (λ work. name.now ≡ apply_name work) }
+{
+    match name {
+        "store_put" => Some(ApplyWork::Put),
+        "store_append" => Some(ApplyWork::Append),
+        "store_remove" => Some(ApplyWork::Remove),
         _ => None,
     }
 }

@@ -1,17 +1,17 @@
-//! What no clause says: the sums, which were computed from the definitions by another program, and
+//! What no clause says: the sums, which were computed from the definitions by other programs, and
 //! which words are read.
 
 use crate::rounds::total;
 use crate::scene::Scene;
-use crate::task::{Work, task_of};
-use Work::{
+use crate::task::{ApplyWork, PointWork, QueryWork, Work, task_of};
+use PointWork::{
     AlwaysMiddle, AlwaysWhole, CutMiddle, CutWhole, Datetimes, EverMiddle, EverWhole, ValueAt,
     Write,
 };
 use std::test::Fail;
 
 /// A work, how many points it is done on, and the sum of three rounds.
-const SUMS: [(Work, u16, u64); 26] = [
+const SUMS: [(PointWork, u16, u64); 26] = [
     (ValueAt, 1, 3),
     (ValueAt, 2, 3679),
     (ValueAt, 64, 3679),
@@ -46,6 +46,46 @@ const SUMS: [(Work, u16, u64); 26] = [
 fn sums(rt: HostRuntime) -> Result<(), Fail> {
     for (work, points, want) in SUMS {
         let scene = Scene::new(rt.alloc(), points)?;
+        let sum = total(rt.alloc(), Work::Point(work), &scene, 3)?;
+        assert_eq!(rt; sum, want, "{work:?} of {points}");
+    }
+    Ok(())
+}
+
+/// A work on a full database or on documents, how many points a feature has, and the sum of three
+/// rounds: the lengths of the texts, or the replies' numbers, each one more.
+const STORE_SUMS: [(Work, u16, u64); 24] = [
+    (Work::Query(QueryWork::At), 2, 42),
+    (Work::Query(QueryWork::At), 1024, 42),
+    (Work::Query(QueryWork::Cut), 2, 192),
+    (Work::Query(QueryWork::Cut), 64, 216),
+    (Work::Query(QueryWork::Cut), 1024, 234),
+    (Work::Query(QueryWork::CutWhole), 2, 174),
+    (Work::Query(QueryWork::CutWhole), 64, 5337),
+    (Work::Query(QueryWork::Ever), 64, 21),
+    (Work::Query(QueryWork::EverWhole), 64, 21),
+    (Work::Query(QueryWork::Always), 64, 30),
+    (Work::Query(QueryWork::Within), 2, 2334),
+    (Work::Query(QueryWork::Within), 64, 2334),
+    (Work::Query(QueryWork::Get), 2, 603),
+    (Work::Query(QueryWork::Get), 64, 8181),
+    (Work::Query(QueryWork::Count), 64, 27),
+    (Work::Apply(ApplyWork::Put), 2, 3),
+    (Work::Apply(ApplyWork::Put), 1024, 3),
+    (Work::Apply(ApplyWork::Append), 2, 3),
+    // The feature is full, twice.
+    (Work::Apply(ApplyWork::Append), 1024, 49),
+    (Work::Apply(ApplyWork::Remove), 2, 3),
+    (Work::Apply(ApplyWork::Remove), 1024, 3),
+    (Work::Check, 2, 600),
+    (Work::Check, 64, 8178),
+    (Work::Check, 1024, 131_946),
+];
+
+#[test]
+fn store_sums(rt: HostRuntime) -> Result<(), Fail> {
+    for (work, points, want) in STORE_SUMS {
+        let scene = Scene::new(rt.alloc(), points)?;
         let sum = total(rt.alloc(), work, &scene, 3)?;
         assert_eq!(rt; sum, want, "{work:?} of {points}");
     }
@@ -53,10 +93,13 @@ fn sums(rt: HostRuntime) -> Result<(), Fail> {
 }
 
 /// Words, and how many points and rounds they ask for.
-const WORDS: [(&[&str], Option<(u16, u32)>); 9] = [
+const WORDS: [(&[&str], Option<(u16, u32)>); 12] = [
     (&["value_at", "64", "10"], Some((64, 10))),
     (&["datetimes", "10"], Some((1, 10))),
     (&["write", "1024", "0"], Some((1024, 0))),
+    (&["store_at", "1024", "10"], Some((1024, 10))),
+    (&["store_append", "64", "7"], Some((64, 7))),
+    (&["check", "2", "3"], Some((2, 3))),
     (&[], None),
     (&["write"], None),
     (&["writes", "2", "3"], None),

@@ -5,3 +5,8 @@ pub mod EffectLemmas
 pub mod IdLemmas
 pub mod EverLemmas
 pub mod CutLemmas
+pub mod LowestTerms
+pub mod OneValue
+pub mod OneCut
+pub mod OneAnswer
+pub mod ValidLemmas

@@ -1,9 +1,10 @@
 -- The plain database: features, ascending by their ids.
-use Rattle.std.specs.Prelude.{◌≡◌, ℕ, ◌≤◌, List, ◌∷◌, ◌++◌, length, filter, find, AllPairs, Option, nat_eq}
+use Rattle.std.specs.Prelude.{◌≡◌, ℕ, ◌≤◌, List, ◌∷◌, ◌++◌, length, filter, find, All, AllPairs, Option, nat_eq}
 use Rattle.std.specs.Cmp.Lexicographic.{pointwise, slice_cmp}
 use Rattle.std.specs.Ordering.{nat_cmp, is_lt, is_gt}
 use Rattle.std.specs.declared.cmp.Ordering.{Ordering}
 use Rattle.std.specs.declared.cmp.Ordering.TheVariants.{Less}
+use Rattle.tpoint.specs.Moving.{IsValid}
 use Rattle.mfjson.specs.declared.feature.Feature.{Feature}
 use Rattle.store.specs.declared.db.TheConstants.{MOST_FEATURES}
 
@@ -19,6 +20,10 @@ ComesBefore f g = id_order f.id g.id ≡ Less
 pub record IsDatabase (fs : List Feature) : Type 0 where
   pub ascending : AllPairs ComesBefore fs
   pub not_too_many : length fs ≤ MOST_FEATURES
+
+-- each feature's sequence is valid
+pub record AreValid (fs : List Feature) : Type 0 where
+  pub each : All (λ (f : Feature). IsValid f.seq) fs
 
 -- the feature with an id, where there is one
 abbrev pub feature_of : List Feature → List ℕ → Option Feature

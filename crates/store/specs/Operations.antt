@@ -1,7 +1,7 @@
 -- What an operation makes of a database, and its reply.
-use Rattle.std.specs.Prelude.{ℕ, ◌+◌, ◌-◌, List, [], ◌∷◌, ◌++◌, length, slice_get, Bool, true, false, ◌||◌, ◌==◌, nat_lt, is_some, if◌then◌else◌}
+use Rattle.std.specs.Prelude.{◌-◌, List, [], ◌∷◌, ◌++◌, length, slice_get, Bool, true, false, ◌||◌, ◌==◌, nat_lt, is_some, if◌then◌else◌}
 use Rattle.std.specs.Option.{option_map_or}
-use Rattle.tpoint.specs.Moving.{Sequence}
+use Rattle.tpoint.specs.Moving.{Sequence, IsValid, InBounds}
 use Rattle.tpoint.specs.declared.point.Point.{Point}
 use Rattle.tpoint.specs.declared.seq.TheConstants.{MOST_POINTS}
 use Rattle.mfjson.specs.declared.feature.Feature.{Feature}
@@ -53,3 +53,9 @@ effect fs op = if is_done (reply fs op) then done fs op else fs
 -- what a point makes of a sequence, by its reply
 abbrev pub append_effect : Sequence → Point → Sequence
 append_effect s p = if is_done (append_reply s.points p) then extended s p else s
+
+-- ---- what an operation brings: a valid sequence, or a point with its coordinates in range
+abbrev pub IsSound : Op → Type 0
+IsSound (Put id seq) = IsValid seq
+IsSound (Append a) = InBounds a.point
+IsSound (Remove id) = Unit {0}

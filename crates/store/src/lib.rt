@@ -10,11 +10,13 @@
 
 mod answers;
 mod db;
+mod laws;
 mod op;
 mod query;
 mod reply;
 
 pub use db::{Db, MOST_FEATURES};
+pub use laws::{an_answer_is_one, features_stay_valid};
 pub use op::{Addition, Op};
 pub use query::Query;
 pub use reply::Reply;

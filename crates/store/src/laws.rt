@@ -1,0 +1,22 @@
+//! What the definitions imply.
+//!
+//! A law is the contract of a function that does nothing.
+
+ghost use Rattle.std.specs.Prelude.{◌≡◌, ℕ, List, []};
+ghost use Rattle.mfjson.specs.declared.feature.Feature.{Feature};
+ghost use Rattle.store.specs.declared.query.Query.{Query};
+ghost use Rattle.store.specs.Answers.{IsAnswer};
+ghost use Rattle.store.specs.Features.{AreValid};
+ghost use Rattle.store.specs.Operations.{effect, IsSound};
+ghost use Rattle.store.specs.declared.op.Op.{Op};
+
+/// Two texts that answer one query over the same features are equal, byte for byte.
+pub fn an_answer_is_one()
+    ensures { (fs : List Feature) (q : Query) (a b : List ℕ) → AreValid fs → IsAnswer fs q a → IsAnswer fs q b → a ≡ b }
+{}
+
+/// The features are valid at the start, and after each operation that brings what is valid.
+pub fn features_stay_valid()
+    ensures start { AreValid [] }
+    ensures kept { (fs : List Feature) (op : Op) → AreValid fs → IsSound op → AreValid (effect fs op) }
+{}
