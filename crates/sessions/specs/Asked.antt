@@ -1,0 +1,22 @@
+-- What clients ask for.
+use Rattle.std.specs.Prelude.{◌≡◌, ℕ, ◌≤◌, ⊤, length}
+use Rattle.store.specs.declared.op.Op.{Op}
+use Rattle.store.specs.declared.op.Op.TheVariants.{Put, Append, Remove}
+use Rattle.sessions.specs.declared.request.TheConstants.{MOST_PUT_POINTS}
+
+-- a request as clauses see it
+pub record Asked : Type 0 where
+  pub client : ℕ
+  pub number : ℕ
+  pub op : Op
+
+-- it is known by its client and number alone
+pub record IsSameRequest (a b : Asked) : Type 0 where
+  pub client : a.client ≡ b.client
+  pub number : a.number ≡ b.number
+
+-- a request may ask for it: a sequence to be put has at most `MOST_PUT_POINTS` instants
+abbrev pub IsShort : Op → Type 0
+IsShort (Put id seq) = length seq.points ≤ MOST_PUT_POINTS
+IsShort (Append addition) = ⊤
+IsShort (Remove id) = ⊤

@@ -1,0 +1,10 @@
+-- The numbers of outcomes.
+use Rattle.std.specs.Prelude.{ℕ}
+use Rattle.store.specs.Replies.{reply_code}
+use Rattle.sessions.specs.declared.outcome.Outcome.{Outcome}
+use Rattle.sessions.specs.declared.outcome.Outcome.TheVariants.{Applied, Past, Gap}
+
+abbrev pub outcome_code : Outcome → ℕ
+outcome_code (Applied reply) = reply_code reply
+outcome_code Past = 31
+outcome_code Gap = 32

@@ -1,0 +1,138 @@
+//! The machine.
+
+ghost use Rattle.std.specs.Prelude.{◌≡◌, ℕ, ◌≤◌, ◌<◌, [], length, IfOk, OnOk, OnErr};
+ghost use Rattle.store.specs.Answers.{IsAnswer};
+ghost use Rattle.sessions.specs.Machines.{after_command, after_request, reply_to_command, reply_to_request};
+ghost use Rattle.sessions.specs.Machines.{is_next, told_of, kept_of};
+ghost use Rattle.sessions.specs.Sessions.{session_of};
+ghost use Rattle.sessions.specs.Standing.{StandsFor, StandsForOneMore, RepliesOneMore, KeepsLast, AnswersAll};
+
+use crate::command::Command;
+use crate::number::Number;
+use crate::outcome::Outcome;
+use crate::request::Request;
+use crate::session::{Session, Sessions};
+use std::alloc::{AllocError, Global};
+use std::cmp::Ordering;
+use std::marker::Model;
+use store::{Db, Query, Reply};
+
+/// What is left of a list of commands that was executed: the database, and for each client the number of its last
+/// request that counted, with the reply to it.
+///
+/// A request counts where its number is one more than its client's last, which is 0 at the start. Then its operation is
+/// applied, and the reply is kept until the client's next request counts. No list is kept.
+#[derive(Debug, Drop)]
+pub struct Machine {
+    db: Db,
+    sessions: Sessions,
+}
+
+impl Model for Machine {
+    ghost use Rattle.sessions.specs.Machines.{MachineState};
+
+    ghost Value = { MachineState };
+
+    ghost view = { λ m. record { features = m.db; sessions = m.sessions } };
+}
+
+impl Machine {
+    /// The machine that has executed nothing.
+    pub fn new(alloc: Global) -> Machine
+        ensures features { result.features ≡ [] }
+        ensures sessions { (client : ℕ) → session_of result.sessions client ≡ None }
+        ensures stands { StandsFor result [] }
+    {
+        Machine {
+            db: Db::new(alloc),
+            sessions: Sessions::new(),
+        }
+    }
+
+    /// Executes a command, and tells the reply to it. A no-op changes nothing, and is told as done. Where a growth was
+    /// refused the machine is as it was.
+    pub fn execute(&mut self, command: &Command) -> Result<Outcome, AllocError>
+        ensures reply { IfOk result (λ told. told ≡ reply_to_command self.old command.now) }
+        ensures effect { OnOk result (self.new ≡ after_command self.old command.now) }
+        ensures err { OnErr result (self.new ≡ self.old) }
+
+        // What that is to each list that the machine stands for.
+        ensures stands { OnOk result (StandsForOneMore self.old self.new command.now) }
+        ensures replies { IfOk result (λ told. RepliesOneMore self.old command.now told) }
+    {
+        match command {
+            Command::NoOp => Ok(Outcome::Applied(Reply::Done)),
+            Command::Request(request) => self.execute_request(request),
+        }
+    }
+
+    /// The reply that is kept under this number of the client: that to its last request that counted.
+    pub fn kept(&self, client: u8, number: Number) -> Option<Reply>
+        ensures kept { result ≡ kept_of (session_of self.now.sessions client) number }
+        ensures last { KeepsLast self.now client number result }
+    {
+        kept_under(self.sessions.of(client), number)
+    }
+
+    /// The text that a query is answered.
+    pub fn answer(&self, alloc: Global, query: &Query) -> Result<Vec<u8>, AllocError>
+        ensures says { IfOk result (λ text. IsAnswer self.now.features query.now text.items) }
+        ensures answers { IfOk result (λ text. AnswersAll self.now query.now text.items) }
+    {
+        self.db.answer(alloc, query)
+    }
+
+    fn execute_request(&mut self, request: &Request) -> Result<Outcome, AllocError>
+        ensures reply { IfOk result (λ told. told ≡ reply_to_request self.old request.now) }
+        ensures effect { OnOk result (self.new ≡ after_request self.old request.now) }
+        ensures err { OnErr result (self.new ≡ self.old) }
+        ensures from_one { 1 ≤ request.now.number }
+        ensures known_client { request.now.client < length self.old.sessions }
+    {
+        let client = request.client();
+        let number = request.number();
+        if !is_next(self.sessions.of(client), number) {
+            return Ok(told_of(self.sessions.of(client), number));
+        }
+        let reply = self.db.apply(request.op())?;
+        self.sessions.keep(client, Session { number, reply });
+        Ok(Outcome::Applied(reply))
+    }
+}
+
+/// Whether the number is one more than the client's last.
+fn is_next(session: Option<Session>, number: Number) -> bool
+    ensures { result ≡ is_next session number }
+{
+    let last = match session {
+        Some(session) => session.number.value(),
+        None => 0,
+    };
+    number.value() - 1 == last
+}
+
+/// What is told of a number that is not the client's next.
+fn told_of(session: Option<Session>, number: Number) -> Outcome
+    ensures { result ≡ told_of session number }
+{
+    let Some(session) = session else {
+        return Outcome::Gap;
+    };
+    match number.cmp(&session.number) {
+        Ordering::Greater => Outcome::Gap,
+        Ordering::Equal => Outcome::Applied(session.reply),
+        Ordering::Less => Outcome::Past,
+    }
+}
+
+/// The reply that is kept under the number.
+fn kept_under(session: Option<Session>, number: Number) -> Option<Reply>
+    ensures { result ≡ kept_of session number }
+{
+    let session = session?;
+    if session.number == number {
+        Some(session.reply)
+    } else {
+        None
+    }
+}

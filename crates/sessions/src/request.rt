@@ -1,0 +1,118 @@
+//! Requests.
+
+ghost use Rattle.std.specs.Prelude.{◌≡◌, ◌↔◌, IsTrue, IsOk, IfOk};
+ghost use Rattle.std.specs.Cmp.{partial_equiv_from_equiv};
+ghost use Rattle.sessions.specs.Asked.{IsShort, IsSameRequest};
+ghost use Rattle.sessions.specs.Same.{same_asked, same_asked_equiv};
+
+use crate::number::Number;
+use std::alloc::AllocError;
+use std::marker::Model;
+use store::Op;
+
+/// A request puts a sequence of at most this many instants, so that it fits into a frame.
+pub const MOST_PUT_POINTS: usize = 512;
+
+/// A client's request. It is known by its client and number alone.
+#[derive(Debug, Drop)]
+pub struct Request {
+    client: u8,
+    number: Number,
+    op: Op,
+}
+
+/// The sequence that was to be put has more than `MOST_PUT_POINTS` instants.
+#[derive(Clone, Copy, Debug, PartialEq, Eq)]
+pub struct TooLong;
+
+impl Model for Request {
+    ghost use Rattle.sessions.specs.Asked.{Asked, IsShort};
+
+    ghost Value = { Asked };
+
+    ghost view = { λ r. record { client = r.client; number = r.number; op = r.op } };
+
+    ghost invariant = { λ r. IsShort r.op };
+
+    ghost inverse = { λ a. record { client = a.client; number = a.number; op = a.op } };
+}
+
+impl Request {
+    /// The request of this client under this number.
+    pub fn new(client: u8, number: Number, op: Op) -> Result<Request, TooLong>
+        ensures short { IsOk result ↔ IsShort op }
+        ensures value { IfOk result (λ r. r ≡ record { client = client; number = number; op = op }) }
+    {
+        if !is_short(&op) {
+            return Err(TooLong);
+        }
+        Ok(Request { client, number, op })
+    }
+
+    /// Who asks.
+    pub fn client(&self) -> u8
+        ensures { result ≡ self.now.client }
+    {
+        self.client
+    }
+
+    /// Which of the client's requests it is.
+    pub fn number(&self) -> Number
+        ensures { result ≡ self.now.number }
+    {
+        self.number
+    }
+
+    /// What is asked for.
+    pub fn op(&self) -> &Op
+        ensures value { result.now ≡ self.now.op }
+        ensures short { IsShort self.now.op }
+    {
+        &self.op
+    }
+
+    /// Whether the other is known as the same request: it is of the same client, under the same number.
+    pub fn is_same_request(&self, other: &Request) -> bool
+        ensures { IsTrue result ↔ IsSameRequest self.now other.now }
+    {
+        self.client == other.client && self.number == other.number
+    }
+
+    /// A copy, equal to it.
+    pub fn try_clone(&self) -> Result<Request, AllocError>
+        ensures { IfOk result (λ copy. copy ≡ self.now) }
+    {
+        Ok(Request {
+            client: self.client,
+            number: self.number,
+            op: self.op.try_clone()?,
+        })
+    }
+}
+
+impl PartialEq for Request {
+    ghost eq = { same_asked };
+
+    ghost laws = { partial_equiv_from_equiv same_asked_equiv };
+
+    fn eq(&self, other: &Request) -> bool
+        ensures value { result ≡ same_asked self.now other.now }
+        ensures same { IsTrue result ↔ (self.now ≡ other.now) }
+    {
+        self.client == other.client && self.number == other.number && self.op == other.op
+    }
+}
+
+impl Eq for Request {
+    ghost laws = { same_asked_equiv };
+}
+
+/// Whether a request may ask for it.
+fn is_short(op: &Op) -> bool
+    ensures { IsTrue result ↔ IsShort op.now }
+{
+    match op {
+        Op::Put(_, seq) => seq.points().len() <= MOST_PUT_POINTS,
+        Op::Append(_) | Op::Remove(_) => true,
+    }
+}
