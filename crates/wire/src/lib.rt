@@ -4,6 +4,7 @@
 #![tactic(auto)]
 
 mod command;
+pub mod frames;
 mod message;
 mod node_set;
 mod nodes;

@@ -1,0 +1,9 @@
+pub mod BallotLemmas
+pub mod CommandLaws
+pub mod FieldExamples
+pub mod FieldLaws
+pub mod FieldLemmas
+pub mod LengthLemmas
+pub mod LoopLemmas
+pub mod RecordLaws
+pub mod SequenceLemmas

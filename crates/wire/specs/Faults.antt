@@ -1,0 +1,15 @@
+-- Faults of frames by number.
+use Rattle.std.specs.Prelude.{ℕ}
+use Rattle.wire.specs.declared.frames.fault.WireFault.{WireFault}
+use Rattle.wire.specs.declared.frames.fault.WireFault.TheVariants.{Short, Magic, Version, Kind, Field, Trailing, Long, Memory}
+
+-- the number that is told of a fault
+abbrev pub code_of : WireFault → ℕ
+code_of Short = 1
+code_of Magic = 2
+code_of Version = 3
+code_of Kind = 4
+code_of Field = 5
+code_of Trailing = 6
+code_of Long = 7
+code_of Memory = 8

@@ -1,0 +1,188 @@
+-- The envelope that bytes spell, or their first fault in reading order. Only their number is tested before all.
+use Rattle.std.specs.Prelude.{Bool, ℕ, zero, suc, ◌+◌, not, ◌==◌, ◌&&◌, ◌||◌, if◌then◌else◌, nat_lt, nat_le}
+use Rattle.std.specs.Prelude.{List, [], ◌∷◌, length, Option, Some, None, Result, Ok, Err}
+use Rattle.std.specs.List.{list_any}
+use Rattle.synod.specs.Ballots.{rank}
+use Rattle.synod.specs.declared.ballot.Ballot.{Ballot}
+use Rattle.synod.specs.declared.vote.Vote.{Vote}
+use Rattle.sessions.specs.declared.command.Command.{Command}
+use Rattle.wire.specs.FrameSpelling.{versions, version_of, byte_of, kinds}
+use Rattle.wire.specs.Promises.{Promised, Refused}
+use Rattle.wire.specs.Reading.{◌>>=◌, Read, number_at, byte_at, ballot_at, slot_at, command_at}
+use Rattle.wire.specs.declared.frames.envelope.Envelope.{Envelope}
+use Rattle.wire.specs.declared.frames.envelope.TheConstants.{MAGIC, LONGEST_FRAME}
+use Rattle.wire.specs.declared.frames.fault.WireFault.{WireFault}
+use Rattle.wire.specs.declared.frames.fault.WireFault.TheVariants.{Short, Magic, Version, Field, Trailing, Long, Memory}
+use Rattle.wire.specs.declared.frames.fault.WireFault.TheVariants as fault
+use Rattle.wire.specs.declared.frames.kind.Kind.{Kind}
+use Rattle.wire.specs.declared.frames.kind.Kind.TheVariants as kind
+use Rattle.wire.specs.declared.frames.message.Message.{Message}
+use Rattle.wire.specs.declared.frames.message.Message.TheVariants.{Prepare, Promise, Nack, Accept, Accepted, Ask, Decided}
+use Rattle.wire.specs.declared.frames.promise.TheConstants.{MOST_ENTRIES}
+
+-- ---- the head
+-- frames may have this version
+abbrev pub is_version : ℕ → Bool
+is_version version = list_any (λ v. version == v) versions
+
+-- the first two bytes, which are tested together, and the version that follows
+unfoldable pub version_at : List ℕ → Read ℕ
+version_at bytes = do
+  magic ← number_at 2 bytes
+  if not (magic.0 == MAGIC) then Err Magic else do
+    version ← byte_at magic.1
+    if not (is_version version.0) then Err Version else Ok version
+
+-- the kind of this version with this byte, if it is among these
+abbrev pub found_among : List Kind → ℕ → ℕ → Option Kind
+found_among [] version byte = None
+found_among (k ∷ ks) version byte =
+    if version == version_of k && byte == byte_of k then Some k else found_among ks version byte
+
+abbrev pub known : Option Kind → List ℕ → Read Kind
+known None rest = Err fault.Kind
+known (Some k) rest = Ok (k, rest)
+
+unfoldable pub kind_at : ℕ → List ℕ → Read Kind
+kind_at version bytes = do
+  byte ← byte_at bytes
+  known (found_among kinds version byte.0) byte.1
+
+-- a node among so many
+unfoldable pub node_at : ℕ → List ℕ → Read ℕ
+node_at nodes bytes = do
+  node ← byte_at bytes
+  if nat_le nodes node.0 then Err Field else Ok node
+
+-- who sends and who receives
+unfoldable pub ends_at : ℕ → List ℕ → Read (ℕ × ℕ)
+ends_at nodes bytes = do
+  from ← node_at nodes bytes
+  to ← node_at nodes from.1
+  Ok ((from.0, to.0), to.1)
+
+pub record Head : Type 0 where
+  pub kind : Kind
+  pub from : ℕ
+  pub to : ℕ
+
+unfoldable pub head_at : ℕ → List ℕ → Read Head
+head_at nodes bytes = do
+  version ← version_at bytes
+  kind ← kind_at version.0 version.1
+  ends ← ends_at nodes kind.1
+  Ok (record { kind = kind.0; from = ends.0.0; to = ends.0.1 }, ends.1)
+
+-- ---- what promises tell
+-- the first slot and the last
+unfoldable pub range_at : List ℕ → Read (ℕ × ℕ)
+range_at bytes = do
+  first ← slot_at bytes
+  last ← slot_at first.1
+  if nat_lt last.0 first.0 then Err Field else Ok ((first.0, last.0), last.1)
+
+-- how many entries follow
+unfoldable pub few_at : List ℕ → Read ℕ
+few_at bytes = do
+  count ← byte_at bytes
+  if nat_lt MOST_ENTRIES count.0 then Err Field else Ok count
+
+-- a slot from one to another
+unfoldable pub slot_within : ℕ → ℕ → List ℕ → Read ℕ
+slot_within from last bytes = do
+  slot ← slot_at bytes
+  if nat_lt slot.0 from || nat_lt last slot.0 then Err Field else Ok slot
+
+-- a ballot that is not above another
+unfoldable pub ballot_up_to : ℕ → Ballot → List ℕ → Read Ballot
+ballot_up_to nodes limit bytes = do
+  ballot ← ballot_at nodes bytes
+  if nat_lt (rank limit) (rank ballot.0) then Err Field else Ok ballot
+
+-- a vote that a promise of this ballot may tell, at a slot from one to another
+unfoldable pub entry_at : ℕ → Ballot → ℕ → ℕ → List ℕ → Read (Vote Command)
+entry_at nodes limit from last bytes = do
+  slot ← slot_within from last bytes
+  ballot ← ballot_up_to nodes limit slot.1
+  command ← command_at ballot.1
+  Ok (record { slot = slot.0; ballot = ballot.0; command = command.0 }, command.1)
+
+-- so many of them, slots ascending
+unfoldable pub entries_at : ℕ → Ballot → ℕ → ℕ → ℕ → List ℕ → Read (List (Vote Command))
+entries_at nodes limit last zero from bytes = Ok ([], bytes)
+entries_at nodes limit last (suc count) from bytes = do
+  entry ← entry_at nodes limit from last bytes
+  others ← entries_at nodes limit last count (entry.0.slot + 1) entry.1
+  Ok (entry.0 ∷ others.0, others.1)
+
+-- their number, and they themselves
+unfoldable pub told_at : ℕ → Ballot → ℕ × ℕ → List ℕ → Read (List (Vote Command))
+told_at nodes limit range bytes = do
+  count ← few_at bytes
+  entries_at nodes limit range.1 count.0 range.0 count.1
+
+unfoldable pub promise_at : ℕ → List ℕ → Read Promised
+promise_at nodes bytes = do
+  ballot ← ballot_at nodes bytes
+  range ← range_at ballot.1
+  told ← told_at nodes ballot.0 range.0 range.1
+  Ok (record { ballot = ballot.0; first = range.0.0; last = range.0.1; entries = told.0 }, told.1)
+
+-- ---- the other bodies
+-- a ballot that is above another
+unfoldable pub ballot_above : ℕ → Ballot → List ℕ → Read Ballot
+ballot_above nodes refused bytes = do
+  ballot ← ballot_at nodes bytes
+  if nat_le (rank ballot.0) (rank refused) then Err Field else Ok ballot
+
+unfoldable pub nack_at : ℕ → List ℕ → Read Refused
+nack_at nodes bytes = do
+  ballot ← ballot_at nodes bytes
+  promised ← ballot_above nodes ballot.0 ballot.1
+  Ok (record { ballot = ballot.0; promised = promised.0 }, promised.1)
+
+unfoldable pub vote_at : ℕ → List ℕ → Read (Vote Command)
+vote_at nodes bytes = do
+  ballot ← ballot_at nodes bytes
+  slot ← slot_at ballot.1
+  command ← command_at slot.1
+  Ok (record { slot = slot.0; ballot = ballot.0; command = command.0 }, command.1)
+
+unfoldable pub prepare_at : ℕ → List ℕ → Read Message
+prepare_at nodes bytes = do
+  ballot ← ballot_at nodes bytes
+  first ← slot_at ballot.1
+  Ok (Prepare ballot.0 first.0, first.1)
+
+unfoldable pub decided_at : List ℕ → Read Message
+decided_at bytes = do
+  slot ← slot_at bytes
+  command ← command_at slot.1
+  Ok (Decided slot.0 command.0, command.1)
+
+-- a value as a message
+abbrev pub as_message : {A : Type 0} → (A → Message) → A × List ℕ → Read Message
+as_message f x = Ok (f x.0, x.1)
+
+-- ---- frames
+unfoldable pub message_at : Kind → ℕ → List ℕ → Read Message
+message_at kind.Prepare nodes bytes = prepare_at nodes bytes
+message_at kind.Promise nodes bytes = promise_at nodes bytes >>= as_message Promise
+message_at kind.Nack nodes bytes = nack_at nodes bytes >>= as_message Nack
+message_at kind.Accept nodes bytes = vote_at nodes bytes >>= as_message Accept
+message_at kind.Accepted nodes bytes = vote_at nodes bytes >>= as_message Accepted
+message_at kind.Ask nodes bytes = slot_at bytes >>= as_message Ask
+message_at kind.Decided nodes bytes = decided_at bytes
+
+-- what a frame begins with
+unfoldable pub envelope_at : ℕ → List ℕ → Read Envelope
+envelope_at nodes bytes = do
+  head ← head_at nodes bytes
+  message ← message_at head.0.kind nodes head.1
+  Ok (record { from = head.0.from; to = head.0.to; message = message.0 }, message.1)
+
+-- a frame, and nothing after it
+unfoldable pub frame_in : ℕ → List ℕ → Result Envelope WireFault
+frame_in nodes bytes = if nat_lt LONGEST_FRAME (length bytes) then Err Long else do
+  envelope ← envelope_at nodes bytes
+  if length envelope.1 == 0 then Ok envelope.0 else Err Trailing

@@ -1,0 +1,74 @@
+//! Votes as promises tell them.
+
+ghost use Rattle.std.specs.Prelude.{◌≡◌, IfOk};
+
+use sessions::Command;
+use std::alloc::AllocError;
+use std::marker::Model;
+use synod::{Ballot, Slot, Vote};
+
+/// A vote that a promise tells.
+#[derive(Debug, Drop)]
+pub struct Entry {
+    vote: Vote<Command>,
+}
+
+impl Model for Entry {
+    ghost use Rattle.synod.specs.declared.vote.Vote.{Vote};
+    ghost use Rattle.sessions.specs.declared.command.Command.{Command};
+
+    ghost Value = { Vote Command };
+
+    ghost view = { λ entry. entry.vote };
+
+    ghost inverse = { λ vote. record { vote = vote } };
+}
+
+impl Entry {
+    /// The entry that tells this vote.
+    pub fn new(vote: Vote<Command>) -> Entry
+        ensures { result ≡ vote }
+    {
+        Entry { vote }
+    }
+
+    /// The vote.
+    pub fn vote(&self) -> &Vote<Command>
+        ensures { result.now ≡ self.now }
+    {
+        &self.vote
+    }
+
+    /// The vote itself.
+    pub fn into_vote(self) -> Vote<Command>
+        ensures { result ≡ self }
+    {
+        self.vote
+    }
+
+    /// A copy, equal to it.
+    pub fn try_clone(&self) -> Result<Entry, AllocError>
+        ensures { IfOk result (λ copy. copy ≡ self.now) }
+    {
+        Ok(Entry {
+            vote: Vote {
+                slot: self.vote.slot,
+                ballot: self.vote.ballot,
+                command: self.vote.command.try_clone()?,
+            },
+        })
+    }
+}
+
+/// What fills the places of a list of entries in which none stands: the first ballot's no-op at the first slot.
+impl Default for Entry {
+    fn default() -> Entry {
+        Entry {
+            vote: Vote {
+                slot: Slot::first(),
+                ballot: Ballot { round: 1, node: 0 },
+                command: Command::NoOp,
+            },
+        }
+    }
+}

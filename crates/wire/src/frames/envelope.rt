@@ -1,0 +1,34 @@
+//! Messages on their way.
+
+ghost use Rattle.std.specs.Prelude.{◌≡◌, IfOk};
+
+use super::message::Message;
+use crate::NodeId;
+use std::alloc::AllocError;
+
+/// The first two bytes of each frame.
+pub const MAGIC: u16 = 0x4D50;
+
+/// A frame has at most this many bytes.
+pub const LONGEST_FRAME: usize = 60_000;
+
+/// A message on its way from one node to another.
+#[derive(Debug, Drop)]
+pub struct Envelope {
+    pub from: NodeId,
+    pub to: NodeId,
+    pub message: Message,
+}
+
+impl Envelope {
+    /// A copy, equal to it.
+    pub fn try_clone(&self) -> Result<Envelope, AllocError>
+        ensures { IfOk result (λ copy. copy ≡ self.now) }
+    {
+        Ok(Envelope {
+            from: self.from,
+            to: self.to,
+            message: self.message.try_clone()?,
+        })
+    }
+}

@@ -1,0 +1,115 @@
+//! Bytes that are read from left to right.
+
+ghost use Rattle.std.specs.Prelude.{◌≡◌, ◌≤◌, ◌==◌, length};
+ghost use Rattle.std.specs.List.{list_all};
+ghost use Rattle.wire.specs.Reading.{Gives, byte_at, number_at, text_at};
+ghost use Rattle.tpoint.specs.Ids.{is_id_byte};
+
+use super::fault::WireFault;
+use byteorder::{BigEndian, ByteOrder};
+use std::marker::Model;
+use tpoint::{Id, LONGEST_ID, is_id_byte};
+
+/// The bytes that are not read yet. What a reader takes is gone from them; after a fault nothing more is read.
+#[derive(Drop)]
+pub(super) struct Input<'a> {
+    rest: &'a [u8],
+}
+
+impl<'a> Model for Input<'a> {
+    ghost use Rattle.std.specs.Prelude.{ℕ, List};
+
+    ghost Value = { List ℕ };
+
+    ghost view = { λ input. input.rest.now };
+}
+
+impl<'a> Input<'a> {
+    /// All of the bytes.
+    pub(super) fn new(bytes: &'a [u8]) -> Input<'a>
+        ensures { result ≡ bytes.now }
+    {
+        Input { rest: bytes }
+    }
+
+    /// Whether no byte is left.
+    pub(super) fn is_empty(&self) -> bool
+        ensures { result ≡ (length self.now == 0) }
+    {
+        self.rest.is_empty()
+    }
+
+    pub(super) fn u8(&mut self) -> Result<u8, WireFault>
+        ensures { Gives (λ x. (x, self.new)) result (byte_at self.old) }
+    {
+        match self.rest {
+            [] => Err(WireFault::Short),
+            [byte, rest @ ..] => {
+                self.rest = rest;
+                Ok(*byte)
+            }
+        }
+    }
+
+    pub(super) fn u16(&mut self) -> Result<u16, WireFault>
+        ensures { Gives (λ x. (x, self.new)) result (number_at 2 self.old) }
+    {
+        if self.rest.len() < 2 {
+            return Err(WireFault::Short);
+        }
+        let number = BigEndian::read_u16(self.rest);
+        self.rest = &self.rest[2..];
+        Ok(number)
+    }
+
+    pub(super) fn u32(&mut self) -> Result<u32, WireFault>
+        ensures { Gives (λ x. (x, self.new)) result (number_at 4 self.old) }
+    {
+        if self.rest.len() < 4 {
+            return Err(WireFault::Short);
+        }
+        let number = BigEndian::read_u32(self.rest);
+        self.rest = &self.rest[4..];
+        Ok(number)
+    }
+
+    pub(super) fn u64(&mut self) -> Result<u64, WireFault>
+        ensures { Gives (λ x. (x, self.new)) result (number_at 8 self.old) }
+    {
+        if self.rest.len() < 8 {
+            return Err(WireFault::Short);
+        }
+        let number = BigEndian::read_u64(self.rest);
+        self.rest = &self.rest[8..];
+        Ok(number)
+    }
+
+    /// An id of this length.
+    pub(super) fn text(&mut self, len: usize) -> Result<Id, WireFault>
+        requires some { 1 ≤ len }
+        requires few { len ≤ LONGEST_ID }
+        ensures { Gives (λ x. (x, self.new)) result (text_at len self.old) }
+    {
+        // A byte that is none of an id's comes before the end of the bytes.
+        let there = len.min(self.rest.len());
+        let fits = are_id_bytes(&self.rest[..there]);
+        if !fits {
+            return Err(WireFault::Field);
+        }
+        if self.rest.len() < len {
+            return Err(WireFault::Short);
+        }
+        let Some(id) = Id::new(&self.rest[..len]) else {
+            return Err(WireFault::Field);
+        };
+        self.rest = &self.rest[len..];
+        Ok(id)
+    }
+}
+
+/// Whether an id may have each of these bytes.
+fn are_id_bytes(bytes: &[u8]) -> bool
+    ensures { result ≡ list_all is_id_byte bytes.now }
+{
+    bytes.iter().all(|&byte| is_id_byte(byte))
+}
