@@ -25,6 +25,7 @@ pub mod Commands
 pub mod Hearing
 pub mod AllowedLearner
 pub mod Counting
+pub mod FiredLemmas
 pub mod FlushLemmas
 pub mod StartLemmas
 pub mod TallyLemmas
@@ -35,3 +36,7 @@ pub mod OneReply
 pub mod ScriptedLaws
 pub mod SoundSteps
 pub mod WorldSound
+pub mod Casting
+pub mod ListedPuts
+pub mod VotesStand
+pub mod NodeComes

@@ -5,13 +5,10 @@ use Rattle.std.proofs.lemmas.Bool.{cases_eq}
 use Rattle.std.proofs.lemmas.List.{map-append}
 use Rattle.std.proofs.lemmas.List.Elements.{All-append}
 use Rattle.std.proofs.lemmas.Option.{same_Some}
-use Rattle.synod.specs.Records as synod_records
-use Rattle.synod.specs.Minds as synod_minds
 use Rattle.synod.specs.Acts as act
 use Rattle.synod.specs.Acts.{Local, Does}
 use Rattle.synod.specs.Runs as synod_runs
 use Rattle.synod.specs.Runs.{placed, HasCome, IsReached}
-use Rattle.synod.proofs.Puts.{put_same, put_other}
 use Rattle.synod.proofs.Running.{does_reaches}
 use Rattle.stable.specs.Records.{Records}
 use Rattle.stable.specs.Script.{Script}
@@ -21,7 +18,8 @@ use Rattle.world.specs.declared.lists.Submission.{Submission}
 use Rattle.world.specs.declared.lists.Learnt.{Learnt}
 use Rattle.world.specs.States.{NodeState}
 use Rattle.world.specs.Protocol.{fleet, frame_of, learning_of, command_of, IsWellTold}
-use Rattle.world.specs.Reaching.{NodeStands, WorldStands, IsAllowed}
+use Rattle.world.specs.Reaching.{StandsAt, WorldStands, IsAllowed}
+use Rattle.world.proofs.NodeComes.{local_of, stands_elsewhere}
 
 -- what stands at another place than the one where an element was replaced
 pub set_elsewhere : {A : Type 0} (xs : List A) (i j : ℕ) (y z : A) → (j ≡ i → ⊥) → slice_get (slice_set xs i y) j ≡ Some z → slice_get xs j ≡ Some z
@@ -37,38 +35,26 @@ set_here [] i y z e = absurd cc
 set_here (x ∷ xs) zero y z e = same_Some y z e
 set_here (x ∷ xs) (suc i) y z e = set_here xs i y z e
 
--- node i at the beginning of a step
-abbrev pub local_of : synod_runs.World Command → ℕ → Local Command
-local_of = synod_runs.here
-
 module _ {S : Type 0} {contents : Script S → Records} where
   -- the node of a place in the world where node i has come to y
-  node_placed : (nodes : List (NodeState (Script S))) (w : synod_runs.World Command) (i : ℕ) (after : NodeState (Script S)) (y : Local Command)
-      → ((j : ℕ) (n : NodeState (Script S)) → slice_get nodes j ≡ Some n → NodeStands contents n (w.past.records j) (w.mind j))
-      → NodeStands contents after y.records y.mind
+  node_placed : (nodes : List (NodeState (Script S))) (count : ℕ) (w : synod_runs.World Command) (i : ℕ) (after : NodeState (Script S)) (y : Local Command)
+      → ((j : ℕ) (n : NodeState (Script S)) → slice_get nodes j ≡ Some n → StandsAt contents count j w.past (local_of w j) n)
+      → StandsAt contents count i (placed w i y).past (local_of (placed w i y) i) after
       → (j : ℕ) (n : NodeState (Script S)) → slice_get (slice_set nodes i after) j ≡ Some n
-      → NodeStands contents n ((placed w i y).past.records j) ((placed w i y).mind j)
-  node_placed nodes w i after y before now j n e = elim (cases_eq j i) [
+      → StandsAt contents count j (placed w i y).past (local_of (placed w i y) j) n
+  node_placed nodes count w i after y before now j n e = elim (cases_eq j i) [
     | inl same ↦
         let named : after ≡ n = set_here nodes i after n (subst (λ k. slice_get (slice_set nodes i after) k ≡ Some n) same e) in
-        let stands : NodeStands contents n y.records y.mind = subst (λ (x : NodeState (Script S)). NodeStands contents x y.records y.mind) named now in
-        let records : (placed w i y).past.records j ≡ y.records = ap (placed w i y).past.records same ∙ put_same w.past.records i y.records in
-        let mind : (placed w i y).mind j ≡ y.mind = ap (placed w i y).mind same ∙ put_same w.mind i y.mind in
-        subst (λ (r : synod_records.Records Command). NodeStands contents n r ((placed w i y).mind j)) (sym records)
-        (subst (λ (m : synod_minds.Mind Command). NodeStands contents n y.records m) (sym mind) stands)
-    | inr other ↦
-        let stands : NodeStands contents n (w.past.records j) (w.mind j) = before j n (set_elsewhere nodes i j after n other e) in
-        let records : (placed w i y).past.records j ≡ w.past.records j = put_other w.past.records i y.records j other in
-        let mind : (placed w i y).mind j ≡ w.mind j = put_other w.mind i y.mind j other in
-        subst (λ (r : synod_records.Records Command). NodeStands contents n r ((placed w i y).mind j)) (sym records)
-        (subst (λ (m : synod_minds.Mind Command). NodeStands contents n (w.past.records j) m) (sym mind) stands)
+        subst (λ k. StandsAt contents count k (placed w i y).past (local_of (placed w i y) k) n) (sym same)
+        (subst (λ (x : NodeState (Script S)). StandsAt contents count i (placed w i y).past (local_of (placed w i y) i) x) named now)
+    | inr other ↦ stands_elsewhere contents count w i y j n other (before j n (set_elsewhere nodes i j after n other e))
   ]
 
   -- node i does some acts on an input that has come, and its state and the lists are what the acts leave
   pub moved : (nodes : List (NodeState (Script S))) (frames more : List Envelope) (learnt news : List Learnt) (submitted asked : List Submission)
       (old : IsAllowed contents nodes frames learnt submitted) (i : ℕ) (after : NodeState (Script S)) (input : act.Input Command) (y : Local Command)
       → HasCome old.state.past input → Does (fleet (length nodes)) i input (local_of old.state i) y
-      → NodeStands contents after y.records y.mind
+      → StandsAt contents (length nodes) i (placed old.state i y).past (local_of (placed old.state i y) i) after
       → y.sent ≡ map frame_of more → All (λ e. IsWellTold e.message) more → y.learnt ≡ map learning_of news → y.submitted ≡ map command_of asked
       → IsAllowed contents (slice_set nodes i after) (frames ++ more) (learnt ++ news) (submitted ++ asked)
   moved nodes frames more learnt news submitted asked old i after input y came does now sent told heard asks =
@@ -78,7 +64,8 @@ module _ {S : Type 0} {contents : Script S → Records} where
         reached = subst (λ k. IsReached (fleet k) (placed old.state i y)) (sym same)
             (does_reaches (fleet (length nodes)) old.state i input y came does old.reached);
         stands = record {
-          node = node_placed nodes old.state i after y old.stands.node now;
+          node = λ j n e. subst (λ k. StandsAt contents k j (placed old.state i y).past (local_of (placed old.state i y) j) n) (sym same)
+              (node_placed nodes (length nodes) old.state i after y old.stands.node now j n e);
           frames_ = ap (λ l. old.state.past.frames ++ l) sent ∙ ap (λ l. l ++ map frame_of more) old.stands.frames_ ∙ sym (map-append frame_of frames more);
           learnt_ = ap (λ l. old.state.past.learnt ++ l) heard ∙ ap (λ l. l ++ map learning_of news) old.stands.learnt_ ∙ sym (map-append learning_of learnt news);
           submitted_ = ap (λ l. old.state.past.submitted ++ l) asks ∙ ap (λ l. l ++ map command_of asked) old.stands.submitted_

@@ -1,19 +1,24 @@
 -- What is allowed is safe.
-use Rattle.std.proofs.Common.{◌≡◌, ◌⊎◌, ℕ, zero, ◌<◌, inl, inr, List, [], ◌∷◌, All, map, length, slice_get, Option, Some, None, IfSome, Contains, option_map, refl, sym, ap, subst, ◌∙◌, arith}
+use Rattle.std.proofs.Common.{◌≡◌, ◌⊎◌, ℕ, zero, suc, ◌<◌, inl, inr, List, [], ◌∷◌, All, map, length, slice_get, Option, Some, None, IfSome, Contains, option_map, refl, sym, ap, subst, ◌∙◌, arith}
 use Rattle.std.proofs.Math.ListN.{get_or}
 use Rattle.std.proofs.lemmas.List.{length-map}
 use Rattle.std.proofs.lemmas.List.Elements.{All-nil}
-use Rattle.std.proofs.lemmas.Option.{same_Some, slice_get_read, slice_get-get_or, slice_get-map, slice_get_within, get_or_from_slice_get}
+use Rattle.std.proofs.lemmas.Option.{same_Some, slice_get_read, slice_get-get_or, slice_get-map, slice_get_within, get_or_from_slice_get, none-some}
 use Rattle.synod.specs.Records.{no_records as nothing_written}
 use Rattle.synod.specs.Minds.{blank}
 use Rattle.synod.specs.History.{Learning}
 use Rattle.synod.specs.Chosen.{Chosen}
 use Rattle.synod.specs.Runs as synod_runs
+use Rattle.synod.specs.Acts as act
+use Rattle.synod.specs.declared.ballot.Ballot.{Ballot}
+use Rattle.synod.specs.declared.vote.Vote.{Vote}
+use Rattle.synod.proofs.Doing.{does_nothing}
+use Rattle.synod.proofs.Thinking.{none_in}
 use Rattle.synod.specs.Invariant.{OnlySubmitted, OnlyChosenLearnt, IsAgreed}
 use Rattle.synod.specs.Chosen.{Agrees}
 use Rattle.synod.proofs.Running.{agreed_lem}
 use Rattle.stable.specs.Records.{Records, no_records}
-use Rattle.stable.specs.Script.{Script}
+use Rattle.stable.specs.Script.{Script, Write}
 use Rattle.stable.specs.declared.key.Key.TheVariants as key
 use Rattle.acceptor.specs.Accepting.{Accepting}
 use Rattle.acceptor.specs.Protocol.{RecordsStand}
@@ -24,13 +29,14 @@ use Rattle.wire.specs.declared.message.Envelope.{Envelope}
 use Rattle.world.specs.declared.lists.Submission.{Submission}
 use Rattle.world.specs.declared.lists.Learnt.{Learnt}
 use Rattle.world.specs.Explaining.{IsGrounded, IsSubmitted, LearntAgree, LearntGrounded}
-use Rattle.world.specs.Flushing.{IsStart, IsStarted, Delivers}
+use Rattle.world.specs.Flushing.{IsFresh, IsStart, IsStarted, Delivers}
 use Rattle.world.specs.Loading.{IsLoaded}
 use Rattle.world.specs.Minds.{Mind}
 use Rattle.world.specs.Protocol.{fleet, frame_of, learning_of, command_of, IsWellTold}
-use Rattle.world.specs.Reaching.{NodeStands, IsAllowed}
+use Rattle.world.specs.Reaching.{NodeStands, TookEffect, StandsAt, IsAllowed}
 use Rattle.world.specs.Safety.{HasAgreed}
 use Rattle.world.specs.States.{NodeState}
+use Rattle.world.specs.Voting.{vote_put, HasVote, IsChosen, HasChosen}
 use Rattle.world.specs.Worlds.{WorldState}
 use Rattle.world.proofs.RestartLemmas.{up_again}
 use Rattle.world.proofs.SayingLemmas.{SayBoth}
@@ -74,6 +80,55 @@ module _ {S : Type 0} where
         | inr asked ↦ inr (subst (λ (l : List Command). Contains l t.command) h.submitted asked)
       ])
 
+-- ---- chosen in the past, and by the lists of writes
+if_some : {A : Type 0} (o : Option A) (P : A → Type 0) → ((x : A) → o ≡ Some x → P x) → IfSome o P
+if_some None P h = tt
+if_some (Some x) P h = h x refl
+
+one_there : {A : Type 0} (xs : List A) (i : ℕ) → i < length xs → (x : A) × (slice_get xs i ≡ Some x)
+one_there [] i lt = absurd (omega arith)
+one_there (x ∷ xs) zero lt = (x, refl)
+one_there (x ∷ xs) (suc i) lt = one_there xs i (omega (arith, lt))
+
+module _ {S : Type 0} (w : WorldState S) (h : HasAgreed w) where
+  abbrev voted : ℕ → Ballot → Command → Vote Command
+  voted slot b c = record { slot = slot; ballot = b; command = c }
+
+  by_lists : (slot : ℕ) (c : Command) → Chosen (length w.nodes) h.history slot c → IsChosen w.nodes slot c
+  by_lists slot c chosen = (
+    chosen.0,
+    record {
+      members = chosen.1.members;
+      most = chosen.1.most;
+      each = λ a lt e. if_some (slice_get w.nodes a) (λ n. HasVote n.storage.writes (voted slot chosen.0 c))
+          (λ n here. (h.votes a n here (voted slot chosen.0 c)).0 (chosen.1.each a lt e));
+    },
+  )
+
+  in_the_past : (slot : ℕ) (c : Command) → IsChosen w.nodes slot c → Chosen (length w.nodes) h.history slot c
+  in_the_past slot c chosen = (
+    chosen.0,
+    record {
+      members = chosen.1.members;
+      most = chosen.1.most;
+      each = λ a lt e.
+          let n = one_there w.nodes a lt in
+          let vote : HasVote n.0.storage.writes (voted slot chosen.0 c) =
+          subst (λ (o : Option (NodeState (Script S))). IfSome o (λ m. HasVote m.storage.writes (voted slot chosen.0 c))) n.1 (chosen.1.each a lt e) in
+          (h.votes a n.0 n.1 (voted slot chosen.0 c)).1 vote;
+    },
+  )
+
+  pub has_chosen : HasChosen w
+  has_chosen = record {
+    learnt = λ t c. by_lists t.slot t.command (chosen_of w h t c);
+    one = λ slot c d p q. h.agreed.one slot c d (in_the_past slot c p) (in_the_past slot d q);
+    submitted = λ slot c p. submitted_in w.submitted c (elim (h.agreed.submitted slot c (in_the_past slot c p)) [
+      | inl none ↦ inl none
+      | inr asked ↦ inr (subst (λ (l : List Command). Contains l c) h.submitted asked)
+    ]);
+  }
+
 abbrev nothing_held : Accepting
 nothing_held = record { promise = None; vote = λ s. None }
 
@@ -84,6 +139,7 @@ module _ {S : Type 0} {contents : Script S → Records} where
     frames = a.stands.frames_;
     learnt = a.stands.learnt_;
     submitted = a.stands.submitted_;
+    votes = λ i n e. (a.stands.node i n e).listed;
     agreed = agreed_lem (fleet (length w.nodes)) a.state a.reached;
   }
 
@@ -99,12 +155,39 @@ module _ {S : Type 0} {contents : Script S → Records} where
       (subst (λ k. IfSome n.up (IsLoaded no_records i k)) (sym h.of_all) h.up)) in
       up_again n n nothing_written nothing_held zero n.up refl refl says stands loads
 
+  -- no put was made, and no vote cast
+  none_put : (s : Script S) (write : Write) → IsFresh contents s → TookEffect contents s write → ⊥
+  none_put s write fresh (inl c) = none_in write (subst (λ (ws : List Write). Contains ws write) fresh.no_puts c)
+  none_put s write fresh (inr u) = none-some write (sym fresh.sure ∙ u.0)
+
+  stands_at_start : (i count : ℕ) (n : NodeState (Script S)) → IsStarted contents i count n → (nodes : ℕ)
+      → StandsAt contents nodes i synod_runs.start.past (synod_runs.here synod_runs.start i) n
+  stands_at_start i count n h nodes = record {
+    listed = λ v. (λ c. absurd (none_in _ c), λ vote. absurd (none_put n.storage (vote_put v) h.fresh (inl vote.written)));
+    input = act.Nothing;
+    came = tt;
+    after = synod_runs.here synod_runs.start i;
+    does = does_nothing (fleet nodes) i act.Nothing (synod_runs.here synod_runs.start i);
+    unsent = refl;
+    unlearnt = refl;
+    unsubmitted = refl;
+    stands = started_stands i count n h;
+    puts = record {
+      shown = λ write shows. absurd (none-some write.1 (ap (λ (c : Records). c write.0) (sym h.fresh.empty) ∙ shows));
+      fit = λ v c. absurd (none_in _ c);
+      put = λ v c. absurd (none_in _ c);
+      cast = λ v fits t. absurd (none_put n.storage (vote_put v) h.fresh t);
+    };
+    sure = λ _. refl;
+    up = λ _. h.fresh.sure;
+  }
+
   pub start_allowed : (count : ℕ) (w : WorldState S) → IsStart contents count w → IsAllowed contents w.nodes w.frames w.learnt w.submitted
   start_allowed count w h = record {
     state = synod_runs.start;
     reached = record { steps = []; run = refl };
     stands = record {
-      node = λ i n e. started_stands i count n (h.nodes.each i n e);
+      node = λ i n e. stands_at_start i count n (h.nodes.each i n e) (length w.nodes);
       frames_ = sym (ap (λ (x : WorldState S). map frame_of x.frames) h.nothing);
       learnt_ = sym (ap (λ (x : WorldState S). map learning_of x.learnt) h.nothing);
       submitted_ = sym (ap (λ (x : WorldState S). map command_of x.submitted) h.nothing);

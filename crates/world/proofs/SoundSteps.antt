@@ -19,8 +19,9 @@ use Rattle.world.specs.Safety.{HasAgreed, IsSafe, IsSound, IsSoundIfHonest}
 use Rattle.world.specs.Worlds.{WorldState, Steps, TakesAt, ReceivesAt, without_wait}
 use Rattle.world.proofs.Explained.{explained}
 use Rattle.world.proofs.FleetSteps.{step_fleet}
+use Rattle.world.proofs.ListedPuts.{KeepsPuts}
 use Rattle.world.proofs.RestartLemmas.{restart_honest}
-use Rattle.world.proofs.SafetyLemmas.{allowed_agrees, learnt_agree, learnt_grounded, start_allowed}
+use Rattle.world.proofs.SafetyLemmas.{allowed_agrees, has_chosen, learnt_agree, learnt_grounded, start_allowed}
 use Rattle.world.proofs.StorageLaws.{KeepsLaws}
 use Rattle.world.proofs.Tellings.{steps_tell, start_tells}
 use Rattle.world.proofs.WorldMoves.{honest_nodes, honest_took, step_allowed, submission_nodes, answered_nodes}
@@ -29,7 +30,7 @@ use Rattle.world.proofs.WorldMoves.{honest_nodes, honest_took, step_allowed, sub
 pub sound_is_safe : {S : Type 0} {contents : Script S → Records} (w : WorldState S) → IsSound contents w → IsSafe w
 sound_is_safe w sound =
     let agreed : HasAgreed w = allowed_agrees w sound.allowed in
-    record { agreed = agreed; explained = explained w sound.tells (learnt_agree w agreed) (learnt_grounded w agreed) }
+    record { agreed = agreed; chosen = has_chosen w agreed; explained = explained w sound.tells (learnt_agree w agreed) (learnt_grounded w agreed) }
 
 pub safe_if_honest : {S : Type 0} {contents : Script S → Records} {IsHonest : Script S → Type 0} (w : WorldState S) → IsSoundIfHonest contents IsHonest w
     → AreHonest IsHonest w.nodes → IsSafe w
@@ -55,7 +56,8 @@ start_sound contents IsHonest count w start = record {
 module _ {S : Type 0} {contents : Script S → Records} {IsHonest : Script S → Type 0} {reads read_fails : Script S → Script S → Type 0}
     {puts fails : Script S → Key → List ℕ → Script S → Type 0} (laws : KeepsLaws contents IsHonest reads read_fails puts fails)
     (armed_honest : (s : Script S) (f : Failing) → IsHonest (record s { armed = Some f }) → IsHonest s)
-    (armed_contents : (s : Script S) (f : Failing) → contents (record s { armed = Some f }) ≡ contents s) where
+    (armed_contents : (s : Script S) (f : Failing) → contents (record s { armed = Some f }) ≡ contents s)
+    (lists : KeepsPuts contents IsHonest reads read_fails puts fails) where
   -- ---- where every storage is honest after a step it was so before
   abbrev Honest : WorldState S → Type 0
   Honest w = AreHonest IsHonest w.nodes
@@ -68,35 +70,35 @@ module _ {S : Type 0} {contents : Script S → Records} {IsHonest : Script S →
   received_honest old frame new None h up fleet honest = same_nodes old new (ap (λ (w : WorldState S). w.nodes) (h.lost up)) honest
   received_honest old frame new (Some m) h up fleet honest =
       let takes = h.taken (subst (λ (o : Option Mind). IsSome o) (sym up) refl) in
-      honest_took laws armed_honest armed_contents old frame.to (input.Message frame.from frame.message) takes.0 new takes.1 fleet honest
+      honest_took laws armed_honest armed_contents lists old frame.to (input.Message frame.from frame.message) takes.0 new takes.1 fleet honest
 
   step_honest : (old : WorldState S) (e : Event) (new : WorldState S) → Steps contents IsHonest reads read_fails puts fails old e new
       → IsFleet old.nodes old.frames → Honest new → Honest old
   step_honest old (event.Submit node client number op) new h fleet honest =
       let r : Asked = record { client = client; number = number; op = op } in
       let then : Honest h.between = same_nodes h.between new
-      (ap (λ (w : WorldState S). w.nodes) h.leaves ∙ submission_nodes laws armed_honest armed_contents h.between h.taken node r) honest in
-      honest_took laws armed_honest armed_contents old node (input.Submit r) h.taken h.between h.takes fleet then
+      (ap (λ (w : WorldState S). w.nodes) h.leaves ∙ submission_nodes laws armed_honest armed_contents lists h.between h.taken node r) honest in
+      honest_took laws armed_honest armed_contents lists old node (input.Submit r) h.taken h.between h.takes fleet then
   step_honest old (event.Deliver k) new h fleet honest =
       received_honest (without_wait old k) h.frame new h.receives.receiver.up h.receives refl fleet honest
   step_honest old (event.Drop k) new h fleet honest = same_nodes old new (ap (λ (w : WorldState S). w.nodes) h) honest
-  step_honest old (event.Timeout node) new h fleet honest = honest_took laws armed_honest armed_contents old node input.Timeout h.0 new h.1 fleet honest
-  step_honest old (event.Tick node) new h fleet honest = honest_took laws armed_honest armed_contents old node input.Tick h.0 new h.1 fleet honest
+  step_honest old (event.Timeout node) new h fleet honest = honest_took laws armed_honest armed_contents lists old node input.Timeout h.0 new h.1 fleet honest
+  step_honest old (event.Tick node) new h fleet honest = honest_took laws armed_honest armed_contents lists old node input.Tick h.0 new h.1 fleet honest
   step_honest old (event.Restart node) new h fleet honest =
-      honest_nodes laws armed_honest armed_contents old.nodes node h.before h.after h.here (restart_honest laws h.before h.after h.result h.restarts)
+      honest_nodes laws armed_honest armed_contents lists old.nodes node h.before h.after h.here (restart_honest laws h.before h.after h.result h.restarts)
       (subst (λ (x : List (NodeState (Script S))). AreHonest IsHonest x) (ap (λ (w : WorldState S). w.nodes) h.leaves) honest)
   step_honest old (event.Fault node failing) new h fleet honest =
-      honest_nodes laws armed_honest armed_contents old.nodes node h.before _ h.here (armed_honest h.before.storage failing)
+      honest_nodes laws armed_honest armed_contents lists old.nodes node h.before _ h.here (armed_honest h.before.storage failing)
       (subst (λ (x : List (NodeState (Script S))). AreHonest IsHonest x) (ap (λ (w : WorldState S). w.nodes) h.leaves) honest)
   step_honest old (event.Query node query) new h fleet honest =
-      same_nodes old new (ap (λ (w : WorldState S). w.nodes) h.leaves ∙ answered_nodes laws armed_honest armed_contents old node h.result) honest
+      same_nodes old new (ap (λ (w : WorldState S). w.nodes) h.leaves ∙ answered_nodes laws armed_honest armed_contents lists old node h.result) honest
 
   -- ---- a step
   pub step_sound : (old : WorldState S) (e : Event) (new : WorldState S) → Steps contents IsHonest reads read_fails puts fails old e new
       → IsFleet old.nodes old.frames → IsSoundIfHonest contents IsHonest old → IsSoundIfHonest contents IsHonest new
   step_sound old e new h fleet before = record {
     sound = λ honest. record {
-      allowed = step_allowed laws armed_honest armed_contents old e new h fleet (λ was. (before.sound was).allowed) honest;
+      allowed = step_allowed laws armed_honest armed_contents lists old e new h fleet (λ was. (before.sound was).allowed) honest;
       tells = steps_tell contents IsHonest reads read_fails puts fails old new e h honest (before.sound (step_honest old e new h fleet honest)).tells;
     };
   }

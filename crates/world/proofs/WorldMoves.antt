@@ -10,8 +10,8 @@ use Rattle.synod.specs.Minds as synod_minds
 use Rattle.synod.specs.Acts as act
 use Rattle.synod.specs.Acts.{Local}
 use Rattle.synod.specs.Runs as synod_runs
-use Rattle.synod.specs.Runs.{HasCome}
-use Rattle.synod.proofs.Doing.{does_nothing, does_one}
+use Rattle.synod.specs.Runs.{HasCome, placed}
+use Rattle.synod.proofs.Doing.{does_nothing}
 use Rattle.stable.specs.Records.{Records}
 use Rattle.stable.specs.Script.{Script}
 use Rattle.stable.specs.declared.key.Key.{Key}
@@ -33,13 +33,16 @@ use Rattle.world.specs.Minds.{Mind}
 use Rattle.world.specs.Nodes.{NodeState}
 use Rattle.world.specs.Outputs.{Told}
 use Rattle.world.specs.Protocol.{learnings, fleet, frame_of, message_of, input_of, learning_of, command_of, IsWellTold, IsWellToldInput}
-use Rattle.world.specs.Reaching.{SaysRound, NodeStands, IsAllowed, AreHonest}
+use Rattle.world.specs.Reaching.{SaysRound, NodeStands, StandsAt, IsAllowed, AreHonest}
 use Rattle.world.specs.Worlds.{WorldState, quiet, TakesAt, SubmitsAt, ReceivesAt, DeliversFrame, ArmsAt, AsksAt, RestartsAt, Steps, with_node, recorded, with_submission, answered, without_wait, learnt_by}
 use Rattle.world.proofs.FleetSteps.{frame_at}
-use Rattle.world.proofs.MovingLemmas.{local_of, moved}
-use Rattle.world.proofs.NodeMoves.{NodeMoves, node_moves, honest_before, sends_of, learnt_of, submitted_of}
-use Rattle.world.proofs.RestartLemmas.{restart_stands, restart_honest}
+use Rattle.world.proofs.ListedPuts.{KeepsPuts, same_lists as same_puts}
+use Rattle.world.proofs.MovingLemmas.{moved}
+use Rattle.world.proofs.NodeComes.{local_of, stands_still, NodeComes, node_comes, ComesQuietly, restart_comes}
+use Rattle.world.proofs.NodeMoves.{honest_before, sends_of, learnt_of, submitted_of}
+use Rattle.world.proofs.RestartLemmas.{restart_honest}
 use Rattle.world.proofs.StorageLaws.{KeepsLaws}
+use Rattle.world.proofs.VotesStand.{puts_same}
 
 -- ---- one element of a list is replaced
 set_there : {A : Type 0} (xs : List A) (i : ℕ) (y z : A) → slice_get xs i ≡ Some z → slice_get (slice_set xs i y) i ≡ Some y
@@ -87,7 +90,8 @@ asked_listed node input.Tick (Err f) = refl
 module _ {S : Type 0} {contents : Script S → Records} {IsHonest : Script S → Type 0} {reads read_fails : Script S → Script S → Type 0}
     {puts fails : Script S → Key → List ℕ → Script S → Type 0} (laws : KeepsLaws contents IsHonest reads read_fails puts fails)
     (armed_honest : (s : Script S) (f : Failing) → IsHonest (record s { armed = Some f }) → IsHonest s)
-    (armed_contents : (s : Script S) (f : Failing) → contents (record s { armed = Some f }) ≡ contents s) where
+    (armed_contents : (s : Script S) (f : Failing) → contents (record s { armed = Some f }) ≡ contents s)
+    (list_laws : KeepsPuts contents IsHonest reads read_fails puts fails) where
   abbrev Nodes : Type 0
   Nodes = List (NodeState (Script S))
 
@@ -159,10 +163,10 @@ module _ {S : Type 0} {contents : Script S → Records} {IsHonest : Script S →
       let nodes : new.nodes ≡ slice_set old.nodes node h.after = ap (λ (w : WorldState S). w.nodes) h.leaves ∙ recorded_nodes (with_node old node h.after) node h.result in
       let there : node < length old.nodes = slice_get_within old.nodes node h.before h.here in
       let own : IsHonest h.after.storage = honest node h.after (ap (λ (x : Nodes). slice_get x node) nodes ∙ set_there old.nodes node h.after h.before h.here) in
-      let m : NodeMoves contents (length old.nodes) node i (local_of a.state node) h.after h.result =
-      node_moves laws (length old.nodes) node there fleet_.few h.before h.after i h.result (local_of a.state node) h.steps
+      let m : NodeComes contents (length old.nodes) node i a.state h.after h.result =
+      node_comes laws list_laws (length old.nodes) node there fleet_.few a.state a.reached h.before h.after i h.result came h.steps
       (a.stands.node node h.before h.here) (fleet_.members node h.before h.here) sender well own in
-      let asks : m.after.submitted ≡ map command_of (asked_of node i taken) =
+      let asks : m.to.submitted ≡ map command_of (asked_of node i taken) =
       m.submitted ∙ asked_listed node i h.result ∙ ap (λ b. map command_of (asked_of node i b)) (sym h.taken_) in
       record {
         lists = named (slice_set old.nodes node h.after) new.nodes (old.frames ++ sends_of h.result) new.frames (old.learnt ++ news_of node h.result) new.learnt
@@ -170,7 +174,7 @@ module _ {S : Type 0} {contents : Script S → Records} {IsHonest : Script S →
             (ap (λ (w : WorldState S). w.frames) h.leaves ∙ recorded_frames (with_node old node h.after) node h.result)
             (ap (λ (w : WorldState S). w.learnt) h.leaves ∙ recorded_learnt (with_node old node h.after) node h.result) refl
             (moved old.nodes old.frames (sends_of h.result) old.learnt (news_of node h.result) old.submitted (asked_of node i taken) a node h.after
-            (input_of i) m.after came m.does m.stands m.sent m.told (m.learnt ∙ news_listed node h.result) asks);
+            (input_of i) m.to came m.does m.stands m.sent m.told (m.learnt ∙ news_listed node h.result) asks);
         submitted = ap (λ (w : WorldState S). w.submitted) h.leaves ∙ recorded_submitted (with_node old node h.after) node h.result;
       }
 
@@ -240,25 +244,28 @@ module _ {S : Type 0} {contents : Script S → Records} {IsHonest : Script S →
   -- ---- a node is changed, and nothing is told
   changed : (old new : WorldState S) (node : ℕ) (after : NodeState (Script S)) (acts : act.Input Command) (y : Local Command) → new.nodes ≡ slice_set old.nodes node after
       → new.frames ≡ old.frames → new.learnt ≡ old.learnt → new.submitted ≡ old.submitted → (a : WorldAllowed old) → HasCome a.state.past acts
-      → act.Does (fleet (length old.nodes)) node acts (local_of a.state node) y → NodeStands contents after y.records y.mind → y.sent ≡ [] → y.learnt ≡ [] → y.submitted ≡ []
+      → act.Does (fleet (length old.nodes)) node acts (local_of a.state node) y
+      → StandsAt contents (length old.nodes) node (placed a.state node y).past (local_of (placed a.state node y) node) after → y.sent ≡ [] → y.learnt ≡ [] → y.submitted ≡ []
       → WorldAllowed new
   changed old new node after acts y nodes frames learnt submitted a came does now sent heard asks =
       named (slice_set old.nodes node after) new.nodes (old.frames ++ []) new.frames (old.learnt ++ []) new.learnt (old.submitted ++ []) new.submitted nodes
       (frames ∙ sym (append-nil old.frames)) (learnt ∙ sym (append-nil old.learnt)) (submitted ∙ sym (append-nil old.submitted))
       (moved old.nodes old.frames [] old.learnt [] old.submitted [] a node after acts y came does now sent (All-nil (λ e. IsWellTold e.message)) heard asks)
 
-  restart_allowed : (old new : WorldState S) (node : ℕ) → RestartsAt contents IsHonest reads read_fails old node new → (WorldHonest old → WorldAllowed old)
+  restart_allowed : (old new : WorldState S) (node : ℕ) → RestartsAt contents IsHonest reads read_fails old node new → length old.nodes ≤ 7 → (WorldHonest old → WorldAllowed old)
       → WorldHonest new → WorldAllowed new
-  restart_allowed old new node h before honest =
+  restart_allowed old new node h few before honest =
       let nodes : new.nodes ≡ slice_set old.nodes node h.after = ap (λ (w : WorldState S). w.nodes) h.leaves in
       let honest_set : AreHonest IsHonest (slice_set old.nodes node h.after) = subst (λ (x : Nodes). AreHonest IsHonest x) nodes honest in
       let own : IsHonest h.after.storage = honest_set node h.after (set_there old.nodes node h.after h.before h.here) in
       let a : WorldAllowed old = before (honest_nodes old.nodes node h.before h.after h.here (restart_honest laws h.before h.after h.result h.restarts) honest_set) in
-      let x : Local Command = local_of a.state node in
-      changed old new node h.after act.Nothing (act.acted node x act.Forgets) nodes (ap (λ (w : WorldState S). w.frames) h.leaves)
-      (ap (λ (w : WorldState S). w.learnt) h.leaves) (ap (λ (w : WorldState S). w.submitted) h.leaves) a tt
-      (does_one (fleet (length old.nodes)) node act.Nothing x act.Forgets tt)
-      (restart_stands laws h.before h.after h.result x.records x.mind h.restarts own (a.stands.node node h.before h.here)) refl refl refl
+      let there : node < length old.nodes = slice_get_within old.nodes node h.before h.here in
+      let q : ComesQuietly contents (length old.nodes) node a.state h.after =
+      restart_comes laws list_laws (length old.nodes) node there few a.state a.reached h.before h.after h.result h.restarts h.settled
+      (a.stands.node node h.before h.here) own in
+      changed old new node h.after q.input q.to nodes (ap (λ (w : WorldState S). w.frames) h.leaves)
+      (ap (λ (w : WorldState S). w.learnt) h.leaves) (ap (λ (w : WorldState S). w.submitted) h.leaves) a q.came q.does q.stands q.unsent q.unlearnt
+      q.unsubmitted
 
   armed_stands : (n : NodeState (Script S)) (f : Failing) (r : synod_records.Records Command) (s : synod_minds.Mind Command)
       → NodeStands contents n r s → NodeStands contents (record n { storage = record n.storage { armed = Some f } }) r s
@@ -272,6 +279,24 @@ module _ {S : Type 0} {contents : Script S → Records} {IsHonest : Script S →
     up = stands.up;
   }
 
+  armed_at : (nodes i : ℕ) (w : synod_runs.World Command) (n : NodeState (Script S)) (f : Failing) → StandsAt contents nodes i w.past (local_of w i) n
+      → StandsAt contents nodes i w.past (local_of w i) (record n { storage = record n.storage { armed = Some f } })
+  armed_at nodes i w n f s = record {
+    listed = s.listed;
+    input = s.input;
+    came = s.came;
+    after = s.after;
+    does = s.does;
+    unsent = s.unsent;
+    unlearnt = s.unlearnt;
+    unsubmitted = s.unsubmitted;
+    stands = armed_stands n f s.after.records s.after.mind s.stands;
+    puts = puts_same contents n.storage (record n.storage { armed = Some f }) s.after.records
+        (same_puts contents n.storage (record n.storage { armed = Some f }) (armed_contents n.storage f) refl refl) s.puts;
+    sure = s.sure;
+    up = s.up;
+  }
+
   arm_allowed : (old new : WorldState S) (node : ℕ) (f : Failing) → ArmsAt old node f new → (WorldHonest old → WorldAllowed old) → WorldHonest new → WorldAllowed new
   arm_allowed old new node f h before honest =
       let after : NodeState (Script S) = record h.before { storage = record h.before.storage { armed = Some f } } in
@@ -281,7 +306,8 @@ module _ {S : Type 0} {contents : Script S → Records} {IsHonest : Script S →
       let x : Local Command = local_of a.state node in
       changed old new node after act.Nothing x nodes (ap (λ (w : WorldState S). w.frames) h.leaves) (ap (λ (w : WorldState S). w.learnt) h.leaves)
       (ap (λ (w : WorldState S). w.submitted) h.leaves) a tt (does_nothing (fleet (length old.nodes)) node act.Nothing x)
-      (armed_stands h.before f x.records x.mind (a.stands.node node h.before h.here)) refl refl refl
+      (stands_still contents (length old.nodes) a.state node after
+      (armed_at (length old.nodes) node a.state h.before f (a.stands.node node h.before h.here))) refl refl refl
 
   answered_same : (old : WorldState S) (node : ℕ) (r : Result (ℕ × List ℕ) NodeFault) → WorldAllowed old → WorldAllowed (answered old node r)
   answered_same old node (Ok told) a = a
@@ -313,7 +339,7 @@ module _ {S : Type 0} {contents : Script S → Records} {IsHonest : Script S →
       takes_step old node input.Timeout h.0 new refl h.1 fleet_ tt tt (λ a. tt) before honest
   step_allowed old (event.Tick node) new h fleet_ before honest =
       takes_step old node input.Tick h.0 new refl h.1 fleet_ tt tt (λ a. tt) before honest
-  step_allowed old (event.Restart node) new h fleet_ before honest = restart_allowed old new node h before honest
+  step_allowed old (event.Restart node) new h fleet_ before honest = restart_allowed old new node h fleet_.few before honest
   step_allowed old (event.Fault node failing) new h fleet_ before honest = arm_allowed old new node failing h before honest
   step_allowed old (event.Query node query) new h fleet_ before honest =
       same_world (answered old node h.result) new h.leaves (answered_same old node h.result

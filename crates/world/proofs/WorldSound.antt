@@ -14,6 +14,7 @@ use Rattle.world.specs.Flushing.{IsStart, Delivers, DeliversSome}
 use Rattle.world.specs.Reaching.{AreHonest}
 use Rattle.world.specs.Safety.{IsSafe, IsSoundIfHonest, contents_inside, honest_inside}
 use Rattle.world.specs.Worlds.{WorldState, run_of, Steps}
+use Rattle.world.proofs.ListedPuts.{script_puts}
 use Rattle.world.proofs.ScriptedLaws.{KeepsAllLaws, script_laws, arming_honest, arming_contents}
 use Rattle.world.proofs.SoundSteps.{start_sound, safe_if_honest, step_sound, delivers_sound}
 
@@ -41,7 +42,8 @@ module _ {S : Type 0} (contents : S → Records) (IsHonest : S → Type 0) (read
       → OnErr result (new ≡ old) → IsFleet old.nodes old.frames → Sound old → Sound new
   stepped old new e (Ok x) steps same fleet sound =
       step_sound (script_laws contents IsHonest reads read_fails puts fails laws) (arming_honest contents IsHonest reads read_fails puts fails laws)
-      (arming_contents contents IsHonest reads read_fails puts fails laws) old e new steps fleet sound
+      (arming_contents contents IsHonest reads read_fails puts fails laws)
+      (script_puts contents IsHonest reads read_fails puts fails laws) old e new steps fleet sound
   stepped old new e (Err f) steps same fleet sound = subst (λ (w : WorldState S). Sound w) (sym same) sound
 
   pub step_kept : (old new : WorldState S) (e : Event) (result : Result (Unit {0}) WorldFault)
@@ -57,7 +59,8 @@ module _ {S : Type 0} (contents : S → Records) (IsHonest : S → Type 0) (read
   delivered : (old new : WorldState S) (n : ℕ) → Delivered old n new → IsFleet old.nodes old.frames → Sound old → Sound new
   delivered old new n h fleet sound =
       delivers_sound (script_laws contents IsHonest reads read_fails puts fails laws) (arming_honest contents IsHonest reads read_fails puts fails laws)
-      (arming_contents contents IsHonest reads read_fails puts fails laws) old n new h fleet sound
+      (arming_contents contents IsHonest reads read_fails puts fails laws)
+      (script_puts contents IsHonest reads read_fails puts fails laws) old n new h fleet sound
 
   flushed : (old new : WorldState S) (result : Result ℕ WorldFault) → IfOk result (λ n. Delivered old n new)
       → (IsErrOf result fault.FlushLimit → Delivered old MOST_DELIVERIES new)

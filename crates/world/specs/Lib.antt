@@ -5,6 +5,7 @@ pub mod Sending
 pub mod Proposing
 pub mod Rounds
 pub mod Faults
+pub mod Fired
 pub mod Minds
 pub mod Outputs
 pub mod Machines
@@ -28,3 +29,4 @@ pub mod Events
 pub mod Tallies
 pub mod Rows
 pub mod Seen
+pub mod Voting

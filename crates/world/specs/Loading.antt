@@ -1,9 +1,10 @@
 -- What a node holds that has just loaded its records.
-use Rattle.std.specs.Prelude.{◌≡◌, ℕ, ◌⊎◌, List, Option, Some, None, Result, IsSome, IfSome, OnOk, OnErr, IfErr, IsErrOf}
+use Rattle.std.specs.Prelude.{◌≡◌, ℕ, ◌⊎◌, List, Option, Some, None, Result, IsSome, IfSome, MatchOption, OnOk, OnErr, IfErr, IsErrOf}
 use Rattle.std.specs.Option.{ForSome}
 use Rattle.stable.specs.Records.{Records}
 use Rattle.stable.specs.declared.key.Key.TheVariants as key
 use Rattle.acceptor.specs.Accepting.{RecordsSay}
+use Rattle.acceptor.specs.Forms.{HasDamagedRecord}
 use Rattle.world.specs.declared.fault.NodeFault.{NodeFault}
 use Rattle.world.specs.declared.fault.NodeFault.TheVariants as fault
 use Rattle.world.specs.Fleets.{IsMindOf}
@@ -25,6 +26,14 @@ pub record IsLoaded (records : Records) (id nodes : ℕ) (m : Mind) : Type 0 whe
   pub accepting : RecordsSay records m.accepting
   pub learning : m.learning ≡ unlearnt nodes
   pub proposing : LoadsRound (records key.Round) id nodes m.proposing
+
+-- the record of the round is that of no round
+abbrev pub HasDamagedRound : Records → Type 0
+HasDamagedRound records = MatchOption (records key.Round) ⊥ (λ bytes. (round : ℕ) → ¬ IsRound bytes round)
+
+-- a key that is no key's spelling, or a record that is not of its form
+abbrev pub IsDamaged : {S : Type 0} → (S → Records) → (S → Type 0) → S → Type 0
+IsDamaged contents HasStrayKey s = HasStrayKey s ⊎ HasDamagedRecord (contents s) ⊎ HasDamagedRound (contents s)
 
 -- what a restart makes of a node: it holds what its records leave, or it is down
 pub record Restarts {S : Type 0} (contents : S → Records) (IsHonest : S → Type 0) (reads read_fails : S → S → Type 0)

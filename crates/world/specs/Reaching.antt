@@ -1,13 +1,19 @@
 -- A world whose storages are honest is one to which moves lead that the protocol allows.
-use Rattle.std.specs.Prelude.{◌≡◌, ℕ, zero, List, map, All, length, slice_get, Option, Some, None, IfSome}
+use Rattle.std.specs.Prelude.{◌≡◌, ◌↔◌, ◌⊎◌, ℕ, zero, List, [], map, All, length, slice_get, Option, Some, None, IfSome, IsSome, Contains}
 use Rattle.synod.specs.Records as synod_records
 use Rattle.synod.specs.Minds as synod_minds
+use Rattle.synod.specs.Records.{VoteWrite}
+use Rattle.synod.specs.History.{History}
+use Rattle.synod.specs.Acts as acts
+use Rattle.synod.specs.Acts.{Local, Does}
 use Rattle.synod.specs.Runs as synod_runs
-use Rattle.synod.specs.Runs.{IsReached}
+use Rattle.synod.specs.Runs.{HasCome, IsReached}
+use Rattle.synod.specs.declared.vote.Vote.{Vote}
 use Rattle.stable.specs.Records.{Records}
-use Rattle.stable.specs.Script.{Script}
+use Rattle.stable.specs.Script.{Script, Write, Shows}
 use Rattle.stable.specs.declared.key.Key.TheVariants as key
 use Rattle.acceptor.specs.Accepting.{Accepting, RecordsSay}
+use Rattle.acceptor.specs.Forms.{VoteFits}
 use Rattle.acceptor.specs.Protocol.{RecordsStand}
 use Rattle.wire.specs.declared.command.Command.{Command}
 use Rattle.wire.specs.declared.message.Envelope.{Envelope}
@@ -18,6 +24,7 @@ use Rattle.world.specs.States.{NodeState}
 use Rattle.world.specs.Rounds.{IsRound}
 use Rattle.world.specs.Sized.{IsSized}
 use Rattle.world.specs.Protocol.{fleet, frame_of, learning_of, command_of, IsWellTold, MindStands}
+use Rattle.world.specs.Voting.{vote_put, HasVote}
 
 -- what the record of a round says: without one it is 0
 abbrev pub SaysRound : Option (List ℕ) → ℕ → Type 0
@@ -41,11 +48,44 @@ pub record NodeStands {S : Type 0} (contents : Script S → Records) (n : NodeSt
   pub stands : RecordsStand accepting round r
   pub up : IfSome n.up (HoldsSame accepting round s)
 
+-- ---- the list of writes
+-- the put took effect: it is listed, or it is the one that is unsure, and the records show it
+abbrev pub TookEffect : {S : Type 0} → (Script S → Records) → Script S → Write → Type 0
+TookEffect contents s write = Contains s.writes write ⊎ ((s.unsure ≡ Some write) × Shows (contents s) write)
+
+-- each record was put, and the protocol's votes are those that were put
+pub record PutsStand {S : Type 0} (contents : Script S → Records) (s : Script S) (r : synod_records.Records Command) : Type 0 where
+  pub shown : (write : Write) → Shows (contents s) write → TookEffect contents s write
+  pub fit : (v : Vote Command) → Contains r.writes (VoteWrite v) → VoteFits v
+  pub put : (v : Vote Command) → Contains r.writes (VoteWrite v) → TookEffect contents s (vote_put v)
+  pub cast : (v : Vote Command) → VoteFits v → TookEffect contents s (vote_put v) → Contains r.writes (VoteWrite v)
+
+-- the protocol's votes are those that the list of writes tells
+abbrev pub VotesAreListed : {S : Type 0} → Script S → synod_records.Records Command → Type 0
+VotesAreListed s r = (v : Vote Command) → Contains r.writes (VoteWrite v) ↔ HasVote s.writes v
+
+-- node i has come to x in the protocol, where it has voted as its list of writes tells. Where a put is unsure the node
+-- is down, and what stands for it comes after acts that tell nothing: that put's, where it took effect
+pub record StandsAt {S : Type 0} (contents : Script S → Records) (nodes i : ℕ) (past : History Command) (x : Local Command)
+    (n : NodeState (Script S)) : Type 0 where
+  pub listed : VotesAreListed n.storage x.records
+  pub input : acts.Input Command
+  pub came : HasCome past input
+  pub after : Local Command
+  pub does : Does (fleet nodes) i input x after
+  pub unsent : after.sent ≡ []
+  pub unlearnt : after.learnt ≡ []
+  pub unsubmitted : after.submitted ≡ []
+  pub stands : NodeStands contents n after.records after.mind
+  pub puts : PutsStand contents n.storage after.records
+  pub sure : n.storage.unsure ≡ None → after ≡ x
+  pub up : IsSome n.up → n.storage.unsure ≡ None
+
 -- the nodes and the lists are those of the protocol's world
 pub record WorldStands {S : Type 0} (contents : Script S → Records) (nodes : List (NodeState (Script S)))
     (frames : List Envelope) (learnt : List Learnt) (submitted : List Submission) (w : synod_runs.World Command) : Type 0 where
   pub node : (i : ℕ) (n : NodeState (Script S)) → slice_get nodes i ≡ Some n
-      → NodeStands contents n (w.past.records i) (w.mind i)
+      → StandsAt contents (length nodes) i w.past (synod_runs.here w i) n
   pub frames_ : w.past.frames ≡ map frame_of frames
   pub learnt_ : w.past.learnt ≡ map learning_of learnt
   pub submitted_ : w.past.submitted ≡ map command_of submitted

@@ -1,29 +1,36 @@
 -- What is promised of a world whose storages are honest.
-use Rattle.std.specs.Prelude.{◌≡◌, List, map, length, IsSome}
+use Rattle.std.specs.Prelude.{◌≡◌, ◌↔◌, ℕ, List, map, length, slice_get, Some, IsSome}
 use Rattle.stable.specs.Records.{Records}
 use Rattle.stable.specs.Script.{Script}
-use Rattle.synod.specs.History.{History}
+use Rattle.synod.specs.History.{History, Voted}
 use Rattle.synod.specs.Invariant.{IsAgreed}
+use Rattle.synod.specs.declared.vote.Vote.{Vote}
 use Rattle.wire.specs.declared.command.Command.{Command}
 use Rattle.world.specs.Explaining.{IsExplained}
 use Rattle.world.specs.Protocol.{fleet, frame_of, learning_of, command_of}
 use Rattle.world.specs.Reaching.{IsAllowed, AreHonest}
+use Rattle.world.specs.States.{NodeState}
 use Rattle.world.specs.Telling.{Tells}
+use Rattle.world.specs.Voting.{HasVote, HasChosen}
 use Rattle.world.specs.Worlds.{WorldState}
 
--- a past of the protocol has led here: these are its frames, all that any node learnt, and what was submitted; in it
--- no two commands are chosen for one slot, whatever any node learnt is chosen, and each chosen command is a no-op or
--- was submitted
+-- a past of the protocol has led here: these are its frames, all that any node learnt, what was submitted, and its
+-- votes, which are those that the lists of writes tell; in it no two commands are chosen for one slot, whatever any
+-- node learnt is chosen, and each chosen command is a no-op or was submitted
 pub record HasAgreed {S : Type 0} (w : WorldState S) : Type 0 where
   pub history : History Command
   pub frames : history.frames ≡ map frame_of w.frames
   pub learnt : history.learnt ≡ map learning_of w.learnt
   pub submitted : history.submitted ≡ map command_of w.submitted
+  pub votes : (i : ℕ) (n : NodeState (Script S)) → slice_get w.nodes i ≡ Some n
+      → (v : Vote Command) → Voted history i v ↔ HasVote n.storage.writes v
   pub agreed : IsAgreed (fleet (length w.nodes)) history
 
--- and one list of commands explains everything that any node told
+-- so whatever any node learnt is chosen by the lists of writes, and one list of commands explains everything that any
+-- node told
 pub record IsSafe {S : Type 0} (w : WorldState S) : Type 0 where
   pub agreed : HasAgreed w
+  pub chosen : HasChosen w
   pub explained : IsExplained w
 
 -- ---- what is kept from call to call

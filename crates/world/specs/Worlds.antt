@@ -29,6 +29,7 @@ use Rattle.std.specs.Prelude.{
   option_map,
   IsSome,
   IfSome,
+  OnOk,
   codes,
   ◌⊎◌,
   vec_len,
@@ -222,6 +223,8 @@ pub record RestartsAt {S : Type 0} (contents : Script S → Records) (IsHonest :
   pub after : NodeState (Script S)
   pub result : Result (Unit {0}) NodeFault
   pub restarts : Restarts contents IsHonest reads read_fails before result after
+  -- one that is up again knows of each put whether it took effect
+  pub settled : OnOk result (after.storage.unsure ≡ None)
   pub leaves : new ≡ with_outcome (with_node old node after) (restart_outcome node result)
 
 -- ---- one atomic step

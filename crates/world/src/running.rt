@@ -36,7 +36,7 @@ pub struct Running {
 impl Running {
     ghost use Rattle.world.specs.Running.{mind_of};
     ghost use Rattle.world.specs.Fleets.{IsMindOf};
-    ghost use Rattle.world.specs.Loading.{IsLoaded};
+    ghost use Rattle.world.specs.Loading.{IsLoaded, IsDamaged};
     ghost use Rattle.world.specs.Outputs.{sent};
     ghost use Rattle.world.specs.Minds.{position, refuses, refuses_submit, refuses_timeout, Writes, WritesOnMessage, Takes, TakesMessage, answer_sends, one_send};
 
@@ -51,11 +51,14 @@ impl Running {
             IsLoaded (S.contents storage.old) id nodes (mind_of running)) }
         ensures own { IfOk result (λ running. IsMindOf id nodes (mind_of running)) }
         ensures reads { OnOk result (S.reads storage.old storage.new) }
+        ensures settled { OnOk result (S.IsSettled storage.new) }
 
         // Each error.
         ensures device { IsErrOf result StableFault.Device → S.read_fails storage.old storage.new }
         ensures memory { IsErrOf result StableFault.Memory → S.reads storage.old storage.new }
         ensures damaged { IsErrOf result StableFault.Damaged → S.reads storage.old storage.new }
+        ensures damaged_record { S.IsHonest storage.new → IsErrOf result StableFault.Damaged
+            → IsDamaged S.contents S.HasStrayKey storage.old }
     {
         let acceptor = Acceptor::load(alloc, storage)?;
         let proposer = Proposer::load(alloc, storage, id, nodes)?;

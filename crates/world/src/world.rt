@@ -4,6 +4,7 @@ ghost use Rattle.std.specs.Prelude.{◌≡◌, ◌≤◌, ◌↔◌, ◌⊎◌, 
 ghost use Rattle.world.specs.Waiting.{NoneWaits, OneWaits};
 ghost use Rattle.world.specs.Worlds.{run_of};
 ghost use Rattle.world.specs.Safety.{IsSoundIfHonest, contents_inside, honest_inside};
+ghost use Rattle.world.specs.Fired.{HasFewFaults};
 
 use super::event::Event;
 use super::fault::WorldFault;
@@ -16,14 +17,17 @@ use wire::{Envelope, NodeId, Nodes};
 
 /// All nodes of a run, over storages of one kind.
 ///
-/// As long as every storage is honest: no two commands are chosen for one slot, whatever any node learnt is chosen, and
-/// one list of commands, each a no-op or a request that a node took, explains everything that any node told. Whatever is
-/// learnt is its entry, and every reply and every answer at a position is that of one plain database that executed so
-/// many of its entries, each request once.
+/// As long as every storage inside is honest, as one in memory always is: no two commands are chosen for one slot,
+/// whatever any node learnt is chosen, and one list of commands, each a no-op or a request that a node took, explains
+/// everything that any node told. Whatever is learnt is its entry, and every reply and every answer at a position is
+/// that of one plain database that executed so many of its entries, each request once.
+///
+/// Armed faults end nothing of this: at most one comes in a step, so they are counted as long as the steps are.
 #[derive(Drop)]
 pub struct World<S: Stable> {
     run: Run<S>,
     ghost sound: { ∥ IsSoundIfHonest (contents_inside S.contents) (honest_inside S.IsHonest) (run_of run) ∥₁ },
+    ghost few_faults: { HasFewFaults (run_of run) },
 }
 
 impl World<MemStable> {
@@ -36,8 +40,9 @@ impl World<MemStable> {
     pub fn new(alloc: Global, count: Nodes) -> Result<World<MemStable>, WorldFault>
         ensures start { IfOk result (λ w. IsStart (⟦<Scripted<MemStable> as Stable>⟧.contents) count (world_of w)) }
         ensures faults { IfErr result (λ f. f ≡ WorldFault.Memory) }
-        ensures safe { IfOk result (λ w. AreHonest (⟦<Scripted<MemStable> as Stable>⟧.IsHonest) (world_of w).nodes
-            → ∥ IsSafe (world_of w) ∥₁) }
+        ensures honest { IfOk result (λ w.
+            AreHonest (⟦<Scripted<MemStable> as Stable>⟧.IsHonest) (world_of w).nodes) }
+        ensures safe { IfOk result (λ w. ∥ IsSafe (world_of w) ∥₁) }
     {
         let run = Run::new(alloc, count)?;
         Ok(World { run })
@@ -51,6 +56,7 @@ impl<S: Stable> World<S> {
     ghost use Rattle.world.specs.Flushing.{Delivers, DeliversSome};
     ghost use Rattle.world.specs.Reaching.{AreHonest};
     ghost use Rattle.world.specs.Safety.{IsSafe};
+    ghost use Rattle.world.specs.Fired.{AreHonestInside};
 
     /// The requests that nodes took.
     pub fn submitted(&self) -> &[Submission]
@@ -90,7 +96,9 @@ impl<S: Stable> World<S> {
     /// What came of each step. Whoever looks knows that all of it is safe.
     pub fn outcomes(&self) -> &[Outcome]
         ensures outcomes { result.now ≡ (world_of self.now).outcomes }
-        ensures safe { AreHonest (⟦<Scripted<S> as Stable>⟧.IsHonest) (world_of self.now).nodes
+        ensures honest { AreHonestInside S.IsHonest (world_of self.now).nodes
+            → AreHonest (⟦<Scripted<S> as Stable>⟧.IsHonest) (world_of self.now).nodes }
+        ensures safe { AreHonestInside S.IsHonest (world_of self.now).nodes
             → ∥ IsSafe (world_of self.now) ∥₁ }
     {
         self.run.outcomes()
@@ -122,7 +130,9 @@ impl<S: Stable> World<S> {
             ⊎ (f ≡ WorldFault.Memory)) }
 
         // Whatever came of it.
-        ensures safe { AreHonest (⟦<Scripted<S> as Stable>⟧.IsHonest) (world_of self.new).nodes
+        ensures honest { AreHonestInside S.IsHonest (world_of self.new).nodes
+            → AreHonest (⟦<Scripted<S> as Stable>⟧.IsHonest) (world_of self.new).nodes }
+        ensures safe { AreHonestInside S.IsHonest (world_of self.new).nodes
             → ∥ IsSafe (world_of self.new) ∥₁ }
     {
         self.run.step(alloc, event)
@@ -147,7 +157,9 @@ impl<S: Stable> World<S> {
         ensures faults { IfErr result (λ f. (f ≡ WorldFault.FlushLimit) ⊎ (f ≡ WorldFault.Memory)) }
 
         // Whatever came of it.
-        ensures safe { AreHonest (⟦<Scripted<S> as Stable>⟧.IsHonest) (world_of self.new).nodes
+        ensures honest { AreHonestInside S.IsHonest (world_of self.new).nodes
+            → AreHonest (⟦<Scripted<S> as Stable>⟧.IsHonest) (world_of self.new).nodes }
+        ensures safe { AreHonestInside S.IsHonest (world_of self.new).nodes
             → ∥ IsSafe (world_of self.new) ∥₁ }
     {
         self.run.flush(alloc)

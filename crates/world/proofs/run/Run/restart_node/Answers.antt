@@ -1,4 +1,5 @@
-use Rattle.std.proofs.Common.{◌≡◌, refl, rules, vec_len, Ok, Err}
+use Rattle.std.proofs.Common.{◌≡◌, refl, rules, subst, vec_len, None, Result, Ok, Err, OnOk}
+use Rattle.world.specs.declared.fault.NodeFault.{NodeFault}
 use Rattle.world.specs.Nodes.{state_of}
 use Rattle.world.specs.Worlds.{run_of, with_outcome, restart_outcome}
 use Rattle.world.proofs.FleetLemmas.{restart_leaves}
@@ -15,7 +16,9 @@ returns-in-Ok g c =
           c.index_mut-at.result.now (search rules) named c.requires.there c.index_mut-at.ensures.value;
       after = state_of c.restart.new.self;
       result = Ok tt;
-      restarts = rw (← c.in-Ok.is) c.restart.ensures;
+      restarts = rw (← c.in-Ok.is) c.restart.ensures.restarts;
+      settled = subst (λ (r : Result (Unit {0}) NodeFault). OnOk r ((state_of c.restart.new.self).storage.unsure ≡ None)) c.in-Ok.is
+          c.restart.ensures.settled;
       leaves = left_by _ (run_of c.args.self.now) c.args.self.now.nodes.items c.args.node c.restart.new.self
           (λ w. with_outcome w (restart_outcome c.args.node (Ok tt))) (rw (← named) (search rules)) refl;
     }
@@ -29,7 +32,8 @@ returns-in-Err g c =
           c.index_mut-at.result.now (search rules) named c.requires.there c.index_mut-at.ensures.value;
       after = state_of c.restart.new.self;
       result = Err c.in-Err.fault;
-      restarts = rw (← c.in-Err.is) c.restart.ensures;
+      restarts = rw (← c.in-Err.is) c.restart.ensures.restarts;
+      settled = tt;
       leaves = left_by _ (run_of c.args.self.now) c.args.self.now.nodes.items c.args.node c.restart.new.self
           (λ w. with_outcome w (restart_outcome c.args.node (Err c.in-Err.fault))) (rw (← named) (search rules)) refl;
     }
@@ -41,7 +45,7 @@ invariant_of-self-clause-fleet g c =
     lent_fleet c.args.self.now.nodes.items c.args.self.now.frames.items (vec_len c.args.self.now.nodes) c.args.node c.from.result
     c.index_mut-at.result.now c.restart.new.self (search rules) named c.requires.there c.index_mut-at.ensures.value
     c.args.self.now.fleet
-    (λ member. restart_leaves c.args.node (vec_len c.args.self.now.nodes) c.requires.there _ _ _ c.restart.ensures member)
+    (λ member. restart_leaves c.args.node (vec_len c.args.self.now.nodes) c.requires.there _ _ _ c.restart.ensures.restarts member)
 
 -- the node keeps its name, down as it is
 pub invariant_of-self-in-Err-clause-fleet : goal.invariant_of-self-in-Err-clause-fleet
@@ -50,4 +54,4 @@ invariant_of-self-in-Err-clause-fleet g c =
     lent_fleet c.args.self.now.nodes.items c.args.self.now.frames.items (vec_len c.args.self.now.nodes) c.args.node c.from.result
     c.index_mut-at.result.now c.restart.new.self (search rules) named c.requires.there c.index_mut-at.ensures.value
     c.args.self.now.fleet
-    (λ member. restart_leaves c.args.node (vec_len c.args.self.now.nodes) c.requires.there _ _ _ c.restart.ensures member)
+    (λ member. restart_leaves c.args.node (vec_len c.args.self.now.nodes) c.requires.there _ _ _ c.restart.ensures.restarts member)

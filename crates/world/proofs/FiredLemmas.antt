@@ -1,0 +1,304 @@
+-- At most one armed fault comes in a step, so a u64 counts them as long as it counts the steps.
+use Rattle.std.proofs.Common.{◌≡◌, ◌⊎◌, ℕ, ◌+◌, ◌^◌, ◌<◌, ◌≤◌, inl, inr, List, [], ◌∷◌, ◌++◌, length, slice_get, slice_set, Bool, true, false, Option, Some, None, IsSome, IfSome, IfOk, IfErr, OnOk, OnErr, IsErrOf, Result, Ok, Err, MatchBool, refl, sym, ap, subst, ◌∙◌, arith, rules, length-append}
+use Rattle.stable.specs.Records.{Records}
+use Rattle.stable.specs.Script.{Script, counted, Reads, ReadFails, Puts, Fails}
+use Rattle.stable.specs.ScriptLaws.{read_fails_fired}
+use Rattle.stable.specs.declared.key.Key.{Key}
+use Rattle.acceptor.specs.Accepting.{Write, HasWritten, HasFailed}
+use Rattle.world.specs.declared.event.Event.{Event}
+use Rattle.world.specs.declared.event.Event.TheVariants as event
+use Rattle.world.specs.declared.fault.NodeFault.{NodeFault}
+use Rattle.world.specs.declared.fault.NodeFault.TheVariants as fault
+use Rattle.world.specs.declared.fault.WorldFault.{WorldFault}
+use Rattle.world.specs.declared.fault.WorldFault.TheVariants as world_fault
+use Rattle.world.specs.declared.input.Input.{Input}
+use Rattle.world.specs.declared.input.Input.TheVariants as input
+use Rattle.world.specs.declared.lists.Outcome.{Outcome}
+use Rattle.world.specs.declared.log.TheConstants.{MOST_DELIVERIES}
+use Rattle.world.specs.declared.run.Run.{Run}
+use Rattle.wire.specs.Asked.{Asked}
+use Rattle.world.specs.Faults.{is_stop_fault}
+use Rattle.world.specs.Fired.{AreHonestInside, IsCounted, AreCounted, HasFewFaults}
+use Rattle.world.specs.Flushing.{IsStart, Delivers, DeliversSome}
+use Rattle.world.specs.Loading.{Restarts}
+use Rattle.world.specs.Minds.{Mind}
+use Rattle.world.specs.Nodes.{NodeState, NodeSteps, TakesInput, RefusesInput, StopsOnInput, StorageStops}
+use Rattle.world.specs.Outputs.{Told}
+use Rattle.world.specs.Reaching.{AreHonest}
+use Rattle.world.specs.Safety.{contents_inside, honest_inside}
+use Rattle.world.specs.Worlds.{WorldState, run_of, TakesAt, ReceivesAt, DeliversFrame, Steps, recorded, with_node, with_submission, answered, without_wait}
+use Rattle.world.proofs.FleetSteps.{set_at}
+
+-- ---- one call of a storage
+-- no armed fault came, or one
+abbrev pub CountsOn : {S : Type 0} → Script S → Script S → Type 0
+CountsOn a b = (b.fired ≡ a.fired) ⊎ (b.fired ≡ counted a.fired)
+
+-- so it is of every kind of call
+pub record CountsCalls {S : Type 0} (reads read_fails : Script S → Script S → Type 0)
+    (puts fails : Script S → Key → List ℕ → Script S → Type 0) : Type 0 where
+  pub reading : (a b : Script S) → reads a b → CountsOn a b
+  pub failed_reading : (a b : Script S) → read_fails a b → CountsOn a b
+  pub putting : (a b : Script S) (key : Key) (bytes : List ℕ) → puts a key bytes b → CountsOn a b
+  pub failed_putting : (a b : Script S) (key : Key) (bytes : List ℕ) → fails a key bytes b → CountsOn a b
+
+module _ {S : Type 0} (contents : S → Records) (IsHonest : S → Type 0) (reads read_fails : S → S → Type 0)
+    (puts fails : S → Key → List ℕ → S → Type 0) where
+  fails_count : (a b : Script S) (key : Key) (bytes : List ℕ) → Fails contents IsHonest reads read_fails puts fails a key bytes b → CountsOn a b
+  fails_count a b key bytes (inl f) = inr (ap (λ (t : Script S). t.fired) f.after ∙ ap counted f.before.fired)
+  fails_count a b key bytes (inr (inl f)) = inr f.fired
+  fails_count a b key bytes (inr (inr (inl f))) = inl (ap (λ (t : Script S). t.fired) f.after ∙ f.before.fired)
+  fails_count a b key bytes (inr (inr (inr f))) = inl (read_fails_fired a b f.inner)
+
+  pub script_counts : CountsCalls (Reads contents IsHonest reads) (ReadFails contents IsHonest reads read_fails)
+      (Puts contents IsHonest reads puts) (Fails contents IsHonest reads read_fails puts fails)
+  script_counts = record {
+    reading = λ a b r. inl r.fired;
+    failed_reading = λ a b f. inl (read_fails_fired a b f);
+    putting = λ a b key bytes p. inl p.fired;
+    failed_putting = fails_count;
+  }
+
+-- ---- the count
+counted_once : (n : ℕ) → n + 1 < 2 ^ 64 → counted (Some n) ≡ Some (n + 1)
+counted_once n small = grind arith
+
+counts_on : (most : ℕ) (before after : Option ℕ) → (after ≡ before) ⊎ (after ≡ counted before) → most + 1 < 2 ^ 64
+    → IsCounted most before → IsCounted (most + 1) after
+counts_on most None after e small h = absurd (let no_count = h.counted in search rules)
+counts_on most (Some n) after (inl e) small h = rw e (record { counted = refl; few = omega (arith, h.few) })
+counts_on most (Some n) after (inr e) small h =
+    let few : n ≤ most = h.few in
+    rw (e, counted_once n (omega (arith, few))) (record { counted = refl; few = omega (arith, few) })
+
+module _ {S : Type 0} where
+  -- one node is another, or none is
+  one_counted : (most : ℕ) (nodes : List (NodeState (Script S))) (i : ℕ) (before after : NodeState (Script S)) → slice_get nodes i ≡ Some before
+      → CountsOn before.storage after.storage → most + 1 < 2 ^ 64 → AreCounted most nodes → AreCounted (most + 1) (slice_set nodes i after)
+  one_counted most nodes i before after here on small h j n e = elim (set_at nodes i j after n e) [
+    | inl this ↦ subst (λ (x : NodeState (Script S)). IsCounted (most + 1) x.storage.fired) this.1
+        (counts_on most before.storage.fired after.storage.fired on small (h i before here))
+    | inr other ↦ counts_on most n.storage.fired n.storage.fired (inl refl) small (h j n other)
+  ]
+
+  none_counted : (most : ℕ) (nodes : List (NodeState (Script S))) → most + 1 < 2 ^ 64 → AreCounted most nodes → AreCounted (most + 1) nodes
+  none_counted most nodes small h j n e = counts_on most n.storage.fired n.storage.fired (inl refl) small (h j n e)
+
+  -- ---- one step of the world
+  -- it has one outcome, and at each node at most one armed fault came
+  pub record CountsStep (old new : WorldState S) : Type 0 where
+    pub more : length new.outcomes ≡ length old.outcomes + 1
+    pub counts : (most : ℕ) → most + 1 < 2 ^ 64 → AreCounted most old.nodes → AreCounted (most + 1) new.nodes
+
+  pub kept : (old new : WorldState S) → CountsStep old new → HasFewFaults old → HasFewFaults new
+  kept old new step h = record {
+    few = λ small.
+        let before : length old.outcomes < 2 ^ 64 = omega (arith, step.more, small) in
+        let next : length old.outcomes + 1 < 2 ^ 64 = omega (arith, step.more, small) in
+        subst (λ k. AreCounted k new.nodes) (sym step.more) (step.counts (length old.outcomes) next (h.few before));
+  }
+
+  changed_one : (old new : WorldState S) (i : ℕ) (before after : NodeState (Script S)) → slice_get old.nodes i ≡ Some before
+      → CountsOn before.storage after.storage → new.nodes ≡ slice_set old.nodes i after
+      → length new.outcomes ≡ length old.outcomes + 1 → CountsStep old new
+  changed_one old new i before after here on nodes more = record {
+    more = more;
+    counts = λ most small h. subst (λ (x : List (NodeState (Script S))). AreCounted (most + 1) x) (sym nodes)
+        (one_counted most old.nodes i before after here on small h);
+  }
+
+  changed_none : (old new : WorldState S) → new.nodes ≡ old.nodes → length new.outcomes ≡ length old.outcomes + 1 → CountsStep old new
+  changed_none old new nodes more = record {
+    more = more;
+    counts = λ most small h. subst (λ (x : List (NodeState (Script S))). AreCounted (most + 1) x) (sym nodes) (none_counted most old.nodes small h);
+  }
+
+  -- an outcome is listed
+  abbrev outcome_count : WorldState S → ℕ
+  outcome_count w = length w.outcomes
+
+  one_outcome : (outcomes : List Outcome) (o : Outcome) (w : WorldState S) → w.outcomes ≡ outcomes ++ o ∷ [] → outcome_count w ≡ length outcomes + 1
+  one_outcome outcomes o w e = ap length e ∙ length-append outcomes (o ∷ [])
+
+  recorded_nodes : (w : WorldState S) (node : ℕ) (r : Result Told NodeFault) → (recorded w node r).nodes ≡ w.nodes
+  recorded_nodes w node (Ok told) = refl
+  recorded_nodes w node (Err f) = refl
+
+  recorded_more : (w : WorldState S) (node : ℕ) (r : Result Told NodeFault) → outcome_count (recorded w node r) ≡ outcome_count w + 1
+  recorded_more w node (Ok told) = length-append w.outcomes (_ ∷ [])
+  recorded_more w node (Err f) = length-append w.outcomes (_ ∷ [])
+
+  submission_same : (w : WorldState S) (taken : Bool) (node : ℕ) (r : Asked)
+      → ((with_submission w taken node r).nodes ≡ w.nodes) × ((with_submission w taken node r).outcomes ≡ w.outcomes)
+  submission_same w true node r = (refl, refl)
+  submission_same w false node r = (refl, refl)
+
+  answered_same : (w : WorldState S) (node : ℕ) (r : Result (ℕ × List ℕ) NodeFault)
+      → ((answered w node r).nodes ≡ w.nodes) × (outcome_count (answered w node r) ≡ outcome_count w + 1)
+  answered_same w node (Ok told) = (refl, length-append w.outcomes (_ ∷ []))
+  answered_same w node (Err f) = (refl, length-append w.outcomes (_ ∷ []))
+
+abbrev failed_with : NodeFault → Result (Unit {0}) NodeFault
+failed_with f = Err f
+
+module _ {S : Type 0} {reads read_fails : Script S → Script S → Type 0} {puts fails : Script S → Key → List ℕ → Script S → Type 0} (calls : CountsCalls reads read_fails puts fails) where
+  -- ---- an input comes to a node
+  written : (a b : Script S) (w : Write) → HasWritten reads puts a b w → CountsOn a b
+  written a b None h = calls.reading a b h
+  written a b (Some w) h = calls.putting a b w.0 w.1 h
+
+  failed : (a b : Script S) (w : Write) → HasFailed fails a b w → CountsOn a b
+  failed a b None h = absurd h
+  failed a b (Some w) h = calls.failed_putting a b w.0 w.1 h
+
+  same_node : (old new : NodeState (Script S)) → new ≡ old → CountsOn old.storage new.storage
+  same_node old new e = inl (ap (λ (n : NodeState (Script S)). n.storage.fired) e)
+
+  stopped : (old new : NodeState (Script S)) (m : Mind) (i : Input) (f : NodeFault) → StorageStops reads puts fails old.storage m i f new.storage
+      → CountsOn old.storage new.storage
+  stopped old new m i fault.Device h = failed old.storage new.storage h.write h.leaves
+  stopped old new m i fault.Memory (inl h) = calls.reading old.storage new.storage h
+  stopped old new m i fault.Memory (inr h) = written old.storage new.storage h.write h.leaves
+  stopped old new m i fault.Down h = absurd h
+  stopped old new m i fault.LogFull h = absurd h
+  stopped old new m i fault.RoundsUsedUp h = absurd h
+  stopped old new m i fault.QueueFull h = absurd h
+  stopped old new m i fault.Damaged h = absurd h
+
+  refused : (old new : NodeState (Script S)) (m : Mind) (i : Input) (f : NodeFault) (b : Bool)
+      → MatchBool b (StopsOnInput reads puts fails old m i f new) (RefusesInput old m i f new) → CountsOn old.storage new.storage
+  refused old new m i f true h = stopped old new m i f h.storage
+  refused old new m i f false h = same_node old new h.leaves
+
+  by_result : (old new : NodeState (Script S)) (m : Mind) (i : Input) (r : Result Told NodeFault)
+      → IfOk r (λ told. TakesInput reads puts old m i told new)
+      → IfErr r (λ f. MatchBool (is_stop_fault f) (StopsOnInput reads puts fails old m i f new) (RefusesInput old m i f new))
+      → CountsOn old.storage new.storage
+  by_result old new m i (Ok told) taken h = written old.storage new.storage taken.made.write taken.made.leaves
+  by_result old new m i (Err f) taken h = refused old new m i f (is_stop_fault f) h
+
+  by_mind : (old new : NodeState (Script S)) (i : Input) (r : Result Told NodeFault) (o : Option Mind) → old.up ≡ o
+      → NodeSteps reads puts fails old i r new → CountsOn old.storage new.storage
+  by_mind old new i r None up h = same_node old new (h.down up).1
+  by_mind old new i r (Some m) up h =
+      by_result old new m i r
+      (subst (λ (o : Option Mind). IfSome o (λ n. IfOk r (λ told. TakesInput reads puts old n i told new))) up h.taken)
+      (subst (λ (o : Option Mind). IfSome o (λ n. IfErr r (λ f. MatchBool (is_stop_fault f)
+      (StopsOnInput reads puts fails old n i f new) (RefusesInput old n i f new)))) up h.refused)
+
+  -- ---- the kinds of step
+  takes_counts : (old : WorldState S) (node : ℕ) (i : Input) (taken : Bool) (new : WorldState S) → TakesAt reads puts fails old node i taken new
+      → CountsStep old new
+  takes_counts old node i taken new h =
+      changed_one old new node h.before h.after h.here (by_mind h.before h.after i h.result h.before.up refl h.steps)
+      (ap (λ (w : WorldState S). w.nodes) h.leaves ∙ recorded_nodes (with_node old node h.after) node h.result)
+      (ap outcome_count h.leaves ∙ recorded_more (with_node old node h.after) node h.result)
+
+  receives_counts : (old : WorldState S) (frame : _) (new : WorldState S) (o : Option Mind) (h : ReceivesAt reads puts fails old frame new)
+      → h.receiver.up ≡ o → CountsStep old new
+  receives_counts old frame new None h up =
+      changed_none old new (ap (λ (w : WorldState S). w.nodes) (h.lost up))
+      (ap outcome_count (h.lost up) ∙ length-append old.outcomes (_ ∷ []))
+  receives_counts old frame new (Some m) h up =
+      let takes = h.taken (subst (λ (o : Option Mind). IsSome o) (sym up) refl) in
+      takes_counts old frame.to (input.Message frame.from frame.message) takes.0 new takes.1
+
+  deliver_counts : (old : WorldState S) (k : ℕ) (new : WorldState S) → DeliversFrame reads puts fails old k new → CountsStep old new
+  deliver_counts old k new h =
+      let receives = receives_counts (without_wait old k) h.frame new h.receives.receiver.up h.receives refl in
+      record { more = receives.more; counts = receives.counts }
+
+  -- one after the other
+  pub delivers_few : (old : WorldState S) (n : ℕ) (new : WorldState S) → Delivers reads puts fails old n new → HasFewFaults old → HasFewFaults new
+  delivers_few old _ new Delivers.none few = few
+  delivers_few old _ new (Delivers.more n k between new_ before lowest delivers) few =
+      kept between new (deliver_counts between k new delivers) (delivers_few old n between before few)
+
+  module _ (contents : Script S → Records) (IsHonest : Script S → Type 0) where
+    -- a node restarts
+    restarted : (old new : NodeState (Script S)) (result : Result (Unit {0}) NodeFault) → Restarts contents IsHonest reads read_fails old result new
+        → CountsOn old.storage new.storage
+    restarted old new (Ok x) h = calls.reading old.storage new.storage h.up.1
+    restarted old new (Err f) h = elim h.other [
+      | inl device ↦ calls.failed_reading old.storage new.storage (h.device (ap failed_with device))
+      | inr other ↦ calls.reading old.storage new.storage other.1
+    ]
+
+    step_counts : (old : WorldState S) (e : Event) (new : WorldState S) → Steps contents IsHonest reads read_fails puts fails old e new
+        → CountsStep old new
+    step_counts old (event.Submit node client number op) new h =
+        let same = submission_same h.between h.taken node (record { client = client; number = number; op = op }) in
+        let takes = takes_counts old node _ h.taken h.between h.takes in
+        record {
+          more = ap outcome_count h.leaves ∙ ap length same.1 ∙ takes.more;
+          counts = λ most small was. subst (λ (x : List (NodeState (Script S))). AreCounted (most + 1) x)
+              (sym (ap (λ (w : WorldState S). w.nodes) h.leaves ∙ same.0)) (takes.counts most small was);
+        }
+    step_counts old (event.Deliver k) new h = deliver_counts old k new h
+    step_counts old (event.Drop k) new h =
+        changed_none old new (ap (λ (w : WorldState S). w.nodes) h) (ap outcome_count h ∙ length-append old.outcomes (_ ∷ []))
+    step_counts old (event.Timeout node) new h = takes_counts old node input.Timeout h.0 new h.1
+    step_counts old (event.Tick node) new h = takes_counts old node input.Tick h.0 new h.1
+    step_counts old (event.Restart node) new h =
+        changed_one old new node h.before h.after h.here (restarted h.before h.after h.result h.restarts)
+        (ap (λ (w : WorldState S). w.nodes) h.leaves) (ap outcome_count h.leaves ∙ length-append old.outcomes (_ ∷ []))
+    step_counts old (event.Fault node failing) new h =
+        changed_one old new node h.before _ h.here (inl refl)
+        (ap (λ (w : WorldState S). w.nodes) h.leaves) (ap outcome_count h.leaves ∙ length-append old.outcomes (_ ∷ []))
+    step_counts old (event.Query node query) new h =
+        let same = answered_same old node h.result in
+        changed_none old new (ap (λ (w : WorldState S). w.nodes) h.leaves ∙ same.0) (ap outcome_count h.leaves ∙ same.1)
+
+    pub step_few : (old new : WorldState S) (e : Event) → Steps contents IsHonest reads read_fails puts fails old e new
+        → HasFewFaults old → HasFewFaults new
+    step_few old new e h few = kept old new (step_counts old e new h) few
+
+abbrev failed_world : WorldFault → Result ℕ WorldFault
+failed_world f = Err f
+
+module _ {S : Type 0} (contents : S → Records) (IsHonest : S → Type 0) (reads read_fails : S → S → Type 0)
+    (puts fails : S → Key → List ℕ → S → Type 0) where
+  -- a step, or a refusal
+  pub step_keeps_few : (old new : WorldState S) (e : Event) (result : Result (Unit {0}) WorldFault)
+      → OnOk result (Steps (contents_inside contents) (honest_inside IsHonest) (Reads contents IsHonest reads) (ReadFails contents IsHonest reads read_fails)
+      (Puts contents IsHonest reads puts) (Fails contents IsHonest reads read_fails puts fails) old e new)
+      → OnErr result (new ≡ old) → HasFewFaults old → HasFewFaults new
+  step_keeps_few old new e (Ok x) steps same few =
+      step_few (script_counts contents IsHonest reads read_fails puts fails) (contents_inside contents) (honest_inside IsHonest) old new e steps few
+  step_keeps_few old new e (Err f) steps same few = subst (λ (w : WorldState S). HasFewFaults w) (sym same) few
+
+  -- a flush, to its end or to a fault
+  abbrev Delivered : WorldState S → ℕ → WorldState S → Type 0
+  Delivered = Delivers (Reads contents IsHonest reads) (Puts contents IsHonest reads puts) (Fails contents IsHonest reads read_fails puts fails)
+
+  delivered_few : (old new : WorldState S) (n : ℕ) → Delivered old n new → HasFewFaults old → HasFewFaults new
+  delivered_few old new n h few = delivers_few (script_counts contents IsHonest reads read_fails puts fails) old n new h few
+
+  pub flush_keeps_few : (old new : WorldState S) (result : Result ℕ WorldFault) → IfOk result (λ n. Delivered old n new)
+      → (IsErrOf result world_fault.FlushLimit → Delivered old MOST_DELIVERIES new)
+      → (IsErrOf result world_fault.Memory → DeliversSome (Reads contents IsHonest reads) (Puts contents IsHonest reads puts)
+      (Fails contents IsHonest reads read_fails puts fails) old MOST_DELIVERIES new)
+      → IfErr result (λ f. (f ≡ world_fault.FlushLimit) ⊎ (f ≡ world_fault.Memory)) → HasFewFaults old → HasFewFaults new
+  flush_keeps_few old new (Ok n) done limit memory faults few = delivered_few old new n done few
+  flush_keeps_few old new (Err f) done limit memory (inl e) few = delivered_few old new MOST_DELIVERIES (limit (ap failed_world e)) few
+  flush_keeps_few old new (Err f) done limit memory (inr e) few =
+      let some = memory (ap failed_world e) in
+      delivered_few old new some.delivered some.delivers few
+
+module _ {S : Type 0} where
+  -- at the start none has come
+  pub start_few : (contents : Script S → Records) (count : ℕ) (w : WorldState S) → IsStart contents count w → HasFewFaults w
+  start_few contents count w start = record {
+    few = λ small i n e. rw ((start.nodes.each i n e).fresh.unfired) (record { counted = refl; few = omega arith });
+  }
+
+  -- the outcomes are in a Vec, whose length a u64 counts
+  outcomes_fit : (r : Run S) → length (run_of r).outcomes < 2 ^ 64
+  outcomes_fit r = let ok = r.outcomes.ok in let small = r.outcomes.small in omega arith
+
+  -- so a storage is honest where the one inside is
+  pub honest_outside : (IsHonest : S → Type 0) (r : Run S) → HasFewFaults (run_of r)
+      → AreHonestInside IsHonest (run_of r).nodes → AreHonest (honest_inside IsHonest) (run_of r).nodes
+  honest_outside IsHonest r few honest i n e =
+      let is = few.few (outcomes_fit r) i n e in
+      (honest i n e, is.counted)
