@@ -1,12 +1,14 @@
 -- Doing line by line.
-use Rattle.std.proofs.Common.{◌≡◌, ℕ, List, [], ◌∷◌, ◌++◌, length, refl, sym, ap, ◌∙◌, subst, arith, Result, Ok, Err, IfErr}
+use Rattle.std.proofs.Common.{◌≡◌, ℕ, List, [], ◌∷◌, ◌++◌, length, refl, sym, ap, ◌∙◌, subst, arith, Result, Ok, Err, IfOk, IfErr}
+use Rattle.std.specs.Global.{Vec}
 use Rattle.stable.specs.Script.{Script}
 use Rattle.stable.specs.declared.stable.Stable.{Ghosts}
 use Rattle.world.specs.Flushing.{IsStart}
+use Rattle.world.specs.Fired.{AreHonestInside}
 use Rattle.world.specs.Reaching.{AreHonest}
 use Rattle.world.specs.Safety.{IsSafe}
 use Rattle.world.specs.Worlds.{WorldState}
-use Rattle.schedule.specs.Runs.{IsDone, IsStopped, Leads, EndsAt, RunsTo, RunEnds, at_a_line, at_the_last, ReplayEnds, not_run, told_of}
+use Rattle.schedule.specs.Runs.{IsDone, IsStopped, Leads, EndsAt, RunsTo, RunEnds, at_a_line, at_the_last, IsReplay, ReplayEnds, not_run, told_of}
 use Rattle.schedule.specs.Schedules.{Plan, IsScheduleOf, last_number}
 use Rattle.schedule.specs.declared.plan.ScheduleLine.{ScheduleLine}
 use Rattle.schedule.specs.declared.replay_fault.ReplayFault.{ReplayFault}
@@ -42,15 +44,40 @@ module _ {S : Type 0} (storages : Ghosts (Script S)) where
   }
 
   -- the transcript after all lines
-  pub runs_to : (plan : Plan) (lines : List ScheduleLine) (start end : WorldState S) (text : List ℕ) → lines ≡ plan.lines
-      → Leads storages lines start end → text ≡ told_of end → (AreHonest storages.IsHonest end.nodes → ∥ IsSafe end ∥₁)
-      → RunsTo storages plan start text
-  runs_to plan lines start end text same led told safe = record {
+  pub runs_to : (IsHonest : S → Type 0) (plan : Plan) (lines : List ScheduleLine) (start end : WorldState S) (text : List ℕ) → lines ≡ plan.lines
+      → Leads storages lines start end → text ≡ told_of end
+      → (AreHonestInside IsHonest end.nodes → AreHonest storages.IsHonest end.nodes)
+      → (AreHonestInside IsHonest end.nodes → ∥ IsSafe end ∥₁)
+      → RunsTo storages IsHonest plan start text
+  runs_to IsHonest plan lines start end text same led told honest safe = record {
     end = end;
     led = subst (λ (ls : List ScheduleLine). Leads storages ls start end) same led;
     told = told;
+    honest = honest;
     safe = safe;
   }
+
+  -- a run over storages that are always honest is a replay of what spells it
+  pub replayed : (IsHonest : S → Type 0) (bytes : List ℕ) (plan : Plan) (start : WorldState S) (text : List ℕ) → ((s : S) → IsHonest s)
+      → IsScheduleOf bytes plan → IsStart storages.contents plan.nodes start → RunsTo storages IsHonest plan start text
+      → IsReplay storages bytes text
+  replayed IsHonest bytes plan start text always spelled starts runs = record {
+    plan = plan;
+    spelled = spelled;
+    start = start;
+    starts = starts;
+    end = runs.end;
+    led = runs.led;
+    told = runs.told;
+    honest = runs.honest (λ i n e. always n.storage.inner);
+    safe = runs.safe (λ i n e. always n.storage.inner);
+  }
+
+  pub all_replayed : (IsHonest : S → Type 0) (bytes : List ℕ) (plan : Plan) (start : WorldState S) (result : Result (Vec ℕ) ReplayFault)
+      → ((s : S) → IsHonest s) → IsScheduleOf bytes plan → IsStart storages.contents plan.nodes start
+      → IfOk result (λ text. RunsTo storages IsHonest plan start text.items) → IfOk result (λ text. IsReplay storages bytes text.items)
+  all_replayed IsHonest bytes plan start (Ok text) always spelled starts runs = replayed IsHonest bytes plan start text.items always spelled starts runs
+  all_replayed IsHonest bytes plan start (Err fault) always spelled starts runs = tt
 
   -- a line isn't done
   pub run_ends_at : (plan : Plan) (lines : List ScheduleLine) (start : WorldState S) (fault : ReplayFault) → lines ≡ plan.lines

@@ -5,6 +5,7 @@ use Rattle.stable.specs.declared.stable.Stable.{Ghosts}
 use Rattle.world.specs.Flushing.{Delivers, DeliversSome, IsStart}
 use Rattle.world.specs.Events.{NamesNoFrame, NamesNoNode}
 use Rattle.world.specs.Waiting.{NoneWaits, OneWaits}
+use Rattle.world.specs.Fired.{AreHonestInside}
 use Rattle.world.specs.Reaching.{AreHonest}
 use Rattle.world.specs.Safety.{IsSafe}
 use Rattle.world.specs.Worlds.{WorldState, Steps}
@@ -83,12 +84,14 @@ module _ {S : Type 0} (storages : Ghosts (Script S)) where
     pub stopped : IsStopped line reached fault
 
   -- the lines lead to a world of which the text is the transcript
-  pub record RunsTo (plan : Plan) (start : WorldState S) (text : List ℕ) : Type 0 where
+  pub record RunsTo (IsHonest : S → Type 0) (plan : Plan) (start : WorldState S) (text : List ℕ) : Type 0 where
     pub end : WorldState S
     pub led : Leads plan.lines start end
     pub told : text ≡ told_of end
-    -- as long as every storage is honest the protocol has held, and one list of commands explains all that is told
-    pub safe : AreHonest storages.IsHonest end.nodes → ∥ IsSafe end ∥₁
+    -- as long as every storage inside is honest every storage is
+    pub honest : AreHonestInside IsHonest end.nodes → AreHonest storages.IsHonest end.nodes
+    -- and the protocol has held, and one list of commands explains all that is told
+    pub safe : AreHonestInside IsHonest end.nodes → ∥ IsSafe end ∥₁
 
   -- why a run has no transcript: a line isn't done, or at the last one memory is wanting for the text
   pub data RunEnds (plan : Plan) (start : WorldState S) (fault : ReplayFault) : Type 0 where
@@ -102,7 +105,13 @@ module _ {S : Type 0} (storages : Ghosts (Script S)) where
     pub spelled : IsScheduleOf bytes plan
     pub start : WorldState S
     pub starts : IsStart storages.contents plan.nodes start
-    pub runs : RunsTo plan start text
+    pub end : WorldState S
+    pub led : Leads plan.lines start end
+    pub told : text ≡ told_of end
+    -- every storage has been honest to the end
+    pub honest : AreHonest storages.IsHonest end.nodes
+    -- the protocol has held, and one list of commands explains all that is told
+    pub safe : ∥ IsSafe end ∥₁
 
   -- why there is no transcript of the bytes: they were not read as a schedule, or no world was made at their first
   -- line, or the run ended

@@ -2,6 +2,7 @@
 
 ghost use Rattle.std.specs.Prelude.{◌≡◌, ◌≢◌, IfErr, IfOk, MatchResult};
 ghost use Rattle.world.specs.Flushing.{IsStart};
+ghost use Rattle.world.specs.Fired.{AreHonestInside};
 ghost use Rattle.world.specs.Reaching.{AreHonest};
 ghost use Rattle.world.specs.Safety.{IsSafe};
 ghost use Rattle.world.specs.Seen.{world_of};
@@ -18,6 +19,8 @@ use std::alloc::{AllocError, Global};
 use world::{World, WorldFault};
 
 /// The transcript of the run that the bytes spell, over records in memory.
+///
+/// The run is safe: records in memory are always honest, whatever faults the schedule arms.
 ///
 /// Every line is parsed before the first event. An error is the first faulty line; else the first
 /// line that can't be done, as it delivers or drops a frame that was never sent, or its flush meets
@@ -59,7 +62,7 @@ pub fn run_lines<S: Stable + Drop>(
     world: World<S>,
 ) -> Result<Vec<u8>, ReplayFault>
     ensures transcript { IfOk result (λ text.
-        RunsTo (⟦<Scripted<S> as Stable>⟧) schedule (world_of world) text.items) }
+        RunsTo (⟦<Scripted<S> as Stable>⟧) S.IsHonest schedule (world_of world) text.items) }
     ensures fault { IfErr result
         (RunEnds (⟦<Scripted<S> as Stable>⟧) schedule (world_of world)) }
 {
@@ -78,7 +81,9 @@ pub fn run_lines<S: Stable + Drop>(
 /// The transcript of all that happened in the world.
 fn world_transcript<S: Stable>(alloc: Global, world: &World<S>) -> Result<Vec<u8>, AllocError>
     ensures told { IfOk result (λ text. text.items ≡ told_of (world_of world.now)) }
-    ensures safe { AreHonest (⟦<Scripted<S> as Stable>⟧.IsHonest) (world_of world.now).nodes
+    ensures honest { AreHonestInside S.IsHonest (world_of world.now).nodes
+        → AreHonest (⟦<Scripted<S> as Stable>⟧.IsHonest) (world_of world.now).nodes }
+    ensures safe { AreHonestInside S.IsHonest (world_of world.now).nodes
         → ∥ IsSafe (world_of world.now) ∥₁ }
 {
     transcript(

@@ -10,7 +10,8 @@ returns-in_err-do_lines-clause-fault g c =
 
 pub returns-in-Ok-clause-transcript : goal.returns-in-Ok-clause-transcript
 returns-in-Ok-clause-transcript g c =
-    runs_to (scripted.ghosts g.row.S g.S.Stable g.S.Stable-dict) _ _ _ _ _ c.into_lines.ensures c.in_ok-do_lines.ensures c.in-Ok.ensures.told c.in-Ok.ensures.safe
+    runs_to (scripted.ghosts g.row.S g.S.Stable g.S.Stable-dict) g.S.Stable.IsHonest _ _ _ _ _ c.into_lines.ensures c.in_ok-do_lines.ensures
+    c.in-Ok.ensures.told c.in-Ok.ensures.honest c.in-Ok.ensures.safe
 
 pub returns-clause-fault : goal.returns-clause-fault
 returns-clause-fault g c =
