@@ -13,6 +13,8 @@ one of these ways:
     no frame      status 1 and fault 51 at a line that delivers or drops what was never sent, as a node was down by then
     no memory     status 3, nothing printed, and `mfpx: out of memory`
 
+A check of a document prints what it prints with ample memory, and ends so, or it ends for want of memory.
+
 Every other end is told, and the script then ends with 1. It needs gcc, for a malloc that it preloads.
 """
 
@@ -38,9 +40,13 @@ class Runs:
 
     def run(self, lines, words=(), refused=0):
         """Status, transcript, standard error, and whether a request was refused."""
+        status, told, error, met = self.run_bytes("".join(line + "\n" for line in lines).encode(), words, refused)
+        return status, told.decode().splitlines(), error.decode(), met
+
+    def run_bytes(self, text, words=(), refused=0):
+        """The same of any file, with the bytes that were printed."""
         from_note, to_note = os.pipe()
         environment = {"LD_PRELOAD": self.library, "FAIL_AT": str(refused), "FAIL_NOTE": str(to_note)} if refused else {}
-        text = "".join(line + "\n" for line in lines).encode()
         with tempfile.NamedTemporaryFile() as file:
             file.write(text)
             file.flush()
@@ -50,7 +56,7 @@ class Runs:
         os.close(to_note)
         met = os.read(from_note, 1) != b""
         os.close(from_note)
-        return done.returncode, done.stdout.decode().splitlines(), done.stderr.decode(), met
+        return done.returncode, done.stdout, done.stderr, met
 
 
 def is_explained(lines, transcript):
@@ -151,6 +157,40 @@ def try_each(runs, name, lines, words):
         refused += 1
 
 
+def check_each(runs, name, document, words):
+    """The same of a check of a document, which may be faulty."""
+    right = runs.run_bytes(document, words)
+    if right[0] not in (0, 1):
+        sys.exit("%s is not checked with ample memory: %s" % (name, right[2]))
+    counts, bad, refused = dict.fromkeys(ENDS, 0), [], 1
+    while True:
+        end = runs.run_bytes(document, words, refused)
+        if not end[3]:
+            return counts, bad
+        if end[:3] == right[:3]:
+            counts["right"] += 1
+        elif end[:3] == (3, b"", b"mfpx: out of memory\n"):
+            counts["no memory"] += 1
+        else:
+            bad.append((refused, end))
+        refused += 1
+
+
+def tell(title, words, counts, bad):
+    """Prints a row, and the runs that ended badly. Whether there are any."""
+    print("%-24s %-14s %8d  %s" % (title, " ".join(words), sum(counts.values()) + len(bad),
+                                   "  ".join("%*d" % (len(e), counts[e]) for e in ENDS)))
+    for refused, end in bad:
+        print("  request %d: status %d, %r, %r" % (refused, end[0], end[1], end[2]))
+    return bool(bad)
+
+
+def named(pattern):
+    """The examples whose names fit: each name, and its path."""
+    for path in sorted(glob.glob(os.path.join(HERE, "..", "examples", pattern))):
+        yield os.path.splitext(os.path.basename(path))[0], path
+
+
 def main():
     program = sys.argv[1] if len(sys.argv) > 1 else os.path.join(HERE, "..", "crates", "mfpx", "out", "mfpx")
     failed = False
@@ -159,22 +199,21 @@ def main():
         subprocess.run(["gcc", "-O2", "-Wall", "-shared", "-fPIC", os.path.join(HERE, "failmalloc.c"), "-o", library, "-ldl"],
                        check=True)
         runs = Runs(os.path.abspath(program), library)
-        print("%-24s %-14s %8s  %s" % ("schedule", "words", "requests", "  ".join(ENDS)))
-        for path in sorted(glob.glob(os.path.join(HERE, "..", "examples", "*.schedule"))):
+        print("%-24s %-14s %8s  %s" % ("example", "words", "requests", "  ".join(ENDS)))
+        for name, path in named("*.schedule"):
             with open(path) as file:
                 lines = file.read().splitlines()
-            name = os.path.splitext(os.path.basename(path))[0]
             for title, tried, words in (
                 (name, lines, []),
                 (name, lines, ["replay", "FILE"]),
                 (name + " +", lines + AFTERWARDS, []),
             ):
-                counts, bad = try_each(runs, title, tried, words)
-                print("%-24s %-14s %8d  %s" % (title, " ".join(words), sum(counts.values()) + len(bad),
-                                               "  ".join("%*d" % (len(e), counts[e]) for e in ENDS)))
-                for refused, end in bad:
-                    failed = True
-                    print("  request %d: status %d, %r, %r" % (refused, end[0], end[1], end[2]))
+                failed |= tell(title, words, *try_each(runs, title, tried, words))
+        for name, path in named("*.json"):
+            with open(path, "rb") as file:
+                document = file.read()
+            for words in ["check", "-"], ["check", "FILE"]:
+                failed |= tell(name, words, *check_each(runs, name, document, words))
     print("`+`: followed by a restart and a tick of each node, a flush, and a query of each")
     sys.exit(1 if failed else 0)
 

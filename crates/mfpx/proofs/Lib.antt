@@ -1,2 +1,3 @@
+pub mod Endings
 pub mod Given
-pub mod Replaying
+pub mod Naming

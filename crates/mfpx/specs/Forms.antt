@@ -1,11 +1,15 @@
--- The forms of the command line, as clap is told them.
-use Rattle.std.specs.Prelude.{◌≡◌, ◌≢◌, true, List, Option, codes, option_and_then}
-use Rattle.clap.specs.Words.{App, Row, Rule, Text, first_of, new_app, new_rule, subcommand_of}
+-- The forms of the command line, as clap is told them, and which words ask for what.
+use Rattle.std.specs.Prelude.{◌≡◌, ◌≢◌, ◌⊎◌, true, ℕ, List, [], Option, Some, IfSome, IsSome, codes}
+use Rattle.std.specs.Prelude.{option_and_then, option_map}
+use Rattle.clap.specs.Words.{App, Row, Rule, Text, fault_of, first_of, new_app, new_rule, subcommand_of}
 use Rattle.clap.specs.Words.{with_rule, with_subcommand}
+use Rattle.mfpx.specs.declared.words.Work.{Work}
+use Rattle.mfpx.specs.declared.words.Work.TheVariants.{Replay, Check}
 use Rattle.mfpx.specs.declared.words.Source.{Source}
 use Rattle.mfpx.specs.declared.words.Source.TheVariants.{Input, File}
 
--- the one word of a replay, which has to be there
+-- ---- the forms
+-- the one word of a work, which has to be there
 abbrev pub file : Rule
 file = record (new_rule (codes "FILE")) { required = true }
 
@@ -23,13 +27,23 @@ with_names_alone a = record a {
   };
 }
 
--- `replay FILE`
-abbrev pub replay : App
-replay = with_rule (without_help (new_app (codes "replay"))) file
+-- a name and FILE
+abbrev pub file_form : Text → App
+file_form name = with_rule (without_help (new_app name)) file
 
--- all that the program does
+abbrev pub name_of : Work → Text
+name_of Replay = codes "replay"
+name_of Check = codes "check"
+
+-- `replay FILE` and `check FILE`, which is all that the program does
 abbrev pub forms : App
-forms = with_subcommand (with_names_alone (without_help (new_app (codes "mfpx")))) replay.top
+forms = with_subcommand (with_subcommand (with_names_alone (without_help (new_app (codes "mfpx"))))
+    (file_form (name_of Replay)).top) (file_form (name_of Check)).top
+
+-- ---- what words give
+-- the name of the command that was given
+abbrev pub given_name : Option (Text × List Row) → Option Text
+given_name = option_map (λ given. given.0)
 
 -- the FILE among the values that a command was given
 abbrev pub given_file : Option (Text × List Row) → Option Text
@@ -39,7 +53,33 @@ given_file = option_and_then (λ given. first_of (codes "FILE") given.1)
 abbrev pub file_of : List Text → Option Text
 file_of words = given_file (subcommand_of forms words)
 
+-- the words are one of the forms: this work's name, and a FILE
+pub record IsForm (words : List Text) (work : Work) : Type 0 where
+  pub accepted : fault_of forms words ≡ []
+  pub name : given_name (subcommand_of forms words) ≡ Some (name_of work)
+  pub file : IsSome (file_of words)
+
+-- ---- what words ask for
+-- the words ask for this work; no words ask for a replay
+abbrev pub AskFor : List Text → Work → Type 0
+AskFor words Replay = (words ≡ []) ⊎ IsForm words Replay
+AskFor words Check = IsForm words Check
+
+-- the words name standard input: by a dash, or by saying nothing
+abbrev pub NameInput : List Text → Type 0
+NameInput words = (words ≡ []) ⊎ (file_of words ≡ Some (codes "-"))
+
+-- the words name this source
+abbrev pub NameSource : List Text → Source → Type 0
+NameSource words Input = NameInput words
+NameSource words (File path) = (¬ NameInput words) × (file_of words ≡ Some path.now)
+
 -- a dash is standard input, and any other text the name of a file
 abbrev pub Names : Text → Source → Type 0
 Names text Input = text ≡ codes "-"
 Names text (File path) = (text ≢ codes "-") × (path.now ≡ text)
+
+-- these may be the bytes that the words name: of the input all that it has left, where that is known; of a file nothing
+-- is known
+abbrev pub MayName : List Text → Option (List ℕ) → List ℕ → Type 0
+MayName words left bytes = NameInput words → IfSome left (λ all. bytes ≡ all)

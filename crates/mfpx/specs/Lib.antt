@@ -1,3 +1,3 @@
 pub mod Failures
 pub mod Forms
-pub mod Replays
+pub mod Jobs

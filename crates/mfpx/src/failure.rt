@@ -1,12 +1,14 @@
-//! Why a run ends without a transcript, and what the program says and answers then.
+//! Why a run ends with nothing printed, and what the program says and answers then.
 
 ghost use Rattle.std.specs.Prelude.{◌≡◌, ◌≢◌, OnOk};
 ghost use Rattle.std.specs.Io.KnownBytes.{Appends};
 ghost use Rattle.std.specs.IoError.{error_kind};
 ghost use Rattle.schedule.specs.Causes.{cause_code};
+ghost use Rattle.mfjson.specs.Faults.{code_of, index_of};
 ghost use Rattle.mfpx.specs.Failures.{line_text, status_of};
 ghost use Rattle.mfpx.specs.declared.failure.Failure.TheVariants.{Memory};
 
+use mfjson::MfFault;
 use schedule::{ReplayCause, ReplayFault};
 use std::alloc::{AllocError, AllocFailed};
 use std::io::{self, ErrorKind, Write};
@@ -21,12 +23,24 @@ pub struct FaultyLine {
     pub fault: u8,
 }
 
-/// Why a run ends without a transcript.
+/// What is wrong with a document.
+#[derive(Clone, Copy, Debug, PartialEq, Eq)]
+pub struct FaultyDocument {
+    /// The number of the fault.
+    pub fault: u8,
+    /// The element that it tells of, counted from 0, where it tells of one.
+    pub index: Option<usize>,
+}
+
+/// Why a run ends with nothing printed.
 #[derive(Clone, Copy, Debug, Drop, PartialEq, Eq, Error)]
 pub enum Failure {
     /// The schedule is none, or can't be run to its end.
     #[error("fault {} at line {}", .0.fault, .0.line)]
     Schedule(FaultyLine),
+    /// The document is none.
+    #[error("fault {} of the document", .0.fault)]
+    Document(FaultyDocument),
     /// The words after the program's name ask for nothing that it does.
     #[error("unknown words")]
     Usage,
@@ -44,7 +58,7 @@ impl Failure {
         ensures { result ≡ status_of self }
     {
         match self {
-            Failure::Schedule(_) => 1,
+            Failure::Schedule(_) | Failure::Document(_) => 1,
             Failure::Usage => 2,
             Failure::Device | Failure::Memory => 3,
         }
@@ -58,9 +72,23 @@ impl Failure {
     {
         match self {
             Failure::Schedule(at) => { write!(err, "mfpx: line {} fault {}\n", at.line, at.fault) }
+            Failure::Document(at) => at.tell(err),
             Failure::Usage => err.write_all(b"mfpx: usage\n"),
             Failure::Device => err.write_all(b"mfpx: device\n"),
             Failure::Memory => err.write_all(b"mfpx: out of memory\n"),
+        }
+    }
+}
+
+impl FaultyDocument {
+    /// Writes its line of standard error.
+    fn tell<E: Write>(self, err: &mut E) -> io::Result<()>
+        ensures { OnOk result (Appends (E.contents err.old) (E.contents err.new)
+            (line_text (Failure.Document self))) }
+    {
+        match self.index {
+            Some(i) => write!(err, "mfpx: document fault {} at {}\n", self.fault, i),
+            None => write!(err, "mfpx: document fault {}\n", self.fault),
         }
     }
 }
@@ -103,6 +131,21 @@ pub(crate) fn replay_failure(fault: ReplayFault) -> Failure
         cause => Failure::Schedule(FaultyLine {
             line: fault.line,
             fault: cause.number(),
+        }),
+    }
+}
+
+/// What a document's fault is to the program. Want of memory has no line of its own.
+pub(crate) fn document_failure(fault: MfFault) -> Failure
+    ensures memory { fault ≡ MfFault.Memory → result ≡ Failure.Memory }
+    ensures told { fault ≢ MfFault.Memory
+        → result ≡ Failure.Document (record { fault = code_of fault; index = index_of fault }) }
+{
+    match fault {
+        MfFault::Memory => Failure::Memory,
+        other => Failure::Document(FaultyDocument {
+            fault: other.code(),
+            index: other.index(),
         }),
     }
 }

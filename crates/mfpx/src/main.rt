@@ -1,10 +1,14 @@
-//! The program `mfpx`: a schedule is replayed, and its transcript is printed.
+//! The program `mfpx`: a schedule is replayed, and its transcript is printed; or a document is
+//! checked, and its canonical form is printed.
 //!
-//! `mfpx replay FILE` reads the file, `mfpx replay -` and `mfpx` with no words read standard
-//! input. `words` says what the words ask for, `run` does it over any streams, and `failure`
-//! says how a run ends that has no transcript. Here the streams are those of the process.
+//! `mfpx replay FILE` and `mfpx check FILE` read the file, or standard input where FILE is `-`.
+//! No words stand for `replay -`. `words` says what the words ask for, `run` does it over any
+//! streams, and `failure` says how a run ends that prints nothing. Here the streams are those of
+//! the process.
 #![tactic(auto)]
 
+#[cfg(test)]
+mod checks;
 mod failure;
 mod run;
 #[cfg(test)]

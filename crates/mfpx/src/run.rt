@@ -1,27 +1,33 @@
 //! A run of the program over any streams.
 
-ghost use Rattle.std.specs.Prelude.{◌≡◌, ◌≢◌, ◌≤◌, ◌⊎◌, [], ℕ, List, map, codes};
+ghost use Rattle.std.specs.Prelude.{◌≡◌, ◌≢◌, ◌≤◌, ◌⊎◌, [], ◌∷◌, ◌++◌, ℕ, List, map};
 ghost use Rattle.std.specs.Prelude.{string_bytes, IfOk, IfErr, IfSome, OnOk};
 ghost use Rattle.std.specs.Io.KnownBytes.{Appends};
 ghost use Rattle.schedule.specs.Runs.{IsReplay};
-ghost use Rattle.mfpx.specs.Forms.{file_of};
-ghost use Rattle.mfpx.specs.Replays.{AskFor, IsFaulty, IsReplayFailure, IsTranscript};
+ghost use Rattle.mfjson.specs.Document.{IsCanonical};
+ghost use Rattle.mfpx.specs.Failures.{status_of};
+ghost use Rattle.mfpx.specs.Forms.{AskFor, NameInput};
+ghost use Rattle.mfpx.specs.Jobs.{EndsWith, IsAnswer, IsChecked, IsFaulty, Makes};
 
-use crate::failure::{Failure, FaultyLine, device_failure, replay_failure};
-use crate::words::{Source, source_of};
+use crate::failure::{Failure, device_failure, document_failure, replay_failure};
+use crate::words::{Source, Work, job_of};
+use mfjson::Feature;
 use schedule::replay;
 use stable::{MemStable, Scripted, Stable};
-use std::alloc::Global;
+use std::alloc::{AllocError, Global};
 use std::fs;
 use std::io::{Read, Write};
 
-/// Runs the program on the words after its name, and answers its exit status. The transcript goes
-/// to `out`, and only once the whole run has succeeded; why there is none goes to `err`.
+/// Runs the program on the words after its name, and answers its exit status. What it makes, a
+/// transcript or a document, goes to `out`, and only once all of it is made; why there is nothing
+/// goes to `err`.
 ///
 /// | Status | When | `err` |
 /// |---|---|---|
 /// | 0 | done | nothing |
-/// | 1 | line L has the fault F | `mfpx: line L fault F` |
+/// | 1 | line L of a schedule has the fault F | `mfpx: line L fault F` |
+/// | 1 | a document has the fault F | `mfpx: document fault F` |
+/// | 1 | element I of a document's list has it | `mfpx: document fault F at I` |
 /// | 2 | the words are none of the forms | `mfpx: usage` |
 /// | 3 | a file or a stream fails | `mfpx: device` |
 /// | 3 | memory is refused | `mfpx: out of memory` |
@@ -37,18 +43,16 @@ pub fn command<R: Read, O: Write, E: Write>(
 ) -> u8
     ensures statuses { result ≤ 3 }
     ensures done { result ≡ 0 → (text : List ℕ)
-        × IsTranscript (⟦<Scripted<MemStable> as Stable>⟧) (map string_bytes words.items) (R.remaining input.old) text
+        × IsAnswer (⟦<Scripted<MemStable> as Stable>⟧) (map string_bytes words.items) (R.remaining input.old) text
         × Appends (O.contents out.old) (O.contents out.new) text }
     ensures done_silently { result ≡ 0 → err.new ≡ err.old }
-    ensures faulty_line { result ≡ 1 → (at : FaultyLine)
-        × IsFaulty (⟦<Scripted<MemStable> as Stable>⟧) (map string_bytes words.items) (R.remaining input.old) at }
+    ensures faulty { result ≡ 1 → (failure : Failure)
+        × IsFaulty (⟦<Scripted<MemStable> as Stable>⟧) (map string_bytes words.items) (R.remaining input.old) failure }
     ensures faulty_unprinted { result ≡ 1 → out.new ≡ out.old }
-    ensures usage { result ≡ 2 → out.new ≡ out.old }
+    ensures usage { result ≡ 2 → (work : Work) → ¬ AskFor (map string_bytes words.items) work }
+    ensures usage_unprinted { result ≡ 2 → out.new ≡ out.old }
     ensures words_come_first { result ≡ 2 → input.new ≡ input.old }
-    ensures file_alone { words.items ≢ [] → (text : List ℕ)
-        → file_of (map string_bytes words.items) ≡ Some text → text ≢ codes "-"
-        → input.new ≡ input.old }
-    ensures no_words { words.items ≡ [] → result ≢ 2 }
+    ensures file_alone { ¬ NameInput (map string_bytes words.items) → input.new ≡ input.old }
 {
     match run(rt, words.as_slice(), input, out) {
         Ok(()) => 0,
@@ -60,7 +64,7 @@ pub fn command<R: Read, O: Write, E: Write>(
     }
 }
 
-/// Writes the transcript that the words ask for.
+/// Writes what the words ask for.
 fn run<R: Read, O: Write>(
     rt: &HostRuntime,
     words: &[String],
@@ -68,37 +72,33 @@ fn run<R: Read, O: Write>(
     out: &mut O,
 ) -> Result<(), Failure>
     ensures done { OnOk result ((text : List ℕ)
-        × IsTranscript (⟦<Scripted<MemStable> as Stable>⟧) (map string_bytes words.now) (R.remaining input.old) text
+        × IsAnswer (⟦<Scripted<MemStable> as Stable>⟧) (map string_bytes words.now) (R.remaining input.old) text
         × Appends (O.contents out.old) (O.contents out.new) text) }
-    ensures faulty { (at : FaultyLine) → result ≡ Err (Failure.Schedule at)
-        → IsFaulty (⟦<Scripted<MemStable> as Stable>⟧) (map string_bytes words.now) (R.remaining input.old) at }
+    ensures faulty { IfErr result (λ failure. status_of failure ≡ 1
+        → IsFaulty (⟦<Scripted<MemStable> as Stable>⟧) (map string_bytes words.now) (R.remaining input.old) failure) }
+    ensures usage { IfErr result (λ failure. failure ≡ Failure.Usage
+        → (work : Work) → ¬ AskFor (map string_bytes words.now) work) }
     ensures untouched { IfErr result (λ failure. failure ≢ Failure.Device
         → out.new ≡ out.old) }
     ensures words_come_first { IfErr result (λ failure. failure ≡ Failure.Usage
         → input.new ≡ input.old) }
-    ensures file_alone { words.now ≢ [] → (text : List ℕ)
-        → file_of (map string_bytes words.now) ≡ Some text → text ≢ codes "-"
-        → input.new ≡ input.old }
-    ensures no_words { words.now ≡ [] → IfErr result (λ failure. failure ≢ Failure.Usage) }
+    ensures file_alone { ¬ NameInput (map string_bytes words.now) → input.new ≡ input.old }
 {
-    let bytes = read(rt, words, input)?;
-    let text = transcript(rt.alloc(), bytes.as_slice())?;
+    let job = job_of(rt.alloc(), words)?;
+    let bytes = content(rt, &job.source, input)?;
+    let text = made(rt.alloc(), job.work, bytes.as_slice())?;
     print(out, text.as_slice())
 }
 
-/// The bytes that the words ask for.
-fn read<R: Read>(rt: &HostRuntime, words: &[String], input: &mut R) -> Result<Vec<u8>, Failure>
-    ensures asked { IfOk result (λ bytes.
-        AskFor (map string_bytes words.now) (R.remaining input.old) bytes.items) }
-    ensures no_line { (at : FaultyLine) → result ≢ Err (Failure.Schedule at) }
-    ensures words_come_first { IfErr result (λ failure. failure ≡ Failure.Usage
-        → input.new ≡ input.old) }
-    ensures file_alone { words.now ≢ [] → (text : List ℕ)
-        → file_of (map string_bytes words.now) ≡ Some text → text ≢ codes "-"
-        → input.new ≡ input.old }
-    ensures no_words { words.now ≡ [] → IfErr result (λ failure. failure ≢ Failure.Usage) }
+/// The bytes of the source.
+fn content<R: Read>(rt: &HostRuntime, source: &Source, input: &mut R) -> Result<Vec<u8>, Failure>
+    ensures input { source.now ≡ Source.Input → IfOk result (λ bytes.
+        IfSome (R.remaining input.old) (λ left. bytes.items ≡ left)) }
+    ensures file_alone { source.now ≢ Source.Input → input.new ≡ input.old }
+    ensures err { IfErr result (λ failure. (failure ≡ Failure.Device)
+        ⊎ (failure ≡ Failure.Memory)) }
 {
-    match source_of(rt.alloc(), words)? {
+    match source {
         Source::Input => input_bytes(rt.alloc(), input),
         Source::File(path) => file_bytes(rt, path),
     }
@@ -129,17 +129,52 @@ fn file_bytes(rt: &HostRuntime, path: &str) -> Result<Vec<u8>, Failure>
     }
 }
 
+/// What the work makes of the bytes.
+fn made(alloc: Global, work: Work, bytes: &[u8]) -> Result<Vec<u8>, Failure>
+    ensures makes { IfOk result (λ text.
+        Makes (⟦<Scripted<MemStable> as Stable>⟧) work bytes.now text.items) }
+    ensures ends { IfErr result (λ failure. failure ≢ Failure.Memory
+        → EndsWith (⟦<Scripted<MemStable> as Stable>⟧) work bytes.now failure) }
+{
+    match work {
+        Work::Replay => transcript(alloc, bytes),
+        Work::Check => checked(alloc, bytes),
+    }
+}
+
 /// The transcript of the schedule that the bytes spell.
 fn transcript(alloc: Global, bytes: &[u8]) -> Result<Vec<u8>, Failure>
     ensures replay { IfOk result (λ text.
         IsReplay (⟦<Scripted<MemStable> as Stable>⟧) bytes.now text.items) }
-    ensures ends { IfErr result
-        (IsReplayFailure (⟦<Scripted<MemStable> as Stable>⟧) bytes.now) }
+    ensures ends { IfErr result (λ failure. failure ≢ Failure.Memory
+        → EndsWith (⟦<Scripted<MemStable> as Stable>⟧) Work.Replay bytes.now failure) }
 {
     match replay(alloc, bytes) {
         Ok(text) => Ok(text),
         Err(fault) => Err(replay_failure(fault)),
     }
+}
+
+/// The canonical form of the document that the bytes are, as a line.
+fn checked(alloc: Global, bytes: &[u8]) -> Result<Vec<u8>, Failure>
+    ensures checked { IfOk result (λ text. IsChecked bytes.now text.items) }
+    ensures ends { IfErr result (λ failure. failure ≢ Failure.Memory
+        → EndsWith (⟦<Scripted<MemStable> as Stable>⟧) Work.Check bytes.now failure) }
+{
+    match mfjson::read(alloc, bytes) {
+        Ok(feature) => Ok(canonical_line(alloc, &feature)?),
+        Err(fault) => Err(document_failure(fault)),
+    }
+}
+
+/// The canonical document of the feature, and a line feed.
+fn canonical_line(alloc: Global, feature: &Feature) -> Result<Vec<u8>, AllocError>
+    ensures { IfOk result (λ line. (text : List ℕ) × IsCanonical text feature.now
+        × (line.items ≡ text ++ 10 ∷ [])) }
+{
+    let mut line = mfjson::write(alloc, feature)?;
+    line.push(b'\n')?;
+    Ok(line)
 }
 
 /// Writes the text, all of it.

@@ -94,7 +94,7 @@ fn words_of_a_replay(rt: HostRuntime) -> std::result::Result<(), Fail> {
 
 #[test]
 fn words_that_are_none_of_the_forms(rt: HostRuntime) -> std::result::Result<(), Fail> {
-    let forms: [&[&str]; 22] = [
+    let forms: [&[&str]; 30] = [
         &[""],
         &["-"],
         &["--"],
@@ -106,17 +106,25 @@ fn words_that_are_none_of_the_forms(rt: HostRuntime) -> std::result::Result<(), 
         &["replay", "-", "replay", "-"],
         &["replay", "--unknown", "-"],
         &["replay", "-x", "-"],
+        &["Check", "-"],
+        &["check"],
+        &["check", "-", "-"],
+        &["check", "a", "b"],
+        &["check", "replay", "-"],
+        &["replay", "check", "-"],
+        &["check", "-x", "-"],
         // what comes later
         &["replay", "-", "--db", "records"],
         &["replay", "--db=records", "-"],
+        &["check", "--db=records", "-"],
         &["loopback", "-"],
-        &["check", "-"],
         // calls for help and for the version
         &["--help"],
         &["-h"],
         &["help"],
         &["help", "replay"],
         &["replay", "--help"],
+        &["check", "--help"],
         &["--version"],
         &["-V"],
     ];

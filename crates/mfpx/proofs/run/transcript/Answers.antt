@@ -1,7 +1,7 @@
-use Rattle.mfpx.proofs.Replaying.{replay_failure_is}
+use Rattle.mfpx.proofs.Endings.{replay_ends}
 use Rattle.mfpx.proofs.run.transcript.Goals as goal
 
 pub returns-in-Err-clause-ends : goal.returns-in-Err-clause-ends
 returns-in-Err-clause-ends c =
-    replay_failure_is _ _ c.in-Err.fault c.replay_failure.result c.in-Err.ensures.fault c.replay_failure.ensures.memory
+    replay_ends _ _ c.in-Err.fault c.replay_failure.result c.in-Err.ensures.fault c.replay_failure.ensures.memory
     c.replay_failure.ensures.line
