@@ -1,9 +1,14 @@
 pub mod BallotLemmas
 pub mod CommandLaws
+pub mod EntryLemmas
 pub mod FieldExamples
 pub mod FieldLaws
 pub mod FieldLemmas
+pub mod FrameExamples
+pub mod FrameLaws
+pub mod FrameLengths
 pub mod LengthLemmas
 pub mod LoopLemmas
+pub mod PushLemmas
 pub mod RecordLaws
 pub mod SequenceLemmas

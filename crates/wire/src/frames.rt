@@ -1,5 +1,7 @@
 //! Frames: what one node says to another, as bytes.
 
+mod decoding;
+mod encoding;
 mod entry;
 mod envelope;
 mod fault;
@@ -11,7 +13,12 @@ mod promise;
 mod reading;
 mod records;
 mod spelling;
+mod telling;
+#[cfg(test)]
+mod tests;
 
+pub use decoding::{decode, no_frame_begins_another};
+pub use encoding::encode;
 pub use entry::Entry;
 pub use envelope::{Envelope, LONGEST_FRAME, MAGIC};
 pub use fault::WireFault;
@@ -19,4 +26,6 @@ pub use kind::Kind;
 pub use message::Message;
 pub use nack::Nack;
 pub use promise::{Entries, MOST_ENTRIES, Promise};
-pub use records::{ballot_of_record, ballot_record, round_of_record, round_record};
+pub use records::{
+    ballot_of_record, ballot_record, round_of_record, round_record, vote_of_record, vote_record,
+};

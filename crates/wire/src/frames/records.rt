@@ -2,11 +2,20 @@
 //!
 //! A record is of its form where its bytes are exactly a spelling, among the nodes of the largest run.
 
-ghost use Rattle.std.specs.Prelude.{◌≡◌, ℕ, ◌≤◌, Some, IfSome};
+ghost use Rattle.std.specs.Prelude.{◌≡◌, ℕ, ◌≤◌, Some, IfSome, IfOk};
 ghost use Rattle.synod.specs.declared.ballot.Ballot.{Ballot};
-ghost use Rattle.wire.specs.RecordForms.{IsBallotRecord, IsRoundRecord};
+ghost use Rattle.sessions.specs.declared.command.Command.{Command};
+ghost use Rattle.wire.specs.Reading.{Gives};
+ghost use Rattle.wire.specs.RecordForms.{IsBallotRecord, IsRoundRecord, IsVoteRecord, choice_at};
 
+use super::fault::WireFault;
+use super::input::Input;
+use super::reading::{read_ballot, read_command};
+use super::spelling::{command_len, push_ballot, push_command};
+use crate::Nodes;
 use byteorder::{BigEndian, ByteOrder};
+use sessions::Command;
+use std::alloc::{AllocError, Global};
 use synod::{Ballot, MOST_NODES};
 
 /// The record of a promise has this many bytes.
@@ -62,6 +71,48 @@ pub fn round_of_record(bytes: &[u8]) -> Option<u64>
     }
     let round = BigEndian::read_u64(bytes);
     if round >= 1 { Some(round) } else { None }
+}
+
+/// The record of a vote for a command under a ballot. Its one growth comes first.
+pub fn vote_record(alloc: Global, ballot: Ballot, command: &Command) -> Result<Vec<u8>, AllocError>
+    ensures { IfOk result (λ bytes. IsVoteRecord bytes.items ballot command.now) }
+{
+    let mut bytes = Vec::with_capacity(alloc, BALLOT_LEN + command_len(command))?;
+    push_ballot(&mut bytes, ballot)?;
+    push_command(&mut bytes, command)?;
+    Ok(bytes)
+}
+
+/// The ballot and the command of a vote's record, or None where the bytes are none.
+pub fn vote_of_record(alloc: Global, bytes: &[u8]) -> Result<Option<(Ballot, Command)>, AllocError>
+    ensures spelled { IfOk result (λ found. IfSome found (λ v. IsVoteRecord bytes.now v.0 v.1)) }
+    ensures read { (b : Ballot) (c : Command) → IsVoteRecord bytes.now b c
+        → IfOk result (λ found. found ≡ Some (b, c)) }
+{
+    let mut input = Input::new(bytes);
+    let choice = match read_choice(alloc, &mut input) {
+        Ok(choice) => choice,
+        Err(fault) => {
+            if fault.is_memory() {
+                return Err(AllocError);
+            }
+            return Ok(None);
+        }
+    };
+    if !input.is_empty() {
+        return Ok(None);
+    }
+    Ok(Some(choice))
+}
+
+#[tactic(auto, unfolding(crate::specs::RecordForms::choice_at))]
+fn read_choice(alloc: Global, input: &mut Input) -> Result<(Ballot, Command), WireFault>
+    ensures { Gives (λ x. (x, input.new)) result (choice_at input.old) }
+{
+    let nodes = Nodes::new(MOST_NODES).unwrap();
+    let ballot = read_ballot(input, nodes)?;
+    let command = read_command(alloc, input)?;
+    Ok((ballot, command))
 }
 
 #[cfg(test)]

@@ -1,0 +1,71 @@
+-- No frame of an envelope that may be sent is too long.
+use Rattle.std.proofs.Common.{◌≡◌, ℕ, ◌+◌, ◌*◌, ◌≤◌, List, [], ◌∷◌, ◌++◌, length, ap, ◌∙◌, subst, sym, arith}
+use Rattle.std.specs.List.{flat_map, AllByRecursion}
+use Rattle.std.proofs.lemmas.List.{length-append}
+use Rattle.std.proofs.lemmas.List.Concat.{flat_map-cons}
+use Rattle.store.specs.declared.op.Op.{Op}
+use Rattle.store.specs.declared.op.Op.TheVariants.{Put, Append, Remove}
+use Rattle.synod.specs.declared.vote.Vote.{Vote}
+use Rattle.sessions.specs.declared.command.Command.{Command}
+use Rattle.sessions.specs.declared.command.Command.TheVariants.{NoOp, Request}
+use Rattle.wire.specs.Spelling.{op_bytes, OpFits, command_bytes, CommandFits}
+use Rattle.wire.specs.FrameSpelling.{entry_bytes, VoteFits, body_bytes, MessageFits, spelling, Fits, IsFrame}
+use Rattle.wire.specs.declared.frames.envelope.Envelope.{Envelope}
+use Rattle.wire.specs.declared.frames.envelope.TheConstants.{LONGEST_FRAME}
+use Rattle.wire.specs.declared.frames.message.Message.{Message}
+use Rattle.wire.specs.declared.frames.message.Message.TheVariants.{Prepare, Promise, Nack, Accept, Accepted, Ask, Decided}
+use Rattle.wire.proofs.LengthLemmas.{put_len, append_len}
+
+-- an operation: a Put of the longest id and the most instants is the largest
+op_most : (op : Op) → OpFits op → length (op_bytes op) ≤ 12357
+op_most (Put id seq) f = let l = put_len id seq in omega (arith, f.0.not_too_long, f.1.not_too_many, l)
+op_most (Append a) f = let l = append_len a.id a.point in omega (arith, f.0.not_too_long, l)
+op_most (Remove id) f = omega (arith, f.not_too_long)
+
+command_most : (c : Command) → CommandFits c → length (command_bytes c) ≤ 12367
+command_most NoOp f = omega arith
+command_most (Request r) f =
+    let most = op_most r.op f.op in
+    omega (arith, most)
+
+-- a vote that a promise tells, and several
+entry_most : (nodes : ℕ) (v : Vote Command) → VoteFits nodes v → length (entry_bytes v) ≤ 12380
+entry_most nodes v f =
+    let most = command_most v.command f.command in
+    omega (arith, most)
+
+entries_most : (nodes : ℕ) (vs : List (Vote Command)) → AllByRecursion (VoteFits nodes) vs
+    → length (flat_map entry_bytes vs) ≤ 12380 * length vs
+entries_most nodes [] f = omega arith
+entries_most nodes (v ∷ vs) f =
+    let l = ap length (flat_map-cons entry_bytes v vs) ∙ length-append (entry_bytes v) (flat_map entry_bytes vs) in
+    let one = entry_most nodes v f.0 in
+    let rest = entries_most nodes vs f.1 in
+    omega (arith, l, one, rest)
+
+body_most : (nodes : ℕ) (m : Message) → MessageFits nodes m → length (body_bytes m) ≤ 49538
+body_most nodes (Prepare ballot first) f = omega arith
+body_most nodes (Promise p) f =
+    let most = entries_most nodes p.entries f.entries in
+    omega (arith, most, f.promise.few)
+body_most nodes (Nack n) f = omega arith
+body_most nodes (Accept v) f =
+    let most = command_most v.command f.command in
+    omega (arith, most)
+body_most nodes (Accepted v) f =
+    let most = command_most v.command f.command in
+    omega (arith, most)
+body_most nodes (Ask slot) f = omega arith
+body_most nodes (Decided slot command) f =
+    let most = command_most command f.1 in
+    omega (arith, most)
+
+spelling_most : (nodes : ℕ) (e : Envelope) → Fits nodes e → length (spelling e) ≤ LONGEST_FRAME
+spelling_most nodes e f =
+    let most = body_most nodes e.message f.message in
+    omega (arith, most)
+
+-- so a frame is never too long
+pub frame_most : (nodes : ℕ) (bytes : List ℕ) (e : Envelope) → IsFrame nodes bytes e → length bytes ≤ LONGEST_FRAME
+frame_most nodes bytes e frame =
+    subst (λ (b : List ℕ). length b ≤ LONGEST_FRAME) (sym frame.spelled) (spelling_most nodes e frame.fits)

@@ -1,0 +1,28 @@
+use Rattle.std.proofs.Common.{◌≡◌, ◌⊎◌, ℕ, ◌≤◌, List, Result, Ok, Err, IfOk, arith, inl, inr}
+use Rattle.wire.specs.Reading.{Gives}
+use Rattle.wire.specs.FrameReading.{frame_in}
+use Rattle.wire.specs.FrameSpelling.{IsFrame}
+use Rattle.wire.specs.declared.frames.fault.WireFault.{WireFault}
+use Rattle.wire.specs.declared.frames.envelope.Envelope.{Envelope}
+use Rattle.wire.proofs.FieldLemmas.{IsBytes}
+use Rattle.wire.proofs.FrameLaws.{frame_found, frame_only}
+use Rattle.wire.proofs.FrameLengths.{frame_most}
+use Rattle.wire.proofs.frames.decoding.decode.Goals as goal
+
+told : (nodes : ℕ) → nodes ≤ 7 → (bytes : List ℕ) (r : Result Envelope WireFault) → IsBytes bytes → Gives (λ x. x) r (frame_in nodes bytes) → IfOk r (λ e. IsFrame nodes bytes e)
+told nodes few bytes (Ok e) fits h = frame_found nodes few bytes e fits h
+told nodes few bytes (Err e) fits h = tt
+
+at_most_seven : (n : ℕ) → (n ≡ 3) ⊎ (n ≡ 5) ⊎ (n ≡ 7) → n ≤ 7
+at_most_seven n (inl three) = omega arith
+at_most_seven n (inr (inl five)) = omega arith
+at_most_seven n (inr (inr seven)) = omega arith
+
+pub returns-clause-found : goal.returns-clause-found
+returns-clause-found c =
+    let few : c.count-count.result ≤ 7 = at_most_seven c.count-count.result c.count-count.ensures.odd in
+    told c.args.nodes (omega arith) c.args.bytes.now c.read_frame.result (λ i. omega (arith, c.type_inv.bytes i)) c.read_frame.ensures
+
+pub returns-clause-only : goal.returns-clause-only
+returns-clause-only c e frame =
+    rw (frame_only c.args.nodes c.args.bytes.now e frame (frame_most c.args.nodes c.args.bytes.now e frame)) at c.read_frame.ensures

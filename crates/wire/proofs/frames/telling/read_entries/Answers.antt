@@ -1,0 +1,30 @@
+use Rattle.std.proofs.Common.{rules, ◌≡◌, length}
+use Rattle.std.proofs.lemmas.Result.{err_from_is_err_and}
+use Rattle.wire.specs.FrameReading.{entries_at}
+use Rattle.wire.proofs.EntryLemmas.{entries_go_on, entries_end, entries_done}
+use Rattle.wire.proofs.frames.telling.read_entries.Goals as goal
+
+-- an entry could not be read
+pub returns-in_err-vote : goal.returns-in_err-vote
+returns-in_err-vote c =
+    let p = err_from_is_err_and c.from_residual.result c.from_residual.ensures.1 in
+    rw (p.1, p.2) (entries_end c.args.nodes c.args.ballot c.args.last c.in_err-vote.field-0.0 c.loop.entries.items c.args.count c.loop.counter c.loop.from c.loop.input (entries_at c.args.nodes c.args.ballot c.args.last c.args.count c.args.first c.args.input.now) c.loop-test.true c.in_err-vote.ensures c.loop.invariant.so_far)
+
+-- one entry more
+pub loop-preserved : goal.loop-preserved
+loop-preserved c = record {
+  so_far =
+      rw (c.push.ensures.items, c.new.ensures, c.after-from.ensures)
+      (entries_go_on c.args.nodes c.args.ballot c.args.last c.loop.entries.items c.args.count c.loop.counter c.loop.from
+      c.loop.input c.in_ok-vote.vote c.read_entry.new.input
+      (entries_at c.args.nodes c.args.ballot c.args.last c.args.count c.args.first c.args.input.now) c.loop-test.true
+      c.in_ok-vote.ensures c.loop.invariant.so_far);
+  counted = search (rules, c.push.ensures.len, c.loop.invariant.counted);
+}
+
+-- all of them
+pub returns : goal.returns
+returns c =
+    entries_done c.args.nodes c.args.ballot c.args.last c.loop.entries.items c.args.count c.loop.counter c.loop.from c.loop.input
+    (entries_at c.args.nodes c.args.ballot c.args.last c.args.count c.args.first c.args.input.now) c.loop-test.false
+    c.loop.invariant.so_far

@@ -1,0 +1,145 @@
+//! From envelopes to bytes.
+
+ghost use Rattle.std.specs.Prelude.{◌≡◌, ◌+◌, ◌*◌, ◌<◌, ◌≤◌, ◌++◌, length, IfOk, OnOk};
+ghost use Rattle.std.specs.List.{flat_map, AllByRecursion};
+ghost use Rattle.wire.specs.FrameSpelling.{IsFrame, MessageFits, VoteFits, PromiseFits, head_bytes, body_bytes};
+ghost use Rattle.wire.specs.FrameSpelling.{vote_bytes, entry_bytes, promise_bytes, spelling};
+
+use super::entry::Entry;
+use super::envelope::{Envelope, LONGEST_FRAME, MAGIC};
+use super::kind::Kind;
+use super::message::Message;
+use super::promise::Promise;
+use super::spelling::{command_len, push_ballot, push_command, push_slot};
+use crate::NodeId;
+use sessions::Command;
+use std::alloc::{AllocError, Global};
+use synod::Vote;
+
+/// The bytes that spell the envelope. Every envelope has them, and they are grown once.
+pub fn encode(alloc: Global, envelope: &Envelope) -> Result<Vec<u8>, AllocError>
+    ensures frame { IfOk result (λ bytes. IsFrame 7 bytes.items envelope.now) }
+    ensures short { IfOk result (λ bytes. length bytes.items ≤ LONGEST_FRAME) }
+{
+    let mut out = Vec::with_capacity(alloc, frame_len(envelope))?;
+    push_head(
+        &mut out,
+        envelope.message.kind(),
+        envelope.from,
+        envelope.to,
+    )?;
+    push_body(&mut out, &envelope.message)?;
+    Ok(out)
+}
+
+/// What stands before the body: how each frame begins, the version, the kind, who sends, who receives.
+fn push_head(out: &mut Vec<u8>, kind: Kind, from: NodeId, to: NodeId) -> Result<(), AllocError>
+    ensures spelled { OnOk result (out.new.items ≡ out.old.items ++ head_bytes kind from to) }
+    ensures from { from < 7 }
+    ensures to { to < 7 }
+{
+    out.extend_from_slice(&MAGIC.to_be_bytes())?;
+    let rest = [kind.version(), kind.byte(), from.value(), to.value()];
+    out.extend_from_slice(&rest)
+}
+
+fn push_body(out: &mut Vec<u8>, message: &Message) -> Result<(), AllocError>
+    ensures spelled { OnOk result (out.new.items ≡ out.old.items ++ body_bytes message.now) }
+    ensures fits { OnOk result (MessageFits 7 message.now) }
+{
+    match message {
+        Message::Prepare { ballot, first } => {
+            push_ballot(out, *ballot)?;
+            push_slot(out, *first)
+        }
+        Message::Promise(promise) => push_promise(out, promise),
+        Message::Nack(nack) => {
+            push_ballot(out, nack.ballot())?;
+            push_ballot(out, nack.promised())
+        }
+        Message::Accept(vote) => push_vote(out, vote),
+        Message::Accepted(vote) => push_vote(out, vote),
+        Message::Ask { slot } => push_slot(out, *slot),
+        Message::Decided { slot, command } => {
+            push_slot(out, *slot)?;
+            push_command(out, command)
+        }
+    }
+}
+
+/// What is proposed or was voted for.
+fn push_vote(out: &mut Vec<u8>, vote: &Vote<Command>) -> Result<(), AllocError>
+    ensures spelled { OnOk result (out.new.items ≡ out.old.items ++ vote_bytes vote.now) }
+    ensures fits { OnOk result (VoteFits 7 vote.now) }
+{
+    push_ballot(out, vote.ballot)?;
+    push_slot(out, vote.slot)?;
+    push_command(out, &vote.command)
+}
+
+fn push_promise(out: &mut Vec<u8>, promise: &Promise) -> Result<(), AllocError>
+    ensures spelled { OnOk result (out.new.items ≡ out.old.items ++ promise_bytes promise.now) }
+    ensures fits { OnOk result (PromiseFits 7 promise.now) }
+{
+    let entries = promise.entries();
+    push_ballot(out, promise.ballot())?;
+    push_slot(out, promise.first())?;
+    push_slot(out, promise.last())?;
+    out.push(entries.len() as u8)?;
+    push_entries(out, entries)
+}
+
+fn push_entries(out: &mut Vec<u8>, entries: &[Entry]) -> Result<(), AllocError>
+    ensures spelled { OnOk result (out.new.items ≡ out.old.items ++ flat_map entry_bytes entries.now) }
+    ensures fits { OnOk result (AllByRecursion (VoteFits 7) entries.now) }
+{
+    match entries {
+        [] => Ok(()),
+        [entry, rest @ ..] => {
+            push_entry(out, entry.vote())?;
+            push_entries(out, rest)
+        }
+    }
+}
+
+/// A vote as a promise tells it.
+fn push_entry(out: &mut Vec<u8>, vote: &Vote<Command>) -> Result<(), AllocError>
+    ensures spelled { OnOk result (out.new.items ≡ out.old.items ++ entry_bytes vote.now) }
+    ensures fits { OnOk result (VoteFits 7 vote.now) }
+{
+    push_slot(out, vote.slot)?;
+    push_ballot(out, vote.ballot)?;
+    push_command(out, &vote.command)
+}
+
+/// How many bytes the frame has: at most those of a promise of four of the largest commands.
+fn frame_len(envelope: &Envelope) -> usize
+    ensures value { result ≡ length (spelling envelope.now) }
+    ensures most { result ≤ 49_544 }
+{
+    let body = match &envelope.message {
+        Message::Prepare { .. } => 13,
+        Message::Promise(promise) => 18 + entries_len(promise.entries()),
+        Message::Nack(_) => 18,
+        Message::Accept(vote) => 13 + command_len(&vote.command),
+        Message::Accepted(vote) => 13 + command_len(&vote.command),
+        Message::Ask { .. } => 4,
+        Message::Decided { command, .. } => 4 + command_len(command),
+    };
+    6 + body
+}
+
+/// How many bytes entries take.
+fn entries_len(entries: &[Entry]) -> usize
+    requires { length entries.now ≤ 4 }
+    ensures value { result ≡ length (flat_map entry_bytes entries.now) }
+    ensures most { result ≤ 12_380 * length entries.now }
+{
+    match entries {
+        [] => 0,
+        [entry, rest @ ..] => {
+            let others = entries_len(rest);
+            13 + command_len(&entry.vote().command) + others
+        }
+    }
+}
