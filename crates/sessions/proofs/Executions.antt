@@ -1,11 +1,16 @@
--- A list of commands can be executed, and in one way; and it has one reply at each place.
-use Rattle.std.proofs.Common.{◌≡◌, ℕ, zero, suc, ◌+◌, ◌<◌, ◌⊎◌, inl, inr, List, Bool, true, false, Option, Some, None, slice_get, refl, sym, ap, ◌∙◌, subst, arith}
+-- A list of commands can be executed, and in one way; it has one reply at each place, and one answer to each query.
+use Rattle.std.proofs.Common.{◌≡◌, ℕ, zero, suc, ◌+◌, inl, inr, List, length, Bool, true, false, Option, Some, None, slice_get, refl, sym, ap, ◌∙◌, subst, arith}
+use Rattle.store.specs.Answers.{IsAnswer}
+use Rattle.store.specs.Features.{AreValid}
 use Rattle.store.specs.Operations.{reply, effect}
 use Rattle.store.specs.Replies.{reply_code}
+use Rattle.store.specs.declared.query.Query.{Query}
+use Rattle.store.proofs.OneAnswer.{answer_one}
+use Rattle.store.proofs.ValidLemmas.{none_valid, effect_valid}
 use Rattle.sessions.specs.Asked.{Asked}
 use Rattle.sessions.specs.declared.command.Command.{Command}
 use Rattle.sessions.specs.declared.command.Command.TheVariants.{NoOp, Request}
-use Rattle.sessions.specs.Meaning.{Database, empty, HasCounted, IsNext, IsRequestAt, Execution, IsReply, RepliesAt, IsLastOf}
+use Rattle.sessions.specs.Meaning.{Database, empty, HasCounted, IsNext, IsRequestAt, Execution, IsReply, RepliesAt, AreSound, Answers}
 use Rattle.sessions.proofs.Counting.{labelling, labelling_is_lawful, one_labelling, has_counted_by, has_counted_or_not, counted_or_not}
 
 -- ---- each list can be executed
@@ -104,3 +109,30 @@ one_reply l i r q a b p s =
     let there : r ≡ q = same_requests l i r q p.there s.there in
     same_code l p.execution s.execution i r a b p.reply
     (subst (λ (x : Asked). IsReply s.execution i x b) (sym there) s.reply)
+
+-- ---- one answer to each query
+-- the features stay valid, where what the requests bring is
+module _ (l : List Command) (sound : AreSound l) (e : Execution l) where
+  valid_next : (i : ℕ) → AreValid (e.before i) → AreValid (e.before (i + 1))
+  valid_next i valid = elim (counted_or_not (e.counts i)) [
+    | inl counted ↦
+        let next : IsNext l e.counts i = (e.lawful i).0 counted in
+        let brought : AreValid (effect (e.before i) next.request.op) =
+        effect_valid (e.before i) next.request.op valid (sound.each i next.request next.there) in
+        subst AreValid (sym (e.executes i next.request counted next.there)) brought
+    | inr passed ↦ subst AreValid (sym (e.passes i passed)) valid
+  ]
+
+  valid_before : (i : ℕ) → AreValid (e.before i)
+  valid_before zero = subst AreValid (sym e.starts) none_valid
+  valid_before (suc i) =
+      let more : i + 1 ≡ suc i = omega arith in
+      subst (λ n. AreValid (e.before n)) more (valid_next i (valid_before i))
+
+pub one_answer : (l : List Command) (query : Query) (a b : List ℕ) → AreSound l → Answers l query a → Answers l query b →
+    a ≡ b
+one_answer l query a b sound p q =
+    let end = length l in
+    let same : q.execution.before end ≡ p.execution.before end = same_before l q.execution p.execution end in
+    let told : IsAnswer (p.execution.before end) query b = subst (λ fs. IsAnswer fs query b) same q.says in
+    answer_one (p.execution.before end) (valid_before l sound p.execution end) query a b p.says told

@@ -1,5 +1,5 @@
 -- What a machine keeps and answers is that of each list that it stands for.
-use Rattle.std.proofs.Common.{◌≡◌, ℕ, ◌+◌, ◌<◌, ◌≤◌, ◌↔◌, ◌⊎◌, inl, inr, List, [], ◌∷◌, ◌++◌, length, Bool, true, false, Option, Some, None, refl, sym, ap, ◌∙◌, subst, arith}
+use Rattle.std.proofs.Common.{◌≡◌, ℕ, ◌<◌, ◌≤◌, inl, inr, List, [], length, Option, Some, None, sym, ap, ◌∙◌, subst, arith}
 use Rattle.std.proofs.lemmas.Bool.Decides.{nat_tests}
 use Rattle.store.specs.Answers.{IsAnswer}
 use Rattle.store.specs.Operations.{reply}
@@ -7,7 +7,7 @@ use Rattle.store.specs.declared.query.Query.{Query}
 use Rattle.store.specs.declared.reply.Reply.{Reply}
 use Rattle.mfjson.specs.declared.feature.Feature.{Feature}
 use Rattle.sessions.specs.Machines.{MachineState, kept_of}
-use Rattle.sessions.specs.Meaning.{Database, HasCounted, Execution, IsLastOf, LastCounted, Answers}
+use Rattle.sessions.specs.Meaning.{Database, HasCounted, Execution, IsLastOf}
 use Rattle.sessions.specs.Sessions.{session_of}
 use Rattle.sessions.specs.Standing.{IsKeptOf, StandsFor, KeepsLast, AnswersAll}
 use Rattle.sessions.specs.declared.command.Command.{Command}

@@ -1,5 +1,5 @@
 -- The machine: a database, and what is kept of the clients.
-use Rattle.std.specs.Prelude.{ℕ, ◌+◌, ◌==◌, List, Bool, Option, Some, None, nat_lt, option_and_then, if◌then◌else◌}
+use Rattle.std.specs.Prelude.{ℕ, ◌+◌, ◌==◌, List, Bool, Option, Some, None, nat_lt, if◌then◌else◌}
 use Rattle.mfjson.specs.declared.feature.Feature.{Feature}
 use Rattle.store.specs.Operations.{reply, effect}
 use Rattle.store.specs.declared.reply.Reply.{Reply}

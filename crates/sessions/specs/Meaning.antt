@@ -1,9 +1,9 @@
 -- What a list of commands means: one plain database executes it from its first place on, each request once, and each
 -- client's requests in the order of their numbers.
-use Rattle.std.specs.Prelude.{◌≡◌, ◌↔◌, ℕ, ◌+◌, ◌-◌, ◌<◌, ◌≤◌, ◌⊎◌, length, List, [], Bool, true, false, Option, Some, None, slice_get}
+use Rattle.std.specs.Prelude.{◌≡◌, ◌↔◌, ℕ, ◌+◌, ◌-◌, ◌<◌, ◌≤◌, ◌⊎◌, length, List, [], Bool, true, false, Some, slice_get}
 use Rattle.mfjson.specs.declared.feature.Feature.{Feature}
 use Rattle.store.specs.Answers.{IsAnswer}
-use Rattle.store.specs.Operations.{reply, effect}
+use Rattle.store.specs.Operations.{reply, effect, IsSound}
 use Rattle.store.specs.Replies.{reply_code}
 use Rattle.store.specs.declared.query.Query.{Query}
 use Rattle.store.specs.declared.reply.Reply.{Reply}
@@ -92,3 +92,7 @@ pub record LastCounted (l : List Command) (client number : ℕ) (told : Reply) :
 pub record Answers (l : List Command) (query : Query) (text : List ℕ) : Type 0 where
   pub execution : Execution l
   pub says : IsAnswer (execution.before (length l)) query text
+
+-- what each request of the list brings is valid: the sequence of a Put, and the coordinates of an Append
+pub record AreSound (l : List Command) : Type 0 where
+  pub each : (i : ℕ) (r : Asked) → IsRequestAt l i r → IsSound r.op

@@ -1,8 +1,7 @@
 -- Which lists of commands a machine stands for.
-use Rattle.std.specs.Prelude.{◌≡◌, ◌↔◌, ℕ, ◌+◌, List, [], ◌∷◌, ◌++◌, length, Option, Some, None}
+use Rattle.std.specs.Prelude.{◌≡◌, ◌↔◌, ℕ, List, [], ◌∷◌, ◌++◌, length, Option, Some, None}
 use Rattle.store.specs.declared.query.Query.{Query}
 use Rattle.store.specs.declared.reply.Reply.{Reply}
-use Rattle.sessions.specs.Asked.{Asked}
 use Rattle.sessions.specs.Machines.{MachineState}
 use Rattle.sessions.specs.Meaning.{Execution, HasCounted, IsLastOf, LastCounted, RepliesAt, Answers}
 use Rattle.sessions.specs.Outcomes.{outcome_code}

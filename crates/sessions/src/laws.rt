@@ -1,8 +1,9 @@
 //! What holds of all lists of commands. Nothing runs.
 
 ghost use Rattle.std.specs.Prelude.{◌≡◌, ℕ, List};
+ghost use Rattle.store.specs.declared.query.Query.{Query};
 ghost use Rattle.sessions.specs.Asked.{Asked};
-ghost use Rattle.sessions.specs.Meaning.{Execution, RepliesAt};
+ghost use Rattle.sessions.specs.Meaning.{Execution, RepliesAt, Answers, AreSound};
 ghost use Rattle.sessions.specs.declared.command.Command.{Command};
 
 /// A list of commands can be executed, and in one way: it is settled which of its places count, and which database is
@@ -16,4 +17,11 @@ pub fn one_execution()
 /// A list of commands has one reply at each of its places.
 pub fn one_reply_at_each_place()
     ensures { (l : List Command) (i : ℕ) (r q : Asked) (a b : ℕ) → RepliesAt l i r a → RepliesAt l i q b → a ≡ b }
+{}
+
+/// A list of commands has one answer to a query, byte for byte, where what its requests bring is valid: the sequence
+/// of a Put, and the coordinates of an Append.
+pub fn one_answer_to_each_query()
+    ensures { (l : List Command) (query : Query) (a b : List ℕ) → AreSound l → Answers l query a → Answers l query b
+        → a ≡ b }
 {}

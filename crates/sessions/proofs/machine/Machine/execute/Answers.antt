@@ -1,6 +1,6 @@
-use Rattle.std.proofs.Common.{◌≡◌, sym, ap, subst, refl}
+use Rattle.std.proofs.Common.{◌≡◌, sym, subst}
 use Rattle.std.proofs.lemmas.Result.{IfOk-weaker, on_ok_weaker}
-use Rattle.sessions.specs.Machines.{MachineState, after_request, reply_to_request}
+use Rattle.sessions.specs.Machines.{MachineState, after_request}
 use Rattle.sessions.specs.Standing.{StandsForOneMore, RepliesOneMore}
 use Rattle.sessions.specs.declared.command.Command.{Command}
 use Rattle.sessions.specs.declared.command.Command.TheVariants.{Request}

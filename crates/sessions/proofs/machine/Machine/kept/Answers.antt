@@ -1,6 +1,4 @@
-use Rattle.std.proofs.Common.{◌≡◌, ℕ, rules}
-use Rattle.sessions.specs.Machines.{kept_of}
-use Rattle.sessions.specs.Sessions.{session_of}
+use Rattle.std.proofs.Common.{rules}
 use Rattle.sessions.proofs.Keeping.{keeps_last}
 use Rattle.sessions.proofs.machine.Machine.kept.Goals as goal
 
