@@ -1,12 +1,12 @@
 -- What an acceptor does is allowed by the protocol.
-use Rattle.std.proofs.Common.{◌≡◌, ℕ, ◌≤◌, List, [], ◌∷◌, ◌++◌, Option, Some, None, Contains, inl, inr, refl, sym, ap, ◌∙◌, subst, arith, le_refl}
+use Rattle.std.proofs.Common.{◌≡◌, ℕ, ◌≤◌, [], ◌∷◌, Option, Some, None, Contains, inl, inr, refl, sym, ap, ◌∙◌, subst, arith, le_refl}
 use Rattle.std.specs.Option.{option_to_list}
 use Rattle.std.proofs.lemmas.Bool.Decides.{eqb_tells}
 use Rattle.std.proofs.lemmas.List.Elements.{Contains-push, Contains-push_cases}
 use Rattle.synod.specs.Ballots.{rank, rank_of}
 use Rattle.synod.specs.declared.ballot.Ballot.{Ballot}
 use Rattle.synod.specs.declared.vote.Vote.{Vote}
-use Rattle.synod.specs.Messages.{Frame, Plain, Promise, Accept, Accepted, to_first}
+use Rattle.synod.specs.Messages.{Plain, Promise, Accept, Accepted, to_first}
 use Rattle.synod.specs.Records.{TellsVotes, with_promise, with_vote}
 use Rattle.synod.specs.Records.{put as put_one}
 use Rattle.synod.specs.Acts as act
@@ -14,7 +14,7 @@ use Rattle.synod.specs.Acts.{Fleet, Input, Local, Brings}
 use Rattle.synod.proofs.Doing.{does_nothing, does_one, does_then, confirms_to_first}
 use Rattle.synod.proofs.Puts.{put_same}
 use Rattle.synod.proofs.Thinking.{none_in}
-use Rattle.wire.specs.declared.command.Command.{Command}
+use Rattle.sessions.specs.declared.command.Command.{Command}
 use Rattle.acceptor.specs.Accepting.{Accepting, put, prepare_answer, after_prepare, accept_answer, after_accept}
 use Rattle.acceptor.specs.Protocol.{RecordsStand, MayWrite, MayAnswer, answer_frames}
 use Rattle.acceptor.proofs.RecordLemmas.{refusing_cases}

@@ -1,5 +1,4 @@
 pub mod BallotLemmas
-pub mod FieldLemmas
 pub mod LoadLemmas
 pub mod RecordLemmas
 pub mod VoteLemmas

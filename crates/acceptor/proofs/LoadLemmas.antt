@@ -1,11 +1,8 @@
 -- Records under some keys, taken in one after the other.
-use Rattle.std.proofs.Common.{◌≡◌, ◌↔◌, ℕ, suc, ◌+◌, ◌<◌, ◌≤◌, Bool, true, false, eqb, List, [], ◌∷◌, ◌++◌, length, take, drop, get_or, Option, Some, None, Contains, IsSome, IfSome, refl, sym, ap, subst, ◌∙◌, arith, inl, inr, option_map}
+use Rattle.std.proofs.Common.{◌≡◌, ◌↔◌, ℕ, suc, ◌+◌, ◌<◌, ◌≤◌, Bool, true, false, eqb, List, [], ◌∷◌, ◌++◌, length, take, drop, get_or, Option, Some, None, Contains, IsSome, IfSome, refl, sym, ap, subst, ◌∙◌, arith, inl, inr}
 use Rattle.std.specs.declared.cmp.Ordering.TheVariants.{Less}
 use Rattle.std.specs.List.{list_any, AllByRecursion}
 use Rattle.std.specs.List.Sorted.{IsStrictlySortedBy}
-use Rattle.std.specs.BTreeMap.{BTreeMap, IsEmpty, get, is_at}
-use Rattle.std.specs.Map.{lookup}
-use Rattle.std.specs.Ordering.{nat_cmp}
 use Rattle.std.proofs.lemmas.Bool.{cases_Bool, ne_eqb}
 use Rattle.std.proofs.lemmas.Bool.Decides.{eqb_tells}
 use Rattle.std.proofs.lemmas.Cmp.{ranked, on_equiv, nat_eq_equiv}
@@ -20,8 +17,6 @@ use Rattle.stable.proofs.KeyLemmas.{same_rank as same_key}
 use Rattle.acceptor.specs.Accepting.{Accepting, RecordsSay}
 use Rattle.acceptor.specs.Forms.{IsOfItsForm, AreOfTheirForm}
 use Rattle.acceptor.specs.Loading.{with_seen, records_at}
-use Rattle.acceptor.specs.State.{vote_at}
-use Rattle.acceptor.specs.declared.cast.Cast.{Cast}
 use Rattle.acceptor.proofs.RecordLemmas.{RecordsSay-same}
 
 -- whether a key is among keys
@@ -138,10 +133,6 @@ forms_all r keys told forms q =
       | inl has ↦ forms q has
       | inr lacks ↦ rw (absent r keys told q lacks) tt
     ]
-
--- ---- before the first key
-pub no_votes : (m : BTreeMap ℕ Cast) → IsEmpty m → (s : ℕ) → option_map (vote_at s) (get nat_cmp m s) ≡ None
-no_votes m empty s = ap (λ es. option_map (vote_at s) (lookup (is_at (nat_cmp s)) es)) empty
 
 pub take_all : (keys : List Key) (i : ℕ) → length keys ≤ i → take i keys ≡ keys
 take_all keys i past =

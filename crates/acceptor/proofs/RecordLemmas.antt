@@ -6,7 +6,7 @@ use Rattle.std.proofs.lemmas.Option.{IfSome_then}
 use Rattle.synod.specs.Ballots.{rank, rank_of}
 use Rattle.synod.specs.declared.ballot.Ballot.{Ballot}
 use Rattle.synod.specs.declared.vote.Vote.{Vote}
-use Rattle.wire.specs.declared.command.Command.{Command}
+use Rattle.sessions.specs.declared.command.Command.{Command}
 use Rattle.stable.specs.Records.{Records, no_records, with_record}
 use Rattle.stable.specs.Records.{rank as place}
 use Rattle.stable.specs.declared.key.Key.{Key}

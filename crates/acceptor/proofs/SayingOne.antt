@@ -1,55 +1,40 @@
 -- Records say one thing: no two votes that fit are spelled alike.
-use Rattle.std.proofs.Common.{◌≡◌, ℕ, ◌≤◌, ◌<◌, ◌^◌, List, [], ◌∷◌, ◌++◌, length, drop, Option, Some, None, IfSome, option_map, inl, inr, refl, sym, ap, ◌∙◌, subst, arith, slice_index_or}
-use Rattle.byteorder.specs.Endian.{big_number, big_bytes}
-use Rattle.byteorder.specs.Numbers.{big_number-reads_back}
+use Rattle.std.proofs.Common.{◌≡◌, ℕ, ◌≤◌, List, [], ◌++◌, Ok, Option, Some, None, IfSome, option_map, inl, inr, refl, sym, ap, ◌∙◌, subst, arith}
 use Rattle.synod.specs.Ballots.{rank, rank_of}
 use Rattle.synod.specs.declared.ballot.Ballot.{Ballot}
 use Rattle.synod.specs.declared.vote.Vote.{Vote}
-use Rattle.wire.specs.Asked.{Asked}
-use Rattle.wire.specs.declared.command.Op.{Op}
-use Rattle.wire.specs.declared.command.Op.TheVariants.{Remove}
-use Rattle.wire.specs.declared.command.Command.{Command}
-use Rattle.wire.specs.declared.command.Command.TheVariants.{NoOp, Request}
+use Rattle.sessions.specs.declared.command.Command.{Command}
 use Rattle.stable.specs.Records.{Records}
-use Rattle.stable.specs.declared.key.Key.TheVariants as key
+use Rattle.wire.specs.Reading.{ballot_at}
+use Rattle.wire.specs.RecordForms.{IsVoteRecord, choice_at}
+use Rattle.wire.proofs.FieldLemmas.{ok_is}
+use Rattle.wire.proofs.FieldLaws.{ballot_again}
+use Rattle.wire.proofs.RecordLaws.{record_is_choice}
 use Rattle.acceptor.specs.Accepting.{Accepting, RecordsSay, IsGreatest}
-use Rattle.acceptor.specs.Forms.{BallotFits, OpFits, RequestFits, CommandFits, VoteFits}
-use Rattle.acceptor.specs.Spelling.{ballot_bytes, op_bytes, request_bytes, command_bytes, vote_bytes}
-use Rattle.acceptor.proofs.BallotLemmas.{same_ballot}
+use Rattle.acceptor.specs.Forms.{BallotFits, VoteFits}
+use Rattle.acceptor.specs.Spelling.{ballot_bytes, vote_bytes}
 
--- the ballot at the front of two spellings
-one_ballot : (a b : Ballot) (rest more : List ℕ) → BallotFits a → BallotFits b → ballot_bytes a ++ rest ≡ ballot_bytes b ++ more → a ≡ b
-one_ballot a b rest more fits_a fits_b e =
-    let round_a : big_number 8 (ballot_bytes a ++ rest) ≡ a.round = big_number-reads_back 8 a.round (a.node ∷ rest) fits_a in
-    let round_b : big_number 8 (ballot_bytes b ++ more) ≡ b.round = big_number-reads_back 8 b.round (b.node ∷ more) fits_b in
-    same_ballot a b (sym round_a ∙ ap (big_number 8) e ∙ round_b) (ap (λ (xs : List ℕ). slice_index_or xs 8 0) e)
+-- ballots that fit and are spelled alike
+one_ballot : (a b : Ballot) → BallotFits a → BallotFits b → ballot_bytes a ≡ ballot_bytes b → a ≡ b
+one_ballot a b fits_a fits_b e =
+    let read_a : ballot_at 7 (ballot_bytes a ++ []) ≡ Ok (a, []) = ballot_again 7 a [] fits_a in
+    let read_b : ballot_at 7 (ballot_bytes b ++ []) ≡ Ok (b, []) = ballot_again 7 b [] fits_b in
+    let same : (a, []) ≡ (b, []) = ok_is (a, []) (b, []) (sym read_a ∙ ap (λ (xs : List ℕ). ballot_at 7 (xs ++ [])) e ∙ read_b) in
+    ap (λ (p : Ballot × List ℕ). p.0) same
 
-one_op : (a b : Op) → op_bytes a ≡ op_bytes b → a ≡ b
-one_op (Remove x) (Remove y) e = ap Remove (ap (drop 2) e)
-
-one_request : (a b : Asked) → RequestFits a → RequestFits b → request_bytes a ≡ request_bytes b → a ≡ b
-one_request a b fits_a fits_b e =
-    let client : a.client ≡ b.client = ap (λ (xs : List ℕ). slice_index_or xs 0 0) e in
-    let number_a : big_number 8 (drop 1 (request_bytes a)) ≡ a.number = big_number-reads_back 8 a.number (op_bytes a.op) fits_a.number in
-    let number_b : big_number 8 (drop 1 (request_bytes b)) ≡ b.number = big_number-reads_back 8 b.number (op_bytes b.op) fits_b.number in
-    let number : a.number ≡ b.number = sym number_a ∙ ap (λ xs. big_number 8 (drop 1 xs)) e ∙ number_b in
-    let op : a.op ≡ b.op = one_op a.op b.op (ap (drop 9) e) in
-    λ i. record { client = client i; number = number i; op = op i }
-
-apart : (n : ℕ) → n ≡ 0 → n ≡ 1 → ⊥
-apart n e f = omega (arith, e, f)
-
-one_command : (a b : Command) → CommandFits a → CommandFits b → command_bytes a ≡ command_bytes b → a ≡ b
-one_command NoOp NoOp fits_a fits_b e = refl
-one_command NoOp (Request r) fits_a fits_b e = absurd (apart 0 refl (ap (λ (xs : List ℕ). slice_index_or xs 0 0) e))
-one_command (Request r) NoOp fits_a fits_b e = absurd (apart 1 (ap (λ (xs : List ℕ). slice_index_or xs 0 0) e) refl)
-one_command (Request a) (Request b) fits_a fits_b e = ap Request (one_request a b fits_a fits_b (ap (drop 1) e))
+-- the record of a vote that fits
+vote_record : (v : Vote Command) → VoteFits v → IsVoteRecord (vote_bytes v) v.ballot v.command
+vote_record v fits = record { ballot = fits.ballot; command = fits.command; spelled = refl }
 
 -- votes that fit, at one slot, and are spelled alike
 pub one_vote : (a b : Vote Command) → VoteFits a → VoteFits b → a.slot ≡ b.slot → vote_bytes a ≡ vote_bytes b → a ≡ b
 one_vote a b fits_a fits_b slot e =
-    let ballot : a.ballot ≡ b.ballot = one_ballot a.ballot b.ballot (command_bytes a.command) (command_bytes b.command) fits_a.ballot fits_b.ballot e in
-    let command : a.command ≡ b.command = one_command a.command b.command fits_a.command fits_b.command (ap (drop 9) e) in
+    let read_a : choice_at (vote_bytes a) ≡ Ok ((a.ballot, a.command), []) = record_is_choice (vote_bytes a) a.ballot a.command (vote_record a fits_a) in
+    let read_b : choice_at (vote_bytes b) ≡ Ok ((b.ballot, b.command), []) = record_is_choice (vote_bytes b) b.ballot b.command (vote_record b fits_b) in
+    let same : ((a.ballot, a.command), []) ≡ ((b.ballot, b.command), []) =
+    ok_is ((a.ballot, a.command), []) ((b.ballot, b.command), []) (sym read_a ∙ ap choice_at e ∙ read_b) in
+    let ballot : a.ballot ≡ b.ballot = ap (λ (p : (Ballot × Command) × List ℕ). p.0.0) same in
+    let command : a.command ≡ b.command = ap (λ (p : (Ballot × Command) × List ℕ). p.0.1) same in
     λ i. record { slot = slot i; ballot = ballot i; command = command i }
 
 one_vote_at : (s : ℕ) (x y : Option (Vote Command)) → IfSome x (λ v. v.slot ≡ s) → IfSome y (λ v. v.slot ≡ s) → IfSome x VoteFits → IfSome y VoteFits
@@ -67,8 +52,7 @@ one_promise_record None (Some b) fits_x fits_y e = absurd cc
 one_promise_record (Some a) None fits_x fits_y e = absurd cc
 one_promise_record (Some a) (Some b) fits_x fits_y e =
     let bytes : ballot_bytes a ≡ ballot_bytes b = cc in
-    let same : ballot_bytes a ++ [] ≡ ballot_bytes b ++ [] = ap (λ (xs : List ℕ). xs ++ []) bytes in
-    ap Some (one_ballot a b [] [] fits_x fits_y same)
+    ap Some (one_ballot a b fits_x fits_y bytes)
 
 module _ (records : Records) (a b : Accepting) (says_a : RecordsSay records a) (says_b : RecordsSay records b) where
   pub one_vote_each : (s : ℕ) → a.vote s ≡ b.vote s

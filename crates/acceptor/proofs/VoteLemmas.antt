@@ -7,12 +7,12 @@ use Rattle.std.proofs.lemmas.Bool.Decides.{nat_tests, eqb_tells}
 use Rattle.std.proofs.lemmas.Bool.{eq-eqb}
 use Rattle.synod.specs.declared.ballot.Ballot.{Ballot}
 use Rattle.synod.specs.declared.vote.Vote.{Vote}
-use Rattle.wire.specs.declared.command.Command.{Command}
+use Rattle.sessions.specs.declared.command.Command.{Command}
 use Rattle.acceptor.specs.declared.cast.Cast.{Cast}
 use Rattle.stable.specs.declared.key.Key.TheVariants as key
 use Rattle.acceptor.specs.Accepting.{Accepting, put, refusing, IsAcceptWrite}
 use Rattle.acceptor.specs.Spelling.{vote_bytes}
-use Rattle.acceptor.specs.State.{vote_at}
+use Rattle.acceptor.specs.Casts.{vote_at}
 
 some_not_none : {X : Type 0} (o : Option X) → IsSome o → o ≡ None → ⊥
 some_not_none (Some x) h e = absurd cc

@@ -23,7 +23,7 @@ use Rattle.synod.specs.declared.vote.Vote.{Vote}
 use Rattle.stable.specs.Records.{Records, with_record}
 use Rattle.stable.specs.declared.key.Key.{Key}
 use Rattle.stable.specs.declared.key.Key.TheVariants as key
-use Rattle.wire.specs.declared.command.Command.{Command}
+use Rattle.sessions.specs.declared.command.Command.{Command}
 use Rattle.acceptor.specs.declared.answer.Answer.{Answer}
 use Rattle.acceptor.specs.declared.answer.Answer.TheVariants.{Promise, Accepted, Nack}
 use Rattle.acceptor.specs.Forms.{BallotFits, VoteFits}
@@ -98,6 +98,11 @@ accept_answer a v = unless_refused (refusing a.promise v.ballot) (nack v.ballot)
 abbrev pub after_accept : Accepting → Vote Command → Accepting
 after_accept a v = unless_refused (refusing a.promise v.ballot) (λ _. a)
     (record { promise = Some v.ballot; vote = put a.vote v.slot (Some v) })
+
+-- the vote is taken, and does not stand there already
+pub record IsNewVote (a : Accepting) (v : Vote Command) : Type 0 where
+  pub taken : refusing a.promise v.ballot ≡ None
+  pub fresh : a.vote v.slot ≢ Some v
 
 -- a vote is written, unless its ballot is refused or the vote is that already
 pub record IsAcceptWrite (a : Accepting) (v : Vote Command) (write : Write) : Type 0 where

@@ -1,35 +1,18 @@
 -- Which bytes are a record: exactly a spelling, each field with a value that its type has.
-use Rattle.std.specs.Prelude.{◌≡◌, ℕ, ◌<◌, ◌≤◌, ◌^◌, List, Some, IfSome}
+use Rattle.std.specs.Prelude.{◌≡◌, ℕ, List, Some, IfSome}
 use Rattle.synod.specs.declared.ballot.Ballot.{Ballot}
 use Rattle.synod.specs.declared.vote.Vote.{Vote}
-use Rattle.tpoint.specs.Ids.{IsId}
-use Rattle.wire.specs.Asked.{Asked}
-use Rattle.wire.specs.declared.command.Op.{Op}
-use Rattle.wire.specs.declared.command.Op.TheVariants.{Remove}
-use Rattle.wire.specs.declared.command.Command.{Command}
-use Rattle.wire.specs.declared.command.Command.TheVariants.{NoOp, Request}
+use Rattle.sessions.specs.declared.command.Command.{Command}
 use Rattle.stable.specs.Records.{Records}
 use Rattle.stable.specs.declared.key.Key.{Key}
 use Rattle.stable.specs.declared.key.Key.TheVariants as key
+use Rattle.wire.specs.Spelling as wire
+pub use Rattle.wire.specs.Spelling.{CommandFits}
 use Rattle.acceptor.specs.Spelling.{ballot_bytes, vote_bytes}
 
--- the round has its eight bytes; that it is at least 1, and the node below 7, is a ballot's own
+-- the ballot may stand in a record, which serves the largest fleet
 abbrev pub BallotFits : Ballot → Type 0
-BallotFits b = b.round < 2 ^ 64
-
--- an id has 1 to 64 bytes, and each is an id's byte
-abbrev pub OpFits : Op → Type 0
-OpFits (Remove id) = IsId id
-
-pub record RequestFits (r : Asked) : Type 0 where
-  pub client : r.client < 2 ^ 8
-  pub begun : 1 ≤ r.number
-  pub number : r.number < 2 ^ 64
-  pub op : OpFits r.op
-
-abbrev pub CommandFits : Command → Type 0
-CommandFits NoOp = Unit {0}
-CommandFits (Request r) = RequestFits r
+BallotFits b = wire.BallotFits 7 b
 
 pub record VoteFits (v : Vote Command) : Type 0 where
   pub ballot : BallotFits v.ballot

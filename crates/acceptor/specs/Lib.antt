@@ -1,4 +1,5 @@
 pub mod Accepting
+pub mod Casts
 pub mod Forms
 pub mod Loading
 pub mod Protocol

@@ -5,12 +5,10 @@ use Rattle.synod.specs.Messages as synod
 use Rattle.synod.specs.Messages.{Frame, Plain, to_first}
 use Rattle.synod.specs.Records as synod_records
 use Rattle.synod.specs.Acts.{Fleet, Input, Local, Does}
-use Rattle.synod.specs.declared.ballot.Ballot.{Ballot}
-use Rattle.synod.specs.declared.vote.Vote.{Vote}
-use Rattle.wire.specs.declared.command.Command.{Command}
+use Rattle.sessions.specs.declared.command.Command.{Command}
 use Rattle.acceptor.specs.declared.answer.Answer.{Answer}
 use Rattle.acceptor.specs.declared.answer.Answer.TheVariants.{Promise, Accepted, Nack}
-use Rattle.acceptor.specs.Accepting.{Accepting, prepare_answer, after_prepare, accept_answer, after_accept}
+use Rattle.acceptor.specs.Accepting.{Accepting}
 
 -- the protocol's records say what the acceptor holds, and the round that its node has begun last
 pub record RecordsStand (a : Accepting) (round : ℕ) (r : synod_records.Records Command) : Type 0 where

@@ -1,32 +1,28 @@
 //! One node's acceptor.
 
-ghost use Rattle.std.specs.Prelude.{◌≡◌, ◌+◌, ◌*◌, ◌<◌, ◌≤◌, ◌↔◌, ◌⊎◌, ◌==◌, List, Option, Some, None};
-ghost use Rattle.std.specs.Prelude.{IsTrue, IfSome, IsSome, IfOk, OnOk, OnErr, IsErrOf, nat_lt, option_map};
-ghost use Rattle.std.specs.Prelude.{if◌then◌else◌, ℕ};
-ghost use Rattle.std.specs.Option.{option_copied, option_to_list};
-ghost use Rattle.std.specs.BTreeMap.{get};
-ghost use Rattle.std.specs.Ordering.{nat_cmp};
-ghost use Rattle.synod.specs.Ballots.{rank, rank_of};
+ghost use Rattle.std.specs.Prelude.{◌≡◌, ◌<◌, ◌⊎◌, Some, None};
+ghost use Rattle.std.specs.Prelude.{IfSome, IfOk, OnOk, IsErrOf, option_map};
+ghost use Rattle.synod.specs.Ballots.{rank};
 ghost use Rattle.stable.specs.Records.{Records};
-ghost use Rattle.acceptor.specs.Accepting.{Write, RecordsSay, refusing, put};
+ghost use Rattle.stable.specs.declared.key.Key.TheVariants as key;
+ghost use Rattle.acceptor.specs.Accepting.{Write, RecordsSay, refusing};
 ghost use Rattle.acceptor.specs.Accepting.{prepare_answer, prepare_write, after_prepare};
-ghost use Rattle.acceptor.specs.Accepting.{accept_answer, after_accept, IsAcceptWrite};
+ghost use Rattle.acceptor.specs.Accepting.{accept_answer, after_accept, IsAcceptWrite, IsNewVote};
 ghost use Rattle.acceptor.specs.Accepting.{HasWritten, HasFailed};
+ghost use Rattle.acceptor.specs.Casts.{AreUpTo, vote_at};
 ghost use Rattle.acceptor.specs.Forms.{BallotFits, VoteFits, IsOfItsForm, AreOfTheirForm, HasDamagedRecord};
 ghost use Rattle.acceptor.specs.Loading.{raised, with_seen};
-ghost use Rattle.acceptor.specs.State.{accepting_of, vote_at};
-ghost use Rattle.stable.specs.declared.key.Key.TheVariants as key;
 ghost use Rattle.acceptor.specs.Spelling.{ballot_bytes, vote_bytes};
 
 use super::answer::Answer;
 use super::cast::Cast;
 use super::records::{promised, voted};
-use super::spelling::{ballot_record, vote_record};
+use super::votes::Votes;
+use sessions::Command;
 use stable::{Key, Stable, StableFault};
 use std::alloc::{AllocError, Global};
-use std::collections::BTreeMap;
 use synod::{Ballot, Slot, Vote};
-use wire::{Command, Entries, Nack, Promise};
+use wire::frames::{Nack, ballot_record};
 
 /// What one node has promised, and what it has voted for at each slot.
 ///
@@ -34,10 +30,14 @@ use wire::{Command, Entries, Nack, Promise};
 #[derive(Drop)]
 pub struct Acceptor {
     promise: Option<Ballot>,
-    votes: BTreeMap<Slot, Cast>,
+    votes: Votes,
+    // No vote is of a ballot above the promise, so that a promise may tell each.
+    ghost bounded: { AreUpTo promise votes },
 }
 
 impl Acceptor {
+    ghost use Rattle.acceptor.specs.State.{accepting_of};
+
     /// The acceptor that the records tell of: its votes are those recorded, and its promise is the greatest of record
     /// Promise and of the ballots of all votes.
     ///
@@ -60,7 +60,7 @@ impl Acceptor {
         let keys = storage.keys(alloc)?;
         let mut loaded = Acceptor {
             promise: None,
-            votes: BTreeMap::new(alloc),
+            votes: Votes::new(alloc),
         };
         for key in &keys {
             loaded.take_in(alloc, storage, *key)?;
@@ -172,19 +172,14 @@ impl Acceptor {
         ensures not_damaged { ¬ IsErrOf result StableFault.Damaged }
     {
         if let Some(promised) = self.refusing(ballot) {
-            return Ok(Answer::Nack(Nack { ballot, promised }));
+            return Ok(Answer::Nack(refusal(ballot, promised)));
         }
-        let entries = self.entries(alloc, first)?;
+        let promise = self.votes.promise(ballot, first)?;
         if self.promise != Some(ballot) {
             storage.put(alloc, Key::Promise, &ballot_record(ballot))?;
         }
         self.promise = Some(ballot);
-        Ok(Answer::Promise(Promise {
-            ballot,
-            first,
-            last: first,
-            entries,
-        }))
+        Ok(Answer::Promise(promise))
     }
 
     /// Answers an accept: the vote is cast, or refused since a greater ballot is promised.
@@ -202,120 +197,41 @@ impl Acceptor {
             (accepting_of self.new ≡ after_accept (accepting_of self.old) vote) }
         ensures written { OnOk result ((w : Write) × IsAcceptWrite (accepting_of self.old) vote w
             × HasWritten S.reads S.puts storage.old storage.new w) }
+        ensures fits { OnOk result (IsNewVote (accepting_of self.old) vote → VoteFits vote) }
 
         // Each error.
         ensures device { IsErrOf result StableFault.Device
             → (w : Write) × IsAcceptWrite (accepting_of self.old) vote w
             × HasFailed S.fails storage.old storage.new w }
+        ensures device_fits { IsErrOf result StableFault.Device → VoteFits vote }
         ensures memory { IsErrOf result StableFault.Memory → S.reads storage.old storage.new }
         ensures memory_state { IsErrOf result StableFault.Memory
             → accepting_of self.new ≡ accepting_of self.old }
         ensures not_damaged { ¬ IsErrOf result StableFault.Damaged }
     {
         if let Some(promised) = self.refusing(vote.ballot) {
-            return Ok(Answer::Nack(Nack {
-                ballot: vote.ballot,
-                promised,
-            }));
+            return Ok(Answer::Nack(refusal(vote.ballot, promised)));
         }
-        if !self.has_cast(&vote) {
-            self.cast(alloc, storage, &vote)?;
+        if !self.votes.has(&vote) {
+            self.votes.cast(alloc, storage, &vote)?;
         }
         self.promise = Some(vote.ballot);
         Ok(Answer::Accepted(vote))
     }
 
-    /// Casts a vote: it is written, and kept.
-    fn cast<S: Stable>(
-        &mut self,
-        alloc: Global,
-        storage: &mut S,
-        vote: &Vote<Command>,
-    ) -> Result<(), StableFault>
-        ensures written { OnOk result
-            (S.puts storage.old (Key.Vote vote.now.slot) (vote_bytes vote.now) storage.new) }
-        ensures votes { OnOk result ((s : ℕ) → (accepting_of self.new).vote s
-            ≡ put (accepting_of self.old).vote vote.now.slot (Some vote.now) s) }
-
-        // Each error.
-        ensures device { IsErrOf result StableFault.Device
-            → S.fails storage.old (Key.Vote vote.now.slot) (vote_bytes vote.now) storage.new }
-        ensures memory { IsErrOf result StableFault.Memory → S.reads storage.old storage.new }
-        ensures memory_votes { OnErr result
-            ((s : ℕ) → (accepting_of self.new).vote s ≡ (accepting_of self.old).vote s) }
-        ensures memory_promise { self.new.promise ≡ self.old.promise }
-        ensures not_damaged { ¬ IsErrOf result StableFault.Damaged }
-    {
-        let bytes = vote_record(alloc, vote)?;
-        let cast = Cast {
-            ballot: vote.ballot,
-            command: vote.command.clone()?,
-        };
-        // It takes its place before it is written: after the write nothing may be refused.
-        let before = self.votes.insert(vote.slot, cast)?;
-        match storage.put(alloc, Key::Vote(vote.slot), &bytes) {
-            Ok(()) => Ok(()),
-            Err(fault) => {
-                self.put_back(vote.slot, before);
-                Err(fault)
-            }
-        }
-    }
-
     /// The promise that a ballot is below.
     fn refusing(&self, ballot: Ballot) -> Option<Ballot>
-        ensures { result ≡ refusing (accepting_of self.now).promise ballot }
+        ensures value { result ≡ refusing (accepting_of self.now).promise ballot }
+        ensures above { IfSome result (λ promised. rank ballot < rank promised) }
     {
         self.promise.filter(|promised| ballot < *promised)
     }
-
-    /// Whether the vote at its slot is this vote already.
-    fn has_cast(&self, vote: &Vote<Command>) -> bool
-        ensures { IsTrue result ↔ ((accepting_of self.now).vote vote.now.slot ≡ Some vote.now) }
-    {
-        match self.votes.get(&vote.slot) {
-            Some(cast) => cast.ballot == vote.ballot && is_same(&cast.command, &vote.command),
-            None => false,
-        }
-    }
-
-    /// The vote at a slot, as a promise tells it.
-    fn entries(&self, alloc: Global, slot: Slot) -> Result<Entries, AllocError>
-        ensures { IfOk result (λ e. e ≡ option_to_list ((accepting_of self.now).vote slot)) }
-    {
-        let mut entries = Entries::new(alloc);
-        if let Some(cast) = self.votes.get(&slot) {
-            entries.push(Vote {
-                slot,
-                ballot: cast.ballot,
-                command: cast.command.clone()?,
-            })?;
-        }
-        Ok(entries)
-    }
-
-    /// Makes the slot hold what it held before a vote was put there.
-    fn put_back(&mut self, slot: Slot, before: Option<Cast>)
-        requires { IsSome before → IsSome (get nat_cmp self.old.votes slot) }
-        ensures votes { (s : ℕ) → get nat_cmp self.new.votes s
-            ≡ put (get nat_cmp self.old.votes) slot before s }
-        ensures promise { self.new.promise ≡ self.old.promise }
-    {
-        match before {
-            Some(cast) => {
-                // The slot has its place, so nothing is refused.
-                let _ = self.votes.insert(slot, cast);
-            }
-            None => {
-                let _ = self.votes.remove(&slot);
-            }
-        }
-    }
 }
 
-/// Whether two commands are one.
-fn is_same(one: &Command, other: &Command) -> bool
-    ensures { IsTrue result ↔ (one.now ≡ other.now) }
+/// The refusal of a ballot that is below what is promised.
+fn refusal(ballot: Ballot, promised: Ballot) -> Nack
+    requires { rank ballot < rank promised }
+    ensures { result ≡ record { ballot = ballot; promised = promised } }
 {
-    one == other
+    Nack::new(ballot, promised).unwrap()
 }

@@ -8,7 +8,7 @@ ghost use Rattle.synod.specs.declared.ballot.Ballot.{Ballot};
 ghost use Rattle.synod.specs.declared.vote.Vote.{Vote};
 ghost use Rattle.synod.specs.Messages.{Accept};
 ghost use Rattle.synod.specs.Acts.{Fleet, Input, Local, Brings};
-ghost use Rattle.wire.specs.declared.command.Command.{Command};
+ghost use Rattle.sessions.specs.declared.command.Command.{Command};
 ghost use Rattle.stable.specs.Records.{Records};
 ghost use Rattle.acceptor.specs.Accepting.{Accepting, RecordsSay};
 ghost use Rattle.acceptor.specs.Accepting.{prepare_answer, after_prepare, accept_answer, after_accept};

@@ -1,10 +1,11 @@
 //! What an acceptor answers.
 
+use sessions::Command;
 use synod::Vote;
-use wire::{Command, Nack, Promise};
+use wire::frames::{Nack, Promise};
 
 /// An acceptor's answer to a prepare or an accept.
-#[derive(Clone, Debug, Drop)]
+#[derive(Debug, Drop)]
 pub enum Answer {
     /// The ballot is promised.
     Promise(Promise),

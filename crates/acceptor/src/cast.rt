@@ -1,7 +1,7 @@
 //! What is kept of a vote.
 
+use sessions::Command;
 use synod::Ballot;
-use wire::Command;
 
 /// What was voted for at a slot.
 #[derive(Debug, Drop)]

@@ -2,7 +2,7 @@
 
 ghost use Rattle.synod.specs.declared.ballot.Ballot.{Ballot};
 ghost use Rattle.synod.specs.declared.vote.Vote.{Vote};
-ghost use Rattle.wire.specs.declared.command.Command.{Command};
+ghost use Rattle.sessions.specs.declared.command.Command.{Command};
 ghost use Rattle.stable.specs.Records.{Records};
 ghost use Rattle.acceptor.specs.Accepting.{Accepting, Write, RecordsSay, records_after};
 ghost use Rattle.acceptor.specs.Accepting.{prepare_write, after_prepare};

@@ -6,9 +6,8 @@ mod allowed;
 mod answer;
 mod cast;
 mod kept;
-mod reading;
 mod records;
-mod spelling;
+mod votes;
 
 pub use acceptor::Acceptor;
 pub use allowed::{accept_is_allowed, prepare_is_allowed, records_say_one};

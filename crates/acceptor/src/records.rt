@@ -1,15 +1,15 @@
 //! From a storage's records to votes and ballots.
 
 ghost use Rattle.std.specs.Prelude.{◌≡◌, IfSome, IfOk, OnOk, IsErrOf, option_map};
+ghost use Rattle.acceptor.specs.Casts.{vote_at};
 ghost use Rattle.acceptor.specs.Forms.{BallotFits, VoteFits, IsOfItsForm, HasDamagedRecord};
 ghost use Rattle.acceptor.specs.Spelling.{ballot_bytes, vote_bytes};
-ghost use Rattle.acceptor.specs.State.{vote_at};
 
 use super::cast::Cast;
-use super::reading::{ballot_of, cast_of};
 use stable::{Key, Stable, StableFault};
 use std::alloc::Global;
 use synod::{Ballot, Slot};
+use wire::frames::{ballot_of_record, vote_of_record};
 
 /// The ballot in record Promise, or None without the record.
 pub(super) fn promised<S: Stable>(
@@ -33,7 +33,7 @@ pub(super) fn promised<S: Stable>(
     let Some(bytes) = storage.get(alloc, Key::Promise)? else {
         return Ok(None);
     };
-    match ballot_of(&bytes) {
+    match ballot_of_record(&bytes) {
         Some(ballot) => Ok(Some(ballot)),
         None => Err(StableFault::Damaged),
     }
@@ -63,8 +63,11 @@ pub(super) fn voted<S: Stable>(
     let Some(bytes) = storage.get(alloc, Key::Vote(slot))? else {
         return Ok(None);
     };
-    match cast_of(&bytes) {
-        Some(cast) => Ok(Some(cast)),
+    match vote_of_record(alloc, &bytes)? {
+        Some(choice) => {
+            let (ballot, command) = choice;
+            Ok(Some(Cast { ballot, command }))
+        }
         None => Err(StableFault::Damaged),
     }
 }

@@ -1,11 +1,13 @@
 //! Calls with their answers, and records with their bytes.
 
 use super::{Acceptor, Answer};
+use sessions::{Command, Number, Request};
 use stable::{Key, MemStable, Stable, StableFault};
 use std::alloc::Global;
+use std::test::Fail;
+use store::Op;
 use synod::{Ballot, Slot, Vote};
-use tpoint::Id;
-use wire::{Command, Number, Op, Request};
+use tpoint::{Id, Instant, Interp, Point, Seq};
 
 /// A call of one acceptor, with the round and node of its ballot and its slot.
 #[derive(Clone, Copy, Debug)]
@@ -34,32 +36,33 @@ const CALLS: [(Call, Told); 11] = [
     (Call::Prepare(4, 1, 0), ("nack", 4, 2, 0)),
 ];
 
-fn ballot(round: u64, node: u8) -> Option<Ballot> {
-    if round >= 1 && node < 7 {
-        Some(Ballot { round, node })
-    } else {
-        None
-    }
+/// Client 7's first request, which asks for this.
+fn asked(op: Op) -> Option<Command> {
+    let request = Request::new(7, Number::new(1)?, op).ok()?;
+    Some(Command::Request(request))
 }
 
-/// The vote of this ballot for client 7's first request, which removes `bus-7`.
+/// The vote of this ballot for a request that removes `bus-7`.
 fn vote(round: u64, node: u8, slot: u32) -> Option<Vote<Command>> {
-    let op = Op::Remove(Id::new(b"bus-7")?);
     Some(Vote {
         slot: Slot::new(slot)?,
-        ballot: ballot(round, node)?,
-        command: Command::Request(Request::new(7, Number::new(1)?, op)),
+        ballot: Ballot::new(round, node)?,
+        command: asked(Op::Remove(Id::new(b"bus-7")?))?,
     })
 }
 
 fn told(answer: &Answer) -> Told {
     match answer {
         Answer::Promise(promise) => {
-            let votes = promise.entries.as_slice().len();
-            ("promise", promise.ballot.round, promise.ballot.node, votes)
+            let votes = promise.entries().len();
+            let ballot = promise.ballot();
+            ("promise", ballot.round, ballot.node, votes)
         }
         Answer::Accepted(vote) => ("accepted", vote.ballot.round, vote.ballot.node, 1),
-        Answer::Nack(nack) => ("nack", nack.promised.round, nack.promised.node, 0),
+        Answer::Nack(nack) => {
+            let promised = nack.promised();
+            ("nack", promised.round, promised.node, 0)
+        }
     }
 }
 
@@ -72,7 +75,7 @@ fn made(
 ) -> Option<Told> {
     let answer = match call {
         Call::Prepare(round, node, first) => {
-            let ballot = ballot(round, node)?;
+            let ballot = Ballot::new(round, node)?;
             acceptor.on_prepare(alloc, storage, ballot, Slot::new(first)?)
         }
         Call::Accept(round, node, slot) => {
@@ -133,8 +136,72 @@ fn records_have_their_bytes(rt: HostRuntime) {
     assert!(rt; holds(alloc, &mut storage, Key::Vote(slot), voted));
 }
 
+/// The operation that puts `bus-7` at (0, 0), and three seconds later at (10, -5).
+fn put(alloc: Global) -> Result<Op, Fail> {
+    let id = Id::new(b"bus-7").ok_or("id")?;
+    let points = [
+        Point {
+            t: Instant::new(1_577_836_800_000).ok_or("instant")?,
+            x: 0,
+            y: 0,
+        },
+        Point {
+            t: Instant::new(1_577_836_803_000).ok_or("instant")?,
+            x: 10,
+            y: -5,
+        },
+    ];
+    let seq = Seq::new(Interp::Linear, points.to_vec(alloc)?)?;
+    Ok(Op::Put(id, seq))
+}
+
+/// The operation that adds a point to `bus-7`.
+fn append() -> Result<Op, Fail> {
+    let point = Point {
+        t: Instant::new(1_577_836_804_000).ok_or("instant")?,
+        x: -12,
+        y: 6,
+    };
+    let id = Id::new(b"bus-7").ok_or("id")?;
+    let op = Op::append(id, point).ok_or("in range")?;
+    Ok(op)
+}
+
+/// Whether a vote for this is told by a promise, once it is cast and its record is loaded.
+fn is_told_again(alloc: Global, op: Op) -> Result<bool, Fail> {
+    let ballot = Ballot::new(1, 0).ok_or("ballot")?;
+    let command = asked(op).ok_or("request")?;
+    let mut storage = MemStable::new(alloc);
+    let mut acceptor = Acceptor::load(alloc, &mut storage)?;
+    let vote = Vote {
+        slot: Slot::first(),
+        ballot,
+        command: command.try_clone()?,
+    };
+    let _ = acceptor.on_accept(alloc, &mut storage, vote)?;
+    let mut loaded = Acceptor::load(alloc, &mut storage)?;
+    let answer = loaded.on_prepare(alloc, &mut storage, ballot, Slot::first())?;
+    match answer {
+        Answer::Promise(promise) => match promise.entries() {
+            [entry] => Ok(entry.vote().command == command),
+            _ => Ok(false),
+        },
+        _ => Ok(false),
+    }
+}
+
+#[test]
+fn votes_are_told_again(rt: HostRuntime) -> Result<(), Fail> {
+    let alloc = rt.alloc();
+    let put = put(alloc)?;
+    let append = append()?;
+    assert!(rt; is_told_again(alloc, put)?, "a put");
+    assert!(rt; is_told_again(alloc, append)?, "an append");
+    Ok(())
+}
+
 // Whether the record is a vote's, and its bytes, which are those of no record.
-const DAMAGED: [(bool, &[u8]); 9] = [
+const DAMAGED: [(bool, &[u8]); 10] = [
     (false, b"\x00\x00\x00\x00\x00\x00\x00\x01"),
     (false, b"\x00\x00\x00\x00\x00\x00\x00\x00\x00"),
     (false, b"\x00\x00\x00\x00\x00\x00\x00\x01\x07"),
@@ -152,6 +219,10 @@ const DAMAGED: [(bool, &[u8]); 9] = [
     (
         true,
         b"\x00\x00\x00\x00\x00\x00\x00\x01\x00\x01\x07\x00\x00\x00\x00\x00\x00\x00\x01\x03\x00",
+    ),
+    (
+        true,
+        b"\x00\x00\x00\x00\x00\x00\x00\x01\x00\x01\x07\x00\x00\x00\x00\x00\x00\x00\x01\x03\x01a\x00",
     ),
 ];
 
@@ -172,4 +243,36 @@ fn damaged_records_are_refused(rt: HostRuntime) {
         let fault = Acceptor::load(alloc, &mut storage).err();
         assert_eq!(rt; fault, Some(StableFault::Damaged), "at {bytes:?}");
     }
+}
+
+/// The record of a vote whose request puts `bus-7` first at one instant and then at another.
+fn record_of_put(first: u8, second: u8) -> [u8; 77] {
+    let mut bytes = [
+        0, 0, 0, 0, 0, 0, 0, 1, 0, 1, 7, 0, 0, 0, 0, 0, 0, 0, 1, 1, 5, 0x62, 0x75, 0x73, 0x2D,
+        0x37, 3, 0, 2, 0, 0, 0, 0, 0, 0, 0, 0, 0, 0, 0, 0, 0, 0, 0, 0, 0, 0, 0, 0, 0, 0, 0, 0, 0,
+        0, 0, 0, 0, 0, 0, 0, 0, 0, 0, 0, 0, 0, 0, 0, 0, 0, 0, 0, 0, 0, 0, 0,
+    ];
+    bytes[36] = first;
+    bytes[60] = second;
+    bytes
+}
+
+// The two instants of a put, and whether its record is one.
+const INSTANTS: [(u8, u8, bool); 3] = [(1, 2, true), (1, 1, false), (2, 1, false)];
+
+#[test]
+fn instants_ascend_in_records(rt: HostRuntime) -> Result<(), Fail> {
+    for (first, second, ascend) in INSTANTS {
+        let mut storage = MemStable::new(rt.alloc());
+        let bytes = record_of_put(first, second);
+        storage.put(rt.alloc(), Key::Vote(Slot::first()), &bytes)?;
+        let fault = Acceptor::load(rt.alloc(), &mut storage).err();
+        let expected = if ascend {
+            None
+        } else {
+            Some(StableFault::Damaged)
+        };
+        assert_eq!(rt; fault, expected, "at {first} and {second}");
+    }
+    Ok(())
 }

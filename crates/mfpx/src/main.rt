@@ -10,6 +10,8 @@
 #[cfg(test)]
 mod checks;
 mod failure;
+#[cfg(test)]
+mod fleets;
 mod run;
 #[cfg(test)]
 mod runs;

@@ -19,7 +19,7 @@ deliver 0\ndeliver 1\ndeliver 3\ndeliver 4\nfault 1 old\ndeliver 6\nrestart 1\nt
 deliver 9\ndeliver 10\ndeliver 11\ndeliver 12\ndeliver 14\ndeliver 15\ndeliver 18\ndeliver 21\n";
 
 /// The status, and what went to each stream.
-fn answer(rt: &HostRuntime, input: &[u8]) -> Result<(u8, String, String), Fail> {
+pub(crate) fn answer(rt: &HostRuntime, input: &[u8]) -> Result<(u8, String, String), Fail> {
     let mut input = input;
     let mut out = Vec::new(rt.alloc());
     let mut err = Vec::new(rt.alloc());

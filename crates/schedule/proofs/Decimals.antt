@@ -1,5 +1,5 @@
 -- Which words write a number.
-use Rattle.std.proofs.Common.{◌≡◌, ◌≢◌, ℕ, ◌<◌, ◌≤◌, ◌^◌, zero, suc, List, length, get_or, Option, Some, None, Result, Ok, Err, MatchOption, arith, ap, sym, ◌∙◌, refl, ◌↔◌, IsSome, IfSome}
+use Rattle.std.proofs.Common.{◌≡◌, ◌≢◌, ℕ, ◌<◌, ◌≤◌, ◌^◌, zero, suc, List, ◌∷◌, length, get_or, Option, Some, None, Result, Ok, Err, MatchOption, arith, ap, sym, ◌∙◌, refl, ◌↔◌, IsSome, IfSome}
 use Rattle.std.specs.Fmt.{decimal}
 use Rattle.std.specs.Result.{result_ok}
 use Rattle.std.specs.Str.{IsUtf8}
@@ -22,6 +22,14 @@ no_plus value small plus =
     let numeral = decimal_is_IsNumeral value small in
     let digit = digit_at (decimal value) 0 numeral.0.1 numeral.0.0 in
     omega (arith, digit, plus)
+
+-- it begins with no minus sign
+pub no_minus : (value : ℕ) (digits : List ℕ) → value < 2 ^ 64 → 45 ∷ digits ≢ decimal value
+no_minus value digits small same =
+    let numeral = decimal_is_IsNumeral value small in
+    let digit = digit_at (decimal value) 0 numeral.0.1 numeral.0.0 in
+    let first : get_or (decimal value) 0 0 ≡ 45 = ap (λ (ds : List ℕ). get_or ds 0 0) (sym same) in
+    omega (arith, digit, first)
 
 -- the text of a number is plain
 pub writes_plainly : (word : List ℕ) (value : ℕ) → Writes 0 (2 ^ 64) word value → IsPlain word

@@ -1,29 +1,32 @@
 -- Which fault of a line is its lowest.
-use Rattle.std.proofs.Common.{◌≡◌, ◌≢◌, ℕ, ◌≤◌, List, [], ◌∷◌, length, Option, Some, None, cond, codes, refl, sym, ◌∙◌, ap, subst, lit≤}
+use Rattle.std.proofs.Common.{◌≡◌, ◌≢◌, ℕ, ◌≤◌, List, [], ◌∷◌, length, get_or, take, drop, Option, Some, None, cond, codes, refl, sym, ◌∙◌, ap, subst, lit≤, inl, inr, arith}
 use Rattle.std.specs.List.{All}
 use Rattle.std.specs.Str.{bytes_eq}
 use Rattle.schedule.specs.Codes.{code_of, IsLowest}
-use Rattle.schedule.specs.Keywords.{text_of}
-use Rattle.schedule.specs.Rows.{IsFaultAt, IsRowFault}
-use Rattle.schedule.specs.Table.{HasItsWords, HasFault, HasUnknownWord, HasNoKeyword, IsNotPrintable, IsPrintable, Begins, places_after}
+use Rattle.schedule.specs.Keywords.{text_of, operation_text, question_text}
+use Rattle.schedule.specs.Rows.{IsWordsFault}
+use Rattle.schedule.specs.Table.{Place, the_word, a_run_size, a_node, a_client, a_request_number, a_frame_number, a_failing, an_id, a_datetime, a_coordinate, a_period, a_rectangle, a_document, Row, line_of, submit_of, query_of, IsOfForm, HasItsWords, HasItsCount, HasMisfit, HasFault, HasOtherCount, IsNotPrintable, IsPrintable, places, width}
 use Rattle.schedule.specs.Words.{words_of}
 use Rattle.schedule.specs.declared.keyword.Keyword.{Keyword}
-use Rattle.schedule.specs.declared.keyword.Keyword.TheVariants.{Nodes, Submit, Deliver, Drop, Flush, Timeout, Tick, Restart, Fault, Query}
+use Rattle.schedule.specs.declared.keyword.Keyword.TheVariants.{Nodes, Deliver, Drop, Flush, Timeout, Tick, Restart, Fault}
+use Rattle.schedule.specs.declared.keyword.Operation.{Operation}
+use Rattle.schedule.specs.declared.keyword.Operation.TheVariants.{Put, Append, Remove}
+use Rattle.schedule.specs.declared.keyword.Question.{Question}
+use Rattle.schedule.specs.declared.keyword.Question.TheVariants.{At, Cut, Ever, Always, Within, Get, Count}
 use Rattle.schedule.specs.declared.fault.ScheduleFault.{ScheduleFault}
-use Rattle.schedule.specs.declared.fault.ScheduleFault.TheVariants.{NotPrintable, UnknownWord, NodesLine, WordCount, WordForm}
+use Rattle.schedule.specs.declared.fault.ScheduleFault.TheVariants.{NotPrintable, UnknownWord, NodesLine, WordCount, WordForm, Document}
 
+-- ---- no two rows begin with the same words
 -- the keyword that a text is
 abbrev pub read_back : List ℕ → Option Keyword
 read_back w =
-    cond (bytes_eq w (codes "nodes")) (Some Nodes) (cond (bytes_eq w (codes "submit")) (Some Submit)
-    (cond (bytes_eq w (codes "deliver")) (Some Deliver) (cond (bytes_eq w (codes "drop")) (Some Drop)
-    (cond (bytes_eq w (codes "flush")) (Some Flush) (cond (bytes_eq w (codes "timeout")) (Some Timeout)
-    (cond (bytes_eq w (codes "tick")) (Some Tick) (cond (bytes_eq w (codes "restart")) (Some Restart)
-    (cond (bytes_eq w (codes "fault")) (Some Fault) (cond (bytes_eq w (codes "query")) (Some Query) None)))))))))
+    cond (bytes_eq w (codes "nodes")) (Some Nodes) (cond (bytes_eq w (codes "deliver")) (Some Deliver)
+    (cond (bytes_eq w (codes "drop")) (Some Drop) (cond (bytes_eq w (codes "flush")) (Some Flush)
+    (cond (bytes_eq w (codes "timeout")) (Some Timeout) (cond (bytes_eq w (codes "tick")) (Some Tick)
+    (cond (bytes_eq w (codes "restart")) (Some Restart) (cond (bytes_eq w (codes "fault")) (Some Fault) None)))))))
 
 reads_back : (keyword : Keyword) → read_back (text_of keyword) ≡ Some keyword
 reads_back Nodes = refl
-reads_back Submit = refl
 reads_back Deliver = refl
 reads_back Drop = refl
 reads_back Flush = refl
@@ -31,12 +34,123 @@ reads_back Timeout = refl
 reads_back Tick = refl
 reads_back Restart = refl
 reads_back Fault = refl
-reads_back Query = refl
 
--- no two keywords have one text
 pub text_of-injective : (a b : Keyword) → text_of a ≡ text_of b → a ≡ b
 text_of-injective a b same = let e = sym (reads_back a) ∙ ap read_back same ∙ reads_back b in cc
 
+-- the operation that a text is
+abbrev pub operation_back : List ℕ → Option Operation
+operation_back w =
+    cond (bytes_eq w (codes "put")) (Some Put) (cond (bytes_eq w (codes "append")) (Some Append)
+    (cond (bytes_eq w (codes "remove")) (Some Remove) None))
+
+operation_is_back : (operation : Operation) → operation_back (operation_text operation) ≡ Some operation
+operation_is_back Put = refl
+operation_is_back Append = refl
+operation_is_back Remove = refl
+
+pub operation_text-injective : (a b : Operation) → operation_text a ≡ operation_text b → a ≡ b
+operation_text-injective a b same =
+    let e = sym (operation_is_back a) ∙ ap operation_back same ∙ operation_is_back b in cc
+
+-- the question that a text is
+abbrev pub question_back : List ℕ → Option Question
+question_back w =
+    cond (bytes_eq w (codes "at")) (Some At) (cond (bytes_eq w (codes "cut")) (Some Cut)
+    (cond (bytes_eq w (codes "ever")) (Some Ever) (cond (bytes_eq w (codes "always")) (Some Always)
+    (cond (bytes_eq w (codes "within")) (Some Within) (cond (bytes_eq w (codes "get")) (Some Get)
+    (cond (bytes_eq w (codes "count")) (Some Count) None))))))
+
+question_is_back : (question : Question) → question_back (question_text question) ≡ Some question
+question_is_back At = refl
+question_is_back Cut = refl
+question_is_back Ever = refl
+question_is_back Always = refl
+question_is_back Within = refl
+question_is_back Get = refl
+question_is_back Count = refl
+
+pub question_text-injective : (a b : Question) → question_text a ≡ question_text b → a ≡ b
+question_text-injective a b same =
+    let e = sym (question_is_back a) ∙ ap question_back same ∙ question_is_back b in cc
+
+-- no keyword is `submit` or `query`
+pub not_submit : (keyword : Keyword) → codes "submit" ≢ text_of keyword
+not_submit keyword same = let e = ap read_back same ∙ reads_back keyword in cc
+
+pub not_query : (keyword : Keyword) → codes "query" ≢ text_of keyword
+not_query keyword same = let e = ap read_back same ∙ reads_back keyword in cc
+
+pub submit_is_no_query : codes "submit" ≢ codes "query"
+submit_is_no_query same =
+    let e : 115 ≡ 113 = ap (λ (word : List ℕ). get_or word 0 0) same in
+    absurd (omega (arith, e))
+
+-- the first of two lists
+heads : {X : Type 0} (x y : X) (xs ys : List X) → x ∷ xs ≡ y ∷ ys → x ≡ y
+heads x y xs ys e = cc
+
+pub submit_is_no_nodes : (words others : List (List ℕ)) → codes "submit" ∷ words ≢ codes "nodes" ∷ others
+submit_is_no_nodes words others same = not_submit Nodes (heads _ _ _ _ same)
+
+pub query_is_no_nodes : (words others : List (List ℕ)) → codes "query" ∷ words ≢ codes "nodes" ∷ others
+query_is_no_nodes words others same = not_query Nodes (heads _ _ _ _ same)
+
+pub other_is_no_nodes : (keyword : Keyword) (words others : List (List ℕ)) → keyword ≢ Nodes
+    → text_of keyword ∷ words ≢ codes "nodes" ∷ others
+other_is_no_nodes keyword words others other same = other (text_of-injective keyword Nodes (heads _ _ _ _ same))
+
+submit_is_long : (operation : Operation) (words : List (List ℕ)) → HasItsCount (submit_of operation) words → 5 ≤ length words
+submit_is_long Put words h = omega (arith, h)
+submit_is_long Append words h = omega (arith, h)
+submit_is_long Remove words h = omega (arith, h)
+
+query_is_long : (question : Question) (words : List (List ℕ)) → HasItsCount (query_of question) words → 3 ≤ length words
+query_is_long At words h = omega (arith, h)
+query_is_long Cut words h = omega (arith, h)
+query_is_long Ever words h = omega (arith, h)
+query_is_long Always words h = omega (arith, h)
+query_is_long Within words h = omega (arith, h)
+query_is_long Get words h = omega (arith, h)
+query_is_long Count words h = omega (arith, h)
+
+one_operation : (words : List (List ℕ)) (a b : Operation) → 5 ≤ length words → HasItsWords (places (submit_of a)) words
+    → HasItsWords (places (submit_of b)) words → a ≡ b
+one_operation [] a b long p q = absurd (omega (arith, long))
+one_operation (w ∷ []) a b long p q = absurd (omega (arith, long))
+one_operation (w ∷ x ∷ []) a b long p q = absurd (omega (arith, long))
+one_operation (w ∷ x ∷ y ∷ []) a b long p q = absurd (omega (arith, long))
+one_operation (w ∷ x ∷ y ∷ z ∷ []) a b long p q = absurd (omega (arith, long))
+one_operation (w ∷ x ∷ y ∷ z ∷ o ∷ words) a b long p q =
+    operation_text-injective a b (sym p.1.0 ∙ q.1.0)
+
+one_question : (words : List (List ℕ)) (a b : Question) → 3 ≤ length words → HasItsWords (places (query_of a)) words
+    → HasItsWords (places (query_of b)) words → a ≡ b
+one_question [] a b long p q = absurd (omega (arith, long))
+one_question (w ∷ []) a b long p q = absurd (omega (arith, long))
+one_question (w ∷ x ∷ []) a b long p q = absurd (omega (arith, long))
+one_question (w ∷ x ∷ o ∷ words) a b long p q =
+    question_text-injective a b (sym p.1.0 ∙ q.1.0)
+
+-- words with all words of a row begin as no other row
+pub one_row : (words : List (List ℕ)) (a b : Row) → HasItsCount a words → HasItsWords (places a) words
+    → HasItsWords (places b) words → a ≡ b
+one_row [] (line_of k) b count p q = absurd (omega (arith, count))
+one_row [] (submit_of o) b count p q = absurd (omega (arith, submit_is_long o [] count))
+one_row [] (query_of o) b count p q = absurd (omega (arith, query_is_long o [] count))
+one_row (w ∷ words) (line_of k) (line_of l) count p q = ap line_of (text_of-injective k l (sym p.0 ∙ q.0))
+one_row (w ∷ words) (line_of k) (submit_of o) count p q = absurd (not_submit k (sym q.0 ∙ p.0))
+one_row (w ∷ words) (line_of k) (query_of o) count p q = absurd (not_query k (sym q.0 ∙ p.0))
+one_row (w ∷ words) (submit_of o) (line_of k) count p q = absurd (not_submit k (sym p.0 ∙ q.0))
+one_row (w ∷ words) (submit_of o) (submit_of u) count p q =
+    ap submit_of (one_operation (w ∷ words) o u (submit_is_long o (w ∷ words) count) p q)
+one_row (w ∷ words) (submit_of o) (query_of u) count p q = absurd (submit_is_no_query (sym p.0 ∙ q.0))
+one_row (w ∷ words) (query_of o) (line_of k) count p q = absurd (not_query k (sym p.0 ∙ q.0))
+one_row (w ∷ words) (query_of o) (submit_of u) count p q = absurd (submit_is_no_query (sym q.0 ∙ p.0))
+one_row (w ∷ words) (query_of o) (query_of u) count p q =
+    ap query_of (one_question (w ∷ words) o u (query_is_long o (w ∷ words) count) p q)
+
+-- ---- the numbers of faults
 -- a line of bytes that print has no other byte
 pub prints_throughout : (text : List ℕ) → All IsPrintable text → ¬ (IsNotPrintable text)
 prints_throughout text all (k, byte, within, here, wrong) = wrong (subst IsPrintable here (all k byte within))
@@ -48,6 +162,7 @@ from_one UnknownWord = lit≤ tt
 from_one NodesLine = lit≤ tt
 from_one WordCount = lit≤ tt
 from_one WordForm = lit≤ tt
+from_one Document = lit≤ tt
 
 pub lowest_unprintable : (Has : ScheduleFault → Type 0) → Has NotPrintable → IsLowest Has NotPrintable
 lowest_unprintable Has has = record { is_there = has; lowest = λ other h. from_one other }
@@ -59,6 +174,7 @@ from_two Has none UnknownWord h = lit≤ tt
 from_two Has none NodesLine h = lit≤ tt
 from_two Has none WordCount h = lit≤ tt
 from_two Has none WordForm h = lit≤ tt
+from_two Has none Document h = lit≤ tt
 
 pub from_three : (Has : ScheduleFault → Type 0) → ¬ (Has NotPrintable) → ¬ (Has UnknownWord) → (fault : ScheduleFault) → Has fault
     → 3 ≤ code_of fault
@@ -67,6 +183,7 @@ from_three Has first second UnknownWord h = absurd (second h)
 from_three Has first second NodesLine h = lit≤ tt
 from_three Has first second WordCount h = lit≤ tt
 from_three Has first second WordForm h = lit≤ tt
+from_three Has first second Document h = lit≤ tt
 
 from_four : (Has : ScheduleFault → Type 0) → ¬ (Has NotPrintable) → ¬ (Has UnknownWord) → ¬ (Has NodesLine)
     → (fault : ScheduleFault) → Has fault → 4 ≤ code_of fault
@@ -75,6 +192,7 @@ from_four Has first second third UnknownWord h = absurd (second h)
 from_four Has first second third NodesLine h = absurd (third h)
 from_four Has first second third WordCount h = lit≤ tt
 from_four Has first second third WordForm h = lit≤ tt
+from_four Has first second third Document h = lit≤ tt
 
 from_five : (Has : ScheduleFault → Type 0) → ¬ (Has NotPrintable) → ¬ (Has UnknownWord) → ¬ (Has NodesLine) → ¬ (Has WordCount)
     → (fault : ScheduleFault) → Has fault → 5 ≤ code_of fault
@@ -83,111 +201,110 @@ from_five Has first second third fourth UnknownWord h = absurd (second h)
 from_five Has first second third fourth NodesLine h = absurd (third h)
 from_five Has first second third fourth WordCount h = absurd (fourth h)
 from_five Has first second third fourth WordForm h = lit≤ tt
+from_five Has first second third fourth Document h = lit≤ tt
 
--- the first of two lists
-heads : {X : Type 0} (x y : X) (xs ys : List X) → x ∷ xs ≡ y ∷ ys → x ≡ y
-heads x y xs ys e = cc
+pub from_six : (Has : ScheduleFault → Type 0) → ¬ (Has NotPrintable) → ¬ (Has UnknownWord) → ¬ (Has NodesLine) → ¬ (Has WordCount)
+    → ¬ (Has WordForm) → (fault : ScheduleFault) → Has fault → 6 ≤ code_of fault
+from_six Has first second third fourth fifth NotPrintable h = absurd (first h)
+from_six Has first second third fourth fifth UnknownWord h = absurd (second h)
+from_six Has first second third fourth fifth NodesLine h = absurd (third h)
+from_six Has first second third fourth fifth WordCount h = absurd (fourth h)
+from_six Has first second third fourth fifth WordForm h = absurd (fifth h)
+from_six Has first second third fourth fifth Document h = lit≤ tt
 
-tails : {X : Type 0} (x y : X) (xs ys : List X) → x ∷ xs ≡ y ∷ ys → xs ≡ ys
-tails x y xs ys e = cc
+-- ---- the lowest fault of a line is that of its words
+-- where a row has its words and their count, no row has another count
+pub not_count : (words : List (List ℕ)) (row : Row) → HasItsCount row words → HasItsWords (places row) words
+    → ¬ (HasOtherCount words)
+not_count words row count its other =
+    let same : row ≡ other.row = one_row words row other.row count its other.its_words in
+    other.other_count (subst (λ (r : Row). HasItsCount r words) same count)
 
--- one keyword and one rest
-pub begins_once : (words : List (List ℕ)) (a b : Keyword) (xs ys : List (List ℕ)) → Begins a xs words → Begins b ys words
-    → (a ≡ b) × (xs ≡ ys)
-begins_once words a b xs ys p q =
-    let e : text_of a ∷ xs ≡ text_of b ∷ ys = sym p ∙ q in
-    (text_of-injective a b (heads _ _ _ _ e), tails _ _ _ _ e)
+begins_as_nodes : (others : List (List ℕ)) → HasItsWords (places (line_of Nodes)) (codes "nodes" ∷ others)
+begins_as_nodes others = (refl, tt)
 
--- without a keyword the word is unknown
-pub no_keyword_lowest : (n : ℕ) (text : List ℕ) → All IsPrintable text → HasNoKeyword (words_of text)
-    → IsLowest (HasFault n text) UnknownWord
-no_keyword_lowest n text prints none = record {
-  is_there = λ keyword others begins _. none keyword others begins;
+pub words_fault_lowest : (n : ℕ) (text : List ℕ) (fault : ScheduleFault) → All IsPrintable text
+    → IsWordsFault n (words_of text) fault → IsLowest (HasFault n text) fault
+words_fault_lowest n text NotPrintable prints at = absurd at
+words_fault_lowest n text UnknownWord prints at = record {
+  is_there = at;
   lowest = from_two (HasFault n text) (prints_throughout text prints);
 }
-
--- what a line with this keyword and these words has
-pub record Row (n : ℕ) (text : List ℕ) (keyword : Keyword) (words : List (List ℕ)) : Type 0 where
-  pub prints : All IsPrintable text
-  pub begins : Begins keyword words (words_of text)
-
-not_printable : (n : ℕ) (text : List ℕ) (keyword : Keyword) (words : List (List ℕ)) → Row n text keyword words
-    → ¬ (HasFault n text NotPrintable)
-not_printable n text keyword words row = prints_throughout text row.prints
-
-pub not_unknown : (n : ℕ) (text : List ℕ) (keyword : Keyword) (words : List (List ℕ)) → Row n text keyword words
-    → HasItsWords (places_after keyword) words → ¬ (HasFault n text UnknownWord)
-not_unknown n text keyword words row its unknown = unknown keyword words row.begins its
-
-pub not_nodes : (n : ℕ) (text : List ℕ) (keyword : Keyword) (words : List (List ℕ)) → Row n text keyword words → keyword ≢ Nodes
-    → ¬ (HasFault n text NodesLine)
-not_nodes n text keyword words row other (others, begins) = other ((begins_once _ _ _ _ _ row.begins begins).0)
-
-pub not_count : (n : ℕ) (text : List ℕ) (keyword : Keyword) (words : List (List ℕ)) → Row n text keyword words
-    → length words ≡ length (places_after keyword) → ¬ (HasFault n text WordCount)
-not_count n text keyword words row same count =
-    let once = begins_once _ _ _ _ _ row.begins count.begins in
-    count.other_count (sym (ap (λ (ws : List (List ℕ)). length ws) once.1) ∙ same ∙ ap
-    (λ (k : Keyword). length (places_after k)) once.0)
-
--- the first word without its certain words
-unknown_there : (n : ℕ) (text : List ℕ) (keyword : Keyword) (words : List (List ℕ)) → Row n text keyword words
-    → ¬ (HasItsWords (places_after keyword) words) → HasUnknownWord (words_of text)
-unknown_there n text keyword words row not k others begins its =
-    let once = begins_once _ _ _ _ _ begins row.begins in
-    let P : Keyword → List (List ℕ) → Type 0 = λ q ws. HasItsWords (places_after q) ws in
-    let moved : P keyword words =
-    subst (λ (ws : List (List ℕ)). P keyword ws) once.1 (subst (λ (q : Keyword). P q others) once.0 its) in
-    not moved
-
--- what is wrong with a row is the lowest fault of its line
-fault_lowest : (n : ℕ) (text : List ℕ) (keyword : Keyword) (words : List (List ℕ)) → Row n text keyword words → keyword ≢ Nodes
-    → (fault : ScheduleFault) → IsFaultAt n (places_after keyword) words fault → IsLowest (HasFault n text) fault
-fault_lowest n text keyword words row other NotPrintable at = absurd at
-fault_lowest n text keyword words row other NodesLine at = absurd at
-fault_lowest n text keyword words row other UnknownWord at = record {
-  is_there = unknown_there n text keyword words row at;
-  lowest = from_two (HasFault n text) (not_printable n text keyword words row);
+words_fault_lowest n text NodesLine prints at = record {
+  is_there = at;
+  lowest = from_three (HasFault n text) (prints_throughout text prints)
+      (λ unknown. unknown (line_of Nodes) (rw at.1 (begins_as_nodes at.0)));
 }
-fault_lowest n text keyword words row other WordCount at = record {
-  is_there = record { keyword = keyword; others = words; begins = row.begins; other_count = at.1 };
-  lowest = from_four (HasFault n text) (not_printable n text keyword words row) (not_unknown n text keyword words row at.0)
-      (not_nodes n text keyword words row other);
+words_fault_lowest n text WordCount prints at = record {
+  is_there = at.0;
+  lowest = from_four (HasFault n text) (prints_throughout text prints) (λ unknown. unknown at.0.row at.0.its_words)
+      (λ nodes. at.1 nodes.0 nodes.1);
 }
-fault_lowest n text keyword words row other WordForm at = record {
-  is_there = record { keyword = keyword; others = words; begins = row.begins; misfit = at.2 };
-  lowest = from_five (HasFault n text) (not_printable n text keyword words row) (not_unknown n text keyword words row at.0)
-      (not_nodes n text keyword words row other) (not_count n text keyword words row at.1);
+words_fault_lowest n text WordForm prints at = record {
+  is_there = at.0;
+  lowest = from_five (HasFault n text) (prints_throughout text prints) (λ unknown. unknown at.0.row at.0.its_words)
+      (λ nodes. at.1 nodes.0 nodes.1) (not_count (words_of text) at.0.row at.0.its_count at.0.its_words);
 }
+words_fault_lowest n text Document prints at = absurd at
 
-nodes_words : (words : List (List ℕ)) → HasItsWords (places_after Nodes) words
-nodes_words [] = tt
-nodes_words (word ∷ words) = tt
+-- ---- lines with nothing wrong before their document
+-- the words at each place are what it wants
+abbrev pub AllFit : ℕ → List Place → List (List ℕ) → Type 0
+AllFit n [] words = Unit {0}
+AllFit n (place ∷ others) words = IsOfForm n place (take (width place) words) × AllFit n others (drop (width place) words)
 
--- a later line that begins with `nodes`
-nodes_lowest : (n : ℕ) (text : List ℕ) (words : List (List ℕ)) → Row n text Nodes words → IsLowest (HasFault n text) NodesLine
-nodes_lowest n text words row = record {
-  is_there = (words, row.begins);
-  lowest = from_three (HasFault n text) (not_printable n text Nodes words row) (not_unknown n text Nodes words row (nodes_words words));
+-- the words are those of a row
+pub record IsRowOf (n : ℕ) (words : List (List ℕ)) : Type 0 where
+  pub row : Row
+  pub fit : AllFit n (places row) words
+  pub its_count : HasItsCount row words
+  pub no_nodes : (others : List (List ℕ)) → words ≢ codes "nodes" ∷ others
+
+fit_its_words : (n : ℕ) (at : List Place) (words : List (List ℕ)) → AllFit n at words → HasItsWords at words
+fit_its_words n [] words f = tt
+fit_its_words n (the_word wanted ∷ others) [] f = tt
+fit_its_words n (the_word wanted ∷ others) (word ∷ words) f = (f.0, fit_its_words n others words f.1)
+fit_its_words n (a_run_size ∷ others) words f = fit_its_words n others (drop 1 words) f.1
+fit_its_words n (a_node ∷ others) words f = fit_its_words n others (drop 1 words) f.1
+fit_its_words n (a_client ∷ others) words f = fit_its_words n others (drop 1 words) f.1
+fit_its_words n (a_request_number ∷ others) words f = fit_its_words n others (drop 1 words) f.1
+fit_its_words n (a_frame_number ∷ others) words f = fit_its_words n others (drop 1 words) f.1
+fit_its_words n (a_failing ∷ others) words f = fit_its_words n others (drop 1 words) f.1
+fit_its_words n (an_id ∷ others) words f = fit_its_words n others (drop 1 words) f.1
+fit_its_words n (a_datetime ∷ others) words f = fit_its_words n others (drop 1 words) f.1
+fit_its_words n (a_coordinate ∷ others) words f = fit_its_words n others (drop 1 words) f.1
+fit_its_words n (a_period ∷ others) words f = fit_its_words n others (drop 2 words) f.1
+fit_its_words n (a_rectangle ∷ others) words f = fit_its_words n others (drop 4 words) f.1
+fit_its_words n (a_document ∷ others) words f = fit_its_words n others (drop 1 words) f.1
+
+fit_throughout : (n : ℕ) (at : List Place) (words : List (List ℕ)) → AllFit n at words → ¬ (HasMisfit n at words)
+fit_throughout n [] words f m = m
+fit_throughout n (place ∷ others) words f m =
+    elim m [ inl w ↦ w f.0 | inr more ↦ fit_throughout n others (drop (width place) words) f.1 more ]
+
+pub row_words : (n : ℕ) (words : List (List ℕ)) (is : IsRowOf n words) → HasItsWords (places is.row) words
+row_words n words is = fit_its_words n (places is.row) words is.fit
+
+-- nothing is wrong with such words but for a document
+pub row_faultless : (n : ℕ) (text : List ℕ) → All IsPrintable text → IsRowOf n (words_of text) → (fault : ScheduleFault)
+    → fault ≢ Document → ¬ (HasFault n text fault)
+row_faultless n text prints is NotPrintable other h = prints_throughout text prints h
+row_faultless n text prints is UnknownWord other h = h is.row (row_words n (words_of text) is)
+row_faultless n text prints is NodesLine other h = is.no_nodes h.0 h.1
+row_faultless n text prints is WordCount other h =
+    not_count (words_of text) is.row is.its_count (row_words n (words_of text) is) h
+row_faultless n text prints is WordForm other h =
+    let same : h.row ≡ is.row = one_row (words_of text) h.row is.row h.its_count h.its_words (row_words n (words_of text) is) in
+    fit_throughout n (places is.row) (words_of text) is.fit
+    (subst (λ (r : Row). HasMisfit n (places r) (words_of text)) same h.misfit)
+row_faultless n text prints is Document other h = other refl
+
+-- a wrong document is the lowest fault of a line with nothing else wrong
+pub document_lowest : (n : ℕ) (text : List ℕ) → All IsPrintable text → IsRowOf n (words_of text) → HasFault n text Document
+    → IsLowest (HasFault n text) Document
+document_lowest n text prints is wrong = record {
+  is_there = wrong;
+  lowest = from_six (HasFault n text) (row_faultless n text prints is NotPrintable (λ e. cc))
+      (row_faultless n text prints is UnknownWord (λ e. cc)) (row_faultless n text prints is NodesLine (λ e. cc))
+      (row_faultless n text prints is WordCount (λ e. cc)) (row_faultless n text prints is WordForm (λ e. cc));
 }
-
-pub row_fault_lowest : (n : ℕ) (text : List ℕ) (keyword : Keyword) (words : List (List ℕ)) → All IsPrintable text
-    → Begins keyword words (words_of text)
-    → (fault : ScheduleFault) → IsRowFault n keyword words fault → IsLowest (HasFault n text) fault
-row_fault_lowest n text Nodes words p b fault at = rw at (nodes_lowest n text words (record { prints = p; begins = b }))
-row_fault_lowest n text Submit words p b fault at =
-    fault_lowest n text Submit words (record { prints = p; begins = b }) (λ e. cc) fault at
-row_fault_lowest n text Deliver words p b fault at =
-    fault_lowest n text Deliver words (record { prints = p; begins = b }) (λ e. cc) fault at
-row_fault_lowest n text Drop words p b fault at = fault_lowest n text Drop words (record { prints = p; begins = b }) (λ e. cc) fault at
-row_fault_lowest n text Flush words p b fault at =
-    fault_lowest n text Flush words (record { prints = p; begins = b }) (λ e. cc) fault at
-row_fault_lowest n text Timeout words p b fault at =
-    fault_lowest n text Timeout words (record { prints = p; begins = b }) (λ e. cc) fault at
-row_fault_lowest n text Tick words p b fault at = fault_lowest n text Tick words (record { prints = p; begins = b }) (λ e. cc) fault at
-row_fault_lowest n text Restart words p b fault at =
-    fault_lowest n text Restart words (record { prints = p; begins = b }) (λ e. cc) fault at
-row_fault_lowest n text Fault words p b fault at =
-    fault_lowest n text Fault words (record { prints = p; begins = b }) (λ e. cc) fault at
-row_fault_lowest n text Query words p b fault at =
-    fault_lowest n text Query words (record { prints = p; begins = b }) (λ e. cc) fault at

@@ -1,10 +1,14 @@
+pub mod Coordinates
 pub mod Cuts
 pub mod Decimals
 pub mod Faults
 pub mod NoSchedule
-pub mod One
-pub mod OneFault
 pub mod NodeCount
+pub mod One
+pub mod OneAction
+pub mod OneFault
 pub mod Progress
+pub mod RowLemmas
 pub mod Running
 pub mod Spelled
+pub mod SpelledRows

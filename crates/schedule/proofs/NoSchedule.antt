@@ -6,13 +6,13 @@ use Rattle.std.proofs.lemmas.Bool.Decides.{nat_tests}
 use Rattle.schedule.specs.Lines.{NumberedText}
 use Rattle.schedule.specs.Schedules.{Plan, SpellEach, IsScheduleOf, IsFirstFault, no_line, first_line, later_line, IsRefusal, IsNoSchedule}
 use Rattle.schedule.specs.Spelling.{Spells}
-use Rattle.schedule.specs.Table.{HasFirstFault, IsPrintable}
+use Rattle.schedule.specs.Table.{HasFirstFault, IsPrintable, line_of}
 use Rattle.schedule.specs.declared.action.Action.{Action}
 use Rattle.schedule.specs.declared.keyword.Keyword.TheVariants.{Nodes}
 use Rattle.schedule.specs.declared.fault.ParseFault.{ParseFault}
 use Rattle.schedule.specs.declared.fault.ParseFault.TheVariants.{Line, Memory}
 use Rattle.schedule.specs.declared.fault.ScheduleFault.{ScheduleFault}
-use Rattle.schedule.specs.declared.fault.ScheduleFault.TheVariants.{NotPrintable, UnknownWord, NodesLine, WordCount, WordForm}
+use Rattle.schedule.specs.declared.fault.ScheduleFault.TheVariants.{NotPrintable, UnknownWord, NodesLine, WordCount, WordForm, Document}
 use Rattle.schedule.specs.declared.plan.ScheduleLine.{ScheduleLine}
 use Rattle.schedule.proofs.Faults.{prints_throughout}
 use Rattle.schedule.proofs.Spelled.{spelled_faultless}
@@ -34,10 +34,11 @@ nodes_line_prints k d h =
 
 pub right_faultless : (fault : ScheduleFault) → ¬ (HasFirstFault (codes "nodes 3") fault)
 right_faultless NotPrintable h = prints_throughout (codes "nodes 3") nodes_line_prints h
-right_faultless UnknownWord h = h Nodes (codes "3" ∷ []) refl tt
+right_faultless UnknownWord h = h (line_of Nodes) (refl, tt)
 right_faultless NodesLine h = h 3 (record { spelled = refl; three = refl })
 right_faultless WordCount h = h
 right_faultless WordForm h = h
+right_faultless Document h = h
 
 -- a line among spelled ones spells an action
 spelled_at : (n : ℕ) (before after : List NumberedText) (line : NumberedText) (read : List ScheduleLine)

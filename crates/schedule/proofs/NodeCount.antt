@@ -3,16 +3,15 @@ use Rattle.std.proofs.Common.{◌≡◌, ◌≢◌, ℕ, List, [], ◌∷◌, �
 use Rattle.std.proofs.lemmas.List.{length-set}
 use Rattle.stable.specs.Script.{Script}
 use Rattle.stable.specs.declared.stable.Stable.{Ghosts}
-use Rattle.wire.specs.Asked.{Asked}
-use Rattle.wire.specs.declared.message.Envelope.{Envelope}
-use Rattle.wire.specs.declared.command.Op.TheVariants.{Remove}
+use Rattle.sessions.specs.Asked.{Asked}
+use Rattle.store.specs.declared.query.Query.{Query as Question}
+use Rattle.wire.specs.declared.frames.envelope.Envelope.{Envelope}
 use Rattle.world.specs.Flushing.{Delivers, none, more}
 use Rattle.world.specs.Events.{NamesNoNode}
 use Rattle.world.specs.Outputs.{Told}
 use Rattle.world.specs.Worlds.{WorldState, Steps, TakesAt, ReceivesAt, DeliversFrame, recorded, answered, with_submission}
 use Rattle.world.specs.declared.event.Event.{Event}
 use Rattle.world.specs.declared.event.Event.TheVariants.{Submit, Deliver, Drop, Timeout, Tick, Restart, Fault, Query}
-use Rattle.world.specs.declared.event.Query.TheVariants.{Count}
 use Rattle.world.specs.declared.fault.NodeFault.{NodeFault}
 use Rattle.world.specs.declared.input.Input.{Input}
 use Rattle.schedule.specs.Lines.{NumberedText}
@@ -37,9 +36,9 @@ module _ {S : Type 0} where
   recorded_keeps w node (Ok told) = refl
   recorded_keeps w node (Err f) = refl
 
-  answered_keeps : (w : WorldState S) (node : ℕ) (result : Result (ℕ × List ℕ) NodeFault) → size (answered w node result) ≡ size w
-  answered_keeps w node (Ok told) = refl
-  answered_keeps w node (Err f) = refl
+  answered_keeps : (w : WorldState S) (node : ℕ) (query : Question) (result : Result (ℕ × List ℕ) NodeFault) → size (answered w node query result) ≡ size w
+  answered_keeps w node query (Ok told) = refl
+  answered_keeps w node query (Err f) = refl
 
   submission_keeps : (w : WorldState S) (taken : Bool) (node : ℕ) (r : Asked) → size (with_submission w taken node r) ≡ size w
   submission_keeps w true node r = refl
@@ -80,7 +79,7 @@ module _ {S : Type 0} (storages : Ghosts (Script S)) where
   step_keeps old (Tick node) new s = takes_keep old node _ s.0 new s.1
   step_keeps old (Restart node) new s = ap size s.leaves ∙ length-set old.nodes node s.after
   step_keeps old (Fault node failing) new s = ap size s.leaves ∙ length-set old.nodes node _
-  step_keeps old (Query node query) new s = ap size s.leaves ∙ answered_keeps old node s.result
+  step_keeps old (Query node query) new s = ap size s.leaves ∙ answered_keeps old node query s.result
 
   done_keeps : (action : Action) (old new : WorldState S) → IsDone storages action old new → size new ≡ size old
   done_keeps (Step event) old new done = step_keeps old event new done.1
@@ -93,15 +92,15 @@ module _ {S : Type 0} (storages : Ghosts (Script S)) where
 -- no action that words spell names a node from n on
 pub named_below : {S : Type 0} (w : WorldState S) (n : ℕ) (words : List (List ℕ)) (event : Event) → size w ≡ n
     → WordsSpell n words (Step event) → ¬ (NamesNoNode (length w.nodes) event)
-named_below w n words (Submit node client number (Remove id)) same spells lacks =
-    absurd (omega (arith, spells.2.to_node.below))
+named_below w n words (Submit node client number asked) same spells lacks =
+    absurd (omega (arith, spells.1.to_node.below))
 named_below w n words (Deliver frame) same spells lacks = lacks
 named_below w n words (Drop frame) same spells lacks = lacks
 named_below w n words (Timeout node) same spells lacks = absurd (omega (arith, spells.2.2.below))
 named_below w n words (Tick node) same spells lacks = absurd (omega (arith, spells.2.2.below))
 named_below w n words (Restart node) same spells lacks = absurd (omega (arith, spells.2.2.below))
 named_below w n words (Fault node failing) same spells lacks = absurd (omega (arith, spells.2.2.below))
-named_below w n words (Query node Count) same spells lacks = absurd (omega (arith, spells.2.2.below))
+named_below w n words (Query node query) same spells lacks = absurd (omega (arith, spells.1.to_node.below))
 
 -- a line that was read spells what it asks for
 line_spelled : (n : ℕ) (texts : List NumberedText) (before after : List ScheduleLine) (line : ScheduleLine)

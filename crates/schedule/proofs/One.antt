@@ -1,91 +1,13 @@
 -- No bytes spell two schedules.
-use Rattle.std.proofs.Common.{◌≡◌, ℕ, ◌≤◌, ◌^◌, List, [], ◌∷◌, Option, Some, None, cond, codes, refl, sym, ◌∙◌, ap, subst, arith}
-use Rattle.std.specs.Option.{option_and_then}
-use Rattle.std.specs.Str.{bytes_eq}
-use Rattle.std.specs.Str.Parse.{digits_value}
-use Rattle.std.proofs.lemmas.Fmt.{decimal_is_IsNumeral}
-use Rattle.world.specs.declared.event.Event.TheVariants.{Submit, Deliver, Drop, Timeout, Tick, Restart, Fault, Query}
-use Rattle.world.specs.declared.event.Query.TheVariants.{Count}
-use Rattle.wire.specs.declared.command.Op.TheVariants.{Remove}
-use Rattle.stable.specs.declared.scripted.Failing.{Failing}
-use Rattle.stable.specs.declared.scripted.Failing.TheVariants.{Old, New}
+use Rattle.std.proofs.Common.{◌≡◌, ℕ, ◌≤◌, ◌^◌, List, [], ◌∷◌, refl, sym, ◌∙◌, ap, subst, arith}
 use Rattle.schedule.specs.Lines.{NumberedText}
-use Rattle.schedule.specs.Numbers.{Writes}
 use Rattle.schedule.specs.Schedules.{Plan, SpellEach, IsScheduleOf}
-use Rattle.schedule.specs.Spelling.{WordsSpell, failing_text}
 use Rattle.schedule.specs.Words.{words_of}
-use Rattle.schedule.specs.declared.action.Action.{Action}
-use Rattle.schedule.specs.declared.action.Action.TheVariants.{Step, Flush}
-use Rattle.schedule.specs.declared.keyword.Keyword.{Keyword}
-use Rattle.schedule.specs.declared.keyword.Keyword.TheVariants as keyword
 use Rattle.schedule.specs.declared.plan.ScheduleLine.{ScheduleLine}
-use Rattle.schedule.proofs.Faults.{read_back}
 use Rattle.schedule.proofs.NoSchedule.{heads, tails}
+use Rattle.schedule.proofs.OneAction.{one_action}
 
--- the number that a word writes
-abbrev value : List ℕ → ℕ
-value word = digits_value 10 word
-
-value_is : (least limit : ℕ) (word : List ℕ) (n : ℕ) → limit ≤ 2 ^ 64 → Writes least limit word n → value word ≡ n
-value_is least limit word n small w = rw w.text ((decimal_is_IsNumeral n (omega (arith, w.below))).1)
-
-abbrev failing_of : List ℕ → Option Failing
-failing_of word = cond (bytes_eq word (codes "old")) (Some Old) (cond (bytes_eq word (codes "new")) (Some New) None)
-
-failing_is : (failing : Failing) → failing_of (failing_text failing) ≡ Some failing
-failing_is Old = refl
-failing_is New = refl
-
--- the action that words spell, if they spell one
-abbrev row_action : Keyword → List (List ℕ) → Option Action
-row_action keyword.Submit (node ∷ client ∷ number ∷ operation ∷ id ∷ []) =
-    Some (Step (Submit (value node) (value client) (value number) (Remove id)))
-row_action keyword.Deliver (frame ∷ []) = Some (Step (Deliver (value frame)))
-row_action keyword.Drop (frame ∷ []) = Some (Step (Drop (value frame)))
-row_action keyword.Flush [] = Some Flush
-row_action keyword.Timeout (node ∷ []) = Some (Step (Timeout (value node)))
-row_action keyword.Tick (node ∷ []) = Some (Step (Tick (value node)))
-row_action keyword.Restart (node ∷ []) = Some (Step (Restart (value node)))
-row_action keyword.Fault (node ∷ failing ∷ []) = option_and_then (λ f. Some (Step (Fault (value node) f))) (failing_of failing)
-row_action keyword.Query (node ∷ question ∷ []) = Some (Step (Query (value node) Count))
-row_action _ words = None
-
-abbrev action_of : List (List ℕ) → Option Action
-action_of [] = None
-action_of (first ∷ others) = option_and_then (λ k. row_action k others) (read_back first)
-
-spelled_is : (n : ℕ) (words : List (List ℕ)) (action : Action) → n ≤ 2 ^ 64 → WordsSpell n words action → action_of words ≡ Some action
-spelled_is n words (Step (Submit node client number (Remove id))) small (others, e, asks) =
-    rw (
-      e,
-      asks.words_are,
-      value_is 0 n _ node small asks.to_node,
-      value_is 0 256 _ client
-          (omega arith) asks.of_client,
-      value_is 1 (2 ^ 64) _ number (omega arith) asks.under_number,
-    ) refl
-spelled_is n words (Step (Deliver frame)) small (others, e, (word, one, w)) =
-    rw (e, one, value_is 0 (2 ^ 64) _ frame (omega arith) w) refl
-spelled_is n words (Step (Drop frame)) small (others, e, (word, one, w)) =
-    rw (e, one, value_is 0 (2 ^ 64) _ frame (omega arith) w) refl
-spelled_is n words Flush small (others, e, none) = rw (e, none) refl
-spelled_is n words (Step (Timeout node)) small (others, e, (word, one, w)) =
-    rw (e, one, value_is 0 n _ node small w) refl
-spelled_is n words (Step (Tick node)) small (others, e, (word, one, w)) =
-    rw (e, one, value_is 0 n _ node small w) refl
-spelled_is n words (Step (Restart node)) small (others, e, (word, one, w)) =
-    rw (e, one, value_is 0 n _ node small w) refl
-spelled_is n words (Step (Fault node failing)) small (others, e, (word, two, w)) =
-    rw (e, two, failing_is failing, value_is 0 n _ node small w) refl
-spelled_is n words (Step (Query node Count)) small (others, e, (word, two, w)) =
-    rw (e, two, value_is 0 n _ node small w) refl
-
--- a line spells one action
-one_action : (n : ℕ) (words : List (List ℕ)) (a b : Action) → n ≤ 2 ^ 64 → WordsSpell n words a → WordsSpell n words b → a ≡ b
-one_action n words a b small sa sb =
-    let e : Some a ≡ Some b = sym (spelled_is n words a small sa) ∙ spelled_is n words b small sb in cc
-
--- and lines spell one list
+-- lines spell one list
 one_line : (a b : ScheduleLine) → a.number ≡ b.number → a.action ≡ b.action → a ≡ b
 one_line a b number action = λ i. record { number = number i; action = action i }
 

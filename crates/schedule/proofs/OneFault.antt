@@ -6,13 +6,13 @@ use Rattle.schedule.specs.Lines.{NumberedText, lines_of}
 use Rattle.schedule.specs.Schedules.{IsFaultless, IsReached, IsFirstFault, no_line, first_line, later_line}
 use Rattle.schedule.specs.Table.{HasFault, HasFirstFault}
 use Rattle.schedule.specs.declared.fault.ScheduleFault.{ScheduleFault}
-use Rattle.schedule.specs.declared.fault.ScheduleFault.TheVariants.{NotPrintable, UnknownWord, NodesLine, WordCount, WordForm}
+use Rattle.schedule.specs.declared.fault.ScheduleFault.TheVariants.{NotPrintable, UnknownWord, NodesLine, WordCount, WordForm, Document}
 use Rattle.schedule.proofs.NoSchedule.{heads, tails, right_faultless}
 
 -- no two faults have one number
 fault_of : ℕ → ScheduleFault
 fault_of n =
-    cond (nat_eq n 1) NotPrintable (cond (nat_eq n 2) UnknownWord (cond (nat_eq n 3) NodesLine (cond (nat_eq n 4) WordCount WordForm)))
+    cond (nat_eq n 1) NotPrintable (cond (nat_eq n 2) UnknownWord (cond (nat_eq n 3) NodesLine (cond (nat_eq n 4) WordCount (cond (nat_eq n 5) WordForm Document))))
 
 read_back : (fault : ScheduleFault) → fault_of (code_of fault) ≡ fault
 unfolding fault_of
@@ -21,6 +21,7 @@ read_back UnknownWord = refl
 read_back NodesLine = refl
 read_back WordCount = refl
 read_back WordForm = refl
+read_back Document = refl
 
 lowest_once : (Has : ScheduleFault → Type 0) (a b : ScheduleFault) → IsLowest Has a → IsLowest Has b → a ≡ b
 lowest_once Has a b la lb =

@@ -3,7 +3,7 @@ use Rattle.std.proofs.Common.{◌≡◌, ℕ, List, [], ◌∷◌, ◌++◌, app
 use Rattle.std.specs.List.{All}
 use Rattle.std.proofs.lemmas.List.Elements.{All-cons, All-nil}
 use Rattle.schedule.specs.Lines.{NumberedText, lines_of}
-use Rattle.schedule.specs.Reading.{AreRead, Adds, IsLineRefusal, IsLaterRefusal}
+use Rattle.schedule.specs.Reading.{AreRead, IsLineRefusal, IsLaterRefusal}
 use Rattle.schedule.specs.Schedules.{SpellEach, IsFaultless, later_line, IsRefusal}
 use Rattle.schedule.specs.Spelling.{Spells}
 use Rattle.schedule.specs.Table.{IsNodesLine}
@@ -22,12 +22,13 @@ spelled_more n [] (r ∷ rs) line action each spells = absurd each
 spelled_more n (t ∷ ts) [] line action each spells = absurd each
 spelled_more n (t ∷ ts) (r ∷ rs) line action each spells = (each.0, each.1, spelled_more n ts rs line action each.2 spells)
 
-pub read_more : (n : ℕ) (lines left more : List NumberedText) (line : NumberedText) (read now : List ScheduleLine)
-    → AreRead n lines left read → left ≡ line ∷ more → Adds n line read now → AreRead n lines more now
-read_more n lines left more line read now r next adds = record {
+pub read_more : (n : ℕ) (lines left more : List NumberedText) (line : NumberedText) (read now : List ScheduleLine) (action : Action)
+    → AreRead n lines left read → left ≡ line ∷ more → Spells n line.text action
+    → now ≡ read ++ record { number = line.number; action = action } ∷ [] → AreRead n lines more now
+read_more n lines left more line read now action r next spells added = record {
   before = r.before ++ line ∷ [];
   parts = r.parts ∙ ap (λ (xs : List NumberedText). r.before ++ xs) next ∙ sym (append_assoc r.before (line ∷ []) more);
-  spelled = rw adds.added (spelled_more n r.before read line adds.action r.spelled adds.spelled);
+  spelled = rw added (spelled_more n r.before read line action r.spelled spells);
 }
 
 -- what was read has no fault
@@ -50,6 +51,12 @@ stops_there n lines left more line read fault r next refusal = (
   },
   refusal,
 )
+
+pub stops_for_memory : (n : ℕ) (lines left more : List NumberedText) (line : NumberedText) (read : List ScheduleLine)
+    (fault : ParseFault) → AreRead n lines left read → left ≡ line ∷ more → fault ≡ Memory line.number
+    → IsLaterRefusal n lines fault
+stops_for_memory n lines left more line read fault r next same =
+    rw same (stops_there n lines left more line read (Memory line.number) r next refl)
 
 -- a later line's refusal is the file's
 pub refused_later : (bytes : List ℕ) (n : ℕ) (first : NumberedText) (others : List NumberedText) (fault : ParseFault)

@@ -1,170 +1,269 @@
 -- A line that spells an action has no fault.
-use Rattle.std.proofs.Common.{◌≡◌, ◌≢◌, ℕ, List, [], ◌∷◌, length, Result, Ok, Err, MatchResult, codes, refl, sym, ap, subst, suc, inl, inr, arith}
-use Rattle.std.specs.List.{All}
-use Rattle.world.specs.declared.event.Event.TheVariants.{Submit, Deliver, Drop, Timeout, Tick, Restart, Fault, Query}
-use Rattle.world.specs.declared.event.Query.TheVariants.{Count}
-use Rattle.wire.specs.declared.command.Op.TheVariants.{Remove}
+use Rattle.std.proofs.Common.{◌≡◌, ◌≢◌, ◌==◌, ◌⊎◌, ℕ, ◌≤◌, List, [], ◌∷◌, length, Result, Ok, Err, MatchResult, codes, refl, sym, ◌∙◌, ap, subst, inl, inr, arith}
+use Rattle.std.specs.List.{All, join_with_byte}
+use Rattle.std.proofs.lemmas.List.Splits.{join_with_byte-slice_split, length-slice_split}
+use Rattle.mfjson.specs.Document.{IsDocumentOf}
+use Rattle.mfjson.specs.declared.fault.MfFault.{MfFault}
+use Rattle.mfjson.specs.declared.fault.MfFault.TheVariants as mf_fault
+use Rattle.mfjson.specs.declared.feature.Feature.{Feature}
+use Rattle.store.specs.declared.op.Op.{Op}
+use Rattle.store.specs.declared.op.Op.TheVariants as op
+use Rattle.store.specs.declared.query.Query.{Query}
+use Rattle.store.specs.declared.query.Query.TheVariants as query
 use Rattle.stable.specs.declared.scripted.Failing.{Failing}
 use Rattle.stable.specs.declared.scripted.Failing.TheVariants.{Old, New}
-use Rattle.schedule.specs.Codes.{IsLowest}
-use Rattle.schedule.specs.Keywords.{text_of}
-use Rattle.schedule.specs.Rows.{IsRowFault, in_first_line}
-use Rattle.schedule.specs.Spelling.{Spells, WordsSpell, failing_text}
-use Rattle.schedule.specs.Table.{Place, the_word, a_node, a_frame_number, a_failing, IsOfForm, HasItsWords, HasMisfit, HasFault, HasFirstFault, IsPrintable, Begins, places_after}
-use Rattle.schedule.specs.Words.{words_of}
+use Rattle.world.specs.declared.event.Event.TheVariants as event
+use Rattle.schedule.specs.Codes.{code_of, IsLowest}
+use Rattle.schedule.specs.Keywords.{text_of, operation_text}
+use Rattle.schedule.specs.Lines.{NumberedText}
+use Rattle.schedule.specs.Reading.{IsLineRefusal}
+use Rattle.schedule.specs.Rows.{IsWordsFault, in_first_line}
+use Rattle.schedule.specs.Spelling.{Spells, SpellsOp, SpellsQuery, Submits, WordsSpell, failing_text, operation_of, question_of}
+use Rattle.schedule.specs.Table.{a_failing, line_of, submit_of, query_of, IsOfForm, HasItsCount, HasFault, HasFirstFault, HasWrongDocument, IsPrintable, keyword_places, operation_places, question_places}
+use Rattle.schedule.specs.Unread.{Becomes, Gives, IsNotRead, WordsGive}
+use Rattle.schedule.specs.Words.{blank, words_of}
 use Rattle.schedule.specs.declared.action.Action.{Action}
 use Rattle.schedule.specs.declared.action.Action.TheVariants.{Step, Flush}
+use Rattle.schedule.specs.declared.fault.ParseFault.{ParseFault}
+use Rattle.schedule.specs.declared.fault.ParseFault.TheVariants.{Line, Memory}
+use Rattle.schedule.specs.declared.fault.ScheduleFault.{ScheduleFault}
+use Rattle.schedule.specs.declared.fault.ScheduleFault.TheVariants.{NotPrintable, UnknownWord, NodesLine, WordCount, WordForm, Document}
 use Rattle.schedule.specs.declared.keyword.Keyword.{Keyword}
 use Rattle.schedule.specs.declared.keyword.Keyword.TheVariants as keyword
-use Rattle.schedule.specs.declared.fault.ScheduleFault.{ScheduleFault}
-use Rattle.schedule.specs.declared.fault.ScheduleFault.TheVariants.{NotPrintable, UnknownWord, NodesLine, WordCount, WordForm}
-use Rattle.schedule.proofs.Faults.{begins_once, prints_throughout, not_unknown, not_nodes, not_count, row_fault_lowest, from_two, from_three, lowest_unprintable}
+use Rattle.schedule.specs.declared.keyword.Operation.{Operation}
+use Rattle.schedule.specs.declared.keyword.Operation.TheVariants as operation
+use Rattle.schedule.specs.declared.unread.Unread.{Unread}
+use Rattle.schedule.specs.declared.unread.Unread.TheVariants.{Whole, Put}
+use Rattle.schedule.proofs.Faults.{AllFit, IsRowOf, document_lowest, from_two, from_three, lowest_unprintable, not_submit, operation_text-injective, other_is_no_nodes, query_is_no_nodes, row_faultless, submit_is_no_nodes, submit_is_no_query, words_fault_lowest}
+use Rattle.schedule.proofs.RowLemmas.{op_count, put_count, query_count}
 
--- there is a word for each place, and each is what its place wants
-abbrev pub AllFit : ℕ → List Place → List (List ℕ) → Type 0
-AllFit n [] [] = Unit {0}
-AllFit n [] (word ∷ words) = ⊥
-AllFit n (place ∷ places) [] = ⊥
-AllFit n (place ∷ places) (word ∷ words) = IsOfForm n place word × AllFit n places words
+-- ---- the row of a line that spells an action
+document_is_there : (words : List (List ℕ)) (document : List ℕ) → words ≡ words_of document → 1 ≤ length words
+document_is_there words document same = rw same (omega (arith, length-slice_split (λ b. b == blank) document))
 
-fit_its_words : (n : ℕ) (places : List Place) (words : List (List ℕ)) → AllFit n places words → HasItsWords places words
-fit_its_words n [] words f = tt
-fit_its_words n (place ∷ places) [] f = tt
-fit_its_words n (the_word wanted ∷ places) (word ∷ words) f = (f.0, fit_its_words n places words f.1)
-fit_its_words n (place ∷ places) (word ∷ words) f = fit_its_words n places words f.1
+put_fits : (n : ℕ) (words : List (List ℕ)) → 1 ≤ length words → AllFit n (operation_places operation.Put) words
+put_fits n [] some = absurd (omega (arith, some))
+put_fits n (word ∷ words) some = (tt, tt)
 
-fit_count : (n : ℕ) (places : List Place) (words : List (List ℕ)) → AllFit n places words → length words ≡ length places
-fit_count n [] [] f = refl
-fit_count n [] (word ∷ words) f = absurd f
-fit_count n (place ∷ places) [] f = absurd f
-fit_count n (place ∷ places) (word ∷ words) f = ap suc (fit_count n places words f.1)
+-- the words behind `put`, `append` or `remove` fit
+op_fits : (n : ℕ) (asked : Op) (words : List (List ℕ)) → SpellsOp words asked
+    → AllFit n (operation_places (operation_of asked)) words
+op_fits n (op.Put id seq) words (document, same, is) = put_fits n words (document_is_there words document same)
+op_fits n (op.Append addition) words is =
+    rw is.words_are (is.of_id, ((_, is.at), ((_, is.x_is), ((_, is.y_is), tt))))
+op_fits n (op.Remove id) words is = rw is.0 (is.1, tt)
 
-fit_throughout : (n : ℕ) (places : List Place) (words : List (List ℕ)) → AllFit n places words → ¬ (HasMisfit n places words)
-fit_throughout n [] words f m = m
-fit_throughout n (place ∷ places) [] f m = m
-fit_throughout n (place ∷ places) (word ∷ words) f m = elim m [ inl w ↦ w f.0 | inr more ↦ fit_throughout n places words f.1 more ]
+query_fits : (n : ℕ) (asked : Query) (words : List (List ℕ)) → SpellsQuery words asked
+    → AllFit n (question_places (question_of asked)) words
+query_fits n (query.At id t) words (others, same, of_id, (datetime, one, at)) = rw (same, one) (of_id, ((t, at), tt))
+query_fits n (query.Cut id period) words (others, same, of_id, is) =
+    rw (same, is.words_are) (of_id, ((period, is.is_period), tt))
+query_fits n (query.Ever id period rect) words (others, same, of_id, is) =
+    rw (same, is.words_are) (of_id, ((period, is.is_period), ((rect, is.is_rect), tt)))
+query_fits n (query.Always id period rect) words (others, same, of_id, is) =
+    rw (same, is.words_are) (of_id, ((period, is.is_period), ((rect, is.is_rect), tt)))
+query_fits n (query.Within period rect) words is =
+    rw is.words_are ((period, is.is_period), ((rect, is.is_rect), tt))
+query_fits n (query.Get id) words (others, same, of_id, none) = rw same (of_id, tt)
+query_fits n query.Count words none = tt
 
--- the line of the table that the words are
-pub record Listed (n : ℕ) (words : List (List ℕ)) : Type 0 where
-  pub key : Keyword
-  pub others : List (List ℕ)
-  pub begins : Begins key others words
-  pub not_nodes_line : key ≢ keyword.Nodes
-  pub fit : AllFit n (places_after key) others
+-- a submission's words are a row's where those of its operation fit
+submission_row : (n : ℕ) (operation : Operation) (words others : List (List ℕ)) (node client number : ℕ)
+    (s : Submits n operation words others node client number) → AllFit n (operation_places operation) others
+    → HasItsCount (submit_of operation) (codes "submit" ∷ s.node_word ∷ s.client_word ∷ s.number_word ∷ operation_text operation ∷ others)
+    → IsRowOf n words
+submission_row n operation words others node client number s fit its_count = rw s.words_are (record {
+  row = submit_of operation;
+  fit = (refl, ((node, s.to_node), ((client, s.of_client), ((number, s.under_number), (refl, fit)))));
+  its_count = its_count;
+  no_nodes = λ more. submit_is_no_nodes _ more;
+})
 
-a_failing_text : (failing : Failing) → IsOfForm 0 a_failing (failing_text failing)
+-- one word behind a keyword
+one_row_of : (n : ℕ) (key : Keyword) (words others : List (List ℕ)) → key ≢ keyword.Nodes → words ≡ text_of key ∷ others
+    → AllFit n (keyword_places key) others → HasItsCount (line_of key) (text_of key ∷ others) → IsRowOf n words
+one_row_of n key words others other e fit its_count = rw e (record {
+  row = line_of key;
+  fit = (refl, fit);
+  its_count = its_count;
+  no_nodes = λ more. other_is_no_nodes key others more other;
+})
+
+a_failing_text : (failing : Failing) → IsOfForm 0 a_failing (failing_text failing ∷ [])
 a_failing_text Old = inl refl
 a_failing_text New = inr refl
 
-one_fits : (n : ℕ) (place : Place) (others : List (List ℕ)) (word : List ℕ) → others ≡ word ∷ [] → IsOfForm n place word
-    → AllFit n (place ∷ []) others
-one_fits n place others word e f = rw e (f, tt)
+pub row_of : (n : ℕ) (words : List (List ℕ)) (action : Action) → WordsSpell n words action → IsRowOf n words
+row_of n words (Step (event.Submit node client number asked)) (others, s, spells) =
+    submission_row n (operation_of asked) words others node client number s (op_fits n asked others spells)
+    (op_count asked s.node_word s.client_word s.number_word others spells)
+row_of n words (Step (event.Deliver frame)) (others, e, (word, one, w)) =
+    one_row_of n keyword.Deliver words others (λ q. cc) e (rw one ((frame, w), tt)) (rw one refl)
+row_of n words (Step (event.Drop frame)) (others, e, (word, one, w)) =
+    one_row_of n keyword.Drop words others (λ q. cc) e (rw one ((frame, w), tt)) (rw one refl)
+row_of n words Flush (others, e, none) = one_row_of n keyword.Flush words others (λ q. cc) e tt (rw none refl)
+row_of n words (Step (event.Timeout node)) (others, e, (word, one, w)) =
+    one_row_of n keyword.Timeout words others (λ q. cc) e (rw one ((node, w), tt)) (rw one refl)
+row_of n words (Step (event.Tick node)) (others, e, (word, one, w)) =
+    one_row_of n keyword.Tick words others (λ q. cc) e (rw one ((node, w), tt)) (rw one refl)
+row_of n words (Step (event.Restart node)) (others, e, (word, one, w)) =
+    one_row_of n keyword.Restart words others (λ q. cc) e (rw one ((node, w), tt)) (rw one refl)
+row_of n words (Step (event.Fault node failing)) (others, e, (word, two, w)) =
+    one_row_of n keyword.Fault words others (λ q. cc) e (rw two ((node, w), (a_failing_text failing, tt))) (rw two refl)
+row_of n words (Step (event.Query node asked)) (others, asks, spells) = rw asks.words_are (record {
+  row = query_of (question_of asked);
+  fit = (refl, ((node, asks.to_node), (refl, query_fits n asked others spells)));
+  its_count = query_count asked asks.node_word others spells;
+  no_nodes = λ more. query_is_no_nodes _ more;
+})
 
-pub listed : (n : ℕ) (words : List (List ℕ)) (action : Action) → WordsSpell n words action → Listed n words
-listed n words (Step (Submit node client number (Remove id))) (others, e, asks) = record {
-  key = keyword.Submit;
-  others = others;
-  begins = e;
-  not_nodes_line = λ q. cc;
-  fit = rw asks.words_are ((node, asks.to_node), ((client, asks.of_client), ((number, asks.under_number), (refl, (asks.of_id, tt)))));
-}
-listed n words (Step (Deliver frame)) (others, e, (word, one, w)) = record {
-  key = keyword.Deliver;
-  others = others;
-  begins = e;
-  not_nodes_line = λ q. cc;
-  fit = one_fits n a_frame_number others word one (frame, w);
-}
-listed n words (Step (Drop frame)) (others, e, (word, one, w)) = record {
-  key = keyword.Drop;
-  others = others;
-  begins = e;
-  not_nodes_line = λ q. cc;
-  fit = one_fits n a_frame_number others word one (frame, w);
-}
-listed n words Flush (others, e, none) = record {
-  key = keyword.Flush;
-  others = others;
-  begins = e;
-  not_nodes_line = λ q. cc;
-  fit = rw none tt;
-}
-listed n words (Step (Timeout node)) (others, e, (word, one, w)) = record {
-  key = keyword.Timeout;
-  others = others;
-  begins = e;
-  not_nodes_line = λ q. cc;
-  fit = one_fits n a_node others word one (node, w);
-}
-listed n words (Step (Tick node)) (others, e, (word, one, w)) = record {
-  key = keyword.Tick;
-  others = others;
-  begins = e;
-  not_nodes_line = λ q. cc;
-  fit = one_fits n a_node others word one (node, w);
-}
-listed n words (Step (Restart node)) (others, e, (word, one, w)) = record {
-  key = keyword.Restart;
-  others = others;
-  begins = e;
-  not_nodes_line = λ q. cc;
-  fit = one_fits n a_node others word one (node, w);
-}
-listed n words (Step (Fault node failing)) (others, e, (word, two, w)) = record {
-  key = keyword.Fault;
-  others = others;
-  begins = e;
-  not_nodes_line = λ q. cc;
-  fit = rw two ((node, w), (a_failing_text failing, tt));
-}
-listed n words (Step (Query node Count)) (others, e, (word, two, w)) = record {
-  key = keyword.Query;
-  others = others;
-  begins = e;
-  not_nodes_line = λ q. cc;
-  fit = rw two ((node, w), (refl, tt));
-}
+-- the same where a document is unread
+pub row_given : (n : ℕ) (words : List (List ℕ)) (unread : Unread) → WordsGive n words unread → IsRowOf n words
+row_given n words (Whole action) spells = row_of n words action spells
+row_given n words (Put p) s =
+    submission_row n operation.Put words (words_of p.document.now) p.node p.client p.number s
+    (put_fits n (words_of p.document.now) (document_is_there _ p.document.now refl))
+    (put_count s.node_word s.client_word s.number_word p.document.now _ refl)
+
+-- ---- documents
+heads : {X : Type 0} (x y : X) (xs ys : List X) → x ∷ xs ≡ y ∷ ys → x ≡ y
+heads x y xs ys e = cc
+
+-- lists of five and others are the same
+pub fifth : {X : Type 0} (a b c d e a' b' c' d' e' : X) (xs ys : List X)
+    → a ∷ b ∷ c ∷ d ∷ e ∷ xs ≡ a' ∷ b' ∷ c' ∷ d' ∷ e' ∷ ys → xs ≡ ys
+fifth a b c d e a' b' c' d' e' xs ys same = cc
+
+pub fifth_word : {X : Type 0} (a b c d e a' b' c' d' e' : X) (xs ys : List X)
+    → a ∷ b ∷ c ∷ d ∷ e ∷ xs ≡ a' ∷ b' ∷ c' ∷ d' ∷ e' ∷ ys → e ≡ e'
+fifth_word a b c d e a' b' c' d' e' xs ys same = cc
+
+-- one text has these words
+pub same_text : (a b : List ℕ) → words_of a ≡ words_of b → a ≡ b
+same_text a b same =
+    sym (join_with_byte-slice_split blank a) ∙ ap (join_with_byte blank) same ∙ join_with_byte-slice_split blank b
+
+-- the document that words put
+put_text : (words : List (List ℕ)) (a b c d e f : List ℕ) (x y : List ℕ)
+    → words ≡ codes "submit" ∷ a ∷ b ∷ c ∷ codes "put" ∷ words_of x
+    → words ≡ codes "submit" ∷ d ∷ e ∷ f ∷ codes "put" ∷ words_of y → x ≡ y
+put_text words a b c d e f x y p q = same_text x y (fifth _ _ _ _ _ _ _ _ _ _ _ _ (sym p ∙ q))
+
+-- words that put no document have no wrong one
+other_first : (words others more : List (List ℕ)) (word : List ℕ) → word ≢ codes "submit"
+    → words ≡ word ∷ others → words ≡ codes "submit" ∷ more → ⊥
+other_first words others more word other p q = other (heads _ _ _ _ (sym p ∙ q))
+
+no_wrong_document : (n : ℕ) (words : List (List ℕ)) (action : Action) → WordsSpell n words action
+    → ¬ (HasWrongDocument words)
+no_wrong_document n words (Step (event.Submit node client number (op.Put id seq))) (others, s, (document, same, is)) h =
+    let text : h.document ≡ document = put_text words _ _ _ _ _ _ h.document document h.words_are
+    (s.words_are ∙ ap (λ (ws : List (List ℕ)). codes "submit" ∷ s.node_word ∷ s.client_word ∷ s.number_word ∷ codes "put" ∷ ws) same) in
+    h.stands_for_none (record { id = id; seq = seq })
+    (subst (λ (t : List ℕ). IsDocumentOf t (record { id = id; seq = seq })) (sym text) is)
+no_wrong_document n words (Step (event.Submit node client number (op.Append addition))) (others, s, spells) h =
+    let e : operation.Append ≡ operation.Put = operation_text-injective operation.Append operation.Put (fifth_word _ _ _ _ _ _ _ _ _ _ _ _ (sym s.words_are ∙ h.words_are)) in cc
+no_wrong_document n words (Step (event.Submit node client number (op.Remove id))) (others, s, spells) h =
+    let e : operation.Remove ≡ operation.Put = operation_text-injective operation.Remove operation.Put (fifth_word _ _ _ _ _ _ _ _ _ _ _ _ (sym s.words_are ∙ h.words_are)) in cc
+no_wrong_document n words (Step (event.Deliver frame)) (others, e, one) h =
+    other_first words others _ (text_of keyword.Deliver) (λ q. not_submit keyword.Deliver (sym q)) e h.words_are
+no_wrong_document n words (Step (event.Drop frame)) (others, e, one) h =
+    other_first words others _ (text_of keyword.Drop) (λ q. not_submit keyword.Drop (sym q)) e h.words_are
+no_wrong_document n words Flush (others, e, none) h =
+    other_first words others _ (text_of keyword.Flush) (λ q. not_submit keyword.Flush (sym q)) e h.words_are
+no_wrong_document n words (Step (event.Timeout node)) (others, e, one) h =
+    other_first words others _ (text_of keyword.Timeout) (λ q. not_submit keyword.Timeout (sym q)) e h.words_are
+no_wrong_document n words (Step (event.Tick node)) (others, e, one) h =
+    other_first words others _ (text_of keyword.Tick) (λ q. not_submit keyword.Tick (sym q)) e h.words_are
+no_wrong_document n words (Step (event.Restart node)) (others, e, one) h =
+    other_first words others _ (text_of keyword.Restart) (λ q. not_submit keyword.Restart (sym q)) e h.words_are
+no_wrong_document n words (Step (event.Fault node failing)) (others, e, one) h =
+    other_first words others _ (text_of keyword.Fault) (λ q. not_submit keyword.Fault (sym q)) e h.words_are
+no_wrong_document n words (Step (event.Query node asked)) (others, asks, spells) h =
+    other_first words _ _ (codes "query") (λ q. submit_is_no_query (sym q)) asks.words_are h.words_are
 
 -- a line that spells an action has none of the faults
 pub spelled_faultless : (n : ℕ) (text : List ℕ) (action : Action) → Spells n text action → (fault : ScheduleFault)
     → ¬ (HasFault n text fault)
-spelled_faultless n text action s NotPrintable h = prints_throughout text s.prints h
-spelled_faultless n text action s UnknownWord h =
-    let l = listed n (words_of text) action s.words in
-    not_unknown n text l.key l.others (record { prints = s.prints; begins = l.begins }) (fit_its_words n _ _ l.fit) h
-spelled_faultless n text action s NodesLine h =
-    let l = listed n (words_of text) action s.words in
-    not_nodes n text l.key l.others (record { prints = s.prints; begins = l.begins }) l.not_nodes_line h
-spelled_faultless n text action s WordCount h =
-    let l = listed n (words_of text) action s.words in
-    not_count n text l.key l.others (record { prints = s.prints; begins = l.begins }) (fit_count n _ _ l.fit) h
-spelled_faultless n text action s WordForm h =
-    let l = listed n (words_of text) action s.words in
-    let once = begins_once _ _ _ _ _ h.begins l.begins in
-    let P : Keyword → List (List ℕ) → Type 0 = λ q ws. HasMisfit n (places_after q) ws in
-    let moved : P l.key l.others =
-    subst (λ (ws : List (List ℕ)). P l.key ws) once.1 (subst (λ (q : Keyword). P q h.others) once.0 h.misfit) in
-    fit_throughout n _ _ l.fit moved
+spelled_faultless n text action s NotPrintable h = row_faultless n text s.prints (row_of n _ action s.words) NotPrintable (λ e. cc) h
+spelled_faultless n text action s UnknownWord h = row_faultless n text s.prints (row_of n _ action s.words) UnknownWord (λ e. cc) h
+spelled_faultless n text action s NodesLine h = row_faultless n text s.prints (row_of n _ action s.words) NodesLine (λ e. cc) h
+spelled_faultless n text action s WordCount h = row_faultless n text s.prints (row_of n _ action s.words) WordCount (λ e. cc) h
+spelled_faultless n text action s WordForm h = row_faultless n text s.prints (row_of n _ action s.words) WordForm (λ e. cc) h
+spelled_faultless n text action s Document h = no_wrong_document n (words_of text) action s.words h
 
--- what a row is, its line is
-pub line_read : (n : ℕ) (text : List ℕ) (key : Keyword) (words : List (List ℕ)) (read : Result Action ScheduleFault)
-    → All IsPrintable text → Begins key words (words_of text)
-    → MatchResult read (WordsSpell n (text_of key ∷ words)) (IsRowFault n key words)
-    → MatchResult read (Spells n text) (IsLowest (HasFault n text))
-line_read n text key words (Ok action) prints begins spelled =
-    record { prints = prints; words = subst (λ (ws : List (List ℕ)). WordsSpell n ws action) (sym begins) spelled }
-line_read n text key words (Err fault) prints begins wrong = row_fault_lowest n text key words prints begins fault wrong
+-- bytes that are refused, and not for memory, are no document
+pub no_document : (read : Result Feature MfFault) (fault : MfFault) (feature : Feature) → read ≡ Err fault
+    → ¬ (fault ≡ mf_fault.Memory) → (read ≡ Ok feature) ⊎ (read ≡ Err mf_fault.Memory) → ⊥
+no_document read fault feature refused other answered = elim answered [
+  | inl ok ↦ let e = sym refused ∙ ok in cc
+  | inr memory ↦ let e = sym refused ∙ memory in other (let same : fault ≡ mf_fault.Memory = cc in same)
+]
 
+-- ---- what was read
+-- what the words are, their line is
+pub line_read : (n : ℕ) (text : List ℕ) (words : List (List ℕ)) (read : Result Unread ScheduleFault)
+    → All IsPrintable text → words ≡ words_of text
+    → MatchResult read (WordsGive n words) (IsWordsFault n words)
+    → MatchResult read (Gives n text) (IsLowest (HasFault n text))
+line_read n text words (Ok unread) prints same gives =
+    record { prints = prints; words = subst (λ (ws : List (List ℕ)). WordsGive n ws unread) same gives }
+line_read n text words (Err fault) prints same wrong =
+    words_fault_lowest n text fault prints (subst (λ (ws : List (List ℕ)). IsWordsFault n ws fault) same wrong)
+
+-- with its document a line is an action
+pub line_spells : (n : ℕ) (text : List ℕ) (unread : Unread) (action : Action) → Gives n text unread → Becomes unread action
+    → Spells n text action
+line_spells n text (Whole whole) action gives same = rw same (record { prints = gives.prints; words = gives.words })
+line_spells n text (Put p) action gives (feature, is, same) =
+    rw same (record { prints = gives.prints; words = (words_of p.document.now, gives.words, (p.document.now, refl, is)) })
+
+-- or it has a wrong one, or memory was wanting
+pub line_refused : (n : ℕ) (line : NumberedText) (unread : Unread) (fault : ParseFault) → Gives n line.text unread
+    → IsNotRead line.number unread fault → IsLineRefusal n line fault
+line_refused n line (Whole whole) fault gives not = absurd not
+line_refused n line (Put p) (Memory number) gives not = not
+line_refused n line (Put p) (Line at) gives not =
+    let s = gives.words in
+    let wrong : HasWrongDocument (words_of line.text) = record {
+      node = s.node_word;
+      client = s.client_word;
+      number = s.number_word;
+      document = p.document.now;
+      words_are = s.words_are;
+      stands_for_none = not.2;
+    } in
+    let lowest = document_lowest n line.text gives.prints (row_given n (words_of line.text) (Put p) gives.words) wrong in
+    (not.0, subst (IsLowest (HasFault n line.text)) (sym not.1) lowest)
+
+pub line_result : (n : ℕ) (line : NumberedText) (unread : Unread) (read : Result Action ParseFault) → Gives n line.text unread
+    → MatchResult read (Becomes unread) (IsNotRead line.number unread)
+    → MatchResult read (Spells n line.text) (IsLineRefusal n line)
+line_result n line unread (Ok action) gives becomes = line_spells n line.text unread action gives becomes
+line_result n line unread (Err fault) gives not = line_refused n line unread fault gives not
+
+-- ---- first lines
 no_nodes_line : (text : List ℕ) → text ≢ codes "nodes 3" → HasFirstFault text NodesLine
 no_nodes_line text other n line = other line.spelled
 
 -- a first line that would do as a later one
-pub spelled_first : (n : ℕ) (text : List ℕ) (action : Action) → text ≢ codes "nodes 3" → Spells n text action
+pub given_first : (n : ℕ) (text : List ℕ) (unread : Unread) → text ≢ codes "nodes 3" → Gives n text unread
     → IsLowest (HasFirstFault text) NodesLine
-spelled_first n text action other s = record {
+given_first n text unread other gives =
+    let row = row_given n (words_of text) unread gives.words in
+    record {
+      is_there = no_nodes_line text other;
+      lowest = from_three (HasFirstFault text) (row_faultless n text gives.prints row NotPrintable (λ e. cc))
+          (row_faultless n text gives.prints row UnknownWord (λ e. cc));
+    }
+
+-- a first line whose lowest fault as a later one is above the second
+beyond_two : (n : ℕ) (text : List ℕ) (fault : ScheduleFault) → text ≢ codes "nodes 3" → IsLowest (HasFault n text) fault
+    → 3 ≤ code_of fault → IsLowest (HasFirstFault text) NodesLine
+beyond_two n text fault other l above = record {
   is_there = no_nodes_line text other;
-  lowest = from_three (HasFirstFault text) (spelled_faultless n text action s NotPrintable)
-      (spelled_faultless n text action s UnknownWord);
+  lowest = from_three (HasFirstFault text) (λ h. absurd (omega (arith, above, l.lowest NotPrintable h)))
+      (λ h. absurd (omega (arith, above, l.lowest UnknownWord h)));
 }
 
 -- a first line that would not
@@ -175,18 +274,7 @@ faulty_first n text UnknownWord other l = record {
   is_there = l.is_there;
   lowest = from_two (HasFirstFault text) (λ h. absurd (omega (arith, l.lowest NotPrintable h)));
 }
-faulty_first n text NodesLine other l = record {
-  is_there = no_nodes_line text other;
-  lowest = from_three (HasFirstFault text) (λ h. absurd (omega (arith, l.lowest NotPrintable h)))
-      (λ h. absurd (omega (arith, l.lowest UnknownWord h)));
-}
-faulty_first n text WordCount other l = record {
-  is_there = no_nodes_line text other;
-  lowest = from_three (HasFirstFault text) (λ h. absurd (omega (arith, l.lowest NotPrintable h)))
-      (λ h. absurd (omega (arith, l.lowest UnknownWord h)));
-}
-faulty_first n text WordForm other l = record {
-  is_there = no_nodes_line text other;
-  lowest = from_three (HasFirstFault text) (λ h. absurd (omega (arith, l.lowest NotPrintable h)))
-      (λ h. absurd (omega (arith, l.lowest UnknownWord h)));
-}
+faulty_first n text NodesLine other l = beyond_two n text NodesLine other l (omega arith)
+faulty_first n text WordCount other l = beyond_two n text WordCount other l (omega arith)
+faulty_first n text WordForm other l = beyond_two n text WordForm other l (omega arith)
+faulty_first n text Document other l = beyond_two n text Document other l (omega arith)

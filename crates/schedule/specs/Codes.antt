@@ -1,7 +1,7 @@
 -- The numbers of the faults.
 use Rattle.std.specs.Prelude.{ℕ, ◌≤◌}
 use Rattle.schedule.specs.declared.fault.ScheduleFault.{ScheduleFault}
-use Rattle.schedule.specs.declared.fault.ScheduleFault.TheVariants.{NotPrintable, UnknownWord, NodesLine, WordCount, WordForm}
+use Rattle.schedule.specs.declared.fault.ScheduleFault.TheVariants.{NotPrintable, UnknownWord, NodesLine, WordCount, WordForm, Document}
 
 abbrev pub code_of : ScheduleFault → ℕ
 code_of NotPrintable = 1
@@ -9,6 +9,7 @@ code_of UnknownWord = 2
 code_of NodesLine = 3
 code_of WordCount = 4
 code_of WordForm = 5
+code_of Document = 6
 
 -- of the faults that there are, this is the one of the lowest number
 pub record IsLowest (Has : ScheduleFault → Type 0) (fault : ScheduleFault) : Type 0 where

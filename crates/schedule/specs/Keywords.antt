@@ -1,11 +1,15 @@
--- The words that lines begin with.
+-- The words that say what a line is.
 use Rattle.std.specs.Prelude.{ℕ, List, codes}
 use Rattle.schedule.specs.declared.keyword.Keyword.{Keyword}
-use Rattle.schedule.specs.declared.keyword.Keyword.TheVariants.{Nodes, Submit, Deliver, Drop, Flush, Timeout, Tick, Restart, Fault, Query}
+use Rattle.schedule.specs.declared.keyword.Keyword.TheVariants.{Nodes, Deliver, Drop, Flush, Timeout, Tick, Restart, Fault}
+use Rattle.schedule.specs.declared.keyword.Operation.{Operation}
+use Rattle.schedule.specs.declared.keyword.Operation.TheVariants.{Put, Append, Remove}
+use Rattle.schedule.specs.declared.keyword.Question.{Question}
+use Rattle.schedule.specs.declared.keyword.Question.TheVariants.{At, Cut, Ever, Always, Within, Get, Count}
 
+-- the word that a line begins with
 abbrev pub text_of : Keyword → List ℕ
 text_of Nodes = codes "nodes"
-text_of Submit = codes "submit"
 text_of Deliver = codes "deliver"
 text_of Drop = codes "drop"
 text_of Flush = codes "flush"
@@ -13,4 +17,19 @@ text_of Timeout = codes "timeout"
 text_of Tick = codes "tick"
 text_of Restart = codes "restart"
 text_of Fault = codes "fault"
-text_of Query = codes "query"
+
+-- the word after `submit NODE CLIENT NUMBER`
+abbrev pub operation_text : Operation → List ℕ
+operation_text Put = codes "put"
+operation_text Append = codes "append"
+operation_text Remove = codes "remove"
+
+-- the word after `query NODE`
+abbrev pub question_text : Question → List ℕ
+question_text At = codes "at"
+question_text Cut = codes "cut"
+question_text Ever = codes "ever"
+question_text Always = codes "always"
+question_text Within = codes "within"
+question_text Get = codes "get"
+question_text Count = codes "count"

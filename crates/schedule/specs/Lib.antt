@@ -1,6 +1,7 @@
 pub mod Causes
 pub mod Codes
 pub mod Entries
+pub mod Extents
 pub mod Keywords
 pub mod Laws
 pub mod Lines
@@ -13,4 +14,6 @@ pub mod Spelling
 pub mod Submissions
 pub mod Table
 pub mod Transcripts
+pub mod Unread
+pub mod WordLists
 pub mod Words

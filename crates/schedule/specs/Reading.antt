@@ -1,11 +1,9 @@
 -- How far the lines after the first were read.
-use Rattle.std.specs.Prelude.{◌≡◌, ℕ, List, [], ◌∷◌, ◌++◌}
+use Rattle.std.specs.Prelude.{◌≡◌, ℕ, List, ◌++◌}
 use Rattle.schedule.specs.Codes.{IsLowest}
 use Rattle.schedule.specs.Lines.{NumberedText}
 use Rattle.schedule.specs.Schedules.{ComesNext, SpellEach}
-use Rattle.schedule.specs.Spelling.{Spells}
 use Rattle.schedule.specs.Table.{HasFault}
-use Rattle.schedule.specs.declared.action.Action.{Action}
 use Rattle.schedule.specs.declared.fault.ParseFault.{ParseFault}
 use Rattle.schedule.specs.declared.fault.ParseFault.TheVariants.{Line, Memory}
 use Rattle.schedule.specs.declared.plan.ScheduleLine.{ScheduleLine}
@@ -26,9 +24,3 @@ IsLineRefusal n line (Memory number) = number ≡ line.number
 abbrev pub IsLaterRefusal : ℕ → List NumberedText → ParseFault → Type 0
 IsLaterRefusal n lines fault =
     (line : NumberedText) × ComesNext n lines line × IsLineRefusal n line fault
-
--- what was read grew by an action that the line spells
-pub record Adds (n : ℕ) (line : NumberedText) (old new : List ScheduleLine) : Type 0 where
-  pub action : Action
-  pub added : new ≡ old ++ record { number = line.number; action = action } ∷ []
-  pub spelled : Spells n line.text action

@@ -1,24 +1,30 @@
--- What is wrong with the words after a line's first one.
-use Rattle.std.specs.Prelude.{◌≡◌, ◌≢◌, ℕ, List, length}
-use Rattle.schedule.specs.Table.{Place, HasItsWords, HasMisfit, places_after}
-use Rattle.schedule.specs.declared.keyword.Keyword.{Keyword}
-use Rattle.schedule.specs.declared.keyword.Keyword.TheVariants.{Nodes}
+-- What is wrong with the words of a line, as far as they are read with no document in hand.
+use Rattle.std.specs.Prelude.{◌≡◌, ◌≢◌, ℕ, List, ◌∷◌, length, codes}
+use Rattle.schedule.specs.Table.{Place, Row, count, HasItsWords, HasItsCount, HasMisfit, HasUnknownWord, HasOtherCount, HasWrongWord, places}
 use Rattle.schedule.specs.declared.fault.ScheduleFault.{ScheduleFault}
 use Rattle.schedule.specs.declared.fault.ScheduleFault.TheVariants.{NotPrintable, UnknownWord, NodesLine, WordCount, WordForm}
 
--- this is the fault of the lowest number that the words at these places have
+-- this is the fault of the lowest number that the words at these places have, of which none wants
+-- a certain word
 abbrev pub IsFaultAt : ℕ → List Place → List (List ℕ) → ScheduleFault → Type 0
-IsFaultAt n places words NotPrintable = ⊥
-IsFaultAt n places words UnknownWord = ¬ (HasItsWords places words)
-IsFaultAt n places words NodesLine = ⊥
-IsFaultAt n places words WordCount = HasItsWords places words × (length words ≢ length places)
-IsFaultAt n places words WordForm =
-    HasItsWords places words × (length words ≡ length places) × HasMisfit n places words
+IsFaultAt n at words WordCount = length words ≢ count at
+IsFaultAt n at words WordForm = (length words ≡ count at) × HasMisfit n at words
+IsFaultAt n at words _ = ⊥
 
--- this is the lowest fault of a line that begins with the keyword and goes on with the words
-abbrev pub IsRowFault : ℕ → Keyword → List (List ℕ) → ScheduleFault → Type 0
-IsRowFault n Nodes words fault = fault ≡ NodesLine
-IsRowFault n keyword words fault = IsFaultAt n (places_after keyword) words fault
+-- this is the fault of the lowest number that words have which begin as the row's
+abbrev pub IsRowFault : ℕ → Row → List (List ℕ) → ScheduleFault → Type 0
+IsRowFault n row words WordCount = HasItsWords (places row) words × ¬ (HasItsCount row words)
+IsRowFault n row words WordForm =
+    HasItsWords (places row) words × HasItsCount row words × HasMisfit n (places row) words
+IsRowFault n row words _ = ⊥
+
+-- this is the fault of the lowest number that the words have
+abbrev pub IsWordsFault : ℕ → List (List ℕ) → ScheduleFault → Type 0
+IsWordsFault n words UnknownWord = HasUnknownWord words
+IsWordsFault n words NodesLine = (others : List (List ℕ)) × (words ≡ codes "nodes" ∷ others)
+IsWordsFault n words WordCount = HasOtherCount words × ((others : List (List ℕ)) → words ≢ codes "nodes" ∷ others)
+IsWordsFault n words WordForm = HasWrongWord n words × ((others : List (List ℕ)) → words ≢ codes "nodes" ∷ others)
+IsWordsFault n words _ = ⊥
 
 -- what is told of a first line that is no right one, where this is its lowest fault as a later line
 abbrev pub in_first_line : ScheduleFault → ScheduleFault

@@ -1,31 +1,123 @@
 -- Which lines spell which actions.
 use Rattle.std.specs.Prelude.{◌≡◌, ℕ, List, [], ◌∷◌, codes, All}
+use Rattle.mfjson.specs.Datetime.{ReadsAs}
+use Rattle.mfjson.specs.Document.{IsDocumentOf}
+use Rattle.tpoint.specs.Extents.{Span, Area}
 use Rattle.tpoint.specs.Ids.{IsId}
-use Rattle.world.specs.declared.event.Event.TheVariants.{Submit, Deliver, Drop, Timeout, Tick, Restart, Fault, Query}
-use Rattle.world.specs.declared.event.Query.TheVariants.{Count}
-use Rattle.wire.specs.declared.command.Op.TheVariants.{Remove}
+use Rattle.tpoint.specs.declared.point.Point.{Point}
+use Rattle.store.specs.declared.op.Op.{Op}
+use Rattle.store.specs.declared.op.Op.TheVariants as op
+use Rattle.store.specs.declared.query.Query.{Query}
+use Rattle.store.specs.declared.query.Query.TheVariants as query
 use Rattle.stable.specs.declared.scripted.Failing.{Failing}
 use Rattle.stable.specs.declared.scripted.Failing.TheVariants.{Old, New}
+use Rattle.world.specs.declared.event.Event.TheVariants as event
+use Rattle.schedule.specs.Extents.{IsPeriod, IsRect}
+use Rattle.schedule.specs.Keywords.{operation_text, question_text}
+use Rattle.schedule.specs.Numbers.{IsCoordinate}
 use Rattle.schedule.specs.Table.{IsNode, IsClient, IsRequestNumber, IsFrameNumber, IsPrintable}
 use Rattle.schedule.specs.Words.{words_of}
 use Rattle.schedule.specs.declared.action.Action.{Action}
 use Rattle.schedule.specs.declared.action.Action.TheVariants.{Step, Flush}
+use Rattle.schedule.specs.declared.keyword.Operation.{Operation}
+use Rattle.schedule.specs.declared.keyword.Operation.TheVariants as operation
+use Rattle.schedule.specs.declared.keyword.Question.{Question}
+use Rattle.schedule.specs.declared.keyword.Question.TheVariants as question
 
--- there is one word, of which P holds
-abbrev pub IsOneWord : (List ℕ → Type 0) → List (List ℕ) → Type 0
-IsOneWord P words = (word : List ℕ) × (words ≡ word ∷ []) × P word
+-- ---- submissions
+abbrev pub operation_of : Op → Operation
+operation_of (op.Put id seq) = operation.Put
+operation_of (op.Append addition) = operation.Append
+operation_of (op.Remove id) = operation.Remove
 
--- the words after `submit` ask the node for a removal
-pub record AsksRemoval (n : ℕ) (words : List (List ℕ)) (node client number : ℕ) (id : List ℕ)
+-- the words are an id, a datetime and two coordinates
+pub record SpellsAddition (words : List (List ℕ)) (id : List ℕ) (point : Point) : Type 0 where
+  pub datetime : List ℕ
+  pub x : List ℕ
+  pub y : List ℕ
+  pub words_are : words ≡ id ∷ datetime ∷ x ∷ y ∷ []
+  pub of_id : IsId id
+  pub at : ReadsAs datetime point.t
+  pub x_is : IsCoordinate x point.x
+  pub y_is : IsCoordinate y point.y
+
+-- the words after `put`, `append` or `remove` spell what is asked for; a document is all that
+-- follows `put` and one blank
+abbrev pub SpellsOp : List (List ℕ) → Op → Type 0
+SpellsOp words (op.Put id seq) = (document : List ℕ) × (words ≡ words_of document)
+    × IsDocumentOf document (record { id = id; seq = seq })
+SpellsOp words (op.Append addition) = SpellsAddition words addition.id addition.point
+SpellsOp words (op.Remove id) = (words ≡ id ∷ []) × IsId id
+
+-- the words submit a client's request to the node, and others are left for what it asks for
+pub record Submits (n : ℕ) (operation : Operation) (words others : List (List ℕ)) (node client number : ℕ)
     : Type 0 where
   pub node_word : List ℕ
   pub client_word : List ℕ
   pub number_word : List ℕ
-  pub words_are : words ≡ node_word ∷ client_word ∷ number_word ∷ codes "remove" ∷ id ∷ []
+  pub words_are : words ≡ codes "submit" ∷ node_word ∷ client_word ∷ number_word
+      ∷ operation_text operation ∷ others
   pub to_node : IsNode n node_word node
   pub of_client : IsClient client_word client
   pub under_number : IsRequestNumber number_word number
-  pub of_id : IsId id
+
+-- ---- queries
+abbrev pub question_of : Query → Question
+question_of (query.At id t) = question.At
+question_of (query.Cut id period) = question.Cut
+question_of (query.Ever id period rect) = question.Ever
+question_of (query.Always id period rect) = question.Always
+question_of (query.Within period rect) = question.Within
+question_of (query.Get id) = question.Get
+question_of query.Count = question.Count
+
+-- the words are a datetime
+abbrev pub SpellsInstant : List (List ℕ) → ℕ → Type 0
+SpellsInstant words t = (datetime : List ℕ) × (words ≡ datetime ∷ []) × ReadsAs datetime t
+
+-- the words are a period
+pub record SpellsPeriod (words : List (List ℕ)) (period : Span) : Type 0 where
+  pub begin : List ℕ
+  pub end : List ℕ
+  pub words_are : words ≡ begin ∷ end ∷ []
+  pub is_period : IsPeriod begin end period
+
+-- the words are a period and a rectangle
+pub record SpellsVisit (words : List (List ℕ)) (period : Span) (rect : Area) : Type 0 where
+  pub begin : List ℕ
+  pub end : List ℕ
+  pub x0 : List ℕ
+  pub y0 : List ℕ
+  pub x1 : List ℕ
+  pub y1 : List ℕ
+  pub words_are : words ≡ begin ∷ end ∷ x0 ∷ y0 ∷ x1 ∷ y1 ∷ []
+  pub is_period : IsPeriod begin end period
+  pub is_rect : IsRect x0 y0 x1 y1 rect
+
+-- the words are the id, and others of which P holds
+abbrev pub OfFeature : List ℕ → (List (List ℕ) → Type 0) → List (List ℕ) → Type 0
+OfFeature id P words = (others : List (List ℕ)) × (words ≡ id ∷ others) × IsId id × P others
+
+-- the words after the one that says which question it is
+abbrev pub SpellsQuery : List (List ℕ) → Query → Type 0
+SpellsQuery words (query.At id t) = OfFeature id (λ others. SpellsInstant others t) words
+SpellsQuery words (query.Cut id period) = OfFeature id (λ others. SpellsPeriod others period) words
+SpellsQuery words (query.Ever id period rect) = OfFeature id (λ others. SpellsVisit others period rect) words
+SpellsQuery words (query.Always id period rect) = OfFeature id (λ others. SpellsVisit others period rect) words
+SpellsQuery words (query.Within period rect) = SpellsVisit words period rect
+SpellsQuery words (query.Get id) = OfFeature id (λ others. others ≡ []) words
+SpellsQuery words query.Count = words ≡ []
+
+-- the words ask the node, and others are left for what it is asked
+pub record Asks (n : ℕ) (question : Question) (words others : List (List ℕ)) (node : ℕ) : Type 0 where
+  pub node_word : List ℕ
+  pub words_are : words ≡ codes "query" ∷ node_word ∷ question_text question ∷ others
+  pub to_node : IsNode n node_word node
+
+-- ---- lines
+-- there is one word, of which P holds
+abbrev pub IsOneWord : (List ℕ → Type 0) → List (List ℕ) → Type 0
+IsOneWord P words = (word : List ℕ) × (words ≡ word ∷ []) × P word
 
 abbrev pub failing_text : Failing → List ℕ
 failing_text Old = codes "old"
@@ -36,33 +128,30 @@ abbrev pub ArmsNode : ℕ → List (List ℕ) → ℕ → Failing → Type 0
 ArmsNode n words node failing =
     (word : List ℕ) × (words ≡ word ∷ failing_text failing ∷ []) × IsNode n word node
 
--- the words after `query` ask the node for the count
-abbrev pub AsksCount : ℕ → List (List ℕ) → ℕ → Type 0
-AsksCount n words node = (word : List ℕ) × (words ≡ word ∷ codes "count" ∷ []) × IsNode n word node
-
 -- the words are this one, and others of which P holds
 abbrev pub BeginsWith : List ℕ → List (List ℕ) → (List (List ℕ) → Type 0) → Type 0
 BeginsWith first words P = (others : List (List ℕ)) × (words ≡ first ∷ others) × P others
 
 -- the words spell the action, in a run of n nodes
 abbrev pub WordsSpell : ℕ → List (List ℕ) → Action → Type 0
-WordsSpell n words (Step (Submit node client number (Remove id))) =
-    BeginsWith (codes "submit") words (λ others. AsksRemoval n others node client number id)
-WordsSpell n words (Step (Deliver frame)) =
+WordsSpell n words (Step (event.Submit node client number asked)) =
+    (others : List (List ℕ)) × Submits n (operation_of asked) words others node client number
+    × SpellsOp others asked
+WordsSpell n words (Step (event.Deliver frame)) =
     BeginsWith (codes "deliver") words (IsOneWord (λ word. IsFrameNumber word frame))
-WordsSpell n words (Step (Drop frame)) =
+WordsSpell n words (Step (event.Drop frame)) =
     BeginsWith (codes "drop") words (IsOneWord (λ word. IsFrameNumber word frame))
 WordsSpell n words Flush = BeginsWith (codes "flush") words (λ others. others ≡ [])
-WordsSpell n words (Step (Timeout node)) =
+WordsSpell n words (Step (event.Timeout node)) =
     BeginsWith (codes "timeout") words (IsOneWord (λ word. IsNode n word node))
-WordsSpell n words (Step (Tick node)) =
+WordsSpell n words (Step (event.Tick node)) =
     BeginsWith (codes "tick") words (IsOneWord (λ word. IsNode n word node))
-WordsSpell n words (Step (Restart node)) =
+WordsSpell n words (Step (event.Restart node)) =
     BeginsWith (codes "restart") words (IsOneWord (λ word. IsNode n word node))
-WordsSpell n words (Step (Fault node failing)) =
+WordsSpell n words (Step (event.Fault node failing)) =
     BeginsWith (codes "fault") words (λ others. ArmsNode n others node failing)
-WordsSpell n words (Step (Query node Count)) =
-    BeginsWith (codes "query") words (λ others. AsksCount n others node)
+WordsSpell n words (Step (event.Query node asked)) =
+    (others : List (List ℕ)) × Asks n (question_of asked) words others node × SpellsQuery others asked
 
 -- the line spells the action, in a run of n nodes
 pub record Spells (n : ℕ) (text : List ℕ) (action : Action) : Type 0 where

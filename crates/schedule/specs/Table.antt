@@ -1,15 +1,25 @@
 -- The lines of a schedule: which words each has, and what is wrong with other lines.
-use Rattle.std.specs.Prelude.{◌≡◌, ◌≢◌, ℕ, ◌≤◌, ◌^◌, ◌⊎◌, List, [], ◌∷◌, length, codes, Any}
+use Rattle.std.specs.Prelude.{◌≡◌, ℕ, ℤ, ◌+◌, ◌≤◌, ◌^◌, ◌⊎◌, List, [], ◌∷◌, length, take, drop, codes, Any}
+use Rattle.mfjson.specs.Datetime.{ReadsAs}
+use Rattle.mfjson.specs.Document.{IsDocumentOf}
+use Rattle.mfjson.specs.declared.feature.Feature.{Feature}
+use Rattle.tpoint.specs.Extents.{Span, Area}
 use Rattle.tpoint.specs.Ids.{IsId}
-use Rattle.schedule.specs.Keywords.{text_of}
-use Rattle.schedule.specs.Numbers.{Writes}
+use Rattle.schedule.specs.Extents.{IsPeriod, IsRect}
+use Rattle.schedule.specs.Keywords.{text_of, operation_text, question_text}
+use Rattle.schedule.specs.Numbers.{Writes, IsCoordinate}
 use Rattle.schedule.specs.Words.{words_of}
 use Rattle.schedule.specs.declared.keyword.Keyword.{Keyword}
-use Rattle.schedule.specs.declared.keyword.Keyword.TheVariants.{Nodes, Submit, Deliver, Drop, Flush, Timeout, Tick, Restart, Fault, Query}
+use Rattle.schedule.specs.declared.keyword.Keyword.TheVariants.{Nodes, Deliver, Drop, Flush, Timeout, Tick, Restart, Fault}
+use Rattle.schedule.specs.declared.keyword.Operation.{Operation}
+use Rattle.schedule.specs.declared.keyword.Operation.TheVariants.{Put, Append, Remove}
+use Rattle.schedule.specs.declared.keyword.Question.{Question}
+use Rattle.schedule.specs.declared.keyword.Question.TheVariants.{At, Cut, Ever, Always, Within, Get, Count}
 use Rattle.schedule.specs.declared.fault.ScheduleFault.{ScheduleFault}
-use Rattle.schedule.specs.declared.fault.ScheduleFault.TheVariants.{NotPrintable, UnknownWord, NodesLine, WordCount, WordForm}
+use Rattle.schedule.specs.declared.fault.ScheduleFault.TheVariants.{NotPrintable, UnknownWord, NodesLine, WordCount, WordForm, Document}
 
--- what a place of a line wants: a certain word, or a word of a form
+-- ---- the table
+-- what a place of a line wants: a certain word, or words of a form
 pub data Place : Type 0 where
   the_word : List ℕ → Place
   a_run_size : Place
@@ -17,22 +27,75 @@ pub data Place : Type 0 where
   a_client : Place
   a_request_number : Place
   a_frame_number : Place
-  an_id : Place
   a_failing : Place
+  an_id : Place
+  a_datetime : Place
+  a_coordinate : Place
+  -- two words
+  a_period : Place
+  -- four words
+  a_rectangle : Place
+  -- one word and all others that are left; what these have to be is told by the sixth fault alone
+  a_document : Place
 
--- the places after the first word
-abbrev pub places_after : Keyword → List Place
-places_after Nodes = a_run_size ∷ []
-places_after Submit = a_node ∷ a_client ∷ a_request_number ∷ the_word (codes "remove") ∷ an_id ∷ []
-places_after Deliver = a_frame_number ∷ []
-places_after Drop = a_frame_number ∷ []
-places_after Flush = []
-places_after Timeout = a_node ∷ []
-places_after Tick = a_node ∷ []
-places_after Restart = a_node ∷ []
-places_after Fault = a_node ∷ a_failing ∷ []
-places_after Query = a_node ∷ the_word (codes "count") ∷ []
+-- a row of the table: a line that is known by its first word, a submission or a question
+pub data Row : Type 0 where
+  line_of : Keyword → Row
+  submit_of : Operation → Row
+  query_of : Question → Row
 
+-- the places after a keyword
+abbrev pub keyword_places : Keyword → List Place
+keyword_places Nodes = a_run_size ∷ []
+keyword_places Deliver = a_frame_number ∷ []
+keyword_places Drop = a_frame_number ∷ []
+keyword_places Flush = []
+keyword_places Timeout = a_node ∷ []
+keyword_places Tick = a_node ∷ []
+keyword_places Restart = a_node ∷ []
+keyword_places Fault = a_node ∷ a_failing ∷ []
+
+-- the places after `put`, `append` or `remove`
+abbrev pub operation_places : Operation → List Place
+operation_places Put = a_document ∷ []
+operation_places Append = an_id ∷ a_datetime ∷ a_coordinate ∷ a_coordinate ∷ []
+operation_places Remove = an_id ∷ []
+
+-- the places after `at`, `cut` and so on
+abbrev pub question_places : Question → List Place
+question_places At = an_id ∷ a_datetime ∷ []
+question_places Cut = an_id ∷ a_period ∷ []
+question_places Ever = an_id ∷ a_period ∷ a_rectangle ∷ []
+question_places Always = an_id ∷ a_period ∷ a_rectangle ∷ []
+question_places Within = a_period ∷ a_rectangle ∷ []
+question_places Get = an_id ∷ []
+question_places Count = []
+
+-- the places of a row
+abbrev pub places : Row → List Place
+places (line_of keyword) = the_word (text_of keyword) ∷ keyword_places keyword
+places (submit_of operation) = the_word (codes "submit") ∷ a_node ∷ a_client ∷ a_request_number
+    ∷ the_word (operation_text operation) ∷ operation_places operation
+places (query_of question) = the_word (codes "query") ∷ a_node
+    ∷ the_word (question_text question) ∷ question_places question
+
+-- ---- how many words there are to be
+-- how many words a place wants, a document one at least
+abbrev pub width : Place → ℕ
+width a_period = 2
+width a_rectangle = 4
+width _ = 1
+
+abbrev pub count : List Place → ℕ
+count [] = 0
+count (place ∷ others) = width place + count others
+
+-- there are as many words as the row wants; a document has any number more
+abbrev pub HasItsCount : Row → List (List ℕ) → Type 0
+HasItsCount (submit_of Put) words = count (places (submit_of Put)) ≤ length words
+HasItsCount row words = length words ≡ count (places row)
+
+-- ---- which words
 -- n nodes are there; frames have the numbers of a u64
 abbrev pub IsNode : ℕ → List ℕ → ℕ → Type 0
 IsNode n = Writes 0 n
@@ -46,38 +109,37 @@ IsRequestNumber = Writes 1 (2 ^ 64)
 abbrev pub IsFrameNumber : List ℕ → ℕ → Type 0
 IsFrameNumber = Writes 0 (2 ^ 64)
 
--- the word is what the place wants, in a run of n nodes
-abbrev pub IsOfForm : ℕ → Place → List ℕ → Type 0
-IsOfForm n (the_word wanted) word = word ≡ wanted
-IsOfForm n a_run_size word = word ≡ codes "3"
-IsOfForm n a_node word = (node : ℕ) × IsNode n word node
-IsOfForm n a_client word = (client : ℕ) × IsClient word client
-IsOfForm n a_request_number word = (number : ℕ) × IsRequestNumber word number
-IsOfForm n a_frame_number word = (frame : ℕ) × IsFrameNumber word frame
-IsOfForm n an_id word = IsId word
-IsOfForm n a_failing word = (word ≡ codes "old") ⊎ (word ≡ codes "new")
+-- the words are what the place wants, in a run of n nodes
+abbrev pub IsOfForm : ℕ → Place → List (List ℕ) → Type 0
+IsOfForm n (the_word wanted) (word ∷ []) = word ≡ wanted
+IsOfForm n a_run_size (word ∷ []) = word ≡ codes "3"
+IsOfForm n a_node (word ∷ []) = (node : ℕ) × IsNode n word node
+IsOfForm n a_client (word ∷ []) = (client : ℕ) × IsClient word client
+IsOfForm n a_request_number (word ∷ []) = (number : ℕ) × IsRequestNumber word number
+IsOfForm n a_frame_number (word ∷ []) = (frame : ℕ) × IsFrameNumber word frame
+IsOfForm n a_failing (word ∷ []) = (word ≡ codes "old") ⊎ (word ≡ codes "new")
+IsOfForm n an_id (word ∷ []) = IsId word
+IsOfForm n a_datetime (word ∷ []) = (t : ℕ) × ReadsAs word t
+IsOfForm n a_coordinate (word ∷ []) = (value : ℤ) × IsCoordinate word value
+IsOfForm n a_period (begin ∷ end ∷ []) = (period : Span) × IsPeriod begin end period
+IsOfForm n a_rectangle (x0 ∷ y0 ∷ x1 ∷ y1 ∷ []) = (rect : Area) × IsRect x0 y0 x1 y1 rect
+IsOfForm n a_document (word ∷ []) = Unit {0}
+IsOfForm n _ _ = ⊥
 
 -- as far as there are words, those that have to be certain words are
 abbrev pub HasItsWords : List Place → List (List ℕ) → Type 0
 HasItsWords [] words = Unit {0}
-HasItsWords (place ∷ places) [] = Unit {0}
-HasItsWords (the_word wanted ∷ places) (word ∷ words) = (word ≡ wanted) × HasItsWords places words
-HasItsWords (_ ∷ places) (word ∷ words) = HasItsWords places words
+HasItsWords (the_word wanted ∷ others) [] = Unit {0}
+HasItsWords (the_word wanted ∷ others) (word ∷ words) = (word ≡ wanted) × HasItsWords others words
+HasItsWords (place ∷ others) words = HasItsWords others (drop (width place) words)
 
--- some word isn't what its place wants
+-- the words at some place aren't what it wants
 abbrev pub HasMisfit : ℕ → List Place → List (List ℕ) → Type 0
 HasMisfit n [] words = ⊥
-HasMisfit n (place ∷ places) [] = ⊥
-HasMisfit n (place ∷ places) (word ∷ words) = (¬ (IsOfForm n place word)) ⊎ HasMisfit n places words
+HasMisfit n (place ∷ others) words =
+    (¬ (IsOfForm n place (take (width place) words))) ⊎ HasMisfit n others (drop (width place) words)
 
--- no keyword stands first
-abbrev pub HasNoKeyword : List (List ℕ) → Type 0
-HasNoKeyword words = (keyword : Keyword) (others : List (List ℕ)) → words ≢ text_of keyword ∷ others
-
--- the words begin with this keyword, and `others` come after it
-abbrev pub Begins : Keyword → List (List ℕ) → List (List ℕ) → Type 0
-Begins keyword others words = words ≡ text_of keyword ∷ others
-
+-- ---- what is wrong with a line
 abbrev pub IsPrintable : ℕ → Type 0
 IsPrintable byte = (0x20 ≤ byte) × (byte ≤ 0x7E)
 
@@ -85,32 +147,41 @@ IsPrintable byte = (0x20 ≤ byte) × (byte ≤ 0x7E)
 abbrev pub IsNotPrintable : List ℕ → Type 0
 IsNotPrintable text = Any (λ byte. ¬ (IsPrintable byte)) text
 
--- no line begins so: the first word is no keyword, or a word stands where another has to
+-- no row begins so: the first word is none of the table's, or the one that says which submission
+-- or question it is
 abbrev pub HasUnknownWord : List (List ℕ) → Type 0
-HasUnknownWord words = (keyword : Keyword) (others : List (List ℕ)) → Begins keyword others words
-    → ¬ (HasItsWords (places_after keyword) others)
+HasUnknownWord words = (row : Row) → ¬ (HasItsWords (places row) words)
 
--- there are more or fewer words than the line of the first word has
+-- there are more or fewer words than the row has that begins so
 pub record HasOtherCount (words : List (List ℕ)) : Type 0 where
-  pub keyword : Keyword
-  pub others : List (List ℕ)
-  pub begins : Begins keyword others words
-  pub other_count : length others ≢ length (places_after keyword)
+  pub row : Row
+  pub its_words : HasItsWords (places row) words
+  pub other_count : ¬ (HasItsCount row words)
 
--- a word isn't what its place in the line of the first word wants
+-- there are as many words as the row has that begins so, and some aren't what their place wants
 pub record HasWrongWord (n : ℕ) (words : List (List ℕ)) : Type 0 where
-  pub keyword : Keyword
-  pub others : List (List ℕ)
-  pub begins : Begins keyword others words
-  pub misfit : HasMisfit n (places_after keyword) others
+  pub row : Row
+  pub its_words : HasItsWords (places row) words
+  pub its_count : HasItsCount row words
+  pub misfit : HasMisfit n (places row) words
+
+-- the words put a document that stands for no feature
+pub record HasWrongDocument (words : List (List ℕ)) : Type 0 where
+  pub node : List ℕ
+  pub client : List ℕ
+  pub number : List ℕ
+  pub document : List ℕ
+  pub words_are : words ≡ codes "submit" ∷ node ∷ client ∷ number ∷ codes "put" ∷ words_of document
+  pub stands_for_none : (feature : Feature) → ¬ (IsDocumentOf document feature)
 
 -- what is wrong with a line after the first, in a run of n nodes
 abbrev pub HasFault : ℕ → List ℕ → ScheduleFault → Type 0
 HasFault n text NotPrintable = IsNotPrintable text
 HasFault n text UnknownWord = HasUnknownWord (words_of text)
-HasFault n text NodesLine = (others : List (List ℕ)) × Begins Nodes others (words_of text)
+HasFault n text NodesLine = (others : List (List ℕ)) × (words_of text ≡ codes "nodes" ∷ others)
 HasFault n text WordCount = HasOtherCount (words_of text)
 HasFault n text WordForm = HasWrongWord n (words_of text)
+HasFault n text Document = HasWrongDocument (words_of text)
 
 -- the first line of a run of n nodes; three is the one size yet
 pub record IsNodesLine (text : List ℕ) (n : ℕ) : Type 0 where
@@ -124,3 +195,4 @@ HasFirstFault text UnknownWord = HasUnknownWord (words_of text)
 HasFirstFault text NodesLine = (n : ℕ) → ¬ (IsNodesLine text n)
 HasFirstFault text WordCount = ⊥
 HasFirstFault text WordForm = ⊥
+HasFirstFault text Document = ⊥

@@ -1,9 +1,9 @@
 -- What is told of a run: the line of each outcome.
 use Rattle.std.specs.Prelude.{ℕ, List, [], ◌∷◌, ◌++◌, Bool, true, false, codes, decimal, drop}
-use Rattle.wire.specs.declared.command.Command.{Command}
-use Rattle.wire.specs.declared.command.Command.TheVariants.{NoOp, Request}
+use Rattle.sessions.specs.Outcomes.{outcome_code}
+use Rattle.sessions.specs.declared.command.Command.{Command}
+use Rattle.sessions.specs.declared.command.Command.TheVariants.{NoOp, Request}
 use Rattle.world.specs.Faults.{node_code}
-use Rattle.world.specs.Machines.{reply_code}
 use Rattle.world.specs.declared.fault.NodeFault.{NodeFault}
 use Rattle.world.specs.declared.lists.Learnt.{Learnt}
 use Rattle.world.specs.declared.lists.Replied.{Replied}
@@ -27,7 +27,7 @@ learn_line learnt = codes "learn " ++ decimal learnt.node ++ codes " " ++ decima
 abbrev pub reply_line : Replied → List ℕ
 reply_line replied = codes "reply " ++ decimal replied.node ++ codes " "
     ++ request_text replied.client replied.number ++ codes " "
-    ++ decimal (reply_code replied.reply) ++ codes "\n"
+    ++ decimal (outcome_code replied.reply) ++ codes "\n"
 
 abbrev pub answer_line : Answered → List ℕ
 answer_line answered = codes "answer " ++ decimal answered.node ++ codes " "

@@ -8,14 +8,16 @@ ghost use Rattle.schedule.specs.Codes.{code_of};
 pub enum ScheduleFault {
     /// A byte is outside 20 to 7E (hexadecimal).
     NotPrintable,
-    /// No line begins so: the first word, or the one that says what a submit or a query is for.
+    /// No line begins so: the first word, or the one that says what is submitted or asked.
     UnknownWord,
     /// The first line that is not empty isn't `nodes 3`, or a later one begins with `nodes`.
     NodesLine,
     /// There are too few or too many words.
     WordCount,
-    /// A word isn't what its place wants.
+    /// A word isn't what its place wants, or a period or a rectangle is reversed.
     WordForm,
+    /// The document that is to be put stands for no feature.
+    Document,
 }
 
 impl ScheduleFault {
@@ -29,6 +31,7 @@ impl ScheduleFault {
             ScheduleFault::NodesLine => 3,
             ScheduleFault::WordCount => 4,
             ScheduleFault::WordForm => 5,
+            ScheduleFault::Document => 6,
         }
     }
 }

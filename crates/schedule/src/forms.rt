@@ -1,12 +1,24 @@
-//! What single words stand for.
+//! What single words stand for, and words that belong together.
 
-ghost use Rattle.std.specs.Prelude.{◌≡◌, ◌≢◌, ◌^◌, ◌↔◌, ℕ, MatchOption, IsTrue, codes};
-ghost use Rattle.schedule.specs.Numbers.{Writes, IsPlain};
+ghost use Rattle.std.specs.Prelude.{◌≡◌, ◌≢◌, ◌^◌, ◌↔◌, ℕ, ℤ, List, ◌∷◌, MatchOption, IsTrue, codes};
+ghost use Rattle.tpoint.specs.Extents.{Span, Area};
+ghost use Rattle.tpoint.specs.Ids.{IsId};
+ghost use Rattle.mfjson.specs.Datetime.{ReadsAs};
+ghost use Rattle.schedule.specs.Extents.{IsPeriod, IsRect};
+ghost use Rattle.schedule.specs.Numbers.{Writes, IsCoordinate, IsPlain, IsSize};
 ghost use Rattle.schedule.specs.Spelling.{failing_text};
+ghost use Rattle.schedule.specs.declared.forms.TheConstants.{SIZES};
 ghost use Rattle.schedule.specs.Table.{IsNode, IsClient, IsRequestNumber, IsFrameNumber};
 
+use super::words::{PeriodWords, RectWords};
+use mfjson::datetime_read;
+use sessions::Number;
 use stable::Failing;
-use wire::{NodeId, Nodes, Number};
+use tpoint::{FURTHEST, Id, Instant, Period, Rect};
+use wire::{NodeId, Nodes};
+
+/// Coordinates are below this number, and so are their negatives.
+const SIZES: u64 = FURTHEST as u64 + 1;
 
 /// The node that the word names.
 pub(crate) fn node(nodes: Nodes, word: &[u8]) -> Option<NodeId>
@@ -41,6 +53,76 @@ pub(crate) fn failing(word: &[u8]) -> Option<Failing>
         b"new" => Some(Failing::New),
         _ => None,
     }
+}
+
+/// The id that the word is.
+pub(crate) fn id(word: &[u8]) -> Option<Id>
+    ensures { MatchOption result (¬ IsId word.now) (λ id. (id ≡ word.now) × IsId word.now) }
+{
+    Id::new(word)
+}
+
+/// The instant that the word is the datetime of.
+pub(crate) fn instant(word: &[u8]) -> Option<Instant>
+    ensures { MatchOption result ((t : ℕ) → ¬ ReadsAs word.now t) (ReadsAs word.now) }
+{
+    datetime_read(word)
+}
+
+/// The period from one datetime to another.
+pub(crate) fn period(words: PeriodWords) -> Option<Period>
+    ensures { MatchOption result
+        ((period : Span) → ¬ IsPeriod words.entry.begin.now words.entry.end.now period)
+        (IsPeriod words.entry.begin.now words.entry.end.now) }
+{
+    Period::new(instant(words.begin)?, instant(words.end)?)
+}
+
+/// The rectangle between the bounds.
+pub(crate) fn rect(words: RectWords) -> Option<Rect>
+    ensures { MatchOption result
+        ((rect : Area) → ¬ IsRect words.entry.x0.now words.entry.y0.now words.entry.x1.now words.entry.y1.now rect)
+        (IsRect words.entry.x0.now words.entry.y0.now words.entry.x1.now words.entry.y1.now) }
+{
+    let x0 = coordinate(words.x0)?;
+    let y0 = coordinate(words.y0)?;
+    let x1 = coordinate(words.x1)?;
+    let y1 = coordinate(words.y1)?;
+    Rect::new(x0, y0, x1, y1)
+}
+
+/// The coordinate in range that the word writes, if it writes one.
+pub(crate) fn coordinate(word: &[u8]) -> Option<i64>
+    ensures { MatchOption result ((value : ℤ) → ¬ IsCoordinate word.now value)
+        (IsCoordinate word.now) }
+{
+    match after_minus(word) {
+        Some(digits) => {
+            let size = size_of_coordinate(digits)?;
+            // A minus sign stands before no zero.
+            if size == 0 { None } else { Some(-size) }
+        }
+        None => size_of_coordinate(word),
+    }
+}
+
+/// What follows the minus sign with which the word begins.
+fn after_minus(word: &[u8]) -> Option<&[u8]>
+    ensures { MatchOption result ((digits : List ℕ) → word.now ≢ 45 ∷ digits)
+        (λ digits. word.now ≡ 45 ∷ digits.now) }
+{
+    match word {
+        [b'-', digits @ ..] => Some(digits),
+        _ => None,
+    }
+}
+
+/// The number up to `FURTHEST` that the word writes, if it writes one.
+fn size_of_coordinate(word: &[u8]) -> Option<i64>
+    ensures { MatchOption result ((size : ℕ) → ¬ Writes 0 SIZES word.now size)
+        (IsSize SIZES word.now) }
+{
+    Some(below(SIZES, word)? as i64)
 }
 
 /// The number below the limit that the word writes, if it writes one.

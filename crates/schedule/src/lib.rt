@@ -15,13 +15,16 @@ mod lines;
 mod parse;
 mod plan;
 mod print;
+mod queries;
 mod reading;
 mod replay_fault;
 mod report;
 mod rows;
 mod run;
+mod submits;
 #[cfg(test)]
 mod tests;
+mod unread;
 mod words;
 
 pub use action::Action;

@@ -2,17 +2,20 @@
 
 ghost use Rattle.std.specs.Prelude.{◌≡◌, [], ◌∷◌, ◌++◌, filter, IfOk, IfErr, MatchResult};
 ghost use Rattle.schedule.specs.Lines.{is_filled};
-ghost use Rattle.schedule.specs.Reading.{Adds, IsLaterRefusal, IsLineRefusal};
+ghost use Rattle.schedule.specs.Reading.{IsLaterRefusal, IsLineRefusal};
 ghost use Rattle.schedule.specs.Entries.{entry_of};
 ghost use Rattle.schedule.specs.Schedules.{IsScheduleOf, IsRefusal, IsNoSchedule, SpellEach};
+ghost use Rattle.schedule.specs.Spelling.{Spells};
 
 use super::action::Action;
 use super::fault::{LineFault, ParseFault, ScheduleFault};
 use super::lines::{Line, Lines};
 use super::plan::{Schedule, ScheduleLine};
-use super::reading::{action_line, nodes_line};
+use super::reading::{later_line, nodes_line};
+use super::unread::with_document;
 use std::alloc::Global;
-use wire::{Nodes, Op};
+use store::Op;
+use wire::Nodes;
 use world::Event;
 
 /// The schedule that the bytes spell; else the first faulty line and the lowest of its faults.
@@ -54,22 +57,27 @@ fn later_lines(
 {
     let mut read = Vec::new(alloc);
     while let Some(line) = lines.next() {
-        read_line(nodes, line, &mut read)?;
+        let action = action_of(alloc, nodes, line)?;
+        keep(
+            &mut read,
+            ScheduleLine {
+                number: line.number,
+                action,
+            },
+        )?;
     }
     Ok(read)
 }
 
-/// Adds what the line spells.
-fn read_line(nodes: Nodes, line: Line, read: &mut Vec<ScheduleLine>) -> Result<(), ParseFault>
-    ensures { MatchResult result
-        (λ _. Adds nodes (entry_of line.entry) read.old.items read.new.items)
+/// The action that the line spells.
+fn action_of(alloc: Global, nodes: Nodes, line: Line) -> Result<Action, ParseFault>
+    ensures { MatchResult result (Spells nodes line.entry.text.now)
         (IsLineRefusal nodes (entry_of line.entry)) }
 {
-    let number = line.number;
-    match action_line(nodes, line.text) {
-        Ok(action) => keep(read, ScheduleLine { number, action }),
+    match later_line(nodes, line.text) {
+        Ok(unread) => with_document(alloc, line.number, unread),
         Err(fault) => Err(ParseFault::Line(LineFault {
-            line: number,
+            line: line.number,
             fault,
         })),
     }

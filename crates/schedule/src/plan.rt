@@ -7,7 +7,7 @@ use std::marker::Model;
 use wire::Nodes;
 
 /// One line of a schedule after its first.
-#[derive(Clone, Debug, Drop, PartialEq, Eq)]
+#[derive(Debug, Drop)]
 pub struct ScheduleLine {
     /// Which line of the file it is, counted from 1.
     pub number: u64,

@@ -3,8 +3,9 @@
 ghost use Rattle.std.specs.Prelude.{◌≡◌, ◌++◌, OnOk};
 ghost use Rattle.schedule.specs.Transcripts.{answer_line, learn_line, refuse_line, reply_line, stop_line};
 
+use sessions::Command;
 use std::io::{self, Write};
-use wire::{Command, NodeId};
+use wire::NodeId;
 use world::{Answered, Learnt, NodeFault, Replied};
 
 /// Adds the line of what a node learnt: `learn 0 0 7:1`, or `learn 0 0 noop`.

@@ -1,16 +1,20 @@
-//! What one line spells.
+//! What one line spells, but for its document.
 
-ghost use Rattle.std.specs.Prelude.{◌≡◌, ◌∷◌, All, MatchBool, MatchOption, MatchResult};
+ghost use Rattle.std.specs.Prelude.{◌≡◌, ◌∷◌, All, MatchBool, MatchResult};
 ghost use Rattle.schedule.specs.Codes.{IsLowest};
 ghost use Rattle.schedule.specs.Keywords.{text_of};
-ghost use Rattle.schedule.specs.Rows.{IsRowFault, in_first_line};
-ghost use Rattle.schedule.specs.Spelling.{Spells, WordsSpell};
-ghost use Rattle.schedule.specs.Table.{HasFault, HasFirstFault, HasNoKeyword, IsNodesLine, IsPrintable, IsNotPrintable};
+ghost use Rattle.schedule.specs.Rows.{IsWordsFault, in_first_line};
+ghost use Rattle.schedule.specs.Spelling.{WordsSpell};
+ghost use Rattle.schedule.specs.Table.{HasFault, HasFirstFault, IsNodesLine, IsPrintable, IsNotPrintable};
+ghost use Rattle.schedule.specs.Unread.{Gives, WordsGive};
 
 use super::action::Action;
 use super::fault::ScheduleFault;
 use super::keyword::{Keyword, keyword_of};
-use super::rows::{fault_row, frame_row, node_row, query_row, submit_row};
+use super::queries::query_row;
+use super::rows::{fault_row, frame_row, node_row};
+use super::submits::submit_row;
+use super::unread::Unread;
 use super::words::Words;
 use wire::Nodes;
 use world::Event;
@@ -23,10 +27,10 @@ pub(crate) fn nodes_line(text: &[u8]) -> Result<Nodes, ScheduleFault>
     if text == b"nodes 3".as_slice() {
         return Ok(three);
     }
-    match action_line(three, text) {
-        Ok(_) => Err(ScheduleFault::NodesLine),
-        Err(fault) => Err(in_first_line(fault)),
-    }
+    let Err(fault) = later_line(three, text) else {
+        return Err(ScheduleFault::NodesLine);
+    };
+    Err(in_first_line(fault))
 }
 
 /// What is told of a first line that is no right one, where this would be its fault as a later line.
@@ -50,18 +54,14 @@ fn three_nodes() -> Nodes
     }
 }
 
-/// The action that a later line spells.
-pub(crate) fn action_line(nodes: Nodes, text: &[u8]) -> Result<Action, ScheduleFault>
-    ensures { MatchResult result (Spells nodes text.now) (IsLowest (HasFault nodes text.now)) }
+/// What a later line spells, its document unread.
+pub(crate) fn later_line<'a>(nodes: Nodes, text: &'a [u8]) -> Result<Unread<'a>, ScheduleFault>
+    ensures { MatchResult result (Gives nodes text.now) (IsLowest (HasFault nodes text.now)) }
 {
     if !prints(text) {
         return Err(ScheduleFault::NotPrintable);
     }
-    let mut words = Words::of(text);
-    match first_keyword(&mut words) {
-        Some(keyword) => row(nodes, keyword, words),
-        None => Err(ScheduleFault::UnknownWord),
-    }
+    any_row(nodes, Words::of(text))
 }
 
 /// Whether all bytes of the line print.
@@ -71,22 +71,28 @@ fn prints(text: &[u8]) -> bool
     text.iter().all(|byte| 0x20 <= *byte && *byte <= 0x7E)
 }
 
-/// Takes the first word, which is a keyword.
-fn first_keyword(words: &mut Words) -> Option<Keyword>
-    ensures { MatchOption result (HasNoKeyword words.old)
-        (λ keyword. words.old ≡ text_of keyword ∷ words.new) }
+/// What the words of a line spell.
+fn any_row<'a>(nodes: Nodes, mut words: Words<'a>) -> Result<Unread<'a>, ScheduleFault>
+    ensures { MatchResult result (WordsGive nodes words.entry) (IsWordsFault nodes words.entry) }
 {
-    keyword_of(words.next()?)
+    let first = words.needed()?;
+    if first == b"submit".as_slice() {
+        return submit_row(nodes, words);
+    }
+    if first == b"query".as_slice() {
+        return Ok(Unread::Whole(Action::Step(query_row(nodes, words)?)));
+    }
+    let keyword = keyword_of(first).ok_or(ScheduleFault::UnknownWord)?;
+    Ok(Unread::Whole(row(nodes, keyword, words)?))
 }
 
 /// What a line is that begins with the keyword and goes on with the words.
 fn row(nodes: Nodes, keyword: Keyword, words: Words) -> Result<Action, ScheduleFault>
     ensures { MatchResult result (WordsSpell nodes (text_of keyword ∷ words.entry))
-        (IsRowFault nodes keyword words.entry) }
+        (IsWordsFault nodes (text_of keyword ∷ words.entry)) }
 {
     match keyword {
         Keyword::Nodes => Err(ScheduleFault::NodesLine),
-        Keyword::Submit => Ok(Action::Step(submit_row(nodes, words)?)),
         Keyword::Deliver => Ok(Action::Step(Event::Deliver(frame_row(words)?))),
         Keyword::Drop => Ok(Action::Step(Event::Drop(frame_row(words)?))),
         Keyword::Flush => {
@@ -97,6 +103,5 @@ fn row(nodes: Nodes, keyword: Keyword, words: Words) -> Result<Action, ScheduleF
         Keyword::Tick => Ok(Action::Step(Event::Tick(node_row(nodes, words)?))),
         Keyword::Restart => Ok(Action::Step(Event::Restart(node_row(nodes, words)?))),
         Keyword::Fault => Ok(Action::Step(fault_row(nodes, words)?)),
-        Keyword::Query => Ok(Action::Step(query_row(nodes, words)?)),
     }
 }

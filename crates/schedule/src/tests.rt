@@ -1,13 +1,15 @@
 use super::*;
+use sessions::{Command, Number, Request};
 use stable::Failing;
 use std::alloc::Global;
 use std::test::Fail;
-use tpoint::Id;
-use wire::{Command, NodeId, Number, Op, Request, Slot};
-use world::{Answered, Event, Learnt, NodeFault, Outcome, Query, Replied, Reply, Text};
+use store::{Op, Query, Reply};
+use tpoint::{Id, Instant, Interp, Period, Point, Rect, Seq};
+use wire::{NodeId, Slot};
+use world::{Answered, Event, Learnt, NodeFault, Outcome, Replied, Text};
 
 // a line after `nodes 3`, and the fault that is told of it
-const LATER: [(&[u8], u8); 62] = [
+const LATER: [(&[u8], u8); 92] = [
     (b"\tflush", 1),
     (b"deliver 8\t", 1),
     (b"flush\r", 1),
@@ -27,13 +29,9 @@ const LATER: [(&[u8], u8); 62] = [
     (b"query 0 foo", 2),
     (b"query 0 ", 2),
     (b"query 0 counet", 2),
-    (b"query 0 get a", 2),
     (b"query x foo 1", 2),
     (b"submit 0 7 1 ", 2),
-    (b"submit 0 7 1 put", 2),
-    (b"submit 0 7 1 put {}", 2),
     (b"submit 0 245 1 1 remove c", 2),
-    (b"submit 9 7 0 append a b", 2),
     (b"nodes 3", 3),
     (b"nodes", 3),
     (b"nodes 4 x", 3),
@@ -73,10 +71,68 @@ const LATER: [(&[u8], u8); 62] = [
         b"submit 0 7 1 remove xxxxxxxxxxxxxxxxxxxxxxxxxxxxxxxxxxxxxxxxxxxxxxxxxxxxxxxxxxxxxxxxx",
         5,
     ),
+    (b"submit 0 7 1 putt {}", 2),
+    (b"query 0  count", 2),
+    (b"query 9 speed a", 2),
+    (b"submit 0 7 1 put", 4),
+    (b"submit 0 7 1 append a", 4),
+    (b"submit 9 7 0 append a b", 4),
+    (b"submit 0 7 1 append a 2020-01-01T00:00:00Z 1 2 3", 4),
+    (b"query 0 get", 4),
+    (b"query 0 get a b", 4),
+    (b"query 0 at a", 4),
+    (b"query 0 cut a 2020-01-01T00:00:00Z", 4),
+    (
+        b"query 0 ever a 2020-01-01T00:00:00Z 2020-01-02T00:00:00Z 0 0 1",
+        4,
+    ),
+    (
+        b"query 0 within 2020-01-01T00:00:00Z 2020-01-02T00:00:00Z 0 0 1 1 2",
+        4,
+    ),
+    (b"submit 9 7 1 put {bad", 5),
+    (b"submit 0 7 0 put {}", 5),
+    (b"submit 0 7 1 append a 2020-01-01 1 2", 5),
+    (b"submit 0 7 1 append a 2020-02-30T00:00:00Z 1 2", 5),
+    (b"submit 0 7 1 append a 2020-01-01T00:00:00Z -0 2", 5),
+    (b"submit 0 7 1 append a 2020-01-01T00:00:00Z 1 02", 5),
+    (b"submit 0 7 1 append a 2020-01-01T00:00:00Z +1 2", 5),
+    (b"submit 0 7 1 append a 2020-01-01T00:00:00Z 1 -", 5),
+    (
+        b"submit 0 7 1 append a 2020-01-01T00:00:00Z 10000000001 2",
+        5,
+    ),
+    (
+        b"submit 0 7 1 append a 2020-01-01T00:00:00Z 1 -10000000001",
+        5,
+    ),
+    (b"query 0 get a/b", 5),
+    (b"query 3 count", 5),
+    (b"query 0 at a 2020-01-01T00:00:00", 5),
+    (
+        b"query 0 cut a 2020-01-02T00:00:00Z 2020-01-01T00:00:00Z",
+        5,
+    ),
+    (
+        b"query 0 ever a 2020-01-01T00:00:00Z 2020-01-02T00:00:00Z 1 0 0 1",
+        5,
+    ),
+    (
+        b"query 0 always a 2020-01-01T00:00:00Z 2020-01-02T00:00:00Z 0 1 1 0",
+        5,
+    ),
+    (
+        b"query 0 within 2020-01-01T00:00:00Z 2020-01-02T00:00:00Z 0 0 -0 1",
+        5,
+    ),
+    (b"submit 0 7 1 put ", 6),
+    (b"submit 0 7 1 put {}", 6),
+    (b"submit 0 7 1 put {bad", 6),
+    (b"submit 0 7 1 put  {} ", 6),
 ];
 
 // a file, the first faulty line, and the fault that is told of it
-const FILES: [(&[u8], u64, u8); 22] = [
+const FILES: [(&[u8], u64, u8); 26] = [
     (b"", 1, 3),
     (b"\n\n", 1, 3),
     (b"nodes 4", 1, 3),
@@ -94,7 +150,11 @@ const FILES: [(&[u8], u64, u8); 22] = [
     (b" ", 1, 2),
     (b"foo", 1, 2),
     (b"query 0 foo", 1, 2),
-    (b"submit 0 7 1 put {}", 1, 2),
+    (b"submit 0 7 1 put {}", 1, 3),
+    (b"submit 0 7 1 putt {}", 1, 2),
+    (b"nodes 7", 1, 3),
+    (b"round 1", 1, 2),
+    (b"nodes 3\nflush\nsubmit 0 7 1 put {}\nfoo", 3, 6),
     (b"nodes 3\nflush\n\nnodes 3\nfoo\n", 4, 3),
     (b"nodes 3\n\n\ntick 3", 4, 5),
     (b"nodes 3\nflush\n \n", 3, 2),
@@ -137,6 +197,17 @@ submit 2 255 18446744073709551615 remove _.Z9\n\
 \n\
 deliver 0\ndrop 18446744073709551615\nflush\n\n\n\
 timeout 1\ntick 2\nrestart 0\nfault 1 old\nfault 2 new\nquery 0 count";
+
+// the action of the one line after `nodes 3`
+fn only_action(alloc: Global, line: &[u8]) -> Result<Action, Fail> {
+    let mut file = b"nodes 3\n".to_vec(alloc)?;
+    file.extend_from_slice(line)?;
+    let schedule = parse_schedule(alloc, &file).ok().ok_or("a schedule")?;
+    match schedule.lines() {
+        [line] => Ok(line.action.try_clone()?),
+        _ => Err("one line")?,
+    }
+}
 
 fn node(value: u8) -> Result<NodeId, Fail> {
     Ok(NodeId::new(value).ok_or("a node")?)
@@ -181,6 +252,94 @@ fn whole_schedule(rt: HostRuntime) -> Result<(), Fail> {
     Ok(())
 }
 
+fn instant(ms: i64) -> Result<Instant, Fail> {
+    Ok(Instant::new(ms).ok_or("an instant")?)
+}
+
+// 2020-01-01T00:00:00.000Z
+const NEW_YEAR: i64 = 1_577_836_800_000;
+
+#[test]
+fn questions(rt: HostRuntime) -> Result<(), Fail> {
+    let id = Id::new(b"bus-7").ok_or("an id")?;
+    let period = Period::new(instant(NEW_YEAR)?, instant(NEW_YEAR + 1500)?).ok_or("a period")?;
+    let rect = Rect::new(-1, 0, 2, 30).ok_or("a rectangle")?;
+    let cases: [(&[u8], Query); 7] = [
+        (
+            b"query 1 at bus-7 2020-01-01T00:00:00Z",
+            Query::At(id, instant(NEW_YEAR)?),
+        ),
+        (
+            b"query 1 cut bus-7 2020-01-01T00:00:00Z 2020-01-01T00:00:01.500Z",
+            Query::Cut(id, period),
+        ),
+        (
+            b"query 1 ever bus-7 2020-01-01T00:00:00Z 2020-01-01T00:00:01.500Z -1 0 2 30",
+            Query::Ever(id, period, rect),
+        ),
+        (
+            b"query 1 always bus-7 2020-01-01T00:00:00.000Z 2020-01-01T00:00:01.500Z -1 0 2 30",
+            Query::Always(id, period, rect),
+        ),
+        (
+            b"query 1 within 2020-01-01T00:00:00Z 2020-01-01T00:00:01.500Z -1 0 2 30",
+            Query::Within(period, rect),
+        ),
+        (b"query 1 get bus-7", Query::Get(id)),
+        (b"query 1 count", Query::Count),
+    ];
+    for (line, query) in cases {
+        let action = only_action(rt.alloc(), line)?;
+        let wanted = Action::Step(Event::Query(node(1)?, query));
+        assert!(rt; action == wanted, "of {line:?}");
+    }
+    Ok(())
+}
+
+#[test]
+fn appended_point(rt: HostRuntime) -> Result<(), Fail> {
+    let line = b"submit 2 7 9 append bus-7 2020-01-01T00:00:01.500Z -10000000000 0";
+    let point = Point {
+        t: instant(NEW_YEAR + 1500)?,
+        x: -10_000_000_000,
+        y: 0,
+    };
+    let id = Id::new(b"bus-7").ok_or("an id")?;
+    let wanted = Action::Step(Event::Submit {
+        node: node(2)?,
+        client: 7,
+        number: Number::new(9).ok_or("a number")?,
+        op: Op::append(id, point).ok_or("an addition")?,
+    });
+    assert!(rt; only_action(rt.alloc(), line)? == wanted, "of {line:?}");
+    Ok(())
+}
+
+// blanks belong to the document, also where they stand first and last
+const PUT: &[u8] =
+    b"submit 0 7 1 put  {\"type\": \"Feature\", \"id\": \"bus-7\", \"temporalGeometry\": \
+{\"type\": \"MovingPoint\", \"datetimes\": [\"2020-01-01T00:00:00Z\"], \"coordinates\": [[1, -2]], \
+\"interpolation\": \"Step\"}} ";
+
+#[test]
+fn put_document(rt: HostRuntime) -> Result<(), Fail> {
+    let point = Point {
+        t: instant(NEW_YEAR)?,
+        x: 1,
+        y: -2,
+    };
+    let points = Vec::from_array(rt.alloc(), [point])?;
+    let seq = Seq::new(Interp::Step, points).ok().ok_or("a sequence")?;
+    let wanted = Action::Step(Event::Submit {
+        node: node(0)?,
+        client: 7,
+        number: Number::new(1).ok_or("a number")?,
+        op: Op::Put(Id::new(b"bus-7").ok_or("an id")?, seq),
+    });
+    assert!(rt; only_action(rt.alloc(), PUT)? == wanted, "of a put");
+    Ok(())
+}
+
 #[test]
 fn laws_run_nothing() {
     schedules_are_one();
@@ -207,7 +366,7 @@ fn told_run(rt: HostRuntime) -> Result<(), Fail> {
         Learnt {
             node: node(0)?,
             slot: Slot::first(),
-            command: Command::Request(Request::new(7, number, op)),
+            command: Command::Request(Request::new(7, number, op).ok().ok_or("a request")?),
         },
         Learnt {
             node: node(1)?,
@@ -219,12 +378,13 @@ fn told_run(rt: HostRuntime) -> Result<(), Fail> {
         node: node(0)?,
         client: 7,
         number,
-        reply: Reply::UnknownId,
+        reply: sessions::Outcome::Applied(Reply::Unknown),
         position: 1,
     }];
     let answers = [Answered {
         node: node(0)?,
         position: 1,
+        query: Query::Count,
         text: Text::new(b"count 0".to_vec(alloc)?),
     }];
     let text = transcript(alloc, &outcomes, &learnt, &replies, &answers)?;

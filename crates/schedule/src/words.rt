@@ -1,11 +1,28 @@
 //! The words of a line, one after another.
 
-ghost use Rattle.std.specs.Prelude.{◌≡◌, ◌≢◌, [], ◌∷◌, length, MatchOption, MatchResult};
+ghost use Rattle.std.specs.Prelude.{◌≡◌, ◌≢◌, ◌<◌, [], ◌∷◌, ◌++◌, length, MatchOption, MatchResult};
 ghost use Rattle.schedule.specs.Words.{words_of};
+ghost use Rattle.schedule.specs.WordLists.{period_words, rect_words};
 
 use super::cut::cut;
 use super::fault::ScheduleFault;
 use std::marker::Model;
+
+/// The words of a period.
+#[derive(Clone, Copy, Debug)]
+pub(crate) struct PeriodWords<'a> {
+    pub begin: &'a [u8],
+    pub end: &'a [u8],
+}
+
+/// The words of a rectangle.
+#[derive(Clone, Copy, Debug)]
+pub(crate) struct RectWords<'a> {
+    pub x0: &'a [u8],
+    pub y0: &'a [u8],
+    pub x1: &'a [u8],
+    pub y1: &'a [u8],
+}
 
 /// The words that were not read yet.
 #[derive(Debug, Drop)]
@@ -47,6 +64,46 @@ impl<'a> Words<'a> {
             (λ fault. (fault ≡ ScheduleFault.WordCount) × (self.old ≡ [])) }
     {
         self.next().ok_or(ScheduleFault::WordCount)
+    }
+
+    /// Takes the next two words, which have to be there.
+    pub(crate) fn needed_pair(&mut self) -> Result<(&'a [u8], &'a [u8]), ScheduleFault>
+        ensures { MatchResult result
+            (λ words. self.old ≡ words.0.now ∷ words.1.now ∷ self.new)
+            (λ fault. (fault ≡ ScheduleFault.WordCount) × (length self.old < 2)) }
+    {
+        let first = self.needed()?;
+        let second = self.needed()?;
+        Ok((first, second))
+    }
+
+    /// Takes the next two words, which have to be there, as those of a period.
+    pub(crate) fn needed_period(&mut self) -> Result<PeriodWords<'a>, ScheduleFault>
+        ensures { MatchResult result (λ period. self.old ≡ period_words period ++ self.new)
+            (λ fault. (fault ≡ ScheduleFault.WordCount) × (length self.old < 2)) }
+    {
+        let begin = self.needed()?;
+        let end = self.needed()?;
+        Ok(PeriodWords { begin, end })
+    }
+
+    /// The four words that are left.
+    pub(crate) fn only_rect(mut self) -> Result<RectWords<'a>, ScheduleFault>
+        ensures { MatchResult result (λ rect. self.entry ≡ rect_words rect)
+            (λ fault. (fault ≡ ScheduleFault.WordCount) × (length self.entry ≢ 4)) }
+    {
+        let x0 = self.needed()?;
+        let y0 = self.needed()?;
+        let (x1, y1) = self.pair()?;
+        Ok(RectWords { x0, y0, x1, y1 })
+    }
+
+    /// All that is left of the line, blanks included.
+    pub(crate) fn rest(self) -> Result<&'a [u8], ScheduleFault>
+        ensures { MatchResult result (λ text. self.entry ≡ words_of text.now)
+            (λ fault. (fault ≡ ScheduleFault.WordCount) × (self.entry ≡ [])) }
+    {
+        self.rest.ok_or(ScheduleFault::WordCount)
     }
 
     /// Nothing may be left.

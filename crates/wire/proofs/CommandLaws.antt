@@ -1,7 +1,7 @@
 -- Operations and commands: what is read was spelled so, and fits; and what fits is read from its spelling.
-use Rattle.std.proofs.Common.{◌≡◌, ◌⊎◌, ℕ, zero, suc, ◌+◌, ◌*◌, ◌^◌, ◌<◌, ◌≤◌, Bool, true, false, cond, eqb, leb, ltb, not, List, [], ◌∷◌, ◌++◌, length, Result, Ok, Err, refl, sym, ap, subst, ◌∙◌, append_assoc, arith, inl, inr}
+use Rattle.std.proofs.Common.{◌≡◌, ℕ, ◌^◌, ◌<◌, ◌≤◌, false, eqb, List, [], ◌∷◌, ◌++◌, Ok, refl, sym, ap, subst, ◌∙◌, append_assoc, arith, inl, inr}
 use Rattle.std.proofs.lemmas.Bool.Decides.{nat_tests}
-use Rattle.byteorder.specs.Endian.{big_number, big_bytes}
+use Rattle.byteorder.specs.Endian.{big_bytes}
 use Rattle.tpoint.specs.Ids.{IsId}
 use Rattle.tpoint.specs.Moving.{Sequence}
 use Rattle.tpoint.specs.declared.point.Point.{Point}
@@ -10,10 +10,9 @@ use Rattle.store.specs.declared.op.Op.TheVariants.{Put, Append, Remove}
 use Rattle.sessions.specs.Asked.{Asked}
 use Rattle.sessions.specs.declared.command.Command.{Command}
 use Rattle.sessions.specs.declared.command.Command.TheVariants.{NoOp, Request}
-use Rattle.wire.specs.declared.frames.fault.WireFault.{WireFault}
-use Rattle.wire.specs.declared.frames.fault.WireFault.TheVariants.{Short, Field}
+use Rattle.wire.specs.declared.frames.fault.WireFault.TheVariants.{Field}
 use Rattle.wire.specs.Spelling.{id_bytes, triple_bytes, TripleFits, sequence_bytes, SequenceFits, op_bytes, OpFits, request_bytes, RequestFits, command_bytes, CommandFits}
-use Rattle.wire.specs.Reading.{◌>>=◌, Read, byte_at, number_at, id_at, triple_at, sequence_at, put_at, append_at, remove_at, op_at, request_number_at, request_at, asked_at, command_at}
+use Rattle.wire.specs.Reading.{Read, byte_at, number_at, id_at, triple_at, sequence_at, put_at, append_at, remove_at, op_at, request_number_at, request_at, asked_at, command_at}
 use Rattle.wire.proofs.FieldLemmas.{IsBytes, bind_ok, guard_ok, chosen, ok_is, Takes, Takes-then, Took, number_takes, number_again, back8, byte_takes, from_zero, is_equal}
 use Rattle.wire.proofs.FieldLaws.{id_takes, id_again, triple_takes, triple_again, sequence_takes, sequence_again}
 

@@ -1,6 +1,6 @@
 -- For each field: what is read was spelled so, and fits; and what fits is read from its spelling, whatever follows.
-use Rattle.std.proofs.Common.{◌≡◌, ◌⊎◌, ℕ, zero, suc, ◌+◌, ◌*◌, ◌^◌, ◌<◌, ◌≤◌, Bool, true, false, cond, eqb, leb, ltb, not, ◌&&◌, ◌||◌, List, [], ◌∷◌, ◌++◌, length, get_or, take, drop, All, Result, Ok, Err, refl, sym, ap, subst, ◌∙◌, append_assoc, arith, inl, inr}
-use Rattle.std.specs.Prelude.{ℤ, pos, negsuc, neg_ℤ, ◌≤ℤ◌, ◌<ℤ◌, IsTrue}
+use Rattle.std.proofs.Common.{◌≡◌, ℕ, zero, suc, ◌+◌, ◌^◌, ◌<◌, ◌≤◌, Bool, true, false, eqb, leb, ltb, not, ◌&&◌, ◌||◌, List, [], ◌∷◌, ◌++◌, length, take, Ok, refl, sym, ap, subst, ◌∙◌, append_assoc, arith, inl, inr}
+use Rattle.std.specs.Prelude.{ℤ, pos, negsuc, neg_ℤ, ◌≤ℤ◌, ◌<ℤ◌}
 use Rattle.std.specs.List.{flat_map, list_all}
 use Rattle.std.specs.Int.{cast_signed, cast_unsigned, w64}
 use Rattle.std.specs.Int.RustNames.{FitsSigned}
@@ -9,33 +9,27 @@ use Rattle.std.specs.Cmp.{int_ranks}
 use Rattle.std.specs.declared.cmp.Ordering.{Ordering}
 use Rattle.std.specs.declared.cmp.Ordering.TheVariants.{Less, Equal, Greater}
 use Rattle.std.proofs.lemmas.Bool.Decides.{nat_tests}
-use Rattle.std.proofs.lemmas.Bool.{cases_lt, ltb-false, le-ltb, cases_Bool}
+use Rattle.std.proofs.lemmas.Bool.{le-ltb}
 use Rattle.std.proofs.lemmas.Int.{ints, of_z-to_z, to_z-of_z}
-use Rattle.std.proofs.lemmas.List.{append-nil, length-append, length-take, take-append-drop, take_at, drop_at}
+use Rattle.std.proofs.lemmas.List.{length-append, length-take, take-append-drop, take_at, drop_at}
 use Rattle.std.proofs.lemmas.List.Sums.{AllPass-from_list_all, list_all-from_AllPass}
 use Rattle.std.proofs.lemmas.List.Concat.{flat_map-cons}
-use Rattle.byteorder.specs.Endian.{big_number, big_bytes}
+use Rattle.byteorder.specs.Endian.{big_bytes}
 use Rattle.synod.specs.declared.ballot.Ballot.{Ballot}
 use Rattle.synod.specs.declared.slot.TheConstants.{SLOTS}
 use Rattle.tpoint.specs.Coordinates.{InRange}
 use Rattle.tpoint.specs.Ids.{IsId, is_id_byte}
 use Rattle.tpoint.specs.Instants.{IsInstant}
-use Rattle.tpoint.specs.Moving.{Sequence, InBounds}
+use Rattle.tpoint.specs.Moving.{Sequence}
 use Rattle.tpoint.specs.declared.coordinate.TheConstants.{FURTHEST}
 use Rattle.tpoint.specs.declared.id.TheConstants.{LONGEST_ID}
 use Rattle.tpoint.specs.declared.interp.Interp.{Interp}
 use Rattle.tpoint.specs.declared.interp.Interp.TheVariants.{Discrete, Step, Linear}
 use Rattle.tpoint.specs.declared.point.Point.{Point}
-use Rattle.store.specs.declared.op.Op.{Op}
-use Rattle.store.specs.declared.op.Op.TheVariants.{Put, Append, Remove}
-use Rattle.sessions.specs.Asked.{Asked}
 use Rattle.sessions.specs.declared.request.TheConstants.{MOST_PUT_POINTS}
-use Rattle.sessions.specs.declared.command.Command.{Command}
-use Rattle.sessions.specs.declared.command.Command.TheVariants.{NoOp, Request}
-use Rattle.wire.specs.declared.frames.fault.WireFault.{WireFault}
 use Rattle.wire.specs.declared.frames.fault.WireFault.TheVariants.{Short, Field}
-use Rattle.wire.specs.Spelling.{ballot_bytes, BallotFits, slot_bytes, SlotFits, id_bytes, triple_bytes, TripleFits, TriplesFit, interp_byte, sequence_bytes, SequenceFits, op_bytes, OpFits, request_bytes, RequestFits, command_bytes, CommandFits}
-use Rattle.wire.specs.Reading.{◌>>=◌, Read, byte_at, number_at, ballot_of, ballot_at, slot_at, text_at, id_at, instant_at, is_coordinate, coordinate_at, triple_at, triple_from, triples_at, interp_at, count_at, sequence_at, put_at, append_at, remove_at, op_at, request_number_at, request_at, asked_at, command_at}
+use Rattle.wire.specs.Spelling.{ballot_bytes, BallotFits, slot_bytes, SlotFits, id_bytes, triple_bytes, TripleFits, TriplesFit, interp_byte, sequence_bytes, SequenceFits}
+use Rattle.wire.specs.Reading.{Read, byte_at, number_at, ballot_of, ballot_at, slot_at, text_at, id_at, instant_at, is_coordinate, coordinate_at, triple_at, triple_from, triples_at, interp_at, count_at, sequence_at}
 use Rattle.wire.proofs.BallotLemmas.{ballot_is, round_is, node_is}
 use Rattle.wire.proofs.FieldLemmas.{IsBytes, IsBytes-drop, bind_ok, guard_ok, chosen, ok_is, Takes, Takes-then, Took, number_takes, number_again, back2, back4, back8, byte_takes, from_zero, below, at_most, is_equal}
 

@@ -1,17 +1,14 @@
 -- The frames that were worked out by hand: what they are read as, and how they are spelled.
-use Rattle.std.proofs.Common.{◌≡◌, ℕ, List, [], ◌∷◌, ◌++◌, Result, Ok, Err, refl}
-use Rattle.synod.specs.declared.ballot.Ballot.{Ballot}
-use Rattle.synod.specs.declared.vote.Vote.{Vote}
+use Rattle.std.proofs.Common.{◌≡◌, ℕ, List, [], ◌∷◌, Ok, Err, refl}
 use Rattle.store.specs.declared.op.Op.TheVariants.{Remove}
 use Rattle.sessions.specs.declared.command.Command.{Command}
 use Rattle.sessions.specs.declared.command.Command.TheVariants.{Request}
 use Rattle.wire.specs.declared.frames.envelope.Envelope.{Envelope}
 use Rattle.wire.specs.declared.frames.fault.WireFault.TheVariants.{Short, Magic, Version, Field, Trailing}
 use Rattle.wire.specs.declared.frames.fault.WireFault.TheVariants as fault
-use Rattle.wire.specs.declared.frames.message.Message.{Message}
-use Rattle.wire.specs.declared.frames.message.Message.TheVariants.{Prepare, Promise, Nack, Accept, Accepted, Ask, Decided}
+use Rattle.wire.specs.declared.frames.message.Message.TheVariants.{Prepare, Promise, Nack, Accept, Ask, Decided}
 use Rattle.wire.specs.FrameSpelling.{spelling}
-use Rattle.wire.specs.Reading.{◌>>=◌, ballot_of, ballot_at, slot_at, command_at, asked_at, request_at, request_number_at, op_at, remove_at, id_at}
+use Rattle.wire.specs.Reading.{ballot_of, ballot_at, slot_at, command_at, asked_at, request_at, request_number_at, op_at, remove_at, id_at}
 use Rattle.wire.specs.FrameReading.{version_at, kind_at, node_at, ends_at, head_at, range_at, few_at, entries_at, told_at, promise_at, ballot_above, nack_at, vote_at, prepare_at, decided_at, message_at, envelope_at, frame_in}
 
 -- an envelope, its bytes, and what three nodes read in them

@@ -1,5 +1,5 @@
 -- What is read of a frame was spelled so, and may be sent; and what may be sent is read from its spelling.
-use Rattle.std.proofs.Common.{◌≡◌, ◌⊎◌, ℕ, zero, suc, ◌+◌, ◌<◌, ◌≤◌, Bool, true, false, cond, eqb, leb, ltb, not, ◌&&◌, ◌||◌, List, [], ◌∷◌, ◌++◌, length, Option, Some, None, Result, Ok, Err, refl, sym, ap, subst, ◌∙◌, append_assoc, arith, inl, inr}
+use Rattle.std.proofs.Common.{◌≡◌, ℕ, zero, suc, ◌+◌, ◌<◌, ◌≤◌, Bool, true, false, cond, eqb, leb, ltb, not, ◌&&◌, ◌||◌, List, [], ◌∷◌, ◌++◌, length, Option, Some, None, Ok, Err, refl, sym, ap, subst, ◌∙◌, append_assoc, arith, inl, inr}
 use Rattle.std.specs.List.{flat_map, AllByRecursion}
 use Rattle.std.proofs.lemmas.Bool.Decides.{nat_tests}
 use Rattle.std.proofs.lemmas.Bool.{cases_Bool}
@@ -10,7 +10,6 @@ use Rattle.synod.specs.Ballots.{rank}
 use Rattle.synod.specs.declared.ballot.Ballot.{Ballot}
 use Rattle.synod.specs.declared.vote.Vote.{Vote}
 use Rattle.sessions.specs.declared.command.Command.{Command}
-use Rattle.wire.specs.declared.frames.fault.WireFault.{WireFault}
 use Rattle.wire.specs.declared.frames.fault.WireFault.TheVariants.{Magic, Version, Field, Trailing, Long}
 use Rattle.wire.specs.declared.frames.envelope.Envelope.{Envelope}
 use Rattle.wire.specs.declared.frames.envelope.TheConstants.{MAGIC, LONGEST_FRAME}
@@ -19,11 +18,11 @@ use Rattle.wire.specs.declared.frames.kind.Kind.TheVariants as kind
 use Rattle.wire.specs.declared.frames.message.Message.{Message}
 use Rattle.wire.specs.declared.frames.message.Message.TheVariants.{Prepare, Promise, Nack, Accept, Accepted, Ask, Decided}
 use Rattle.wire.specs.declared.frames.promise.TheConstants.{MOST_ENTRIES}
-use Rattle.wire.specs.Promises.{Promised, Refused, IsTold, AreTold, IsPromise, IsRefusal}
+use Rattle.wire.specs.Promises.{Promised, Refused, IsTold, AreTold, IsPromise}
 use Rattle.wire.specs.Spelling.{ballot_bytes, BallotFits, slot_bytes, SlotFits, command_bytes, CommandFits}
 use Rattle.wire.specs.FrameSpelling.{version_of, byte_of, kinds, kind_of, vote_bytes, entry_bytes, promise_bytes, body_bytes, head_bytes, spelling, VoteFits, PromiseFits, NackFits, MessageFits, Fits, IsFrame}
-use Rattle.wire.specs.Reading.{◌>>=◌, Read, number_at, byte_at, ballot_at, slot_at, command_at}
-use Rattle.wire.specs.FrameReading.{is_version, version_at, found_among, known, kind_at, node_at, ends_at, Head, head_at, range_at, few_at, slot_within, ballot_up_to, entry_at, entries_at, told_at, promise_at, ballot_above, nack_at, vote_at, prepare_at, decided_at, as_message, message_at, envelope_at, frame_in}
+use Rattle.wire.specs.Reading.{number_at, byte_at, ballot_at, slot_at, command_at}
+use Rattle.wire.specs.FrameReading.{is_version, version_at, found_among, known, kind_at, node_at, ends_at, Head, head_at, range_at, few_at, slot_within, ballot_up_to, entry_at, entries_at, told_at, promise_at, ballot_above, nack_at, vote_at, prepare_at, decided_at, message_at, envelope_at, frame_in}
 use Rattle.wire.proofs.FieldLemmas.{IsBytes, bind_ok, guard_ok, ok_is, Takes, Takes-then, Took, number_takes, number_again, back2, byte_takes, below, at_most, is_number, is_equal}
 use Rattle.wire.proofs.FieldLaws.{ballot_takes, ballot_again, slot_takes, slot_again}
 use Rattle.wire.proofs.CommandLaws.{command_takes, command_again}

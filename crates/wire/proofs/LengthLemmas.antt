@@ -1,10 +1,8 @@
 -- How many bytes fields take.
 use Rattle.std.proofs.Common.{◌≡◌, ℕ, ◌+◌, ◌*◌, List, [], ◌∷◌, ◌++◌, length, refl, ap, ◌∙◌, arith}
 use Rattle.std.specs.List.{flat_map}
-use Rattle.std.specs.Int.{cast_unsigned, w64}
 use Rattle.std.proofs.lemmas.List.{length-append}
 use Rattle.std.proofs.lemmas.List.Concat.{flat_map-cons}
-use Rattle.byteorder.specs.Endian.{big_bytes}
 use Rattle.tpoint.specs.Moving.{Sequence}
 use Rattle.tpoint.specs.declared.point.Point.{Point}
 use Rattle.wire.specs.Spelling.{triple_bytes, sequence_bytes}

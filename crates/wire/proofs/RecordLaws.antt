@@ -1,12 +1,12 @@
 -- The record of a vote: what is read was spelled so, and what is spelled so is read.
-use Rattle.std.proofs.Common.{◌≡◌, ℕ, ◌≤◌, List, [], ◌∷◌, ◌++◌, length, eqb, Result, Ok, Err, true, false, refl, sym, ap, subst, ◌∙◌, append_assoc, arith}
+use Rattle.std.proofs.Common.{◌≡◌, ℕ, List, [], ◌++◌, Ok, refl, sym, ap, subst, ◌∙◌, arith}
 use Rattle.std.proofs.lemmas.List.{append-nil}
 use Rattle.synod.specs.declared.ballot.Ballot.{Ballot}
 use Rattle.sessions.specs.declared.command.Command.{Command}
 use Rattle.wire.specs.Spelling.{ballot_bytes, BallotFits, command_bytes, CommandFits}
 use Rattle.wire.specs.declared.frames.fault.WireFault.{WireFault}
 use Rattle.wire.specs.declared.frames.fault.WireFault.TheVariants.{Short, Magic, Version, Kind, Field, Trailing, Long, Memory}
-use Rattle.wire.specs.Reading.{◌>>=◌, Fails, ballot_at, command_at}
+use Rattle.wire.specs.Reading.{Fails, ballot_at, command_at}
 use Rattle.wire.specs.RecordForms.{IsVoteRecord, choice_at}
 use Rattle.wire.proofs.FieldLemmas.{IsBytes, bind_ok, ok_is, Takes, Takes-then}
 use Rattle.wire.proofs.FieldLaws.{ballot_takes, ballot_again}

@@ -1,10 +1,8 @@
 -- Triples that are read make a valid sequence, and the points of a valid sequence fit as triples.
-use Rattle.std.proofs.Common.{◌≡◌, ℕ, zero, suc, ◌+◌, ◌<◌, ◌≤◌, eqb, leb, ltb, not, ◌||◌, List, [], ◌∷◌, ◌++◌, length, slice_get, drop, Some, None, Result, Ok, Err, refl, sym, ap, subst, ◌∙◌, arith}
+use Rattle.std.proofs.Common.{◌≡◌, ℕ, zero, suc, ◌+◌, ◌<◌, ◌≤◌, ltb, not, List, [], ◌∷◌, length, slice_get, Some, Ok, refl, sym, ap, subst, arith}
 use Rattle.std.specs.Prelude.{ℤ, pos}
 use Rattle.tpoint.specs.Coordinates.{InRange}
 use Rattle.std.specs.Int.{cast_signed, w64}
-use Rattle.byteorder.specs.Endian.{big_number}
-use Rattle.std.proofs.lemmas.Bool.Decides.{nat_tests}
 use Rattle.std.proofs.lemmas.Int.{ints}
 use Rattle.std.proofs.lemmas.Option.{same_Some, none-some}
 use Rattle.std.proofs.lemmas.List.Elements.{recursion_from_All}
@@ -14,7 +12,6 @@ use Rattle.tpoint.specs.Places.{EachAt}
 use Rattle.tpoint.specs.Moving.{Sequence, InBounds, IsValid, Rises}
 use Rattle.tpoint.specs.declared.interp.Interp.{Interp}
 use Rattle.tpoint.specs.declared.point.Point.{Point}
-use Rattle.tpoint.specs.declared.seq.TheConstants.{MOST_POINTS}
 use Rattle.sessions.specs.declared.request.TheConstants.{MOST_PUT_POINTS}
 use Rattle.wire.specs.declared.frames.fault.WireFault.TheVariants.{Field}
 use Rattle.wire.specs.Reading.{number_at, instant_at, is_coordinate, coordinate_at, triple_at, triple_from, triples_at}

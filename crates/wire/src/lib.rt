@@ -1,19 +1,17 @@
-//! The values that cross a boundary: who is there, what is asked for, and what is agreed on.
+//! What nodes say to one another: who is there, what they say, and the frames that carry it.
 //!
-//! Every value of these types may stand in a frame between seven nodes. Their bytes come with the frames.
+//! Every value of these types may stand in a frame between seven nodes. `specs/FrameSpelling.antt` says which bytes a
+//! frame has, and `specs/FrameReading.antt` which fault is told of bytes that are none.
 #![tactic(auto)]
 
-mod command;
 pub mod frames;
-mod message;
 mod node_set;
 mod nodes;
-mod number;
 
-pub use command::{Command, Op, Request};
-pub use message::{Entries, Envelope, Message, Nack, Prepare, Promise};
+pub use frames::{
+    Entries, Entry, Envelope, Kind, LONGEST_FRAME, MAGIC, MOST_ENTRIES, Message, Nack, Promise,
+    WireFault, decode, encode,
+};
 pub use node_set::NodeSet;
 pub use nodes::{NodeId, Nodes};
-pub use number::Number;
 pub use synod::{Ballot, MOST_NODES, SLOTS, Slot, Vote};
-pub use tpoint::Id;

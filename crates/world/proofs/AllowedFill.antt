@@ -14,10 +14,10 @@ use Rattle.synod.specs.Acts as act
 use Rattle.synod.specs.Acts.{Local, Does, IsChoice, MayPropose, campaigns}
 use Rattle.synod.proofs.Doing.{sending, proposes_to_first}
 use Rattle.synod.proofs.Puts.{all_put}
-use Rattle.wire.specs.Asked.{Asked}
-use Rattle.wire.specs.declared.command.Command.{Command}
-use Rattle.wire.specs.declared.command.Command.TheVariants.{Request}
-use Rattle.wire.specs.declared.message.Envelope.{Envelope}
+use Rattle.sessions.specs.Asked.{Asked}
+use Rattle.sessions.specs.declared.command.Command.{Command}
+use Rattle.sessions.specs.declared.command.Command.TheVariants.{Request}
+use Rattle.wire.specs.declared.frames.envelope.Envelope.{Envelope}
 use Rattle.world.specs.Campaigning.{Campaigning}
 use Rattle.world.specs.Minds.{Mind}
 use Rattle.world.specs.Proposing.{Proposing, longest_waiting, choice, accept, may_propose, fills, filled, fill_sends}

@@ -4,10 +4,10 @@ use Rattle.synod.specs.Minds as synod_minds
 use Rattle.synod.specs.Acts as act
 use Rattle.synod.specs.Acts.{Local, Does}
 use Rattle.synod.proofs.Doing.{sending, does_nothing, does_then}
-use Rattle.wire.specs.Asked.{Asked}
-use Rattle.wire.specs.declared.command.Command.{Command}
-use Rattle.wire.specs.declared.command.Command.TheVariants.{Request}
-use Rattle.wire.specs.declared.message.Envelope.{Envelope}
+use Rattle.sessions.specs.Asked.{Asked}
+use Rattle.sessions.specs.declared.command.Command.{Command}
+use Rattle.sessions.specs.declared.command.Command.TheVariants.{Request}
+use Rattle.wire.specs.declared.frames.envelope.Envelope.{Envelope}
 use Rattle.world.specs.declared.input.Input.{Input}
 use Rattle.world.specs.Campaigning.{Campaigning}
 use Rattle.world.specs.Minds.{Mind}

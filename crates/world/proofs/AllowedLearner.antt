@@ -1,5 +1,5 @@
 -- What a node makes of the news of a vote is allowed.
-use Rattle.std.proofs.Common.{◌≡◌, ℕ, zero, ◌<◌, ◌≤◌, ◌⊎◌, inl, inr, List, [], ◌∷◌, ◌++◌, Bool, true, false, Option, Some, None, IsSome, Contains, if◌then◌else◌, refl, sym, ap, ◌∙◌, subst, arith, append-nil}
+use Rattle.std.proofs.Common.{◌≡◌, ℕ, zero, ◌<◌, ◌≤◌, inl, inr, List, [], ◌∷◌, ◌++◌, Bool, Option, Some, None, Contains, if◌then◌else◌, refl, sym, ap, ◌∙◌, subst, arith, append-nil}
 use Rattle.std.proofs.lemmas.Grind.{common_steps}
 use Rattle.std.proofs.lemmas.List.Elements.{All-filter, All-contains, All-contains_itself, Contains-append_left, Contains-push}
 use Rattle.synod.specs.Majorities.{Majority}
@@ -12,10 +12,11 @@ use Rattle.synod.specs.declared.vote.Vote.{Vote}
 use Rattle.synod.specs.declared.ballot.Ballot.{Ballot}
 use Rattle.synod.proofs.Doing.{does_nothing, does_one, does_then}
 use Rattle.acceptor.proofs.BallotLemmas.{same_rank}
-use Rattle.wire.specs.Asked.{Asked}
-use Rattle.wire.specs.declared.command.Command.{Command}
-use Rattle.wire.specs.declared.command.Command.TheVariants.{NoOp, Request}
-use Rattle.wire.specs.declared.message.Message.TheVariants.{Accepted}
+use Rattle.sessions.specs.Asked.{Asked}
+use Rattle.sessions.specs.Machines.{after_command}
+use Rattle.sessions.specs.declared.command.Command.{Command}
+use Rattle.sessions.specs.declared.command.Command.TheVariants.{NoOp, Request}
+use Rattle.wire.specs.declared.frames.message.Message.TheVariants.{Accepted}
 use Rattle.world.specs.declared.input.Input.TheVariants.{Message}
 use Rattle.world.specs.declared.telling.Telling.{Telling}
 use Rattle.world.specs.Campaigning.{Campaigning}
@@ -185,10 +186,14 @@ module _ (nodes i from : ℕ) (v : Vote Command) (old : Mind) (x : Local Command
   decided_learning = record (unlearnt old.learning.nodes) { learnt = Some v.command }
 
   abbrev decided_mind : Mind
-  decided_mind = record old { learning = decided_learning; proposing = after_learning old.proposing v.command }
+  decided_mind = record old {
+    learning = decided_learning;
+    proposing = after_learning old.proposing v.command;
+    machine = after_command old.machine v.command;
+  }
 
   abbrev told_all : Told
-  told_all = record { learnt = Some v.command; executed = executed_reply old.proposing v.command; sends = [] }
+  told_all = record { learnt = Some v.command; executed = executed_reply old.machine old.proposing v.command; sends = [] }
 
   -- the node once it has heard, and once it has learnt
   abbrev after_hearing : Local Command
@@ -251,6 +256,7 @@ module _ (nodes i from : ℕ) (v : Vote Command) (old : Mind) (x : Local Command
   leaves_with learning learns = record old {
     learning = learning;
     proposing = if learns then after_learning old.proposing v.command else old.proposing;
+    machine = if learns then after_command old.machine v.command else old.machine;
   }
 
   abbrev tells_with : Bool → Told

@@ -16,10 +16,10 @@ use Rattle.synod.proofs.Doing.{does_one, does_then}
 use Rattle.synod.proofs.Puts.{put_cases}
 use Rattle.acceptor.proofs.BallotLemmas.{same_rank}
 use Rattle.wire.specs.NodeSets.{has_node, with_node}
-use Rattle.wire.specs.declared.command.Command.{Command}
-use Rattle.wire.specs.declared.message.Envelope.{Envelope}
-use Rattle.wire.specs.declared.message.Promise.{Promise as PromiseOf}
-use Rattle.wire.specs.declared.message.Message.TheVariants.{Promise}
+use Rattle.sessions.specs.declared.command.Command.{Command}
+use Rattle.wire.specs.declared.frames.envelope.Envelope.{Envelope}
+use Rattle.wire.specs.Promises.{Promised}
+use Rattle.wire.specs.declared.frames.message.Message.TheVariants.{Promise}
 use Rattle.world.specs.declared.input.Input.TheVariants as input
 use Rattle.world.specs.Campaigning.{Campaigning, told_with, IsCounted, CountsPromise}
 use Rattle.world.specs.Minds.{Mind, Takes, TakesPromise, is_full}
@@ -202,7 +202,7 @@ module _ (nodes i : ℕ) (from : ℕ) (b : Ballot) (first last : ℕ) (votes : L
   fills_tell now false = refl
 
 -- a promise may be counted, and what it fills be proposed
-pub promise_lem : (nodes i : ℕ) (old new : Mind) (from : ℕ) (p : PromiseOf) (told : Told) (x : Local Command) → nodes ≤ 7
+pub promise_lem : (nodes i : ℕ) (old new : Mind) (from : ℕ) (p : Promised) (told : Told) (x : Local Command) → nodes ≤ 7
     → IsFromNode nodes (input.Message from (Promise p)) → IsNode i nodes old → IsSized old
     → Takes old (input.Message from (Promise p)) new told → IsWellToldInput (input.Message from (Promise p)) → IsSeen old x
     → MayTake nodes i (input.Message from (Promise p)) x new told

@@ -12,13 +12,13 @@ use Rattle.synod.specs.Acts as act
 use Rattle.synod.specs.Acts.{Local, Does, acted}
 use Rattle.synod.proofs.Doing.{sending, does_one, does_then, repeats_to_first}
 use Rattle.acceptor.proofs.BallotLemmas.{same_rank}
-use Rattle.wire.specs.Asked.{Asked}
+use Rattle.sessions.specs.Asked.{Asked}
 use Rattle.wire.specs.NodeSets.{no_nodes, has_node}
-use Rattle.wire.specs.declared.command.Command.{Command}
-use Rattle.wire.specs.declared.command.Command.TheVariants.{Request}
-use Rattle.wire.specs.declared.message.Envelope.{Envelope}
-use Rattle.wire.specs.declared.message.Nack.{Nack as NackOf}
-use Rattle.wire.specs.declared.message.Message.TheVariants.{Nack}
+use Rattle.sessions.specs.declared.command.Command.{Command}
+use Rattle.sessions.specs.declared.command.Command.TheVariants.{Request}
+use Rattle.wire.specs.declared.frames.envelope.Envelope.{Envelope}
+use Rattle.wire.specs.Promises.{Refused as Refusal}
+use Rattle.wire.specs.declared.frames.message.Message.TheVariants.{Nack}
 use Rattle.world.specs.declared.fault.NodeFault.{NodeFault}
 use Rattle.world.specs.declared.log.TheConstants.{LOG_SLOTS}
 use Rattle.world.specs.declared.input.Input.TheVariants as input
@@ -177,7 +177,7 @@ module _ (nodes i : ℕ) (in' : act.Input Command) (old : Mind) (x : Local Comma
   refusal_cases (Some k) here b o over not_over idle = refusal_goes k here b o over not_over
 
 -- what a refusal leaves may be come to
-pub nack_lem : (nodes i : ℕ) (old new : Mind) (from : ℕ) (n : NackOf) (told : Told) (x : Local Command)
+pub nack_lem : (nodes i : ℕ) (old new : Mind) (from : ℕ) (n : Refusal) (told : Told) (x : Local Command)
     → Takes old (input.Message from (Nack n)) new told → IsSeen old x → MayTake nodes i (input.Message from (Nack n)) x new told
 nack_lem nodes i old new from n told x takes seen =
     let in' : act.Input Command = act.Came from synod.Plain in

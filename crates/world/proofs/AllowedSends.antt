@@ -9,9 +9,9 @@ use Rattle.synod.specs.Messages.{Frame, to_first}
 use Rattle.synod.specs.Acts as act
 use Rattle.synod.specs.Acts.{Fleet, Local, Input, Does, acted}
 use Rattle.synod.proofs.Doing.{sending, does_nothing, does_one, does_then}
-use Rattle.wire.specs.declared.command.Command.{Command}
-use Rattle.wire.specs.declared.message.Envelope.{Envelope}
-use Rattle.wire.specs.declared.message.Message.{Message}
+use Rattle.sessions.specs.declared.command.Command.{Command}
+use Rattle.wire.specs.declared.frames.envelope.Envelope.{Envelope}
+use Rattle.wire.specs.declared.frames.message.Message.{Message}
 use Rattle.world.specs.Protocol.{message_of, frame_of}
 use Rattle.world.specs.Proposing.{Proposing, accept}
 use Rattle.world.specs.Sending.{to_all}

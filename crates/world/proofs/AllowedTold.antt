@@ -6,7 +6,7 @@ use Rattle.std.proofs.lemmas.List.Elements.{Contains-push_cases, Contains-append
 use Rattle.synod.specs.Ballots.{rank}
 use Rattle.synod.specs.declared.vote.Vote.{Vote}
 use Rattle.synod.specs.Minds.{Covers}
-use Rattle.wire.specs.declared.command.Command.{Command}
+use Rattle.sessions.specs.declared.command.Command.{Command}
 use Rattle.world.specs.Campaigning.{higher, told_with}
 
 -- what is in a list is its first element or in the rest

@@ -1,12 +1,12 @@
 -- When a learner has heard enough.
-use Rattle.std.proofs.Common.{◌≡◌, ◌≢◌, ℕ, zero, suc, ◌+◌, ◌*◌, ◌<◌, ◌≤◌, ◌==◌, ◌⊎◌, inl, inr, List, Bool, true, false, cond, Option, Some, None, if◌then◌else◌, refl, sym, ap, subst, ◌∙◌, arith, le_refl, rules}
+use Rattle.std.proofs.Common.{◌≡◌, ◌≢◌, ℕ, zero, suc, ◌+◌, ◌<◌, ◌≤◌, ◌⊎◌, inl, inr, List, Bool, true, false, cond, Option, Some, refl, sym, subst, ◌∙◌, arith, le_refl, rules}
 use Rattle.std.specs.Ordering.{is_eq}
 use Rattle.std.proofs.lemmas.Grind.{common_steps}
 use Rattle.synod.specs.Majorities.{counted, IsMajority, Majority}
-use Rattle.wire.specs.declared.command.Command.{Command}
+use Rattle.sessions.specs.declared.command.Command.{Command}
 use Rattle.wire.specs.NodeSets.{has_node}
 use Rattle.world.specs.declared.telling.Telling.{Telling}
-use Rattle.world.specs.Learning.{Learning, rank, with_telling, IsDecided, telling_cmp}
+use Rattle.world.specs.Learning.{Learning, with_telling, IsDecided, telling_cmp}
 
 -- one more node, by what the two tests say of it
 counted_step : (m n : ℕ) (x y : Bool) → m ≤ n → (x ≡ true → y ≡ true) → cond x 1 0 + m ≤ cond y 1 0 + n

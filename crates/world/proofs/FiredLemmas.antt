@@ -5,6 +5,7 @@ use Rattle.stable.specs.Script.{Script, counted, Reads, ReadFails, Puts, Fails}
 use Rattle.stable.specs.ScriptLaws.{read_fails_fired}
 use Rattle.stable.specs.declared.key.Key.{Key}
 use Rattle.acceptor.specs.Accepting.{Write, HasWritten, HasFailed}
+use Rattle.store.specs.declared.query.Query.{Query}
 use Rattle.world.specs.declared.event.Event.{Event}
 use Rattle.world.specs.declared.event.Event.TheVariants as event
 use Rattle.world.specs.declared.fault.NodeFault.{NodeFault}
@@ -16,7 +17,7 @@ use Rattle.world.specs.declared.input.Input.TheVariants as input
 use Rattle.world.specs.declared.lists.Outcome.{Outcome}
 use Rattle.world.specs.declared.log.TheConstants.{MOST_DELIVERIES}
 use Rattle.world.specs.declared.run.Run.{Run}
-use Rattle.wire.specs.Asked.{Asked}
+use Rattle.sessions.specs.Asked.{Asked}
 use Rattle.world.specs.Faults.{is_stop_fault}
 use Rattle.world.specs.Fired.{AreHonestInside, IsCounted, AreCounted, HasFewFaults}
 use Rattle.world.specs.Flushing.{IsStart, Delivers, DeliversSome}
@@ -133,10 +134,10 @@ module _ {S : Type 0} where
   submission_same w true node r = (refl, refl)
   submission_same w false node r = (refl, refl)
 
-  answered_same : (w : WorldState S) (node : ℕ) (r : Result (ℕ × List ℕ) NodeFault)
-      → ((answered w node r).nodes ≡ w.nodes) × (outcome_count (answered w node r) ≡ outcome_count w + 1)
-  answered_same w node (Ok told) = (refl, length-append w.outcomes (_ ∷ []))
-  answered_same w node (Err f) = (refl, length-append w.outcomes (_ ∷ []))
+  answered_same : (w : WorldState S) (node : ℕ) (query : Query) (r : Result (ℕ × List ℕ) NodeFault)
+      → ((answered w node query r).nodes ≡ w.nodes) × (outcome_count (answered w node query r) ≡ outcome_count w + 1)
+  answered_same w node query (Ok told) = (refl, length-append w.outcomes (_ ∷ []))
+  answered_same w node query (Err f) = (refl, length-append w.outcomes (_ ∷ []))
 
 abbrev failed_with : NodeFault → Result (Unit {0}) NodeFault
 failed_with f = Err f
@@ -163,6 +164,7 @@ module _ {S : Type 0} {reads read_fails : Script S → Script S → Type 0} {put
   stopped old new m i fault.LogFull h = absurd h
   stopped old new m i fault.RoundsUsedUp h = absurd h
   stopped old new m i fault.QueueFull h = absurd h
+  stopped old new m i fault.TooLong h = absurd h
   stopped old new m i fault.Damaged h = absurd h
 
   refused : (old new : NodeState (Script S)) (m : Mind) (i : Input) (f : NodeFault) (b : Bool)
@@ -246,7 +248,7 @@ module _ {S : Type 0} {reads read_fails : Script S → Script S → Type 0} {put
         changed_one old new node h.before _ h.here (inl refl)
         (ap (λ (w : WorldState S). w.nodes) h.leaves) (ap outcome_count h.leaves ∙ length-append old.outcomes (_ ∷ []))
     step_counts old (event.Query node query) new h =
-        let same = answered_same old node h.result in
+        let same = answered_same old node query h.result in
         changed_none old new (ap (λ (w : WorldState S). w.nodes) h.leaves ∙ same.0) (ap outcome_count h.leaves ∙ same.1)
 
     pub step_few : (old new : WorldState S) (e : Event) → Steps contents IsHonest reads read_fails puts fails old e new

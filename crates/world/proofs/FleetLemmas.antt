@@ -9,12 +9,13 @@ use Rattle.stable.specs.Records.{Records}
 use Rattle.stable.specs.declared.key.Key.{Key}
 use Rattle.synod.specs.declared.ballot.Ballot.{Ballot}
 use Rattle.synod.specs.declared.vote.Vote.{Vote}
-use Rattle.wire.specs.Asked.{Asked}
+use Rattle.sessions.specs.Asked.{Asked}
 use Rattle.wire.specs.NodeSets.{has_node}
-use Rattle.wire.specs.declared.command.Command.{Command}
-use Rattle.wire.specs.declared.message.Envelope.{Envelope}
-use Rattle.wire.specs.declared.message.Message.{Message}
-use Rattle.wire.specs.declared.message.Message.TheVariants.{Prepare, Promise, Nack, Accept, Accepted}
+use Rattle.sessions.specs.Machines.{after_command}
+use Rattle.sessions.specs.declared.command.Command.{Command}
+use Rattle.wire.specs.declared.frames.envelope.Envelope.{Envelope}
+use Rattle.wire.specs.declared.frames.message.Message.{Message}
+use Rattle.wire.specs.declared.frames.message.Message.TheVariants.{Prepare, Promise, Nack, Accept, Accepted, Ask, Decided}
 use Rattle.world.specs.declared.fault.NodeFault.{NodeFault}
 use Rattle.world.specs.declared.telling.Telling.{Telling}
 use Rattle.world.specs.declared.input.Input.{Input}
@@ -154,10 +155,14 @@ module _ (id nodes : ℕ) (there : id < nodes) where
       differs (ap (λ (l : Learning). l.nodes) (h.heard counts undecided).1))
 
   learnt_or_heard : (m new : Mind) (told : Told) (v : Vote Command) (b : Bool) → new.learning.nodes ≡ nodes
-      → new ≡ record m { learning = new.learning; proposing = if b then after_learning m.proposing v.command else m.proposing }
+      → new ≡ record m {
+        learning = new.learning;
+        proposing = if b then after_learning m.proposing v.command else m.proposing;
+        machine = if b then after_command m.machine v.command else m.machine;
+      }
       → told ≡ (if b then record {
         learnt = Some v.command;
-        executed = executed_reply m.proposing v.command;
+        executed = executed_reply m.machine m.proposing v.command;
         sends = [];
       } else nothing)
       → IsMindOf id nodes m → Leaves new told
@@ -177,7 +182,7 @@ module _ (id nodes : ℕ) (there : id < nodes) where
   -- a message comes from a node of the run
   message_leaves : (old : Mind) (from : ℕ) (message : Message) (new : Mind) (told : Told) → TakesMessage old from message new told
       → IsMindOf id nodes old → from < nodes → Leaves new told
-  message_leaves old from (Prepare p) new told h mind sender =
+  message_leaves old from (Prepare ballot first) new told h mind sender =
       leaves_so new _ told _ h.0 h.1
       (record { number = mind.number; of_all = mind.of_all; learning = mind.learning; proposing = mind.proposing })
       (answer-between old from _ mind sender)
@@ -197,6 +202,9 @@ module _ (id nodes : ℕ) (there : id < nodes) where
       learnt_or_heard old new told v h.learns
       (same_learner old.learning (record { ballot = v.ballot; node = from }) v.slot v.command (h.learns ≡ true) new.learning h.hears ∙ mind.learning)
       h.leaves h.tells mind
+  message_leaves old from (Ask slot) new told h mind sender = leaves_so new old told nothing h.0 h.1 mind (All-nil (IsBetween nodes))
+  message_leaves old from (Decided slot command) new told h mind sender =
+      leaves_so new old told nothing h.0 h.1 mind (All-nil (IsBetween nodes))
 
   input_leaves : (old : Mind) (i : Input) (new : Mind) (told : Told) → Takes old i new told
       → IsMindOf id nodes old → ComesFrom nodes i → Leaves new told

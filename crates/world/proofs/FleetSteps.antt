@@ -8,8 +8,9 @@ use Rattle.stable.specs.Records.{Records}
 use Rattle.stable.specs.Script.{Script}
 use Rattle.stable.specs.declared.key.Key.{Key}
 use Rattle.stable.specs.declared.scripted.Failing.{Failing}
-use Rattle.wire.specs.Asked.{Asked}
-use Rattle.wire.specs.declared.message.Envelope.{Envelope}
+use Rattle.sessions.specs.Asked.{Asked}
+use Rattle.wire.specs.declared.frames.envelope.Envelope.{Envelope}
+use Rattle.store.specs.declared.query.Query.{Query}
 use Rattle.world.specs.declared.event.Event.{Event}
 use Rattle.world.specs.declared.event.Event.TheVariants as event
 use Rattle.world.specs.declared.fault.NodeFault.{NodeFault}
@@ -83,10 +84,10 @@ module _ {S : Type 0} where
   submitted_fleet w true node r fleet = fleet
   submitted_fleet w false node r fleet = fleet
 
-  answered_fleet : (w : WorldState S) (node : ℕ) (r : Result (ℕ × List ℕ) NodeFault) → IsFleet w.nodes w.frames
-      → IsFleet (answered w node r).nodes (answered w node r).frames
-  answered_fleet w node (Ok told) fleet = fleet
-  answered_fleet w node (Err f) fleet = fleet
+  answered_fleet : (w : WorldState S) (node : ℕ) (query : Query) (r : Result (ℕ × List ℕ) NodeFault) → IsFleet w.nodes w.frames
+      → IsFleet (answered w node query r).nodes (answered w node query r).frames
+  answered_fleet w node query (Ok told) fleet = fleet
+  answered_fleet w node query (Err f) fleet = fleet
 
   another_world : (v w : WorldState S) → v ≡ w → IsFleet w.nodes w.frames → IsFleet v.nodes v.frames
   another_world v w e fleet = subst (λ (x : WorldState S). IsFleet x.nodes x.frames) (sym e) fleet
@@ -137,7 +138,7 @@ module _ {S : Type 0} where
         another_world new _ h.leaves (fleet_with old.nodes old.frames node _ fleet
         (record { number = member.number; of_all = member.of_all; up = member.up }))
     step_fleet contents IsHonest read_fails old (event.Query node query) new h fleet =
-        another_world new _ h.leaves (answered_fleet old node h.result fleet)
+        another_world new _ h.leaves (answered_fleet old node query h.result fleet)
 
 -- ---- in the code
 module _ {S : Type 0} where

@@ -1,9 +1,9 @@
 -- What a learner makes of a telling: it is decided which of the three cases holds.
-use Rattle.std.proofs.Common.{◌≡◌, ℕ, zero, ◌<◌, ◌≤◌, ◌⊎◌, inl, inr, Bool, true, false, Option, Some, None, IsSome, refl, sym, ap, subst, arith}
+use Rattle.std.proofs.Common.{◌≡◌, ℕ, zero, ◌<◌, ◌≤◌, ◌⊎◌, inl, inr, Bool, true, false, Option, Some, None, IsSome, refl, sym, subst, arith}
 use Rattle.std.proofs.lemmas.Grind.{common_steps}
 use Rattle.synod.specs.Majorities.{counted, IsMajority}
 use Rattle.synod.specs.declared.ballot.Ballot.{Ballot}
-use Rattle.wire.specs.declared.command.Command.{Command}
+use Rattle.sessions.specs.declared.command.Command.{Command}
 use Rattle.world.specs.declared.telling.Telling.{Telling}
 use Rattle.world.specs.Learning.{Learning, IsIgnored, IsDecided, HearsVote, with_telling, unlearnt}
 use Rattle.world.specs.Learning.{stranger, other_slot, late, repeat}
@@ -104,13 +104,20 @@ hears_cases P old t slot command false new hears ignored decided heard = elim (i
   ]
 ]
 
--- where the slot is newly learnt, that is the command, and else nothing is learnt that wasn't
+-- where the slot is newly learnt it wasn't before, and that is the command; else nothing is learnt that wasn't
+pub record LearnsOrKeeps (old : Learning) (command : Command) (learns : Bool) (new : Learning) : Type 0 where
+  pub fresh : learns ≡ true → old.learnt ≡ None
+  pub learns_ : learns ≡ true → new.learnt ≡ Some command
+  pub keeps : learns ≡ false → new.learnt ≡ old.learnt
+
 pub learns_or_keeps : (old : Learning) (t : Telling) (slot : ℕ) (command : Command) (learns : Bool) (new : Learning)
-    → HearsVote old t slot command (learns ≡ true) new
-    → (learns ≡ true → new.learnt ≡ Some command) × (learns ≡ false → new.learnt ≡ old.learnt)
+    → HearsVote old t slot command (learns ≡ true) new → LearnsOrKeeps old command learns new
 learns_or_keeps old t slot command learns new hears =
-    let Kept : Bool → Learning → Type 0 = λ b l. (b ≡ true → l.learnt ≡ Some command) × (b ≡ false → l.learnt ≡ old.learnt) in
-    hears_cases Kept old t slot command learns new hears
-    (λ e. absurd (let h : false ≡ true = e in cc), λ _. refl)
-    (λ counts most. (λ _. refl, λ e. absurd (let h : true ≡ false = e in cc)))
-    (λ counts. (λ e. absurd (let h : false ≡ true = e in cc), λ _. refl))
+    hears_cases (LearnsOrKeeps old command) old t slot command learns new hears
+    (record { fresh = λ e. absurd (let h : false ≡ true = e in cc); learns_ = λ e. absurd (let h : false ≡ true = e in cc); keeps = λ _. refl })
+    (λ counts most. record { fresh = λ _. counts.in_time; learns_ = λ _. refl; keeps = λ e. absurd (let h : true ≡ false = e in cc) })
+    (λ counts. record {
+      fresh = λ e. absurd (let h : false ≡ true = e in cc);
+      learns_ = λ e. absurd (let h : false ≡ true = e in cc);
+      keeps = λ _. refl;
+    })

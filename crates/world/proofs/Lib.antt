@@ -24,15 +24,12 @@ pub mod AllowedPromise
 pub mod Commands
 pub mod Hearing
 pub mod AllowedLearner
-pub mod Counting
 pub mod FiredLemmas
 pub mod FlushLemmas
 pub mod StartLemmas
 pub mod TallyLemmas
 pub mod Tellings
 pub mod Explained
-pub mod FiveRequests
-pub mod OneReply
 pub mod ScriptedLaws
 pub mod SoundSteps
 pub mod WorldSound
@@ -40,3 +37,4 @@ pub mod Casting
 pub mod ListedPuts
 pub mod VotesStand
 pub mod NodeComes
+pub mod FrameSeen

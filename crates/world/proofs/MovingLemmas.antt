@@ -1,5 +1,5 @@
 -- A node's acts lead the protocol's world on, and the world stands for it.
-use Rattle.std.proofs.Common.{◌≡◌, ◌⊎◌, ℕ, zero, suc, ◌<◌, List, [], ◌∷◌, ◌++◌, All, map, length, slice_get, slice_set, Option, Some, None, Contains, inl, inr, refl, sym, ap, ◌∙◌, subst}
+use Rattle.std.proofs.Common.{◌≡◌, ℕ, zero, suc, List, [], ◌∷◌, ◌++◌, All, map, length, slice_get, slice_set, Some, inl, inr, refl, sym, ap, ◌∙◌, subst}
 use Rattle.std.proofs.Math.ListN.{length-set}
 use Rattle.std.proofs.lemmas.Bool.{cases_eq}
 use Rattle.std.proofs.lemmas.List.{map-append}
@@ -12,13 +12,13 @@ use Rattle.synod.specs.Runs.{placed, HasCome, IsReached}
 use Rattle.synod.proofs.Running.{does_reaches}
 use Rattle.stable.specs.Records.{Records}
 use Rattle.stable.specs.Script.{Script}
-use Rattle.wire.specs.declared.command.Command.{Command}
-use Rattle.wire.specs.declared.message.Envelope.{Envelope}
+use Rattle.sessions.specs.declared.command.Command.{Command}
+use Rattle.wire.specs.declared.frames.envelope.Envelope.{Envelope}
 use Rattle.world.specs.declared.lists.Submission.{Submission}
 use Rattle.world.specs.declared.lists.Learnt.{Learnt}
 use Rattle.world.specs.States.{NodeState}
 use Rattle.world.specs.Protocol.{fleet, frame_of, learning_of, command_of, IsWellTold}
-use Rattle.world.specs.Reaching.{StandsAt, WorldStands, IsAllowed}
+use Rattle.world.specs.Reaching.{StandsAt, IsAllowed}
 use Rattle.world.proofs.NodeComes.{local_of, stands_elsewhere}
 
 -- what stands at another place than the one where an element was replaced

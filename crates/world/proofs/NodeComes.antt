@@ -21,7 +21,7 @@ use Rattle.stable.specs.Script.{Script}
 use Rattle.stable.specs.Script as script
 use Rattle.stable.specs.declared.key.Key.{Key}
 use Rattle.acceptor.specs.Accepting.{Write, HasWritten, HasFailed}
-use Rattle.wire.specs.declared.command.Command.{Command}
+use Rattle.sessions.specs.declared.command.Command.{Command}
 use Rattle.world.specs.declared.fault.NodeFault.{NodeFault}
 use Rattle.world.specs.declared.fault.NodeFault.TheVariants as fault
 use Rattle.world.specs.declared.input.Input.{Input}
@@ -203,6 +203,7 @@ module _ {S : Type 0} {contents : Script S → Records} {IsHonest : Script S →
   stopped old new m input fault.LogFull h down sure honest = absurd h
   stopped old new m input fault.RoundsUsedUp h down sure honest = absurd h
   stopped old new m input fault.QueueFull h down sure honest = absurd h
+  stopped old new m input fault.TooLong h down sure honest = absurd h
   stopped old new m input fault.Damaged h down sure honest = absurd h
 
   unchanged : (old new : NodeState (Script S)) (r : Result Told NodeFault) → new ≡ old → old.storage.unsure ≡ None → ListGoesOn contents old new r

@@ -1,10 +1,7 @@
 -- Whatever a node makes of an input is a list of acts that the protocol allows.
-use Rattle.std.proofs.Common.{◌≡◌, ◌⊎◌, ℕ, zero, ◌<◌, ◌≤◌, inl, inr, List, [], ◌∷◌, ◌++◌, All, map, Bool, true, false, Option, Some, None, IfSome, IsSome, IfOk, IfErr, MatchBool, Result, Ok, Err, is_ok, refl, sym, ap, subst, ◌∙◌, arith, append-nil, if◌then◌else◌}
+use Rattle.std.proofs.Common.{◌≡◌, ◌⊎◌, ℕ, ◌<◌, ◌≤◌, inl, inr, List, [], ◌++◌, All, map, Bool, true, false, Option, Some, None, IfSome, IfOk, IfErr, MatchBool, Result, Ok, Err, refl, sym, ap, subst, ◌∙◌, arith, append-nil}
 use Rattle.std.proofs.lemmas.List.Elements.{All-nil}
-use Rattle.std.proofs.lemmas.Option.{same_Some, none-some}
 use Rattle.synod.specs.History as history
-use Rattle.synod.specs.Messages.{Frame}
-use Rattle.synod.specs.Acts as act
 use Rattle.synod.specs.Acts.{Local, Does}
 use Rattle.synod.proofs.Doing.{does_nothing}
 use Rattle.stable.specs.Records.{Records}
@@ -13,15 +10,15 @@ use Rattle.stable.specs.declared.key.Key.{Key}
 use Rattle.stable.specs.declared.key.Key.TheVariants as key
 use Rattle.acceptor.specs.Accepting.{Accepting, Write, RecordsSay, records_after}
 use Rattle.acceptor.specs.Protocol.{RecordsStand}
-use Rattle.wire.specs.declared.command.Command.{Command}
-use Rattle.wire.specs.declared.message.Envelope.{Envelope}
+use Rattle.sessions.specs.declared.command.Command.{Command}
+use Rattle.wire.specs.declared.frames.envelope.Envelope.{Envelope}
 use Rattle.world.specs.declared.fault.NodeFault.{NodeFault}
 use Rattle.world.specs.declared.fault.NodeFault.TheVariants as fault
 use Rattle.world.specs.declared.input.Input.{Input}
 use Rattle.world.specs.Faults.{is_stop_fault}
 use Rattle.world.specs.Fitting.{InputFits}
 use Rattle.world.specs.Fleets.{IsMember, IsMindOf, ComesFrom}
-use Rattle.world.specs.Minds.{Mind, refuses, Takes, Writes}
+use Rattle.world.specs.Minds.{Mind, refuses, Writes}
 use Rattle.world.specs.Nodes.{NodeState, NodeSteps, TakesInput, RefusesInput, StopsOnInput, StorageStops}
 use Rattle.world.specs.Outputs.{Told}
 use Rattle.world.specs.Protocol.{fleet, frame_of, input_of, learnings, submissions, IsNode, IsSeen, IsWellTold, IsWellToldInput, MayTake}
@@ -196,6 +193,7 @@ module _ {S : Type 0} {contents : Script S → Records} {IsHonest : Script S →
   stops_by old new m input fault.LogFull x up fits none h down honest = absurd h
   stops_by old new m input fault.RoundsUsedUp x up fits none h down honest = absurd h
   stops_by old new m input fault.QueueFull x up fits none h down honest = absurd h
+  stops_by old new m input fault.TooLong x up fits none h down honest = absurd h
   stops_by old new m input fault.Damaged x up fits none h down honest = absurd h
 
   -- what is to be refused doesn't stop the node
@@ -260,6 +258,7 @@ module _ {S : Type 0} {contents : Script S → Records} {IsHonest : Script S →
   honest_stopped old new m input fault.LogFull h honest = absurd h
   honest_stopped old new m input fault.RoundsUsedUp h honest = absurd h
   honest_stopped old new m input fault.QueueFull h honest = absurd h
+  honest_stopped old new m input fault.TooLong h honest = absurd h
   honest_stopped old new m input fault.Damaged h honest = absurd h
 
   honest_refused : (old new : NodeState (Script S)) (m : Mind) (input : Input) (f : NodeFault) (b : Bool)

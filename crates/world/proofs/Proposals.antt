@@ -1,12 +1,10 @@
 -- What a proposer makes of what comes.
-use Rattle.std.proofs.Common.{◌≡◌, ◌≢◌, ℕ, ◌+◌, max, List, Option, Some, None, MatchOption, IfSome, refl, sym, ap, subst}
+use Rattle.std.proofs.Common.{◌≡◌, ◌≢◌, ℕ, max, List, Option, Some, None, MatchOption, IfSome, sym, ap, subst}
 use Rattle.synod.specs.declared.ballot.Ballot.{Ballot}
 use Rattle.synod.specs.declared.vote.Vote.{Vote}
-use Rattle.wire.specs.declared.command.Command.{Command}
-use Rattle.wire.specs.declared.message.Envelope.{Envelope}
-use Rattle.world.specs.Campaigning.{Campaigning, CountsPromise, begun}
-use Rattle.world.specs.Proposing.{Proposing, HearsPromise, CountsInCampaign, HearsRefusal, StartsCampaign, next_round, prepare}
-use Rattle.world.specs.Sending.{to_all}
+use Rattle.sessions.specs.declared.command.Command.{Command}
+use Rattle.world.specs.Campaigning.{Campaigning, CountsPromise}
+use Rattle.world.specs.Proposing.{Proposing, HearsPromise, CountsInCampaign, HearsRefusal}
 
 -- a promise is counted in the campaign that there is
 pub hears_promise : (old new : Proposing) (from : ℕ) (ballot : Ballot) (first : ℕ) (votes : List (Vote Command)) (k now : Campaigning)

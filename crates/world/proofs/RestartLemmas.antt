@@ -1,8 +1,7 @@
 -- A node that restarts has forgotten what was not in its records.
-use Rattle.std.proofs.Common.{◌≡◌, ◌⊎◌, ℕ, zero, ◌==◌, ◌<◌, ◌^◌, inl, inr, List, [], Option, Some, None, IfSome, IsSome, IfErr, OnOk, OnErr, IsErrOf, Result, Ok, Err, Bool, true, false, Contains, if◌then◌else◌, refl, sym, ap, subst, ◌∙◌, arith}
+use Rattle.std.proofs.Common.{◌≡◌, ℕ, zero, ◌==◌, ◌<◌, ◌^◌, inl, inr, List, [], Option, Some, None, IfSome, Result, Ok, Err, Bool, true, false, Contains, if◌then◌else◌, refl, sym, ap, subst, ◌∙◌}
 use Rattle.byteorder.specs.Endian.{big_number, big_bytes}
 use Rattle.byteorder.specs.Numbers.{big_number-reads_back}
-use Rattle.synod.specs.Ballots.{rank_of}
 use Rattle.synod.specs.Records as synod_records
 use Rattle.synod.specs.Minds as synod_minds
 use Rattle.synod.specs.Minds.{blank}
@@ -14,18 +13,15 @@ use Rattle.stable.specs.declared.key.Key.TheVariants as key
 use Rattle.acceptor.specs.Accepting.{Accepting, RecordsSay}
 use Rattle.acceptor.specs.Protocol.{RecordsStand}
 use Rattle.acceptor.proofs.SayingOne.{one_promise, one_vote_each}
-use Rattle.wire.specs.declared.command.Command.{Command}
-use Rattle.wire.specs.declared.command.Command.TheVariants.{Request}
+use Rattle.sessions.specs.declared.command.Command.{Command}
 use Rattle.world.specs.declared.fault.NodeFault.{NodeFault}
-use Rattle.world.specs.declared.fault.NodeFault.TheVariants as fault
 use Rattle.world.specs.declared.telling.Telling.{Telling}
-use Rattle.world.specs.Learning.{Learning, unlearnt}
+use Rattle.world.specs.Learning.{Learning}
 use Rattle.world.specs.Loading.{IsLoaded, LoadsRound, Restarts}
 use Rattle.world.specs.Minds.{Mind}
 use Rattle.world.specs.Proposing.{Proposing, loaded}
 use Rattle.world.specs.Protocol.{at_first, CampaignsStand, MindStands}
 use Rattle.world.specs.Reaching.{HoldsSame, NodeStands, SaysRound}
-use Rattle.world.specs.Rounds.{IsRound}
 use Rattle.world.specs.Sized.{IsSized}
 use Rattle.world.specs.States.{NodeState}
 use Rattle.world.proofs.SayingLemmas.{SayBoth}

@@ -3,7 +3,7 @@ use Rattle.std.proofs.Common.{◌≡◌, ◌⊎◌, ℕ, zero, suc, ◌<◌, inl
 use Rattle.std.proofs.Math.ListN.{get_or}
 use Rattle.std.proofs.lemmas.List.{length-map}
 use Rattle.std.proofs.lemmas.List.Elements.{All-nil}
-use Rattle.std.proofs.lemmas.Option.{same_Some, slice_get_read, slice_get-get_or, slice_get-map, slice_get_within, get_or_from_slice_get, none-some}
+use Rattle.std.proofs.lemmas.Option.{slice_get_read, slice_get-get_or, slice_get-map, slice_get_within, get_or_from_slice_get, none-some}
 use Rattle.synod.specs.Records.{no_records as nothing_written}
 use Rattle.synod.specs.Minds.{blank}
 use Rattle.synod.specs.History.{Learning}
@@ -14,30 +14,26 @@ use Rattle.synod.specs.declared.ballot.Ballot.{Ballot}
 use Rattle.synod.specs.declared.vote.Vote.{Vote}
 use Rattle.synod.proofs.Doing.{does_nothing}
 use Rattle.synod.proofs.Thinking.{none_in}
-use Rattle.synod.specs.Invariant.{OnlySubmitted, OnlyChosenLearnt, IsAgreed}
-use Rattle.synod.specs.Chosen.{Agrees}
 use Rattle.synod.proofs.Running.{agreed_lem}
 use Rattle.stable.specs.Records.{Records, no_records}
 use Rattle.stable.specs.Script.{Script, Write}
-use Rattle.stable.specs.declared.key.Key.TheVariants as key
 use Rattle.acceptor.specs.Accepting.{Accepting}
 use Rattle.acceptor.specs.Protocol.{RecordsStand}
 use Rattle.acceptor.proofs.RecordLemmas.{RecordsSay-nothing}
-use Rattle.wire.specs.declared.command.Command.{Command}
-use Rattle.wire.specs.declared.command.Command.TheVariants.{NoOp, Request}
-use Rattle.wire.specs.declared.message.Envelope.{Envelope}
+use Rattle.sessions.specs.declared.command.Command.{Command}
+use Rattle.sessions.specs.declared.command.Command.TheVariants.{NoOp, Request}
+use Rattle.wire.specs.declared.frames.envelope.Envelope.{Envelope}
 use Rattle.world.specs.declared.lists.Submission.{Submission}
 use Rattle.world.specs.declared.lists.Learnt.{Learnt}
-use Rattle.world.specs.Explaining.{IsGrounded, IsSubmitted, LearntAgree, LearntGrounded}
-use Rattle.world.specs.Flushing.{IsFresh, IsStart, IsStarted, Delivers}
+use Rattle.world.specs.Explaining.{IsGrounded, LearntAgree, LearntGrounded}
+use Rattle.world.specs.Flushing.{IsFresh, IsStart, IsStarted}
 use Rattle.world.specs.Loading.{IsLoaded}
-use Rattle.world.specs.Minds.{Mind}
-use Rattle.world.specs.Protocol.{fleet, frame_of, learning_of, command_of, IsWellTold}
+use Rattle.world.specs.Protocol.{fleet, frame_of, learning_of, asked_of, command_of, IsWellTold}
 use Rattle.world.specs.Reaching.{NodeStands, TookEffect, StandsAt, IsAllowed}
 use Rattle.world.specs.Safety.{HasAgreed}
 use Rattle.world.specs.States.{NodeState}
 use Rattle.world.specs.Voting.{vote_put, HasVote, IsChosen, HasChosen}
-use Rattle.world.specs.Worlds.{WorldState}
+use Rattle.world.specs.Worlds.{WorldState, submission_of}
 use Rattle.world.proofs.RestartLemmas.{up_again}
 use Rattle.world.proofs.SayingLemmas.{SayBoth}
 
@@ -53,14 +49,14 @@ submitted_in submitted NoOp h = tt
 submitted_in submitted (Request r) (inl none) = absurd cc
 submitted_in submitted (Request r) (inr c) =
     let lt : c.0 < length submitted = omega (arith, c.1, length-map submitted command_of) in
-    let s : Submission = get_or submitted c.0 (record { node = 0; request = r }) in
-    let here : slice_get submitted c.0 ≡ Some s = slice_get-get_or submitted c.0 (record { node = 0; request = r }) lt in
+    let s : Submission = get_or submitted c.0 (submission_of 0 r) in
+    let here : slice_get submitted c.0 ≡ Some s = slice_get-get_or submitted c.0 (submission_of 0 r) lt in
     let mapped : slice_get (map command_of submitted) c.0 ≡ Some (command_of s) = slice_get-map command_of submitted c.0 ∙ ap (option_map command_of) here in
     let named : command_of s ≡ Request r = sym (get_or_from_slice_get (map command_of submitted) c.0 (command_of s) (Request r) mapped) ∙ c.2 in
     record {
       submission = s;
       taken = (c.0, lt, get_or_from_slice_get submitted c.0 s s here);
-      carries = (let q : Request s.request ≡ Request r = named in cc);
+      carries = (let q : Request (asked_of s) ≡ Request r = named in cc);
     }
 
 module _ {S : Type 0} where

@@ -1,5 +1,5 @@
 -- A scripted storage keeps the laws that its storage inside keeps.
-use Rattle.std.proofs.Common.{◌≡◌, ◌⊎◌, ℕ, List, Option, Some, IsSome, refl, subst}
+use Rattle.std.proofs.Common.{◌≡◌, ℕ, List, Option, Some, IsSome, refl, subst}
 use Rattle.stable.specs.Records.{Records}
 use Rattle.stable.specs.Script.{Script, Reads, ReadFails, Puts, Fails}
 use Rattle.stable.specs.ScriptLaws.{read_fails_fired, fails_fired, fails_inside, inside_honest, inside_contents}

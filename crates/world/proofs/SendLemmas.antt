@@ -1,7 +1,6 @@
 -- Messages to several nodes.
-use Rattle.std.proofs.Common.{◌≡◌, ℕ, ◌+◌, List, [], ◌∷◌, ◌++◌, ap, add-one}
-use Rattle.wire.specs.declared.message.Envelope.{Envelope}
-use Rattle.wire.specs.declared.message.Message.{Message}
+use Rattle.std.proofs.Common.{◌≡◌, ℕ, ◌+◌, [], ◌∷◌, ◌++◌, ap, add-one}
+use Rattle.wire.specs.declared.frames.message.Message.{Message}
 use Rattle.world.specs.Sending.{to_all}
 
 -- one node more

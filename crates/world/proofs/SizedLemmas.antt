@@ -1,20 +1,19 @@
 -- A campaign keeps a flag for each node.
-use Rattle.std.proofs.Common.{◌≡◌, ℕ, zero, ◌⊎◌, inl, inr, List, length, Bool, true, false, Option, Some, None, IfSome, MatchOption, if◌then◌else◌, refl, sym, ap, subst, ◌∙◌, arith}
+use Rattle.std.proofs.Common.{◌≡◌, ℕ, inl, inr, List, length, Bool, true, false, Option, Some, None, IfSome, MatchOption, if◌then◌else◌, refl, sym, ap, subst, ◌∙◌}
 use Rattle.std.proofs.Math.ListN.{length-set}
 use Rattle.std.proofs.lemmas.Bool.{cases_eq}
 use Rattle.std.proofs.lemmas.Option.{same_Some}
 use Rattle.synod.specs.declared.ballot.Ballot.{Ballot}
 use Rattle.synod.specs.declared.vote.Vote.{Vote}
-use Rattle.wire.specs.Asked.{Asked}
-use Rattle.wire.specs.declared.command.Command.{Command}
-use Rattle.wire.specs.declared.message.Message.{Message}
-use Rattle.wire.specs.declared.message.Message.TheVariants.{Prepare, Promise, Nack, Accept, Accepted}
+use Rattle.sessions.specs.declared.command.Command.{Command}
+use Rattle.wire.specs.declared.frames.message.Message.{Message}
+use Rattle.wire.specs.declared.frames.message.Message.TheVariants.{Prepare, Promise, Nack, Accept, Accepted, Ask, Decided}
 use Rattle.world.specs.declared.input.Input.{Input}
 use Rattle.world.specs.declared.input.Input.TheVariants as input
 use Rattle.world.specs.Campaigning.{Campaigning, IsCounted, CountsPromise}
 use Rattle.world.specs.Minds.{Mind, Takes, TakesMessage, with_request, waits, is_full, after_learning}
 use Rattle.world.specs.Outputs.{Told}
-use Rattle.world.specs.Proposing.{Proposing, fills, filled, may_propose, closed, HearsPromise, CountsInCampaign, HearsRefusal}
+use Rattle.world.specs.Proposing.{Proposing, fills, filled, may_propose, closed, CountsInCampaign}
 use Rattle.world.specs.Sized.{IsSized}
 
 abbrev Seven : Option Campaigning → Type 0
@@ -61,7 +60,7 @@ closed_seven None seven = tt
 closed_seven (Some k) seven = seven
 
 message_seven : (m : Mind) (from : ℕ) (message : Message) (new : Mind) (told : Told) → TakesMessage m from message new told → IsSized m → IsSized new
-message_seven m from (Prepare p) new told h seven = subst (λ (x : Mind). IsSized x) (sym h.0) seven
+message_seven m from (Prepare ballot first) new told h seven = subst (λ (x : Mind). IsSized x) (sym h.0) seven
 message_seven m from (Promise p) new told h seven =
     let heard = heard_seven m.proposing h.0 from p.ballot p.first p.entries m.proposing.campaign refl h.1 seven in
     subst (λ (x : Mind). IsSized x) (sym h.2.leaves) (if_seven (is_full m) h.0 (filled h.0) heard (filled_seven h.0 h.0.campaign refl heard))
@@ -70,6 +69,8 @@ message_seven m from (Accept v) new told h seven = subst (λ (x : Mind). IsSized
 message_seven m from (Accepted v) new told h seven =
     subst (λ (x : Mind). IsSized x) (sym h.leaves)
     (if_seven h.learns (after_learning m.proposing v.command) m.proposing (closed_seven m.proposing.campaign seven) seven)
+message_seven m from (Ask slot) new told h seven = subst (λ (x : Mind). IsSized x) (sym h.0) seven
+message_seven m from (Decided slot command) new told h seven = subst (λ (x : Mind). IsSized x) (sym h.0) seven
 
 pub taken_sized : (m : Mind) (i : Input) (new : Mind) (told : Told) → Takes m i new told → IsSized m → IsSized new
 taken_sized m (input.Submit r) new told h seven =

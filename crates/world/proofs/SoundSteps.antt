@@ -1,10 +1,11 @@
 -- A sound world stays sound, and what is sound is safe.
-use Rattle.std.proofs.Common.{◌≡◌, ◌⊎◌, ℕ, ◌<◌, List, [], length, slice_get, slice_set, Option, Some, None, IfSome, IsSome, refl, sym, ap, subst, ◌∙◌}
+use Rattle.std.proofs.Common.{◌≡◌, ℕ, List, [], Option, Some, None, IfSome, IsSome, refl, sym, ap, subst, ◌∙◌}
 use Rattle.stable.specs.Records.{Records, no_records}
 use Rattle.stable.specs.Script.{Script}
 use Rattle.stable.specs.declared.key.Key.{Key}
 use Rattle.stable.specs.declared.scripted.Failing.{Failing}
-use Rattle.wire.specs.Asked.{Asked}
+use Rattle.sessions.specs.Asked.{Asked}
+use Rattle.sessions.specs.Standing.{StandsFor}
 use Rattle.world.specs.declared.event.Event.{Event}
 use Rattle.world.specs.declared.event.Event.TheVariants as event
 use Rattle.world.specs.declared.input.Input.TheVariants as input
@@ -16,7 +17,7 @@ use Rattle.world.specs.Minds.{Mind}
 use Rattle.world.specs.Nodes.{NodeState}
 use Rattle.world.specs.Reaching.{AreHonest}
 use Rattle.world.specs.Safety.{HasAgreed, IsSafe, IsSound, IsSoundIfHonest}
-use Rattle.world.specs.Worlds.{WorldState, Steps, TakesAt, ReceivesAt, without_wait}
+use Rattle.world.specs.Worlds.{WorldState, Steps, ReceivesAt, without_wait}
 use Rattle.world.proofs.Explained.{explained}
 use Rattle.world.proofs.FleetSteps.{step_fleet}
 use Rattle.world.proofs.ListedPuts.{KeepsPuts}
@@ -37,11 +38,12 @@ pub safe_if_honest : {S : Type 0} {contents : Script S → Records} {IsHonest : 
 safe_if_honest w h honest = sound_is_safe w (h.sound honest)
 
 -- ---- the start
+-- a node that has just started has learnt and executed nothing
 unlearnt_yet : {S : Type 0} (contents : Script S → Records) (i count : ℕ) (n : NodeState (Script S)) (m : Mind) → IsStarted contents i count n → n.up ≡ Some m
-    → m.learning.learnt ≡ None
+    → (m.learning.learnt ≡ None) × StandsFor m.machine []
 unlearnt_yet contents i count n m h up =
     let loads : IsLoaded no_records i count m = subst (λ (o : Option Mind). IfSome o (IsLoaded no_records i count)) up h.up in
-    ap (λ (l : Learning). l.learnt) loads.learning
+    (ap (λ (l : Learning). l.learnt) loads.learning, loads.machine)
 
 pub start_sound : {S : Type 0} (contents : Script S → Records) (IsHonest : Script S → Type 0) (count : ℕ) (w : WorldState S) → IsStart contents count w
     → IsSoundIfHonest contents IsHonest w
@@ -91,7 +93,7 @@ module _ {S : Type 0} {contents : Script S → Records} {IsHonest : Script S →
       honest_nodes laws armed_honest armed_contents lists old.nodes node h.before _ h.here (armed_honest h.before.storage failing)
       (subst (λ (x : List (NodeState (Script S))). AreHonest IsHonest x) (ap (λ (w : WorldState S). w.nodes) h.leaves) honest)
   step_honest old (event.Query node query) new h fleet honest =
-      same_nodes old new (ap (λ (w : WorldState S). w.nodes) h.leaves ∙ answered_nodes laws armed_honest armed_contents lists old node h.result) honest
+      same_nodes old new (ap (λ (w : WorldState S). w.nodes) h.leaves ∙ answered_nodes laws armed_honest armed_contents lists old node query h.result) honest
 
   -- ---- a step
   pub step_sound : (old : WorldState S) (e : Event) (new : WorldState S) → Steps contents IsHonest reads read_fails puts fails old e new

@@ -6,7 +6,7 @@ use Rattle.std.proofs.lemmas.List.Elements.{All-nil}
 use Rattle.std.proofs.lemmas.Option.{same_Some, none-some}
 use Rattle.stable.specs.Records.{Records, no_records}
 use Rattle.stable.specs.Script.{Script}
-use Rattle.wire.specs.declared.message.Envelope.{Envelope}
+use Rattle.wire.specs.declared.frames.envelope.Envelope.{Envelope}
 use Rattle.world.specs.declared.node.Node.{Node}
 use Rattle.world.specs.Fleets.{IsMindOf, IsMember, IsBetween, IsFleet}
 use Rattle.world.specs.Flushing.{IsStarted, HaveStarted}

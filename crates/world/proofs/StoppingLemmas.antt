@@ -1,5 +1,5 @@
 -- A node that stops has done at most the write of its input, and that was allowed.
-use Rattle.std.proofs.Common.{◌≡◌, ℕ, zero, ◌<◌, ◌≤◌, ◌+◌, Option, Some, None, refl, sym, ap, ◌∙◌, subst, arith}
+use Rattle.std.proofs.Common.{◌≡◌, ℕ, zero, ◌<◌, ◌≤◌, refl, arith}
 use Rattle.synod.specs.declared.ballot.Ballot.{Ballot}
 use Rattle.synod.specs.Messages.{Accept as SynodAccept}
 use Rattle.synod.specs.Records.{with_round}
@@ -9,12 +9,12 @@ use Rattle.synod.proofs.Doing.{does_nothing, does_one}
 use Rattle.acceptor.specs.Accepting.{Accepting}
 use Rattle.acceptor.specs.Protocol.{RecordsStand, MayWrite}
 use Rattle.acceptor.proofs.AllowedLemmas.{prepare_writes, accept_writes}
-use Rattle.wire.specs.declared.command.Command.{Command}
-use Rattle.wire.specs.declared.message.Message.{Message}
-use Rattle.wire.specs.declared.message.Message.TheVariants.{Prepare, Promise, Nack, Accept, Accepted}
+use Rattle.sessions.specs.declared.command.Command.{Command}
+use Rattle.wire.specs.declared.frames.message.Message.{Message}
+use Rattle.wire.specs.declared.frames.message.Message.TheVariants.{Prepare, Promise, Nack, Accept, Accepted, Ask, Decided}
 use Rattle.world.specs.declared.input.Input.{Input}
 use Rattle.world.specs.declared.input.Input.TheVariants as input
-use Rattle.world.specs.Minds.{Mind, refuses}
+use Rattle.world.specs.Minds.{Mind}
 use Rattle.world.specs.Proposing.{next_round}
 use Rattle.world.specs.Protocol.{fleet, input_of, message_of, IsSeen}
 use Rattle.world.proofs.SayingLemmas.{after_acceptor, after_input_acceptor, after_input_round}
@@ -75,13 +75,15 @@ module _ (nodes i : ℕ) (x : Local Command) where
 
   message_stops : (m : Mind) (from : ℕ) (message : Message) → IsSeen m x
       → MayStop nodes i (act.Came from (message_of message)) x (after_acceptor m message) m.proposing.round
-  message_stops m from (Prepare p) seen =
-      written (act.Came from (message_of (Prepare p))) _ _ (prepare_writes (fleet nodes) i (act.Came from (message_of (Prepare p))) x m.accepting m.proposing.round seen.records p.ballot)
+  message_stops m from (Prepare ballot first) seen =
+      written (act.Came from (message_of (Prepare ballot first))) _ _ (prepare_writes (fleet nodes) i (act.Came from (message_of (Prepare ballot first))) x m.accepting m.proposing.round seen.records ballot)
   message_stops m from (Promise p) seen = stops_at_once _ m.accepting m.proposing.round seen.records
   message_stops m from (Nack n) seen = stops_at_once _ m.accepting m.proposing.round seen.records
   message_stops m from (Accept v) seen =
       written (act.Came from (SynodAccept v)) _ _ (accept_writes (fleet nodes) i (act.Came from (SynodAccept v)) x m.accepting m.proposing.round seen.records v refl)
   message_stops m from (Accepted v) seen = stops_at_once _ m.accepting m.proposing.round seen.records
+  message_stops m from (Ask slot) seen = stops_at_once _ m.accepting m.proposing.round seen.records
+  message_stops m from (Decided slot command) seen = stops_at_once _ m.accepting m.proposing.round seen.records
 
   pub input_stops : (m : Mind) (input_ : Input) → IsSeen m x → i < 7
       → MayStop nodes i (input_of input_) x (after_input_acceptor m input_) (after_input_round m input_)

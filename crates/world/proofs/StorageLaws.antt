@@ -1,5 +1,5 @@
 -- What calls make of a storage, by laws of its relations.
-use Rattle.std.proofs.Common.{◌≡◌, ◌⊎◌, ℕ, List, Option, Some, None, inl, inr, ap, ◌∙◌}
+use Rattle.std.proofs.Common.{◌≡◌, ◌⊎◌, ℕ, List, Some, None}
 use Rattle.stable.specs.Records.{Records, with_record}
 use Rattle.stable.specs.declared.key.Key.{Key}
 use Rattle.acceptor.specs.Accepting.{Write, HasWritten, HasFailed, records_after}

@@ -1,24 +1,23 @@
 -- Whatever a node makes of an input that it takes is allowed.
-use Rattle.std.proofs.Common.{◌≡◌, ℕ, ◌<◌, ◌≤◌, List, ◌++◌, map, None, refl, sym, ap, subst, ◌∙◌, arith, append-nil}
-use Rattle.std.proofs.lemmas.Bool.{cases_lt}
+use Rattle.std.proofs.Common.{◌≡◌, ℕ, ◌<◌, ◌≤◌, ◌++◌, map, None, refl, sym, ap, subst, ◌∙◌, arith, append-nil}
 use Rattle.synod.specs.Messages as synod
 use Rattle.synod.specs.Messages.{Frame, to_first}
-use Rattle.synod.specs.Acts as act
 use Rattle.synod.specs.Acts.{Local}
+use Rattle.synod.proofs.Doing.{does_nothing}
 use Rattle.acceptor.specs.declared.answer.Answer.{Answer}
 use Rattle.acceptor.specs.declared.answer.Answer.TheVariants as answer
 use Rattle.acceptor.specs.Accepting.{Accepting, prepare_answer, after_prepare, accept_answer, after_accept}
 use Rattle.acceptor.specs.Protocol.{MayAnswer, answer_frames}
 use Rattle.acceptor.proofs.AllowedLemmas.{prepare_answers, accept_answers}
-use Rattle.wire.specs.declared.command.Command.{Command}
-use Rattle.wire.specs.declared.message.Message.{Message}
-use Rattle.wire.specs.declared.message.Message.TheVariants.{Prepare, Promise, Nack, Accept, Accepted}
+use Rattle.sessions.specs.declared.command.Command.{Command}
+use Rattle.wire.specs.declared.frames.message.Message.{Message}
+use Rattle.wire.specs.declared.frames.message.Message.TheVariants.{Prepare, Promise, Nack, Accept, Accepted, Ask, Decided}
 use Rattle.world.specs.declared.input.Input.{Input}
 use Rattle.world.specs.declared.input.Input.TheVariants as input
 use Rattle.world.specs.Fleets.{ComesFrom}
 use Rattle.world.specs.Minds.{Mind, refuses, Takes, answer_sends}
-use Rattle.world.specs.Outputs.{Told, sent}
-use Rattle.world.specs.Protocol.{fleet, learnings, frame_of, input_of, message_of, submissions, IsNode, IsSeen, IsWellToldInput, MayTake}
+use Rattle.world.specs.Outputs.{Told, sent, nothing}
+use Rattle.world.specs.Protocol.{fleet, learnings, frame_of, input_of, IsNode, IsSeen, IsWellToldInput, MayTake}
 use Rattle.world.specs.Sized.{IsSized}
 use Rattle.world.proofs.AllowedSends.{frames_to_all}
 use Rattle.world.proofs.AllowedProposer.{tick_lem, timeout_lem, nack_lem, submit_lem}
@@ -62,17 +61,30 @@ module _ (nodes i : ℕ) (old new : Mind) (told : Told) (x : Local Command) (few
     submitted = sym (append-nil x.submitted);
   }
 
+  -- a message is ignored
+  idles : (from : ℕ) (message : Message) → new ≡ old → told ≡ nothing → MayTake nodes i (input.Message from message) x new told
+  idles from message leaves tells = record {
+    after = x;
+    does = does_nothing (fleet nodes) i (input_of (input.Message from message)) x;
+    seen = subst (λ (m : Mind). IsSeen m x) (sym leaves) seen;
+    sent = sym (append-nil x.sent) ∙ ap (λ (t : Told). x.sent ++ map frame_of t.sends) (sym tells);
+    learnt = sym (append-nil x.learnt) ∙ ap (λ (t : Told). x.learnt ++ learnings i t.learnt) (sym tells);
+    submitted = sym (append-nil x.submitted);
+  }
+
   takes_message : (from : ℕ) (message : Message) → refuses old (input.Message from message) ≡ None → Takes old (input.Message from message) new told
       → IsWellToldInput (input.Message from message) → ComesFrom nodes (input.Message from message) → MayTake nodes i (input.Message from message) x new told
-  takes_message from (Prepare p) none h well sender =
-      answers from (Prepare p) (after_prepare old.accepting p.ballot) (prepare_answer old.accepting p.ballot p.first) h.0 h.1
-      (prepare_answers (fleet nodes) i (input_of (input.Message from (Prepare p))) x old.accepting old.proposing.round seen.records nodes from p.first p.ballot)
+  takes_message from (Prepare ballot first) none h well sender =
+      answers from (Prepare ballot first) (after_prepare old.accepting ballot) (prepare_answer old.accepting ballot first) h.0 h.1
+      (prepare_answers (fleet nodes) i (input_of (input.Message from (Prepare ballot first))) x old.accepting old.proposing.round seen.records nodes from first ballot)
   takes_message from (Promise p) none h well sender = promise_lem nodes i old new from p told x few sender own sized h well seen
   takes_message from (Nack n) none h well sender = nack_lem nodes i old new from n told x h seen
   takes_message from (Accept v) none h well sender =
       answers from (Accept v) (after_accept old.accepting v) (accept_answer old.accepting v) h.0 h.1
       (accept_answers (fleet nodes) i (input_of (input.Message from (Accept v))) x old.accepting old.proposing.round seen.records nodes from v refl)
   takes_message from (Accepted v) none h well sender = allowed nodes i from v old x few own seen new told h
+  takes_message from (Ask slot) none h well sender = idles from (Ask slot) h.0 h.1
+  takes_message from (Decided slot command) none h well sender = idles from (Decided slot command) h.0 h.1
 
   takes : (i_ : Input) → refuses old i_ ≡ None → Takes old i_ new told → IsWellToldInput i_ → ComesFrom nodes i_ → MayTake nodes i i_ x new told
   takes (input.Submit r) none h well sender = submit_lem nodes i old new r told x (omega (arith, there)) own none h seen

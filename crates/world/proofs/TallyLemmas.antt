@@ -5,9 +5,10 @@ use Rattle.std.proofs.lemmas.List.Sums.{sum_by-append}
 use Rattle.stable.specs.Records.{Records}
 use Rattle.stable.specs.Script.{Script}
 use Rattle.stable.specs.declared.key.Key.{Key}
-use Rattle.wire.specs.Asked.{Asked}
-use Rattle.wire.specs.declared.command.Command.{Command}
-use Rattle.wire.specs.declared.message.Envelope.{Envelope}
+use Rattle.sessions.specs.Asked.{Asked}
+use Rattle.sessions.specs.declared.command.Command.{Command}
+use Rattle.wire.specs.declared.frames.envelope.Envelope.{Envelope}
+use Rattle.store.specs.declared.query.Query.{Query}
 use Rattle.world.specs.declared.event.Event.{Event}
 use Rattle.world.specs.declared.event.Event.TheVariants as event
 use Rattle.world.specs.declared.fault.NodeFault.{NodeFault}
@@ -80,13 +81,13 @@ module _ {S : Type 0} where
   submitted_tallied w true node r t = record { learnt = t.learnt; replies = t.replies; answers = t.answers }
   submitted_tallied w false node r t = t
 
-  answered_tallied : (w : WorldState S) (node : ℕ) (r : Result (ℕ × List ℕ) NodeFault) → IsTallied w → IsTallied (answered w node r)
-  answered_tallied w node (Ok told) t = record {
+  answered_tallied : (w : WorldState S) (node : ℕ) (query : Query) (r : Result (ℕ × List ℕ) NodeFault) → IsTallied w → IsTallied (answered w node query r)
+  answered_tallied w node query (Ok told) t = record {
     learnt = stays w.learnt tells_learnt w.outcomes Answered t.learnt refl;
     replies = stays w.replies tells_reply w.outcomes Answered t.replies refl;
     answers = grows w.answers _ tells_answer w.outcomes Answered t.answers refl;
   }
-  answered_tallied w node (Err f) t = with_quiet w (Refused node f) refl refl refl t
+  answered_tallied w node query (Err f) t = with_quiet w (Refused node f) refl refl refl t
 
   restarted_tallied : (w : WorldState S) (node : ℕ) (r : Result (Unit {0}) NodeFault) → IsTallied w
       → IsTallied (with_outcome w (restart_outcome node r))
@@ -127,7 +128,7 @@ module _ {S : Type 0} where
     step_tallied contents IsHonest read_fails old (event.Fault node failing) new h t =
         another new _ h.leaves (with_quiet (with_node old node _) (Done false false) refl refl refl (with_node_tallied old node _ t))
     step_tallied contents IsHonest read_fails old (event.Query node query) new h t =
-        another new _ h.leaves (answered_tallied old node h.result t)
+        another new _ h.leaves (answered_tallied old node query h.result t)
 
 -- every list is empty at the start
 start_tallied : {S : Type 0} (contents : Script S → Records) (count : ℕ) (w : WorldState S) → IsStart contents count w → IsTallied w

@@ -1,20 +1,26 @@
 -- Each step keeps what the lists of a world tell of one another.
-use Rattle.std.proofs.Common.{◌≡◌, ◌≢◌, ℕ, zero, suc, ◌+◌, ◌<◌, ◌⊎◌, inl, inr, List, [], ◌∷◌, ◌++◌, length, Bool, true, false, Option, Some, None, Result, Ok, Err, is_some, IsSome, IfSome, IfOk, IfErr, OnOk, OnErr, MatchBool, Contains, slice_get, slice_set, codes, if◌then◌else◌, refl, sym, ap, ◌∙◌, subst, arith, append-nil}
+use Rattle.std.proofs.Common.{◌≡◌, ℕ, zero, suc, ◌⊎◌, inl, inr, List, [], ◌∷◌, ◌++◌, length, Bool, true, false, Option, Some, None, Result, Ok, Err, is_some, IsSome, IfSome, IfOk, IfErr, OnOk, OnErr, MatchBool, Contains, slice_get, slice_set, if◌then◌else◌, refl, sym, ap, ◌∙◌, subst, append-nil}
 use Rattle.std.specs.List.{list_any}
-use Rattle.std.proofs.lemmas.List.Elements.{Contains-append_left, Contains-append_right, Contains-append_cases, Contains-push, Contains-push_cases}
+use Rattle.std.specs.Option.{option_to_list}
+use Rattle.std.proofs.lemmas.List.Elements.{Contains-append_left, Contains-append_cases, Contains-push, Contains-push_cases}
 use Rattle.std.proofs.lemmas.Option.{cond_some, same_Some}
 use Rattle.stable.specs.Records.{Records}
 use Rattle.stable.specs.Script.{Script}
 use Rattle.stable.specs.declared.key.Key.{Key}
 use Rattle.stable.specs.declared.scripted.Failing.{Failing}
-use Rattle.synod.specs.declared.vote.Vote.{Vote}
 use Rattle.synod.proofs.Thinking.{none_in}
-use Rattle.wire.specs.Asked.{Asked}
-use Rattle.wire.specs.declared.command.Command.{Command}
-use Rattle.wire.specs.declared.command.Command.TheVariants.{NoOp, Request}
-use Rattle.wire.specs.declared.message.Message.{Message}
-use Rattle.wire.specs.declared.message.Message.TheVariants as message
-use Rattle.wire.specs.declared.message.Envelope.{Envelope}
+use Rattle.sessions.specs.Asked.{Asked}
+use Rattle.sessions.specs.Machines.{MachineState, after_command, reply_to_command}
+use Rattle.sessions.specs.Meaning.{RepliesAt}
+use Rattle.sessions.specs.Outcomes.{outcome_code}
+use Rattle.sessions.specs.Standing.{StandsFor, StandsForOneMore, RepliesOneMore}
+use Rattle.sessions.proofs.Keeping.{answers_all}
+use Rattle.sessions.specs.declared.command.Command.{Command}
+use Rattle.store.specs.Answers.{IsAnswer}
+use Rattle.store.specs.declared.query.Query.{Query}
+use Rattle.sessions.specs.declared.command.Command.TheVariants.{NoOp, Request}
+use Rattle.wire.specs.declared.frames.message.Message.TheVariants as message
+use Rattle.wire.specs.declared.frames.envelope.Envelope.{Envelope}
 use Rattle.world.specs.declared.event.Event.{Event}
 use Rattle.world.specs.declared.event.Event.TheVariants as event
 use Rattle.world.specs.declared.fault.NodeFault.{NodeFault}
@@ -28,17 +34,15 @@ use Rattle.world.specs.declared.log.TheConstants.{LOG_SLOTS}
 use Rattle.world.specs.declared.outputs.Executed.{Executed}
 use Rattle.world.specs.Faults.{is_stop_fault}
 use Rattle.world.specs.Learning.{Learning}
-use Rattle.world.specs.Loading.{Restarts, IsLoaded}
-use Rattle.world.specs.Machines.{first_reply}
-use Rattle.world.specs.Minds.{Mind, Takes, HearsAccepted, executed_reply, waits, with_request, is_full, position}
+use Rattle.world.specs.Loading.{IsLoaded}
+use Rattle.world.specs.Minds.{Mind, Takes, executed_reply, waits, with_request, is_full, position}
 use Rattle.world.specs.Nodes.{NodeSteps, NodeAnswers, TakesInput, RefusesInput, StopsOnInput}
 use Rattle.world.specs.Outputs.{Told, nothing, sent, replied_at}
 use Rattle.world.specs.Proposing.{Proposing, fill_sends, is_of}
 use Rattle.world.specs.States.{NodeState}
 use Rattle.world.specs.Reaching.{AreHonest}
-use Rattle.world.specs.Telling.{HasLearnt, TellsReply, TellsAnswer, ListsTell, Tells}
+use Rattle.world.specs.Telling.{HasLearnt, TellsReply, TellsAnswer, Knows, prefix, ListsTell, Tells}
 use Rattle.world.specs.Worlds.{WorldState, TakesAt, SubmitsAt, ReceivesAt, AsksAt, ArmsAt, RestartsAt, Steps, recorded, with_node, with_submission, without_wait, learnt_by, replied_by, answered}
-use Rattle.world.proofs.Commands.{same_number}
 use Rattle.world.proofs.Hearing.{learns_or_keeps}
 
 -- ---- lists
@@ -67,92 +71,159 @@ set_here (x' ∷ xs) zero x y e = refl
 set_here (x' ∷ xs) (suc i) x y e = set_here xs i x y e
 
 -- ---- what a node tells on an input
-abbrev executed_at : Asked → Executed
-executed_at r = record { client = r.client; number = r.number; reply = first_reply r }
+-- the machine has executed what is known to be learnt
+abbrev StandsBy : Mind → Type 0
+StandsBy m = StandsFor m.machine (prefix m)
+
+-- a reply is to what is learnt now, after what was learnt before
+record RepliesNow (before : List Command) (learnt : Option Command) (e : Executed) : Type 0 where
+  request : Asked
+  is : learnt ≡ Some (Request request)
+  of_client : e.client ≡ request.client
+  of_number : e.number ≡ request.number
+  replies : RepliesAt (before ++ Request request ∷ []) (length before) request (outcome_code e.reply)
+
+-- what a node that was up knew
+abbrev known_before : Option Mind → List Command
+known_before None = []
+known_before (Some m) = prefix m
 
 -- what it knows to be learnt it knew, or it tells it now; and a reply is to what it tells now
 record TellsInput (before after : Option Mind) (told : Told) : Type 0 where
-  knows : (m : Mind) (c : Command) → after ≡ Some m → m.learning.learnt ≡ Some c
-      → ((k : Mind) × ((before ≡ Some k) × (k.learning.learnt ≡ Some c))) ⊎ (told.learnt ≡ Some c)
-  replies : (e : Executed) → told.executed ≡ Some e → (r : Asked) × ((told.learnt ≡ Some (Request r)) × (executed_at r ≡ e))
+  knows : (m : Mind) → after ≡ Some m → (prefix m ≡ []) ⊎ (((k : Mind) × ((before ≡ Some k) × (prefix m ≡ prefix k)))
+      ⊎ ((c : Command) × ((told.learnt ≡ Some c) × (prefix m ≡ c ∷ []))))
+  stands : (m : Mind) → after ≡ Some m → ((k : Mind) → before ≡ Some k → StandsBy k) → StandsBy m
+  replies : ((k : Mind) → before ≡ Some k → StandsBy k) → (e : Executed) → told.executed ≡ Some e → RepliesNow [] told.learnt e
 
-no_reply : (told : Told) → told.executed ≡ None → (e : Executed) → told.executed ≡ Some e
-    → (r : Asked) × ((told.learnt ≡ Some (Request r)) × (executed_at r ≡ e))
+no_reply : (told : Told) → told.executed ≡ None → (e : Executed) → told.executed ≡ Some e → RepliesNow [] told.learnt e
 no_reply told none e f = absurd (let h : None ≡ Some e = sym none ∙ f in cc)
 
--- a node that is as it was in what it has learnt
-quietly : (old new : Mind) (told : Told) → new.learning ≡ old.learning → told.executed ≡ None → TellsInput (Some old) (Some new) told
-quietly old new told same none = record {
-  knows = λ m c e l. inl (
-    old,
-    (refl, sym (ap (λ (k : Learning). k.learnt) same) ∙ ap (λ (k : Mind). k.learning.learnt) (same_Some new m e) ∙ l),
-  );
-  replies = no_reply told none;
+-- a node that is as it was in what it has learnt and executed
+quietly : (old new : Mind) (told : Told) → new.learning ≡ old.learning → new.machine ≡ old.machine → told.executed ≡ None
+    → TellsInput (Some old) (Some new) told
+quietly old new told same machine none = record {
+  knows = λ m e.
+      let is : new ≡ m = same_Some new m e in
+      inr (inl (
+        old,
+        (refl, sym (ap prefix is) ∙ ap (λ (l : Learning). option_to_list l.learnt) same),
+      ));
+  stands = λ m e before.
+      let is : new ≡ m = same_Some new m e in
+      subst StandsBy is
+      (subst (λ (l : List Command). StandsFor new.machine l) (sym (ap (λ (l : Learning). option_to_list l.learnt) same))
+      (subst (λ (k : MachineState). StandsFor k (prefix old)) (sym machine) (before old refl)));
+  replies = λ before. no_reply told none;
 }
 
 -- one that is down
 down : (before : Option Mind) (after : Option Mind) → after ≡ None → TellsInput before after nothing
 down before after gone = record {
-  knows = λ m c e l. absurd (let h : None ≡ Some m = sym gone ∙ e in cc);
-  replies = no_reply nothing refl;
+  knows = λ m e. absurd (let h : None ≡ Some m = sym gone ∙ e in cc);
+  stands = λ m e before. absurd (let h : None ≡ Some m = sym gone ∙ e in cc);
+  replies = λ before. no_reply nothing refl;
 }
 
 -- one that is as it was
 as_it_was : (before after : Option Mind) → after ≡ before → TellsInput before after nothing
 as_it_was before after same = record {
-  knows = λ m c e l. inl (m, (sym same ∙ e, l));
-  replies = no_reply nothing refl;
+  knows = λ m e. inr (inl (m, (sym same ∙ e, refl)));
+  stands = λ m e stood. stood m (sym same ∙ e);
+  replies = λ stood. no_reply nothing refl;
 }
 
 told_nothing : (b : Bool) (told : Told) (sends : List Envelope) → told ≡ (if b then nothing else sent sends) → told.executed ≡ None
 told_nothing true told sends e = ap (λ (t : Told). t.executed) e
 told_nothing false told sends e = ap (λ (t : Told). t.executed) e
 
-executed_of : (p : Proposing) (c : Command) (e : Executed) → executed_reply p c ≡ Some e → (r : Asked) × ((c ≡ Request r) × (executed_at r ≡ e))
-executed_of p NoOp e f = absurd (let h : None ≡ Some e = f in cc)
-executed_of p (Request r) e f = (r, (refl, (cond_some (list_any (is_of r.client r.number) p.waiting) (executed_at r) e f).1))
+-- the reply to a command that is executed first
+executed_of : (k : MachineState) (p : Proposing) (c : Command) (e : Executed) → executed_reply k p c ≡ Some e
+    → StandsFor k [] → RepliesOneMore k c (reply_to_command k c) → RepliesNow [] (Some c) e
+executed_of k p NoOp e f stands replies = absurd (let h : None ≡ Some e = f in cc)
+executed_of k p (Request r) e f stands replies =
+    let executed_at : Executed = record { client = r.client; number = r.number; reply = reply_to_command k (Request r) } in
+    let is : executed_at ≡ e = (cond_some (list_any (is_of r.client r.number) p.waiting) executed_at e f).1 in
+    subst (λ (x : Executed). RepliesNow [] (Some (Request r)) x) is (record {
+      request = r;
+      is = refl;
+      of_client = refl;
+      of_number = refl;
+      replies = replies.replies [] stands;
+    })
 
 abbrev told_all : Mind → Command → Told
-told_all old c = record { learnt = Some c; executed = executed_reply old.proposing c; sends = [] }
+told_all old c = record { learnt = Some c; executed = executed_reply old.machine old.proposing c; sends = [] }
 
-accepted_tells : (old new : Mind) (c : Command) (learns : Bool) (told : Told)
-    → (learns ≡ true → new.learning.learnt ≡ Some c) × (learns ≡ false → new.learning.learnt ≡ old.learning.learnt)
+-- a telling by which the slot is learnt, or not
+record LearnsSo (old new : Mind) (c : Command) (learns : Bool) : Type 0 where
+  -- a slot is learnt once
+  fresh : learns ≡ true → old.learning.learnt ≡ None
+  learns_ : learns ≡ true → new.learning.learnt ≡ Some c
+  keeps : learns ≡ false → new.learning.learnt ≡ old.learning.learnt
+  executes : new.machine ≡ (if learns then after_command old.machine c else old.machine)
+  stands : learns ≡ true → StandsForOneMore old.machine new.machine c
+  replies : learns ≡ true → RepliesOneMore old.machine c (reply_to_command old.machine c)
+
+accepted_tells : (old new : Mind) (c : Command) (learns : Bool) (told : Told) → LearnsSo old new c learns
     → told ≡ (if learns then told_all old c else nothing) → TellsInput (Some old) (Some new) told
-accepted_tells old new c true told kept tells =
+accepted_tells old new c true told so tells =
     let learnt : told.learnt ≡ Some c = ap (λ (t : Told). t.learnt) tells in
-    let executed : told.executed ≡ executed_reply old.proposing c = ap (λ (t : Told). t.executed) tells in
+    let executed : told.executed ≡ executed_reply old.machine old.proposing c = ap (λ (t : Told). t.executed) tells in
+    let none : prefix old ≡ [] = ap (λ (o : Option Command). option_to_list o) (so.fresh refl) in
+    let one : prefix new ≡ c ∷ [] = ap (λ (o : Option Command). option_to_list o) (so.learns_ refl) in
     record {
-      knows = λ m d e l. inr (learnt ∙ sym (kept.0 refl) ∙ ap (λ (k : Mind). k.learning.learnt) (same_Some new m e) ∙ l);
-      replies = λ e f.
-          let of : (r : Asked) × ((c ≡ Request r) × (executed_at r ≡ e)) = executed_of old.proposing c e (sym executed ∙ f) in
-          (of.0, (learnt ∙ ap (λ (d : Command). Some d) of.1.0, of.1.1));
+      knows = λ m e. inr (inr (c, (learnt, sym (ap prefix (same_Some new m e)) ∙ one)));
+      stands = λ m e before.
+          subst StandsBy (same_Some new m e)
+          (subst (λ (l : List Command). StandsFor new.machine l) (sym one)
+          ((so.stands refl).stands [] (subst (λ (l : List Command). StandsFor old.machine l) none (before old refl))));
+      replies = λ before e f.
+          subst (λ (o : Option Command). RepliesNow [] o e) (sym learnt)
+          (executed_of old.machine old.proposing c e (sym executed ∙ f)
+          (subst (λ (l : List Command). StandsFor old.machine l) none (before old refl)) (so.replies refl));
     }
-accepted_tells old new c false told kept tells = record {
-  knows = λ m d e l. inl (
-    old,
-    (refl, sym (kept.1 refl) ∙ ap (λ (k : Mind). k.learning.learnt) (same_Some new m e) ∙ l),
-  );
-  replies = no_reply told (ap (λ (t : Told). t.executed) tells);
-}
+accepted_tells old new c false told so tells =
+    let same : prefix new ≡ prefix old = ap (λ (o : Option Command). option_to_list o) (so.keeps refl) in
+    record {
+      knows = λ m e. inr (inl (old, (refl, sym (ap prefix (same_Some new m e)) ∙ same)));
+      stands = λ m e before.
+          subst StandsBy (same_Some new m e)
+          (subst (λ (l : List Command). StandsFor new.machine l) (sym same)
+          (subst (λ (k : MachineState). StandsFor k (prefix old)) (sym so.executes) (before old refl)));
+      replies = λ before. no_reply told (ap (λ (t : Told). t.executed) tells);
+    }
 
 takes_tells : (old : Mind) (i : Input) (new : Mind) (told : Told) → Takes old i new told → TellsInput (Some old) (Some new) told
 takes_tells old (input.Submit r) new told t =
-    quietly old new told (ap (λ (m : Mind). m.learning) t.0) (told_nothing (waits old r) told (fill_sends (with_request old.proposing r)) t.1)
-takes_tells old (input.Message from (message.Prepare p)) new told t =
-    quietly old new told (ap (λ (m : Mind). m.learning) t.0) (ap (λ (u : Told). u.executed) t.1)
+    quietly old new told (ap (λ (m : Mind). m.learning) t.0) (ap (λ (m : Mind). m.machine) t.0)
+    (told_nothing (waits old r) told (fill_sends (with_request old.proposing r)) t.1)
+takes_tells old (input.Message from (message.Prepare ballot first)) new told t =
+    quietly old new told (ap (λ (m : Mind). m.learning) t.0) (ap (λ (m : Mind). m.machine) t.0) (ap (λ (u : Told). u.executed) t.1)
 takes_tells old (input.Message from (message.Promise p)) new told t =
-    quietly old new told (ap (λ (m : Mind). m.learning) t.2.leaves) (told_nothing (is_full old) told (fill_sends t.0) t.2.tells)
+    quietly old new told (ap (λ (m : Mind). m.learning) t.2.leaves) (ap (λ (m : Mind). m.machine) t.2.leaves)
+    (told_nothing (is_full old) told (fill_sends t.0) t.2.tells)
 takes_tells old (input.Message from (message.Nack n)) new told t =
-    quietly old new told (ap (λ (m : Mind). m.learning) t.1) (ap (λ (u : Told). u.executed) t.2)
+    quietly old new told (ap (λ (m : Mind). m.learning) t.1) (ap (λ (m : Mind). m.machine) t.1) (ap (λ (u : Told). u.executed) t.2)
 takes_tells old (input.Message from (message.Accept v)) new told t =
-    quietly old new told (ap (λ (m : Mind). m.learning) t.0) (ap (λ (u : Told). u.executed) t.1)
+    quietly old new told (ap (λ (m : Mind). m.learning) t.0) (ap (λ (m : Mind). m.machine) t.0) (ap (λ (u : Told). u.executed) t.1)
 takes_tells old (input.Message from (message.Accepted v)) new told t =
-    accepted_tells old new v.command t.learns told
-    (learns_or_keeps old.learning (record { ballot = v.ballot; node = from }) v.slot v.command t.learns new.learning t.hears) t.tells
+    let said = learns_or_keeps old.learning (record { ballot = v.ballot; node = from }) v.slot v.command t.learns new.learning t.hears in
+    accepted_tells old new v.command t.learns told (record {
+      fresh = said.fresh;
+      learns_ = said.learns_;
+      keeps = said.keeps;
+      executes = ap (λ (m : Mind). m.machine) t.leaves;
+      stands = t.stands;
+      replies = t.replies;
+    }) t.tells
+takes_tells old (input.Message from (message.Ask slot)) new told t =
+    quietly old new told (ap (λ (m : Mind). m.learning) t.0) (ap (λ (m : Mind). m.machine) t.0) (ap (λ (u : Told). u.executed) t.1)
+takes_tells old (input.Message from (message.Decided slot command)) new told t =
+    quietly old new told (ap (λ (m : Mind). m.learning) t.0) (ap (λ (m : Mind). m.machine) t.0) (ap (λ (u : Told). u.executed) t.1)
 takes_tells old input.Timeout new told t =
-    quietly old new told (ap (λ (m : Mind). m.learning) t.1) (ap (λ (u : Told). u.executed) t.2)
+    quietly old new told (ap (λ (m : Mind). m.learning) t.1) (ap (λ (m : Mind). m.machine) t.1) (ap (λ (u : Told). u.executed) t.2)
 takes_tells old input.Tick new told t =
-    quietly old new told (ap (λ (m : Mind). m.learning) t.0) (ap (λ (u : Told). u.executed) t.1)
+    quietly old new told (ap (λ (m : Mind). m.learning) t.0) (ap (λ (m : Mind). m.machine) t.0) (ap (λ (u : Told). u.executed) t.1)
 
 abbrev told_of : Result Told NodeFault → Told
 told_of (Ok told) = told
@@ -185,53 +256,86 @@ module _ {S : Type 0} (reads : S → S → Type 0) (puts fails : S → Key → L
   node_tells before after i result s = node_tells_at before after i before.up result refl s.down s.taken s.refused
 
 -- ---- and the lists
+abbrev learnt_at : ℕ → Command → Learnt
+learnt_at i c = record { node = i; slot = zero; command = c }
+
+-- what was learnt stays so
+log_stays : (learnt more : List Learnt) (node : ℕ) (log : List Command) → HasLearnt learnt node log → HasLearnt (learnt ++ more) node log
+log_stays learnt more node log has slot c e = Contains-append_left learnt more _ (has slot c e)
+
+nothing_learnt : (learnt : List Learnt) (node : ℕ) → HasLearnt learnt node []
+nothing_learnt learnt node slot c e = absurd (let h : None ≡ Some c = e in cc)
+
+one_learnt : (learnt : List Learnt) (node : ℕ) (c : Command) → Contains learnt (learnt_at node c) → HasLearnt learnt node (c ∷ [])
+one_learnt learnt node c there zero d e = subst (λ (x : Command). Contains learnt (learnt_at node x)) (same_Some c d e) there
+one_learnt learnt node c there (suc slot) d e = absurd (let h : None ≡ Some d = e in cc)
+
 reply_stays : (learnt more : List Learnt) (p : Replied) → TellsReply learnt p → TellsReply (learnt ++ more) p
 reply_stays learnt more p t = record {
+  before = t.before;
   request = t.request;
-  known = Contains-append_left learnt more _ t.known;
+  known = log_stays learnt more p.node _ t.known;
   of_client = t.of_client;
   of_number = t.of_number;
-  reply = t.reply;
   position = t.position;
+  replies = t.replies;
 }
 
 answer_stays : (learnt more : List Learnt) (a : Answered) → TellsAnswer learnt a → TellsAnswer (learnt ++ more) a
 answer_stays learnt more a t = record {
-  text = t.text;
-  known = elim t.known [
-    | inl none ↦ inl none
-    | inr some ↦ inr (some.0, (some.1.0, Contains-append_left learnt more _ some.1.1))
-  ];
+  log = t.log;
+  known = log_stays learnt more a.node t.log t.known;
+  position = t.position;
+  answers = t.answers;
 }
 
-abbrev learnt_at : ℕ → Command → Learnt
-learnt_at i c = record { node = i; slot = zero; command = c }
-
 -- what is told now is in the longer list
-now_learnt : (learnt : List Learnt) (i : ℕ) (o : Option Command) (c : Command) → o ≡ Some c → HasLearnt (learnt ++ learnt_by i o) i c
+now_learnt : (learnt : List Learnt) (i : ℕ) (o : Option Command) (c : Command) → o ≡ Some c → HasLearnt (learnt ++ learnt_by i o) i (c ∷ [])
 now_learnt learnt i None c e = absurd (let h : None ≡ Some c = e in cc)
 now_learnt learnt i (Some d) c e =
-    subst (λ (x : Command). HasLearnt (learnt ++ learnt_at i d ∷ []) i x) (same_Some d c e) (Contains-push learnt (learnt_at i d))
+    subst (λ (x : Command). HasLearnt (learnt ++ learnt_at i d ∷ []) i (x ∷ [])) (same_Some d c e)
+    (one_learnt (learnt ++ learnt_at i d ∷ []) i d (Contains-push learnt (learnt_at i d)))
 
 new_slot : (i : ℕ) (o : Option Command) (t : Learnt) → Contains (learnt_by i o) t → t.slot ≡ zero
 new_slot i None t c = absurd (none_in t c)
 new_slot i (Some d) t c = sym (ap (λ (u : Learnt). u.slot) (only_in (learnt_at i d) t c))
 
 new_reply : (learnt : List Learnt) (i : ℕ) (told : Told) (o : Option Executed)
-    → ((e : Executed) → o ≡ Some e → (r : Asked) × ((told.learnt ≡ Some (Request r)) × (executed_at r ≡ e)))
+    → ((e : Executed) → o ≡ Some e → RepliesNow [] told.learnt e)
     → (p : Replied) → Contains (replied_by i o) p → TellsReply (learnt ++ learnt_by i told.learnt) p
 new_reply learnt i told None says p c = absurd (none_in p c)
 new_reply learnt i told (Some e) says p c =
-    let of : (r : Asked) × ((told.learnt ≡ Some (Request r)) × (executed_at r ≡ e)) = says e refl in
-    let same : replied_at i (executed_at of.0) ≡ p = ap (replied_at i) of.1.1 ∙ only_in (replied_at i e) p c in
-    subst (TellsReply (learnt ++ learnt_by i told.learnt)) same (record {
-      request = of.0;
-      known = now_learnt learnt i told.learnt (Request of.0) of.1.0;
-      of_client = refl;
-      of_number = refl;
-      reply = refl;
+    let of : RepliesNow [] told.learnt e = says e refl in
+    subst (TellsReply (learnt ++ learnt_by i told.learnt)) (only_in (replied_at i e) p c) (record {
+      before = [];
+      request = of.request;
+      known = now_learnt learnt i told.learnt (Request of.request) of.is;
+      of_client = of.of_client;
+      of_number = of.of_number;
       position = refl;
+      replies = of.replies;
     })
+
+-- what the node that takes an input knows then
+knows_now : {S : Type 0} (nodes : List (NodeState S)) (learnt : List Learnt) (i : ℕ) (before after : NodeState S) (told : Told)
+    → ((m : Mind) → before.up ≡ Some m → Knows learnt i m) → TellsInput before.up after.up told
+    → (m : Mind) → after.up ≡ Some m → Knows (learnt ++ learnt_by i told.learnt) i m
+knows_now nodes learnt i before after told knew says m up = record {
+  told = elim (says.knows m up) [
+    | inl none ↦ subst (HasLearnt (learnt ++ learnt_by i told.learnt) i) (sym none) (nothing_learnt (learnt ++ learnt_by i told.learnt) i)
+    | inr some ↦ elim some [
+      | inl old ↦ subst (HasLearnt (learnt ++ learnt_by i told.learnt) i) (sym old.1.1)
+          (log_stays learnt (learnt_by i told.learnt) i (prefix old.0) (knew old.0 old.1.0).told)
+      | inr new ↦ subst (HasLearnt (learnt ++ learnt_by i told.learnt) i) (sym new.1.1)
+          (now_learnt learnt i told.learnt new.0 new.1.0)
+    ]
+  ];
+  stands = says.stands m up (λ k was. (knew k was).stands);
+}
+
+-- what any other node knows
+knows_still : (learnt more : List Learnt) (i : ℕ) (m : Mind) → Knows learnt i m → Knows (learnt ++ more) i m
+knows_still learnt more i m k = record { told = log_stays learnt more i (prefix m) k.told; stands = k.stands }
 
 recorded_tells : {S : Type 0} (nodes : List (NodeState S)) (learnt : List Learnt) (replies : List Replied) (answers : List Answered)
     (i : ℕ) (before after : NodeState S) (told : Told) → ListsTell nodes learnt replies answers → slice_get nodes i ≡ Some before
@@ -244,16 +348,14 @@ recorded_tells {S} nodes learnt replies answers i before after told t here says 
   ];
   replied = λ p c. elim (Contains-append_cases replies (replied_by i told.executed) p c) [
     | inl old ↦ reply_stays learnt (learnt_by i told.learnt) p (t.replied p old)
-    | inr new ↦ new_reply learnt i told told.executed says.replies p new
+    | inr new ↦ new_reply learnt i told told.executed (says.replies (λ k was. (t.knows i before k here was).stands)) p new
   ];
   answered = λ a c. answer_stays learnt (learnt_by i told.learnt) a (t.answered a c);
-  knows = λ j n m c there up l. elim (set_cases nodes i j after n there) [
-    | inl at ↦ subst (λ k. HasLearnt (learnt ++ learnt_by i told.learnt) k c) (sym at.0)
-        (elim (says.knows m c (ap (λ (x : NodeState S). x.up) at.1 ∙ up) l) [
-          | inl old ↦ Contains-append_left learnt (learnt_by i told.learnt) (learnt_at i c) (t.knows i before old.0 c here old.1.0 old.1.1)
-          | inr new ↦ now_learnt learnt i told.learnt c new
-        ])
-    | inr elsewhere ↦ Contains-append_left learnt (learnt_by i told.learnt) (learnt_at j c) (t.knows j n m c elsewhere up l)
+  knows = λ j n m there up. elim (set_cases nodes i j after n there) [
+    | inl at ↦ subst (λ k. Knows (learnt ++ learnt_by i told.learnt) k m) (sym at.0)
+        (knows_now nodes learnt i before after told (λ k was. t.knows i before k here was) says m
+        (ap (λ (x : NodeState S). x.up) at.1 ∙ up))
+    | inr elsewhere ↦ knows_still learnt (learnt_by i told.learnt) j m (t.knows j n m elsewhere up)
   ];
 }
 
@@ -301,55 +403,50 @@ module _ {S : Type 0} (reads : Script S → Script S → Type 0) (puts fails : S
   ]
 
 -- ---- queries
--- a node's position is 1 where it has learnt something, and 0 where not
-position_known : (o : Option Command) (p : ℕ) → p ≡ (if is_some o then LOG_SLOTS else 0)
-    → (p ≡ 0) ⊎ ((p ≡ 1) × ((c : Command) × (o ≡ Some c)))
-position_known None p e = inl e
-position_known (Some c) p e = inr (e, (c, refl))
+-- a node's position is the number of commands that it has learnt
+position_of : (o : Option Command) → (if is_some o then LOG_SLOTS else 0) ≡ length (option_to_list o)
+position_of None = refl
+position_of (Some c) = refl
 
-abbrev answer_at : ℕ → ℕ → List ℕ → Answered
-answer_at node position text = record { node = node; position = position; text = text }
+abbrev answer_at : ℕ → Query → ℕ → List ℕ → Answered
+answer_at node query position text = record { node = node; position = position; query = query; text = text }
 
 answer_tells : {S : Type 0} (nodes : List (NodeState S)) (learnt : List Learnt) (replies : List Replied) (answers : List Answered)
-    (node : ℕ) (n : NodeState S) (at : ℕ) (text : List ℕ) (up : Option Mind) → ListsTell nodes learnt replies answers → slice_get nodes node ≡ Some n
-    → n.up ≡ up → (up ≡ None → ⊥) → IfSome up (λ m. (at ≡ position m) × (text ≡ codes "count 0"))
-    → TellsAnswer learnt (answer_at node at text)
-answer_tells nodes learnt replies answers node n at text None t here is some says = absurd (some refl)
-answer_tells nodes learnt replies answers node n at text (Some m) t here is some says = record {
-  text = says.1;
-  known = elim (position_known m.learning.learnt at says.0) [
-    | inl none ↦ inl none
-    | inr one ↦ inr (one.0, (one.1.0, t.knows node n m one.1.0 here is one.1.1))
-  ];
-}
+    (node : ℕ) (n : NodeState S) (query : Query) (at : ℕ) (text : List ℕ) (up : Option Mind) → ListsTell nodes learnt replies answers
+    → slice_get nodes node ≡ Some n → n.up ≡ up → (up ≡ None → ⊥) → IfSome up (λ m. at ≡ position m)
+    → IfSome up (λ m. IsAnswer m.machine.features query text) → TellsAnswer learnt (answer_at node query at text)
+answer_tells nodes learnt replies answers node n query at text None t here is some says_at says = absurd (some refl)
+answer_tells nodes learnt replies answers node n query at text (Some m) t here is some says_at says =
+    let knows : Knows learnt node m = t.knows node n m here is in
+    record {
+      log = prefix m;
+      known = knows.told;
+      position = says_at ∙ position_of m.learning.learnt;
+      answers = (answers_all m.machine query text says).answers (prefix m) knows.stands;
+    }
 
--- what a node that is up answers, by its parts
-answer_parts : (up : Option Mind) (told : ℕ × List ℕ) → IfSome up (λ m. told ≡ (position m, codes "count 0"))
-    → IfSome up (λ m. (told.0 ≡ position m) × (told.1 ≡ codes "count 0"))
-answer_parts None told says = tt
-answer_parts (Some m) told says = (ap (λ (x : ℕ × List ℕ). x.0) says, ap (λ (x : ℕ × List ℕ). x.1) says)
-
-answered_tells : {S : Type 0} (old : WorldState S) (node : ℕ) (n : NodeState (Script S)) (result : Result (ℕ × List ℕ) NodeFault)
-    → slice_get old.nodes node ≡ Some n → NodeAnswers n result → Tells old → Tells (answered old node result)
-answered_tells old node n (Ok told) here says t =
-    let new : TellsAnswer old.learnt (answer_at node told.0 told.1) =
-    answer_tells old.nodes old.learnt old.replies old.answers node n told.0 told.1 n.up t here refl
+answered_tells : {S : Type 0} (old : WorldState S) (node : ℕ) (n : NodeState (Script S)) (query : Query)
+    (result : Result (ℕ × List ℕ) NodeFault) → slice_get old.nodes node ≡ Some n → NodeAnswers n query result → Tells old
+    → Tells (answered old node query result)
+answered_tells old node n query (Ok told) here says t =
+    let new : TellsAnswer old.learnt (answer_at node query told.0 told.1) =
+    answer_tells old.nodes old.learnt old.replies old.answers node n query told.0 told.1 n.up t here refl
     (λ gone. let h : ◌≡◌ {A = Result (ℕ × List ℕ) NodeFault} (Ok told) (Err fault.Down) = says.down gone in cc)
-    (answer_parts n.up told says.answer) in
+    says.position_ says.answer in
     record {
       slots = t.slots;
       replied = t.replied;
-      answered = λ a c. elim (Contains-push_cases old.answers (answer_at node told.0 told.1) a c) [
+      answered = λ a c. elim (Contains-push_cases old.answers (answer_at node query told.0 told.1) a c) [
         | inl before ↦ t.answered a before
         | inr same ↦ subst (TellsAnswer old.learnt) same new
       ];
       knows = t.knows;
     }
-answered_tells old node n (Err f) here says t = t
+answered_tells old node n query (Err f) here says t = t
 
-asks_at : {S : Type 0} (old : WorldState S) (node : ℕ) (new : WorldState S) → AsksAt old node new → Tells old → Tells new
-asks_at old node new a tells =
-    subst (λ w. Tells w) (sym a.leaves) (answered_tells old node a.asked a.result a.here a.answers tells)
+asks_at : {S : Type 0} (old : WorldState S) (node : ℕ) (query : Query) (new : WorldState S) → AsksAt old node query new → Tells old → Tells new
+asks_at old node query new a tells =
+    subst (λ w. Tells w) (sym a.leaves) (answered_tells old node a.asked query a.result a.here a.answers tells)
 
 -- ---- restarts and armed faults
 -- one node is changed, and nothing is told
@@ -366,16 +463,20 @@ arms_at old node failing new a tells =
     (changed_tells old node a.before (record a.before { storage = record a.before.storage { armed = Some failing } }) tells a.here
     (as_it_was a.before.up a.before.up refl))
 
--- a node that has just loaded its records has learnt nothing
+-- a node that has just loaded its records has learnt and executed nothing
 loaded_tells : {S : Type 0} (records : Records) (before after : NodeState S) (result : Result (Unit {0}) NodeFault)
     → OnOk result (IfSome after.up (IsLoaded records before.id before.nodes)) → OnErr result (after.up ≡ None)
     → TellsInput before.up after.up nothing
-loaded_tells records before after (Ok x) loads gone = record {
-  knows = λ m c e l.
-      let loaded : IsLoaded records before.id before.nodes m = subst (λ (o : Option Mind). IfSome o (IsLoaded records before.id before.nodes)) e loads in
-      absurd (let h : None ≡ Some c = sym (ap (λ (k : Learning). k.learnt) loaded.learning) ∙ l in cc);
-  replies = no_reply nothing refl;
-}
+loaded_tells records before after (Ok x) loads gone =
+    let loaded : (m : Mind) → after.up ≡ Some m → IsLoaded records before.id before.nodes m =
+    λ m e. subst (λ (o : Option Mind). IfSome o (IsLoaded records before.id before.nodes)) e loads in
+    let none : (m : Mind) → after.up ≡ Some m → prefix m ≡ [] =
+    λ m e. ap (λ (l : Learning). option_to_list l.learnt) (loaded m e).learning in
+    record {
+      knows = λ m e. inl (none m e);
+      stands = λ m e stood. subst (λ (l : List Command). StandsFor m.machine l) (sym (none m e)) (loaded m e).machine;
+      replies = λ stood. no_reply nothing refl;
+    }
 loaded_tells records before after (Err f) loads gone = down before.up after.up gone
 
 module _ {S : Type 0} (contents : Script S → Records) (IsHonest : Script S → Type 0) (reads read_fails : Script S → Script S → Type 0)
@@ -401,15 +502,21 @@ module _ {S : Type 0} (contents : Script S → Records) (IsHonest : Script S →
   steps_tell old new (event.Tick node) s honest tells = takes_at reads puts fails old node input.Tick s.0 new s.1 tells
   steps_tell old new (event.Restart node) s honest tells = restarts_at old node new s honest tells
   steps_tell old new (event.Fault node failing) s honest tells = arms_at old node failing new s tells
-  steps_tell old new (event.Query node query) s honest tells = asks_at old node new s tells
+  steps_tell old new (event.Query node query) s honest tells = asks_at old node query new s tells
 
 -- ---- the start
--- where nothing is told and no node knows anything to be learnt, there is nothing to keep
+-- where nothing is told and no node has learnt or executed anything, there is nothing to keep
 pub start_tells : {S : Type 0} (w : WorldState S) → w.learnt ≡ [] → w.replies ≡ [] → w.answers ≡ []
-    → ((i : ℕ) (n : NodeState (Script S)) (m : Mind) → slice_get w.nodes i ≡ Some n → n.up ≡ Some m → m.learning.learnt ≡ None) → Tells w
+    → ((i : ℕ) (n : NodeState (Script S)) (m : Mind) → slice_get w.nodes i ≡ Some n → n.up ≡ Some m
+    → (m.learning.learnt ≡ None) × StandsFor m.machine []) → Tells w
 start_tells w learnt replies answers fresh = record {
   slots = λ t c. absurd (none_in t (subst (λ (l : List Learnt). Contains l t) learnt c));
   replied = λ p c. absurd (none_in p (subst (λ (l : List Replied). Contains l p) replies c));
   answered = λ a c. absurd (none_in a (subst (λ (l : List Answered). Contains l a) answers c));
-  knows = λ i n m c here up l. absurd (let h : None ≡ Some c = sym (fresh i n m here up) ∙ l in cc);
+  knows = λ i n m here up.
+      let none : prefix m ≡ [] = ap (λ (o : Option Command). option_to_list o) (fresh i n m here up).0 in
+      record {
+        told = subst (HasLearnt w.learnt i) (sym none) (nothing_learnt w.learnt i);
+        stands = subst (λ (l : List Command). StandsFor m.machine l) (sym none) (fresh i n m here up).1;
+      };
 }

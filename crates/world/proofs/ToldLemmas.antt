@@ -1,24 +1,21 @@
 -- What a node's promises tell is of their first slot.
-use Rattle.std.proofs.Common.{◌≡◌, inl, inr, ℕ, zero, suc, List, [], ◌∷◌, ◌++◌, All, Bool, true, false, filter, Option, Some, None, IfSome, Contains, MatchOption, not, if◌then◌else◌, refl, sym, ap, subst, ◌∙◌}
+use Rattle.std.proofs.Common.{◌≡◌, inl, inr, ℕ, zero, suc, List, [], All, Bool, true, false, Option, Some, None, IfSome, Contains, not, if◌then◌else◌, refl, sym, subst}
 use Rattle.std.specs.Option.{option_to_list}
 use Rattle.std.proofs.lemmas.List.Elements.{All-nil, All-cons, All-push, All-filter, Contains-push_cases}
 use Rattle.synod.specs.declared.ballot.Ballot.{Ballot}
 use Rattle.synod.specs.declared.vote.Vote.{Vote}
 use Rattle.synod.proofs.Thinking.{none_in}
-use Rattle.acceptor.specs.declared.answer.Answer.{Answer}
-use Rattle.acceptor.specs.declared.answer.Answer.TheVariants as answer
-use Rattle.acceptor.specs.Accepting.{prepare_answer, accept_answer, refusing}
+use Rattle.acceptor.specs.Accepting.{prepare_answer, accept_answer}
 use Rattle.acceptor.proofs.RecordLemmas.{refusing_cases}
-use Rattle.wire.specs.Asked.{Asked}
 use Rattle.wire.specs.NodeSets.{has_node}
-use Rattle.wire.specs.declared.command.Command.{Command}
-use Rattle.wire.specs.declared.message.Envelope.{Envelope}
-use Rattle.wire.specs.declared.message.Message.{Message}
-use Rattle.wire.specs.declared.message.Message.TheVariants.{Prepare, Promise, Nack, Accept, Accepted}
+use Rattle.sessions.specs.declared.command.Command.{Command}
+use Rattle.wire.specs.declared.frames.envelope.Envelope.{Envelope}
+use Rattle.wire.specs.declared.frames.message.Message.{Message}
+use Rattle.wire.specs.declared.frames.message.Message.TheVariants.{Prepare, Promise, Nack, Accept, Accepted, Ask, Decided}
 use Rattle.world.specs.declared.input.Input.{Input}
 use Rattle.world.specs.declared.input.Input.TheVariants as input
 use Rattle.world.specs.Campaigning.{Campaigning}
-use Rattle.world.specs.Minds.{Mind, Takes, TakesMessage, answer_sends, one_send, with_request, waits, is_full, after_learning, executed_reply}
+use Rattle.world.specs.Minds.{Mind, Takes, TakesMessage, answer_sends, one_send, with_request, waits, is_full}
 use Rattle.world.specs.Outputs.{Told, nothing, sent}
 use Rattle.world.specs.Proposing.{Proposing, fills, fill_sends, may_propose, choice, accept, prepare, sends_again, proposal_again}
 use Rattle.world.specs.Protocol.{IsWellTold}
@@ -94,11 +91,13 @@ learns_told false t told e none = subst (λ (u : Told). AreWellTold u.sends) (sy
 
 message_told : (m : Mind) (from : ℕ) (message : Message) (new : Mind) (told : Told) → TakesMessage m from message new told
     → ((s : ℕ) → IfSome (m.accepting.vote s) (λ v. v.slot ≡ s)) → AreWellTold told.sends
-message_told m from (Prepare p) new told h at = subst (λ (t : Told). AreWellTold t.sends) (sym h.1) (prepare_told m from p.first p.ballot at)
+message_told m from (Prepare ballot first) new told h at = subst (λ (t : Told). AreWellTold t.sends) (sym h.1) (prepare_told m from first ballot at)
 message_told m from (Promise p) new told h at = fill_told (is_full m) h.0 told h.2.tells
 message_told m from (Nack n) new told h at = subst (λ (t : Told). AreWellTold t.sends) (sym h.2) none_told
 message_told m from (Accept v) new told h at = subst (λ (t : Told). AreWellTold t.sends) (sym h.1) (accept_told m from v)
 message_told m from (Accepted v) new told h at = learns_told h.learns _ told h.tells refl
+message_told m from (Ask slot) new told h at = subst (λ (t : Told). AreWellTold t.sends) (sym h.1) none_told
+message_told m from (Decided slot command) new told h at = subst (λ (t : Told). AreWellTold t.sends) (sym h.1) none_told
 
 pub taken_told : (m : Mind) (i : Input) (new : Mind) (told : Told) → Takes m i new told
     → ((s : ℕ) → IfSome (m.accepting.vote s) (λ v. v.slot ≡ s)) → AreWellTold told.sends

@@ -11,7 +11,7 @@ use Rattle.stable.specs.Script.{Script, Shows}
 use Rattle.acceptor.specs.Forms.{VoteFits}
 use Rattle.acceptor.specs.Spelling.{vote_bytes}
 use Rattle.acceptor.proofs.SayingOne.{one_vote}
-use Rattle.wire.specs.declared.command.Command.{Command}
+use Rattle.sessions.specs.declared.command.Command.{Command}
 use Rattle.world.specs.Reaching.{NodeStands, TookEffect, PutsStand, VotesAreListed}
 use Rattle.world.specs.States.{NodeState}
 use Rattle.world.specs.Voting.{vote_put}

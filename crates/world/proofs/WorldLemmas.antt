@@ -1,16 +1,12 @@
 -- One node of a world is changed.
-use Rattle.std.proofs.Common.{◌≡◌, ℕ, ◌<◌, List, map, length, slice_get, slice_set, Option, Some, None, IsSome, option_map, Bool, Result, is_ok, refl, sym, ap, ◌∙◌, subst, rules, arith}
+use Rattle.std.proofs.Common.{◌≡◌, ℕ, ◌<◌, List, map, length, slice_get, slice_set, Option, Some, None, IsSome, option_map, sym, ap, ◌∙◌, subst, rules, arith}
 use Rattle.std.proofs.lemmas.List.{map-set}
 use Rattle.std.proofs.lemmas.Option.{slice_get-map, slice_get_read}
 use Rattle.std.proofs.Math.ListN.{get_or}
 use Rattle.stable.specs.Script.{Script}
-use Rattle.stable.specs.declared.key.Key.{Key}
-use Rattle.world.specs.declared.fault.NodeFault.{NodeFault}
-use Rattle.world.specs.declared.input.Input.{Input}
 use Rattle.world.specs.declared.node.Node.{Node}
-use Rattle.world.specs.Nodes.{NodeState, state_of, NodeSteps}
-use Rattle.world.specs.Outputs.{Told}
-use Rattle.world.specs.Worlds.{WorldState, TakesAt, recorded, with_node}
+use Rattle.world.specs.Nodes.{NodeState, state_of}
+use Rattle.world.specs.Worlds.{WorldState, with_node}
 
 -- the node at a place, as it shows
 pub shown_at : {S : Type 0} (nodes : List (Node (Script S))) (i : ℕ) (n : Node (Script S)) → slice_get nodes i ≡ Some n

@@ -1,6 +1,5 @@
 -- Each step of the world is moves that the protocol allows.
-use Rattle.std.proofs.Common.{◌≡◌, ◌⊎◌, ℕ, zero, suc, ◌<◌, ◌≤◌, inl, inr, List, [], ◌∷◌, ◌++◌, All, map, length, slice_get, slice_set, Bool, true, false, Option, Some, None, IfSome, IsSome, Contains, Result, Ok, Err, is_ok, option_map, refl, sym, ap, subst, ◌∙◌, arith, append-nil}
-use Rattle.std.specs.Prelude.{⊤}
+use Rattle.std.proofs.Common.{◌≡◌, ℕ, zero, suc, ◌<◌, ◌≤◌, inl, inr, List, [], ◌∷◌, ◌++◌, map, length, slice_get, slice_set, Bool, true, false, Option, Some, None, IsSome, Contains, Result, Ok, Err, is_ok, option_map, refl, sym, ap, subst, ◌∙◌, append-nil}
 use Rattle.std.proofs.lemmas.Bool.{cases_eq}
 use Rattle.std.proofs.lemmas.List.Elements.{All-nil}
 use Rattle.std.proofs.lemmas.Option.{same_Some, slice_get-map, slice_get_within, get_or_from_slice_get}
@@ -18,9 +17,10 @@ use Rattle.stable.specs.declared.key.Key.{Key}
 use Rattle.stable.specs.declared.key.Key.TheVariants as key
 use Rattle.acceptor.specs.Accepting.{RecordsSay}
 use Rattle.stable.specs.declared.scripted.Failing.{Failing}
-use Rattle.wire.specs.Asked.{Asked}
-use Rattle.wire.specs.declared.command.Command.{Command}
-use Rattle.wire.specs.declared.message.Envelope.{Envelope}
+use Rattle.sessions.specs.Asked.{Asked}
+use Rattle.sessions.specs.declared.command.Command.{Command}
+use Rattle.wire.specs.declared.frames.envelope.Envelope.{Envelope}
+use Rattle.store.specs.declared.query.Query.{Query}
 use Rattle.world.specs.declared.event.Event.{Event}
 use Rattle.world.specs.declared.event.Event.TheVariants as event
 use Rattle.world.specs.declared.fault.NodeFault.{NodeFault}
@@ -32,9 +32,9 @@ use Rattle.world.specs.Fleets.{IsFleet, IsBetween, ComesFrom}
 use Rattle.world.specs.Minds.{Mind}
 use Rattle.world.specs.Nodes.{NodeState}
 use Rattle.world.specs.Outputs.{Told}
-use Rattle.world.specs.Protocol.{learnings, fleet, frame_of, message_of, input_of, learning_of, command_of, IsWellTold, IsWellToldInput}
+use Rattle.world.specs.Protocol.{learnings, fleet, frame_of, input_of, learning_of, command_of, IsWellTold, IsWellToldInput}
 use Rattle.world.specs.Reaching.{SaysRound, NodeStands, StandsAt, IsAllowed, AreHonest}
-use Rattle.world.specs.Worlds.{WorldState, quiet, TakesAt, SubmitsAt, ReceivesAt, DeliversFrame, ArmsAt, AsksAt, RestartsAt, Steps, with_node, recorded, with_submission, answered, without_wait, learnt_by}
+use Rattle.world.specs.Worlds.{WorldState, submission_of, quiet, TakesAt, ReceivesAt, ArmsAt, RestartsAt, Steps, with_node, recorded, with_submission, answered, without_wait, learnt_by}
 use Rattle.world.proofs.FleetSteps.{frame_at}
 use Rattle.world.proofs.ListedPuts.{KeepsPuts, same_lists as same_puts}
 use Rattle.world.proofs.MovingLemmas.{moved}
@@ -62,12 +62,12 @@ abbrev news_of : ℕ → Result Told NodeFault → List Learnt
 news_of node (Ok told) = learnt_by node told.learnt
 news_of node (Err f) = []
 
-abbrev asked_of : ℕ → Input → Bool → List Submission
-asked_of node (input.Submit r) true = record { node = node; request = r } ∷ []
-asked_of node (input.Submit r) false = []
-asked_of node (input.Message from message) b = []
-asked_of node input.Timeout b = []
-asked_of node input.Tick b = []
+abbrev taken_of : ℕ → Input → Bool → List Submission
+taken_of node (input.Submit r) true = submission_of node r ∷ []
+taken_of node (input.Submit r) false = []
+taken_of node (input.Message from message) b = []
+taken_of node input.Timeout b = []
+taken_of node input.Tick b = []
 
 news_listed : (node : ℕ) (r : Result Told NodeFault) → learnt_of node r ≡ map learning_of (news_of node r)
 news_listed node (Ok told) = by_option told.learnt
@@ -77,15 +77,15 @@ news_listed node (Ok told) = by_option told.learnt
     by_option (Some c) = refl
 news_listed node (Err f) = refl
 
-asked_listed : (node : ℕ) (i : Input) (r : Result Told NodeFault) → submitted_of i r ≡ map command_of (asked_of node i (is_ok r))
-asked_listed node (input.Submit r) (Ok told) = refl
-asked_listed node (input.Submit r) (Err f) = refl
-asked_listed node (input.Message from message) (Ok told) = refl
-asked_listed node (input.Message from message) (Err f) = refl
-asked_listed node input.Timeout (Ok told) = refl
-asked_listed node input.Timeout (Err f) = refl
-asked_listed node input.Tick (Ok told) = refl
-asked_listed node input.Tick (Err f) = refl
+taken_listed : (node : ℕ) (i : Input) (r : Result Told NodeFault) → submitted_of i r ≡ map command_of (taken_of node i (is_ok r))
+taken_listed node (input.Submit r) (Ok told) = refl
+taken_listed node (input.Submit r) (Err f) = refl
+taken_listed node (input.Message from message) (Ok told) = refl
+taken_listed node (input.Message from message) (Err f) = refl
+taken_listed node input.Timeout (Ok told) = refl
+taken_listed node input.Timeout (Err f) = refl
+taken_listed node input.Tick (Ok told) = refl
+taken_listed node input.Tick (Err f) = refl
 
 module _ {S : Type 0} {contents : Script S → Records} {IsHonest : Script S → Type 0} {reads read_fails : Script S → Script S → Type 0}
     {puts fails : Script S → Key → List ℕ → Script S → Type 0} (laws : KeepsLaws contents IsHonest reads read_fails puts fails)
@@ -144,7 +144,7 @@ module _ {S : Type 0} {contents : Script S → Records} {IsHonest : Script S →
   recorded_submitted w node (Err f) = refl
 
   record TakesAllowed (old : WorldState S) (node : ℕ) (input : Input) (taken : Bool) (new : WorldState S) : Type 0 where
-    lists : IsAllowed contents new.nodes new.frames new.learnt (old.submitted ++ asked_of node input taken)
+    lists : IsAllowed contents new.nodes new.frames new.learnt (old.submitted ++ taken_of node input taken)
     submitted : new.submitted ≡ old.submitted
 
   pub honest_took : (old : WorldState S) (node : ℕ) (i : Input) (taken : Bool) (new : WorldState S) → TakesAt reads puts fails old node i taken new
@@ -166,32 +166,32 @@ module _ {S : Type 0} {contents : Script S → Records} {IsHonest : Script S →
       let m : NodeComes contents (length old.nodes) node i a.state h.after h.result =
       node_comes laws list_laws (length old.nodes) node there fleet_.few a.state a.reached h.before h.after i h.result came h.steps
       (a.stands.node node h.before h.here) (fleet_.members node h.before h.here) sender well own in
-      let asks : m.to.submitted ≡ map command_of (asked_of node i taken) =
-      m.submitted ∙ asked_listed node i h.result ∙ ap (λ b. map command_of (asked_of node i b)) (sym h.taken_) in
+      let asks : m.to.submitted ≡ map command_of (taken_of node i taken) =
+      m.submitted ∙ taken_listed node i h.result ∙ ap (λ b. map command_of (taken_of node i b)) (sym h.taken_) in
       record {
         lists = named (slice_set old.nodes node h.after) new.nodes (old.frames ++ sends_of h.result) new.frames (old.learnt ++ news_of node h.result) new.learnt
-            (old.submitted ++ asked_of node i taken) (old.submitted ++ asked_of node i taken) nodes
+            (old.submitted ++ taken_of node i taken) (old.submitted ++ taken_of node i taken) nodes
             (ap (λ (w : WorldState S). w.frames) h.leaves ∙ recorded_frames (with_node old node h.after) node h.result)
             (ap (λ (w : WorldState S). w.learnt) h.leaves ∙ recorded_learnt (with_node old node h.after) node h.result) refl
-            (moved old.nodes old.frames (sends_of h.result) old.learnt (news_of node h.result) old.submitted (asked_of node i taken) a node h.after
+            (moved old.nodes old.frames (sends_of h.result) old.learnt (news_of node h.result) old.submitted (taken_of node i taken) a node h.after
             (input_of i) m.to came m.does m.stands m.sent m.told (m.learnt ∙ news_listed node h.result) asks);
         submitted = ap (λ (w : WorldState S). w.submitted) h.leaves ∙ recorded_submitted (with_node old node h.after) node h.result;
       }
 
   -- an input of which nothing is submitted
-  takes_quietly : (old : WorldState S) (node : ℕ) (i : Input) (taken : Bool) (new : WorldState S) → asked_of node i taken ≡ []
+  takes_quietly : (old : WorldState S) (node : ℕ) (i : Input) (taken : Bool) (new : WorldState S) → taken_of node i taken ≡ []
       → TakesAllowed old node i taken new → WorldAllowed new
   takes_quietly old node i taken new none t =
-      named new.nodes new.nodes new.frames new.frames new.learnt new.learnt (old.submitted ++ asked_of node i taken) new.submitted refl refl refl
+      named new.nodes new.nodes new.frames new.frames new.learnt new.learnt (old.submitted ++ taken_of node i taken) new.submitted refl refl refl
       (t.submitted ∙ sym (append-nil old.submitted) ∙ ap (λ l. old.submitted ++ l) (sym none)) t.lists
 
   -- ---- a request
   submits_allowed : (old between new : WorldState S) (node : ℕ) (r : Asked) (taken : Bool) → new ≡ with_submission between taken node r
       → TakesAllowed old node (input.Submit r) taken between → WorldAllowed new
   submits_allowed old between new node r true e t =
-      named between.nodes new.nodes between.frames new.frames between.learnt new.learnt (old.submitted ++ record { node = node; request = r } ∷ []) new.submitted
+      named between.nodes new.nodes between.frames new.frames between.learnt new.learnt (old.submitted ++ submission_of node r ∷ []) new.submitted
       (ap (λ (w : WorldState S). w.nodes) e) (ap (λ (w : WorldState S). w.frames) e) (ap (λ (w : WorldState S). w.learnt) e)
-      (ap (λ (w : WorldState S). w.submitted) e ∙ ap (λ l. l ++ record { node = node; request = r } ∷ []) t.submitted) t.lists
+      (ap (λ (w : WorldState S). w.submitted) e ∙ ap (λ l. l ++ submission_of node r ∷ []) t.submitted) t.lists
   submits_allowed old between new node r false e t =
       same_lists between new (ap (λ (w : WorldState S). w.nodes) e) (ap (λ (w : WorldState S). w.frames) e) (ap (λ (w : WorldState S). w.learnt) e)
       (ap (λ (w : WorldState S). w.submitted) e) (takes_quietly old node (input.Submit r) false between refl t)
@@ -234,7 +234,7 @@ module _ {S : Type 0} {contents : Script S → Records} {IsHonest : Script S →
       takes_quietly old frame.to i takes.0 new refl
       (takes_allowed old frame.to i takes.0 new takes.1 fleet_ between.from (well_told_at old a k frame sent) a (was_sent old a k frame sent) honest)
 
-  takes_step : (old : WorldState S) (node : ℕ) (i : Input) (taken : Bool) (new : WorldState S) → asked_of node i taken ≡ [] → TakesAt reads puts fails old node i taken new
+  takes_step : (old : WorldState S) (node : ℕ) (i : Input) (taken : Bool) (new : WorldState S) → taken_of node i taken ≡ [] → TakesAt reads puts fails old node i taken new
       → IsFleet old.nodes old.frames → ComesFrom (length old.nodes) i → IsWellToldInput i → ((a : WorldAllowed old) → HasCome a.state.past (input_of i))
       → (WorldHonest old → WorldAllowed old) → WorldHonest new → WorldAllowed new
   takes_step old node i taken new none h fleet_ sender well came before honest =
@@ -309,13 +309,13 @@ module _ {S : Type 0} {contents : Script S → Records} {IsHonest : Script S →
       (stands_still contents (length old.nodes) a.state node after
       (armed_at (length old.nodes) node a.state h.before f (a.stands.node node h.before h.here))) refl refl refl
 
-  answered_same : (old : WorldState S) (node : ℕ) (r : Result (ℕ × List ℕ) NodeFault) → WorldAllowed old → WorldAllowed (answered old node r)
-  answered_same old node (Ok told) a = a
-  answered_same old node (Err f) a = a
+  answered_same : (old : WorldState S) (node : ℕ) (query : Query) (r : Result (ℕ × List ℕ) NodeFault) → WorldAllowed old → WorldAllowed (answered old node query r)
+  answered_same old node query (Ok told) a = a
+  answered_same old node query (Err f) a = a
 
-  pub answered_nodes : (old : WorldState S) (node : ℕ) (r : Result (ℕ × List ℕ) NodeFault) → (answered old node r).nodes ≡ old.nodes
-  answered_nodes old node (Ok told) = refl
-  answered_nodes old node (Err f) = refl
+  pub answered_nodes : (old : WorldState S) (node : ℕ) (query : Query) (r : Result (ℕ × List ℕ) NodeFault) → (answered old node query r).nodes ≡ old.nodes
+  answered_nodes old node query (Ok told) = refl
+  answered_nodes old node query (Err f) = refl
 
   same_world : (old new : WorldState S) → new ≡ old → WorldAllowed old → WorldAllowed new
   same_world old new e a = subst (λ (w : WorldState S). WorldAllowed w) (sym e) a
@@ -342,5 +342,5 @@ module _ {S : Type 0} {contents : Script S → Records} {IsHonest : Script S →
   step_allowed old (event.Restart node) new h fleet_ before honest = restart_allowed old new node h fleet_.few before honest
   step_allowed old (event.Fault node failing) new h fleet_ before honest = arm_allowed old new node failing h before honest
   step_allowed old (event.Query node query) new h fleet_ before honest =
-      same_world (answered old node h.result) new h.leaves (answered_same old node h.result
-      (before (subst (λ (x : Nodes). AreHonest IsHonest x) (ap (λ (w : WorldState S). w.nodes) h.leaves ∙ answered_nodes old node h.result) honest)))
+      same_world (answered old node query h.result) new h.leaves (answered_same old node query h.result
+      (before (subst (λ (x : Nodes). AreHonest IsHonest x) (ap (λ (w : WorldState S). w.nodes) h.leaves ∙ answered_nodes old node query h.result) honest)))

@@ -1,5 +1,5 @@
 -- The world's calls keep it sound.
-use Rattle.std.proofs.Common.{◌≡◌, ◌⊎◌, ℕ, List, inl, inr, map, Result, Ok, Err, OnOk, OnErr, IfOk, IfErr, IsErrOf, refl, sym, ap, subst}
+use Rattle.std.proofs.Common.{◌≡◌, ◌⊎◌, ℕ, List, inl, inr, Result, Ok, Err, OnOk, OnErr, IfOk, IfErr, IsErrOf, sym, ap, subst}
 use mathlib.Core.Logic.{∥∥₁_map}
 use Rattle.stable.specs.Records.{Records}
 use Rattle.stable.specs.Script.{Script, Reads, ReadFails, Puts, Fails}
@@ -8,12 +8,11 @@ use Rattle.world.specs.declared.event.Event.{Event}
 use Rattle.world.specs.declared.fault.WorldFault.{WorldFault}
 use Rattle.world.specs.declared.fault.WorldFault.TheVariants as fault
 use Rattle.world.specs.declared.log.TheConstants.{MOST_DELIVERIES}
-use Rattle.world.specs.declared.run.Run.{Run}
 use Rattle.world.specs.Fleets.{IsFleet}
 use Rattle.world.specs.Flushing.{IsStart, Delivers, DeliversSome}
 use Rattle.world.specs.Reaching.{AreHonest}
 use Rattle.world.specs.Safety.{IsSafe, IsSoundIfHonest, contents_inside, honest_inside}
-use Rattle.world.specs.Worlds.{WorldState, run_of, Steps}
+use Rattle.world.specs.Worlds.{WorldState, Steps}
 use Rattle.world.proofs.ListedPuts.{script_puts}
 use Rattle.world.proofs.ScriptedLaws.{KeepsAllLaws, script_laws, arming_honest, arming_contents}
 use Rattle.world.proofs.SoundSteps.{start_sound, safe_if_honest, step_sound, delivers_sound}

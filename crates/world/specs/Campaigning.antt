@@ -1,30 +1,11 @@
 -- A proposer's attempt to lead under one ballot, for the one slot of the log.
-use Rattle.std.specs.Prelude.{
-  ◌≡◌,
-  ◌≢◌,
-  ℕ,
-  zero,
-  ◌==◌,
-  ◌<◌,
-  List,
-  Bool,
-  true,
-  false,
-  Option,
-  Some,
-  None,
-  fold,
-  filter,
-  option_map,
-  nat_lt,
-  if◌then◌else◌,
-}
+use Rattle.std.specs.Prelude.{◌≡◌, ℕ, zero, List, Bool, true, false, Option, Some, None, fold, nat_lt, if◌then◌else◌}
 use Rattle.synod.specs.Ballots.{rank}
 use Rattle.synod.specs.Majorities.{counted, IsMajority}
 use Rattle.synod.specs.declared.ballot.Ballot.{Ballot}
 use Rattle.synod.specs.declared.vote.Vote.{Vote}
 use Rattle.wire.specs.NodeSets.{no_nodes, has_node, with_node}
-use Rattle.wire.specs.declared.command.Command.{Command}
+use Rattle.sessions.specs.declared.command.Command.{Command}
 
 -- the votes that were told are known by the one of the highest ballot
 pub record Campaigning : Type 0 where

@@ -1,22 +1,23 @@
 -- One list of commands explains everything that any node told.
-use Rattle.std.specs.Prelude.{◌≡◌, ℕ, ◌+◌, ◌≤◌, ⊤, length, take, List, Option, Some, Contains, slice_get}
-use Rattle.wire.specs.Asked.{Asked}
-use Rattle.wire.specs.declared.command.Command.{Command}
-use Rattle.wire.specs.declared.command.Command.TheVariants.{NoOp, Request}
+use Rattle.std.specs.Prelude.{◌≡◌, ℕ, ◌+◌, ◌≤◌, ⊤, length, take, List, Some, Contains, slice_get}
+use Rattle.sessions.specs.Asked.{Asked}
+use Rattle.sessions.specs.declared.command.Command.{Command}
+use Rattle.sessions.specs.declared.command.Command.TheVariants.{NoOp, Request}
 use Rattle.world.specs.declared.lists.Submission.{Submission}
 use Rattle.world.specs.declared.lists.Learnt.{Learnt}
 use Rattle.world.specs.declared.lists.Replied.{Replied}
 use Rattle.world.specs.declared.lists.Answered.{Answered}
 use Rattle.world.specs.declared.log.TheConstants.{LOG_SLOTS}
-use Rattle.world.specs.Machines.{reply_code}
-use Rattle.world.specs.Meaning.{RepliesAt, AnswersCount}
+use Rattle.sessions.specs.Meaning.{RepliesAt, Answers}
+use Rattle.sessions.specs.Outcomes.{outcome_code}
+use Rattle.world.specs.Protocol.{asked_of}
 use Rattle.world.specs.Worlds.{WorldState}
 
 -- a submission that a node took carried the request, operation included
 pub record IsSubmitted (submitted : List Submission) (r : Asked) : Type 0 where
   pub submission : Submission
   pub taken : Contains submitted submission
-  pub carries : submission.request ≡ r
+  pub carries : asked_of submission ≡ r
 
 -- the command is a no-op, or was submitted
 abbrev pub IsGrounded : List Submission → Command → Type 0
@@ -30,12 +31,12 @@ pub record ExplainsReply (l : List Command) (p : Replied) : Type 0 where
   pub request : Asked
   pub of_client : request.client ≡ p.client
   pub of_number : request.number ≡ p.number
-  pub replies : RepliesAt l place request (reply_code p.reply)
+  pub replies : RepliesAt l place request (outcome_code p.reply)
 
 -- an answer is that of the list's first entries, as many as its position says
 pub record ExplainsAnswer (l : List Command) (a : Answered) : Type 0 where
   pub within : a.position ≤ length l
-  pub answers : AnswersCount (take a.position l) a.text
+  pub answers : Answers (take a.position l) a.query a.text
 
 pub record Explains {S : Type 0} (l : List Command) (w : WorldState S) : Type 0 where
   pub fits : length l ≤ 65536

@@ -3,7 +3,7 @@ use Rattle.std.specs.Prelude.{ℕ, Bool, true, false}
 use Rattle.stable.specs.declared.fault.StableFault.{StableFault}
 use Rattle.stable.specs.declared.fault.StableFault.TheVariants as stable_fault
 use Rattle.world.specs.declared.fault.NodeFault.{NodeFault}
-use Rattle.world.specs.declared.fault.NodeFault.TheVariants.{Down, LogFull, RoundsUsedUp, QueueFull, Device, Memory, Damaged}
+use Rattle.world.specs.declared.fault.NodeFault.TheVariants.{Down, LogFull, RoundsUsedUp, QueueFull, TooLong, Device, Memory, Damaged}
 use Rattle.world.specs.declared.fault.WorldFault.{WorldFault}
 use Rattle.world.specs.declared.fault.WorldFault.TheVariants as world_fault
 
@@ -13,6 +13,7 @@ node_code Down = 41
 node_code LogFull = 42
 node_code RoundsUsedUp = 43
 node_code QueueFull = 44
+node_code TooLong = 45
 node_code Device = 46
 node_code Memory = 47
 node_code Damaged = 48
@@ -23,6 +24,7 @@ is_stop_fault Down = false
 is_stop_fault LogFull = false
 is_stop_fault RoundsUsedUp = false
 is_stop_fault QueueFull = false
+is_stop_fault TooLong = false
 is_stop_fault Device = true
 is_stop_fault Memory = true
 is_stop_fault Damaged = true

@@ -2,7 +2,7 @@
 use Rattle.std.specs.Prelude.{◌≡◌, ℕ, ◌<◌, ◌≤◌, List, All, length, slice_get, Some}
 use Rattle.std.specs.Option.{ForSome}
 use Rattle.synod.specs.declared.ballot.TheConstants.{MOST_NODES}
-use Rattle.wire.specs.declared.message.Envelope.{Envelope}
+use Rattle.wire.specs.declared.frames.envelope.Envelope.{Envelope}
 use Rattle.world.specs.declared.input.Input.{Input}
 use Rattle.world.specs.declared.input.Input.TheVariants as input
 use Rattle.world.specs.Minds.{Mind}

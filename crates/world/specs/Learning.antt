@@ -1,11 +1,10 @@
 -- What a node has been told of votes, and what it learns from it, for the one slot of the log.
-use Rattle.std.specs.Prelude.{◌≡◌, ℕ, ◌+◌, ◌*◌, ◌==◌, ◌<◌, ◌≤◌, ◌⊎◌, Option, Some, None, IsSome, if◌then◌else◌}
+use Rattle.std.specs.Prelude.{◌≡◌, ℕ, ◌+◌, ◌*◌, ◌==◌, ◌<◌, ◌≤◌, Option, Some, None, IsSome, if◌then◌else◌}
 use Rattle.std.specs.declared.cmp.Ordering.{Ordering}
 use Rattle.std.specs.Ordering.{nat_cmp, on}
-use Rattle.std.specs.BTreeMap.{get}
 use Rattle.synod.specs.Ballots as ballots
 use Rattle.synod.specs.Majorities.{Majority}
-use Rattle.wire.specs.declared.command.Command.{Command}
+use Rattle.sessions.specs.declared.command.Command.{Command}
 use Rattle.world.specs.declared.telling.Telling.{Telling}
 
 -- tellings are ordered by ballot, and then by node

@@ -1,9 +1,10 @@
 -- What a node holds that has just loaded its records.
-use Rattle.std.specs.Prelude.{◌≡◌, ℕ, ◌⊎◌, List, Option, Some, None, Result, IsSome, IfSome, MatchOption, OnOk, OnErr, IfErr, IsErrOf}
+use Rattle.std.specs.Prelude.{◌≡◌, ℕ, ◌⊎◌, List, [], Option, Some, None, Result, IsSome, IfSome, MatchOption, OnOk, OnErr, IfErr, IsErrOf}
 use Rattle.std.specs.Option.{ForSome}
 use Rattle.stable.specs.Records.{Records}
 use Rattle.stable.specs.declared.key.Key.TheVariants as key
 use Rattle.acceptor.specs.Accepting.{RecordsSay}
+use Rattle.sessions.specs.Standing.{StandsFor}
 use Rattle.acceptor.specs.Forms.{HasDamagedRecord}
 use Rattle.world.specs.declared.fault.NodeFault.{NodeFault}
 use Rattle.world.specs.declared.fault.NodeFault.TheVariants as fault
@@ -12,24 +13,25 @@ use Rattle.world.specs.Learning.{unlearnt}
 use Rattle.world.specs.Minds.{Mind}
 use Rattle.world.specs.States.{NodeState}
 use Rattle.world.specs.Proposing.{Proposing, loaded}
-use Rattle.world.specs.Rounds.{IsRound}
+use Rattle.wire.specs.RecordForms.{IsRoundRecord}
 
 -- a proposer that has just loaded the record of its round, if there is one
 abbrev pub LoadsRound : Option (List ℕ) → ℕ → ℕ → Proposing → Type 0
 LoadsRound None id nodes p = p ≡ loaded id nodes 0
-LoadsRound (Some bytes) id nodes p = IsRound bytes p.round × (p ≡ loaded id nodes p.round)
+LoadsRound (Some bytes) id nodes p = IsRoundRecord bytes p.round × (p ≡ loaded id nodes p.round)
 
--- the records say what it has promised and voted for, and its round; the rest is as at the start
+-- the records say what it has promised and voted for, and its round; the rest is as at the start, and nothing is executed
 pub record IsLoaded (records : Records) (id nodes : ℕ) (m : Mind) : Type 0 where
   pub number : m.id ≡ id
   pub of_all : m.nodes ≡ nodes
   pub accepting : RecordsSay records m.accepting
   pub learning : m.learning ≡ unlearnt nodes
   pub proposing : LoadsRound (records key.Round) id nodes m.proposing
+  pub machine : StandsFor m.machine []
 
 -- the record of the round is that of no round
 abbrev pub HasDamagedRound : Records → Type 0
-HasDamagedRound records = MatchOption (records key.Round) ⊥ (λ bytes. (round : ℕ) → ¬ IsRound bytes round)
+HasDamagedRound records = MatchOption (records key.Round) ⊥ (λ bytes. (round : ℕ) → ¬ IsRoundRecord bytes round)
 
 -- a key that is no key's spelling, or a record that is not of its form
 abbrev pub IsDamaged : {S : Type 0} → (S → Records) → (S → Type 0) → S → Type 0

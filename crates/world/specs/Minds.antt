@@ -1,29 +1,5 @@
 -- What a node holds while it is up, and what it makes of an input.
-use Rattle.std.specs.Prelude.{
-  ◌≡◌,
-  ℕ,
-  zero,
-  ◌+◌,
-  ◌^◌,
-  ◌==◌,
-  ◌≤◌,
-  nat_le,
-  length,
-  List,
-  [],
-  ◌∷◌,
-  ◌++◌,
-  Bool,
-  true,
-  false,
-  Option,
-  Some,
-  None,
-  is_some,
-  filter,
-  not,
-  if◌then◌else◌,
-}
+use Rattle.std.specs.Prelude.{◌≡◌, ℕ, ◌^◌, nat_le, length, List, [], ◌∷◌, ◌++◌, Bool, true, Option, Some, None, is_some, filter, not, if◌then◌else◌}
 use Rattle.std.specs.List.{list_any}
 use Rattle.byteorder.specs.Endian.{big_bytes}
 use Rattle.synod.specs.declared.vote.Vote.{Vote}
@@ -32,20 +8,22 @@ use Rattle.stable.specs.declared.key.Key.TheVariants as key
 use Rattle.acceptor.specs.declared.answer.Answer.{Answer}
 use Rattle.acceptor.specs.declared.answer.Answer.TheVariants as answer
 use Rattle.acceptor.specs.Accepting.{Accepting, Write, prepare_answer, prepare_write, after_prepare, accept_answer, after_accept, IsAcceptWrite, HasWritten, HasFailed}
-use Rattle.wire.specs.Asked.{Asked}
-use Rattle.wire.specs.declared.command.Command.{Command}
-use Rattle.wire.specs.declared.command.Command.TheVariants.{NoOp, Request}
-use Rattle.wire.specs.declared.message.Envelope.{Envelope}
-use Rattle.wire.specs.declared.message.Message.{Message}
-use Rattle.wire.specs.declared.message.Message.TheVariants.{Prepare, Promise, Nack, Accept, Accepted}
+use Rattle.sessions.specs.Asked.{Asked}
+use Rattle.sessions.specs.Machines.{MachineState, after_command, reply_to_command}
+use Rattle.sessions.specs.Standing.{StandsForOneMore, RepliesOneMore}
+use Rattle.sessions.specs.declared.command.Command.{Command}
+use Rattle.sessions.specs.declared.command.Command.TheVariants.{NoOp, Request}
+use Rattle.wire.specs.declared.frames.envelope.Envelope.{Envelope}
+use Rattle.wire.specs.declared.frames.message.Message.{Message}
+use Rattle.wire.specs.declared.frames.message.Message.TheVariants.{Prepare, Promise, Nack, Accept, Accepted, Ask, Decided}
 use Rattle.world.specs.declared.fault.NodeFault.{NodeFault}
 use Rattle.world.specs.declared.fault.NodeFault.TheVariants as fault
 use Rattle.world.specs.declared.input.Input.{Input}
 use Rattle.world.specs.declared.input.Input.TheVariants as input
 use Rattle.world.specs.declared.log.TheConstants.{LOG_SLOTS, MOST_WAITING}
 use Rattle.world.specs.declared.outputs.Executed.{Executed}
-use Rattle.world.specs.Learning.{Learning, HearsVote, unlearnt}
-use Rattle.world.specs.Machines.{first_reply}
+use Rattle.world.specs.Learning.{Learning, HearsVote}
+use Rattle.world.specs.Offers.{is_short}
 use Rattle.world.specs.Outputs.{Told, nothing, sent}
 use Rattle.world.specs.Proposing.{Proposing, is_of, next_round, StartsCampaign, HearsPromise, HearsRefusal, filled, fill_sends, closed, sends_again}
 use Rattle.world.specs.Sending.{to_all}
@@ -56,6 +34,7 @@ pub record Mind : Type 0 where
   pub accepting : Accepting
   pub learning : Learning
   pub proposing : Proposing
+  pub machine : MachineState
 
 -- the first slot that isn't learnt
 abbrev pub position : Mind → ℕ
@@ -73,6 +52,7 @@ waits m r = list_any (is_of r.client r.number) m.proposing.waiting
 abbrev pub refuses_submit : Mind → Asked → Option NodeFault
 refuses_submit m r =
     if is_full m then Some fault.LogFull
+    else if not (is_short r.op) then Some fault.TooLong
     else if waits m r then None
     else if nat_le MOST_WAITING (length m.proposing.waiting) then Some fault.QueueFull
     else None
@@ -91,11 +71,13 @@ refuses m input.Tick = None
 
 -- ---- the one write that an input makes, if it makes one
 abbrev pub WritesOnMessage : Mind → Message → Write → Type 0
-WritesOnMessage m (Prepare p) write = write ≡ prepare_write m.accepting p.ballot
+WritesOnMessage m (Prepare ballot first) write = write ≡ prepare_write m.accepting ballot
 WritesOnMessage m (Promise p) write = write ≡ None
 WritesOnMessage m (Nack n) write = write ≡ None
 WritesOnMessage m (Accept v) write = IsAcceptWrite m.accepting v write
 WritesOnMessage m (Accepted v) write = write ≡ None
+WritesOnMessage m (Ask slot) write = write ≡ None
+WritesOnMessage m (Decided slot command) write = write ≡ None
 
 abbrev pub Writes : Mind → Input → Write → Type 0
 Writes m (input.Submit r) write = write ≡ None
@@ -127,11 +109,11 @@ answer_sends m to (answer.Accepted v) = to_all m.id m.nodes (Accepted v)
 answer_sends m to (answer.Nack n) = one_send m.id to (Nack n)
 
 -- ---- a command is learnt: it is executed, and a request that waited has its reply
-abbrev pub executed_reply : Proposing → Command → Option Executed
-executed_reply p NoOp = None
-executed_reply p (Request r) =
+abbrev pub executed_reply : MachineState → Proposing → Command → Option Executed
+executed_reply m p NoOp = None
+executed_reply m p (Request r) =
     if list_any (is_of r.client r.number) p.waiting
-    then Some (record { client = r.client; number = r.number; reply = first_reply r })
+    then Some (record { client = r.client; number = r.number; reply = reply_to_command m (Request r) })
     else None
 
 abbrev pub without : List Asked → Command → List Asked
@@ -150,12 +132,16 @@ pub record HearsAccepted (old : Mind) (from : ℕ) (v : Vote Command) (new : Min
   pub leaves : new ≡ record old {
     learning = new.learning;
     proposing = if learns then after_learning old.proposing v.command else old.proposing;
+    machine = if learns then after_command old.machine v.command else old.machine;
   }
   pub tells : told ≡ (if learns then record {
     learnt = Some v.command;
-    executed = executed_reply old.proposing v.command;
+    executed = executed_reply old.machine old.proposing v.command;
     sends = [];
   } else nothing)
+  -- what that is to each list of commands that its machine stands for
+  pub stands : learns ≡ true → StandsForOneMore old.machine new.machine v.command
+  pub replies : learns ≡ true → RepliesOneMore old.machine v.command (reply_to_command old.machine v.command)
 
 -- ---- what an input makes of a node, and what the node tells
 pub record TakesPromise (old : Mind) (from : ℕ) (p : Proposing) (new : Mind) (told : Told) : Type 0 where
@@ -163,9 +149,9 @@ pub record TakesPromise (old : Mind) (from : ℕ) (p : Proposing) (new : Mind) (
   pub tells : told ≡ (if is_full old then nothing else sent (fill_sends p))
 
 abbrev pub TakesMessage : Mind → ℕ → Message → Mind → Told → Type 0
-TakesMessage old from (Prepare p) new told =
-    (new ≡ record old { accepting = after_prepare old.accepting p.ballot })
-    × (told ≡ sent (answer_sends old from (prepare_answer old.accepting p.ballot p.first)))
+TakesMessage old from (Prepare ballot first) new told =
+    (new ≡ record old { accepting = after_prepare old.accepting ballot })
+    × (told ≡ sent (answer_sends old from (prepare_answer old.accepting ballot first)))
 TakesMessage old from (Promise p) new told =
     (counted : Proposing) × HearsPromise old.proposing from p.ballot p.first p.entries counted
     × TakesPromise old from counted new told
@@ -176,6 +162,9 @@ TakesMessage old from (Accept v) new told =
     (new ≡ record old { accepting = after_accept old.accepting v })
     × (told ≡ sent (answer_sends old from (accept_answer old.accepting v)))
 TakesMessage old from (Accepted v) new told = HearsAccepted old from v new told
+-- nobody sends these yet
+TakesMessage old from (Ask slot) new told = (new ≡ old) × (told ≡ nothing)
+TakesMessage old from (Decided slot command) new told = (new ≡ old) × (told ≡ nothing)
 
 -- the proposer, with one more request that waits
 abbrev pub with_request : Proposing → Asked → Proposing

@@ -1,20 +1,16 @@
 -- One node: its records, and what it holds while it is up.
-use Rattle.std.specs.Prelude.{◌≡◌, ℕ, ◌⊎◌, List, Bool, true, false, Option, Some, None, Result, Ok, Err, codes, IfSome, IfOk, IfErr, MatchBool, option_map}
-use Rattle.stable.specs.Records.{Records}
+use Rattle.std.specs.Prelude.{◌≡◌, ℕ, ◌⊎◌, List, Some, None, Result, Err, IfSome, IfOk, IfErr, MatchBool, option_map}
 use Rattle.stable.specs.declared.key.Key.{Key}
-use Rattle.stable.specs.declared.key.Key.TheVariants as key
-use Rattle.acceptor.specs.Accepting.{RecordsSay}
+use Rattle.store.specs.Answers.{IsAnswer}
+use Rattle.store.specs.declared.query.Query.{Query}
 use Rattle.world.specs.declared.fault.NodeFault.{NodeFault}
 use Rattle.world.specs.declared.fault.NodeFault.TheVariants as fault
 use Rattle.world.specs.declared.input.Input.{Input}
 use Rattle.world.specs.declared.node.Node.{Node}
 use Rattle.world.specs.Faults.{is_stop_fault}
 use Rattle.world.specs.Fitting.{InputFits}
-use Rattle.world.specs.Learning.{unlearnt}
 use Rattle.world.specs.Minds.{Mind, position, refuses, Writes, Takes, HasMade, HasFailedToMake}
 use Rattle.world.specs.Outputs.{Told}
-use Rattle.world.specs.Proposing.{Proposing, loaded}
-use Rattle.world.specs.Rounds.{IsRound}
 use Rattle.world.specs.Running.{mind_of}
 pub use Rattle.world.specs.States.{NodeState}
 
@@ -52,6 +48,7 @@ StorageStops reads puts fails old m input fault.Down new = ⊥
 StorageStops reads puts fails old m input fault.LogFull new = ⊥
 StorageStops reads puts fails old m input fault.RoundsUsedUp new = ⊥
 StorageStops reads puts fails old m input fault.QueueFull new = ⊥
+StorageStops reads puts fails old m input fault.TooLong new = ⊥
 StorageStops reads puts fails old m input fault.Damaged new = ⊥
 
 -- the node goes down
@@ -74,8 +71,9 @@ pub record NodeSteps {S : Type 0} (reads : S → S → Type 0) (puts fails : S �
   -- what is to be refused is refused
   pub refuses_ : IfSome old.up (λ m. IfSome (refuses m input) (λ f. result ≡ Err f))
 
--- what a node answers to a query: its position, and the text
-pub record NodeAnswers {S : Type 0} (node : NodeState S) (result : Result (ℕ × List ℕ) NodeFault) : Type 0 where
+-- what a node answers to a query: its position, and the text over what its machine holds
+pub record NodeAnswers {S : Type 0} (node : NodeState S) (query : Query) (result : Result (ℕ × List ℕ) NodeFault) : Type 0 where
   pub down : node.up ≡ None → result ≡ Err fault.Down
-  pub answer : IfSome node.up (λ m. IfOk result (λ told. told ≡ (position m, codes "count 0")))
+  pub position_ : IfSome node.up (λ m. IfOk result (λ told. told.0 ≡ position m))
+  pub answer : IfSome node.up (λ m. IfOk result (λ told. IsAnswer m.machine.features query told.1))
   pub memory : IfSome node.up (λ m. IfErr result (λ f. f ≡ fault.Memory))

@@ -1,7 +1,7 @@
 -- What comes of an input.
 use Rattle.std.specs.Prelude.{ℕ, List, [], Option, None}
-use Rattle.wire.specs.declared.command.Command.{Command}
-use Rattle.wire.specs.declared.message.Envelope.{Envelope}
+use Rattle.sessions.specs.declared.command.Command.{Command}
+use Rattle.wire.specs.declared.frames.envelope.Envelope.{Envelope}
 use Rattle.world.specs.declared.lists.Replied.{Replied}
 use Rattle.world.specs.declared.outputs.Executed.{Executed}
 

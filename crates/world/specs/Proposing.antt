@@ -1,38 +1,14 @@
 -- A node's proposer: the requests that wait at it, and its campaign for the one slot of the log.
-use Rattle.std.specs.Prelude.{
-  ◌≡◌,
-  ℕ,
-  zero,
-  ◌+◌,
-  ◌==◌,
-  ◌&&◌,
-  max,
-  List,
-  [],
-  ◌∷◌,
-  ◌++◌,
-  Bool,
-  false,
-  Option,
-  Some,
-  None,
-  filter,
-  is_none,
-  not,
-  MatchOption,
-  IfSome,
-  ◌≢◌,
-  if◌then◌else◌,
-}
+use Rattle.std.specs.Prelude.{◌≡◌, ℕ, zero, ◌+◌, ◌==◌, ◌&&◌, max, List, [], ◌∷◌, Bool, Option, Some, None, filter, is_none, not, MatchOption, IfSome, ◌≢◌, if◌then◌else◌}
 use Rattle.synod.specs.declared.ballot.Ballot.{Ballot}
 use Rattle.synod.specs.declared.vote.Vote.{Vote}
-use Rattle.wire.specs.Asked.{Asked}
+use Rattle.sessions.specs.Asked.{Asked}
 use Rattle.wire.specs.NodeSets.{has_node}
-use Rattle.wire.specs.declared.command.Command.{Command}
-use Rattle.wire.specs.declared.command.Command.TheVariants.{NoOp, Request}
-use Rattle.wire.specs.declared.message.Envelope.{Envelope}
-use Rattle.wire.specs.declared.message.Message.{Message}
-use Rattle.wire.specs.declared.message.Message.TheVariants as message
+use Rattle.sessions.specs.declared.command.Command.{Command}
+use Rattle.sessions.specs.declared.command.Command.TheVariants.{NoOp, Request}
+use Rattle.wire.specs.declared.frames.envelope.Envelope.{Envelope}
+use Rattle.wire.specs.declared.frames.message.Message.{Message}
+use Rattle.wire.specs.declared.frames.message.Message.TheVariants as message
 use Rattle.world.specs.Campaigning.{Campaigning, begun, CountsPromise}
 use Rattle.world.specs.Sending.{to_all}
 
@@ -60,7 +36,7 @@ abbrev pub next_round : Proposing → ℕ
 next_round p = max p.round p.refused + 1
 
 abbrev pub prepare : Ballot → Message
-prepare b = message.Prepare (record { ballot = b; first = zero })
+prepare b = message.Prepare b zero
 
 pub record StartsCampaign (old : Proposing) (new : Proposing) (sends : List Envelope) : Type 0 where
   pub ballot : Ballot

@@ -1,40 +1,18 @@
 -- What the states of this world are to the protocol: one slot of its log, and no checkpoints.
-use Rattle.std.specs.Prelude.{
-  ◌≡◌,
-  ℕ,
-  zero,
-  ◌==◌,
-  ◌≤◌,
-  ◌<◌,
-  List,
-  [],
-  ◌∷◌,
-  ◌++◌,
-  map,
-  Option,
-  Some,
-  None,
-  IfSome,
-  Contains,
-  ⊤,
-  if◌then◌else◌,
-}
+use Rattle.std.specs.Prelude.{◌≡◌, ℕ, zero, ◌==◌, ◌<◌, List, [], ◌∷◌, ◌++◌, map, Option, Some, None, IfSome, Contains, ⊤, if◌then◌else◌}
 use Rattle.std.specs.Option.{option_to_list}
-use Rattle.synod.specs.Messages as synod
-use Rattle.synod.specs.Messages.{Frame}
-use Rattle.synod.specs.Records as synod_records
 use Rattle.synod.specs.History as history
 use Rattle.synod.specs.Minds as synod_minds
 use Rattle.synod.specs.Acts as acts
 use Rattle.synod.specs.Acts.{Fleet, Local, Does}
 use Rattle.synod.specs.declared.vote.Vote.{Vote}
-use Rattle.wire.specs.Asked.{Asked}
+use Rattle.sessions.specs.Asked.{Asked}
 use Rattle.wire.specs.NodeSets.{has_node}
-use Rattle.wire.specs.declared.command.Command.{Command}
-use Rattle.wire.specs.declared.command.Command.TheVariants.{NoOp, Request}
-use Rattle.wire.specs.declared.message.Envelope.{Envelope}
-use Rattle.wire.specs.declared.message.Message.{Message}
-use Rattle.wire.specs.declared.message.Message.TheVariants.{Prepare, Promise, Nack, Accept, Accepted}
+pub use Rattle.wire.specs.Protocol.{message_of, frame_of}
+use Rattle.sessions.specs.declared.command.Command.{Command}
+use Rattle.sessions.specs.declared.command.Command.TheVariants.{NoOp, Request}
+use Rattle.wire.specs.declared.frames.message.Message.{Message}
+use Rattle.wire.specs.declared.frames.message.Message.TheVariants.{Prepare, Promise, Nack, Accept, Accepted, Ask, Decided}
 use Rattle.acceptor.specs.Protocol.{RecordsStand}
 use Rattle.world.specs.declared.input.Input.{Input}
 use Rattle.world.specs.declared.input.Input.TheVariants as input
@@ -50,24 +28,15 @@ abbrev pub fleet : ℕ → Fleet Command
 fleet nodes = record { nodes = nodes; noop = NoOp }
 
 -- ---- messages
--- prepares and refusals are messages of which safety says nothing
-abbrev pub message_of : Message → synod.Message Command
-message_of (Prepare p) = synod.Plain
-message_of (Promise p) = synod.Promise p.ballot p.first p.last p.entries
-message_of (Nack n) = synod.Plain
-message_of (Accept v) = synod.Accept v
-message_of (Accepted v) = synod.Accepted v
-
-abbrev pub frame_of : Envelope → Frame Command
-frame_of e = record { sender = e.from; receiver = e.to; message = message_of e.message }
-
 -- what a promise tells is of its first slot
 abbrev pub IsWellTold : Message → Type 0
-IsWellTold (Prepare p) = ⊤
+IsWellTold (Prepare ballot first) = ⊤
 IsWellTold (Promise p) = (v : Vote Command) → Contains p.entries v → v.slot ≡ p.first
 IsWellTold (Nack n) = ⊤
 IsWellTold (Accept v) = ⊤
 IsWellTold (Accepted v) = ⊤
+IsWellTold (Ask slot) = ⊤
+IsWellTold (Decided slot command) = ⊤
 
 -- ---- inputs, and what is listed of them
 abbrev pub input_of : Input → acts.Input Command
@@ -91,8 +60,12 @@ abbrev pub learnings : ℕ → Option Command → List (history.Learning Command
 learnings node None = []
 learnings node (Some c) = record { node = node; slot = zero; command = c } ∷ []
 
+-- what a submission carries
+abbrev pub asked_of : Submission → Asked
+asked_of s = record { client = s.client; number = s.number; op = s.op }
+
 abbrev pub command_of : Submission → Command
-command_of s = Request s.request
+command_of s = Request (asked_of s)
 
 -- the commands that an input submits
 abbrev pub submissions : Input → List Command

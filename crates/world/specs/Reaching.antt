@@ -15,13 +15,13 @@ use Rattle.stable.specs.declared.key.Key.TheVariants as key
 use Rattle.acceptor.specs.Accepting.{Accepting, RecordsSay}
 use Rattle.acceptor.specs.Forms.{VoteFits}
 use Rattle.acceptor.specs.Protocol.{RecordsStand}
-use Rattle.wire.specs.declared.command.Command.{Command}
-use Rattle.wire.specs.declared.message.Envelope.{Envelope}
+use Rattle.sessions.specs.declared.command.Command.{Command}
+use Rattle.wire.specs.declared.frames.envelope.Envelope.{Envelope}
 use Rattle.world.specs.declared.lists.Submission.{Submission}
 use Rattle.world.specs.declared.lists.Learnt.{Learnt}
 use Rattle.world.specs.Minds.{Mind}
 use Rattle.world.specs.States.{NodeState}
-use Rattle.world.specs.Rounds.{IsRound}
+use Rattle.wire.specs.RecordForms.{IsRoundRecord}
 use Rattle.world.specs.Sized.{IsSized}
 use Rattle.world.specs.Protocol.{fleet, frame_of, learning_of, command_of, IsWellTold, MindStands}
 use Rattle.world.specs.Voting.{vote_put, HasVote}
@@ -29,7 +29,7 @@ use Rattle.world.specs.Voting.{vote_put, HasVote}
 -- what the record of a round says: without one it is 0
 abbrev pub SaysRound : Option (List ℕ) → ℕ → Type 0
 SaysRound None round = round ≡ zero
-SaysRound (Some bytes) round = IsRound bytes round
+SaysRound (Some bytes) round = IsRoundRecord bytes round
 
 -- what a node holds while it is up is what its records say, and stands for the protocol's mind
 pub record HoldsSame (accepting : Accepting) (round : ℕ) (s : synod_minds.Mind Command) (m : Mind) : Type 0 where

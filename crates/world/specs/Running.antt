@@ -11,4 +11,5 @@ mind_of r = record {
   accepting = accepting_of r.acceptor;
   learning = learning_of r.learner;
   proposing = r.proposer;
+  machine = r.machine;
 }

@@ -1,11 +1,11 @@
 -- What is promised of a world whose storages are honest.
-use Rattle.std.specs.Prelude.{◌≡◌, ◌↔◌, ℕ, List, map, length, slice_get, Some, IsSome}
+use Rattle.std.specs.Prelude.{◌≡◌, ◌↔◌, ℕ, map, length, slice_get, Some, IsSome}
 use Rattle.stable.specs.Records.{Records}
 use Rattle.stable.specs.Script.{Script}
 use Rattle.synod.specs.History.{History, Voted}
 use Rattle.synod.specs.Invariant.{IsAgreed}
 use Rattle.synod.specs.declared.vote.Vote.{Vote}
-use Rattle.wire.specs.declared.command.Command.{Command}
+use Rattle.sessions.specs.declared.command.Command.{Command}
 use Rattle.world.specs.Explaining.{IsExplained}
 use Rattle.world.specs.Protocol.{fleet, frame_of, learning_of, command_of}
 use Rattle.world.specs.Reaching.{IsAllowed, AreHonest}

@@ -1,7 +1,7 @@
 -- Messages to several nodes.
 use Rattle.std.specs.Prelude.{ℕ, zero, suc, List, [], ◌∷◌, ◌++◌}
-use Rattle.wire.specs.declared.message.Envelope.{Envelope}
-use Rattle.wire.specs.declared.message.Message.{Message}
+use Rattle.wire.specs.declared.frames.envelope.Envelope.{Envelope}
+use Rattle.wire.specs.declared.frames.message.Message.{Message}
 
 -- the message from one node to the nodes below a number, in order
 abbrev pub to_all : ℕ → ℕ → Message → List Envelope

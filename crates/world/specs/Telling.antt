@@ -1,43 +1,56 @@
 -- What the lists of a world tell of one another, as far as each node knows by itself.
-use Rattle.std.specs.Prelude.{◌≡◌, ℕ, zero, ◌⊎◌, List, Option, Some, Contains, slice_get, codes}
-use Rattle.stable.specs.Script.{Script}
-use Rattle.wire.specs.Asked.{Asked}
-use Rattle.wire.specs.declared.command.Command.{Command}
-use Rattle.wire.specs.declared.command.Command.TheVariants.{Request}
+use Rattle.std.specs.Prelude.{◌≡◌, ℕ, zero, ◌+◌, List, [], ◌∷◌, ◌++◌, length, Some, Contains, slice_get}
+use Rattle.std.specs.Option.{option_to_list}
+use Rattle.sessions.specs.Asked.{Asked}
+use Rattle.sessions.specs.Meaning.{RepliesAt, Answers}
+use Rattle.sessions.specs.Outcomes.{outcome_code}
+use Rattle.sessions.specs.Standing.{StandsFor}
+use Rattle.sessions.specs.declared.command.Command.{Command}
+use Rattle.sessions.specs.declared.command.Command.TheVariants.{Request}
 use Rattle.world.specs.declared.lists.Learnt.{Learnt}
 use Rattle.world.specs.declared.lists.Replied.{Replied}
 use Rattle.world.specs.declared.lists.Answered.{Answered}
-use Rattle.world.specs.Machines.{first_reply}
 use Rattle.world.specs.Minds.{Mind}
 use Rattle.world.specs.States.{NodeState}
 use Rattle.world.specs.Worlds.{WorldState}
 
--- the node learnt the command at the one slot, before a restart or since
-abbrev pub HasLearnt : List Learnt → ℕ → Command → Type 0
-HasLearnt learnt node c = Contains learnt (record { node = node; slot = zero; command = c })
+-- the node learnt these commands at the slots from the first on, before a restart or since
+abbrev pub HasLearnt : List Learnt → ℕ → List Command → Type 0
+HasLearnt learnt node log = (slot : ℕ) (c : Command) → slice_get log slot ≡ Some c
+    → Contains learnt (record { node = node; slot = slot; command = c })
 
--- a reply is to a request that its node learnt, as the first of the log
+-- a reply is to a request that its node learnt, and is that of all that it had learnt up to there
 pub record TellsReply (learnt : List Learnt) (p : Replied) : Type 0 where
+  pub before : List Command
   pub request : Asked
-  pub known : HasLearnt learnt p.node (Request request)
+  pub known : HasLearnt learnt p.node (before ++ Request request ∷ [])
   pub of_client : p.client ≡ request.client
   pub of_number : p.number ≡ request.number
-  pub reply : p.reply ≡ first_reply request
-  pub position : p.position ≡ 1
+  pub position : p.position ≡ length before + 1
+  pub replies : RepliesAt (before ++ Request request ∷ []) (length before) request (outcome_code p.reply)
 
--- its node has learnt what an answer says is executed, and no feature is there
+-- an answer is that of all that its node had learnt, as much as its position says
 pub record TellsAnswer (learnt : List Learnt) (a : Answered) : Type 0 where
-  pub text : a.text ≡ codes "count 0"
-  pub known : (a.position ≡ 0) ⊎ ((a.position ≡ 1) × ((c : Command) × HasLearnt learnt a.node c))
+  pub log : List Command
+  pub known : HasLearnt learnt a.node log
+  pub position : a.position ≡ length log
+  pub answers : Answers log a.query a.text
+
+-- the commands that a node has learnt, from the first slot on
+abbrev pub prefix : Mind → List Command
+prefix m = option_to_list m.learning.learnt
+
+-- what a node that is up knows to be learnt it has told, and its machine stands for that
+pub record Knows (learnt : List Learnt) (node : ℕ) (m : Mind) : Type 0 where
+  pub told : HasLearnt learnt node (prefix m)
+  pub stands : StandsFor m.machine (prefix m)
 
 pub record ListsTell {S : Type 0} (nodes : List (NodeState S)) (learnt : List Learnt) (replies : List Replied)
     (answers : List Answered) : Type 0 where
   pub slots : (t : Learnt) → Contains learnt t → t.slot ≡ zero
   pub replied : (p : Replied) → Contains replies p → TellsReply learnt p
   pub answered : (a : Answered) → Contains answers a → TellsAnswer learnt a
-  -- what a node that is up knows to be learnt, it has told
-  pub knows : (i : ℕ) (n : NodeState S) (m : Mind) (c : Command) → slice_get nodes i ≡ Some n → n.up ≡ Some m
-      → m.learning.learnt ≡ Some c → HasLearnt learnt i c
+  pub knows : (i : ℕ) (n : NodeState S) (m : Mind) → slice_get nodes i ≡ Some n → n.up ≡ Some m → Knows learnt i m
 
 abbrev pub Tells : {S : Type 0} → WorldState S → Type 0
 Tells w = ListsTell w.nodes w.learnt w.replies w.answers

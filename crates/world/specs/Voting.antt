@@ -7,7 +7,7 @@ use Rattle.stable.specs.Script.{Script, Write}
 use Rattle.stable.specs.declared.key.Key.TheVariants as key
 use Rattle.acceptor.specs.Forms.{VoteFits}
 use Rattle.acceptor.specs.Spelling.{vote_bytes}
-use Rattle.wire.specs.declared.command.Command.{Command}
+use Rattle.sessions.specs.declared.command.Command.{Command}
 use Rattle.world.specs.declared.lists.Learnt.{Learnt}
 use Rattle.world.specs.Explaining.{IsGrounded}
 use Rattle.world.specs.States.{NodeState}

@@ -1,53 +1,17 @@
 -- The world: all nodes, everything that was sent, and everything that came of it.
-use Rattle.std.specs.Prelude.{
-  ◌≡◌,
-  ℕ,
-  zero,
-  ◌+◌,
-  ◌<◌,
-  ◌≤◌,
-  List,
-  [],
-  ◌∷◌,
-  ◌++◌,
-  length,
-  replicate,
-  map,
-  slice_get,
-  slice_set,
-  Bool,
-  true,
-  false,
-  Option,
-  Some,
-  None,
-  is_some,
-  is_ok,
-  Result,
-  Ok,
-  Err,
-  option_map,
-  IsSome,
-  IfSome,
-  OnOk,
-  codes,
-  ◌⊎◌,
-  vec_len,
-  vec_capacity,
-  if◌then◌else◌,
-}
-use Rattle.std.specs.Option.{option_to_list}
+use Rattle.std.specs.Prelude.{◌≡◌, ℕ, zero, ◌+◌, ◌≤◌, List, [], ◌∷◌, ◌++◌, length, replicate, map, slice_get, slice_set, Bool, true, false, Option, Some, None, is_some, is_ok, Result, Ok, Err, IsSome, OnOk, vec_len, vec_capacity, if◌then◌else◌}
 use Rattle.stable.specs.Records.{Records}
 use Rattle.stable.specs.Script.{Script}
 use Rattle.stable.specs.declared.key.Key.{Key}
 use Rattle.stable.specs.declared.scripted.Failing.{Failing}
-use Rattle.wire.specs.Asked.{Asked}
-use Rattle.wire.specs.declared.command.Command.{Command}
-use Rattle.wire.specs.declared.message.Envelope.{Envelope}
+use Rattle.sessions.specs.Asked.{Asked}
+use Rattle.sessions.specs.declared.command.Command.{Command}
+use Rattle.wire.specs.declared.frames.envelope.Envelope.{Envelope}
+use Rattle.store.specs.declared.query.Query.{Query}
+use Rattle.wire.specs.FrameSpelling.{Fits}
 use Rattle.world.specs.declared.event.Event.{Event}
 use Rattle.world.specs.declared.event.Event.TheVariants as event
 use Rattle.world.specs.declared.fault.NodeFault.{NodeFault}
-use Rattle.world.specs.declared.fault.NodeFault.TheVariants as node_fault
 use Rattle.world.specs.declared.input.Input.{Input}
 use Rattle.world.specs.declared.input.Input.TheVariants as input
 use Rattle.world.specs.declared.lists.Submission.{Submission}
@@ -153,9 +117,12 @@ abbrev pub quiet : {S : Type 0} → WorldState S → WorldState S
 quiet w = with_outcome w (Done false false)
 
 -- a request that a node took joins the list of submissions
+abbrev pub submission_of : ℕ → Asked → Submission
+submission_of node r = record { node = node; client = r.client; number = r.number; op = r.op }
+
 abbrev pub with_submission : {S : Type 0} → WorldState S → Bool → ℕ → Asked → WorldState S
 with_submission w taken node r =
-    if taken then record w { submitted = w.submitted ++ record { node = node; request = r } ∷ [] } else w
+    if taken then record w { submitted = w.submitted ++ submission_of node r ∷ [] } else w
 
 -- a client's request comes to a node
 pub record SubmitsAt {S : Type 0} (reads : Script S → Script S → Type 0)
@@ -176,12 +143,13 @@ pub record ReceivesAt {S : Type 0} (reads : Script S → Script S → Type 0)
   pub taken : IsSome receiver.up → (taken : Bool)
       × TakesAt reads puts fails old frame.to (input.Message frame.from frame.message) taken new
 
--- frame k comes to its receiver, and waits no more
+-- frame k comes to its receiver as the envelope that its bytes spell, and waits no more
 pub record DeliversFrame {S : Type 0} (reads : Script S → Script S → Type 0)
     (puts fails : Script S → Key → List ℕ → Script S → Type 0)
     (old : WorldState S) (k : ℕ) (new : WorldState S) : Type 0 where
   pub frame : Envelope
   pub sent : slice_get old.frames k ≡ Some frame
+  pub fits : Fits 7 frame
   pub receives : ReceivesAt reads puts fails (without_wait old k) frame new
 
 -- the next put of a node fails so
@@ -192,24 +160,24 @@ pub record ArmsAt {S : Type 0} (old : WorldState S) (node : ℕ) (failing : Fail
       (record before { storage = record before.storage { armed = Some failing } }))
 
 -- a node's answer to a query joins the list of answers
-abbrev pub with_answer : {S : Type 0} → WorldState S → ℕ → ℕ → List ℕ → WorldState S
-with_answer w node position text = record w {
-  answers = w.answers ++ record { node = node; position = position; text = text } ∷ [];
+abbrev pub with_answer : {S : Type 0} → WorldState S → ℕ → Query → ℕ → List ℕ → WorldState S
+with_answer w node query position text = record w {
+  answers = w.answers ++ record { node = node; position = position; query = query; text = text } ∷ [];
   outcomes = w.outcomes ++ AnsweredOutcome ∷ [];
 }
 
 -- a refusal to answer is told, and nothing else
-abbrev pub answered : {S : Type 0} → WorldState S → ℕ → Result (ℕ × List ℕ) NodeFault → WorldState S
-answered w node (Ok told) = with_answer w node told.0 told.1
-answered w node (Err f) = with_outcome w (Refused node f)
+abbrev pub answered : {S : Type 0} → WorldState S → ℕ → Query → Result (ℕ × List ℕ) NodeFault → WorldState S
+answered w node query (Ok told) = with_answer w node query told.0 told.1
+answered w node query (Err f) = with_outcome w (Refused node f)
 
 -- a node is asked, and is as it was
-pub record AsksAt {S : Type 0} (old : WorldState S) (node : ℕ) (new : WorldState S) : Type 0 where
+pub record AsksAt {S : Type 0} (old : WorldState S) (node : ℕ) (query : Query) (new : WorldState S) : Type 0 where
   pub asked : NodeState (Script S)
   pub here : slice_get old.nodes node ≡ Some asked
   pub result : Result (ℕ × List ℕ) NodeFault
-  pub answers : NodeAnswers asked result
-  pub leaves : new ≡ answered old node result
+  pub answers : NodeAnswers asked query result
+  pub leaves : new ≡ answered old node query result
 
 -- a node restarts
 abbrev pub restart_outcome : ℕ → Result (Unit {0}) NodeFault → Outcome
@@ -243,4 +211,4 @@ Steps contents IsHonest reads read_fails puts fails old (event.Tick node) new =
 Steps contents IsHonest reads read_fails puts fails old (event.Restart node) new =
     RestartsAt contents IsHonest reads read_fails old node new
 Steps contents IsHonest reads read_fails puts fails old (event.Fault node failing) new = ArmsAt old node failing new
-Steps contents IsHonest reads read_fails puts fails old (event.Query node query) new = AsksAt old node new
+Steps contents IsHonest reads read_fails puts fails old (event.Query node query) new = AsksAt old node query new

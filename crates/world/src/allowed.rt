@@ -4,7 +4,7 @@
 
 ghost use Rattle.std.specs.Prelude.{◌≡◌, ◌<◌, ◌≤◌, ℕ, None};
 ghost use Rattle.synod.specs.Acts.{Local};
-ghost use Rattle.wire.specs.declared.command.Command.{Command};
+ghost use Rattle.sessions.specs.declared.command.Command.{Command};
 ghost use Rattle.world.specs.declared.input.Input.{Input};
 ghost use Rattle.world.specs.Minds.{Mind, refuses, Takes};
 ghost use Rattle.world.specs.Outputs.{Told};

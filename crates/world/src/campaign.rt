@@ -5,9 +5,10 @@ ghost use Rattle.std.specs.Option.{option_copied};
 ghost use Rattle.world.specs.Proposing.{may_propose};
 ghost use Rattle.world.specs.Campaigning.{begun, higher, told_with, CountsPromise, IsCounted};
 
+use sessions::Command;
 use std::marker::Model;
 use synod::{Ballot, Vote};
-use wire::{Command, NodeId, NodeSet, Nodes, Promise};
+use wire::{Entries, NodeId, NodeSet, Nodes, Promise};
 
 /// A campaign for the one slot of the log: it gathers promises, and leads once a majority has promised.
 #[derive(Debug, Drop)]
@@ -103,17 +104,11 @@ impl Campaign {
     pub fn count(&mut self, from: NodeId, promise: Promise, nodes: Nodes)
         ensures { CountsPromise nodes self.old from promise.ballot promise.first promise.entries self.new }
     {
-        let Promise {
-            ballot,
-            first,
-            entries,
-            ..
-        } = promise;
-        if !self.counts(from, ballot, first.value()) {
+        if !self.counts(from, promise.ballot(), promise.first().value()) {
             return;
         }
         self.promised.insert(from);
-        self.told = highest(self.told.take(), entries.into_vec());
+        self.told = highest(self.told.take(), promise.into_entries());
         self.leading = self.promised.is_majority_of(nodes);
     }
 
@@ -140,12 +135,12 @@ impl Campaign {
 }
 
 // The vote of the highest ballot among what was told before and what is told now.
-fn highest(told: Option<Vote<Command>>, votes: Vec<Vote<Command>>) -> Option<Vote<Command>>
-    ensures { result ≡ told_with told votes.items }
+fn highest(told: Option<Vote<Command>>, entries: Entries) -> Option<Vote<Command>>
+    ensures { result ≡ told_with told entries.items }
 {
     let mut highest = told;
-    for vote in votes {
-        highest = Some(higher(highest, vote));
+    for entry in entries {
+        highest = Some(higher(highest, entry.into_vote()));
     }
     highest
 }

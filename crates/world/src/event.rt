@@ -1,17 +1,15 @@
 //! What may happen in a world.
 
-use stable::Failing;
-use wire::{NodeId, Number, Op};
+ghost use Rattle.std.specs.Prelude.{◌≡◌, IfOk};
 
-/// A question to a node's database.
-#[derive(Clone, Copy, Debug, PartialEq, Eq)]
-pub enum Query {
-    /// How many features there are.
-    Count,
-}
+use sessions::Number;
+use stable::Failing;
+use std::alloc::AllocError;
+use store::{Op, Query};
+use wire::NodeId;
 
 /// One atomic step of a world: one thing comes to one node, or to the network between them.
-#[derive(Clone, Debug, Drop, PartialEq, Eq)]
+#[derive(Debug, Drop, PartialEq, Eq)]
 pub enum Event {
     /// A client asks a node for something.
     Submit {
@@ -34,4 +32,32 @@ pub enum Event {
     Fault(NodeId, Failing),
     /// A node is asked for what its database holds.
     Query(NodeId, Query),
+}
+
+impl Event {
+    /// A copy, equal to it.
+    pub fn try_clone(&self) -> Result<Event, AllocError>
+        ensures { IfOk result (λ copy. copy ≡ self.now) }
+    {
+        match self {
+            Event::Submit {
+                node,
+                client,
+                number,
+                op,
+            } => Ok(Event::Submit {
+                node: *node,
+                client: *client,
+                number: *number,
+                op: op.try_clone()?,
+            }),
+            Event::Deliver(frame) => Ok(Event::Deliver(*frame)),
+            Event::Drop(frame) => Ok(Event::Drop(*frame)),
+            Event::Timeout(node) => Ok(Event::Timeout(*node)),
+            Event::Tick(node) => Ok(Event::Tick(*node)),
+            Event::Restart(node) => Ok(Event::Restart(*node)),
+            Event::Fault(node, failing) => Ok(Event::Fault(*node, *failing)),
+            Event::Query(node, query) => Ok(Event::Query(*node, *query)),
+        }
+    }
 }

@@ -2,14 +2,11 @@
 //!
 //! Each law is the contract of a function that does nothing.
 
-ghost use Rattle.std.specs.Prelude.{◌≡◌, ℕ, List, [], Bool, Some, None, slice_get};
+ghost use Rattle.std.specs.Prelude.{◌≡◌, ℕ, [], Some, None, slice_get};
 ghost use Rattle.stable.specs.Script.{Script};
-ghost use Rattle.wire.specs.Asked.{Asked};
-ghost use Rattle.wire.specs.declared.command.Command.{Command};
+ghost use Rattle.sessions.specs.Standing.{StandsFor};
 ghost use Rattle.world.specs.Explaining.{IsExplained, LearntAgree, LearntGrounded};
-ghost use Rattle.world.specs.Meaning.{IsLawful, RepliesAt};
 ghost use Rattle.world.specs.Minds.{Mind};
-ghost use Rattle.world.specs.Rows.{FiveReplies};
 ghost use Rattle.world.specs.States.{NodeState};
 ghost use Rattle.world.specs.Reaching.{AreHonest};
 ghost use Rattle.world.specs.Telling.{Tells};
@@ -18,17 +15,12 @@ ghost use Rattle.world.specs.declared.event.Event.{Event};
 
 use stable::{Scripted, Stable};
 
-/// Of each list it is settled which of its places count.
-pub fn places_that_count()
-    ensures some { (l : List Command) → (counts : ℕ → Bool) × IsLawful l counts }
-    ensures one { (l : List Command) (p q : ℕ → Bool) → IsLawful l p → IsLawful l q → (i : ℕ) → p i ≡ q i }
-{}
-
-/// Where nothing is told and no node knows anything to be learnt, the lists tell no more than the nodes know.
+/// Where nothing is told and no node knows anything to be learnt or has executed anything, the lists tell no more than
+/// the nodes know.
 pub fn a_start_tells<S>()
     ensures { (w : WorldState S) → w.learnt ≡ [] → w.replies ≡ [] → w.answers ≡ []
         → ((i : ℕ) (n : NodeState (Script S)) (m : Mind) → slice_get w.nodes i ≡ Some n → n.up ≡ Some m
-        → m.learning.learnt ≡ None) → Tells w }
+        → (m.learning.learnt ≡ None) × StandsFor m.machine []) → Tells w }
 {}
 
 /// Each step that leaves the storages honest keeps what the lists of a world tell of one another.
@@ -44,14 +36,4 @@ pub fn steps_tell<S: Stable>()
 /// commands explains everything that any node told.
 pub fn tellings_are_explained<S>()
     ensures { (w : WorldState S) → Tells w → LearntAgree w → LearntGrounded w → IsExplained w }
-{}
-
-/// The replies to five requests of one client are those that were worked out by hand.
-pub fn replies_to_five_requests()
-    ensures { FiveReplies }
-{}
-
-/// A list of commands has one reply at each of its places.
-pub fn one_reply_at_each_place()
-    ensures { (l : List Command) (i : ℕ) (r q : Asked) (a b : ℕ) → RepliesAt l i r a → RepliesAt l i q b → a ≡ b }
 {}

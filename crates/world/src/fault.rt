@@ -5,6 +5,7 @@ ghost use Rattle.world.specs.Faults.{node_code, is_stop_fault, node_fault_of, wo
 ghost use Rattle.world.specs.declared.fault.NodeFault.TheVariants as node_fault;
 ghost use Rattle.world.specs.declared.fault.WorldFault.TheVariants as world_fault;
 
+use sessions::TooLong;
 use stable::StableFault;
 use std::alloc::{AllocError, AllocFailed};
 
@@ -19,6 +20,8 @@ pub enum NodeFault {
     RoundsUsedUp,
     /// As many requests wait as may.
     QueueFull,
+    /// A sequence to be put has more instants than a request may have.
+    TooLong,
     /// The storage failed. The node is down from then on.
     Device,
     /// A growth was refused. The node is down from then on, but for a query, which leaves it as it was.
@@ -37,6 +40,7 @@ impl NodeFault {
             NodeFault::LogFull => 42,
             NodeFault::RoundsUsedUp => 43,
             NodeFault::QueueFull => 44,
+            NodeFault::TooLong => 45,
             NodeFault::Device => 46,
             NodeFault::Memory => 47,
             NodeFault::Damaged => 48,
@@ -63,6 +67,14 @@ impl From<StableFault> for NodeFault {
             StableFault::Memory => NodeFault::Memory,
             StableFault::Damaged => NodeFault::Damaged,
         }
+    }
+}
+
+impl From<TooLong> for NodeFault {
+    ghost from_gives = { λ _ fault. fault ≡ node_fault.TooLong };
+
+    fn from(_fault: TooLong) -> NodeFault {
+        NodeFault::TooLong
     }
 }
 

@@ -6,10 +6,11 @@ ghost use Rattle.wire.specs.NodeSets.{has_node};
 
 use super::log::LOG_SLOTS;
 use super::telling::Telling;
+use sessions::Command;
 use std::alloc::{AllocError, Global};
 use std::collections::BTreeMap;
 use synod::{Ballot, Slot};
-use wire::{Command, NodeId, NodeSet, Nodes};
+use wire::{NodeId, NodeSet, Nodes};
 
 /// The slot that was newly learnt.
 #[derive(Clone, Copy, Debug, PartialEq, Eq)]
@@ -127,7 +128,7 @@ impl Learner {
         ensures { IsTrue result ↔ ((learning_of self.now).told telling.now ≡ Some command.now) }
     {
         match self.told.get(telling) {
-            Some(told) => told == command,
+            Some(told) => *told == *command,
             None => false,
         }
     }

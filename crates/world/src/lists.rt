@@ -3,20 +3,23 @@
 ghost use Rattle.std.specs.Prelude.{◌≡◌};
 
 use super::fault::NodeFault;
-use super::machine::Reply;
+use sessions::{Command, Number};
 use std::marker::Model;
+use store::{Op, Query};
 use synod::Slot;
-use wire::{Command, NodeId, Number, Request};
+use wire::NodeId;
 
 /// A request that a node took.
-#[derive(Clone, Debug, Drop, PartialEq, Eq)]
+#[derive(Debug, Drop, PartialEq, Eq)]
 pub struct Submission {
     pub node: NodeId,
-    pub request: Request,
+    pub client: u8,
+    pub number: Number,
+    pub op: Op,
 }
 
 /// What a node learnt.
-#[derive(Clone, Debug, Drop, PartialEq, Eq)]
+#[derive(Debug, Drop, PartialEq, Eq)]
 pub struct Learnt {
     pub node: NodeId,
     pub slot: Slot,
@@ -24,12 +27,12 @@ pub struct Learnt {
 }
 
 /// A reply to a request that waited at a node. Its position is one more than the slot at which it was executed.
-#[derive(Clone, Debug, Drop, PartialEq, Eq)]
+#[derive(Clone, Copy, Debug, PartialEq, Eq)]
 pub struct Replied {
     pub node: NodeId,
     pub client: u8,
     pub number: Number,
-    pub reply: Reply,
+    pub reply: sessions::Outcome,
     pub position: u32,
 }
 
@@ -68,6 +71,7 @@ impl Text {
 pub struct Answered {
     pub node: NodeId,
     pub position: u32,
+    pub query: Query,
     pub text: Text,
 }
 

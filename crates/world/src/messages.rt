@@ -6,19 +6,19 @@ ghost use Rattle.wire.specs.NodeSets.{has_node};
 ghost use Rattle.world.specs.Proposing.{prepare, accept, choice};
 ghost use Rattle.world.specs.Sending.{to_all};
 
-use super::campaign::Campaign;
-use std::alloc::{AllocError, Global};
+use sessions::{Command, Request};
+use std::alloc::AllocError;
 use synod::{Ballot, Slot, Vote};
-use wire::{Command, Envelope, Message, NodeId, Nodes, Prepare, Request};
+use wire::Message;
 
 /// Asks for promises for the slot.
 pub fn prepare(ballot: Ballot) -> Message
     ensures { result ≡ prepare ballot }
 {
-    Message::Prepare(Prepare {
+    Message::Prepare {
         ballot,
         first: Slot::first(),
-    })
+    }
 }
 
 /// Proposes the command for the slot.

@@ -2,15 +2,14 @@
 
 ghost use Rattle.std.specs.Prelude.{◌≡◌, ◌⊎◌, ◌↔◌, Some, None, IfOk, IfErr, IfSome, OnOk, IsTrue, IsSome, IsErrOf, MatchResult, MatchBool, codes, length, ◌≤◌, if◌then◌else◌};
 
-use super::event::Query;
 use super::fault::NodeFault;
 use super::input::Input;
 use super::lists::Text;
-use super::machine::answer;
 use super::outputs::Outputs;
 use super::running::Running;
 use stable::{Failing, Put, Scripted, Stable};
 use std::alloc::Global;
+use store::Query;
 use synod::MOST_NODES;
 use wire::{NodeId, Nodes};
 
@@ -24,6 +23,7 @@ pub struct Node<S> {
 }
 
 impl<S: Stable> Node<S> {
+    ghost use Rattle.world.specs.Fitting.{InputFits};
     ghost use Rattle.world.specs.Fleets.{IsMember};
     ghost use Rattle.world.specs.Loading.{IsLoaded, IsDamaged, Restarts};
     ghost use Rattle.world.specs.Nodes.{state_of, NodeSteps, NodeAnswers};
@@ -61,7 +61,7 @@ impl<S: Stable> Node<S> {
         ensures damaged { S.IsHonest (state_of self.new).storage → IsErrOf result NodeFault.Damaged
             → IsDamaged S.contents S.HasStrayKey (state_of self.old).storage }
     {
-        self.running = None;
+        self.stop();
         let running = Running::load(alloc, &mut self.storage, self.id, self.nodes)?;
         self.running = Some(running);
         Ok(())
@@ -74,34 +74,40 @@ impl<S: Stable> Node<S> {
         self.running.is_some()
     }
 
-    /// Takes an input.
+    /// Takes an input, which may stand in a frame where it is a message.
     pub fn step(&mut self, alloc: Global, input: Input) -> Result<Outputs, NodeFault>
+        requires fits { InputFits input }
         ensures steps { NodeSteps S.reads S.puts S.fails (state_of self.old) input result (state_of self.new) }
         ensures few { IfOk result (λ told. length told.sends ≤ MOST_NODES) }
     {
-        input.look();
         let Some(running) = &mut self.running else {
             return Err(NodeFault::Down);
         };
         let result = running.take(alloc, &mut self.storage, input);
         if let Err(fault) = &result {
             if fault.is_stop() {
-                self.running = None;
+                self.stop();
             }
         }
         result
     }
 
+    // Goes down: what is not in the records is gone.
+    fn stop(&mut self)
+        ensures { state_of self.new ≡ record (state_of self.old) { up = None } }
+    {
+        self.running = None;
+    }
+
     /// Answers a query: its position, and the text. The node is as it was.
     pub fn query(&self, alloc: Global, query: &Query) -> Result<(u32, Text), NodeFault>
-        ensures { NodeAnswers (state_of self.now) result }
+        ensures { NodeAnswers (state_of self.now) query.now result }
     {
         let Some(running) = &self.running else {
             return Err(NodeFault::Down);
         };
-        match query {
-            Query::Count => Ok((running.position(), Text::new(answer(alloc)?))),
-        }
+        let text = running.answer(alloc, query)?;
+        Ok((running.position(), Text::new(text)))
     }
 }
 

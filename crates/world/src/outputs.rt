@@ -3,17 +3,17 @@
 ghost use Rattle.std.specs.Prelude.{◌≡◌};
 ghost use Rattle.world.specs.Outputs.{sent, nothing};
 
-use super::machine::Reply;
+use super::frame::Frame;
+use sessions::{Command, Number};
 use std::alloc::Global;
 use std::marker::Model;
-use wire::{Command, Envelope, Number};
 
 /// A request that waited at the node was executed, and has this reply.
 #[derive(Clone, Copy, Debug, PartialEq, Eq)]
 pub struct Executed {
     pub client: u8,
     pub number: Number,
-    pub reply: Reply,
+    pub reply: sessions::Outcome,
 }
 
 /// What comes of an input, to be told in this order.
@@ -24,7 +24,7 @@ pub struct Outputs {
     /// The reply to a request that waited.
     pub executed: Option<Executed>,
     /// What is sent.
-    pub sends: Vec<Envelope>,
+    pub sends: Vec<Frame>,
 }
 
 impl Model for Outputs {
@@ -41,7 +41,7 @@ impl Model for Outputs {
 
 impl Outputs {
     /// Messages alone.
-    pub fn sent(sends: Vec<Envelope>) -> Outputs
+    pub fn sent(sends: Vec<Frame>) -> Outputs
         ensures { result ≡ sent sends.items }
     {
         Outputs {

@@ -5,20 +5,22 @@ ghost use Rattle.std.specs.List.{list_any};
 ghost use Rattle.byteorder.specs.Endian.{big_bytes};
 ghost use Rattle.stable.specs.declared.key.Key.TheVariants as key;
 ghost use Rattle.world.specs.Fleets.{IsProposerOf};
-ghost use Rattle.world.specs.Rounds.{IsRound};
+ghost use Rattle.wire.specs.RecordForms.{IsRoundRecord};
 ghost use Rattle.world.specs.Proposing.{loaded, is_of, next_round, StartsCampaign, HearsPromise, HearsRefusal, filled, fill_sends, closed, sends_again};
 
 use super::campaign::Campaign;
 use super::fault::NodeFault;
+use super::frame::Frame;
 use super::log::MOST_WAITING;
 use super::messages::{accept, choice, prepare};
-use super::rounds::{round_bytes, round_of};
 use super::sends::{send_to_all, send_to_others};
+use sessions::{Number, Request};
 use stable::{Key, Stable, StableFault};
 use std::alloc::{AllocError, Global};
 use std::marker::Model;
 use synod::{Ballot, MOST_NODES};
-use wire::{Envelope, Nack, NodeId, Nodes, Number, Promise, Request};
+use wire::frames::{round_of_record, round_record};
+use wire::{Nack, NodeId, Nodes, Promise};
 
 /// A node's proposer. After `Device` or `Memory` it must be dropped, and loaded again.
 #[derive(Drop)]
@@ -60,17 +62,17 @@ impl Proposer {
         ensures reads { OnOk result (S.reads storage.old storage.new) }
         ensures round { S.IsHonest storage.new → IfOk result (λ p.
             MatchOption (S.contents storage.old key.Round) (p ≡ loaded id nodes 0)
-            (λ bytes. IsRound bytes p.round × (p ≡ loaded id nodes p.round))) }
+            (λ bytes. IsRoundRecord bytes p.round × (p ≡ loaded id nodes p.round))) }
 
         // Each error.
         ensures damaged { S.IsHonest storage.new → IsErrOf result StableFault.Damaged
-            → MatchOption (S.contents storage.old key.Round) ⊥ (λ bytes. (r : ℕ) → ¬ IsRound bytes r) }
+            → MatchOption (S.contents storage.old key.Round) ⊥ (λ bytes. (r : ℕ) → ¬ IsRoundRecord bytes r) }
         ensures device { IsErrOf result StableFault.Device → S.read_fails storage.old storage.new }
         ensures memory { IsErrOf result StableFault.Memory → S.reads storage.old storage.new }
         ensures damaged_reads { IsErrOf result StableFault.Damaged → S.reads storage.old storage.new }
     {
         let round = match storage.get(alloc, Key::Round)? {
-            Some(bytes) => round_of(bytes.as_slice()).ok_or(StableFault::Damaged)?,
+            Some(bytes) => round_of_record(bytes.as_slice()).ok_or(StableFault::Damaged)?,
             None => 0,
         };
         Ok(Proposer {
@@ -119,7 +121,7 @@ impl Proposer {
         &mut self,
         alloc: Global,
         storage: &mut S,
-    ) -> Result<Vec<Envelope>, NodeFault>
+    ) -> Result<Vec<Frame>, NodeFault>
         ensures starts { IfOk result (λ sends. StartsCampaign self.old self.new sends.items) }
         ensures few { IfOk result (λ sends. vec_len sends ≤ MOST_NODES) }
         ensures writes { OnOk result
@@ -143,9 +145,9 @@ impl Proposer {
             round,
             node: self.id.value(),
         };
-        let sends = send_to_all(alloc, self.id, self.nodes, &prepare(ballot))?;
+        let sends = send_to_all(alloc, self.id, self.nodes, prepare(ballot))?;
         // Written before anybody hears of it: after a restart the round must not be drawn again.
-        storage.put(alloc, Key::Round, &round_bytes(round))?;
+        storage.put(alloc, Key::Round, &round_record(round))?;
         self.round = round;
         self.campaign = Some(Campaign::new(ballot));
         Ok(sends)
@@ -165,11 +167,11 @@ impl Proposer {
     pub fn on_nack(&mut self, nack: Nack)
         ensures { HearsRefusal self.old nack.ballot nack.promised self.new }
     {
-        self.refused = self.refused.max(nack.promised.round);
+        self.refused = self.refused.max(nack.promised().round);
         let Some(campaign) = &self.campaign else {
             return;
         };
-        if campaign.is_under(nack.ballot) {
+        if campaign.is_under(nack.ballot()) {
             self.campaign = None;
         }
     }
@@ -197,7 +199,7 @@ impl Proposer {
     }
 
     /// Proposes a command for the slot, where it leads and nothing is proposed.
-    pub fn propose(&mut self, alloc: Global) -> Result<Vec<Envelope>, AllocError>
+    pub fn propose(&mut self, alloc: Global) -> Result<Vec<Frame>, AllocError>
         ensures sends { IfOk result (λ sends. sends.items ≡ fill_sends self.old) }
         ensures few { IfOk result (λ sends. vec_len sends ≤ MOST_NODES) }
         ensures filled { OnOk result (self.new ≡ filled self.old) }
@@ -211,11 +213,11 @@ impl Proposer {
         let command = choice(campaign.told(), self.waiting.as_slice())?;
         let message = accept(campaign.ballot(), command.try_clone()?);
         campaign.propose(command);
-        send_to_all(alloc, self.id, self.nodes, &message)
+        send_to_all(alloc, self.id, self.nodes, message)
     }
 
     /// Sends again what may have been lost.
-    pub fn tick(&self, alloc: Global) -> Result<Vec<Envelope>, AllocError>
+    pub fn tick(&self, alloc: Global) -> Result<Vec<Frame>, AllocError>
         ensures sends { IfOk result (λ sends. sends.items ≡ sends_again self.now self.now.campaign) }
         ensures few { IfOk result (λ sends. vec_len sends ≤ MOST_NODES) }
     {
@@ -228,13 +230,13 @@ impl Proposer {
                 self.id,
                 self.nodes,
                 campaign.promised(),
-                &prepare(campaign.ballot()),
+                prepare(campaign.ballot()),
             );
         }
         match campaign.proposal() {
             Some(command) => {
                 let message = accept(campaign.ballot(), command.try_clone()?);
-                send_to_all(alloc, self.id, self.nodes, &message)
+                send_to_all(alloc, self.id, self.nodes, message)
             }
             None => Ok(Vec::new(alloc)),
         }

@@ -3,29 +3,35 @@
 ghost use Rattle.std.specs.Prelude.{◌≡◌, ◌≤◌, ◌<◌, ◌+◌, ◌++◌, ◌∷◌, [], ◌↔◌, ℕ, true, length, vec_len, vec_capacity, Some, None, IsNone, OnOk, OnErr, IsOk, IsErrOf, ◌⊎◌, Bool, IfOk, IfErr, IfSome, IsTrue, is_ok, slice_get, MatchBool, MatchOption, All, map};
 ghost use Rattle.world.specs.Fleets.{IsBetween, IsFleet, ComesFrom};
 ghost use Rattle.world.specs.Nodes.{state_of};
+ghost use Rattle.world.specs.Fitting.{InputFits};
+ghost use Rattle.wire.specs.FrameSpelling.{Fits};
 ghost use Rattle.world.specs.Outputs.{replied_at};
 ghost use Rattle.world.specs.Waiting.{NoneWaits, NoneWaitsBelow, OneWaits, IsLowestWaiting};
 
-use super::event::{Event, Query};
+use super::event::Event;
 use super::fault::{NodeFault, WorldFault};
 use super::flags::first_set;
+use super::frame::Frame;
 use super::input::Input;
 use super::lists::{Answered, Learnt, Outcome, Replied, Submission, Text};
 use super::log::MOST_DELIVERIES;
 use super::node::Node;
+use super::offer::Offer;
 use super::outputs::{Executed, Outputs};
 use super::start::start_nodes;
+use sessions::Number;
 use stable::{Failing, MemStable, Put, Scripted, Stable};
 use std::alloc::Global;
+use store::{Op, Query};
 use synod::{MOST_NODES, Slot};
-use wire::{Envelope, NodeId, Nodes, Request};
+use wire::{Envelope, NodeId, Nodes};
 
 /// All nodes of a run, over storages of one kind.
 #[derive(Drop)]
 pub struct Run<S> {
     nodes: Vec<Node<Scripted<S>>>,
     submitted: Vec<Submission>,
-    frames: Vec<Envelope>,
+    frames: Vec<Frame>,
     // Which frames wait to be delivered. No frame below `lowest` waits.
     waiting: Vec<bool>,
     lowest: usize,
@@ -76,7 +82,7 @@ impl<S: Stable> Run<S> {
     }
 
     /// Every frame that was sent.
-    pub fn frames(&self) -> &[Envelope]
+    pub fn frames(&self) -> &[Frame]
         ensures { result.now ≡ (run_of self.now).frames }
     {
         self.frames.as_slice()
@@ -142,7 +148,7 @@ impl<S: Stable> Run<S> {
                 client,
                 number,
                 op,
-            } => self.submit(alloc, node, Request::new(client, number, op)),
+            } => self.submit(alloc, node, client, number, op),
             Event::Deliver(frame) => self.deliver(alloc, frame),
             Event::Drop(frame) => self.drop_frame(frame),
             Event::Timeout(node) => self.input(alloc, node, Input::Timeout),
@@ -197,22 +203,32 @@ impl<S: Stable> Run<S> {
         }
     }
 
-    // A client's request comes to a node.
-    fn submit(&mut self, alloc: Global, node: NodeId, request: Request) -> Result<(), WorldFault>
+    // A client asks a node for something.
+    fn submit(
+        &mut self,
+        alloc: Global,
+        node: NodeId,
+        client: u8,
+        number: Number,
+        op: Op,
+    ) -> Result<(), WorldFault>
         ensures submits { OnOk result (SubmitsAt (⟦<Scripted<S> as Stable>⟧.reads)
             (⟦<Scripted<S> as Stable>⟧.puts) (⟦<Scripted<S> as Stable>⟧.fails)
-            (run_of self.old) node request (run_of self.new)) }
+            (run_of self.old) node (record { client = client; number = number; op = op }) (run_of self.new)) }
         ensures err { OnErr result (run_of self.new ≡ run_of self.old) }
         ensures no_node { IsErrOf result WorldFault.NoSuchNode ↔ (length (run_of self.old).nodes ≤ node) }
         ensures faults { IfErr result (λ f. (f ≡ WorldFault.NoSuchNode) ⊎ (f ≡ WorldFault.Memory)) }
     {
         self.find(node)?;
         self.reserve()?;
-        let copy = request.try_clone()?;
-        if self.take(alloc, node, Input::Submit(request)) {
+        let copy = op.try_clone()?;
+        let offer = Offer::new(client, number, op);
+        if self.take(alloc, node, Input::Submit(offer)) {
             let _ = self.submitted.push(Submission {
                 node,
-                request: copy,
+                client,
+                number,
+                op: copy,
             });
         }
         Ok(())
@@ -221,6 +237,7 @@ impl<S: Stable> Run<S> {
     // Anything but a frame or a client's request comes to a node.
     fn input(&mut self, alloc: Global, node: NodeId, input: Input) -> Result<(), WorldFault>
         requires sender { ComesFrom (vec_len self.old.nodes) input }
+        requires fits { InputFits input }
         ensures takes { OnOk result ((taken : Bool) × TakesAt (⟦<Scripted<S> as Stable>⟧.reads)
             (⟦<Scripted<S> as Stable>⟧.puts) (⟦<Scripted<S> as Stable>⟧.fails)
             (run_of self.old) node input taken (run_of self.new)) }
@@ -245,7 +262,7 @@ impl<S: Stable> Run<S> {
         ensures faults { IfErr result (λ f. (f ≡ WorldFault.NoSuchMessage) ⊎ (f ≡ WorldFault.Memory)) }
     {
         let index = self.sent(frame)?;
-        let envelope = self.frames[index].try_clone()?;
+        let envelope = self.frames[index].open(alloc)?;
         self.reserve()?;
         self.stop_waiting(index);
         self.receive(alloc, envelope);
@@ -255,6 +272,7 @@ impl<S: Stable> Run<S> {
     // A frame has come: a node that is up takes it, and one that is down loses it.
     fn receive(&mut self, alloc: Global, envelope: Envelope)
         requires between { IsBetween (vec_len self.old.nodes) envelope }
+        requires fits { Fits 7 envelope }
         requires room { HasRoom self.old }
         ensures { ReceivesAt (⟦<Scripted<S> as Stable>⟧.reads) (⟦<Scripted<S> as Stable>⟧.puts)
             (⟦<Scripted<S> as Stable>⟧.fails) (run_of self.old) envelope (run_of self.new) }
@@ -298,7 +316,7 @@ impl<S: Stable> Run<S> {
 
     // A node is asked for what its database holds.
     fn query(&mut self, alloc: Global, node: NodeId, query: &Query) -> Result<(), WorldFault>
-        ensures asks { OnOk result (AsksAt (run_of self.old) node (run_of self.new)) }
+        ensures asks { OnOk result (AsksAt (run_of self.old) node query.now (run_of self.new)) }
         ensures err { OnErr result (run_of self.new ≡ run_of self.old) }
         ensures no_node { IsErrOf result WorldFault.NoSuchNode ↔ (length (run_of self.old).nodes ≤ node) }
         ensures faults { IfErr result (λ f. (f ≡ WorldFault.NoSuchNode) ⊎ (f ≡ WorldFault.Memory)) }
@@ -324,11 +342,11 @@ impl<S: Stable> Run<S> {
     fn ask(&mut self, alloc: Global, node: NodeId, query: &Query)
         requires there { node < vec_len self.old.nodes }
         requires room { HasRoom self.old }
-        ensures { AsksAt (run_of self.old) node (run_of self.new) }
+        ensures { AsksAt (run_of self.old) node query.now (run_of self.new) }
     {
         let at = &self.nodes[usize::from(node.value())];
         match at.query(alloc, query) {
-            Ok((position, text)) => self.answer(node, position, text),
+            Ok((position, text)) => self.answer(node, *query, position, text),
             Err(fault) => {
                 let _ = self.outcomes.push(Outcome::Refused(node, fault));
             }
@@ -336,13 +354,14 @@ impl<S: Stable> Run<S> {
     }
 
     // An answer joins the list.
-    fn answer(&mut self, node: NodeId, position: u32, text: Text)
+    fn answer(&mut self, node: NodeId, query: Query, position: u32, text: Text)
         requires room { HasRoom self.old }
-        ensures { run_of self.new ≡ with_answer (run_of self.old) node position text }
+        ensures { run_of self.new ≡ with_answer (run_of self.old) node query position text }
     {
         let _ = self.answers.push(Answered {
             node,
             position,
+            query,
             text,
         });
         let _ = self.outcomes.push(Outcome::Answered);
@@ -425,6 +444,7 @@ impl<S: Stable> Run<S> {
     fn take(&mut self, alloc: Global, node: NodeId, input: Input) -> bool
         requires there { node < vec_len self.old.nodes }
         requires sender { ComesFrom (vec_len self.old.nodes) input }
+        requires fits { InputFits input }
         requires room { HasRoom self.old }
         ensures taken { TakesAt (⟦<Scripted<S> as Stable>⟧.reads) (⟦<Scripted<S> as Stable>⟧.puts)
             (⟦<Scripted<S> as Stable>⟧.fails) (run_of self.old) node input result (run_of self.new) }

@@ -1,27 +1,33 @@
 //! What a node holds while it is up.
 
 ghost use Rattle.std.specs.Prelude.{◌≡◌, ◌⊎◌, ◌≤◌, Some, None, IfOk, OnOk, IfErr, IfSome, IsErrOf, is_some, length, if◌then◌else◌};
+ghost use Rattle.store.specs.Answers.{IsAnswer};
+ghost use Rattle.sessions.specs.Machines.{after_command, reply_to_command};
+ghost use Rattle.sessions.specs.Standing.{StandsForOneMore, RepliesOneMore};
 ghost use Rattle.acceptor.specs.Accepting.{Write, HasWritten, HasFailed, prepare_write, IsAcceptWrite};
 ghost use Rattle.byteorder.specs.Endian.{big_bytes};
 ghost use Rattle.stable.specs.declared.key.Key.TheVariants as key;
 ghost use Rattle.world.specs.Minds.{executed_reply, after_learning, HasMade, HasFailedToMake};
 ghost use Rattle.world.specs.Proposing.{next_round};
 ghost use Rattle.world.specs.declared.input.Input.TheVariants as input;
-ghost use Rattle.wire.specs.declared.message.Message.TheVariants as message;
+ghost use Rattle.wire.specs.declared.frames.message.Message.TheVariants as message;
 
 use super::fault::NodeFault;
+use super::frame::Frame;
 use super::input::Input;
 use super::learner::Learner;
 use super::log::LOG_SLOTS;
-use super::machine::first_reply;
+use super::offer::Offer;
 use super::outputs::{Executed, Outputs};
 use super::proposer::Proposer;
 use super::sends::send_to_all;
 use acceptor::{Acceptor, Answer};
+use sessions::{Command, Machine};
 use stable::{Stable, StableFault};
-use std::alloc::Global;
-use synod::{MOST_NODES, Vote};
-use wire::{Command, Envelope, Message, Nack, NodeId, Nodes, Prepare, Promise, Request};
+use std::alloc::{AllocError, Global};
+use store::Query;
+use synod::{Ballot, MOST_NODES, Slot, Vote};
+use wire::{Envelope, Message, Nack, NodeId, Nodes, Promise};
 
 /// A node's roles. All of it is gone after a restart.
 #[derive(Drop)]
@@ -31,6 +37,8 @@ pub struct Running {
     acceptor: Acceptor,
     learner: Learner,
     proposer: Proposer,
+    // What is learnt is executed at once.
+    machine: Machine,
 }
 
 impl Running {
@@ -68,6 +76,7 @@ impl Running {
             acceptor,
             learner: Learner::new(alloc, nodes),
             proposer,
+            machine: Machine::new(alloc),
         })
     }
 
@@ -76,6 +85,13 @@ impl Running {
         ensures { result ≡ position (mind_of self.now) }
     {
         self.learner.prefix()
+    }
+
+    /// The answer to a query, over what its machine holds.
+    pub fn answer(&self, alloc: Global, query: &Query) -> Result<Vec<u8>, AllocError>
+        ensures { IfOk result (λ text. IsAnswer (mind_of self.now).machine.features query.now text.items) }
+    {
+        self.machine.answer(alloc, query)
     }
 
     /// Takes an input.
@@ -107,7 +123,7 @@ impl Running {
             ⊎ HasMade S.reads S.puts storage.old storage.new (Writes (mind_of self.old) input) }
     {
         match input {
-            Input::Submit(request) => self.submit(alloc, request),
+            Input::Submit(offer) => self.submit(alloc, offer),
             Input::Message(from, message) => self.receive(alloc, storage, from, message),
             Input::Timeout => self.timeout(alloc, storage),
             Input::Tick => Ok(Outputs::sent(self.proposer.tick(alloc)?)),
@@ -136,29 +152,37 @@ impl Running {
             (WritesOnMessage (mind_of self.old) message) }
     {
         match message {
-            Message::Prepare(prepare) => self.on_prepare(alloc, storage, from, prepare),
+            Message::Prepare { ballot, first } => {
+                self.on_prepare(alloc, storage, from, ballot, first)
+            }
             Message::Promise(promise) => self.on_promise(alloc, from, promise),
             Message::Nack(nack) => Ok(self.on_nack(alloc, from, nack)),
             Message::Accept(vote) => self.on_accept(alloc, storage, from, vote),
             Message::Accepted(vote) => self.on_accepted(alloc, from, vote),
+            // Nobody sends these yet.
+            Message::Ask { .. } | Message::Decided { .. } => Ok(Outputs::nothing(alloc)),
         }
     }
 
     // A client's request.
-    fn submit(&mut self, alloc: Global, request: Request) -> Result<Outputs, NodeFault>
+    fn submit(&mut self, alloc: Global, offer: Offer) -> Result<Outputs, NodeFault>
         ensures few { IfOk result (λ told. length told.sends ≤ MOST_NODES) }
         ensures takes { IfOk result (λ told.
-            Takes (mind_of self.old) (input.Submit request) (mind_of self.new) told) }
-        ensures refuses { IfSome (refuses_submit (mind_of self.old) request) (λ fault.
+            Takes (mind_of self.old) (input.Submit offer) (mind_of self.new) told) }
+        ensures refuses { IfSome (refuses_submit (mind_of self.old) offer) (λ fault.
             (result ≡ Err fault) × (mind_of self.new ≡ mind_of self.old)) }
         ensures err { IfErr result (λ fault.
-            (fault ≡ NodeFault.Memory) ⊎ (refuses_submit (mind_of self.old) request ≡ Some fault)) }
+            (fault ≡ NodeFault.Memory) ⊎ (refuses_submit (mind_of self.old) offer ≡ Some fault)) }
     {
-        if let Some(fault) = self.refuses_submit(&request) {
-            return Err(fault);
+        if self.position() >= LOG_SLOTS {
+            return Err(NodeFault::LogFull);
         }
+        let request = offer.into_request()?;
         if self.proposer.waits(request.client(), request.number()) {
             return Ok(Outputs::nothing(alloc));
+        }
+        if self.proposer.is_full() {
+            return Err(NodeFault::QueueFull);
         }
         self.proposer.submit(request)?;
         Ok(Outputs::sent(self.proposer.propose(alloc)?))
@@ -183,23 +207,6 @@ impl Running {
             return Err(fault);
         }
         Ok(Outputs::sent(self.proposer.timeout(alloc, storage)?))
-    }
-
-    // Why a client's request is refused, if it is.
-    fn refuses_submit(&self, request: &Request) -> Option<NodeFault>
-        ensures { result ≡ refuses_submit (mind_of self.now) request.now }
-    {
-        if self.position() >= LOG_SLOTS {
-            return Some(NodeFault::LogFull);
-        }
-        if self.proposer.waits(request.client(), request.number()) {
-            return None;
-        }
-        if self.proposer.is_full() {
-            Some(NodeFault::QueueFull)
-        } else {
-            None
-        }
     }
 
     // Why a timeout is refused, if it is.
@@ -250,22 +257,22 @@ impl Running {
         alloc: Global,
         storage: &mut S,
         from: NodeId,
-        prepare: Prepare,
+        ballot: Ballot,
+        first: Slot,
     ) -> Result<Outputs, NodeFault>
         ensures few { IfOk result (λ told. length told.sends ≤ MOST_NODES) }
         ensures takes { IfOk result (λ told.
-            TakesMessage (mind_of self.old) from (message.Prepare prepare) (mind_of self.new) told) }
+            TakesMessage (mind_of self.old) from (message.Prepare ballot first) (mind_of self.new) told) }
         ensures written { OnOk result (HasWritten S.reads S.puts storage.old storage.new
-            (prepare_write (mind_of self.old).accepting prepare.ballot)) }
+            (prepare_write (mind_of self.old).accepting ballot)) }
         ensures device { IsErrOf result NodeFault.Device
             → HasFailed S.fails storage.old storage.new
-            (prepare_write (mind_of self.old).accepting prepare.ballot) }
+            (prepare_write (mind_of self.old).accepting ballot) }
         ensures memory { IsErrOf result NodeFault.Memory → S.reads storage.old storage.new
             ⊎ HasWritten S.reads S.puts storage.old storage.new
-            (prepare_write (mind_of self.old).accepting prepare.ballot) }
+            (prepare_write (mind_of self.old).accepting ballot) }
         ensures err { IfErr result (λ fault. (fault ≡ NodeFault.Device) ⊎ (fault ≡ NodeFault.Memory)) }
     {
-        let Prepare { ballot, first } = prepare;
         let answer = self.acceptor.on_prepare(alloc, storage, ballot, first)?;
         self.send_answer(alloc, from, answer)
     }
@@ -319,7 +326,7 @@ impl Running {
             unreachable!();
         };
         let learnt = command.try_clone()?;
-        let executed = execute(&mut self.proposer, &learnt);
+        let executed = self.execute(&learnt)?;
         Ok(Outputs {
             learnt: Some(learnt),
             executed,
@@ -338,7 +345,7 @@ impl Running {
             Answer::Nack(nack) => self.send(alloc, to, Message::Nack(nack)),
             Answer::Accepted(vote) => {
                 let message = Message::Accepted(vote);
-                Ok(Outputs::sent(send_to_all(alloc, self.id, self.nodes, &message)?))
+                Ok(Outputs::sent(send_to_all(alloc, self.id, self.nodes, message)?))
             }
         }
     }
@@ -349,31 +356,43 @@ impl Running {
         ensures sent { IfOk result (λ told. told ≡ sent (one_send self.now.id to message)) }
         ensures err { IfErr result (λ fault. fault ≡ NodeFault.Memory) }
     {
-        let mut sends = Vec::new(alloc);
-        sends.push(Envelope {
+        let envelope = Envelope {
             from: self.id,
             to,
             message,
-        })?;
+        };
+        let mut sends = Vec::new(alloc);
+        sends.push(Frame::of(alloc, &envelope)?)?;
         Ok(Outputs::sent(sends))
     }
-}
 
-// A command is executed: the reply, where it is a request that waited here.
-fn execute(proposer: &mut Proposer, command: &Command) -> Option<Executed>
-    ensures reply { result ≡ executed_reply proposer.old command.now }
-    ensures state { proposer.new ≡ after_learning proposer.old command.now }
-{
-    proposer.on_learned();
-    let Command::Request(request) = command else {
-        return None;
-    };
-    if !proposer.executed(request.client(), request.number()) {
-        return None;
+    // A command is learnt: it is executed, and a request that waited here has its reply.
+    fn execute(&mut self, command: &Command) -> Result<Option<Executed>, AllocError>
+        ensures reply { IfOk result (λ told.
+            told ≡ executed_reply (mind_of self.old).machine (mind_of self.old).proposing command.now) }
+        ensures state { OnOk result (mind_of self.new ≡ record (mind_of self.old) {
+          proposing = after_learning (mind_of self.old).proposing command.now;
+          machine = after_command (mind_of self.old).machine command.now;
+        }) }
+
+        // What that is to each list of commands that the machine stands for.
+        ensures stands { OnOk result (StandsForOneMore (mind_of self.old).machine
+            (mind_of self.new).machine command.now) }
+        ensures replies { OnOk result (RepliesOneMore (mind_of self.old).machine command.now
+            (reply_to_command (mind_of self.old).machine command.now)) }
+    {
+        let reply = self.machine.execute(command)?;
+        self.proposer.on_learned();
+        let Command::Request(request) = command else {
+            return Ok(None);
+        };
+        if !self.proposer.executed(request.client(), request.number()) {
+            return Ok(None);
+        }
+        Ok(Some(Executed {
+            client: request.client(),
+            number: request.number(),
+            reply,
+        }))
     }
-    Some(Executed {
-        client: request.client(),
-        number: request.number(),
-        reply: first_reply(request),
-    })
 }

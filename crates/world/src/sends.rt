@@ -4,6 +4,7 @@ ghost use Rattle.std.specs.Prelude.{◌≡◌, ◌≤◌, IfOk, filter, not, vec
 ghost use Rattle.wire.specs.NodeSets.{has_node};
 ghost use Rattle.world.specs.Sending.{to_all};
 
+use super::frame::Frame;
 use std::alloc::{AllocError, Global};
 use synod::MOST_NODES;
 use wire::{Envelope, Message, NodeId, NodeSet, Nodes};
@@ -13,16 +14,20 @@ pub fn send_to_all(
     alloc: Global,
     from: NodeId,
     nodes: Nodes,
-    message: &Message,
-) -> Result<Vec<Envelope>, AllocError>
-    ensures sends { IfOk result (λ sends. sends.items ≡ to_all from nodes message.now) }
+    message: Message,
+) -> Result<Vec<Frame>, AllocError>
+    ensures sends { IfOk result (λ sends. sends.items ≡ to_all from nodes message) }
     ensures few { IfOk result (λ sends. vec_len sends ≤ MOST_NODES) }
 {
     let mut sends = Vec::new(alloc);
+    let mut envelope = Envelope {
+        from,
+        to: from,
+        message,
+    };
     for value in 0..nodes.count() {
-        let to = nodes.node(value);
-        let message = message.try_clone()?;
-        sends.push(Envelope { from, to, message })?;
+        envelope.to = nodes.node(value);
+        sends.push(Frame::of(alloc, &envelope)?)?;
     }
     Ok(sends)
 }
@@ -33,18 +38,22 @@ pub fn send_to_others(
     from: NodeId,
     nodes: Nodes,
     set: &NodeSet,
-    message: &Message,
-) -> Result<Vec<Envelope>, AllocError>
+    message: Message,
+) -> Result<Vec<Frame>, AllocError>
     ensures sends { IfOk result (λ sends.
-        sends.items ≡ filter (λ e. not (has_node set.now e.to)) (to_all from nodes message.now)) }
+        sends.items ≡ filter (λ e. not (has_node set.now e.to)) (to_all from nodes message)) }
     ensures few { IfOk result (λ sends. vec_len sends ≤ MOST_NODES) }
 {
     let mut sends = Vec::new(alloc);
+    let mut envelope = Envelope {
+        from,
+        to: from,
+        message,
+    };
     for value in 0..nodes.count() {
-        let to = nodes.node(value);
-        if !set.contains(to) {
-            let message = message.try_clone()?;
-            sends.push(Envelope { from, to, message })?;
+        envelope.to = nodes.node(value);
+        if !set.contains(envelope.to) {
+            sends.push(Frame::of(alloc, &envelope)?)?;
         }
     }
     Ok(sends)

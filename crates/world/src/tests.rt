@@ -1,9 +1,12 @@
 use super::*;
+use sessions::{Command, MOST_PUT_POINTS, Number};
 use stable::{Failing, MemStable, Stable};
 use std::alloc::Global;
+use std::process::Abort;
 use std::test::Fail;
-use tpoint::Id;
-use wire::{Command, NodeId, Nodes, Number, Op};
+use store::{Op, Query};
+use tpoint::{Id, Instant, Interp, Period, Point, Rect, Seq};
+use wire::{NodeId, Nodes};
 
 // What is done. Each request removes bus-7 and is client 7's, and is known by its number.
 #[derive(Clone, Copy)]
@@ -26,7 +29,7 @@ type Run = (
     &'static [(u8, u64, u8)],
 );
 
-const RUNS: [Run; 6] = [
+const RUNS: [Run; 7] = [
     // Two leaders in turn: the second hears of a vote whose every telling was lost, and proposes that request again.
     (
         &[
@@ -67,6 +70,21 @@ const RUNS: [Run; 6] = [
             Act::Drop(11),
             Act::Drop(12),
             Act::Drop(13),
+            Act::Tick(0),
+            Act::Flush,
+        ],
+        &[(0, 1), (1, 1), (2, 1)],
+        &[(0, 1, 21)],
+    ),
+    // Two prepares are lost, and on a tick sent again to those who haven't promised.
+    (
+        &[
+            Act::Submit(0, 1),
+            Act::Timeout(0),
+            Act::Deliver(0),
+            Act::Deliver(3),
+            Act::Drop(1),
+            Act::Drop(2),
             Act::Tick(0),
             Act::Flush,
         ],
@@ -170,13 +188,54 @@ fn node(value: u8) -> Result<NodeId, Fail> {
     Ok(NodeId::new(value).ok_or("a node")?)
 }
 
-fn request(to: u8, number: u64) -> Result<Event, Fail> {
+fn bus() -> Result<Id, Fail> {
+    Ok(Id::new(b"bus-7").ok_or("an id")?)
+}
+
+// So many milliseconds after the start of 2020.
+fn instant(ms: u16) -> Result<Instant, Fail> {
+    Ok(Instant::new(1_577_836_800_000 + i64::from(ms)).ok_or("an instant")?)
+}
+
+fn period(begin: u16, end: u16) -> Result<Period, Fail> {
+    Ok(Period::new(instant(begin)?, instant(end)?).ok_or("a period")?)
+}
+
+fn rect(x0: i64, y0: i64, x1: i64, y1: i64) -> Result<Rect, Fail> {
+    Ok(Rect::new(x0, y0, x1, y1).ok_or("a rectangle")?)
+}
+
+// Bus-7 moves from (0, 0) to (10, 5) within three seconds.
+fn ride(alloc: Global) -> Result<Op, Fail> {
+    let mut points = Vec::new(alloc);
+    for (ms, x, y) in [(0, 0, 0), (3000, 10, 5)] {
+        let t = instant(ms)?;
+        points.push(Point { t, x, y })?;
+    }
+    Ok(Op::Put(bus()?, Seq::new(Interp::Linear, points)?))
+}
+
+// Bus-7 stands still at one instant more than a request may put.
+fn too_long(alloc: Global) -> Result<Op, Fail> {
+    let mut points = Vec::new(alloc);
+    for ms in 0..=MOST_PUT_POINTS as u16 {
+        let t = instant(ms)?;
+        points.push(Point { t, x: 0, y: 0 })?;
+    }
+    Ok(Op::Put(bus()?, Seq::new(Interp::Step, points)?))
+}
+
+fn submission(to: u8, number: u64, op: Op) -> Result<Event, Fail> {
     Ok(Event::Submit {
         node: node(to)?,
         client: 7,
         number: Number::new(number).ok_or("a number")?,
-        op: Op::Remove(Id::new(b"bus-7").ok_or("an id")?),
+        op,
     })
+}
+
+fn request(to: u8, number: u64) -> Result<Event, Fail> {
+    submission(to, number, Op::Remove(bus()?))
 }
 
 fn act_on<S: Stable>(alloc: Global, world: &mut World<S>, act: Act) -> Result<(), Fail> {
@@ -273,6 +332,132 @@ fn one_request(rt: HostRuntime) -> Result<(), Fail> {
         world.step(alloc, Event::Tick(node(3)?)),
         Err(WorldFault::NoSuchNode)
     );
+    Ok(())
+}
+
+// Each frame has its magic and its version first, and the first of a campaign is a Prepare of its node to itself.
+#[test]
+fn frames_are_bytes(rt: HostRuntime) -> Result<(), Fail> {
+    let acts = [Act::Submit(0, 1), Act::Timeout(0), Act::Flush];
+    let world = run(rt.alloc(), &acts)?;
+    let frames = world.frames();
+    assert_eq!(rt; frames.len(), 18);
+    for frame in frames {
+        assert!(rt; frame.bytes().starts_with(b"MP\x01"), "{frame:?}");
+    }
+    let prepare = [
+        0x4D, 0x50, 1, 1, 0, 0, 0, 0, 0, 0, 0, 0, 0, 1, 0, 0, 0, 0, 0,
+    ];
+    assert_eq!(rt; frames[0].bytes(), prepare.as_slice());
+    Ok(())
+}
+
+// A world in which every node has learnt a request that came to node 0, and this is its reply.
+fn learnt_by_all(
+    rt: &impl Abort,
+    alloc: Global,
+    op: Op,
+    code: u8,
+) -> Result<World<MemStable>, Fail> {
+    let mut world = run(alloc, &[])?;
+    world.step(alloc, submission(0, 1, op)?)?;
+    all_acts(alloc, &mut world, &[Act::Timeout(0), Act::Flush])?;
+    assert_eq!(rt; world.learnt().len(), 3);
+    for (by, learnt) in world.learnt().iter().enumerate() {
+        assert!(rt; is_learnt(learnt, by as u8, 1), "{learnt:?}");
+    }
+    assert_eq!(rt; world.replies().len(), 1);
+    let reply = &world.replies()[0];
+    assert!(rt; is_reply(reply, 0, 1, code), "{reply:?}");
+    Ok(world)
+}
+
+// Every kind of query, at a node that was never asked for anything.
+#[test]
+fn a_put_is_answered_from(rt: HostRuntime) -> Result<(), Fail> {
+    let alloc = rt.alloc();
+    let mut world = learnt_by_all(&rt, alloc, ride(alloc)?, 0)?;
+    let id = bus()?;
+    let part = "cut Linear 2 | 1577836801000 10/3 5/3 | 1577836802000 20/3 10/3";
+    let document =
+        r#"get {"id":"bus-7","temporalGeometry":{"coordinates":[[0,0],[10,5]],"datetimes":["2020-01-01T00:00:00.000Z","2020-01-01T00:00:03.000Z"],"interpolation":"Linear","type":"MovingPoint"},"type":"Feature"}"#;
+    let (after, area) = (period(3000, 4000)?, rect(0, 0, 10, 10)?);
+    let rows = [
+        (Query::At(id, instant(1000)?), "at 10/3 5/3"),
+        (Query::Cut(id, period(1000, 2000)?), part),
+        (
+            Query::Ever(id, period(0, 3000)?, rect(4, 2, 4, 2)?),
+            "ever yes",
+        ),
+        (Query::Always(id, after, area), "always yes"),
+        (Query::Within(period(1001, 2000)?, area), "within 1 bus-7"),
+        (Query::Get(id), document),
+        (Query::Count, "count 1"),
+    ];
+    for (query, want) in rows {
+        world.step(alloc, Event::Query(node(1)?, query))?;
+        let answer = world.answers().last().ok_or("an answer")?;
+        assert_eq!(rt; answer.text.as_bytes(), want.as_bytes(), "{query:?}");
+        assert_eq!(rt; (answer.node.value(), answer.position), (1, 1));
+        assert_eq!(rt; answer.query, query);
+    }
+    Ok(())
+}
+
+#[test]
+fn nothing_follows_an_unknown_feature(rt: HostRuntime) -> Result<(), Fail> {
+    let point = Point {
+        t: instant(0)?,
+        x: 10,
+        y: 5,
+    };
+    let append = Op::append(bus()?, point).ok_or("an operation")?;
+    let _world = learnt_by_all(&rt, rt.alloc(), append, 21)?;
+    Ok(())
+}
+
+// What a node says of one instant too many: nothing before that but that the log is full.
+#[test]
+fn a_long_sequence_is_refused(rt: HostRuntime) -> Result<(), Fail> {
+    let alloc = rt.alloc();
+    let mut world = run(alloc, &[])?;
+    let rows = [
+        // Nothing waits; the same request waits; another waits, for which a second could not; the log is full.
+        ([].as_slice(), 1, NodeFault::TooLong),
+        ([Act::Submit(0, 1)].as_slice(), 1, NodeFault::TooLong),
+        ([Act::Submit(0, 2)].as_slice(), 2, NodeFault::TooLong),
+        (
+            [Act::Timeout(0), Act::Flush].as_slice(),
+            2,
+            NodeFault::LogFull,
+        ),
+    ];
+    for (acts, number, fault) in rows {
+        all_acts(alloc, &mut world, acts)?;
+        world.step(alloc, submission(0, number, too_long(alloc)?)?)?;
+        let outcome = world.outcomes().last().ok_or("an outcome")?;
+        assert_eq!(rt; *outcome, Outcome::Refused(node(0)?, fault), "of {number}");
+    }
+    assert!(rt;
+        world
+            .outcomes()
+            .contains(&Outcome::Refused(node(0)?, NodeFault::QueueFull))
+    );
+    assert_eq!(rt; NodeFault::TooLong.code(), 45);
+    assert_eq!(rt; world.submitted().len(), 1);
+    Ok(())
+}
+
+#[test]
+fn events_are_copied(rt: HostRuntime) -> Result<(), Fail> {
+    let alloc = rt.alloc();
+    let events = [
+        submission(0, 1, ride(alloc)?)?,
+        Event::Query(node(1)?, Query::Get(bus()?)),
+    ];
+    for event in &events {
+        assert!(rt; event.try_clone()? == *event, "{event:?}");
+    }
     Ok(())
 }
 

@@ -8,12 +8,13 @@ ghost use Rattle.world.specs.Fired.{HasFewFaults};
 
 use super::event::Event;
 use super::fault::WorldFault;
+use super::frame::Frame;
 use super::lists::{Answered, Learnt, Outcome, Replied, Submission};
 use super::log::MOST_DELIVERIES;
 use super::run::Run;
 use stable::{MemStable, Put, Scripted, Stable};
 use std::alloc::Global;
-use wire::{Envelope, NodeId, Nodes};
+use wire::{NodeId, Nodes};
 
 /// All nodes of a run, over storages of one kind.
 ///
@@ -65,8 +66,8 @@ impl<S: Stable> World<S> {
         self.run.submitted()
     }
 
-    /// Every frame that was sent.
-    pub fn frames(&self) -> &[Envelope]
+    /// Every frame that was sent, as its bytes.
+    pub fn frames(&self) -> &[Frame]
         ensures { result.now ≡ (world_of self.now).frames }
     {
         self.run.frames()

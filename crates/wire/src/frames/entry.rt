@@ -8,7 +8,7 @@ use std::marker::Model;
 use synod::{Ballot, Slot, Vote};
 
 /// A vote that a promise tells.
-#[derive(Debug, Drop)]
+#[derive(Debug, Drop, PartialEq, Eq)]
 pub struct Entry {
     vote: Vote<Command>,
 }

@@ -1,6 +1,8 @@
 //! Messages on their way.
 
-ghost use Rattle.std.specs.Prelude.{◌≡◌, IfOk};
+ghost use Rattle.std.specs.Prelude.{◌≡◌, ◌↔◌, IsTrue, IfOk};
+ghost use Rattle.std.specs.Cmp.{partial_equiv_from_equiv};
+ghost use Rattle.wire.specs.Same.{same_envelope, same_envelope_equiv};
 
 use super::message::Message;
 use crate::NodeId;
@@ -31,4 +33,21 @@ impl Envelope {
             message: self.message.try_clone()?,
         })
     }
+}
+
+impl PartialEq for Envelope {
+    ghost eq = { same_envelope };
+
+    ghost laws = { partial_equiv_from_equiv same_envelope_equiv };
+
+    fn eq(&self, other: &Envelope) -> bool
+        ensures value { result ≡ same_envelope self.now other.now }
+        ensures same { IsTrue result ↔ (self.now ≡ other.now) }
+    {
+        self.from == other.from && self.to == other.to && self.message == other.message
+    }
+}
+
+impl Eq for Envelope {
+    ghost laws = { same_envelope_equiv };
 }

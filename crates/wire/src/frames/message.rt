@@ -1,7 +1,9 @@
 //! What nodes say to one another.
 
-ghost use Rattle.std.specs.Prelude.{◌≡◌, IfOk};
+ghost use Rattle.std.specs.Prelude.{◌≡◌, ◌↔◌, IsTrue, IfOk};
+ghost use Rattle.std.specs.Cmp.{partial_equiv_from_equiv};
 ghost use Rattle.wire.specs.FrameSpelling.{kind_of};
+ghost use Rattle.wire.specs.Same.{same_message, same_message_equiv};
 
 use super::kind::Kind;
 use super::nack::Nack;
@@ -64,6 +66,51 @@ impl Message {
                 command: command.try_clone()?,
             }),
         }
+    }
+}
+
+impl PartialEq for Message {
+    ghost eq = { same_message };
+
+    ghost laws = { partial_equiv_from_equiv same_message_equiv };
+
+    fn eq(&self, other: &Message) -> bool
+        ensures value { result ≡ same_message self.now other.now }
+        ensures same { IsTrue result ↔ (self.now ≡ other.now) }
+    {
+        are_same(self, other)
+    }
+}
+
+impl Eq for Message {
+    ghost laws = { same_message_equiv };
+}
+
+/// Whether two messages say the same.
+fn are_same(message: &Message, other: &Message) -> bool
+    ensures { result ≡ same_message message.now other.now }
+{
+    match (message, other) {
+        (
+            Message::Prepare { ballot, first },
+            Message::Prepare {
+                ballot: other_ballot,
+                first: other_first,
+            },
+        ) => ballot == other_ballot && first == other_first,
+        (Message::Promise(promise), Message::Promise(other_promise)) => promise == other_promise,
+        (Message::Nack(nack), Message::Nack(other_nack)) => nack == other_nack,
+        (Message::Accept(vote), Message::Accept(other_vote)) => vote == other_vote,
+        (Message::Accepted(vote), Message::Accepted(other_vote)) => vote == other_vote,
+        (Message::Ask { slot }, Message::Ask { slot: other_slot }) => slot == other_slot,
+        (
+            Message::Decided { slot, command },
+            Message::Decided {
+                slot: other_slot,
+                command: other_command,
+            },
+        ) => slot == other_slot && command == other_command,
+        _ => false,
     }
 }
 

@@ -7,7 +7,7 @@ use std::marker::Model;
 use synod::Ballot;
 
 /// The ballot is refused, since a greater one is promised.
-#[derive(Clone, Copy, Debug)]
+#[derive(Clone, Copy, Debug, PartialEq, Eq)]
 pub struct Nack {
     ballot: Ballot,
     promised: Ballot,

@@ -1,7 +1,9 @@
 //! Promises.
 
 ghost use Rattle.std.specs.Prelude.{◌≡◌, ◌↔◌, ◌≤◌, IsTrue, IsSome, IfSome, IfOk};
+ghost use Rattle.std.specs.Cmp.{partial_equiv_from_equiv};
 ghost use Rattle.wire.specs.Promises.{IsPromise, AreTold};
+ghost use Rattle.wire.specs.Same.{same_promised, same_promised_equiv};
 
 use super::entry::Entry;
 use arrayvec::ArrayVec;
@@ -100,6 +102,13 @@ impl Promise {
         self.entries.as_slice()
     }
 
+    /// The votes themselves.
+    pub fn into_entries(self) -> Entries
+        ensures { result.items ≡ self.entries }
+    {
+        self.entries
+    }
+
     /// A copy, equal to it.
     pub fn try_clone(&self) -> Result<Promise, AllocError>
         ensures { IfOk result (λ copy. copy ≡ self.now) }
@@ -111,6 +120,25 @@ impl Promise {
             entries: copied(&self.entries)?,
         })
     }
+}
+
+impl PartialEq for Promise {
+    ghost eq = { same_promised };
+
+    ghost laws = { partial_equiv_from_equiv same_promised_equiv };
+
+    fn eq(&self, other: &Promise) -> bool
+        ensures value { result ≡ same_promised self.now other.now }
+        ensures same { IsTrue result ↔ (self.now ≡ other.now) }
+    {
+        let under_one_ballot = self.ballot == other.ballot;
+        let of_one_range = self.first == other.first && self.last == other.last;
+        under_one_ballot && of_one_range && self.entries() == other.entries()
+    }
+}
+
+impl Eq for Promise {
+    ghost laws = { same_promised_equiv };
 }
 
 /// Whether a promise of this ballot may tell these votes, of slots from one to another.

@@ -50,12 +50,13 @@ fn fault(alloc: Global, bytes: &[u8]) -> Result<u8, Fail> {
     }
 }
 
-/// Whether three nodes read a frame, and spell it again so.
+/// Whether three nodes read a frame, spell it again so, and read the same again.
 fn is_frame(alloc: Global, bytes: &[u8]) -> Result<bool, Fail> {
     let nodes = Nodes::new(3).ok_or("three nodes")?;
     let envelope = decode(alloc, bytes, nodes)?;
     let spelled = encode(alloc, &envelope.try_clone()?)?;
-    Ok(spelled.as_slice() == bytes)
+    let again = decode(alloc, spelled.as_slice(), nodes)?;
+    Ok(spelled.as_slice() == bytes && again == envelope)
 }
 
 /// Whether these bytes are a frame, no proper beginning of them is, and none with a byte more.
@@ -232,5 +233,23 @@ fn refusals_and_promises(rt: HostRuntime) -> Result<(), Fail> {
     let first = Slot::first();
     let last = Slot::new(1).ok_or("slot")?;
     assert!(rt; Promise::new(low, last, first, ArrayVec::new()).is_none());
+    Ok(())
+}
+
+#[test]
+fn different_frames_are_different_envelopes(rt: HostRuntime) -> Result<(), Fail> {
+    let nodes = Nodes::new(3).ok_or("three nodes")?;
+    let ask = decode(rt.alloc(), &ASK, nodes)?;
+    let prepare = decode(rt.alloc(), &PREPARE, nodes)?;
+    assert!(rt; ask != prepare);
+    let mut other = ASK;
+    other[9] = 1;
+    let other_slot = decode(rt.alloc(), &other, nodes)?;
+    assert!(rt; ask.message != other_slot.message);
+    other[9] = 0;
+    other[5] = 2;
+    let other_node = decode(rt.alloc(), &other, nodes)?;
+    assert!(rt; ask != other_node);
+    assert!(rt; ask.message == other_node.message);
     Ok(())
 }

@@ -4,9 +4,9 @@ use Rattle.acceptor.proofs.RecordLemmas.{promise_of_its_form}
 use Rattle.acceptor.proofs.records.promised.Goals as goal
 
 -- the record spells the ballot that was read
-pub returns-in-Some-ballot_of-clause-form : goal.returns-in-Some-ballot_of-clause-form
-returns-in-Some-ballot_of-clause-form g c = λ honest.
+pub returns-in-Some-ballot_of_record-clause-form : goal.returns-in-Some-ballot_of_record-clause-form
+returns-in-Some-ballot_of_record-clause-form g c = λ honest.
     let told = c.in_ok-bytes.ensures.told honest in
     let found : g.S.Stable.contents c.args.storage.now key.Promise ≡ Some c.in-Some.bytes.items = search rules in
-    let read = c.in-Some-ballot_of.ensures.spelled in
-    promise_of_its_form _ c.in-Some.bytes.items c.in-Some-ballot_of.ballot found read.0 (search rules)
+    let read = c.in-Some-ballot_of_record.ensures.spelled in
+    promise_of_its_form _ c.in-Some.bytes.items c.in-Some-ballot_of_record.ballot found read.fits (search rules)

@@ -1,22 +1,17 @@
-use Rattle.std.proofs.Common.{rules, ◌≡◌, Some, ◌∙◌, ap}
+use Rattle.std.proofs.Common.{rules, ◌≡◌, Some}
 use Rattle.stable.specs.declared.key.Key.TheVariants as key
-use Rattle.acceptor.specs.State.{vote_at}
-use Rattle.acceptor.specs.Spelling.{vote_bytes}
+use Rattle.wire.specs.RecordForms.{IsVoteRecord}
+use Rattle.acceptor.specs.Casts.{vote_at}
 use Rattle.acceptor.proofs.RecordLemmas.{vote_of_its_form}
 use Rattle.acceptor.proofs.records.voted.Goals as goal
 
 -- the record spells the vote that was read
-pub returns-in-Some-cast_of-clause-told : goal.returns-in-Some-cast_of-clause-told
-returns-in-Some-cast_of-clause-told g c = λ honest.
+pub returns-in-Some-2-clause-form : goal.returns-in-Some-2-clause-form
+returns-in-Some-2-clause-form g c = λ honest.
     let told = c.in_ok-bytes.ensures.told honest in
-    let found : g.S.Stable.contents c.args.storage.now (key.Vote c.args.slot) ≡ Some c.in-Some.bytes.items = search rules in
-    let read = c.in-Some-cast_of.ensures.spelled c.args.slot in
-    let same : c.in-Some.bytes.items ≡ vote_bytes (vote_at c.args.slot c.in-Some-cast_of.cast) = search rules in
-    found ∙ ap Some same
-
-pub returns-in-Some-cast_of-clause-form : goal.returns-in-Some-cast_of-clause-form
-returns-in-Some-cast_of-clause-form g c = λ honest.
-    let told = c.in_ok-bytes.ensures.told honest in
-    let found : g.S.Stable.contents c.args.storage.now (key.Vote c.args.slot) ≡ Some c.in-Some.bytes.items = search rules in
-    let read = c.in-Some-cast_of.ensures.spelled c.args.slot in
-    vote_of_its_form _ c.args.slot c.in-Some.bytes.items (vote_at c.args.slot c.in-Some-cast_of.cast) found read.0 (search rules)
+    let bytes = c.in-Some.bytes.items in
+    let choice = c.in-Some-2.choice in
+    let found : g.S.Stable.contents c.args.storage.now (key.Vote c.args.slot) ≡ Some bytes = search rules in
+    let read : IsVoteRecord bytes choice.0 choice.1 = search rules in
+    let vote = vote_at c.args.slot (record { ballot = choice.0; command = choice.1 }) in
+    vote_of_its_form _ c.args.slot bytes vote found (record { ballot = read.ballot; command = read.command }) read.spelled

@@ -4,6 +4,8 @@ use Rattle.world.proofs.sends.send_to_all.Given as goal
 
 abbrev pub invariant-loop-value : goal.invariant-loop-value
 invariant-loop-value l = record {
-  sends : l.sends.items ≡ to_all l.from l.value l.message;
+  sends : l.sends.items ≡ to_all l.initial.envelope.from l.value l.initial.envelope.message;
+  from : l.envelope.from ≡ l.initial.envelope.from;
+  message : l.envelope.message ≡ l.initial.envelope.message;
   few : vec_len l.sends ≤ l.value;
 }

@@ -1,14 +1,14 @@
 use Rattle.std.proofs.Common.{rules, refl, arith, ◌<◌, ◌∙◌, sym, subst, length, inr, List}
 use Rattle.stable.specs.Records.{IsAscending}
 use Rattle.stable.specs.declared.key.Key.{Key}
-use Rattle.acceptor.proofs.LoadLemmas.{take_all, says_more, forms_at, says_all, forms_all, no_votes}
+use Rattle.acceptor.proofs.LoadLemmas.{take_all, says_more, forms_at, says_all, forms_all}
 use Rattle.acceptor.proofs.RecordLemmas.{RecordsSay-same, RecordsSay-holds, RecordsSay-nothing}
 use Rattle.acceptor.proofs.acceptor.Acceptor.load.Goals as goal
 
 pub loop-key-init : goal.loop-key-init
 loop-key-init g c = (
   g.met.S.Stable.reads_none c.keys.new.self,
-  λ honest. RecordsSay-same _ _ _ (λ k. refl) (RecordsSay-holds _ _ _ refl (no_votes c.new.result c.new.ensures.empty) RecordsSay-nothing),
+  λ honest. RecordsSay-same _ _ _ (λ k. refl) (RecordsSay-holds _ _ _ refl c.new.ensures RecordsSay-nothing),
   λ honest q has. absurd cc,
 )
 

@@ -5,7 +5,7 @@ use Rattle.acceptor.specs.Spelling.{vote_bytes}
 use Rattle.acceptor.specs.State.{accepting_of}
 use Rattle.acceptor.proofs.VoteLemmas.{cast_write, no_write}
 use Rattle.acceptor.proofs.acceptor.Acceptor.on_accept.Goals as goal
-use Rattle.acceptor.proofs.acceptor.Acceptor.on_accept.Goals.{then-not-has_cast+in_ok-cast, else-not-has_cast}
+use Rattle.acceptor.proofs.acceptor.Acceptor.on_accept.Goals.{then-not-has+in_ok-cast, else-not-has}
 
 -- the device failed on the write of the vote
 pub returns-in_err-cast-clause-device : goal.returns-in_err-cast-clause-device
@@ -13,7 +13,7 @@ returns-in_err-cast-clause-device g c = λ device.
     let a = accepting_of c.args.self.now in
     let vote = c.args.vote in
     let taken : refusing a.promise vote.ballot ≡ None = search rules in
-    (Some (key.Vote vote.slot, vote_bytes vote), cast_write a vote taken (λ told. let has = c.has_cast.ensures.1 told in search rules), search rules)
+    (Some (key.Vote vote.slot, vote_bytes vote), cast_write a vote taken (λ told. let has = c.has.ensures.1 told in search rules), search rules)
 
 -- the vote was written, or stood there already
 pub returns-clause-written : goal.returns-clause-written
@@ -21,7 +21,7 @@ returns-clause-written g c =
     let a = accepting_of c.args.self.now in
     let vote = c.args.vote in
     let taken : refusing a.promise vote.ballot ≡ None = search rules in
-    elim c.if-not-has_cast.branch [
-      | then-not-has_cast+in_ok-cast w ↦ (Some (key.Vote vote.slot, vote_bytes vote), cast_write a vote taken (λ told. let has = c.has_cast.ensures.1 told in search rules), search rules)
-      | else-not-has_cast w ↦ (None, no_write a vote (c.has_cast.ensures.0 (search rules)), search rules)
+    elim c.if-not-has.branch [
+      | then-not-has+in_ok-cast w ↦ (Some (key.Vote vote.slot, vote_bytes vote), cast_write a vote taken (λ told. let has = c.has.ensures.1 told in search rules), search rules)
+      | else-not-has w ↦ (None, no_write a vote (c.has.ensures.0 (search rules)), search rules)
     ]

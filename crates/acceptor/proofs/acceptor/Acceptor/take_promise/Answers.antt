@@ -1,8 +1,7 @@
-use Rattle.std.proofs.Common.{ap, option_map}
-use Rattle.std.specs.BTreeMap.{get}
-use Rattle.std.specs.Ordering.{nat_cmp}
+use Rattle.std.proofs.Common.{ap}
+use Rattle.acceptor.specs.Casts.{vote_held}
 use Rattle.acceptor.specs.Loading.{raised}
-use Rattle.acceptor.specs.State.{accepting_of, vote_at}
+use Rattle.acceptor.specs.State.{accepting_of}
 use Rattle.acceptor.proofs.RecordLemmas.{RecordsSay-see_promise, RecordsSay-holds}
 use Rattle.acceptor.proofs.acceptor.Acceptor.take_promise.Goals as goal
 
@@ -13,4 +12,4 @@ returns-in-Some c = λ seen fresh says.
     let ballot = c.in-Some.ballot in
     let there = RecordsSay-see_promise seen a ballot (rw c.in-Some.is at c.requires) fresh says in
     rw c.in-Some.is (RecordsSay-holds _ (record a { promise = raised a.promise ballot }) (accepting_of c.raise.new.self) c.raise.ensures.promise
-    (λ s. ap (λ m. option_map (vote_at s) (get nat_cmp m s)) c.raise.ensures.votes) there)
+    (λ s. ap (λ votes. vote_held votes s) c.raise.ensures.votes) there)

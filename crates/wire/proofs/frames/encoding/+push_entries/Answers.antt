@@ -1,4 +1,3 @@
-use Rattle.std.proofs.Common.{◌≡◌, ◌++◌}
 use Rattle.wire.specs.FrameSpelling.{entry_bytes}
 use Rattle.wire.proofs.PushLemmas.{push_front}
 use Rattle.wire.proofs.frames.encoding.+push_entries.Goals as goal

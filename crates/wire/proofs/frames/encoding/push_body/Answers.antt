@@ -1,5 +1,4 @@
-use Rattle.std.proofs.Common.{◌≡◌, ◌++◌}
-use Rattle.wire.specs.Spelling.{ballot_bytes, slot_bytes, command_bytes}
+use Rattle.wire.specs.Spelling.{ballot_bytes, slot_bytes}
 use Rattle.wire.proofs.PushLemmas.{after_push}
 use Rattle.wire.proofs.frames.encoding.push_body.Goals as goal
 

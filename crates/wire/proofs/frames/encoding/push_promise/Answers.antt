@@ -1,4 +1,4 @@
-use Rattle.std.proofs.Common.{◌≡◌, ◌++◌, ◌∷◌, [], length}
+use Rattle.std.proofs.Common.{◌++◌, ◌∷◌, [], length}
 use Rattle.std.specs.List.{flat_map}
 use Rattle.wire.specs.Spelling.{ballot_bytes, slot_bytes}
 use Rattle.wire.specs.FrameSpelling.{entry_bytes}

@@ -1,4 +1,4 @@
-use Rattle.std.proofs.Common.{◌≡◌, ◌++◌}
+use Rattle.std.proofs.Common.{◌++◌}
 use Rattle.wire.specs.Spelling.{ballot_bytes, slot_bytes, command_bytes}
 use Rattle.wire.proofs.PushLemmas.{after_push}
 use Rattle.wire.proofs.frames.encoding.push_vote.Goals as goal

@@ -1,4 +1,3 @@
-use Rattle.std.proofs.Common.{◌≡◌}
 use Rattle.wire.proofs.SequenceLemmas.{sequence_fits, valid_from_fit}
 use Rattle.wire.proofs.frames.reading.read_sequence.Goals as goal
 

@@ -1,7 +1,6 @@
-use Rattle.std.proofs.Common.{◌≡◌, ◌++◌, ◌∷◌, [], ◌-◌, ◌+◌, ap, subst, sym, ◌∙◌, ℕ}
 use Rattle.std.proofs.lemmas.Result.{err_from_is_err_and}
 use Rattle.wire.specs.Reading.{triples_at}
-use Rattle.wire.proofs.LoopLemmas.{with_front, triples_go_on, triples_end, triples_done}
+use Rattle.wire.proofs.LoopLemmas.{triples_go_on, triples_end, triples_done}
 use Rattle.wire.proofs.SequenceLemmas.{triples_fit}
 use Rattle.wire.proofs.frames.reading.read_triples.Goals as goal
 

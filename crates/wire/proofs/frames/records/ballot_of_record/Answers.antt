@@ -1,8 +1,8 @@
-use Rattle.std.proofs.Common.{◌≡◌, List, ℕ, ap, ◌∙◌, sym, ◌∷◌, [], slice_index_or, Some}
+use Rattle.std.proofs.Common.{◌≡◌, List, ℕ, ap, ◌∙◌, ◌∷◌, [], slice_index_or, Some}
 use Rattle.byteorder.specs.Endian.{big_number}
 use Rattle.byteorder.specs.Numbers.{big_number-reads_back}
 use Rattle.wire.specs.Spelling.{ballot_bytes}
-use Rattle.wire.proofs.BallotLemmas.{same_ballot}
+use Rattle.wire.specs.OneBallot.{same_ballot}
 use Rattle.wire.proofs.frames.records.ballot_of_record.Goals as goal
 
 -- the number that was written is read again, and the node stands behind it

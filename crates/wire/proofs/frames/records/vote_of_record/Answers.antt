@@ -1,5 +1,4 @@
-use Rattle.std.proofs.Common.{rules, ◌≡◌, ap, sym, ◌∙◌, arith, List, ℕ, [], length, Some, Ok}
-use Rattle.std.proofs.lemmas.Bool.Decides.{nat_tests}
+use Rattle.std.proofs.Common.{rules, ◌≡◌, ap, arith, ℕ, [], length, Some}
 use Rattle.std.proofs.lemmas.List.{nil_from_length}
 use Rattle.wire.specs.declared.frames.fault.WireFault.TheVariants.{Memory}
 use Rattle.wire.specs.Reading.{Fails}

@@ -1,4 +1,4 @@
-use Rattle.std.proofs.Common.{rules, ◌≡◌, length}
+use Rattle.std.proofs.Common.{rules}
 use Rattle.std.proofs.lemmas.Result.{err_from_is_err_and}
 use Rattle.wire.specs.FrameReading.{entries_at}
 use Rattle.wire.proofs.EntryLemmas.{entries_go_on, entries_end, entries_done}

@@ -1,8 +1,8 @@
-use Rattle.std.proofs.Common.{rules, ◌≡◌, ℕ, Some, None, IsTrue, true, false, ap}
+use Rattle.std.proofs.Common.{◌≡◌, ℕ, true, ap}
 use Rattle.world.specs.Learners.{learning_of}
 use Rattle.synod.specs.declared.ballot.Ballot.{Ballot}
 use Rattle.world.specs.declared.telling.Telling.{Telling}
-use Rattle.world.proofs.Deciding.{decides, decides_not, told_after}
+use Rattle.world.proofs.Deciding.{decides_not, told_after}
 use Rattle.world.proofs.learner.Learner.on_accepted.Goals as goal
 
 abbrev telling_at : Ballot → ℕ → Telling

@@ -1,4 +1,4 @@
-use Rattle.std.proofs.Common.{rules, refl}
+use Rattle.std.proofs.Common.{refl}
 use Rattle.world.proofs.Proposals.{hears_promise}
 use Rattle.world.proofs.proposer.Proposer.on_promise.Goals as goal
 

@@ -1,4 +1,4 @@
-use Rattle.std.proofs.Common.{rules, refl}
+use Rattle.std.proofs.Common.{rules}
 use Rattle.world.proofs.proposer.Proposer.timeout.Goals as goal
 
 pub returns-clause-starts : goal.returns-clause-starts

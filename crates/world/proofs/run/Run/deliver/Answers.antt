@@ -1,4 +1,4 @@
-use Rattle.std.proofs.Common.{◌≡◌, refl, rules, sym, ap, ◌∙◌, arith, vec_len, slice_get, Some}
+use Rattle.std.proofs.Common.{◌≡◌, rules, ap, ◌∙◌, vec_len, slice_get, Some}
 use Rattle.std.proofs.lemmas.Option.{slice_get_read}
 use Rattle.world.specs.Worlds.{run_of, without_wait}
 use Rattle.world.proofs.run.Run.deliver.Goals as goal
@@ -15,5 +15,6 @@ returns-clause-delivers g c =
     record {
       frame = c.in_ok-envelope.envelope;
       sent = rw (← named) (read ∙ search rules);
+      fits = c.in_ok-envelope.ensures.fits;
       receives = rw waits at c.receive.ensures;
     }

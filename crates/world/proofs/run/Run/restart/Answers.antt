@@ -1,4 +1,3 @@
-use Rattle.std.proofs.Common.{rules}
 use Rattle.world.proofs.run.Run.restart.Goals as goal
 
 pub returns-clause-restarts : goal.returns-clause-restarts

@@ -1,0 +1,26 @@
+-- The votes that are held, by slot.
+use Rattle.std.specs.Prelude.{◌≡◌, ℕ, ◌≤◌, Option, Some, option_map}
+use Rattle.std.specs.BTreeMap.{get}
+use Rattle.std.specs.Ordering.{nat_cmp}
+use Rattle.synod.specs.Ballots.{rank, rank_of}
+use Rattle.synod.specs.declared.ballot.Ballot.{Ballot}
+use Rattle.synod.specs.declared.vote.Vote.{Vote}
+use Rattle.sessions.specs.declared.command.Command.{Command}
+use Rattle.acceptor.specs.declared.cast.Cast.{Cast}
+use Rattle.acceptor.specs.declared.votes.Votes.{Votes}
+
+-- a vote cast at a slot
+abbrev pub vote_at : ℕ → Cast → Vote Command
+vote_at s cast = record { slot = s; ballot = cast.ballot; command = cast.command }
+
+-- what was cast at a slot
+abbrev pub cast_at : Votes → ℕ → Option Cast
+cast_at votes s = get nat_cmp votes.by_slot s
+
+-- the vote that is held at a slot
+abbrev pub vote_held : Votes → ℕ → Option (Vote Command)
+vote_held votes s = option_map (vote_at s) (cast_at votes s)
+
+-- no vote that is held is of a ballot above the promise
+abbrev pub AreUpTo : Option Ballot → Votes → Type 0
+AreUpTo promise votes = (s : ℕ) (v : Vote Command) → vote_held votes s ≡ Some v → rank v.ballot ≤ rank_of promise

@@ -1,0 +1,135 @@
+//! The votes that an acceptor holds.
+
+ghost use Rattle.std.specs.Prelude.{◌≡◌, ◌↔◌, IsTrue, IsSome, IfOk, OnOk, OnErr, IsErrOf, Some, None, ℕ};
+ghost use Rattle.std.specs.Option.{option_to_list};
+ghost use Rattle.acceptor.specs.Accepting.{put};
+ghost use Rattle.acceptor.specs.Casts.{AreUpTo, vote_at, cast_at, vote_held};
+ghost use Rattle.acceptor.specs.Forms.{VoteFits};
+ghost use Rattle.acceptor.specs.Spelling.{vote_bytes};
+
+use super::cast::Cast;
+use sessions::Command;
+use stable::{Key, Stable, StableFault};
+use std::alloc::{AllocError, Global};
+use std::collections::BTreeMap;
+use synod::{Ballot, Slot, Vote};
+use wire::frames::{Entries, Entry, Promise, vote_record};
+
+/// What was voted for at each slot.
+#[derive(Drop)]
+pub(super) struct Votes {
+    by_slot: BTreeMap<Slot, Cast>,
+}
+
+impl Votes {
+    /// No votes.
+    pub(super) fn new(alloc: Global) -> Votes
+        ensures { (s : ℕ) → vote_held result s ≡ None }
+    {
+        Votes {
+            by_slot: BTreeMap::new(alloc),
+        }
+    }
+
+    /// Whether the vote at its slot is this vote already.
+    pub(super) fn has(&self, vote: &Vote<Command>) -> bool
+        ensures { IsTrue result ↔ (vote_held self.now vote.now.slot ≡ Some vote.now) }
+    {
+        match self.by_slot.get(&vote.slot) {
+            Some(cast) => cast.ballot == vote.ballot && cast.command == vote.command,
+            None => false,
+        }
+    }
+
+    /// The promise of a ballot, which tells the vote at a slot.
+    pub(super) fn promise(&self, ballot: Ballot, slot: Slot) -> Result<Promise, AllocError>
+        requires { AreUpTo (Some ballot) self.now }
+        ensures { IfOk result (λ p. p ≡ record {
+          ballot = ballot;
+          first = slot;
+          last = slot;
+          entries = option_to_list (vote_held self.now slot);
+        }) }
+    {
+        let entries = self.entries(slot)?;
+        Ok(Promise::new(ballot, slot, slot, entries).unwrap())
+    }
+
+    /// The vote at a slot, as a promise tells it.
+    fn entries(&self, slot: Slot) -> Result<Entries, AllocError>
+        ensures { IfOk result (λ e. e.items ≡ option_to_list (vote_held self.now slot)) }
+    {
+        let mut entries = Entries::new();
+        if let Some(cast) = self.by_slot.get(&slot) {
+            entries.push(Entry::new(Vote {
+                slot,
+                ballot: cast.ballot,
+                command: cast.command.try_clone()?,
+            }));
+        }
+        Ok(entries)
+    }
+
+    /// Takes in what was found at a slot.
+    pub(super) fn insert(&mut self, slot: Slot, cast: Cast) -> Result<(), AllocError>
+        ensures votes { OnOk result ((s : ℕ) → vote_held self.new s
+            ≡ put (vote_held self.old) slot (Some (vote_at slot cast)) s) }
+        ensures unchanged { OnErr result ((s : ℕ) → vote_held self.new s ≡ vote_held self.old s) }
+    {
+        self.by_slot.insert(slot, cast)?;
+        Ok(())
+    }
+
+    /// Casts a vote: it is written, and held.
+    pub(super) fn cast<S: Stable>(
+        &mut self,
+        alloc: Global,
+        storage: &mut S,
+        vote: &Vote<Command>,
+    ) -> Result<(), StableFault>
+        ensures written { OnOk result
+            (S.puts storage.old (Key.Vote vote.now.slot) (vote_bytes vote.now) storage.new) }
+        ensures votes { OnOk result ((s : ℕ) → vote_held self.new s
+            ≡ put (vote_held self.old) vote.now.slot (Some vote.now) s) }
+        ensures fits { OnOk result (VoteFits vote.now) }
+
+        // Each error.
+        ensures device { IsErrOf result StableFault.Device
+            → S.fails storage.old (Key.Vote vote.now.slot) (vote_bytes vote.now) storage.new }
+        ensures device_fits { IsErrOf result StableFault.Device → VoteFits vote.now }
+        ensures memory { IsErrOf result StableFault.Memory → S.reads storage.old storage.new }
+        ensures unchanged { OnErr result ((s : ℕ) → vote_held self.new s ≡ vote_held self.old s) }
+        ensures not_damaged { ¬ IsErrOf result StableFault.Damaged }
+    {
+        let bytes = vote_record(alloc, vote.ballot, &vote.command)?;
+        let cast = Cast {
+            ballot: vote.ballot,
+            command: vote.command.try_clone()?,
+        };
+        // It takes its place before it is written: after the write nothing may be refused.
+        let before = self.by_slot.insert(vote.slot, cast)?;
+        match storage.put(alloc, Key::Vote(vote.slot), &bytes) {
+            Ok(()) => Ok(()),
+            Err(fault) => {
+                self.put_back(vote.slot, before);
+                Err(fault)
+            }
+        }
+    }
+
+    /// Makes the slot hold what it held before a vote was put there.
+    fn put_back(&mut self, slot: Slot, before: Option<Cast>)
+        requires { IsSome before → IsSome (cast_at self.old slot) }
+        ensures { (s : ℕ) → cast_at self.new s ≡ put (cast_at self.old) slot before s }
+    {
+        match before {
+            Some(cast) => {
+                // The slot has its place, so nothing is refused.
+                let _ = self.by_slot.insert(slot, cast);
+            }
+            None => {
+                let _ = self.by_slot.remove(&slot);
+            }
+        }
+    }
+}

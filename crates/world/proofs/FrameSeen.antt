@@ -1,0 +1,17 @@
+-- A frame's bytes show the envelope that they spell, and no other.
+use Rattle.std.proofs.Common.{◌≡◌, ℕ, List, Result, Ok, sym, ap, subst}
+use Rattle.wire.specs.FrameReading.{frame_in}
+use Rattle.wire.specs.FrameSpelling.{IsFrame}
+use Rattle.wire.specs.declared.frames.envelope.Envelope.{Envelope}
+use Rattle.wire.specs.declared.frames.fault.WireFault.{WireFault}
+use Rattle.wire.proofs.FrameLaws.{frame_only}
+use Rattle.wire.proofs.FrameLengths.{frame_most}
+use Rattle.world.specs.Framing.{envelope_in, read_or_ask}
+
+pub shows : (bytes : List ℕ) (e : Envelope) → IsFrame 7 bytes e → envelope_in bytes ≡ e
+shows bytes e frame =
+    let found : frame_in 7 bytes ≡ Ok e = frame_only 7 bytes e frame (frame_most 7 bytes e frame) in
+    ap (λ (r : Result Envelope WireFault). read_or_ask r) found
+
+pub is_of_what_it_shows : (bytes : List ℕ) (e : Envelope) → IsFrame 7 bytes e → IsFrame 7 bytes (envelope_in bytes)
+is_of_what_it_shows bytes e frame = subst (λ (x : Envelope). IsFrame 7 bytes x) (sym (shows bytes e frame)) frame

@@ -1,0 +1,33 @@
+use Rattle.std.proofs.Common.{◌≡◌, Some, refl, ap, rules, subst}
+use Rattle.std.proofs.lemmas.Option.{same_Some}
+use Rattle.world.specs.Fleets.{IsMindOf}
+use Rattle.world.specs.Minds.{Mind}
+use Rattle.world.specs.Running.{mind_of}
+use Rattle.world.proofs.node.Node.restart.Goals as goal
+
+-- it is down before it loads, and loads its own records
+pub returns-clause-restarts : goal.returns-clause-restarts
+returns-clause-restarts g c =
+    let id : c.stop.new.self.id ≡ c.args.self.now.id = ap (λ n. n.id) c.stop.ensures in
+    let nodes : c.stop.new.self.nodes ≡ c.args.self.now.nodes = ap (λ n. n.nodes) c.stop.ensures in
+    let storage : c.stop.new.self.storage ≡ c.args.self.now.storage = ap (λ n. n.storage) c.stop.ensures in
+    record {
+      leaves = λ i. record {
+        id = id i;
+        nodes = nodes i;
+        storage = c.load.new.storage;
+        up = Some (mind_of c.in_ok-running.running);
+      };
+      own = λ m up. subst (λ (x : Mind). IsMindOf c.args.self.now.id c.args.self.now.nodes x) (same_Some _ m up)
+          (rw id at (rw nodes at c.in_ok-running.ensures.own));
+      up = (refl, rw storage at c.in_ok-running.ensures.reads);
+      loads = λ honest. rw id at (rw nodes at (rw storage at (c.in_ok-running.ensures.loads honest)));
+      down = search rules;
+      device = search rules;
+      other = search rules;
+    }
+
+pub returns-in_err-running-clause-damaged : goal.returns-in_err-running-clause-damaged
+returns-in_err-running-clause-damaged g c = λ honest damaged.
+    let storage : c.stop.new.self.storage ≡ c.args.self.now.storage = ap (λ n. n.storage) c.stop.ensures in
+    rw storage at (c.in_err-running.ensures.damaged_record honest (search rules))

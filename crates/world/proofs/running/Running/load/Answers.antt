@@ -1,0 +1,36 @@
+use Rattle.std.proofs.Common.{◌≡◌, ℕ, List, Option, Some, None, MatchOption, rules, subst}
+use Rattle.stable.specs.declared.key.Key.TheVariants as key
+use Rattle.wire.specs.RecordForms.{IsRoundRecord}
+use Rattle.world.specs.Loading.{LoadsRound}
+use Rattle.world.specs.Proposing.{Proposing, loaded}
+use Rattle.world.proofs.running.Running.load.Goals as goal
+
+round_loaded : (found : Option (List ℕ)) (id nodes : ℕ) (p : Proposing)
+    → MatchOption found (p ≡ loaded id nodes 0) (λ bytes. IsRoundRecord bytes p.round × (p ≡ loaded id nodes p.round))
+    → LoadsRound found id nodes p
+round_loaded None id nodes p h = h
+round_loaded (Some bytes) id nodes p h = h
+
+-- the proposer is loaded from what the acceptor was loaded from, which was only read
+pub returns-clause-loads : goal.returns-clause-loads
+returns-clause-loads g c = λ honest.
+    let law = g.met.S.Stable in
+    let still = law.reads_honest _ _ c.in_ok-proposer.ensures.reads honest in
+    let same = law.reads_contents _ _ c.in_ok-acceptor.ensures.reads still in
+    let round = round_loaded _ _ _ _ (c.in_ok-proposer.ensures.round honest) in
+    record {
+      number = search rules;
+      of_all = search rules;
+      accepting = c.in_ok-acceptor.ensures.told still;
+      learning = c.new.ensures;
+      proposing = subst (λ records. LoadsRound (records key.Round) c.args.id c.args.nodes c.in_ok-proposer.proposer) same round;
+      machine = c.new-2.ensures.stands;
+    }
+
+pub returns-clause-reads : goal.returns-clause-reads
+returns-clause-reads g c =
+    g.met.S.Stable.reads_reads _ _ _ c.in_ok-acceptor.ensures.reads c.in_ok-proposer.ensures.reads
+
+pub returns-clause-settled : goal.returns-clause-settled
+returns-clause-settled g c =
+    g.met.S.Stable.reads_settled _ _ c.in_ok-proposer.ensures.reads c.in_ok-acceptor.ensures.settled
