@@ -59,9 +59,18 @@ class Runs:
         return done.returncode, done.stdout, done.stderr, met
 
 
-def is_explained(lines, transcript):
-    """Whether one log of one slot explains what nodes learnt, replied and answered."""
-    asked = {"%s:%s" % tuple(line.split()[2:4]): line.split()[1] for line in lines if line.startswith("submit ")}
+NOTHING = ("count 0", "absent", "within 0")
+
+
+def answers(transcript):
+    """The texts of all answers in a transcript."""
+    return {told.split(" ", 3)[3] for told in transcript if told.startswith("answer ")}
+
+
+def is_explained(lines, transcript, texts):
+    """Whether one log of one slot explains what nodes learnt, replied and answered. Where a feature was put, an answer has
+    one of these texts, which a run with ample memory gave."""
+    asked = {"%s:%s" % tuple(line.split()[2:4]): (line.split()[1], line.split()[4]) for line in lines if line.startswith("submit ")}
     chosen, learnt = None, set()
     for told in transcript:
         word, node, *rest = told.split()
@@ -72,11 +81,16 @@ def is_explained(lines, transcript):
             chosen = command
             learnt.add(node)
         elif word == "reply":
-            # No feature is there, so a removal has the reply 21.
-            if rest != [chosen, "21"] or node not in learnt or asked[chosen] != node:
+            # A first put is done. No feature is there to be extended or removed.
+            if node not in learnt or chosen not in asked or asked[chosen][0] != node:
+                return False
+            if rest != [chosen, "0" if asked[chosen][1] == "put" else "21"]:
                 return False
         elif word == "answer":
-            if rest[1:] != ["count", "0"] or rest[0] not in "01" or (rest[0] == "1" and node not in learnt):
+            if rest[0] not in "01" or (rest[0] == "1" and node not in learnt):
+                return False
+            is_put = rest[0] == "1" and asked.get(chosen, ("", ""))[1] == "put"
+            if " ".join(rest[1:]) not in (texts if is_put else NOTHING):
                 return False
     return True
 
@@ -134,7 +148,7 @@ class Job:
     def judged_stop(self, told):
         """The same of a transcript in which one node has to tell the refusal, and the rest has to follow from it."""
         at = [i for i, line in enumerate(told) if line.endswith(" 47")]
-        if len(at) != 1 or shared(told, self.right) < at[0] or not is_explained(self.lines, told):
+        if len(at) != 1 or shared(told, self.right) < at[0] or not is_explained(self.lines, told, answers(self.right)):
             return None
         return "stopped" if told[at[0]].startswith("stop ") else "refused"
 
@@ -142,7 +156,7 @@ class Job:
 def try_each(runs, name, lines, words):
     """Refuses each request in turn. How many runs ended in which way, and those that ended badly."""
     job = Job(runs, lines, words)
-    if job.status != 0 or job.error or not is_explained(lines, job.right):
+    if job.status != 0 or job.error or not is_explained(lines, job.right, answers(job.right)):
         sys.exit("%s does not run with ample memory: %s" % (name, job.error))
     counts, bad, refused = dict.fromkeys(ENDS, 0), [], 1
     while True:

@@ -5,8 +5,12 @@
 
 Each schedule has a number of lines: requests, campaigns, frames delivered again and again, ticks, restarts, armed
 faults and queries, drawn from one seed. The cost of a line must not grow with the number of lines.
+
+Then whole replays a second: a run that puts a feature of some points as a document, delivers all its frames, appends at
+each node, and asks each kind of query at each node.
 """
 
+import json
 import os
 import random
 import subprocess
@@ -15,6 +19,7 @@ import tempfile
 import time
 
 COUNTS = (2_000, 20_000, 200_000)
+POINTS = (2, 64, 512)
 
 
 def schedule(count):
@@ -41,6 +46,36 @@ def schedule(count):
     return "\n".join(lines) + "\n"
 
 
+def datetime(second):
+    return "2020-01-01T%02d:%02d:%02dZ" % (second // 3600, second // 60 % 60, second % 60)
+
+
+def fleet(points):
+    """A run in which a feature of so many points is put, learnt by all, extended in vain, and asked for."""
+    day = "%s %s" % (datetime(0), datetime(points - 1))
+    area = "0 0 1000 1000"
+    document = json.dumps({
+        "type": "Feature",
+        "id": "bus-7",
+        "temporalGeometry": {
+            "type": "MovingPoint",
+            "interpolation": "Linear",
+            "datetimes": [datetime(second) for second in range(points)],
+            "coordinates": [[second, second % 7] for second in range(points)],
+        },
+    })
+    lines = ["nodes 3", "submit 0 7 1 put " + document, "timeout 0", "flush"]
+    for node in range(3):
+        # The log is full by then: the node refuses it.
+        lines.append("submit %d 8 1 append bus-7 %s 1 1" % (node, datetime(points)))
+        questions = [
+            "at bus-7 " + datetime(points // 2), "cut bus-7 " + day, "ever bus-7 %s %s" % (day, area),
+            "always bus-7 %s %s" % (day, area), "within %s %s" % (day, area), "get bus-7", "count",
+        ]
+        lines += ["query %d %s" % (node, question) for question in questions]
+    return "\n".join(lines) + "\n"
+
+
 def timed(program, path):
     """Seconds and peak memory in MB of one run."""
     before = time.perf_counter()
@@ -60,6 +95,12 @@ def main():
             file.flush()
             seconds, memory = min(timed(program, file.name) for _ in range(3))
         print("%7d lines: %9.0f lines a second, %6.1f MB" % (count, count / seconds, memory))
+    for points in POINTS:
+        with tempfile.NamedTemporaryFile("w", suffix=".schedule") as file:
+            file.write(fleet(points))
+            file.flush()
+            seconds, memory = min(timed(program, file.name) for _ in range(20))
+        print("%7d points put and asked for: %6.0f replays a second, %6.1f MB" % (points, 1 / seconds, memory))
 
 
 if __name__ == "__main__":

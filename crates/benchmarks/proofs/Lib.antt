@@ -2,3 +2,5 @@ pub mod Adding
 pub mod FixLemmas
 pub mod NameLemmas
 pub mod Filling
+pub mod Executing
+pub mod Sending

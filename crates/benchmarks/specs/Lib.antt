@@ -4,4 +4,6 @@ pub mod Sums
 pub mod Scenes
 pub mod Numbers
 pub mod Fleets
+pub mod Commands
+pub mod Messages
 pub mod Rounds

@@ -5,7 +5,7 @@ use Rattle.benchmarks.specs.declared.scene.Scene.{Scene}
 use Rattle.benchmarks.specs.declared.scene.TheConstants.{START}
 use Rattle.benchmarks.specs.declared.numbers.TheConstants.{STEP}
 use Rattle.benchmarks.specs.declared.task.Work.{Work}
-use Rattle.benchmarks.specs.declared.task.Work.TheVariants.{Point, Query, Apply, Check}
+use Rattle.benchmarks.specs.declared.task.Work.TheVariants.{Point, Query, Apply, Check, Execute, Encode, Decode}
 use Rattle.benchmarks.specs.declared.task.PointWork.{PointWork}
 use Rattle.benchmarks.specs.declared.task.PointWork.TheVariants.{ValueAt, EverMiddle, EverWhole, AlwaysMiddle, AlwaysWhole}
 use Rattle.benchmarks.specs.declared.task.PointWork.TheVariants.{CutMiddle, CutWhole, Write, Datetimes}
@@ -13,7 +13,9 @@ use Rattle.benchmarks.specs.declared.task.Task.{Task}
 use Rattle.benchmarks.specs.Sums.{SumsTo}
 use Rattle.benchmarks.specs.Scenes.{IsScene}
 use Rattle.benchmarks.specs.Numbers.{IsValue, IsEverNumber, IsAlwaysNumber, IsCutNumber}
+use Rattle.benchmarks.specs.Commands.{IsOutcomeNumber}
 use Rattle.benchmarks.specs.Fleets.{fleet_of, query_of, IsAnswerLength, IsReplyNumber}
+use Rattle.benchmarks.specs.Messages.{IsFrameLength, IsSlotNumber}
 
 -- the length of the canonical document
 pub record IsLength (s : Scene) (number : ℕ) : Type 0 where
@@ -38,6 +40,9 @@ Answers (Point work) s round number = PointAnswers work s round number
 Answers (Query work) s round number = IsAnswerLength (fleet_of s) (query_of work s round) number
 Answers (Apply work) s round number = IsReplyNumber work s round number
 Answers Check s round number = IsLength s number
+Answers Execute s round number = IsOutcomeNumber s round number
+Answers (Encode sent) s round number = IsFrameLength sent number
+Answers (Decode sent) s round number = IsSlotNumber sent number
 
 -- the sum that a task asks for
 pub record IsSumOf (task : Task) (total : ℕ) : Type 0 where

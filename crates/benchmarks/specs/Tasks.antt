@@ -3,7 +3,7 @@ use Rattle.std.specs.Prelude.{◌≡◌, ℕ, ◌^◌, ◌<◌, List, [], ◌∷
 use Rattle.std.specs.Str.Parse.{IsNumeral, digits_value, without_leading_plus}
 use Rattle.benchmarks.specs.declared.task.Task.{Task}
 use Rattle.benchmarks.specs.declared.task.Work.{Work}
-use Rattle.benchmarks.specs.declared.task.Work.TheVariants.{Point, Query, Apply, Check}
+use Rattle.benchmarks.specs.declared.task.Work.TheVariants.{Point, Query, Apply, Check, Execute, Encode, Decode}
 use Rattle.benchmarks.specs.declared.task.PointWork.{PointWork}
 use Rattle.benchmarks.specs.declared.task.PointWork.TheVariants.{ValueAt, EverMiddle, EverWhole, AlwaysMiddle, AlwaysWhole}
 use Rattle.benchmarks.specs.declared.task.PointWork.TheVariants.{CutMiddle, CutWhole, Write, Datetimes}
@@ -11,6 +11,8 @@ use Rattle.benchmarks.specs.declared.task.QueryWork.{QueryWork}
 use Rattle.benchmarks.specs.declared.task.QueryWork.TheVariants as query_work
 use Rattle.benchmarks.specs.declared.task.ApplyWork.{ApplyWork}
 use Rattle.benchmarks.specs.declared.task.ApplyWork.TheVariants as apply_work
+use Rattle.benchmarks.specs.declared.task.Sent.{Sent}
+use Rattle.benchmarks.specs.declared.task.Sent.TheVariants as sent
 
 -- the word for a work
 abbrev pub point_name : PointWork → List ℕ
@@ -40,11 +42,26 @@ apply_name apply_work.Put = codes "store_put"
 apply_name apply_work.Append = codes "store_append"
 apply_name apply_work.Remove = codes "store_remove"
 
+abbrev pub encode_name : Sent → List ℕ
+encode_name sent.Prepare = codes "frame_encode_prepare"
+encode_name sent.Promise = codes "frame_encode_promise"
+encode_name sent.AcceptPut = codes "frame_encode_accept_put"
+encode_name sent.AcceptedAppend = codes "frame_encode_accepted_append"
+
+abbrev pub decode_name : Sent → List ℕ
+decode_name sent.Prepare = codes "frame_decode_prepare"
+decode_name sent.Promise = codes "frame_decode_promise"
+decode_name sent.AcceptPut = codes "frame_decode_accept_put"
+decode_name sent.AcceptedAppend = codes "frame_decode_accepted_append"
+
 abbrev pub name_of : Work → List ℕ
 name_of (Point work) = point_name work
 name_of (Query work) = query_name work
 name_of (Apply work) = apply_name work
 name_of Check = codes "check"
+name_of Execute = codes "execute"
+name_of (Encode message) = encode_name message
+name_of (Decode message) = decode_name message
 
 -- a word is read as a number below 2^bits: decimal digits, and a plus before them or not
 pub record IsReadAs (bits : ℕ) (word : List ℕ) (n : ℕ) : Type 0 where

@@ -4,6 +4,7 @@ ghost use Rattle.std.specs.Prelude.{◌≡◌};
 ghost use Rattle.benchmarks.specs.Faults.{status_of};
 ghost use Rattle.benchmarks.specs.declared.fault.Fault.TheVariants.{Usage, Memory};
 
+use sessions::TooLong;
 use std::alloc::{AllocError, AllocFailed};
 use thiserror::Error;
 use tpoint::SeqFault;
@@ -51,6 +52,14 @@ impl From<SeqFault> for Fault {
     ghost from_gives = { λ _ fault. fault ≡ Usage };
 
     fn from(_refused: SeqFault) -> Fault {
+        Fault::Usage
+    }
+}
+
+impl From<TooLong> for Fault {
+    ghost from_gives = { λ _ fault. fault ≡ Usage };
+
+    fn from(_refused: TooLong) -> Fault {
         Fault::Usage
     }
 }

@@ -1,18 +1,21 @@
-//! Timed loops over the queries and the documents.
+//! Timed loops over the queries, the documents, the commands and the frames.
 //!
 //! `benchmarks WORK POINTS ROUNDS` asks for one work in so many rounds, of a moving point with so
 //! many points, and prints the sum of what was answered, which is the same on every machine. It
-//! reads no clock: `bench/points.py` does.
+//! reads no clock: the scripts in `bench/` do.
 //!
 //! `task` reads the words, and `scene` makes a moving point and what is asked of it. `numbers` has
 //! the answers of one moving point as numbers, `queries` and `operations` those of a full database,
-//! which `fleet` makes, and `documents` those of reading; `rounds` adds them up. A further kind of
-//! work is a variant of `Work`, a module with the number of a round, and a loop in `rounds`.
+//! which `fleet` makes, `documents` those of reading, `execution` those of a machine, and `messages`
+//! those of frames; `rounds` adds them up. A further kind of work is a variant of `Work`, a module
+//! with the number of a round, and a loop in `rounds`.
 #![tactic(auto)]
 
 mod documents;
+mod execution;
 mod fault;
 mod fleet;
+mod messages;
 mod numbers;
 mod operations;
 mod queries;
@@ -23,8 +26,10 @@ mod task;
 mod tests;
 
 ghost use Rattle.std.specs.Prelude.{◌≡◌, ◌≢◌, IfOk};
-ghost use Rattle.benchmarks.specs.Rounds.{IsSumOf};
 ghost use Rattle.std.specs.IoError.{error_kind};
+ghost use Rattle.std.specs.Process.{exit_status};
+ghost use Rattle.benchmarks.specs.Faults.{status_of};
+ghost use Rattle.benchmarks.specs.Rounds.{IsSumOf};
 
 use crate::fault::Fault;
 use crate::rounds::total;
@@ -77,11 +82,13 @@ fn sum(rt: &HostRuntime, task: Task) -> Result<u64, Fault>
     ensures { IfOk result (IsSumOf task) }
 {
     let scene = Scene::new(rt.alloc(), task.points)?;
-    Ok(total(rt.alloc(), task.work, &scene, task.rounds)?)
+    total(rt.alloc(), task.work, &scene, task.rounds)
 }
 
 /// Says why nothing is done, and the status that tells it.
-fn told(rt: &HostRuntime, fault: Fault) -> ExitCode {
+fn told(rt: &HostRuntime, fault: Fault) -> ExitCode
+    ensures { exit_status result ≡ status_of fault }
+{
     let _ = eprintln!(rt; "benchmarks: {fault}");
     ExitCode::from(fault.status())
 }

@@ -50,7 +50,7 @@ fn op_of(work: ApplyWork, scene: &Scene, round: u32) -> Result<Op, AllocError>
 }
 
 /// A point some minutes after the last.
-fn next_point(scene: &Scene, minutes: u32) -> Point
+pub fn next_point(scene: &Scene, minutes: u32) -> Point
     requires { minutes < 256 }
     ensures { result ≡ next_point scene.now minutes }
 {

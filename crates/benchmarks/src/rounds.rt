@@ -4,26 +4,36 @@ ghost use Rattle.std.specs.Prelude.{IfOk};
 ghost use Rattle.benchmarks.specs.Sums.{SumsTo};
 ghost use Rattle.benchmarks.specs.Rounds.{Answers, PointAnswers};
 ghost use Rattle.benchmarks.specs.declared.task.Work.TheVariants.{Point, Query, Apply, Check};
+ghost use Rattle.benchmarks.specs.declared.task.Work.TheVariants.{Execute, Encode, Decode};
 
 use crate::documents::checked_length;
+use crate::execution::outcome_number;
+use crate::fault::Fault;
 use crate::fleet::fleet;
+use crate::messages::{envelope, frame_length, slot_number};
 use crate::numbers::{always_number, cut_number, datetime_number, ever_number, value_number};
 use crate::operations::reply_number;
 use crate::queries::answer_length;
 use crate::scene::Scene;
-use crate::task::{ApplyWork, PointWork, QueryWork, Work};
+use crate::task::{ApplyWork, PointWork, QueryWork, Sent, Work};
 use mfjson::write;
+use sessions::Machine;
 use std::alloc::{AllocError, Global};
+use wire::frames::encode;
 
-/// The sum of what the rounds answer, each as a number, in 64 bits.
-pub fn total(alloc: Global, work: Work, scene: &Scene, rounds: u32) -> Result<u64, AllocError>
+/// The sum of what the rounds answer, each as a number, in 64 bits; Usage where the work can't be done on so many
+/// points.
+pub fn total(alloc: Global, work: Work, scene: &Scene, rounds: u32) -> Result<u64, Fault>
     ensures { IfOk result (SumsTo (Answers work scene.now) rounds) }
 {
     match work {
-        Work::Point(work) => point_total(alloc, work, scene, rounds),
-        Work::Query(work) => query_total(alloc, work, scene, rounds),
-        Work::Apply(work) => apply_total(alloc, work, scene, rounds),
-        Work::Check => check_total(alloc, scene, rounds),
+        Work::Point(work) => Ok(point_total(alloc, work, scene, rounds)?),
+        Work::Query(work) => Ok(query_total(alloc, work, scene, rounds)?),
+        Work::Apply(work) => Ok(apply_total(alloc, work, scene, rounds)?),
+        Work::Check => Ok(check_total(alloc, scene, rounds)?),
+        Work::Execute => execute_total(alloc, scene, rounds),
+        Work::Encode(sent) => encode_total(alloc, sent, scene, rounds),
+        Work::Decode(sent) => decode_total(alloc, sent, scene, rounds),
     }
 }
 
@@ -84,6 +94,43 @@ fn check_total(alloc: Global, scene: &Scene, rounds: u32) -> Result<u64, AllocEr
     let mut total = 0u64;
     for round in 0..rounds {
         let number = checked_length(alloc, &document, scene)?;
+        total = total.wrapping_add(number);
+    }
+    Ok(total)
+}
+
+fn execute_total(alloc: Global, scene: &Scene, rounds: u32) -> Result<u64, Fault>
+    ensures { IfOk result (SumsTo (Answers Execute scene.now) rounds) }
+{
+    let mut machine = Machine::new(alloc);
+    let mut total = 0u64;
+    for round in 0..rounds {
+        let number = outcome_number(&mut machine, scene, round)?;
+        total = total.wrapping_add(number);
+    }
+    Ok(total)
+}
+
+fn encode_total(alloc: Global, sent: Sent, scene: &Scene, rounds: u32) -> Result<u64, Fault>
+    ensures { IfOk result (SumsTo (Answers (Encode sent) scene.now) rounds) }
+{
+    let envelope = envelope(alloc, sent)?;
+    let mut total = 0u64;
+    for round in 0..rounds {
+        let number = frame_length(alloc, &envelope, sent)?;
+        total = total.wrapping_add(number);
+    }
+    Ok(total)
+}
+
+fn decode_total(alloc: Global, sent: Sent, scene: &Scene, rounds: u32) -> Result<u64, Fault>
+    ensures { IfOk result (SumsTo (Answers (Decode sent) scene.now) rounds) }
+{
+    let envelope = envelope(alloc, sent)?;
+    let frame = encode(alloc, &envelope)?;
+    let mut total = 0u64;
+    for round in 0..rounds {
+        let number = slot_number(alloc, &frame, &envelope, sent)?;
         total = total.wrapping_add(number);
     }
     Ok(total)

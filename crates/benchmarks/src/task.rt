@@ -1,7 +1,8 @@
 //! What the words of the command line ask for.
 
 ghost use Rattle.std.specs.Prelude.{◌≡◌, ◌≢◌, ℕ, MatchOption, map, string_bytes};
-ghost use Rattle.benchmarks.specs.Tasks.{name_of, point_name, query_name, apply_name, IsReadAs, Names, Asks};
+ghost use Rattle.benchmarks.specs.Tasks.{name_of, point_name, query_name, apply_name, encode_name, decode_name};
+ghost use Rattle.benchmarks.specs.Tasks.{IsReadAs, Names, Asks};
 
 /// What is timed.
 #[derive(Clone, Copy, Debug, PartialEq, Eq)]
@@ -14,6 +15,12 @@ pub enum Work {
     Apply(ApplyWork),
     /// A document, read and written again.
     Check,
+    /// Requests of several clients, executed by one machine.
+    Execute,
+    /// A message, spelled as a frame.
+    Encode(Sent),
+    /// The frame of a message, read.
+    Decode(Sent),
 }
 
 /// What is asked of one moving point.
@@ -71,6 +78,19 @@ pub enum ApplyWork {
     Append,
     /// One round removes, and the next puts it again.
     Remove,
+}
+
+/// A message that is spelled or read. Each sequence that it puts has as many instants as a request may put.
+#[derive(Clone, Copy, Debug, PartialEq, Eq)]
+pub enum Sent {
+    /// The smallest message of a campaign.
+    Prepare,
+    /// A promise that tells as many votes as it may, each for a put.
+    Promise,
+    /// An accept of a put.
+    AcceptPut,
+    /// A vote for a point that is added.
+    AcceptedAppend,
 }
 
 /// A work, how many points it is done on, and how many times.
@@ -137,8 +157,15 @@ fn work_of(name: &str) -> Option<Work>
     if let Some(work) = apply_work_of(name) {
         return Some(Work::Apply(work));
     }
+    if let Some(sent) = encoded_of(name) {
+        return Some(Work::Encode(sent));
+    }
+    if let Some(sent) = decoded_of(name) {
+        return Some(Work::Decode(sent));
+    }
     match name {
         "check" => Some(Work::Check),
+        "execute" => Some(Work::Execute),
         _ => None,
     }
 }
@@ -187,6 +214,32 @@ fn apply_work_of(name: &str) -> Option<ApplyWork>
         "store_put" => Some(ApplyWork::Put),
         "store_append" => Some(ApplyWork::Append),
         "store_remove" => Some(ApplyWork::Remove),
+        _ => None,
+    }
+}
+
+fn encoded_of(name: &str) -> Option<Sent>
+    ensures { MatchOption result ((sent : Sent) → name.now ≢ encode_name sent)
+        (λ sent. name.now ≡ encode_name sent) }
+{
+    match name {
+        "frame_encode_prepare" => Some(Sent::Prepare),
+        "frame_encode_promise" => Some(Sent::Promise),
+        "frame_encode_accept_put" => Some(Sent::AcceptPut),
+        "frame_encode_accepted_append" => Some(Sent::AcceptedAppend),
+        _ => None,
+    }
+}
+
+fn decoded_of(name: &str) -> Option<Sent>
+    ensures { MatchOption result ((sent : Sent) → name.now ≢ decode_name sent)
+        (λ sent. name.now ≡ decode_name sent) }
+{
+    match name {
+        "frame_decode_prepare" => Some(Sent::Prepare),
+        "frame_decode_promise" => Some(Sent::Promise),
+        "frame_decode_accept_put" => Some(Sent::AcceptPut),
+        "frame_decode_accepted_append" => Some(Sent::AcceptedAppend),
         _ => None,
     }
 }

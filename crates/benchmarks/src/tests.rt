@@ -3,7 +3,7 @@
 
 use crate::rounds::total;
 use crate::scene::Scene;
-use crate::task::{ApplyWork, PointWork, QueryWork, Work, task_of};
+use crate::task::{ApplyWork, PointWork, QueryWork, Sent, Work, task_of};
 use PointWork::{
     AlwaysMiddle, AlwaysWhole, CutMiddle, CutWhole, Datetimes, EverMiddle, EverWhole, ValueAt,
     Write,
@@ -93,7 +93,10 @@ fn store_sums(rt: HostRuntime) -> Result<(), Fail> {
 }
 
 /// Words, and how many points and rounds they ask for.
-const WORDS: [(&[&str], Option<(u16, u32)>); 12] = [
+const WORDS: [(&[&str], Option<(u16, u32)>); 15] = [
+    (&["execute", "300"], Some((1, 300))),
+    (&["frame_encode_accept_put", "3"], Some((1, 3))),
+    (&["frame_decode_promise", "2"], Some((1, 2))),
     (&["value_at", "64", "10"], Some((64, 10))),
     (&["datetimes", "10"], Some((1, 10))),
     (&["write", "1024", "0"], Some((1024, 0))),
@@ -127,5 +130,41 @@ fn words(rt: HostRuntime) -> Result<(), Fail> {
 fn no_scene(rt: HostRuntime) -> Result<(), Fail> {
     assert_eq!(rt; Scene::new(rt.alloc(), 0).is_err(), true);
     assert_eq!(rt; Scene::new(rt.alloc(), 1025).is_err(), true);
+    Ok(())
+}
+
+/// A work on commands or on frames, how many times, and the sum.
+const WIRE_SUMS: [(Work, u32, u64); 10] = [
+    // Each reply is Done, which counts 1.
+    (Work::Execute, 3, 3),
+    (Work::Execute, 3000, 3000),
+    (Work::Encode(Sent::Prepare), 3, 57),
+    (Work::Encode(Sent::AcceptedAppend), 3, 171),
+    (Work::Encode(Sent::AcceptPut), 3, 36_972),
+    (Work::Encode(Sent::Promise), 3, 147_888),
+    (Work::Decode(Sent::Prepare), 3, 3),
+    (Work::Decode(Sent::AcceptedAppend), 3, 3),
+    (Work::Decode(Sent::AcceptPut), 3, 3),
+    // The last slot is 3, which counts 4.
+    (Work::Decode(Sent::Promise), 3, 12),
+];
+
+#[test]
+fn wire_sums(rt: HostRuntime) -> Result<(), Fail> {
+    let scene = Scene::new(rt.alloc(), 1)?;
+    for (work, rounds, want) in WIRE_SUMS {
+        let sum = total(rt.alloc(), work, &scene, rounds)?;
+        assert_eq!(rt; sum, want, "{work:?} {rounds}");
+    }
+    Ok(())
+}
+
+/// No request puts as many points.
+#[test]
+fn no_requests(rt: HostRuntime) -> Result<(), Fail> {
+    let longest = Scene::new(rt.alloc(), 512)?;
+    assert_eq!(rt; total(rt.alloc(), Work::Execute, &longest, 9)?, 9);
+    let longer = Scene::new(rt.alloc(), 513)?;
+    assert_eq!(rt; total(rt.alloc(), Work::Execute, &longer, 9).is_err(), true);
     Ok(())
 }
