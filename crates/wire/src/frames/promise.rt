@@ -106,7 +106,8 @@ impl Promise {
     pub fn into_entries(self) -> Entries
         ensures { result.items ≡ self.entries }
     {
-        self.entries
+        let Promise { entries, .. } = self;
+        entries
     }
 
     /// A copy, equal to it.
