@@ -1,10 +1,10 @@
 -- How many members an object has.
-use Rattle.std.proofs.Common.{◌≡◌, List, [], ◌∷◌, String, length, map, ap, refl, suc, ◌∙◌}
+use Rattle.std.proofs.Common.{◌≡◌, List, [], ◌∷◌, String, length, ap, refl, suc, ◌∙◌}
 use Rattle.std.specs.declared.alloc.Global.{Global}
 use Rattle.std.proofs.lemmas.List.{length-map}
 use Rattle.serde_json.specs.Data.{Data}
 use Rattle.serde_json.specs.Events.{members_len}
-use Rattle.serde_json.specs.View.{view, members_of, members_view}
+use Rattle.serde_json.specs.View.{members_of, members_view}
 use Rattle.serde_json.specs.declared.value.Value.{Value}
 
 count-members_of : (ms : List (String Global × Data)) → members_len (members_of ms) ≡ length ms

@@ -1,5 +1,5 @@
 -- From what was read of a value to the feature that it stands for, or to the first fault.
-use Rattle.std.proofs.Common.{◌≡◌, ◌≢◌, ℕ, zero, suc, ℤ, [], ◌∷◌, ◌+◌, ◌<◌, ◌≤◌, List, map, length, codes, Some, refl, arith, ap, sym, subst, ◌∙◌, inl, inr}
+use Rattle.std.proofs.Common.{◌≡◌, ◌≢◌, ℕ, zero, suc, ℤ, [], ◌∷◌, ◌+◌, ◌<◌, List, map, length, codes, Some, refl, arith, ap, sym, subst, ◌∙◌, inl, inr}
 use Rattle.std.specs.Prelude.{slice_get}
 use Rattle.std.proofs.lemmas.Bool.{cases_lt}
 use Rattle.std.proofs.lemmas.List.{length-map}
@@ -7,7 +7,6 @@ use Rattle.std.proofs.lemmas.Option.{same_Some}
 use Rattle.serde_json.specs.Data.{Data}
 use Rattle.tpoint.specs.declared.interp.Interp.{Interp}
 use Rattle.tpoint.specs.declared.point.Point.{Point}
-use Rattle.tpoint.specs.declared.seq.TheConstants.{MOST_POINTS}
 use Rattle.tpoint.specs.declared.faults.SeqFault.{SeqFault}
 use Rattle.tpoint.specs.declared.faults.SeqFault.TheVariants as seq_fault
 use Rattle.tpoint.specs.Faults.{IsFault, FirstFall}

@@ -1,11 +1,11 @@
 -- Which of the rules that a value breaks is the first.
-use Rattle.std.proofs.Common.{◌≡◌, ◌≢◌, ◌⊎◌, ℕ, ◌+◌, ◌<◌, ◌≤◌, ◌==◌, if◌then◌else◌, length, codes, refl, arith, ap, sym, subst, ◌∙◌, inl, inr}
+use Rattle.std.proofs.Common.{◌≡◌, ℕ, ◌+◌, ◌<◌, ◌≤◌, ◌==◌, if◌then◌else◌, length, codes, refl, arith, ap, subst, ◌∙◌, inl, inr}
 use Rattle.std.proofs.lemmas.Bool.{cases_lt}
 use Rattle.serde_json.specs.Data.{Data}
 use Rattle.tpoint.specs.declared.seq.TheConstants.{MOST_POINTS}
 use Rattle.mfjson.specs.declared.fault.MfFault.{MfFault}
 use Rattle.mfjson.specs.declared.fault.MfFault.TheVariants.{NotJson, Members, NotFeature, Id, Geometry, Interpolation, Datetime, Coordinates, Lengths, Empty, TooMany, Order, Memory}
-use Rattle.mfjson.specs.Faults.{Breaks, IsFirst, IsBefore, code_of, index_of, place_of, HasFeatureMembers, SaysFeature, SaysId, IsMovingPoint, SaysInterp, IsInstantText, IsPlace, FailsAt, FallsAt, part, geometry, datetimes, coordinates}
+use Rattle.mfjson.specs.Faults.{Breaks, IsFirst, code_of, place_of, HasFeatureMembers, SaysFeature, SaysId, IsMovingPoint, SaysInterp, IsInstantText, IsPlace, FailsAt, part, geometry, datetimes, coordinates}
 
 -- the fault of this number, at this place
 abbrev fault_at : ℕ → ℕ → MfFault

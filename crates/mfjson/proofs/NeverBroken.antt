@@ -1,8 +1,8 @@
 -- A value that stands for a feature breaks no rule.
-use Rattle.std.proofs.Common.{◌≡◌, ◌≢◌, ◌⊎◌, ℕ, ◌+◌, ◌<◌, ◌≤◌, List, codes, length, Some, refl, arith, ap, sym, subst, ◌∙◌, inl, inr}
-use Rattle.std.specs.Prelude.{Result, Ok, Err, IfOk, IfErr, IsSome, slice_get, unwrap_or}
+use Rattle.std.proofs.Common.{◌≡◌, ◌≢◌, ◌⊎◌, ℕ, List, codes, Some, refl, arith, ap, sym, subst, ◌∙◌, inl, inr}
+use Rattle.std.specs.Prelude.{Result, Ok, Err, IfOk, IfErr, IsSome}
 use Rattle.std.proofs.lemmas.Option.{same_Some}
-use Rattle.serde_json.specs.Data.{Data, null, array}
+use Rattle.serde_json.specs.Data.{Data, array}
 use Rattle.serde_json.specs.Find.{as_array, get}
 use Rattle.serde_json.specs.View.{items_of}
 use Rattle.tpoint.specs.declared.point.Point.{Point}
@@ -13,7 +13,7 @@ use Rattle.mfjson.specs.declared.fault.MfFault.{MfFault}
 use Rattle.mfjson.specs.declared.fault.MfFault.TheVariants.{NotJson, Members, NotFeature, Id, Geometry, Interpolation, Datetime, Coordinates, Lengths, Empty, TooMany, Order, Memory}
 use Rattle.mfjson.specs.Pairs.{Pairwise}
 use Rattle.mfjson.specs.Document.{SaysWhen, SaysWhere, IsGeometry, StandsFor, IsDocumentOf, Shows}
-use Rattle.mfjson.specs.Faults.{Breaks, IsFirst, IsMovingPoint, IsInstantText, IsPlace, FailsAt, FallsAt, part, elements, geometry, datetimes, coordinates}
+use Rattle.mfjson.specs.Faults.{Breaks, IsFirst, IsMovingPoint, IsInstantText, IsPlace, FailsAt, part, elements, geometry, datetimes, coordinates}
 use Rattle.mfjson.proofs.Lists.{pairwise_length, pairwise_get, none_fails}
 use Rattle.mfjson.proofs.OneFeature.{stands_for_one}
 use Rattle.mfjson.proofs.PartLemmas.{part_found, array_here, elements_here}

@@ -10,7 +10,8 @@ use Rattle.tpoint.specs.declared.point.Point.{Point}
 use Rattle.mfjson.specs.declared.feature.Feature.{Feature}
 use Rattle.mfjson.specs.Datetime.{ReadsAs}
 use Rattle.mfjson.specs.Pairs.{Pairwise}
-use Rattle.mfjson.specs.Document.{SaysInstant, SaysWhen, SaysWhere, IsGeometry, StandsFor, IsDocumentOf, interp_name}
+use Rattle.mfjson.specs.Document.{SaysInstant, SaysWhen, SaysWhere, IsGeometry, StandsFor, IsDocumentOf}
+use Rattle.tpoint.specs.Interps.{interp_name}
 use Rattle.mfjson.proofs.OneText.{instant_of_one}
 
 name_injective : (i j : Interp) → interp_name i ≡ interp_name j → i ≡ j

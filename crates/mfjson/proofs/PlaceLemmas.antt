@@ -1,5 +1,5 @@
 -- Arrays of two coordinates.
-use Rattle.std.proofs.Common.{◌≡◌, ℕ, ℤ, List, [], ◌∷◌, length, refl, sym, subst, ◌∙◌}
+use Rattle.std.proofs.Common.{◌≡◌, List, [], ◌∷◌, length, refl, sym, subst, ◌∙◌}
 use Rattle.serde_json.specs.Data.{Data, array, item, no_items}
 use Rattle.serde_json.specs.View.{items_of}
 use Rattle.mfjson.specs.Faults.{IsPlace, SaysCoordinate}

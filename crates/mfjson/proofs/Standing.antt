@@ -11,7 +11,8 @@ use Rattle.tpoint.specs.Places.{EachAt}
 use Rattle.tpoint.specs.Coordinates.{InRange}
 use Rattle.mfjson.specs.declared.feature.Feature.{Feature}
 use Rattle.mfjson.specs.Pairs.{Pairwise}
-use Rattle.mfjson.specs.Document.{WritesWhen, WritesWhere, SaysWhen, SaysWhere, StandsFor, canonical, interp_name}
+use Rattle.mfjson.specs.Document.{WritesWhen, WritesWhere, SaysWhen, SaysWhere, StandsFor, canonical}
+use Rattle.tpoint.specs.Interps.{interp_name}
 
 -- ---- what is written says the same
 says_when : (ds : List Data) (ps : List Point) → Pairwise WritesWhen ds ps → Pairwise SaysWhen ds ps

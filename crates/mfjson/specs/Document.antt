@@ -7,10 +7,9 @@ use Rattle.serde_json.specs.View.{items_of}
 use Rattle.serde_json.specs.Events.{members_len}
 use Rattle.serde_json.specs.Written.{compact_text}
 use Rattle.serde_json.specs.Data.{Num}
-use Rattle.tpoint.specs.declared.interp.Interp.{Interp}
-use Rattle.tpoint.specs.declared.interp.Interp.TheVariants.{Discrete, Step, Linear}
 use Rattle.tpoint.specs.declared.point.Point.{Point}
 use Rattle.tpoint.specs.Ids.{IsId}
+use Rattle.tpoint.specs.Interps.{interp_name}
 use Rattle.tpoint.specs.Moving.{IsValid}
 use Rattle.mfjson.specs.declared.feature.Feature.{Feature}
 use Rattle.mfjson.specs.Datetime.{IsDatetime, ReadsAs}
@@ -23,11 +22,6 @@ count_in (Some ms) = members_len ms
 
 abbrev pub member_count : Data → ℕ
 member_count d = count_in (as_object d)
-
-abbrev pub interp_name : Interp → List ℕ
-interp_name Discrete = codes "Discrete"
-interp_name Step = codes "Step"
-interp_name Linear = codes "Linear"
 
 -- the value is a text that may be read as the instant t
 pub record SaysInstant (d : Data) (t : ℕ) : Type 0 where

@@ -8,7 +8,8 @@ use Rattle.tpoint.specs.Ids.{IsId}
 use Rattle.tpoint.specs.Coordinates.{InRange}
 use Rattle.mfjson.specs.declared.fault.MfFault.{MfFault}
 use Rattle.mfjson.specs.declared.fault.MfFault.TheVariants.{NotJson, Members, NotFeature, Id, Geometry, Interpolation, Datetime, Coordinates, Lengths, Empty, TooMany, Order, Memory}
-use Rattle.mfjson.specs.Document.{SaysInstant, Shows, interp_name, member_count}
+use Rattle.tpoint.specs.Interps.{interp_name}
+use Rattle.mfjson.specs.Document.{SaysInstant, Shows, member_count}
 
 -- ---- the parts of a value; where one is missing, null stands for it
 abbrev pub part : List ℕ → Data → Data

@@ -1,6 +1,7 @@
 pub mod Digits
 pub mod Datetime
 pub mod Pairs
+pub mod Same
 pub mod Document
 pub mod Faults
 pub mod Outline

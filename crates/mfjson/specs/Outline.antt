@@ -8,7 +8,7 @@ use Rattle.tpoint.specs.declared.faults.SeqFault.TheVariants as seq_fault
 use Rattle.tpoint.specs.Ids.{IsId}
 use Rattle.mfjson.specs.declared.fault.MfFault.{MfFault}
 use Rattle.mfjson.specs.declared.fault.MfFault.TheVariants.{Coordinates, Empty, TooMany, Order}
-use Rattle.mfjson.specs.Document.{interp_name}
+use Rattle.tpoint.specs.Interps.{interp_name}
 use Rattle.mfjson.specs.Faults.{HasFeatureMembers, SaysFeature, IsMovingPoint, FailsAt, part, elements, geometry}
 
 -- a text that is this id

@@ -5,6 +5,8 @@ ghost use Rattle.mfjson.specs.Faults.{code_of, index_of};
 ghost use Rattle.mfjson.specs.declared.fault.MfFault.TheVariants.{Memory};
 
 use std::alloc::{AllocError, AllocFailed};
+use std::error::Error;
+use std::fmt;
 
 /// Why bytes are no document of a feature. Indices count from 0.
 ///
@@ -75,6 +77,28 @@ impl MfFault {
         }
     }
 }
+
+impl fmt::Display for MfFault {
+    fn fmt<W: fmt::Write>(&self, f: &mut fmt::Formatter<W>) -> fmt::Result {
+        match self {
+            MfFault::NotJson => f.write_str("the bytes are no JSON text"),
+            MfFault::Members => f.write_str("the value hasn't exactly a feature's members"),
+            MfFault::NotFeature => f.write_str("the type is not Feature"),
+            MfFault::Id => f.write_str("the id is no id"),
+            MfFault::Geometry => f.write_str("the geometry is no moving point's"),
+            MfFault::Interpolation => f.write_str("the interpolation is unknown"),
+            MfFault::Datetime(i) => write!(f, "datetime {i} is none"),
+            MfFault::Coordinates(i) => write!(f, "coordinates {i} are no whole numbers in range"),
+            MfFault::Lengths => f.write_str("there are not as many datetimes as coordinates"),
+            MfFault::Empty => f.write_str("there are no datetimes"),
+            MfFault::TooMany => f.write_str("there are too many datetimes"),
+            MfFault::Order(i) => write!(f, "datetime {i} is not later than the one before it"),
+            MfFault::Memory => f.write_str("out of memory"),
+        }
+    }
+}
+
+impl Error for MfFault {}
 
 impl From<AllocError> for MfFault {
     ghost from_gives = { λ _ fault. fault ≡ Memory };

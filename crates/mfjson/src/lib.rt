@@ -10,6 +10,7 @@ mod datetime;
 mod documents;
 mod fault;
 mod feature;
+mod laws;
 mod reading;
 #[cfg(test)]
 mod tests;
@@ -18,5 +19,6 @@ mod writing;
 pub use datetime::{datetime_read, datetime_text};
 pub use fault::MfFault;
 pub use feature::Feature;
+pub use laws::a_document_is_of_one_feature;
 pub use reading::read;
 pub use writing::write;

@@ -5,9 +5,10 @@ ghost use Rattle.std.specs.Prelude.{IsTrue, IsUtf8, IfOk, IfErr, MatchOption, Ma
 ghost use Rattle.serde_json.specs.Data.{Data, string, array, item, no_items};
 ghost use Rattle.serde_json.specs.View.{view};
 ghost use Rattle.tpoint.specs.Ids.{IsId};
+ghost use Rattle.tpoint.specs.Interps.{interp_name};
 ghost use Rattle.mfjson.specs.declared.feature.Feature.{Feature};
 ghost use Rattle.mfjson.specs.Pairs.{Pairwise};
-ghost use Rattle.mfjson.specs.Document.{IsDocumentOf, StandsFor, SaysInstant, Shows, interp_name, member_count};
+ghost use Rattle.mfjson.specs.Document.{IsDocumentOf, StandsFor, SaysInstant, Shows, member_count};
 ghost use Rattle.mfjson.specs.Faults.{IsFaultOf, IsFirst, HasFeatureMembers, IsInstantText};
 ghost use Rattle.mfjson.specs.Faults.{IsMovingPoint, IsPlace, SaysCoordinate, SaysCoordinates};
 ghost use Rattle.mfjson.specs.Outline.{SaysThisId, HasLists, IsOutline, FailsFirst, AreTogether, list_fault};
@@ -153,12 +154,7 @@ fn interp_of(value: &Value) -> Option<Interp>
     ensures { MatchOption result ((i : Interp) → view value.now ≢ string (interp_name i))
         (λ i. view value.now ≡ string (interp_name i)) }
 {
-    match value.as_str()? {
-        "Discrete" => Some(Interp::Discrete),
-        "Step" => Some(Interp::Step),
-        "Linear" => Some(Interp::Linear),
-        _ => None,
-    }
+    Interp::from_name(value.as_str()?)
 }
 
 /// The instants of these datetimes.

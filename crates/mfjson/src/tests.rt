@@ -1,6 +1,8 @@
 //! Worked rows: datetimes from RFC 3339 and the calendar, and one whole document.
 
-use crate::{Feature, datetime_read, datetime_text, write};
+use crate::{Feature, MfFault, datetime_read, datetime_text, write};
+use std::alloc::Global;
+use std::test::Fail;
 use tpoint::{Id, Instant, Interp, Point, Seq};
 
 // a text, and its milliseconds since 1970-01-01T00:00:00.000Z
@@ -77,17 +79,66 @@ fn writes_datetimes(rt: HostRuntime) {
 const DOCUMENT: &str =
     r#"{"id":"bus-7","temporalGeometry":{"coordinates":[[0,0],[10,5]],"datetimes":["2020-01-01T00:00:00.000Z","2020-01-01T00:00:03.000Z"],"interpolation":"Linear","type":"MovingPoint"},"type":"Feature"}"#;
 
-#[test]
-fn writes_a_document(rt: HostRuntime) {
-    let alloc = rt.alloc();
+/// A Linear feature of two points.
+fn bus(alloc: Global, name: &[u8]) -> Result<Feature, Fail> {
     let mut points = Vec::new(alloc);
     for (ms, x, y) in [(1_577_836_800_000, 0, 0), (1_577_836_803_000, 10, 5)] {
-        let t = Instant::new(ms).expect(&rt, "an instant");
-        points.push(Point { t, x, y }).expect(&rt, "memory");
+        let t = Instant::new(ms).ok_or("an instant")?;
+        points.push(Point { t, x, y })?;
     }
-    let id = Id::new(b"bus-7").expect(&rt, "an id");
-    let seq = Seq::new(Interp::Linear, points).expect(&rt, "a sequence");
-    let text = write(alloc, &Feature { id, seq }).expect(&rt, "memory");
+    let id = Id::new(name).ok_or("an id")?;
+    let seq = Seq::new(Interp::Linear, points)?;
+    Ok(Feature { id, seq })
+}
+
+#[test]
+fn writes_a_document(rt: HostRuntime) -> Result<(), Fail> {
+    let text = write(rt.alloc(), &bus(rt.alloc(), b"bus-7")?)?;
     assert_eq!(rt; text.len(), 195);
     assert_eq!(rt; text.as_slice(), DOCUMENT.as_bytes());
+    Ok(())
+}
+
+#[test]
+fn copies_a_feature(rt: HostRuntime) -> Result<(), Fail> {
+    let seven = bus(rt.alloc(), b"bus-7")?;
+    let eight = bus(rt.alloc(), b"bus-8")?;
+    assert!(rt; seven.clone()? == seven && seven != eight);
+    Ok(())
+}
+
+const FAULTS: [(MfFault, &str); 13] = [
+    (MfFault::NotJson, "the bytes are no JSON text"),
+    (
+        MfFault::Members,
+        "the value hasn't exactly a feature's members",
+    ),
+    (MfFault::NotFeature, "the type is not Feature"),
+    (MfFault::Id, "the id is no id"),
+    (MfFault::Geometry, "the geometry is no moving point's"),
+    (MfFault::Interpolation, "the interpolation is unknown"),
+    (MfFault::Datetime(2), "datetime 2 is none"),
+    (
+        MfFault::Coordinates(0),
+        "coordinates 0 are no whole numbers in range",
+    ),
+    (
+        MfFault::Lengths,
+        "there are not as many datetimes as coordinates",
+    ),
+    (MfFault::Empty, "there are no datetimes"),
+    (MfFault::TooMany, "there are too many datetimes"),
+    (
+        MfFault::Order(1),
+        "datetime 1 is not later than the one before it",
+    ),
+    (MfFault::Memory, "out of memory"),
+];
+
+#[test]
+fn faults_as_texts(rt: HostRuntime) -> Result<(), Fail> {
+    for (fault, want) in FAULTS {
+        assert_eq!(rt; format!(in rt.alloc(); "{fault}")?.as_str(), want);
+    }
+    Ok(())
 }

@@ -4,14 +4,13 @@ ghost use Rattle.std.specs.Prelude.{◌≡◌, ℕ, List, IfOk, map};
 ghost use Rattle.serde_json.specs.View.{view};
 ghost use Rattle.serde_json.specs.Data.{string};
 ghost use Rattle.mfjson.specs.Datetime.{IsDatetime};
-ghost use Rattle.tpoint.specs.Ids.{IsId};
 ghost use Rattle.mfjson.specs.Pairs.{Pairwise};
-ghost use Rattle.mfjson.specs.Document.{IsCanonical, IsDocumentOf, IsDocumentOfNoOther, WritesWhen, WritesWhere, canonical, interp_name};
+ghost use Rattle.mfjson.specs.Document.{IsCanonical, IsDocumentOf, IsDocumentOfNoOther, WritesWhen, WritesWhere, canonical};
 
 use crate::{Feature, datetime_text};
 use serde_json::{Value, json};
 use std::alloc::{AllocError, Global};
-use tpoint::{Id, Instant, Interp, Point};
+use tpoint::{Instant, Point};
 
 /// The canonical document of a feature: compact JSON, its members in byte order of their names.
 pub fn write(alloc: Global, feature: &Feature) -> Result<Vec<u8>, AllocError>
@@ -22,8 +21,8 @@ pub fn write(alloc: Global, feature: &Feature) -> Result<Vec<u8>, AllocError>
     let points = feature.seq.points();
     let datetimes = datetimes(alloc, points)?;
     let coordinates = coordinates(alloc, points)?;
-    let id = id_text(&feature.id);
-    let interpolation = interp_text(feature.seq.interp());
+    let id = feature.id.as_str();
+    let interpolation = feature.seq.interp().name();
     document(alloc, id, interpolation, datetimes, coordinates)?.to_vec(alloc)
 }
 
@@ -84,21 +83,4 @@ fn position(alloc: Global, point: &Point) -> Result<Value, AllocError>
 {
     let Point { x, y, .. } = *point;
     json!(in alloc; [x, y])
-}
-
-fn id_text(id: &Id) -> &str
-    ensures value { result.now ≡ id.now }
-    ensures valid { IsId id.now }
-{
-    str::from_utf8(id.bytes()).unwrap()
-}
-
-fn interp_text(interp: Interp) -> &'static str
-    ensures { result.now ≡ interp_name interp }
-{
-    match interp {
-        Interp::Discrete => "Discrete",
-        Interp::Step => "Step",
-        Interp::Linear => "Linear",
-    }
 }

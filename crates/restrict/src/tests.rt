@@ -124,3 +124,16 @@ fn cuts(rt: HostRuntime) -> Result<(), Fail> {
     }
     Ok(())
 }
+
+#[test]
+fn copies(rt: HostRuntime) -> Result<(), Fail> {
+    let all = Period::new(instant(0)?, instant(9000)?).ok_or("period")?;
+    let start = Period::new(instant(0)?, instant(1000)?).ok_or("period")?;
+    let tram = sequence(rt.alloc(), Interp::Linear, TRAM)?;
+    let steps = sequence(rt.alloc(), Interp::Step, TRAM)?;
+    let whole = cut(rt.alloc(), &tram, &all)?.ok_or("all of it")?;
+    let begun = cut(rt.alloc(), &tram, &start)?.ok_or("its start")?;
+    let stepped = cut(rt.alloc(), &steps, &all)?.ok_or("all of the steps")?;
+    assert!(rt; whole.clone()? == whole && whole != begun && whole != stepped);
+    Ok(())
+}

@@ -1,11 +1,12 @@
 -- A list of commands can be executed, and in one way; it has one reply at each place, and one answer to each query.
 use Rattle.std.proofs.Common.{◌≡◌, ℕ, zero, suc, ◌+◌, inl, inr, List, length, Bool, true, false, Option, Some, None, slice_get, refl, sym, ap, ◌∙◌, subst, arith}
 use Rattle.store.specs.Answers.{IsAnswer}
-use Rattle.store.specs.Features.{AreValid}
+use Rattle.store.specs.Features.{AreValid, IsDatabase}
 use Rattle.store.specs.Operations.{reply, effect}
 use Rattle.store.specs.Replies.{reply_code}
 use Rattle.store.specs.declared.query.Query.{Query}
 use Rattle.store.proofs.OneAnswer.{answer_one}
+use Rattle.store.proofs.DatabaseLemmas.{none_database, effect_database}
 use Rattle.store.proofs.ValidLemmas.{none_valid, effect_valid}
 use Rattle.sessions.specs.Asked.{Asked}
 use Rattle.sessions.specs.declared.command.Command.{Command}
@@ -109,6 +110,23 @@ one_reply l i r q a b p s =
     let there : r ≡ q = same_requests l i r q p.there s.there in
     same_code l p.execution s.execution i r a b p.reply
     (subst (λ (x : Asked). IsReply s.execution i x b) (sym there) s.reply)
+
+-- ---- each place has a database
+module _ (l : List Command) (e : Execution l) where
+  database_next : (i : ℕ) → IsDatabase (e.before i) → IsDatabase (e.before (i + 1))
+  database_next i db = elim (counted_or_not (e.counts i)) [
+    | inl counted ↦
+        let next : IsNext l e.counts i = (e.lawful i).0 counted in
+        let made : IsDatabase (effect (e.before i) next.request.op) = effect_database (e.before i) next.request.op db in
+        subst IsDatabase (sym (e.executes i next.request counted next.there)) made
+    | inr passed ↦ subst IsDatabase (sym (e.passes i passed)) db
+  ]
+
+  pub database_before : (i : ℕ) → IsDatabase (e.before i)
+  database_before zero = subst IsDatabase (sym e.starts) none_database
+  database_before (suc i) =
+      let more : i + 1 ≡ suc i = omega arith in
+      subst (λ n. IsDatabase (e.before n)) more (database_next i (database_before i))
 
 -- ---- one answer to each query
 -- the features stay valid, where what the requests bring is

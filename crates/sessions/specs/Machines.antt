@@ -1,7 +1,8 @@
 -- The machine: a database, and what is kept of the clients.
-use Rattle.std.specs.Prelude.{ℕ, ◌+◌, ◌==◌, List, Bool, Option, Some, None, nat_lt, if◌then◌else◌}
+use Rattle.std.specs.Prelude.{◌≡◌, ⊤, length, true, ℕ, ◌+◌, ◌==◌, List, Bool, Option, Some, None, nat_lt, if◌then◌else◌}
 use Rattle.mfjson.specs.declared.feature.Feature.{Feature}
-use Rattle.store.specs.Operations.{reply, effect}
+use Rattle.store.specs.Features.{IsDatabase}
+use Rattle.store.specs.Operations.{reply, effect, TakesNoMemory as OpTakesNoMemory}
 use Rattle.store.specs.declared.reply.Reply.{Reply}
 use Rattle.store.specs.declared.reply.Reply.TheVariants.{Done}
 use Rattle.sessions.specs.Asked.{Asked}
@@ -11,11 +12,18 @@ use Rattle.sessions.specs.declared.command.Command.TheVariants.{NoOp, Request}
 use Rattle.sessions.specs.declared.outcome.Outcome.{Outcome}
 use Rattle.sessions.specs.declared.outcome.Outcome.TheVariants.{Applied, Past, Gap}
 use Rattle.sessions.specs.declared.session.Session.{Session}
+use Rattle.sessions.specs.declared.session.TheConstants.{CLIENTS}
 
 pub record MachineState : Type 0 where
   pub features : List Feature
   -- what is kept of each client, from client 0 on
   pub sessions : List (Option Session)
+
+-- its features are a database, and there is a place for each client, so that the clients of whom something is kept are
+-- at most `CLIENTS`, and ascend
+pub record IsMachine (m : MachineState) : Type 0 where
+  pub database : IsDatabase m.features
+  pub clients : length m.sessions ≡ CLIENTS
 
 -- the client's last number that counted, or 0
 abbrev pub last_number : Option Session → ℕ
@@ -57,6 +65,14 @@ after_command m (Request r) = after_request m r
 abbrev pub reply_to_command : MachineState → Command → Outcome
 reply_to_command m NoOp = Applied Done
 reply_to_command m (Request r) = reply_to_request m r
+
+-- ---- what takes no memory: a no-op, a request that doesn't count, and one whose operation takes none
+abbrev pub RequestTakesNoMemory : MachineState → Asked → Type 0
+RequestTakesNoMemory m r = counts_next m r ≡ true → OpTakesNoMemory m.features r.op
+
+abbrev pub TakesNoMemory : MachineState → Command → Type 0
+TakesNoMemory m NoOp = ⊤
+TakesNoMemory m (Request r) = RequestTakesNoMemory m r
 
 -- ---- what is kept under a number of a client
 abbrev pub kept_of : Option Session → ℕ → Option Reply

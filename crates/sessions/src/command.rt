@@ -1,6 +1,6 @@
 //! Commands.
 
-ghost use Rattle.std.specs.Prelude.{◌≡◌, ◌↔◌, IsTrue, IfOk};
+ghost use Rattle.std.specs.Prelude.{◌≡◌, ◌↔◌, IsTrue};
 ghost use Rattle.std.specs.Cmp.{partial_equiv_from_equiv};
 ghost use Rattle.sessions.specs.Same.{same_command, same_command_equiv};
 
@@ -16,14 +16,13 @@ pub enum Command {
     Request(Request),
 }
 
-impl Command {
-    /// A copy, equal to it.
-    pub fn try_clone(&self) -> Result<Command, AllocError>
-        ensures { IfOk result (λ copy. copy ≡ self.now) }
-    {
+impl Clone for Command {
+    ghost is_clone = { λ original copy. copy ≡ original };
+
+    fn clone(&self) -> Result<Command, AllocError> {
         match self {
             Command::NoOp => Ok(Command::NoOp),
-            Command::Request(request) => Ok(Command::Request(request.try_clone()?)),
+            Command::Request(request) => Ok(Command::Request(request.clone()?)),
         }
     }
 }

@@ -1,6 +1,7 @@
 //! What holds of all lists of commands. Nothing runs.
 
 ghost use Rattle.std.specs.Prelude.{◌≡◌, ℕ, List};
+ghost use Rattle.store.specs.Features.{IsDatabase};
 ghost use Rattle.store.specs.declared.query.Query.{Query};
 ghost use Rattle.sessions.specs.Asked.{Asked};
 ghost use Rattle.sessions.specs.Meaning.{Execution, RepliesAt, Answers, AreSound};
@@ -24,4 +25,9 @@ pub fn one_reply_at_each_place()
 pub fn one_answer_to_each_query()
     ensures { (l : List Command) (query : Query) (a b : List ℕ) → AreSound l → Answers l query a → Answers l query b
         → a ≡ b }
+{}
+
+/// At each place of a list of commands the features are a database: at most 256, ascending by their ids.
+pub fn each_place_has_a_database()
+    ensures { (l : List Command) (e : Execution l) (i : ℕ) → IsDatabase (e.before i) }
 {}

@@ -1,9 +1,9 @@
 //! The machine.
 
-ghost use Rattle.std.specs.Prelude.{◌≡◌, ℕ, ◌≤◌, ◌<◌, [], length, IfOk, OnOk, OnErr};
+ghost use Rattle.std.specs.Prelude.{◌≡◌, ℕ, ◌≤◌, ◌<◌, [], length, IsOk, IfOk, OnOk, OnErr};
 ghost use Rattle.store.specs.Answers.{IsAnswer};
 ghost use Rattle.sessions.specs.Machines.{after_command, after_request, reply_to_command, reply_to_request};
-ghost use Rattle.sessions.specs.Machines.{is_next, told_of, kept_of};
+ghost use Rattle.sessions.specs.Machines.{is_next, told_of, kept_of, IsMachine, TakesNoMemory, RequestTakesNoMemory};
 ghost use Rattle.sessions.specs.Sessions.{session_of};
 ghost use Rattle.sessions.specs.Standing.{StandsFor, StandsForOneMore, RepliesOneMore, KeepsLast, AnswersAll};
 
@@ -29,11 +29,13 @@ pub struct Machine {
 }
 
 impl Model for Machine {
-    ghost use Rattle.sessions.specs.Machines.{MachineState};
+    ghost use Rattle.sessions.specs.Machines.{MachineState, IsMachine};
 
     ghost Value = { MachineState };
 
     ghost view = { λ m. record { features = m.db; sessions = m.sessions } };
+
+    ghost invariant = { λ m. IsMachine (record { features = m.db; sessions = m.sessions }) };
 }
 
 impl Machine {
@@ -42,6 +44,7 @@ impl Machine {
         ensures features { result.features ≡ [] }
         ensures sessions { (client : ℕ) → session_of result.sessions client ≡ None }
         ensures stands { StandsFor result [] }
+        ensures machine { IsMachine result }
     {
         Machine {
             db: Db::new(alloc),
@@ -50,16 +53,20 @@ impl Machine {
     }
 
     /// Executes a command, and tells the reply to it. A no-op changes nothing, and is told as done. Where a growth was
-    /// refused the machine is as it was.
+    /// refused the machine is as it was. Nothing grows for a no-op, nor for a request that doesn't count.
     pub fn execute(&mut self, command: &Command) -> Result<Outcome, AllocError>
         ensures reply { IfOk result (λ told. told ≡ reply_to_command self.old command.now) }
         ensures effect { OnOk result (self.new ≡ after_command self.old command.now) }
         ensures err { OnErr result (self.new ≡ self.old) }
+        ensures in_place { TakesNoMemory self.old command.now → IsOk result }
+        ensures machine { IsMachine self.new }
 
         // What that is to each list that the machine stands for.
         ensures stands { OnOk result (StandsForOneMore self.old self.new command.now) }
         ensures replies { IfOk result (λ told. RepliesOneMore self.old command.now told) }
     {
+        // Read, so that callers know what a machine is.
+        let _db = &self.db;
         match command {
             Command::NoOp => Ok(Outcome::Applied(Reply::Done)),
             Command::Request(request) => self.execute_request(request),
@@ -70,6 +77,7 @@ impl Machine {
     pub fn kept(&self, client: u8, number: Number) -> Option<Reply>
         ensures kept { result ≡ kept_of (session_of self.now.sessions client) number }
         ensures last { KeepsLast self.now client number result }
+        ensures machine { IsMachine self.now }
     {
         kept_under(self.sessions.of(client), number)
     }
@@ -78,6 +86,7 @@ impl Machine {
     pub fn answer(&self, alloc: Global, query: &Query) -> Result<Vec<u8>, AllocError>
         ensures says { IfOk result (λ text. IsAnswer self.now.features query.now text.items) }
         ensures answers { IfOk result (λ text. AnswersAll self.now query.now text.items) }
+        ensures machine { IsMachine self.now }
     {
         self.db.answer(alloc, query)
     }
@@ -86,6 +95,8 @@ impl Machine {
         ensures reply { IfOk result (λ told. told ≡ reply_to_request self.old request.now) }
         ensures effect { OnOk result (self.new ≡ after_request self.old request.now) }
         ensures err { OnErr result (self.new ≡ self.old) }
+        ensures in_place { RequestTakesNoMemory self.old request.now → IsOk result }
+        ensures machine { IsMachine self.new }
         ensures from_one { 1 ≤ request.now.number }
         ensures known_client { request.now.client < length self.old.sessions }
     {

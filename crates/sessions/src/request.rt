@@ -7,6 +7,8 @@ ghost use Rattle.sessions.specs.Same.{same_asked, same_asked_equiv};
 
 use crate::number::Number;
 use std::alloc::AllocError;
+use std::error::Error;
+use std::fmt;
 use std::marker::Model;
 use store::Op;
 
@@ -24,6 +26,14 @@ pub struct Request {
 /// The sequence that was to be put has more than `MOST_PUT_POINTS` instants.
 #[derive(Clone, Copy, Debug, PartialEq, Eq)]
 pub struct TooLong;
+
+impl fmt::Display for TooLong {
+    fn fmt<W: fmt::Write>(&self, f: &mut fmt::Formatter<W>) -> fmt::Result {
+        write!(f, "the sequence has more than {MOST_PUT_POINTS} instants")
+    }
+}
+
+impl Error for TooLong {}
 
 impl Model for Request {
     ghost use Rattle.sessions.specs.Asked.{Asked, IsShort};
@@ -77,15 +87,16 @@ impl Request {
     {
         self.client == other.client && self.number == other.number
     }
+}
 
-    /// A copy, equal to it.
-    pub fn try_clone(&self) -> Result<Request, AllocError>
-        ensures { IfOk result (λ copy. copy ≡ self.now) }
-    {
+impl Clone for Request {
+    ghost is_clone = { λ original copy. copy ≡ original };
+
+    fn clone(&self) -> Result<Request, AllocError> {
         Ok(Request {
             client: self.client,
             number: self.number,
-            op: self.op.try_clone()?,
+            op: self.op.clone()?,
         })
     }
 }

@@ -36,7 +36,8 @@ impl Sessions {
 
     /// Nothing is kept of any client.
     pub fn new() -> Sessions
-        ensures { (client : ℕ) → session_of result client ≡ None }
+        ensures none { (client : ℕ) → session_of result client ≡ None }
+        ensures clients { length result ≡ CLIENTS }
     {
         Sessions {
             table: [None; CLIENTS],
@@ -55,6 +56,7 @@ impl Sessions {
     pub fn keep(&mut self, client: u8, session: Session)
         ensures table { self.new ≡ with_session self.old client session }
         ensures kept { session_of self.new client ≡ Some session }
+        ensures clients { length self.new ≡ length self.old }
         ensures others { (other : ℕ) → other ≢ client → session_of self.new other ≡ session_of self.old other }
     {
         self.table[usize::from(client)] = Some(session);

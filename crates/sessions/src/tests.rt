@@ -150,14 +150,17 @@ fn requests_and_commands(rt: HostRuntime) -> Result<(), Fail> {
     let most = MOST_PUT_POINTS as u32;
     let long = put(alloc, "a", 0, most + 1)?;
     assert!(rt; Request::new(7, number(1)?, long).is_err());
+    assert!(rt;
+        format!(in alloc; "{TooLong}")?.as_str() == "the sequence has more than 512 instants"
+    );
     let longest = request(7, 1, put(alloc, "a", 0, most)?)?;
     let other = request(7, 1, remove("a")?)?;
     let later = request(7, 2, remove("a")?)?;
     assert!(rt; longest.is_same_request(&other) && !other.is_same_request(&later));
-    assert!(rt; longest == longest.try_clone()? && longest != other && other != later);
+    assert!(rt; longest == longest.clone()? && longest != other && other != later);
     let command = Command::Request(longest);
-    assert!(rt; command == command.try_clone()? && command != Command::NoOp);
-    assert!(rt; Command::NoOp == Command::NoOp.try_clone()?);
+    assert!(rt; command == command.clone()? && command != Command::NoOp);
+    assert!(rt; Command::NoOp == Command::NoOp.clone()?);
     Ok(())
 }
 

@@ -1,7 +1,7 @@
 -- What an edit at the place of an id makes of a database.
-use Rattle.std.proofs.Common.{◌≡◌, ℕ, suc, ◌+◌, ◌<◌, ◌≤◌, List, [], ◌∷◌, ◌++◌, length, take, drop, get_or, set, zero, true, refl, sym, ap, subst, ◌∙◌, arith}
-use Rattle.std.specs.List.{All, AllPairs, insert, remove, filter}
-use Rattle.std.specs.Ordering.{is_lt, is_gt, ordering_reverse}
+use Rattle.std.proofs.Common.{◌≡◌, ℕ, suc, ◌<◌, List, ◌∷◌, length, get_or, set, zero, true, refl, sym, subst, arith}
+use Rattle.std.specs.List.{All, AllPairs, insert, remove}
+use Rattle.std.specs.Ordering.{is_lt, is_gt}
 use Rattle.std.specs.declared.cmp.Ordering.{Ordering}
 use Rattle.std.specs.declared.cmp.Ordering.TheVariants.{Less, Equal, Greater}
 use Rattle.std.proofs.lemmas.List.{set_split}
@@ -12,7 +12,7 @@ use Rattle.mfjson.specs.declared.feature.Feature.{Feature}
 use Rattle.store.specs.Features.{id_order, ComesBefore, IsDatabase, before, after, with_feature, without}
 use Rattle.store.specs.Places.{IsAt, IsGap}
 use Rattle.store.specs.declared.db.TheConstants.{MOST_FEATURES}
-use Rattle.store.proofs.ListLemmas.{AllBoth, all_pairs_append}
+use Rattle.tpoint.proofs.ListLemmas.{AllBoth, all_pairs_append}
 use Rattle.store.proofs.PlaceLemmas.{total, turned, before-at, after-at, before-gap, after-gap}
 
 -- ---- an edit at the place of an id
@@ -69,6 +69,11 @@ with_feature_ascending fs f ascending =
     both : AllBoth ComesBefore (before fs f.id) (f ∷ after fs f.id)
     both i d in_before zero e in_after = all_before fs f.id i d in_before
     both i d in_before (suc k) e in_after = before_after fs f.id i d in_before k e (omega arith)
+
+pub without_ascending : (fs : List Feature) (id : List ℕ) → AllPairs ComesBefore fs → AllPairs ComesBefore (without fs id)
+without_ascending fs id ascending =
+    all_pairs_append ComesBefore (before fs id) (after fs id) (before_ascending fs id ascending)
+    (after_ascending fs id ascending) (before_after fs id)
 
 -- with room for one more, the list is a database again
 pub insert_database : (fs : List Feature) (f : Feature) (i : ℕ) → IsDatabase fs →

@@ -1,5 +1,5 @@
 -- Replies and effects, by what a look for the id finds.
-use Rattle.std.proofs.Common.{◌≡◌, ℕ, suc, ◌+◌, ◌<◌, ◌≤◌, List, length, get_or, set, Bool, true, false, Some, None, nat_lt, if◌then◌else◌, refl, sym, ap, subst, ◌∙◌, arith}
+use Rattle.std.proofs.Common.{◌≡◌, ℕ, ◌<◌, List, length, get_or, set, if◌then◌else◌, refl, sym, subst, ◌∙◌, arith}
 use Rattle.std.specs.List.{insert, remove}
 use Rattle.std.proofs.lemmas.List.{set-get_or}
 use Rattle.std.proofs.lemmas.Bool.Decides.{nat_tests}
@@ -7,11 +7,10 @@ use Rattle.tpoint.specs.Moving.{Sequence}
 use Rattle.tpoint.specs.declared.point.Point.{Point}
 use Rattle.mfjson.specs.declared.feature.Feature.{Feature}
 use Rattle.store.specs.Additions.{Added}
-use Rattle.store.specs.Features.{feature_of, with_feature}
+use Rattle.store.specs.Features.{with_feature}
 use Rattle.store.specs.Operations.{reply, effect, append_reply, append_effect, extended, is_done}
 use Rattle.store.specs.Places.{IsAt, IsGap}
 use Rattle.store.specs.declared.db.TheConstants.{MOST_FEATURES}
-use Rattle.store.specs.declared.op.Op.{Op}
 use Rattle.store.specs.declared.op.Op.TheVariants.{Put, Append, Remove}
 use Rattle.store.specs.declared.reply.Reply.{Reply}
 use Rattle.store.specs.declared.reply.Reply.TheVariants.{Done, Unknown, NotLater, Full, TooMany}

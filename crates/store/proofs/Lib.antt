@@ -1,4 +1,3 @@
-pub mod ListLemmas
 pub mod PlaceLemmas
 pub mod EditLemmas
 pub mod EffectLemmas
@@ -10,3 +9,6 @@ pub mod OneValue
 pub mod OneCut
 pub mod OneAnswer
 pub mod ValidLemmas
+pub mod DatabaseLemmas
+pub mod IndexLemmas
+pub mod KeptLemmas

@@ -17,7 +17,7 @@ use Rattle.mfjson.specs.declared.feature.Feature.{Feature}
 use Rattle.store.specs.Features.{id_order, ComesBefore, IsDatabase, feature_of, before, after, with_feature, without}
 use Rattle.store.specs.Places.{AllBefore, AllAfter, IsAt, IsGap}
 use Rattle.store.specs.declared.db.TheConstants.{MOST_FEATURES}
-use Rattle.store.proofs.ListLemmas.{filter-take, filter-drop, find-none, find-at, AllBoth, all_pairs_append}
+use Rattle.tpoint.proofs.ListLemmas.{filter-take, filter-drop, find-none, find-at, AllBoth, all_pairs_append}
 
 -- ---- the order of two ids
 abbrev pub total : IsTotalOrder id_order
@@ -32,7 +32,7 @@ equal_when_same a b e = subst (λ c. id_order a c ≡ Equal) e (tied_itself tota
 pub turned : (a b : List ℕ) (o : Ordering) → id_order a b ≡ o → id_order b a ≡ ordering_reverse o
 turned a b o e = total.antisymm b a ∙ ap ordering_reverse e
 
-same_id : (a b : List ℕ) (o : Ordering) → id_order a b ≡ o → pointwise nat_eq a b ≡ is_eq o
+pub same_id : (a b : List ℕ) (o : Ordering) → id_order a b ≡ o → pointwise nat_eq a b ≡ is_eq o
 same_id a b o e = texts_ties a b ∙ ap is_eq e
 
 -- ---- what a binary search finds
@@ -46,7 +46,7 @@ module _ (fs : List Feature) (db : IsDatabase fs) (id : List ℕ) where
   comparisons_rise = searchable_from_sorted total (λ (f : Feature). f.id) fs id in_order
 
   -- the feature at a place has the id: those before it are lower, and those behind it higher
-  at_place : (i : ℕ) → i < length fs → HoldsAt (λ (f : Feature). f.id ≡ id) fs i → IsAt fs id i
+  pub at_place : (i : ℕ) → i < length fs → HoldsAt (λ (f : Feature). f.id ≡ id) fs i → IsAt fs id i
   at_place i within has =
       record {
         in_range = within;

@@ -51,7 +51,7 @@ later_point ps p e =
           grind (arith, nat_tests, told);
     }
 
-by_test : (P : Bool → Type 0) (b : Bool) → (b ≡ true → P true) → (b ≡ false → P false) → P b
+pub by_test : (P : Bool → Type 0) (b : Bool) → (b ≡ true → P true) → (b ≡ false → P false) → P b
 by_test P true t f = t refl
 by_test P false t f = f refl
 

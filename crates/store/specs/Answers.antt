@@ -11,7 +11,8 @@ use Rattle.restrict.specs.Cuts.{IsCut, HasNoCut, vertex_of}
 use Rattle.predicates.specs.Predicates.{IsEver, IsAlways}
 use Rattle.predicates.specs.declared.questions.Tri.{Tri}
 use Rattle.predicates.specs.declared.questions.Tri.TheVariants.{Yes, No, None as NoValue}
-use Rattle.mfjson.specs.Document.{IsCanonical, interp_name}
+use Rattle.tpoint.specs.Interps.{interp_name}
+use Rattle.mfjson.specs.Document.{IsCanonical}
 use Rattle.mfjson.specs.declared.feature.Feature.{Feature}
 use Rattle.store.specs.Features.{feature_of}
 use Rattle.store.specs.declared.query.Query.{Query}

@@ -5,3 +5,4 @@ pub mod Features
 pub mod Operations
 pub mod Places
 pub mod Answers
+pub mod Indexed

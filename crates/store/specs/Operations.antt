@@ -1,5 +1,5 @@
 -- What an operation makes of a database, and its reply.
-use Rattle.std.specs.Prelude.{◌-◌, List, [], ◌∷◌, ◌++◌, length, slice_get, Bool, true, false, ◌||◌, ◌==◌, nat_lt, is_some, if◌then◌else◌}
+use Rattle.std.specs.Prelude.{◌≡◌, ⊤, ◌-◌, List, [], ◌∷◌, ◌++◌, length, slice_get, Bool, true, false, ◌||◌, ◌==◌, nat_lt, is_some, if◌then◌else◌}
 use Rattle.std.specs.Option.{option_map_or}
 use Rattle.tpoint.specs.Moving.{Sequence, IsValid, InBounds}
 use Rattle.tpoint.specs.declared.point.Point.{Point}
@@ -59,3 +59,9 @@ abbrev pub IsSound : Op → Type 0
 IsSound (Put id seq) = IsValid seq
 IsSound (Append a) = InBounds a.point
 IsSound (Remove id) = Unit {0}
+
+-- ---- what takes no memory: a removal, and whatever is refused
+abbrev pub TakesNoMemory : List Feature → Op → Type 0
+TakesNoMemory fs (Put id seq) = is_done (reply fs (Put id seq)) ≡ false
+TakesNoMemory fs (Append a) = is_done (reply fs (Append a)) ≡ false
+TakesNoMemory fs (Remove id) = ⊤

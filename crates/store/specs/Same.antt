@@ -1,5 +1,5 @@
 -- When two operations are the same.
-use Rattle.std.specs.Prelude.{◌≡◌, ◌&&◌, Bool, false, refl, ℕ, List, nat_eq}
+use Rattle.std.specs.Prelude.{◌≡◌, ◌&&◌, Bool, false, ℕ, List, nat_eq}
 use Rattle.std.specs.Bool.{Decides}
 use Rattle.std.specs.Cmp.{IsEquivalence, decided}
 use Rattle.std.specs.Cmp.Lexicographic.{pointwise, bytes_decides}

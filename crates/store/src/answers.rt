@@ -1,18 +1,19 @@
 //! The texts of answers.
 
-ghost use Rattle.std.specs.Prelude.{◌≡◌, ◌↔◌, ◌++◌, codes, decimal, map, IsTrue, IfOk, OnOk};
+ghost use Rattle.std.specs.Prelude.{◌≡◌, ◌↔◌, ◌++◌, codes, decimal, map, slice_get, Some, IsTrue, IfOk, OnOk};
 ghost use Rattle.std.specs.List.{flat_map};
 ghost use Rattle.std.specs.Option.{option_copied};
 ghost use Rattle.predicates.specs.Predicates.{IsEver};
-ghost use Rattle.mfjson.specs.Document.{interp_name};
 ghost use Rattle.store.specs.Answers.{OfKnown, SaysValue, SaysCut, SaysEver, SaysAlways, SaysDocument, SaysWithin};
 ghost use Rattle.store.specs.Answers.{AreIdsOf, fix_text, part_text, id_text, tri_text};
+ghost use Rattle.store.specs.Indexed.{IsKept};
 
 use mfjson::Feature;
 use predicates::{Tri, always, ever};
 use restrict::cut;
 use std::alloc::{AllocError, Global};
 use std::io::Write;
+use timeindex::TimeIndex;
 use tpoint::{Frac, Id, Instant, Interp, Period, Rect};
 
 /// Where the feature is at an instant.
@@ -89,12 +90,14 @@ pub(crate) fn always_text(
 pub(crate) fn within_text(
     alloc: Global,
     features: &[Feature],
+    index: &TimeIndex,
     period: &Period,
     area: &Rect,
 ) -> Result<Vec<u8>, AllocError>
+    requires { IsKept features.now index.now }
     ensures { IfOk result (λ text. SaysWithin features.now period.now area.now text.items) }
 {
-    let ids = ids_within(alloc, features, period, area)?;
+    let ids = ids_within(alloc, features, index, period, area)?;
     let count = ids.len();
     let mut text = format!(in alloc; "within {count}")?.into_bytes();
     push_ids(&mut text, &ids)?;
@@ -139,16 +142,6 @@ fn tri_text(answer: Tri) -> &'static str
     }
 }
 
-fn interp_text(interp: Interp) -> &'static str
-    ensures { result.now ≡ interp_name interp }
-{
-    match interp {
-        Interp::Discrete => "Discrete",
-        Interp::Step => "Step",
-        Interp::Linear => "Linear",
-    }
-}
-
 /// A cut with its listed instants.
 fn part_text(
     alloc: Global,
@@ -157,7 +150,7 @@ fn part_text(
 ) -> Result<Vec<u8>, AllocError>
     ensures { IfOk result (λ text. text.items ≡ part_text interp fixes.now) }
 {
-    let interp = interp_text(interp);
+    let interp = interp.name();
     let count = fixes.len();
     let mut text = format!(in alloc; "cut {interp} {count}")?.into_bytes();
     push_fixes(&mut text, fixes)?;
@@ -186,24 +179,44 @@ fn push_fix(text: &mut Vec<u8>, fix: &(Instant, Frac, Frac)) -> Result<(), Alloc
     }
 }
 
-/// The ids of the features that are ever in a rectangle, in the features' order.
+/// The ids of the features that are ever in a rectangle, in the features' order. Only those are
+/// asked that the index finds in the period.
 fn ids_within(
     alloc: Global,
     features: &[Feature],
+    index: &TimeIndex,
     period: &Period,
     area: &Rect,
 ) -> Result<Vec<Id>, AllocError>
+    requires { IsKept features.now index.now }
     ensures { IfOk result (λ ids.
         AreIdsOf (λ f. IsEver f.seq period.now area.now Tri.Yes) features.now ids.items) }
 {
+    let found = index.overlapping(alloc, period)?;
+    let mut next = 0;
     let mut ids = Vec::new(alloc);
     for feature in features {
+        feature.seq.values_lie_in_its_span();
+        if !is_next(&found, next, &feature.id) {
+            continue;
+        }
+        next += 1;
         if !is_within(feature, period, area) {
             continue;
         }
         ids.push(feature.id)?;
     }
     Ok(ids)
+}
+
+/// Whether the id stands at a place in a list of ids.
+fn is_next(ids: &[Id], place: usize, id: &Id) -> bool
+    ensures { IsTrue result ↔ (slice_get ids.now place ≡ Some id.now) }
+{
+    if place >= ids.len() {
+        return false;
+    }
+    ids[place] == *id
 }
 
 /// Whether the feature is ever in a rectangle.

@@ -1,11 +1,11 @@
 //! The database.
 
-ghost use Rattle.std.specs.Prelude.{◌≡◌, ◌+◌, ◌∷◌, ◌++◌, [], IsTrue, IfOk, IfErr, OnOk, OnErr};
+ghost use Rattle.std.specs.Prelude.{◌≡◌, ◌+◌, ◌∷◌, ◌++◌, [], false, IsTrue, IsOk, IfOk, IfErr, OnOk, OnErr};
 ghost use Rattle.tpoint.specs.Moving.{InBounds};
 ghost use Rattle.std.specs.Option.{option_copied};
 ghost use Rattle.store.specs.Answers.{IsAnswer};
-ghost use Rattle.store.specs.Features.{feature_of};
-ghost use Rattle.store.specs.Operations.{reply, effect, append_reply, append_effect};
+ghost use Rattle.store.specs.Features.{IsDatabase, feature_of};
+ghost use Rattle.store.specs.Operations.{reply, effect, append_reply, append_effect, is_done, TakesNoMemory};
 ghost use Rattle.store.specs.Places.{IsAt, IsGap};
 
 use crate::answers::{
@@ -17,6 +17,7 @@ use crate::reply::Reply;
 use mfjson::Feature;
 use std::alloc::{AllocError, Global};
 use std::marker::Model;
+use timeindex::TimeIndex;
 use tpoint::{AppendFault, Id, Point, Seq};
 
 /// A database has at most this many features.
@@ -25,22 +26,24 @@ pub const MOST_FEATURES: usize = 256;
 /// Features, at most `MOST_FEATURES`, each with an id of its own.
 ///
 /// They are kept in the byte order of their ids, so one is found by a binary search, and a text
-/// that lists them needs no sorting.
+/// that lists them needs no sorting. An index tells which of them are there in a period.
 #[derive(Debug, Drop)]
 pub struct Db {
     features: Vec<Feature>,
+    /// From when to when each feature is.
+    index: TimeIndex,
 }
 
 impl Model for Db {
     ghost use Rattle.std.specs.Prelude.{List};
     ghost use Rattle.mfjson.specs.declared.feature.Feature.{Feature};
-    ghost use Rattle.store.specs.Features.{IsDatabase};
+    ghost use Rattle.store.specs.Indexed.{IsKept};
 
     ghost Value = { List Feature };
 
     ghost view = { λ db. db.features.items };
 
-    ghost invariant = { λ db. IsDatabase db.features.items };
+    ghost invariant = { λ db. IsKept db.features.items db.index };
 }
 
 impl Db {
@@ -50,21 +53,27 @@ impl Db {
     {
         Db {
             features: Vec::new(alloc),
+            index: TimeIndex::new(alloc),
         }
     }
 
     /// Carries out an operation, and tells its reply. Where a growth was refused the database is as
-    /// it was.
+    /// it was. A removal grows nothing, nor does what is refused.
     pub fn apply(&mut self, op: &Op) -> Result<Reply, AllocError>
         ensures reply { IfOk result (λ told. told ≡ reply self.old op.now) }
         ensures effect { OnOk result (self.new ≡ effect self.old op.now) }
+        ensures database { IsDatabase self.new }
         ensures err { OnErr result (self.new ≡ self.old) }
+        ensures in_place { TakesNoMemory self.old op.now → IsOk result }
     {
-        match op {
+        let told = match op {
             Op::Put(id, seq) => self.put(id, seq),
             Op::Append(addition) => self.append(addition),
             Op::Remove(id) => Ok(self.remove(id)),
-        }
+        };
+        // Read, so that callers know that the features are a database.
+        let _features = &self.features;
+        told
     }
 
     /// The text that a query is answered.
@@ -76,7 +85,9 @@ impl Db {
             Query::Cut(id, period) => cut_text(alloc, self.feature(id), period),
             Query::Ever(id, period, area) => ever_text(alloc, self.feature(id), period, area),
             Query::Always(id, period, area) => always_text(alloc, self.feature(id), period, area),
-            Query::Within(period, area) => within_text(alloc, &self.features, period, area),
+            Query::Within(period, area) => {
+                within_text(alloc, &self.features, &self.index, period, area)
+            }
             Query::Get(id) => document_text(alloc, self.feature(id)),
             Query::Count => count_text(alloc, self.features.len()),
         }
@@ -86,18 +97,24 @@ impl Db {
         ensures reply { IfOk result (λ told. told ≡ reply self.old (Op.Put id.now seq.now)) }
         ensures effect { OnOk result (self.new ≡ effect self.old (Op.Put id.now seq.now)) }
         ensures err { OnErr result (self.new ≡ self.old) }
+        ensures in_place { TakesNoMemory self.old (Op.Put id.now seq.now) → IsOk result }
     {
         match self.place(id) {
             Ok(at) => {
                 self.features[at].seq = seq.clone()?;
+                let span = seq.span();
+                self.index.replace(at, span.begin(), span.end());
                 Ok(Reply::Done)
             }
             Err(at) => {
                 if self.features.len() == MOST_FEATURES {
                     return Ok(Reply::TooMany);
                 }
+                // All that grows is grown before the features change.
                 self.features.try_reserve(1)?;
+                let span = seq.span();
                 let seq = seq.clone()?;
+                self.index.insert(*id, span.begin(), span.end())?;
                 self.features.insert(at, Feature { id: *id, seq })?;
                 Ok(Reply::Done)
             }
@@ -108,11 +125,16 @@ impl Db {
         ensures reply { IfOk result (λ told. told ≡ reply self.old (Op.Append addition.now)) }
         ensures effect { OnOk result (self.new ≡ effect self.old (Op.Append addition.now)) }
         ensures err { OnErr result (self.new ≡ self.old) }
+        ensures in_place { TakesNoMemory self.old (Op.Append addition.now) → IsOk result }
     {
         let Ok(at) = self.place(addition.id()) else {
             return Ok(Reply::Unknown);
         };
-        append_to(&mut self.features[at].seq, addition.point())
+        let seq = &mut self.features[at].seq;
+        let told = append_to(seq, addition.point())?;
+        let span = seq.span();
+        self.index.replace(at, span.begin(), span.end());
+        Ok(told)
     }
 
     fn remove(&mut self, id: &Id) -> Reply
@@ -123,6 +145,7 @@ impl Db {
             return Reply::Unknown;
         };
         self.features.remove(at);
+        self.index.remove(id);
         Reply::Done
     }
 
@@ -151,6 +174,7 @@ fn append_to(seq: &mut Seq, point: Point) -> Result<Reply, AllocError>
     ensures reply { IfOk result (λ told. told ≡ append_reply seq.old.points point) }
     ensures effect { OnOk result (seq.new ≡ append_effect seq.old point) }
     ensures err { OnErr result (seq.new ≡ seq.old) }
+    ensures in_place { is_done (append_reply seq.old.points point) ≡ false → IsOk result }
 {
     match seq.append(point) {
         Ok(()) => Ok(Reply::Done),

@@ -6,7 +6,7 @@ ghost use Rattle.std.specs.Prelude.{◌≡◌, ℕ, List, []};
 ghost use Rattle.mfjson.specs.declared.feature.Feature.{Feature};
 ghost use Rattle.store.specs.declared.query.Query.{Query};
 ghost use Rattle.store.specs.Answers.{IsAnswer};
-ghost use Rattle.store.specs.Features.{AreValid};
+ghost use Rattle.store.specs.Features.{AreValid, IsDatabase};
 ghost use Rattle.store.specs.Operations.{effect, IsSound};
 ghost use Rattle.store.specs.declared.op.Op.{Op};
 
@@ -19,4 +19,10 @@ pub fn an_answer_is_one()
 pub fn features_stay_valid()
     ensures start { AreValid [] }
     ensures kept { (fs : List Feature) (op : Op) → AreValid fs → IsSound op → AreValid (effect fs op) }
+{}
+
+/// The features are a database at the start, and after each operation: at most `MOST_FEATURES`, ascending by their ids.
+pub fn features_stay_a_database()
+    ensures start { IsDatabase [] }
+    ensures kept { (fs : List Feature) (op : Op) → IsDatabase fs → IsDatabase (effect fs op) }
 {}

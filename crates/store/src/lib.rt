@@ -5,7 +5,8 @@
 //! features that ascends by their ids, and what a text must say in `specs/Answers.antt`, by the
 //! meanings of values, cuts, ever and always. Want of memory leaves a database as it was.
 //!
-//! A feature is found by a binary search. `Query::Within` asks every feature.
+//! A feature is found by a binary search. `Query::Within` asks the features that an index over time
+//! finds in its period, and no other.
 #![tactic(auto)]
 
 mod answers;
@@ -16,7 +17,7 @@ mod query;
 mod reply;
 
 pub use db::{Db, MOST_FEATURES};
-pub use laws::{an_answer_is_one, features_stay_valid};
+pub use laws::{an_answer_is_one, features_stay_a_database, features_stay_valid};
 pub use op::{Addition, Op};
 pub use query::Query;
 pub use reply::Reply;

@@ -1,6 +1,6 @@
 //! Operations.
 
-ghost use Rattle.std.specs.Prelude.{◌≡◌, ◌↔◌, IsTrue, IsSome, IfSome, IfOk};
+ghost use Rattle.std.specs.Prelude.{◌≡◌, ◌↔◌, IsTrue, IsSome, IfSome};
 ghost use Rattle.std.specs.Cmp.{partial_equiv_from_equiv};
 ghost use Rattle.tpoint.specs.Moving.{InBounds};
 ghost use Rattle.store.specs.Same.{same_op, same_op_equiv};
@@ -69,11 +69,12 @@ impl Op {
         }
         Some(Op::Append(Addition { id, point }))
     }
+}
 
-    /// A copy, equal to it.
-    pub fn try_clone(&self) -> Result<Op, AllocError>
-        ensures { IfOk result (λ copy. copy ≡ self.now) }
-    {
+impl Clone for Op {
+    ghost is_clone = { λ original copy. copy ≡ original };
+
+    fn clone(&self) -> Result<Op, AllocError> {
         match self {
             Op::Put(id, seq) => Ok(Op::Put(*id, seq.clone()?)),
             Op::Append(addition) => Ok(Op::Append(*addition)),

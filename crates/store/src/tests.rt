@@ -312,13 +312,13 @@ fn replies(rt: HostRuntime) -> Result<(), Fail> {
     let same = Op::append(bus, point(4000, 2, 2)?).ok_or("an operation")?;
     let put = Op::Put(bus, seq(alloc, Interp::Linear, &BUS)?);
     let rows = [
-        (append.try_clone()?, Reply::Unknown),
+        (append.clone()?, Reply::Unknown),
         (Op::Remove(bus), Reply::Unknown),
-        (put.try_clone()?, Reply::Done),
-        (append.try_clone()?, Reply::Done),
+        (put.clone()?, Reply::Done),
+        (append.clone()?, Reply::Done),
         (same, Reply::NotLater),
-        (put.try_clone()?, Reply::Done),
-        (append.try_clone()?, Reply::Done),
+        (put.clone()?, Reply::Done),
+        (append.clone()?, Reply::Done),
         (Op::Remove(bus), Reply::Done),
         (Op::Remove(bus), Reply::Unknown),
     ];
@@ -326,7 +326,7 @@ fn replies(rt: HostRuntime) -> Result<(), Fail> {
     for (op, want) in rows {
         assert_eq!(rt; db.apply(&op)?, want, "{op:?}");
     }
-    assert!(rt; put == put.try_clone()? && append != put);
+    assert!(rt; put == put.clone()? && append != put);
     let codes = [
         (Reply::Done, 0),
         (Reply::Unknown, 21),
@@ -472,6 +472,61 @@ fn as_a_plain_list(rt: HostRuntime) -> Result<(), Fail> {
         let count = listed.features.len();
         let want = format!(in alloc; "count {count}")?;
         says(&rt, &db, alloc, Query::Count, want.as_str())?;
+    }
+    Ok(())
+}
+
+/// A feature is found in a period only where it is there, after each kind of operation.
+#[test]
+fn within_a_period(rt: HostRuntime) -> Result<(), Fail> {
+    let alloc = rt.alloc();
+    let a = id("a")?;
+    let mut db = filled(alloc, &[("a", Interp::Linear, &[(0, 0, 0), (1000, 1, 1)])])?;
+    let area = rect(0, 0, 5, 5)?;
+    let touched = Query::Within(period(1000, 2000)?, area);
+    let past = Query::Within(period(1001, 2000)?, area);
+    says(&rt, &db, alloc, touched, "within 1 a")?;
+    says(&rt, &db, alloc, past, "within 0")?;
+    let append = Op::append(a, point(3000, 2, 2)?).ok_or("an operation")?;
+    assert_eq!(rt; db.apply(&append)?, Reply::Done);
+    says(&rt, &db, alloc, past, "within 1 a")?;
+    assert_eq!(rt; db.apply(&Op::Remove(a))?, Reply::Done);
+    says(&rt, &db, alloc, past, "within 0")?;
+    Ok(())
+}
+
+/// An operation on one of 256 features, at about this millisecond.
+fn drawn_of_many(alloc: Global, seed: &mut u64, ms: i64) -> Result<Op, Fail> {
+    let number = draw(seed) % 256;
+    let name = format!(in alloc; "n{number}")?;
+    let name = id(name.as_str())?;
+    let x = (draw(seed) % 21) as i64 - 10;
+    match draw(seed) % 4 {
+        0 => Ok(Op::Remove(name)),
+        1 => Ok(Op::append(name, point(ms, x, 1)?).ok_or("an operation")?),
+        _ => Ok(Op::Put(name, seq(alloc, Interp::Linear, &[(ms, x, 0)])?)),
+    }
+}
+
+/// Up to 256 features that come, grow and go, each answer as by the plain list.
+#[test]
+fn many_as_a_plain_list(rt: HostRuntime) -> Result<(), Fail> {
+    let alloc = rt.alloc();
+    let mut db = Db::new(alloc);
+    let mut listed = Listed {
+        features: Vec::new(alloc),
+    };
+    let mut seed = 1970;
+    for k in 0..600_u16 {
+        let ms = i64::from(k);
+        let op = drawn_of_many(alloc, &mut seed, ms)?;
+        assert_eq!(rt; db.apply(&op)?, listed.apply(&op)?, "{op:?}");
+        if k % 20 == 0 {
+            let span = period(ms / 2, ms / 2 + 30)?;
+            let area = rect(-8, 0, 8, 1)?;
+            let want = listed.within(alloc, &span, &area)?;
+            says(&rt, &db, alloc, Query::Within(span, area), want.as_str())?;
+        }
     }
     Ok(())
 }

@@ -1,5 +1,7 @@
 pub mod Polynomials
 pub mod Fractions
+pub mod ListLemmas
+pub mod Halving
 pub mod PlaceLemmas
 pub mod PieceLemmas
 pub mod Gcds
@@ -10,3 +12,4 @@ pub mod Appending
 pub mod ValueLemmas
 pub mod IdTexts
 pub mod Searching
+pub mod SpanLemmas

@@ -1,62 +1,56 @@
--- A binary search among instants, which rise along the list.
-use Rattle.std.proofs.Common.{◌≡◌, ℕ, ◌+◌, ◌<◌, ◌≤◌, List, [], ◌∷◌, length, get_or, refl, arith}
-use Rattle.std.proofs.lemmas.Option.{slice_get_read, slice_get_within, slice_get-get_or}
+-- What a search among the instants of points tells of their pieces.
+use Rattle.std.proofs.Common.{◌≡◌, ℕ, ◌+◌, ◌<◌, ◌≤◌, List, [], ◌∷◌, length, get_or, slice_get, Some, ap, ◌∙◌, arith}
+use Rattle.std.specs.List.{AllWithin}
+use Rattle.std.proofs.lemmas.List.{get_or-map, length-map}
+use Rattle.std.proofs.lemmas.Option.{slice_get_within, slice_get-get_or, get_or_from_slice_get}
 use Rattle.tpoint.proofs.Fractions.{moment_le}
 use Rattle.tpoint.proofs.PieceLemmas.{rises_le, place_within, piece_from, piece_until}
 use Rattle.tpoint.specs.Places.{EachAt}
+use Rattle.tpoint.specs.Listing.{IsListed, instants_of}
 use Rattle.tpoint.specs.Moving.{Position, Rises, moment}
 use Rattle.tpoint.specs.Pieces.{Piece}
 use Rattle.tpoint.specs.declared.point.Point.{Point}
 use Rattle.tpoint.specs.declared.interp.Interp.{Interp}
 
--- the points before low are not after t, and those from high on are
-pub record Narrowed (ps : List Point) (t low high probes : ℕ) : Type 0 where
-  pub passed : (k : ℕ) → k < low → EachAt ps (λ p. p.t ≤ t) k
-  pub to_come : (k : ℕ) → high ≤ k → EachAt ps (λ p. t < p.t) k
-  pub ordered : low ≤ high
-  pub within : high ≤ length ps
-  pub few : probes + high ≤ 1024 + low
+-- ---- points and their instants
+point_at : (ps : List Point) (i : ℕ) → i < length ps → (p : Point) × (slice_get ps i ≡ Some p)
+point_at [] i within = absurd (omega arith)
+point_at (x ∷ xs) i within = (get_or (x ∷ xs) i x, slice_get-get_or (x ∷ xs) i x within)
 
-pub unnarrowed : (ps : List Point) (t : ℕ) → length ps ≤ 1024 → Narrowed ps t 0 (length ps) 0
-unnarrowed ps t h =
-    record {
-      passed = λ k less. absurd (omega arith);
-      to_come = λ k over p e. absurd (omega (arith, slice_get_within ps k p e));
-      ordered = omega arith;
-      within = omega arith;
-      few = omega arith;
-    }
+instant_at : (ps : List Point) (i d : ℕ) (p : Point) → slice_get ps i ≡ Some p → get_or (instants_of ps) i d ≡ p.t
+instant_at ps i d p at =
+    get_or-map (λ (q : Point). q.t) ps i p d (slice_get_within ps i p at)
+    ∙ ap (λ (q : Point). q.t) (get_or_from_slice_get ps i p p at)
 
--- the point in the middle is not after t, or it is
-pub passed_more : (ps : List Point) (t low high probes middle : ℕ) (p : Point) → ((k : ℕ) → Rises ps k) →
-    Narrowed ps t low high probes → low ≤ middle → middle < high → p ≡ get_or ps middle p → p.t ≤ t →
-    Narrowed ps t (middle + 1) high (probes + 1)
-passed_more ps t low high probes middle p rise n above below e h =
-    let within = n.within in
-    let few = n.few in
-    let there = slice_get_read ps (length ps) middle p refl (omega arith) e in
+-- the instants of points that rise can be searched
+pub instants_listed : (ps : List Point) → ((k : ℕ) → Rises ps k) → length ps ≤ 1024 → IsListed (instants_of ps)
+instants_listed ps rise short =
     record {
-      passed = λ k less q at. omega (arith, rises_le ps rise k middle q p (omega arith) at there);
-      to_come = n.to_come;
-      ordered = omega arith;
-      within = n.within;
-      few = omega arith;
+      ascending = λ i j d less within. later i j d less (omega (arith, length-map ps (λ (q : Point). q.t)));
+      not_too_many = omega (arith, length-map ps (λ (q : Point). q.t));
     }
+  where
+    later : (i j d : ℕ) → i < j → j < length ps → get_or (instants_of ps) i d < get_or (instants_of ps) j d
+    later i j d less within =
+        let p = point_at ps i (omega arith) in
+        let m = point_at ps (i + 1) (omega arith) in
+        let q = point_at ps j within in
+        let first = instant_at ps i d p.0 p.1 in
+        let second = instant_at ps j d q.0 q.1 in
+        let step = rise i p.0 m.0 p.1 m.1 in
+        let rest = rises_le ps rise (i + 1) j m.0 q.0 (omega arith) m.1 q.1 in
+        omega arith
 
-pub to_come_more : (ps : List Point) (t low high probes middle : ℕ) (p : Point) → ((k : ℕ) → Rises ps k) →
-    Narrowed ps t low high probes → low ≤ middle → middle < high → p ≡ get_or ps middle p → t < p.t →
-    Narrowed ps t low middle (probes + 1)
-to_come_more ps t low high probes middle p rise n above below e h =
-    let within = n.within in
-    let few = n.few in
-    let there = slice_get_read ps (length ps) middle p refl (omega arith) e in
-    record {
-      passed = n.passed;
-      to_come = λ k over q at. omega (arith, rises_le ps rise middle k p q over there at);
-      ordered = above;
-      within = omega arith;
-      few = omega arith;
-    }
+-- ---- what a search among the instants tells of the points
+pub points_passed : (ps : List Point) (t n : ℕ) → AllWithin (λ s. s ≤ t) (instants_of ps) 0 n → (k : ℕ) → k < n →
+    EachAt ps (λ p. p.t ≤ t) k
+points_passed ps t n passed k below p at = omega (arith, instant_at ps k 0 p at, passed k 0 (omega arith) below)
+
+pub points_to_come : (ps : List Point) (t n : ℕ) → AllWithin (λ s. t < s) (instants_of ps) n (length (instants_of ps)) →
+    (k : ℕ) → n ≤ k → EachAt ps (λ p. t < p.t) k
+points_to_come ps t n to_come k from p at =
+    let within = slice_get_within ps k p at in
+    omega (arith, instant_at ps k 0 p at, to_come k 0 from (omega (arith, length-map ps (λ (q : Point). q.t))))
 
 -- ---- the pieces that have no value at t
 -- all but the last two of those that have begun

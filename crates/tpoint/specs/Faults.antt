@@ -1,5 +1,5 @@
 -- Why points are refused.
-use Rattle.std.specs.Prelude.{◌≡◌, ℕ, ◌+◌, ◌-◌, ◌<◌, ◌≤◌, List, length}
+use Rattle.std.specs.Prelude.{◌≡◌, ℕ, ◌+◌, ◌-◌, ◌<◌, ◌≤◌, List, length, Option, Some, None}
 use Rattle.tpoint.specs.Places.{EachAt}
 use Rattle.tpoint.specs.Moving.{Rises, InBounds}
 use Rattle.tpoint.specs.declared.point.Point.{Point}
@@ -35,6 +35,13 @@ IsFault ps (seq_fault.NotIncreasing i) = RightCount ps × FirstFall ps i
 IsFault ps (seq_fault.Range i) = RightCount ps × ((k : ℕ) → Rises ps k) ×
     FirstFailure (EachAt ps InBounds) (length ps) i
 
+-- the number under which the fault is told
+abbrev pub seq_fault_code : SeqFault → ℕ
+seq_fault_code seq_fault.Empty = 1
+seq_fault_code seq_fault.TooMany = 2
+seq_fault_code (seq_fault.NotIncreasing i) = 3
+seq_fault_code (seq_fault.Range i) = 4
+
 -- ---- a point that is not appended
 -- it is later than the last point
 pub record IsLater (ps : List Point) (p : Point) : Type 0 where
@@ -51,3 +58,10 @@ IsAppendFault ps p append_fault.NotLater = ¬ IsLater ps p
 IsAppendFault ps p append_fault.Full = IsLater ps p × (length ps ≡ MOST_POINTS)
 IsAppendFault ps p append_fault.Range = IsLater ps p × (length ps < MOST_POINTS) × (¬ InBounds p)
 IsAppendFault ps p append_fault.Memory = MayFollow ps p
+
+-- the number under which the fault is told; want of memory has none of its own
+abbrev pub append_fault_code : AppendFault → Option ℕ
+append_fault_code append_fault.NotLater = Some 22
+append_fault_code append_fault.Full = Some 23
+append_fault_code append_fault.Range = Some 4
+append_fault_code append_fault.Memory = None

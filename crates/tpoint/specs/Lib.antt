@@ -1,5 +1,6 @@
 pub mod Ids
 pub mod Instants
+pub mod Interps
 pub mod Coordinates
 pub mod Places
 pub mod Fraction
@@ -13,3 +14,5 @@ pub mod Reduced
 pub mod FracText
 pub mod Signs
 pub mod Ways
+pub mod Listing
+pub mod Spans

@@ -1,16 +1,20 @@
 //! Names of moving points.
 
-ghost use Rattle.std.specs.Prelude.{◌≡◌, ◌≤◌, ◌↔◌, length, nat_eq, IsTrue, IsSome, IfSome};
+ghost use Rattle.std.specs.Prelude.{◌≡◌, ◌≤◌, ◌↔◌, length, nat_eq, IsTrue, Some, IsSome, IfSome};
 ghost use Rattle.std.specs.Ordering.{nat_cmp, as_partial_cmp};
 ghost use Rattle.std.specs.Cmp.{partial_equiv_from_equiv, partial_order_from_agreeing_total};
 ghost use Rattle.std.specs.Cmp.Lexicographic.{pointwise, slice_cmp};
 ghost use Rattle.std.specs.Cmp.Lexicographic.{nat_list_eq_equiv, nat_list_cmp_total, texts_ties};
-ghost use Rattle.std.proofs.Common.{refl};
+ghost use Rattle.std.specs.Cmp.Rules.{hashing};
+ghost use Rattle.std.specs.Hash as fed;
+ghost use Rattle.std.proofs.Common.{refl, rules};
 ghost use Rattle.tpoint.specs.Ids.{IsId, is_id_byte, with_zeros};
 
 use std::cmp::Ordering;
+use std::convert::AsStr;
+use std::hash::{Hash, Hasher};
 use std::marker::Model;
-use std::str;
+use std::{fmt, str};
 
 /// An id has at most this many bytes.
 pub const LONGEST_ID: usize = 64;
@@ -103,6 +107,22 @@ fn with_zeros(text: &[u8]) -> [u8; LONGEST_ID]
     bytes
 }
 
+impl AsStr for Id {
+    ghost text = { λ id. id };
+
+    fn as_str(&self) -> &str {
+        Id::as_str(self)
+    }
+}
+
+impl fmt::Display for Id {
+    ghost output = { λ id. Some id };
+
+    fn fmt<W: fmt::Write>(&self, f: &mut fmt::Formatter<W>) -> fmt::Result {
+        f.write_str(self.as_str())
+    }
+}
+
 impl PartialEq for Id {
     ghost eq = { pointwise nat_eq };
 
@@ -144,5 +164,16 @@ impl Ord for Id {
     /// text comes first.
     fn cmp(&self, other: &Id) -> Ordering {
         self.bytes().cmp(other.bytes())
+    }
+}
+
+impl Hash for Id {
+    ghost hash_input = { λ id. fed.str id };
+
+    ghost respects_eq = { Prim.search (hashing, rules) };
+
+    /// As its text is hashed.
+    fn hash<H: Hasher>(&self, state: &mut H) {
+        self.as_str().hash(state);
     }
 }

@@ -9,7 +9,7 @@ use std::marker::Model;
 pub const LAST_MS: i64 = 253_402_300_799_999;
 
 /// An instant: whole milliseconds since 1970-01-01T00:00:00.000Z, from 0 to `LAST_MS`.
-#[derive(Clone, Copy, Debug, PartialEq, Eq, PartialOrd, Ord)]
+#[derive(Clone, Copy, Debug, PartialEq, Eq, PartialOrd, Ord, Hash)]
 pub struct Instant {
     ms: u64,
 }

@@ -16,9 +16,12 @@ mod instant;
 mod interp;
 mod period;
 mod point;
+mod probed;
+mod probing;
 mod rect;
 mod reducing;
 mod seq;
+mod span;
 mod values;
 
 pub use coordinate::{FURTHEST, is_coordinate};
@@ -29,9 +32,12 @@ pub use instant::{Instant, LAST_MS};
 pub use interp::Interp;
 pub use period::Period;
 pub use point::Point;
+pub use probing::{Listed, MOST_PROBES, search};
 pub use rect::Rect;
 pub use seq::{MOST_POINTS, Seq};
 pub use values::Found;
 
 #[cfg(test)]
 mod tests;
+#[cfg(test)]
+mod ticks;

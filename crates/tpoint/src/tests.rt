@@ -1,8 +1,11 @@
 //! What no clause says: that the definitions give the values that were worked out by hand, and
 //! that calls which take memory succeed.
 
-use crate::{AppendFault, Frac, Id, Instant, Interp, Period, Point, Rect, Seq, SeqFault};
+use crate::ticks::Ticks;
+use crate::{AppendFault, Frac, Id, Instant, Interp, Period, Point, Rect, Seq, SeqFault, search};
 use std::alloc::Global;
+use std::collections::HashSet;
+use std::convert::AsStr;
 use std::test::Fail;
 
 /// The start of 2020, in milliseconds.
@@ -56,6 +59,41 @@ fn values(rt: HostRuntime) -> Result<(), Fail> {
         let found = seq.value_at(point(second, 0, 0)?.t);
         let told = text(rt.alloc(), found.value)?;
         assert_eq!(rt; told.as_str(), want, "{interp:?} at {second} s");
+    }
+    Ok(())
+}
+
+/// A full sequence is looked at eleven times at most, and a list is never asked outside its length.
+#[test]
+fn probes(rt: HostRuntime) -> Result<(), Fail> {
+    let mut listed = Vec::with_capacity(rt.alloc(), 1024)?;
+    for ms in 0..1024 {
+        let t = Instant::new(ms).ok_or("instant")?;
+        listed.push(Point { t, x: ms, y: 0 })?;
+    }
+    let seq = Seq::new(Interp::Discrete, listed)?;
+    for ms in 0..1025 {
+        let found = seq.value_at(Instant::new(ms).ok_or("instant")?);
+        let want = (ms < 1024).then_some((Frac::from(ms), Frac::from(0)));
+        assert_eq!(rt; found.value, want, "{ms}");
+        assert!(rt; found.probes <= 11, "{ms}");
+    }
+    Ok(())
+}
+
+#[test]
+fn searches(rt: HostRuntime) -> Result<(), Fail> {
+    for len in [0, 1, 2, 3, 1000, 1023, 1024] {
+        for ms in 0..=len {
+            let mut ticks = Ticks {
+                len,
+                probes: 0,
+                asked_outside: false,
+            };
+            let passed = search(&mut ticks, Instant::new(i64::from(ms)).ok_or("instant")?);
+            assert_eq!(rt; passed, len.min(ms + 1), "{ms} of {len}");
+            assert!(rt; ticks.probes <= 11 && !ticks.asked_outside, "{ms} of {len}");
+        }
     }
     Ok(())
 }
@@ -181,5 +219,80 @@ fn extents(rt: HostRuntime) -> Result<(), Fail> {
         assert_eq!(rt; Rect::new(x0, y0, x1, y1).is_some(), want);
     }
     assert!(rt; Rect::new(0, 0, 0, far + 1).is_none());
+    Ok(())
+}
+
+#[test]
+fn names(rt: HostRuntime) {
+    let rows = [
+        ("Discrete", Some(Interp::Discrete)),
+        ("Step", Some(Interp::Step)),
+        ("Linear", Some(Interp::Linear)),
+        ("linear", None),
+        ("Lin", None),
+        ("", None),
+    ];
+    for (name, interp) in rows {
+        assert_eq!(rt; Interp::from_name(name), interp, "{name}");
+        if let Some(interp) = interp {
+            assert_eq!(rt; interp.name(), name);
+        }
+    }
+}
+
+/// The text that any value with a text lends.
+fn lent<T: AsStr>(value: &T) -> &str {
+    value.as_str()
+}
+
+#[test]
+fn ids_as_texts_and_keys(rt: HostRuntime) -> Result<(), Fail> {
+    let seven = Id::new(b"bus-7").ok_or("bus-7")?;
+    let ten = Id::new(b"bus-10").ok_or("bus-10")?;
+    assert_eq!(rt;
+        format!(in rt.alloc(); "{seven} {ten}")?.as_str(),
+        "bus-7 bus-10"
+    );
+    assert_eq!(rt; lent(&ten), "bus-10");
+
+    let mut seen = HashSet::new(rt.alloc());
+    assert!(rt; seen.insert(seven)?);
+    assert!(rt; !seen.insert(seven)?);
+    assert!(rt; seen.contains(&seven) && !seen.contains(&ten));
+    Ok(())
+}
+
+#[test]
+fn faults_as_texts(rt: HostRuntime) -> Result<(), Fail> {
+    let rows = [
+        (SeqFault::Empty, "there is no point"),
+        (SeqFault::TooMany, "there are too many points"),
+        (
+            SeqFault::NotIncreasing(3),
+            "point 3 is not later than the one before it",
+        ),
+        (SeqFault::Range(0), "point 0 has a coordinate out of range"),
+    ];
+    for (fault, want) in rows {
+        assert_eq!(rt; format!(in rt.alloc(); "{fault}")?.as_str(), want);
+    }
+    let rows = [
+        (
+            AppendFault::NotLater,
+            "the point is not later than the last one",
+        ),
+        (
+            AppendFault::Full,
+            "the sequence has no room for a point more",
+        ),
+        (
+            AppendFault::Range,
+            "the point has a coordinate out of range",
+        ),
+        (AppendFault::Memory, "out of memory"),
+    ];
+    for (fault, want) in rows {
+        assert_eq!(rt; format!(in rt.alloc(); "{fault}")?.as_str(), want);
+    }
     Ok(())
 }

@@ -1,6 +1,6 @@
 //! The value of a sequence at an instant.
 
-ghost use Rattle.std.specs.Prelude.{◌≡◌, ℕ, ◌^◌, ◌<◌, ◌≤◌, length};
+ghost use Rattle.std.specs.Prelude.{◌≡◌, ℕ, ◌^◌, ◌<◌, ◌≤◌, ◌↔◌, length, IsTrue};
 ghost use Rattle.std.specs.Prelude.{pos, ◌+ℤ◌, ◌-ℤ◌, ◌*ℤ◌, ◌≤ℤ◌, unsigned_abs};
 ghost use Rattle.tpoint.specs.Places.{EachAt};
 ghost use Rattle.tpoint.specs.Moving.{IsPlace, OnLeg, Rises, InBounds, moment, vertex};
@@ -8,17 +8,37 @@ ghost use Rattle.tpoint.specs.Moving.{At, HasOneValue};
 ghost use Rattle.tpoint.specs.Coordinates.{InRange};
 ghost use Rattle.tpoint.specs.Pieces.{place, AtPoint, HeldUntil, Piece};
 ghost use Rattle.tpoint.specs.Reduced.{position, Finds};
+ghost use Rattle.tpoint.specs.Same.{same_found, same_found_equiv};
+ghost use Rattle.std.specs.Cmp.{partial_equiv_from_equiv};
 
+use crate::probed::Probed;
 use crate::reducing::reduce;
-use crate::{Frac, Instant, Interp, MOST_POINTS, Point, Seq};
+use crate::{Frac, Instant, Interp, MOST_POINTS, MOST_PROBES, Point, Seq, search};
 
 /// What was found at an instant.
 #[derive(Clone, Copy, Debug)]
 pub struct Found {
     /// The position in millimetres, x and then y, or None where the sequence has no value.
     pub value: Option<(Frac, Frac)>,
-    /// How many places of the list were looked at.
+    /// How many places of the list were looked at, at most `MOST_PROBES`.
     pub probes: u32,
+}
+
+impl PartialEq for Found {
+    ghost eq = { same_found };
+
+    ghost laws = { partial_equiv_from_equiv same_found_equiv };
+
+    fn eq(&self, other: &Found) -> bool
+        ensures value { result ≡ same_found self.now other.now }
+        ensures same { IsTrue result ↔ (self.now ≡ other.now) }
+    {
+        self.probes == other.probes && self.value == other.value
+    }
+}
+
+impl Eq for Found {
+    ghost laws = { same_found_equiv };
 }
 
 impl Seq {
@@ -26,10 +46,11 @@ impl Seq {
     /// fraction, and never rounded.
     pub fn value_at(&self, t: Instant) -> Found
         ensures value { Finds (At self.now (moment t)) result.value }
+        ensures few { result.probes ≤ MOST_PROBES }
     {
         let interp = self.interp();
         let points = self.points();
-        let passed = search(points, t);
+        let passed = passed_at(points, t);
         // A piece from before the last two of these has ended when the last one begins.
         for i in passed.count.saturating_sub(2)..passed.count {
             let value = piece_value(interp, points, i, t);
@@ -63,27 +84,21 @@ struct Passed {
     probes: u32,
 }
 
-/// How many of the points are not after the instant, by a binary search.
-fn search(points: &[Point], t: Instant) -> Passed
+/// How many of the points are not after the instant.
+fn passed_at(points: &[Point], t: Instant) -> Passed
     requires increasing { (k : ℕ) → Rises points.now k }
     requires not_too_many { length points.now ≤ MOST_POINTS }
     ensures within { result.count ≤ length points.now }
     ensures passed { (k : ℕ) → k < result.count → EachAt points.now (λ p. p.t ≤ t) k }
     ensures to_come { (k : ℕ) → result.count ≤ k → EachAt points.now (λ p. t < p.t) k }
+    ensures few { result.probes ≤ MOST_PROBES }
 {
-    let mut low = 0;
-    let mut high = points.len();
-    let mut probes = 0;
-    while low < high {
-        let middle = low + (high - low) / 2;
-        probes += 1;
-        if points[middle].t <= t {
-            low = middle + 1;
-        } else {
-            high = middle;
-        }
+    let mut probed = Probed::new(points);
+    let count = search(&mut probed, t) as usize;
+    Passed {
+        count,
+        probes: probed.probes(),
     }
-    Passed { count: low, probes }
 }
 
 /// The value of the piece at one of the points.

@@ -1,4 +1,3 @@
-use Rattle.std.proofs.Common.{rules}
 use Rattle.mfjson.proofs.PlaceLemmas.{says_x, says_y}
 use Rattle.mfjson.proofs.reading.place_of.Goals as goal
 

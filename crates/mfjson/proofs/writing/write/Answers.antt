@@ -4,7 +4,8 @@ use Rattle.serde_json.specs.View.{view}
 use Rattle.serde_json.specs.Written.{compact_text, has_float}
 use Rattle.tpoint.specs.declared.point.Point.{Point}
 use Rattle.mfjson.specs.Pairs.{Pairwise}
-use Rattle.mfjson.specs.Document.{IsDocumentOf, WritesWhen, WritesWhere, canonical, interp_name}
+use Rattle.mfjson.specs.Document.{IsDocumentOf, WritesWhen, WritesWhere, canonical}
+use Rattle.tpoint.specs.Interps.{interp_name}
 use Rattle.mfjson.proofs.Canonical.{canonical_whole}
 use Rattle.mfjson.proofs.Standing.{canonical_stands, canonical_flat}
 use Rattle.serde_json.specs.Data.{depth}
@@ -23,10 +24,10 @@ returns c =
     let where_to : Pairwise WritesWhere places f.seq.points =
     subst (λ (ps : List Point). Pairwise WritesWhere places ps) c.points-points.ensures.value c.in_ok-coordinates.ensures in
     let shown : view c.in_ok-document.field-0 ≡ canonical f.id (interp_name f.seq.interp) times places =
-    rw (c.id_text-id.ensures.value, c.interp_text-interpolation.ensures, c.interp.ensures.value) at c.in_ok-document.ensures in
+    rw (c.as_str-id.ensures.value, c.name-interpolation.ensures, c.interp.ensures.value) at c.in_ok-document.ensures in
     let name = interp_name f.seq.interp in
     let shallow = subst (λ d. depth d ≤ 127) (sym shown) (canonical_flat f.id name times places f.seq.points when where_to) in
-    let stands = canonical_stands f times places when where_to c.id_text-id.ensures.valid c.points-points.ensures.valid in
+    let stands = canonical_stands f times places when where_to c.as_str-id.ensures.valid c.points-points.ensures.valid in
     let whole = ap has_float shown ∙ canonical_whole f.id (interp_name f.seq.interp) times places f.seq.points when where_to in
     let canonical_is = IfOk-weaker c.to_vec.result _ _ (λ text e. record {
       times = times;

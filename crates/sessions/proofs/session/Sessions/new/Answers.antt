@@ -7,5 +7,5 @@ same_everywhere zero i x = refl
 same_everywhere (suc n) zero x = refl
 same_everywhere (suc n) (suc i) x = same_everywhere n i x
 
-pub returns : goal.returns
-returns c client = same_everywhere 256 client None
+pub returns-clause-none : goal.returns-clause-none
+returns-clause-none c client = same_everywhere 256 client None

@@ -1,9 +1,10 @@
-use Rattle.std.proofs.Common.{◌≡◌, IfOk, sym, ap, subst, ◌∙◌, get_or, set}
-use Rattle.std.proofs.lemmas.Result.{on_ok_weaker}
-use Rattle.store.specs.Operations.{append_reply, append_effect, effect}
-use Rattle.store.specs.declared.op.Op.TheVariants.{Append}
+use Rattle.std.proofs.Common.{◌≡◌, List, refl, ◌<◌, length, rules, sym, ap, subst, ◌∙◌, get_or}
+use Rattle.store.specs.Operations.{append_reply, append_effect, is_done}
 use Rattle.store.specs.Places.{IsAt, IsGap}
 use Rattle.store.proofs.EffectLemmas.{append_known-reply, append_known-write, append_unknown-reply, append_unknown-effect}
+use Rattle.tpoint.specs.Extents.{Span}
+use Rattle.mfjson.specs.declared.feature.Feature.{Feature}
+use Rattle.store.proofs.KeptLemmas.{replaced_kept}
 use Rattle.store.proofs.db.Db.append.Goals as goal
 
 -- the id is unknown
@@ -26,7 +27,7 @@ returns-clause-reply c =
     c.index_mut.ensures.value ∙ ap (λ fs. get_or fs c.in-Ok.at f) c.self.view_is in
     let told = (λ j. append_reply (there j).seq.points (c.point.ensures.value j))
     ∙ append_known-reply c.args.self.now c.args.addition.now c.in-Ok.at at f in
-    subst (λ r. IfOk c.append_to.result (λ t. t ≡ r)) told c.append_to.ensures.reply
+    c.in_ok-told.ensures.reply ∙ told
 
 pub returns-clause-effect : goal.returns-clause-effect
 returns-clause-effect c =
@@ -34,10 +35,27 @@ returns-clause-effect c =
     let at = subst (λ id. IsAt c.args.self.now id c.in-Ok.at) c.id.ensures c.in-Ok.ensures.found in
     let there : f ≡ get_or c.args.self.now c.in-Ok.at f =
     c.index_mut.ensures.value ∙ ap (λ fs. get_or fs c.in-Ok.at f) c.self.view_is in
-    let step : c.append_to.new.seq ≡ append_effect f.seq c.point.result →
-    set c.self.inside.features.items c.in-Ok.at (record f { seq = c.append_to.new.seq })
-    ≡ effect c.args.self.now (Append c.args.addition.now) =
-    λ written. append_known-write c.args.self.now c.args.addition.now c.in-Ok.at at f _ _ c.self.view_is
+    append_known-write c.args.self.now c.args.addition.now c.in-Ok.at at f _ _ c.self.view_is
     (λ j. (there j).id)
-    (written ∙ (λ j. append_effect (there j).seq (c.point.ensures.value j))) in
-    on_ok_weaker c.append_to.result step c.append_to.ensures.effect
+    (c.in_ok-told.ensures.effect ∙ (λ j. append_effect (there j).seq (c.point.ensures.value j)))
+
+pub returns-in_err-told-clause-in_place : goal.returns-in_err-told-clause-in_place
+returns-in_err-told-clause-in_place c = λ refused.
+    let f = c.index_mut.result.now in
+    let at = subst (λ id. IsAt c.args.self.now id c.in-Ok.at) c.id.ensures c.in-Ok.ensures.found in
+    let there : f ≡ get_or c.args.self.now c.in-Ok.at f =
+    c.index_mut.ensures.value ∙ ap (λ fs. get_or fs c.in-Ok.at f) c.self.view_is in
+    let told = (λ j. append_reply (there j).seq.points (c.point.ensures.value j))
+    ∙ append_known-reply c.args.self.now c.args.addition.now c.in-Ok.at at f in
+    let kept = c.append_to.ensures.in_place (ap is_done told ∙ refused) in
+    absurd (search rules)
+
+-- the index keeps the span of what the feature is now
+pub invariant_of-self-2 : goal.invariant_of-self-2
+invariant_of-self-2 c =
+    let f : Feature = record { id = c.index_mut.result.now.id; seq = c.append_to.new.seq } in
+    let within = subst (λ (fs : List Feature). c.in-Ok.at < length fs) (sym c.self.view_is) c.in-Ok.ensures.found.in_range in
+    replaced_kept c.self.inside.features.items _ c.self.inside.index c.replace.new.self f c.index_mut.result.now
+    c.begin.result c.end.result c.in-Ok.at c.self.invariant within refl (ap (λ (g : Feature). g.id) c.index_mut.ensures.value)
+    (c.begin.ensures.value ∙ ap (λ (s : Span). s.begin) c.span-span.ensures)
+    (c.end.ensures.value ∙ ap (λ (s : Span). s.end) c.span-span.ensures) c.replace.ensures

@@ -9,11 +9,11 @@ returns-clause-found c =
     let facts = c.binary_search_by_key.ensures in
     let by_id = facts.position (λ f. f.id) (answers_always _ _ _ (λ f a r g called. search rules)) in
     rw (← c.self.view_is, ← c.deref.ensures.value)
-    (searched _ (rw c.deref.ensures.value c.self.invariant) c.args.id.now _ facts.bound by_id).found
+    (searched _ (rw c.deref.ensures.value c.self.invariant.database) c.args.id.now _ facts.bound by_id).found
 
 pub returns-clause-absent : goal.returns-clause-absent
 returns-clause-absent c =
     let facts = c.binary_search_by_key.ensures in
     let by_id = facts.position (λ f. f.id) (answers_always _ _ _ (λ f a r g called. search rules)) in
     rw (← c.self.view_is, ← c.deref.ensures.value)
-    (searched _ (rw c.deref.ensures.value c.self.invariant) c.args.id.now _ facts.bound by_id).absent
+    (searched _ (rw c.deref.ensures.value c.self.invariant.database) c.args.id.now _ facts.bound by_id).absent

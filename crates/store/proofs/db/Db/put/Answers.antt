@@ -1,5 +1,15 @@
-use Rattle.std.proofs.Common.{rules, refl, ◌≡◌, sym, ◌∙◌}
-use Rattle.store.proofs.EditLemmas.{insert_database}
+use Rattle.std.proofs.Common.{rules, refl, ◌≡◌, ◌<◌, List, length, true, false, ap, sym, subst, ◌∙◌}
+use Rattle.std.specs.List.{insert}
+use Rattle.tpoint.specs.Moving.{Sequence}
+use Rattle.tpoint.specs.Extents.{Span}
+use Rattle.tpoint.specs.Spans.{span_of}
+use Rattle.mfjson.specs.declared.feature.Feature.{Feature}
+use Rattle.timeindex.specs.declared.entry.Entry.{Entry}
+use Rattle.store.specs.Places.{IsGap}
+use Rattle.store.specs.Indexed.{entry_of}
+use Rattle.store.specs.declared.db.TheConstants.{MOST_FEATURES}
+use Rattle.store.specs.Operations.{is_done}
+use Rattle.store.proofs.KeptLemmas.{added_kept, replaced_kept}
 use Rattle.store.proofs.EffectLemmas.{put_known-reply, put_known-write, put_new-write, put_full-reply, put_full-effect}
 use Rattle.store.proofs.db.Db.put.Goals as goal
 
@@ -15,12 +25,23 @@ returns-then-len-eq-MOST_FEATURES-clause-effect c =
 -- the id is unknown, and its feature is put in the gap
 pub invariant_of-self-in-Err : goal.invariant_of-self-in-Err
 invariant_of-self-in-Err c =
-    rw (c.in_ok-insert-in-Err.ensures.items, c.try_reserve.ensures.items)
-    (insert_database _ _ _ c.self.invariant (search rules) (rw c.self.view_is c.in-Err.ensures.absent))
+    let fs = c.self.inside.features.items in
+    let f : Feature = record { id = c.args.id.now; seq = c.in_ok-seq-in-Err.seq } in
+    let e : Entry = record { id = c.args.id.now; first = c.begin-in-Err.result; last = c.end-in-Err.result } in
+    let spans = c.span-span-in-Err.ensures ∙ ap (λ (s : Sequence). span_of s.points) (sym c.in_ok-seq-in-Err.ensures.cases) in
+    let begins = c.begin-in-Err.ensures.value ∙ ap (λ (s : Span). s.begin) spans in
+    let ends = c.end-in-Err.ensures.value ∙ ap (λ (s : Span). s.end) spans in
+    let entry : e ≡ entry_of f = λ j. record { id = c.args.id.now; first = begins j; last = ends j } in
+    let gap = subst (λ (gs : List Feature). IsGap gs c.args.id.now c.in-Err.at) (sym c.self.view_is) c.in-Err.ensures.absent in
+    let room : length fs < MOST_FEATURES = search rules in
+    let added = c.in_ok-insert-in-Err-2.ensures.items
+    ∙ ap (λ (gs : List Feature). insert gs c.in-Err.at f) c.try_reserve.ensures.items in
+    added_kept fs c.insert-in-Err.new.self.items c.self.inside.index c.insert.new.self f e c.in-Err.at c.self.invariant room gap
+    added entry c.in_ok-insert-in-Err.ensures.value
 
-pub returns-in_ok-insert-in-Err-clause-effect : goal.returns-in_ok-insert-in-Err-clause-effect
-returns-in_ok-insert-in-Err-clause-effect c =
-    c.in_ok-insert-in-Err.ensures.items
+pub returns-in_ok-insert-in-Err-2-clause-effect : goal.returns-in_ok-insert-in-Err-2-clause-effect
+returns-in_ok-insert-in-Err-2-clause-effect c =
+    c.in_ok-insert-in-Err-2.ensures.items
     ∙ put_new-write c.args.self.now _ c.args.id.now c.args.seq.now _ _
     (c.try_reserve.ensures.items ∙ c.self.view_is) refl c.in_ok-seq-in-Err.ensures.cases
     c.in-Err.ensures.absent (search rules)
@@ -37,3 +58,21 @@ returns-in_ok-self-inside-in-Ok-clause-effect c =
     cc (c.index_mut.ensures.value, c.self.view_is, found.has_id c.index_mut.result.now) in
     put_known-write c.args.self.now _ c.args.id.now c.args.seq.now _ _ c.self.view_is id_there
     c.in_ok-self-inside-in-Ok.ensures.cases found
+
+-- the copy takes memory, and the sequence is written over
+pub returns-in_err-self-inside-in-Ok-clause-in_place : goal.returns-in_err-self-inside-in-Ok-clause-in_place
+returns-in_err-self-inside-in-Ok-clause-in_place c = λ refused.
+    let done : true ≡ false =
+    sym (ap is_done (put_known-reply c.args.self.now c.args.id.now c.args.seq.now _ c.in-Ok.ensures.found)) ∙ refused in
+    absurd (cc)
+
+-- the index keeps the span of what the feature is now
+pub invariant_of-self : goal.invariant_of-self
+invariant_of-self c =
+    let f : Feature = record { id = c.index_mut.result.now.id; seq = c.in_ok-self-inside-in-Ok.field-0 } in
+    let within = subst (λ (fs : List Feature). c.in-Ok.at < length fs) (sym c.self.view_is) c.in-Ok.ensures.found.in_range in
+    let spans = c.span-span.ensures ∙ ap (λ (s : Sequence). span_of s.points) (sym c.in_ok-self-inside-in-Ok.ensures.cases) in
+    replaced_kept c.self.inside.features.items _ c.self.inside.index c.replace.new.self f c.index_mut.result.now
+    c.begin.result c.end.result c.in-Ok.at c.self.invariant within refl (ap (λ (g : Feature). g.id) c.index_mut.ensures.value)
+    (c.begin.ensures.value ∙ ap (λ (s : Span). s.begin) spans) (c.end.ensures.value ∙ ap (λ (s : Span). s.end) spans)
+    c.replace.ensures

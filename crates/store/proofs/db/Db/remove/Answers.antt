@@ -1,5 +1,7 @@
-use Rattle.std.proofs.Common.{sym, ◌∙◌}
+use Rattle.std.proofs.Common.{sym, subst, ◌∙◌}
 use Rattle.store.proofs.EffectLemmas.{remove_known-reply, remove_known-write, remove_unknown-reply, remove_unknown-effect}
+use Rattle.store.specs.Places.{IsAt}
+use Rattle.store.proofs.KeptLemmas.{removed_kept}
 use Rattle.store.proofs.db.Db.remove.Goals as goal
 
 -- the id is unknown
@@ -17,3 +19,9 @@ pub returns-clause-effect : goal.returns-clause-effect
 returns-clause-effect c =
     c.remove.ensures.items
     ∙ remove_known-write c.args.self.now _ _ c.in-Ok.ensures.found c.remove.result _ c.self.view_is
+
+pub invariant_of-self : goal.invariant_of-self
+invariant_of-self c =
+    let at = subst (λ fs. IsAt fs c.args.id.now c.in-Ok.at) (sym c.self.view_is) c.in-Ok.ensures.found in
+    removed_kept c.self.inside.features.items c.remove.new.self.items c.self.inside.index c.remove-2.new.self c.args.id.now c.in-Ok.at
+    c.self.invariant at c.remove.ensures.items c.remove-2.ensures.value

@@ -17,21 +17,19 @@ loop-i-init c =
     let ps = c.points-points.result.now in
     let P : List Point → Type 0 = λ qs. (k : ℕ) → Rises qs k in
     let rise = subst P (sym c.points-points.ensures.value) c.points-points.ensures.valid.increasing in
-    let found = c.search-passed in
+    let found = c.passed_at-passed in
     λ j less.
     none_passed c.interp-interp.result ps c.args.t found.result.count rise found.ensures.within found.ensures.passed j
     (omega (arith, c.saturating_sub-i.ensures))
 
 -- the rest is to come
-pub returns : goal.returns
-returns c =
+pub returns-clause-value : goal.returns-clause-value
+returns-clause-value c =
     let interp = c.interp-interp.result in
     let ps = c.points-points.result.now in
-    let found = c.search-passed in
-    record {
-      value = missing c.args.self.now _ _ c.args.t c.interp-interp.ensures.value c.points-points.ensures.value
-          (λ j h. elim (cases_lt j found.result.count) [
-            | inl less ↦ c.loop-i.invariant j (omega arith)
-            | inr over ↦ none_to_come interp ps c.args.t found.result.count found.ensures.to_come j over
-          ]);
-    }
+    let found = c.passed_at-passed in
+    missing c.args.self.now _ _ c.args.t c.interp-interp.ensures.value c.points-points.ensures.value
+    (λ j h. elim (cases_lt j found.result.count) [
+      | inl less ↦ c.loop-i.invariant j (omega arith)
+      | inr over ↦ none_to_come interp ps c.args.t found.result.count found.ensures.to_come j over
+    ])

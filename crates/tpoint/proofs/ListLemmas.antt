@@ -1,5 +1,5 @@
 -- Lists of which a front passes a test and the rest doesn't, and ordered lists end to end.
-use Rattle.std.proofs.Common.{◌≡◌, ℕ, zero, suc, ◌+◌, ◌<◌, ◌≤◌, List, [], ◌∷◌, ◌++◌, length, take, drop, get_or, Bool, true, false, Option, Some, None, refl, ap, cond, arith}
+use Rattle.std.proofs.Common.{◌≡◌, ℕ, zero, suc, ◌+◌, ◌<◌, ◌≤◌, List, [], ◌∷◌, ◌++◌, length, map, take, drop, get_or, Bool, true, false, Option, Some, None, refl, ap, cond, arith}
 use Rattle.std.specs.List.{AllWithin, All, AllPairs, filter, find}
 use Rattle.std.proofs.lemmas.List.Kept.{AllPairs-cons}
 
@@ -66,15 +66,14 @@ find-at p (x ∷ xs) (suc i) d within fails here =
 
 -- ---- lists in order, end to end
 -- each of xs is related to each of ys
--- each of xs is related to each of ys
 abbrev pub AllBoth : {X : Type 0} → (X → X → Type 0) → List X → List X → Type 0
 AllBoth {X} R xs ys = All (λ (x : X). All (R x) ys) xs
 
-tail_pairs : {X : Type 0} (R : X → X → Type 0) (x : X) (xs : List X) →
+pub tail_pairs : {X : Type 0} (R : X → X → Type 0) (x : X) (xs : List X) →
     AllPairs R (x ∷ xs) → AllPairs R xs
 tail_pairs R x xs h i j d lt within = h (suc i) (suc j) d (omega arith) (omega arith)
 
-first_to_all : {X : Type 0} (R : X → X → Type 0) (x : X) (xs : List X) →
+pub first_to_all : {X : Type 0} (R : X → X → Type 0) (x : X) (xs : List X) →
     AllPairs R (x ∷ xs) → All (R x) xs
 first_to_all R x xs h k d within = h 0 (suc k) d (omega arith) (omega arith)
 
@@ -93,3 +92,14 @@ all_pairs_append R [] ys of_xs of_ys both = of_ys
 all_pairs_append R (x ∷ xs) ys of_xs of_ys both =
     AllPairs-cons R x (xs ++ ys) (all_append (R x) xs ys (first_to_all R x xs of_xs) (both 0 x (omega arith)))
     (all_pairs_append R xs ys (tail_pairs R x xs of_xs) of_ys (λ k d within. both (suc k) d (omega arith)))
+
+-- ---- a filter of what a function gives
+mapped_step : {X Y : Type 0} (p : Y → Bool) (g : X → Y) (x : X) (xs : List X) (b : Bool) → p (g x) ≡ b →
+    filter p (map g xs) ≡ map g (filter (λ y. p (g y)) xs) →
+    filter p (map g (x ∷ xs)) ≡ map g (filter (λ y. p (g y)) (x ∷ xs))
+mapped_step p g x xs true here rest = grind (arith, here, rest)
+mapped_step p g x xs false here rest = grind (arith, here, rest)
+
+pub filter_mapped : {X Y : Type 0} (p : Y → Bool) (g : X → Y) (xs : List X) → filter p (map g xs) ≡ map g (filter (λ x. p (g x)) xs)
+filter_mapped p g [] = refl
+filter_mapped p g (x ∷ xs) = mapped_step p g x xs (p (g x)) refl (filter_mapped p g xs)

@@ -1,0 +1,35 @@
+-- A set of entries by ids: from when to when something is.
+--
+-- A set is seen as the list of its entries in the byte order of their ids.
+use Rattle.std.specs.Prelude.{ℕ, List, map, filter, Bool, ◌&&◌, nat_le, is_some}
+use Rattle.tpoint.specs.Extents.{Span}
+use Rattle.timeindex.specs.declared.entry.Entry.{Entry}
+use Rattle.timeindex.specs.Ascending.{IsAscending, element_of, with_element, without}
+
+abbrev pub id_of : Entry → List ℕ
+id_of e = e.id
+
+-- at most one entry for an id
+pub record IsSet (es : List Entry) : Type 0 where
+  pub ascending : IsAscending id_of es
+
+-- an entry has the id
+abbrev pub is_known : List Entry → List ℕ → Bool
+is_known es id = is_some (element_of id_of es id)
+
+-- the set with an entry, in the place of any other with its id
+abbrev pub with_entry : List Entry → Entry → List Entry
+with_entry = with_element id_of
+
+-- the set without the entry of an id
+abbrev pub without_entry : List Entry → List ℕ → List Entry
+without_entry = without id_of
+
+-- ---- the filter
+-- the entry has an instant in the period: it doesn't begin after the period, nor end before it
+abbrev pub overlaps : Span → Entry → Bool
+overlaps p e = nat_le e.first p.end && nat_le p.begin e.last
+
+-- the ids of the entries that overlap a period, in byte order
+abbrev pub ids_overlapping : List Entry → Span → List (List ℕ)
+ids_overlapping es p = map id_of (filter (overlaps p) es)

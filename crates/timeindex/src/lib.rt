@@ -1,0 +1,14 @@
+//! Which of many things are there in a period of time: from when to when each is, by its id.
+//!
+//! `TimeIndex::overlapping` gives the ids of the entries that have an instant in a period. What it
+//! gives is the filter of a set, which stands in `specs/Entries.antt`.
+#![tactic(auto)]
+
+mod entry;
+mod index;
+
+pub use entry::Entry;
+pub use index::TimeIndex;
+
+#[cfg(test)]
+mod tests;
