@@ -1,8 +1,6 @@
 -- What an acceptor does is allowed by the protocol.
 use Rattle.std.proofs.Common.{◌≡◌, ℕ, ◌≤◌, [], ◌∷◌, Option, Some, None, Contains, inl, inr, refl, sym, ap, ◌∙◌, subst, arith, le_refl}
-use Rattle.std.specs.Option.{option_to_list}
 use Rattle.std.proofs.lemmas.Bool.Decides.{eqb_tells}
-use Rattle.std.proofs.lemmas.List.Elements.{Contains-push, Contains-push_cases}
 use Rattle.synod.specs.Ballots.{rank, rank_of}
 use Rattle.synod.specs.declared.ballot.Ballot.{Ballot}
 use Rattle.synod.specs.declared.vote.Vote.{Vote}
@@ -13,20 +11,13 @@ use Rattle.synod.specs.Acts as act
 use Rattle.synod.specs.Acts.{Fleet, Input, Local, Brings}
 use Rattle.synod.proofs.Doing.{does_nothing, does_one, does_then, confirms_to_first}
 use Rattle.synod.proofs.Puts.{put_same}
-use Rattle.synod.proofs.Thinking.{none_in}
 use Rattle.sessions.specs.declared.command.Command.{Command}
-use Rattle.acceptor.specs.Accepting.{Accepting, put, prepare_answer, after_prepare, accept_answer, after_accept}
+use Rattle.wire.specs.Promises.{Promised}
+use Rattle.acceptor.specs.declared.answer.Answer.{Answer}
+use Rattle.acceptor.specs.Accepting.{Accepting, put, nack, TellsFrom, AnswersPrepare, after_prepare, accept_answer, after_accept}
+use Rattle.acceptor.specs.Ranges.{IsPromiseFrom}
 use Rattle.acceptor.specs.Protocol.{RecordsStand, MayWrite, MayAnswer, answer_frames}
 use Rattle.acceptor.proofs.RecordLemmas.{refusing_cases}
-
--- the one vote that an option holds
-one_told : (o : Option (Vote Command)) (v : Vote Command) → o ≡ Some v → Contains (option_to_list o) v
-one_told None v e = absurd cc
-one_told (Some w) v e = (let same : w ≡ v = cc in subst (λ (u : Vote Command). Contains (w ∷ []) u) same (Contains-push [] w))
-
-only_told : (o : Option (Vote Command)) (v : Vote Command) → Contains (option_to_list o) v → o ≡ Some v
-only_told None v c = absurd (none_in v c)
-only_told (Some w) v c = elim (Contains-push_cases [] w v c) [ inl old ↦ absurd (none_in v old) | inr new ↦ ap Some new ]
 
 -- two lists of votes with one vote more
 put_alike : (f g : ℕ → Option (Vote Command)) (i : ℕ) (x : Option (Vote Command)) → ((s : ℕ) → f s ≡ g s) → (s : ℕ) → put_one f i x s ≡ put g i x s
@@ -39,38 +30,37 @@ module _ (f : Fleet Command) (i : ℕ) (input : Input Command) (x : Local Comman
   refuses : (to : ℕ) → MayAnswer f i input x a round (record { sender = i; receiver = to; message = Plain } ∷ [])
   refuses to = record { after = x.records; does = does_one f i input x (act.Says to) tt; stands = stands }
 
-  low : (b : Ballot) → rank_of a.promise ≤ rank b → x.records.promise ≤ rank b
-  low b le = omega (arith, stands.promise, le)
+  low_rank : (b : Ballot) → rank_of a.promise ≤ rank b → x.records.promise ≤ rank b
+  low_rank b le = omega (arith, stands.promise, le)
 
   promised : (b : Ballot) → RecordsStand (record a { promise = Some b }) round (with_promise x.records b)
-  promised b = record { promise = refl; vote = stands.vote; round_ = stands.round_; floor = stands.floor }
+  promised b = record { promise = refl; vote = stands.vote; round_ = stands.round_; floor_ = stands.floor_ }
 
   promises : (b : Ballot) → rank_of a.promise ≤ rank b → MayWrite f i input x (record a { promise = Some b }) round
   promises b le = record {
     after = with_promise x.records b;
-    does = does_one f i input x (act.Promises b) (low b le);
+    does = does_one f i input x (act.Promises b) (low_rank b le);
     stands = promised b;
   }
 
-  tells : (b : Ballot) (first : ℕ) → TellsVotes (with_promise x.records b) first first (option_to_list (a.vote first))
-  tells b first = record {
-    floor = omega (arith, stands.floor);
-    all = λ s v from to e.
-        let here : s ≡ first = omega (arith, from, to) in
-        one_told (a.vote first) v (sym (stands.vote first) ∙ ap x.records.vote (sym here) ∙ e);
-    only = λ v c. (first, stands.vote first ∙ only_told (a.vote first) v c);
+  tells : (b : Ballot) (first : ℕ) (p : Promised) → a.floor ≤ first → IsPromiseFrom a.vote b first p
+      → TellsVotes (with_promise x.records b) first p.last p.entries
+  tells b first p low is = record {
+    floor = omega (arith, stands.floor_, low);
+    all = λ s v from to e. is.tells.all s v from to (sym (stands.vote s) ∙ e);
+    only = λ v c. (v.slot, stands.vote v.slot ∙ is.tells.stand v c);
   }
 
-  promises_and_tells : (nodes to first : ℕ) (b : Ballot) → rank_of a.promise ≤ rank b
+  promises_and_tells : (nodes to first : ℕ) (b : Ballot) (p : Promised) → rank_of a.promise ≤ rank b → a.floor ≤ first → IsPromiseFrom a.vote b first p
       → MayAnswer f i input x (record a { promise = Some b }) round
-      (record { sender = i; receiver = to; message = Promise b first first (option_to_list (a.vote first)) } ∷ [])
-  promises_and_tells nodes to first b le = record {
+      (record { sender = i; receiver = to; message = Promise p.ballot p.first p.last p.entries } ∷ [])
+  promises_and_tells nodes to first b p le low is = rw (is.of_the_ballot, is.from) (record {
     after = with_promise x.records b;
-    does = does_then f i input (does_one f i input x (act.Promises b) (low b le))
-        (does_one f i input (record x { records = with_promise x.records b }) (act.Tells to b first first (option_to_list (a.vote first)))
-        (le_refl _, tells b first));
+    does = does_then f i input (does_one f i input x (act.Promises b) (low_rank b le))
+        (does_one f i input (record x { records = with_promise x.records b }) (act.Tells to b first p.last p.entries)
+        (le_refl _, tells b first p low is));
     stands = promised b;
-  }
+  })
 
   -- a prepare
   pub prepare_writes : (b : Ballot) → MayWrite f i input x (after_prepare a b) round
@@ -79,35 +69,40 @@ module _ (f : Fleet Command) (i : ℕ) (input : Input Command) (x : Local Comman
     | inr h ↦ rw h.1 same_records
   ]
 
-  pub prepare_answers : (nodes to first : ℕ) (b : Ballot) → MayAnswer f i input x (after_prepare a b) round (answer_frames i nodes to (prepare_answer a b first))
-  prepare_answers nodes to first b = elim (refusing_cases a.promise b) [
-    | inl h ↦ rw h.0 (promises_and_tells nodes to first b h.1)
-    | inr h ↦ rw h.1 (refuses to)
+  pub prepare_answers : (nodes to first : ℕ) (b : Ballot) (answer : Answer) → AnswersPrepare a b first answer
+      → MayAnswer f i input x (after_prepare a b) round (answer_frames i nodes to answer)
+  prepare_answers nodes to first b answer answers = elim (refusing_cases a.promise b) [
+    | inl h ↦
+        let told : TellsFrom a b first answer = rw h.0 at answers in
+        rw (h.0, told.is) (promises_and_tells nodes to first b told.promise h.1 told.from_the_floor told.tells)
+    | inr h ↦
+        let refused : answer ≡ nack b h.0 = rw h.1 at answers in
+        rw (h.1, refused) (refuses to)
   ]
 
   -- an accept
-  voted : (v : Vote Command) → RecordsStand (record { promise = Some v.ballot; vote = put a.vote v.slot (Some v) }) round (with_vote x.records v)
+  voted : (v : Vote Command) → RecordsStand (record a { promise = Some v.ballot; vote = put a.vote v.slot (Some v) }) round (with_vote x.records v)
   voted v = record {
     promise = refl;
     vote = put_alike x.records.vote a.vote v.slot (Some v) stands.vote;
     round_ = stands.round_;
-    floor = stands.floor;
+    floor_ = stands.floor_;
   }
 
   votes : (v : Vote Command) → Brings input (Accept v) → rank_of a.promise ≤ rank v.ballot
-      → MayWrite f i input x (record { promise = Some v.ballot; vote = put a.vote v.slot (Some v) }) round
+      → MayWrite f i input x (record a { promise = Some v.ballot; vote = put a.vote v.slot (Some v) }) round
   votes v came le = record {
     after = with_vote x.records v;
-    does = does_one f i input x (act.Votes v) (came, low v.ballot le);
+    does = does_one f i input x (act.Votes v) (came, low_rank v.ballot le);
     stands = voted v;
   }
 
   votes_and_confirms : (nodes : ℕ) (v : Vote Command) → Brings input (Accept v) → rank_of a.promise ≤ rank v.ballot
-      → MayAnswer f i input x (record { promise = Some v.ballot; vote = put a.vote v.slot (Some v) }) round
+      → MayAnswer f i input x (record a { promise = Some v.ballot; vote = put a.vote v.slot (Some v) }) round
       (to_first nodes i (Accepted v))
   votes_and_confirms nodes v came le = record {
     after = with_vote x.records v;
-    does = does_then f i input (does_one f i input x (act.Votes v) (came, low v.ballot le))
+    does = does_then f i input (does_one f i input x (act.Votes v) (came, low_rank v.ballot le))
         (confirms_to_first f i input (record x { records = with_vote x.records v }) v (put_same x.records.vote v.slot (Some v)) nodes);
     stands = voted v;
   }

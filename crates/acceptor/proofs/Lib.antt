@@ -1,5 +1,6 @@
 pub mod BallotLemmas
 pub mod LoadLemmas
+pub mod RangeLemmas
 pub mod RecordLemmas
 pub mod VoteLemmas
 pub mod SayingOne

@@ -84,6 +84,7 @@ RecordsSay-same r q a same says =
       vote_record = λ s. same (key.Vote s) ∙ says.vote_record s;
       at_its_slot = says.at_its_slot;
       promise = says.promise;
+      floor = says.floor;
       promised_fits = says.promised_fits;
       votes_fit = says.votes_fit;
     }
@@ -102,6 +103,7 @@ RecordsSay-promise r a b fits says le =
         not_below_a_vote = λ s. IfSome_then (a.vote s) (says.promise.not_below_a_vote s) (λ v low. omega arith);
         among_them = inl refl;
       };
+      floor = says.floor;
       promised_fits = fits;
       votes_fit = says.votes_fit;
     }
@@ -115,6 +117,7 @@ RecordsSay-round r a bytes says =
       vote_record = λ s. elsewhere r key.Round (key.Vote s) (Some bytes) (λ e. absurd (omega arith)) ∙ says.vote_record s;
       at_its_slot = says.at_its_slot;
       promise = says.promise;
+      floor = says.floor;
       promised_fits = says.promised_fits;
       votes_fit = says.votes_fit;
     }
@@ -141,7 +144,7 @@ accept_leaves_round r a v (Some w) is =
 
 -- a vote in its record whose ballot is not below the promise
 pub RecordsSay-vote : (r : Records) (a : Accepting) (v : Vote Command) → VoteFits v → RecordsSay r a → rank_of a.promise ≤ rank v.ballot
-    → RecordsSay (with_record r (key.Vote v.slot) (vote_bytes v)) (record { promise = Some v.ballot; vote = put a.vote v.slot (Some v) })
+    → RecordsSay (with_record r (key.Vote v.slot) (vote_bytes v)) (record a { promise = Some v.ballot; vote = put a.vote v.slot (Some v) })
 RecordsSay-vote r a v fits says le =
     record {
       promised = says.promised;
@@ -154,6 +157,7 @@ RecordsSay-vote r a v fits says le =
             (IfSome_then (a.vote s) (says.promise.not_below_a_vote s) (λ w low. omega arith));
         among_them = inr (v.slot, v, put_here a.vote v.slot v.slot (Some v) refl, refl);
       };
+      floor = says.floor;
       promised_fits = says.promised_fits;
       votes_fit = λ s. IfSome-put a.vote v.slot s v VoteFits (λ e. fits) (says.votes_fit s);
     }
@@ -194,6 +198,7 @@ low_promise r a b fits fresh says le =
           | inr w ↦ inr w
         ];
       };
+      floor = says.floor;
       promised_fits = fits;
       votes_fit = says.votes_fit;
     }
@@ -220,6 +225,7 @@ low_vote r a v fits fresh says le =
           | inr w ↦ inr (w.0, w.1, put_elsewhere a.vote v.slot w.0 (Some v) (λ e. other a v w.0 w.1 none w.2 e) ∙ w.2, w.3)
         ];
       };
+      floor = says.floor;
       promised_fits = says.promised_fits;
       votes_fit = λ s. IfSome-put a.vote v.slot s v VoteFits (λ e. fits) (says.votes_fit s);
     }
@@ -237,22 +243,22 @@ RecordsSay-see_promise r a b fits fresh says =
 
 -- the record of a vote is seen for the first time
 pub RecordsSay-see_vote : (r : Records) (a : Accepting) (v : Vote Command) → VoteFits v → r (key.Vote v.slot) ≡ None → RecordsSay r a
-    → RecordsSay (with_seen r (key.Vote v.slot) (Some (vote_bytes v))) (record { promise = raised a.promise v.ballot; vote = put a.vote v.slot (Some v) })
+    → RecordsSay (with_seen r (key.Vote v.slot) (Some (vote_bytes v))) (record a { promise = raised a.promise v.ballot; vote = put a.vote v.slot (Some v) })
 RecordsSay-see_vote r a v fits fresh says =
-    let seen : Option Ballot → Type 0 = λ p. RecordsSay (with_record r (key.Vote v.slot) (vote_bytes v)) (record { promise = p; vote = put a.vote v.slot (Some v) }) in
+    let seen : Option Ballot → Type 0 = λ p. RecordsSay (with_record r (key.Vote v.slot) (vote_bytes v)) (record a { promise = p; vote = put a.vote v.slot (Some v) }) in
     elim (raised_cases a.promise v.ballot) [
       | inl h ↦ subst seen (sym h.1) (RecordsSay-vote r a v fits says h.0)
       | inr h ↦ subst seen (sym h.1) (low_vote r a v fits fresh says h.0)
     ]
 
 -- an acceptor that holds the same holds what the records say
-pub RecordsSay-holds : (r : Records) (a b : Accepting) → b.promise ≡ a.promise → ((s : ℕ) → b.vote s ≡ a.vote s) → RecordsSay r a → RecordsSay r b
-RecordsSay-holds r a b p v says =
-    let same : a ≡ b = λ i. record { promise = sym p i; vote = λ s. sym (v s) i } in
+pub RecordsSay-holds : (r : Records) (a b : Accepting) → b.promise ≡ a.promise → b.floor ≡ a.floor → ((s : ℕ) → b.vote s ≡ a.vote s) → RecordsSay r a → RecordsSay r b
+RecordsSay-holds r a b p l v says =
+    let same : a ≡ b = λ i. record { promise = sym p i; floor = sym l i; vote = λ s. sym (v s) i } in
     subst (λ (x : Accepting). RecordsSay r x) same says
 
 -- no record, no promise and no vote
-pub RecordsSay-nothing : RecordsSay no_records (record { promise = None; vote = λ _. None })
+pub RecordsSay-nothing : RecordsSay no_records (record { promise = None; floor = 0; vote = λ _. None })
 RecordsSay-nothing =
     record {
       promised = None;
@@ -260,6 +266,7 @@ RecordsSay-nothing =
       vote_record = λ s. refl;
       at_its_slot = λ s. tt;
       promise = record { not_below_the_record = omega arith; not_below_a_vote = λ s. tt; among_them = inl refl };
+      floor = refl;
       promised_fits = tt;
       votes_fit = λ s. tt;
     }
@@ -298,14 +305,14 @@ prepare_kept r a b fits says =
 
 -- a vote that stands there already raises the promise to its ballot
 vote_stands : (r : Records) (a : Accepting) (v : Vote Command) → RecordsSay r a → rank_of a.promise ≤ rank v.ballot → a.vote v.slot ≡ Some v
-    → RecordsSay r (record { promise = Some v.ballot; vote = put a.vote v.slot (Some v) })
+    → RecordsSay r (record a { promise = Some v.ballot; vote = put a.vote v.slot (Some v) })
 vote_stands r a v says le stands =
     let same : (s : ℕ) → put a.vote v.slot (Some v) s ≡ a.vote s = λ s.
     elim (eqb_tells s v.slot) [
       | inl e ↦ rw e.0 (sym (ap a.vote e.1 ∙ stands))
       | inr ne ↦ rw ne.0 refl
     ] in
-    RecordsSay-holds r (record a { promise = Some v.ballot }) (record { promise = Some v.ballot; vote = put a.vote v.slot (Some v) }) refl same
+    RecordsSay-holds r (record a { promise = Some v.ballot }) (record a { promise = Some v.ballot; vote = put a.vote v.slot (Some v) }) refl refl same
     (record {
       promised = says.promised;
       promise_record = says.promise_record;
@@ -316,12 +323,13 @@ vote_stands r a v says le stands =
         not_below_a_vote = λ s. IfSome_then (a.vote s) (says.promise.not_below_a_vote s) (λ w low. omega arith);
         among_them = inr (v.slot, v, stands, refl);
       };
+      floor = says.floor;
       promised_fits = says.promised_fits;
       votes_fit = says.votes_fit;
     })
 
 accept_taken : (r : Records) (a : Accepting) (v : Vote Command) (w : Write) → VoteFits v → IsAcceptWrite a v w → RecordsSay r a → refusing a.promise v.ballot ≡ None
-    → rank_of a.promise ≤ rank v.ballot → RecordsSay (records_after r w) (record { promise = Some v.ballot; vote = put a.vote v.slot (Some v) })
+    → rank_of a.promise ≤ rank v.ballot → RecordsSay (records_after r w) (record a { promise = Some v.ballot; vote = put a.vote v.slot (Some v) })
 accept_taken r a v None fits is says taken le =
     elim (is.nothing refl) [
       | inl refused ↦ (let none : IsSome {T = Ballot} None = rw taken at refused in absurd cc)
@@ -329,7 +337,7 @@ accept_taken r a v None fits is says taken le =
     ]
 accept_taken r a v (Some w) fits is says taken le =
     let written : Some w ≡ Some (key.Vote v.slot, vote_bytes v) = is.cast taken (λ stands. let none = is.already stands in absurd cc) in
-    subst (λ (x : Write). RecordsSay (records_after r x) (record { promise = Some v.ballot; vote = put a.vote v.slot (Some v) })) (sym written)
+    subst (λ (x : Write). RecordsSay (records_after r x) (record a { promise = Some v.ballot; vote = put a.vote v.slot (Some v) })) (sym written)
     (RecordsSay-vote r a v fits says le)
 
 -- records that say what an acceptor holds say so after an accept and its write

@@ -15,8 +15,9 @@ use Rattle.std.specs.Prelude.{
   if◌then◌else◌,
   IfSome,
   IsSome,
+  MatchOption,
+  zero,
 }
-use Rattle.std.specs.Option.{option_to_list}
 use Rattle.synod.specs.Ballots.{rank, rank_of}
 use Rattle.synod.specs.declared.ballot.Ballot.{Ballot}
 use Rattle.synod.specs.declared.vote.Vote.{Vote}
@@ -24,14 +25,17 @@ use Rattle.stable.specs.Records.{Records, with_record}
 use Rattle.stable.specs.declared.key.Key.{Key}
 use Rattle.stable.specs.declared.key.Key.TheVariants as key
 use Rattle.sessions.specs.declared.command.Command.{Command}
+use Rattle.wire.specs.Promises.{Promised}
 use Rattle.acceptor.specs.declared.answer.Answer.{Answer}
 use Rattle.acceptor.specs.declared.answer.Answer.TheVariants.{Promise, Accepted, Nack}
 use Rattle.acceptor.specs.Forms.{BallotFits, VoteFits}
+use Rattle.acceptor.specs.Ranges.{IsPromiseFrom}
 use Rattle.acceptor.specs.Spelling.{ballot_bytes, vote_bytes}
 
--- an acceptor's promise, and its vote at each slot
+-- an acceptor's promise, the first slot of which it may speak, and its vote at each slot
 pub record Accepting : Type 0 where
   pub promise : Option Ballot
+  pub floor : ℕ
   pub vote : ℕ → Option (Vote Command)
 
 -- a write that a call makes, if it makes one: the key, and the bytes that it is to hold
@@ -59,6 +63,8 @@ pub record RecordsSay (records : Key → Option (List ℕ)) (a : Accepting) : Ty
   pub vote_record : (s : ℕ) → records (key.Vote s) ≡ option_map vote_bytes (a.vote s)
   pub at_its_slot : (s : ℕ) → IfSome (a.vote s) (λ v. v.slot ≡ s)
   pub promise : IsGreatest promised a.vote a.promise
+  -- no record raises the floor
+  pub floor : a.floor ≡ zero
   -- each fits its record, so that no two are spelled alike
   pub promised_fits : IfSome promised BallotFits
   pub votes_fit : (s : ℕ) → IfSome (a.vote s) VoteFits
@@ -78,10 +84,16 @@ unless_refused (Some p) refused done = refused p
 abbrev pub nack : Ballot → Ballot → Answer
 nack b p = Nack (record { ballot = b; promised = p })
 
--- ---- a prepare: any other ballot is promised, and the vote at the slot is told
-abbrev pub prepare_answer : Accepting → Ballot → ℕ → Answer
-prepare_answer a b first = unless_refused (refusing a.promise b) (nack b)
-    (Promise (record { ballot = b; first = first; last = first; entries = option_to_list (a.vote first) }))
+-- ---- a prepare: any other ballot is promised, and the votes from the first slot on are told
+pub record TellsFrom (a : Accepting) (b : Ballot) (first : ℕ) (answer : Answer) : Type 0 where
+  pub promise : Promised
+  pub is : answer ≡ Promise promise
+  pub from_the_floor : a.floor ≤ first
+  pub tells : IsPromiseFrom a.vote b first promise
+
+abbrev pub AnswersPrepare : Accepting → Ballot → ℕ → Answer → Type 0
+AnswersPrepare a b first answer =
+    MatchOption (refusing a.promise b) (TellsFrom a b first answer) (λ p. answer ≡ nack b p)
 
 -- a promise is written, unless it is the promise already
 abbrev pub prepare_write : Accepting → Ballot → Write
@@ -97,7 +109,7 @@ accept_answer a v = unless_refused (refusing a.promise v.ballot) (nack v.ballot)
 
 abbrev pub after_accept : Accepting → Vote Command → Accepting
 after_accept a v = unless_refused (refusing a.promise v.ballot) (λ _. a)
-    (record { promise = Some v.ballot; vote = put a.vote v.slot (Some v) })
+    (record a { promise = Some v.ballot; vote = put a.vote v.slot (Some v) })
 
 -- the vote is taken, and does not stand there already
 pub record IsNewVote (a : Accepting) (v : Vote Command) : Type 0 where

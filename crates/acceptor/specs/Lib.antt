@@ -3,5 +3,6 @@ pub mod Casts
 pub mod Forms
 pub mod Loading
 pub mod Protocol
+pub mod Ranges
 pub mod Spelling
 pub mod State

@@ -1,5 +1,5 @@
 -- What an acceptor's state and its answers are to the protocol.
-use Rattle.std.specs.Prelude.{◌≡◌, ℕ, zero, List, [], ◌∷◌, ◌++◌}
+use Rattle.std.specs.Prelude.{◌≡◌, ℕ, List, [], ◌∷◌, ◌++◌}
 use Rattle.synod.specs.Ballots.{rank_of}
 use Rattle.synod.specs.Messages as synod
 use Rattle.synod.specs.Messages.{Frame, Plain, to_first}
@@ -15,7 +15,7 @@ pub record RecordsStand (a : Accepting) (round : ℕ) (r : synod_records.Records
   pub promise : r.promise ≡ rank_of a.promise
   pub vote : (s : ℕ) → r.vote s ≡ a.vote s
   pub round_ : r.round ≡ round
-  pub floor : r.floor ≡ zero
+  pub floor_ : r.floor ≡ a.floor
 
 -- what node i of so many sends to answer node `to`: Accepted goes to every node
 abbrev pub answer_frames : ℕ → ℕ → ℕ → Answer → List (Frame Command)

@@ -3,6 +3,6 @@ use Rattle.acceptor.specs.declared.acceptor.Acceptor.{Acceptor}
 use Rattle.acceptor.specs.Accepting.{Accepting}
 pub use Rattle.acceptor.specs.Casts.{vote_at, vote_held}
 
--- the promise and the votes that an acceptor holds
+-- what an acceptor holds: it speaks of every slot
 abbrev pub accepting_of : Acceptor → Accepting
-accepting_of a = record { promise = a.promise; vote = λ s. vote_held a.votes s }
+accepting_of a = record { promise = a.promise; floor = 0; vote = λ s. vote_held a.votes s }

@@ -6,7 +6,7 @@ ghost use Rattle.synod.specs.Ballots.{rank};
 ghost use Rattle.stable.specs.Records.{Records};
 ghost use Rattle.stable.specs.declared.key.Key.TheVariants as key;
 ghost use Rattle.acceptor.specs.Accepting.{Write, RecordsSay, refusing};
-ghost use Rattle.acceptor.specs.Accepting.{prepare_answer, prepare_write, after_prepare};
+ghost use Rattle.acceptor.specs.Accepting.{AnswersPrepare, prepare_write, after_prepare};
 ghost use Rattle.acceptor.specs.Accepting.{accept_answer, after_accept, IsAcceptWrite, IsNewVote};
 ghost use Rattle.acceptor.specs.Accepting.{HasWritten, HasFailed};
 ghost use Rattle.acceptor.specs.Casts.{AreUpTo, vote_at};
@@ -22,7 +22,7 @@ use sessions::Command;
 use stable::{Key, Stable, StableFault};
 use std::alloc::{AllocError, Global};
 use synod::{Ballot, Slot, Vote};
-use wire::frames::{Nack, ballot_record};
+use wire::{Nack, ballot_record};
 
 /// What one node has promised, and what it has voted for at each slot.
 ///
@@ -41,12 +41,14 @@ impl Acceptor {
     /// The acceptor that the records tell of: its votes are those recorded, and its promise is the greatest of record
     /// Promise and of the ballots of all votes.
     ///
-    /// A record Promise, or of a vote, that is not of its form is refused: `Damaged`. The round is not read.
+    /// A stray key, and a record Promise or of a vote that is not of its form, is refused: `Damaged`. The round is not
+    /// read.
     pub fn load<S: Stable>(alloc: Global, storage: &mut S) -> Result<Acceptor, StableFault>
         ensures told { S.IsHonest storage.new → IfOk result (λ loaded.
             RecordsSay (S.contents storage.old) (accepting_of loaded)) }
         ensures form { S.IsHonest storage.new → OnOk result
             (AreOfTheirForm (S.contents storage.old)) }
+        ensures no_stray { S.IsHonest storage.new → OnOk result (¬ (S.HasStrayKey storage.old)) }
         ensures reads { OnOk result (S.reads storage.old storage.new) }
         ensures settled { OnOk result (S.IsSettled storage.new) }
 
@@ -143,8 +145,10 @@ impl Acceptor {
         }
     }
 
-    /// Answers a prepare: the ballot is promised, and the vote at the slot told, or it is refused since a greater one
-    /// is promised.
+    /// Answers a prepare: the ballot is promised, and the votes from the slot on told, or it is refused since a greater
+    /// one is promised.
+    ///
+    /// A promise tells four votes at most. Its range ends right before the first that finds no room, or with the log.
     ///
     /// A promise is written before it is told. `storage` is the one that was loaded. After `Device` only another load
     /// tells what is promised. After `Memory` nothing is written or changed.
@@ -156,7 +160,7 @@ impl Acceptor {
         first: Slot,
     ) -> Result<Answer, StableFault>
         ensures answer { IfOk result (λ a.
-            a ≡ prepare_answer (accepting_of self.old) ballot first) }
+            AnswersPrepare (accepting_of self.old) ballot first a) }
         ensures state { OnOk result
             (accepting_of self.new ≡ after_prepare (accepting_of self.old) ballot) }
         ensures written { OnOk result (HasWritten S.reads S.puts storage.old storage.new

@@ -10,8 +10,9 @@ ghost use Rattle.synod.specs.Messages.{Accept};
 ghost use Rattle.synod.specs.Acts.{Fleet, Input, Local, Brings};
 ghost use Rattle.sessions.specs.declared.command.Command.{Command};
 ghost use Rattle.stable.specs.Records.{Records};
+ghost use Rattle.acceptor.specs.declared.answer.Answer.{Answer};
 ghost use Rattle.acceptor.specs.Accepting.{Accepting, RecordsSay};
-ghost use Rattle.acceptor.specs.Accepting.{prepare_answer, after_prepare, accept_answer, after_accept};
+ghost use Rattle.acceptor.specs.Accepting.{AnswersPrepare, after_prepare, accept_answer, after_accept};
 ghost use Rattle.acceptor.specs.Protocol.{RecordsStand, MayWrite, MayAnswer, answer_frames};
 
 /// A prepare's write is allowed, and so is its answer after that write.
@@ -19,8 +20,8 @@ pub fn prepare_is_allowed()
     ensures write { (f : Fleet Command) (i : ℕ) (input : Input Command) (x : Local Command) (a : Accepting)
         (round : ℕ) (b : Ballot) → RecordsStand a round x.records → MayWrite f i input x (after_prepare a b) round }
     ensures answer { (f : Fleet Command) (i : ℕ) (input : Input Command) (x : Local Command) (a : Accepting)
-        (round nodes to first : ℕ) (b : Ballot) → RecordsStand a round x.records → MayAnswer f i input x
-        (after_prepare a b) round (answer_frames i nodes to (prepare_answer a b first)) }
+        (round nodes to first : ℕ) (b : Ballot) (answer : Answer) → RecordsStand a round x.records
+        → AnswersPrepare a b first answer → MayAnswer f i input x (after_prepare a b) round (answer_frames i nodes to answer) }
 {}
 
 /// The write of an accept that has come is allowed, and so is its answer after that write.

@@ -2,7 +2,7 @@
 
 use sessions::Command;
 use synod::Vote;
-use wire::frames::{Nack, Promise};
+use wire::{Nack, Promise};
 
 /// An acceptor's answer to a prepare or an accept.
 #[derive(Debug, Drop)]

@@ -9,7 +9,7 @@ use super::cast::Cast;
 use stable::{Key, Stable, StableFault};
 use std::alloc::Global;
 use synod::{Ballot, Slot};
-use wire::frames::{ballot_of_record, vote_of_record};
+use wire::{ballot_of_record, vote_of_record};
 
 /// The ballot in record Promise, or None without the record.
 pub(super) fn promised<S: Stable>(

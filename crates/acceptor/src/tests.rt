@@ -105,6 +105,84 @@ fn calls_have_their_answers(rt: HostRuntime) {
     }
 }
 
+/// A promise's first slot and last slot, and the slots of the votes that it tells.
+type Range = (u32, u32, &'static [u32]);
+
+// What is told where votes stand at the slots 0 to 4.
+const RANGES_OF_FIVE: [Range; 4] = [
+    (0, 3, &[0, 1, 2, 3]),
+    (1, 65_535, &[1, 2, 3, 4]),
+    (4, 65_535, &[4]),
+    (5, 65_535, &[]),
+];
+
+// What is told where one more stands at the last slot of the log.
+const RANGES_OF_SIX: [Range; 5] = [
+    (0, 3, &[0, 1, 2, 3]),
+    (1, 65_534, &[1, 2, 3, 4]),
+    (2, 65_535, &[2, 3, 4, 65_535]),
+    (5, 65_535, &[65_535]),
+    (65_535, 65_535, &[65_535]),
+];
+
+/// Casts a vote at the slot.
+fn cast(
+    alloc: Global,
+    storage: &mut MemStable,
+    acceptor: &mut Acceptor,
+    slot: u32,
+) -> Result<(), Fail> {
+    let vote = vote(1, 0, slot).ok_or("a vote")?;
+    let _ = acceptor.on_accept(alloc, storage, vote)?;
+    Ok(())
+}
+
+/// Whether the promise of ballot (1, 0) from the range's first slot on tells the range.
+fn tells(
+    alloc: Global,
+    storage: &mut MemStable,
+    acceptor: &mut Acceptor,
+    range: Range,
+) -> Result<bool, Fail> {
+    let (first, last, slots) = range;
+    let ballot = Ballot::new(1, 0).ok_or("a ballot")?;
+    let slot = Slot::new(first).ok_or("a slot")?;
+    let Answer::Promise(promise) = acceptor.on_prepare(alloc, storage, ballot, slot)? else {
+        return Ok(false);
+    };
+    let mut told = Vec::new(alloc);
+    for entry in promise.entries() {
+        told.push(entry.vote().slot.value())?;
+    }
+    let ends = (promise.first().value(), promise.last().value());
+    Ok(ends == (first, last) && told.as_slice() == slots)
+}
+
+#[test]
+fn a_promise_tells_a_range(rt: HostRuntime) -> Result<(), Fail> {
+    let alloc = rt.alloc();
+    let mut storage = MemStable::new(alloc);
+    let mut acceptor = Acceptor::load(alloc, &mut storage)?;
+    for slot in 0..5 {
+        cast(alloc, &mut storage, &mut acceptor, slot)?;
+    }
+    for range in RANGES_OF_FIVE {
+        assert!(rt;
+            tells(alloc, &mut storage, &mut acceptor, range)?,
+            "at {range:?}"
+        );
+    }
+    cast(alloc, &mut storage, &mut acceptor, 65_535)?;
+    let mut loaded = Acceptor::load(alloc, &mut storage)?;
+    for range in RANGES_OF_SIX {
+        assert!(rt;
+            tells(alloc, &mut storage, &mut loaded, range)?,
+            "at {range:?}"
+        );
+    }
+    Ok(())
+}
+
 /// Whether the key holds these bytes.
 fn holds(alloc: Global, storage: &mut MemStable, key: Key, bytes: &[u8]) -> bool {
     match storage.get(alloc, key) {
@@ -176,7 +254,7 @@ fn is_told_again(alloc: Global, op: Op) -> Result<bool, Fail> {
     let vote = Vote {
         slot: Slot::first(),
         ballot,
-        command: command.try_clone()?,
+        command: command.clone()?,
     };
     let _ = acceptor.on_accept(alloc, &mut storage, vote)?;
     let mut loaded = Acceptor::load(alloc, &mut storage)?;

@@ -1,8 +1,8 @@
 //! The votes that an acceptor holds.
 
 ghost use Rattle.std.specs.Prelude.{◌≡◌, ◌↔◌, IsTrue, IsSome, IfOk, OnOk, OnErr, IsErrOf, Some, None, ℕ};
-ghost use Rattle.std.specs.Option.{option_to_list};
 ghost use Rattle.acceptor.specs.Accepting.{put};
+ghost use Rattle.acceptor.specs.Ranges.{IsPromiseFrom};
 ghost use Rattle.acceptor.specs.Casts.{AreUpTo, vote_at, cast_at, vote_held};
 ghost use Rattle.acceptor.specs.Forms.{VoteFits};
 ghost use Rattle.acceptor.specs.Spelling.{vote_bytes};
@@ -13,7 +13,7 @@ use stable::{Key, Stable, StableFault};
 use std::alloc::{AllocError, Global};
 use std::collections::BTreeMap;
 use synod::{Ballot, Slot, Vote};
-use wire::frames::{Entries, Entry, Promise, vote_record};
+use wire::{Entries, Entry, MOST_ENTRIES, Promise, vote_record};
 
 /// What was voted for at each slot.
 #[derive(Drop)]
@@ -41,33 +41,24 @@ impl Votes {
         }
     }
 
-    /// The promise of a ballot, which tells the vote at a slot.
-    pub(super) fn promise(&self, ballot: Ballot, slot: Slot) -> Result<Promise, AllocError>
+    /// The promise of a ballot, which tells the votes from a slot on: four at most, and none behind the fourth is passed
+    /// over. It takes one look-up and at most five steps from there, however many votes are held.
+    pub(super) fn promise(&self, ballot: Ballot, first: Slot) -> Result<Promise, AllocError>
         requires { AreUpTo (Some ballot) self.now }
-        ensures { IfOk result (λ p. p ≡ record {
-          ballot = ballot;
-          first = slot;
-          last = slot;
-          entries = option_to_list (vote_held self.now slot);
-        }) }
-    {
-        let entries = self.entries(slot)?;
-        Ok(Promise::new(ballot, slot, slot, entries).unwrap())
-    }
-
-    /// The vote at a slot, as a promise tells it.
-    fn entries(&self, slot: Slot) -> Result<Entries, AllocError>
-        ensures { IfOk result (λ e. e.items ≡ option_to_list (vote_held self.now slot)) }
+        ensures { IfOk result (λ p. IsPromiseFrom (λ s. vote_held self.now s) ballot first p) }
     {
         let mut entries = Entries::new();
-        if let Some(cast) = self.by_slot.get(&slot) {
+        for (slot, cast) in self.by_slot.range(first..) {
+            if entries.len() == MOST_ENTRIES {
+                return Ok(Promise::new(ballot, first, slot.before().unwrap(), entries).unwrap());
+            }
             entries.push(Entry::new(Vote {
-                slot,
+                slot: *slot,
                 ballot: cast.ballot,
-                command: cast.command.try_clone()?,
+                command: cast.command.clone()?,
             }));
         }
-        Ok(entries)
+        Ok(Promise::new(ballot, first, Slot::last(), entries).unwrap())
     }
 
     /// Takes in what was found at a slot.
@@ -104,7 +95,7 @@ impl Votes {
         let bytes = vote_record(alloc, vote.ballot, &vote.command)?;
         let cast = Cast {
             ballot: vote.ballot,
-            command: vote.command.try_clone()?,
+            command: vote.command.clone()?,
         };
         // It takes its place before it is written: after the write nothing may be refused.
         let before = self.by_slot.insert(vote.slot, cast)?;

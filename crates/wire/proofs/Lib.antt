@@ -12,3 +12,4 @@ pub mod LoopLemmas
 pub mod PushLemmas
 pub mod RecordLaws
 pub mod SequenceLemmas
+pub mod WantLemmas

@@ -42,6 +42,16 @@ abbrev pub Gives : {X Y : Type 0} → (X → Y) → Result X WireFault → Resul
 Gives view (Ok x) read = read ≡ Ok (view x)
 Gives view (Err e) read = Fails e read
 
+-- the same of a function that takes no memory
+abbrev pub Tells : {X Y : Type 0} → (X → Y) → Result X WireFault → Result Y WireFault → Type 0
+Tells view (Ok x) read = read ≡ Ok (view x)
+Tells view (Err e) read = read ≡ Err e
+
+-- memory may be wanted: what stands there is no value, or brings what memory is taken for
+abbrev pub MayWant : {Y : Type 0} → (Y → Type 0) → Result Y WireFault → Type 0
+MayWant brings (Ok y) = brings y
+MayWant brings (Err e) = Unit {0}
+
 -- a value and the bytes after it, or a fault
 abbrev pub Read : Type 0 → Type 0
 Read A = Result (A × List ℕ) WireFault

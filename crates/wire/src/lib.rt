@@ -4,14 +4,21 @@
 //! frame has, and `specs/FrameReading.antt` which fault is told of bytes that are none.
 #![tactic(auto)]
 
-pub mod frames;
+mod frames;
 mod node_set;
 mod nodes;
 
 pub use frames::{
     Entries, Entry, Envelope, Kind, LONGEST_FRAME, MAGIC, MOST_ENTRIES, Message, Nack, Promise,
-    WireFault, decode, encode,
+    WireFault, ballot_of_record, ballot_record, decode, encode, no_frame_begins_another,
+    round_of_record, round_record, vote_of_record, vote_record,
 };
 pub use node_set::NodeSet;
 pub use nodes::{NodeId, Nodes};
+
+// What the values above are made of.
+pub use arrayvec::ArrayVec;
+pub use sessions::{Command, MOST_PUT_POINTS, Number, Request, TooLong};
+pub use store::{Addition, Op};
 pub use synod::{Ballot, MOST_NODES, SLOTS, Slot, Vote};
+pub use tpoint::{Id, Instant, Interp, Point, Seq, SeqFault};

@@ -5,10 +5,10 @@ ghost use Rattle.synod.specs.Majorities.{counted, IsMajority};
 
 use super::nodes::{NodeId, Nodes};
 use std::marker::Model;
-use synod::MOST_NODES;
+use synod::{MOST_NODES, is_majority};
 
 /// Some of the nodes that the largest run has.
-#[derive(Clone, Copy, Debug)]
+#[derive(Clone, Copy, Debug, PartialEq, Eq)]
 pub struct NodeSet {
     members: [bool; MOST_NODES as usize],
 }
@@ -62,6 +62,6 @@ impl NodeSet {
                 count += 1;
             }
         }
-        nodes.count() < 2 * count
+        is_majority(nodes.count(), count)
     }
 }

@@ -1,8 +1,9 @@
 //! From bytes to envelopes, with the first fault that is met.
 
-ghost use Rattle.std.specs.Prelude.{ℕ, List, [], ◌++◌, ◌≡◌, ◌≤◌, ◌<◌, length, Ok, IfOk};
+ghost use Rattle.std.specs.Prelude.{ℕ, List, [], ◌++◌, ◌≡◌, ◌≤◌, ◌<◌, Ok, IsOk, IfOk, IsErrOf};
 ghost use Rattle.synod.specs.Ballots.{rank};
-ghost use Rattle.wire.specs.Reading.{Gives};
+ghost use Rattle.wire.specs.Puts.{CommandPuts, MessagePuts};
+ghost use Rattle.wire.specs.Reading.{Gives, Tells, MayWant};
 ghost use Rattle.wire.specs.FrameReading.{version_at, kind_at, node_at, ends_at, Head, head_at};
 ghost use Rattle.wire.specs.FrameReading.{ballot_above, nack_at, vote_at, prepare_at, decided_at};
 ghost use Rattle.wire.specs.FrameReading.{message_at, envelope_at, frame_in};
@@ -31,6 +32,8 @@ pub fn decode(alloc: Global, bytes: &[u8], nodes: Nodes) -> Result<Envelope, Wir
     ensures only { (e : Envelope) → IsFrame nodes bytes.now e → Gives (λ x. x) result (Ok e) }
     // Which fault it is.
     ensures exact { Gives (λ x. x) result (frame_in nodes bytes.now) }
+    // Memory is taken for the points of a sequence alone.
+    ensures in_place { (e : Envelope) → IsFrame nodes bytes.now e → ¬ MessagePuts e.message → IsOk result }
 {
     let _count = nodes.count();
     read_frame(alloc, bytes, nodes)
@@ -38,7 +41,8 @@ pub fn decode(alloc: Global, bytes: &[u8], nodes: Nodes) -> Result<Envelope, Wir
 
 #[tactic(auto, unfolding(crate::specs::FrameReading::frame_in))]
 fn read_frame(alloc: Global, bytes: &[u8], nodes: Nodes) -> Result<Envelope, WireFault>
-    ensures { Gives (λ x. x) result (frame_in nodes bytes.now) }
+    ensures read { Gives (λ x. x) result (frame_in nodes bytes.now) }
+    ensures memory { IsErrOf result WireFault.Memory → MayWant (λ e. MessagePuts e.message) (frame_in nodes bytes.now) }
 {
     if bytes.len() > LONGEST_FRAME {
         return Err(WireFault::Long);
@@ -54,7 +58,8 @@ fn read_frame(alloc: Global, bytes: &[u8], nodes: Nodes) -> Result<Envelope, Wir
 
 #[tactic(auto, unfolding(crate::specs::FrameReading::envelope_at))]
 fn read_envelope(alloc: Global, input: &mut Input, nodes: Nodes) -> Result<Envelope, WireFault>
-    ensures { Gives (λ x. (x, input.new)) result (envelope_at nodes input.old) }
+    ensures read { Gives (λ x. (x, input.new)) result (envelope_at nodes input.old) }
+    ensures memory { IsErrOf result WireFault.Memory → MayWant (λ x. MessagePuts x.0.message) (envelope_at nodes input.old) }
 {
     let head = read_head(input, nodes)?;
     let message = read_message(alloc, head.kind, input, nodes)?;
@@ -75,7 +80,7 @@ struct Head {
 
 #[tactic(auto, unfolding(crate::specs::FrameReading::head_at))]
 fn read_head(input: &mut Input, nodes: Nodes) -> Result<Head, WireFault>
-    ensures { Gives (λ h. (record { kind = h.kind; from = h.from; to = h.to }, input.new)) result (head_at nodes input.old) }
+    ensures { Tells (λ h. (record { kind = h.kind; from = h.from; to = h.to }, input.new)) result (head_at nodes input.old) }
 {
     let version = read_version(input)?;
     let kind = read_kind(input, version)?;
@@ -85,7 +90,7 @@ fn read_head(input: &mut Input, nodes: Nodes) -> Result<Head, WireFault>
 
 #[tactic(auto, unfolding(crate::specs::FrameReading::version_at))]
 fn read_version(input: &mut Input) -> Result<u8, WireFault>
-    ensures { Gives (λ x. (x, input.new)) result (version_at input.old) }
+    ensures { Tells (λ x. (x, input.new)) result (version_at input.old) }
 {
     let magic = input.u16()?;
     if magic != MAGIC {
@@ -100,7 +105,7 @@ fn read_version(input: &mut Input) -> Result<u8, WireFault>
 
 #[tactic(auto, unfolding(crate::specs::FrameReading::kind_at))]
 fn read_kind(input: &mut Input, version: u8) -> Result<Kind, WireFault>
-    ensures { Gives (λ x. (x, input.new)) result (kind_at version input.old) }
+    ensures { Tells (λ x. (x, input.new)) result (kind_at version input.old) }
 {
     let byte = input.u8()?;
     match Kind::of(version, byte) {
@@ -112,7 +117,7 @@ fn read_kind(input: &mut Input, version: u8) -> Result<Kind, WireFault>
 /// Who sends, and who receives.
 #[tactic(auto, unfolding(crate::specs::FrameReading::ends_at))]
 fn read_ends(input: &mut Input, nodes: Nodes) -> Result<(NodeId, NodeId), WireFault>
-    ensures { Gives (λ x. (x, input.new)) result (ends_at nodes input.old) }
+    ensures { Tells (λ x. (x, input.new)) result (ends_at nodes input.old) }
 {
     let from = read_node(input, nodes)?;
     let to = read_node(input, nodes)?;
@@ -121,7 +126,7 @@ fn read_ends(input: &mut Input, nodes: Nodes) -> Result<(NodeId, NodeId), WireFa
 
 #[tactic(auto, unfolding(crate::specs::FrameReading::node_at))]
 fn read_node(input: &mut Input, nodes: Nodes) -> Result<NodeId, WireFault>
-    ensures { Gives (λ x. (x, input.new)) result (node_at nodes input.old) }
+    ensures { Tells (λ x. (x, input.new)) result (node_at nodes input.old) }
 {
     let node = input.u8()?;
     if node >= nodes.count() {
@@ -138,7 +143,8 @@ fn read_message(
     input: &mut Input,
     nodes: Nodes,
 ) -> Result<Message, WireFault>
-    ensures { Gives (λ x. (x, input.new)) result (message_at kind nodes input.old) }
+    ensures read { Gives (λ x. (x, input.new)) result (message_at kind nodes input.old) }
+    ensures memory { IsErrOf result WireFault.Memory → MayWant (λ x. MessagePuts x.0) (message_at kind nodes input.old) }
 {
     match kind {
         Kind::Prepare => read_prepare(input, nodes),
@@ -155,7 +161,7 @@ fn read_message(
 
 #[tactic(auto, unfolding(crate::specs::FrameReading::prepare_at))]
 fn read_prepare(input: &mut Input, nodes: Nodes) -> Result<Message, WireFault>
-    ensures { Gives (λ x. (x, input.new)) result (prepare_at nodes input.old) }
+    ensures { Tells (λ x. (x, input.new)) result (prepare_at nodes input.old) }
 {
     let ballot = read_ballot(input, nodes)?;
     let first = read_slot(input)?;
@@ -164,7 +170,7 @@ fn read_prepare(input: &mut Input, nodes: Nodes) -> Result<Message, WireFault>
 
 #[tactic(auto, unfolding(crate::specs::FrameReading::nack_at))]
 fn read_nack(input: &mut Input, nodes: Nodes) -> Result<Nack, WireFault>
-    ensures { Gives (λ x. (x, input.new)) result (nack_at nodes input.old) }
+    ensures { Tells (λ x. (x, input.new)) result (nack_at nodes input.old) }
 {
     let ballot = read_ballot(input, nodes)?;
     let promised = read_ballot_above(input, nodes, ballot)?;
@@ -175,7 +181,7 @@ fn read_nack(input: &mut Input, nodes: Nodes) -> Result<Nack, WireFault>
 #[tactic(auto, unfolding(crate::specs::FrameReading::ballot_above))]
 fn read_ballot_above(input: &mut Input, nodes: Nodes, refused: Ballot) -> Result<Ballot, WireFault>
     ensures above { IfOk result (λ b. rank refused < rank b) }
-    ensures read { Gives (λ x. (x, input.new)) result (ballot_above nodes refused input.old) }
+    ensures read { Tells (λ x. (x, input.new)) result (ballot_above nodes refused input.old) }
 {
     let ballot = read_ballot(input, nodes)?;
     if ballot <= refused {
@@ -187,7 +193,8 @@ fn read_ballot_above(input: &mut Input, nodes: Nodes, refused: Ballot) -> Result
 /// What is proposed or was voted for.
 #[tactic(auto, unfolding(crate::specs::FrameReading::vote_at))]
 fn read_vote(alloc: Global, input: &mut Input, nodes: Nodes) -> Result<Vote<Command>, WireFault>
-    ensures { Gives (λ x. (x, input.new)) result (vote_at nodes input.old) }
+    ensures read { Gives (λ x. (x, input.new)) result (vote_at nodes input.old) }
+    ensures memory { IsErrOf result WireFault.Memory → MayWant (λ x. CommandPuts x.0.command) (vote_at nodes input.old) }
 {
     let ballot = read_ballot(input, nodes)?;
     let slot = read_slot(input)?;
@@ -201,7 +208,8 @@ fn read_vote(alloc: Global, input: &mut Input, nodes: Nodes) -> Result<Vote<Comm
 
 #[tactic(auto, unfolding(crate::specs::FrameReading::decided_at))]
 fn read_decided(alloc: Global, input: &mut Input) -> Result<Message, WireFault>
-    ensures { Gives (λ x. (x, input.new)) result (decided_at input.old) }
+    ensures read { Gives (λ x. (x, input.new)) result (decided_at input.old) }
+    ensures memory { IsErrOf result WireFault.Memory → MayWant (λ x. MessagePuts x.0) (decided_at input.old) }
 {
     let slot = read_slot(input)?;
     let command = read_command(alloc, input)?;

@@ -1,6 +1,6 @@
 //! Votes as promises tell them.
 
-ghost use Rattle.std.specs.Prelude.{◌≡◌, IfOk};
+ghost use Rattle.std.specs.Prelude.{◌≡◌};
 
 use sessions::Command;
 use std::alloc::AllocError;
@@ -45,17 +45,14 @@ impl Entry {
     {
         self.vote
     }
+}
 
-    /// A copy, equal to it.
-    pub fn try_clone(&self) -> Result<Entry, AllocError>
-        ensures { IfOk result (λ copy. copy ≡ self.now) }
-    {
+impl Clone for Entry {
+    ghost is_clone = { λ original copy. copy ≡ original };
+
+    fn clone(&self) -> Result<Entry, AllocError> {
         Ok(Entry {
-            vote: Vote {
-                slot: self.vote.slot,
-                ballot: self.vote.ballot,
-                command: self.vote.command.try_clone()?,
-            },
+            vote: self.vote.clone()?,
         })
     }
 }

@@ -1,6 +1,6 @@
 //! Messages on their way.
 
-ghost use Rattle.std.specs.Prelude.{◌≡◌, ◌↔◌, IsTrue, IfOk};
+ghost use Rattle.std.specs.Prelude.{◌≡◌, ◌↔◌, IsTrue};
 ghost use Rattle.std.specs.Cmp.{partial_equiv_from_equiv};
 ghost use Rattle.wire.specs.Same.{same_envelope, same_envelope_equiv};
 
@@ -22,15 +22,14 @@ pub struct Envelope {
     pub message: Message,
 }
 
-impl Envelope {
-    /// A copy, equal to it.
-    pub fn try_clone(&self) -> Result<Envelope, AllocError>
-        ensures { IfOk result (λ copy. copy ≡ self.now) }
-    {
+impl Clone for Envelope {
+    ghost is_clone = { λ original copy. copy ≡ original };
+
+    fn clone(&self) -> Result<Envelope, AllocError> {
         Ok(Envelope {
             from: self.from,
             to: self.to,
-            message: self.message.try_clone()?,
+            message: self.message.clone()?,
         })
     }
 }

@@ -4,6 +4,8 @@ ghost use Rattle.std.specs.Prelude.{◌≡◌, ◌↔◌, IsTrue};
 ghost use Rattle.wire.specs.Faults.{code_of};
 
 use std::alloc::{AllocError, AllocFailed};
+use std::error::Error;
+use std::fmt;
 
 /// Why bytes were not read as a frame: the first fault in reading order, but that `Long` is tested before all.
 #[derive(Clone, Copy, Debug, PartialEq, Eq)]
@@ -53,6 +55,23 @@ impl WireFault {
         }
     }
 }
+
+impl fmt::Display for WireFault {
+    fn fmt<W: fmt::Write>(&self, f: &mut fmt::Formatter<W>) -> fmt::Result {
+        f.write_str(match self {
+            WireFault::Short => "the frame ends too early",
+            WireFault::Magic => "the first two bytes are no frame's",
+            WireFault::Version => "no kind of message has this version",
+            WireFault::Kind => "the version has no message of this kind",
+            WireFault::Field => "a field holds a value that it can't have",
+            WireFault::Trailing => "bytes stand after the message",
+            WireFault::Long => "there are more bytes than a frame has at most",
+            WireFault::Memory => "out of memory",
+        })
+    }
+}
+
+impl Error for WireFault {}
 
 impl From<AllocError> for WireFault {
     ghost use Rattle.wire.specs.declared.frames.fault.WireFault.TheVariants.{Memory};

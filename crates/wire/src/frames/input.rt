@@ -2,7 +2,7 @@
 
 ghost use Rattle.std.specs.Prelude.{◌≡◌, ◌≤◌, ◌==◌, length};
 ghost use Rattle.std.specs.List.{list_all};
-ghost use Rattle.wire.specs.Reading.{Gives, byte_at, number_at, text_at};
+ghost use Rattle.wire.specs.Reading.{Tells, byte_at, number_at, text_at};
 ghost use Rattle.tpoint.specs.Ids.{is_id_byte};
 
 use super::fault::WireFault;
@@ -40,7 +40,7 @@ impl<'a> Input<'a> {
     }
 
     pub(super) fn u8(&mut self) -> Result<u8, WireFault>
-        ensures { Gives (λ x. (x, self.new)) result (byte_at self.old) }
+        ensures { Tells (λ x. (x, self.new)) result (byte_at self.old) }
     {
         match self.rest {
             [] => Err(WireFault::Short),
@@ -52,7 +52,7 @@ impl<'a> Input<'a> {
     }
 
     pub(super) fn u16(&mut self) -> Result<u16, WireFault>
-        ensures { Gives (λ x. (x, self.new)) result (number_at 2 self.old) }
+        ensures { Tells (λ x. (x, self.new)) result (number_at 2 self.old) }
     {
         if self.rest.len() < 2 {
             return Err(WireFault::Short);
@@ -63,7 +63,7 @@ impl<'a> Input<'a> {
     }
 
     pub(super) fn u32(&mut self) -> Result<u32, WireFault>
-        ensures { Gives (λ x. (x, self.new)) result (number_at 4 self.old) }
+        ensures { Tells (λ x. (x, self.new)) result (number_at 4 self.old) }
     {
         if self.rest.len() < 4 {
             return Err(WireFault::Short);
@@ -74,7 +74,7 @@ impl<'a> Input<'a> {
     }
 
     pub(super) fn u64(&mut self) -> Result<u64, WireFault>
-        ensures { Gives (λ x. (x, self.new)) result (number_at 8 self.old) }
+        ensures { Tells (λ x. (x, self.new)) result (number_at 8 self.old) }
     {
         if self.rest.len() < 8 {
             return Err(WireFault::Short);
@@ -88,7 +88,7 @@ impl<'a> Input<'a> {
     pub(super) fn text(&mut self, len: usize) -> Result<Id, WireFault>
         requires some { 1 ≤ len }
         requires few { len ≤ LONGEST_ID }
-        ensures { Gives (λ x. (x, self.new)) result (text_at len self.old) }
+        ensures { Tells (λ x. (x, self.new)) result (text_at len self.old) }
     {
         // A byte that is none of an id's comes before the end of the bytes.
         let there = len.min(self.rest.len());

@@ -1,6 +1,6 @@
 //! What nodes say to one another.
 
-ghost use Rattle.std.specs.Prelude.{◌≡◌, ◌↔◌, IsTrue, IfOk};
+ghost use Rattle.std.specs.Prelude.{◌≡◌, ◌↔◌, IsTrue};
 ghost use Rattle.std.specs.Cmp.{partial_equiv_from_equiv};
 ghost use Rattle.wire.specs.FrameSpelling.{kind_of};
 ghost use Rattle.wire.specs.Same.{same_message, same_message_equiv};
@@ -25,7 +25,7 @@ pub enum Message {
     Accept(Vote<Command>),
     /// The sender voted so.
     Accepted(Vote<Command>),
-    /// Asks what is decided from this slot on.
+    /// Asks what is decided at this slot.
     Ask { slot: Slot },
     /// The sender has learnt that this is chosen.
     Decided { slot: Slot, command: Command },
@@ -46,24 +46,25 @@ impl Message {
             Message::Decided { .. } => Kind::Decided,
         }
     }
+}
 
-    /// A copy, equal to it.
-    pub fn try_clone(&self) -> Result<Message, AllocError>
-        ensures { IfOk result (λ copy. copy ≡ self.now) }
-    {
+impl Clone for Message {
+    ghost is_clone = { λ original copy. copy ≡ original };
+
+    fn clone(&self) -> Result<Message, AllocError> {
         match self {
             Message::Prepare { ballot, first } => Ok(Message::Prepare {
                 ballot: *ballot,
                 first: *first,
             }),
-            Message::Promise(promise) => Ok(Message::Promise(promise.try_clone()?)),
+            Message::Promise(promise) => Ok(Message::Promise(promise.clone()?)),
             Message::Nack(nack) => Ok(Message::Nack(*nack)),
-            Message::Accept(vote) => Ok(Message::Accept(copied(vote)?)),
-            Message::Accepted(vote) => Ok(Message::Accepted(copied(vote)?)),
+            Message::Accept(vote) => Ok(Message::Accept(vote.clone()?)),
+            Message::Accepted(vote) => Ok(Message::Accepted(vote.clone()?)),
             Message::Ask { slot } => Ok(Message::Ask { slot: *slot }),
             Message::Decided { slot, command } => Ok(Message::Decided {
                 slot: *slot,
-                command: command.try_clone()?,
+                command: command.clone()?,
             }),
         }
     }
@@ -112,15 +113,4 @@ fn are_same(message: &Message, other: &Message) -> bool
         ) => slot == other_slot && command == other_command,
         _ => false,
     }
-}
-
-/// A copy of a vote, equal to it.
-fn copied(vote: &Vote<Command>) -> Result<Vote<Command>, AllocError>
-    ensures { IfOk result (λ copy. copy ≡ vote.now) }
-{
-    Ok(Vote {
-        slot: vote.slot,
-        ballot: vote.ballot,
-        command: vote.command.try_clone()?,
-    })
 }

@@ -109,11 +109,12 @@ impl Promise {
         let Promise { entries, .. } = self;
         entries
     }
+}
 
-    /// A copy, equal to it.
-    pub fn try_clone(&self) -> Result<Promise, AllocError>
-        ensures { IfOk result (λ copy. copy ≡ self.now) }
-    {
+impl Clone for Promise {
+    ghost is_clone = { λ original copy. copy ≡ original };
+
+    fn clone(&self) -> Result<Promise, AllocError> {
         Ok(Promise {
             ballot: self.ballot,
             first: self.first,
@@ -163,7 +164,7 @@ fn copied(entries: &Entries) -> Result<Entries, AllocError>
 {
     let mut copies = ArrayVec::new();
     for entry in entries.as_slice() {
-        copies.push(entry.try_clone()?);
+        copies.push(entry.clone()?);
     }
     Ok(copies)
 }

@@ -1,10 +1,11 @@
 //! The fields of frames and records, read with the first fault that is met.
 
-ghost use Rattle.std.specs.Prelude.{◌≡◌, ◌<◌, ◌≤◌, ◌+◌, ◌↔◌, IsTrue, IfOk, length};
+ghost use Rattle.std.specs.Prelude.{◌≡◌, ◌<◌, ◌≤◌, ◌+◌, ◌↔◌, IsTrue, IfOk, IsErrOf, length};
 ghost use Rattle.sessions.specs.Asked.{IsShort};
 ghost use Rattle.tpoint.specs.Coordinates.{InRange};
 ghost use Rattle.tpoint.specs.Moving.{InBounds};
-ghost use Rattle.wire.specs.Reading.{Gives, ballot_of, ballot_at, slot_at, id_at, instant_at, is_coordinate};
+ghost use Rattle.wire.specs.Puts.{IsPut, CommandPuts};
+ghost use Rattle.wire.specs.Reading.{Gives, Tells, MayWant, ballot_of, ballot_at, slot_at, id_at, instant_at, is_coordinate};
 ghost use Rattle.wire.specs.Reading.{coordinate_at, triple_at, triple_from, triples_at, interp_at, count_at};
 ghost use Rattle.wire.specs.Reading.{sequence_at, put_at, append_at, remove_at, op_at};
 ghost use Rattle.wire.specs.Reading.{request_number_at, request_at, asked_at, command_at};
@@ -21,7 +22,7 @@ use tpoint::{FURTHEST, Id, Instant, Interp, LAST_MS, LONGEST_ID, Point, Seq};
 /// A ballot of one of so many nodes.
 #[tactic(auto, unfolding(crate::specs::Reading::ballot_at))]
 pub(super) fn read_ballot(input: &mut Input, nodes: Nodes) -> Result<Ballot, WireFault>
-    ensures { Gives (λ x. (x, input.new)) result (ballot_at nodes input.old) }
+    ensures { Tells (λ x. (x, input.new)) result (ballot_at nodes input.old) }
 {
     let round = input.u64()?;
     if round == 0 {
@@ -46,7 +47,7 @@ fn made(round: u64, node: u8) -> Ballot
 /// A slot of the log.
 #[tactic(auto, unfolding(crate::specs::Reading::slot_at))]
 pub(super) fn read_slot(input: &mut Input) -> Result<Slot, WireFault>
-    ensures { Gives (λ x. (x, input.new)) result (slot_at input.old) }
+    ensures { Tells (λ x. (x, input.new)) result (slot_at input.old) }
 {
     let number = input.u32()?;
     let Some(slot) = Slot::new(number) else {
@@ -58,7 +59,8 @@ pub(super) fn read_slot(input: &mut Input) -> Result<Slot, WireFault>
 /// What is at a slot of the log: nothing, or a client's request.
 #[tactic(auto, unfolding(crate::specs::Reading::command_at))]
 pub(super) fn read_command(alloc: Global, input: &mut Input) -> Result<Command, WireFault>
-    ensures { Gives (λ x. (x, input.new)) result (command_at input.old) }
+    ensures read { Gives (λ x. (x, input.new)) result (command_at input.old) }
+    ensures memory { IsErrOf result WireFault.Memory → MayWant (λ x. CommandPuts x.0) (command_at input.old) }
 {
     match input.u8()? {
         0 => Ok(Command::NoOp),
@@ -69,7 +71,8 @@ pub(super) fn read_command(alloc: Global, input: &mut Input) -> Result<Command, 
 
 #[tactic(auto, unfolding(crate::specs::Reading::asked_at))]
 fn read_asked(alloc: Global, input: &mut Input) -> Result<Command, WireFault>
-    ensures { Gives (λ x. (x, input.new)) result (asked_at input.old) }
+    ensures read { Gives (λ x. (x, input.new)) result (asked_at input.old) }
+    ensures memory { IsErrOf result WireFault.Memory → MayWant (λ x. CommandPuts x.0) (asked_at input.old) }
 {
     let request = read_request(alloc, input)?;
     Ok(Command::Request(request))
@@ -77,7 +80,8 @@ fn read_asked(alloc: Global, input: &mut Input) -> Result<Command, WireFault>
 
 #[tactic(auto, unfolding(crate::specs::Reading::request_at))]
 fn read_request(alloc: Global, input: &mut Input) -> Result<Request, WireFault>
-    ensures { Gives (λ x. (x, input.new)) result (request_at input.old) }
+    ensures read { Gives (λ x. (x, input.new)) result (request_at input.old) }
+    ensures memory { IsErrOf result WireFault.Memory → MayWant (λ x. IsPut x.0.op) (request_at input.old) }
 {
     let client = input.u8()?;
     let number = read_request_number(input)?;
@@ -90,7 +94,7 @@ fn read_request(alloc: Global, input: &mut Input) -> Result<Request, WireFault>
 
 #[tactic(auto, unfolding(crate::specs::Reading::request_number_at))]
 fn read_request_number(input: &mut Input) -> Result<Number, WireFault>
-    ensures { Gives (λ x. (x, input.new)) result (request_number_at input.old) }
+    ensures { Tells (λ x. (x, input.new)) result (request_number_at input.old) }
 {
     let value = input.u64()?;
     let Some(number) = Number::new(value) else {
@@ -100,10 +104,11 @@ fn read_request_number(input: &mut Input) -> Result<Number, WireFault>
 }
 
 /// A change to the database: `01` puts, `02` appends, `03` removes.
-#[tactic(auto, unfolding(crate::specs::Reading::op_at))]
+#[tactic(auto, unfolding(crate::specs::Reading::op_at), using(crate::proofs::WantLemmas::put_wants))]
 fn read_op(alloc: Global, input: &mut Input) -> Result<Op, WireFault>
     ensures short { IfOk result IsShort }
     ensures read { Gives (λ x. (x, input.new)) result (op_at input.old) }
+    ensures memory { IsErrOf result WireFault.Memory → MayWant (λ x. IsPut x.0) (op_at input.old) }
 {
     match input.u8()? {
         1 => read_put(alloc, input),
@@ -126,7 +131,7 @@ fn read_put(alloc: Global, input: &mut Input) -> Result<Op, WireFault>
 #[tactic(auto, unfolding(crate::specs::Reading::append_at))]
 fn read_append(input: &mut Input) -> Result<Op, WireFault>
     ensures short { IfOk result IsShort }
-    ensures read { Gives (λ x. (x, input.new)) result (append_at input.old) }
+    ensures read { Tells (λ x. (x, input.new)) result (append_at input.old) }
 {
     let id = read_id(input)?;
     let point = read_triple(input)?;
@@ -139,7 +144,7 @@ fn read_append(input: &mut Input) -> Result<Op, WireFault>
 #[tactic(auto, unfolding(crate::specs::Reading::remove_at))]
 fn read_remove(input: &mut Input) -> Result<Op, WireFault>
     ensures short { IfOk result IsShort }
-    ensures read { Gives (λ x. (x, input.new)) result (remove_at input.old) }
+    ensures read { Tells (λ x. (x, input.new)) result (remove_at input.old) }
 {
     let id = read_id(input)?;
     Ok(Op::Remove(id))
@@ -148,7 +153,7 @@ fn read_remove(input: &mut Input) -> Result<Op, WireFault>
 /// An id: its length, and its text.
 #[tactic(auto, unfolding(crate::specs::Reading::id_at))]
 fn read_id(input: &mut Input) -> Result<Id, WireFault>
-    ensures { Gives (λ x. (x, input.new)) result (id_at input.old) }
+    ensures { Tells (λ x. (x, input.new)) result (id_at input.old) }
 {
     let len = usize::from(input.u8()?);
     if len == 0 || len > LONGEST_ID {
@@ -172,7 +177,7 @@ fn read_sequence(alloc: Global, input: &mut Input) -> Result<Seq, WireFault>
 /// Where a moving point is between its listed instants.
 #[tactic(auto, unfolding(crate::specs::Reading::interp_at))]
 fn read_interp(input: &mut Input) -> Result<Interp, WireFault>
-    ensures { Gives (λ x. (x, input.new)) result (interp_at input.old) }
+    ensures { Tells (λ x. (x, input.new)) result (interp_at input.old) }
 {
     match input.u8()? {
         1 => Ok(Interp::Discrete),
@@ -187,7 +192,7 @@ fn read_interp(input: &mut Input) -> Result<Interp, WireFault>
 fn read_count(input: &mut Input) -> Result<u16, WireFault>
     ensures some { IfOk result (λ n. 1 ≤ n) }
     ensures few { IfOk result (λ n. n ≤ MOST_PUT_POINTS) }
-    ensures read { Gives (λ x. (x, input.new)) result (count_at input.old) }
+    ensures read { Tells (λ x. (x, input.new)) result (count_at input.old) }
 {
     let count = input.u16()?;
     if count == 0 || usize::from(count) > MOST_PUT_POINTS {
@@ -221,7 +226,7 @@ fn after(t: Instant) -> u64
 /// A triple that is not before an instant.
 #[tactic(auto, unfolding(crate::specs::Reading::triple_from))]
 fn read_triple_from(from: u64, input: &mut Input) -> Result<Point, WireFault>
-    ensures { Gives (λ x. (x, input.new)) result (triple_from from input.old) }
+    ensures { Tells (λ x. (x, input.new)) result (triple_from from input.old) }
 {
     let point = read_triple(input)?;
     if (point.t.ms() as u64) < from {
@@ -234,7 +239,7 @@ fn read_triple_from(from: u64, input: &mut Input) -> Result<Point, WireFault>
 #[tactic(auto, unfolding(crate::specs::Reading::triple_at))]
 fn read_triple(input: &mut Input) -> Result<Point, WireFault>
     ensures in_bounds { IfOk result InBounds }
-    ensures read { Gives (λ x. (x, input.new)) result (triple_at input.old) }
+    ensures read { Tells (λ x. (x, input.new)) result (triple_at input.old) }
 {
     let t = read_instant(input)?;
     let x = read_coordinate(input)?;
@@ -244,7 +249,7 @@ fn read_triple(input: &mut Input) -> Result<Point, WireFault>
 
 #[tactic(auto, unfolding(crate::specs::Reading::instant_at))]
 fn read_instant(input: &mut Input) -> Result<Instant, WireFault>
-    ensures { Gives (λ x. (x, input.new)) result (instant_at input.old) }
+    ensures { Tells (λ x. (x, input.new)) result (instant_at input.old) }
 {
     let ms = input.u64()?;
     if ms > LAST_MS as u64 {
@@ -260,7 +265,7 @@ fn read_instant(input: &mut Input) -> Result<Instant, WireFault>
 #[tactic(auto, unfolding(crate::specs::Reading::coordinate_at))]
 fn read_coordinate(input: &mut Input) -> Result<i64, WireFault>
     ensures in_range { IfOk result InRange }
-    ensures read { Gives (λ x. (x, input.new)) result (coordinate_at input.old) }
+    ensures read { Tells (λ x. (x, input.new)) result (coordinate_at input.old) }
 {
     let z = input.u64()?.cast_signed();
     if !is_coordinate(z) {

@@ -1,8 +1,9 @@
 //! Promises, read with the first fault that is met.
 
-ghost use Rattle.std.specs.Prelude.{◌≡◌, ◌+◌, ◌≤◌, length, IfOk};
+ghost use Rattle.std.specs.Prelude.{◌≡◌, ◌+◌, ◌≤◌, length, IfOk, IsErrOf};
 ghost use Rattle.wire.specs.Promises.{AreTold};
-ghost use Rattle.wire.specs.Reading.{Gives};
+ghost use Rattle.wire.specs.Puts.{CommandPuts, SomePuts};
+ghost use Rattle.wire.specs.Reading.{Gives, Tells, MayWant};
 ghost use Rattle.wire.specs.FrameReading.{range_at, few_at, slot_within, ballot_up_to, entry_at, entries_at};
 ghost use Rattle.wire.specs.FrameReading.{told_at, promise_at};
 
@@ -24,7 +25,8 @@ pub(super) fn read_promise(
     input: &mut Input,
     nodes: Nodes,
 ) -> Result<Promise, WireFault>
-    ensures { Gives (λ x. (x, input.new)) result (promise_at nodes input.old) }
+    ensures read { Gives (λ x. (x, input.new)) result (promise_at nodes input.old) }
+    ensures memory { IsErrOf result WireFault.Memory → MayWant (λ x. SomePuts x.0.entries) (promise_at nodes input.old) }
 {
     let ballot = read_ballot(input, nodes)?;
     let (first, last) = read_range(input)?;
@@ -36,7 +38,7 @@ pub(super) fn read_promise(
 #[tactic(auto, unfolding(crate::specs::FrameReading::range_at))]
 fn read_range(input: &mut Input) -> Result<(Slot, Slot), WireFault>
     ensures in_order { IfOk result (λ r. r.0 ≤ r.1) }
-    ensures read { Gives (λ x. (x, input.new)) result (range_at input.old) }
+    ensures read { Tells (λ x. (x, input.new)) result (range_at input.old) }
 {
     let first = read_slot(input)?;
     let last = read_slot(input)?;
@@ -59,6 +61,8 @@ fn read_told(
     ensures few { IfOk result (λ entries. length entries.items ≤ MOST_ENTRIES) }
     ensures told { IfOk result (λ entries. AreTold ballot first last entries.items) }
     ensures read { Gives (λ x. (x.items, input.new)) result (told_at nodes ballot (first, last) input.old) }
+    ensures memory { IsErrOf result WireFault.Memory
+        → MayWant (λ x. SomePuts x.0) (told_at nodes ballot (first, last) input.old) }
 {
     let count = read_few(input)?;
     read_entries(alloc, input, nodes, ballot, first, last, count)
@@ -68,7 +72,7 @@ fn read_told(
 #[tactic(auto, unfolding(crate::specs::FrameReading::few_at))]
 fn read_few(input: &mut Input) -> Result<u8, WireFault>
     ensures few { IfOk result (λ count. count ≤ MOST_ENTRIES) }
-    ensures read { Gives (λ x. (x, input.new)) result (few_at input.old) }
+    ensures read { Tells (λ x. (x, input.new)) result (few_at input.old) }
 {
     let count = input.u8()?;
     if usize::from(count) > MOST_ENTRIES {
@@ -88,7 +92,9 @@ fn read_entries(
     count: u8,
 ) -> Result<Entries, WireFault>
     requires { count ≤ MOST_ENTRIES }
-    ensures { Gives (λ x. (x.items, input.new)) result (entries_at nodes ballot last count first input.old) }
+    ensures read { Gives (λ x. (x.items, input.new)) result (entries_at nodes ballot last count first input.old) }
+    ensures memory { IsErrOf result WireFault.Memory
+        → MayWant (λ x. SomePuts x.0) (entries_at nodes ballot last count first input.old) }
 {
     let mut entries = ArrayVec::new();
     let mut from = first.value();
@@ -117,7 +123,9 @@ fn read_entry(
     from: u32,
     last: Slot,
 ) -> Result<Vote<Command>, WireFault>
-    ensures { Gives (λ x. (x, input.new)) result (entry_at nodes limit from last input.old) }
+    ensures read { Gives (λ x. (x, input.new)) result (entry_at nodes limit from last input.old) }
+    ensures memory { IsErrOf result WireFault.Memory
+        → MayWant (λ x. CommandPuts x.0.command) (entry_at nodes limit from last input.old) }
 {
     let slot = read_slot_within(input, from, last)?;
     let ballot = read_ballot_up_to(input, nodes, limit)?;
@@ -132,7 +140,7 @@ fn read_entry(
 /// A slot from one to another.
 #[tactic(auto, unfolding(crate::specs::FrameReading::slot_within))]
 fn read_slot_within(input: &mut Input, from: u32, last: Slot) -> Result<Slot, WireFault>
-    ensures { Gives (λ x. (x, input.new)) result (slot_within from last input.old) }
+    ensures { Tells (λ x. (x, input.new)) result (slot_within from last input.old) }
 {
     let slot = read_slot(input)?;
     if slot.value() < from || last < slot {
@@ -144,7 +152,7 @@ fn read_slot_within(input: &mut Input, from: u32, last: Slot) -> Result<Slot, Wi
 /// A ballot that is not above another.
 #[tactic(auto, unfolding(crate::specs::FrameReading::ballot_up_to))]
 fn read_ballot_up_to(input: &mut Input, nodes: Nodes, limit: Ballot) -> Result<Ballot, WireFault>
-    ensures { Gives (λ x. (x, input.new)) result (ballot_up_to nodes limit input.old) }
+    ensures { Tells (λ x. (x, input.new)) result (ballot_up_to nodes limit input.old) }
 {
     let ballot = read_ballot(input, nodes)?;
     if limit < ballot {

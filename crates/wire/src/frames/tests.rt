@@ -1,7 +1,7 @@
 //! What no clause says: that the definitions give the frames that were worked out by hand, and that calls which take
 //! memory succeed.
 
-use super::{Entry, Envelope, LONGEST_FRAME, Message, Nack, Promise, decode, encode};
+use super::{Entry, Envelope, LONGEST_FRAME, Message, Nack, Promise, WireFault, decode, encode};
 use crate::{NodeId, Nodes};
 use arrayvec::ArrayVec;
 use sessions::{Command, MOST_PUT_POINTS, Number, Request};
@@ -54,7 +54,7 @@ fn fault(alloc: Global, bytes: &[u8]) -> Result<u8, Fail> {
 fn is_frame(alloc: Global, bytes: &[u8]) -> Result<bool, Fail> {
     let nodes = Nodes::new(3).ok_or("three nodes")?;
     let envelope = decode(alloc, bytes, nodes)?;
-    let spelled = encode(alloc, &envelope.try_clone()?)?;
+    let spelled = encode(alloc, &envelope.clone()?)?;
     let again = decode(alloc, spelled.as_slice(), nodes)?;
     Ok(spelled.as_slice() == bytes && again == envelope)
 }
@@ -136,6 +136,13 @@ fn changed_accepts(rt: HostRuntime) -> Result<(), Fail> {
 fn changed_decisions(rt: HostRuntime) -> Result<(), Fail> {
     assert!(rt; survives_changes(rt.alloc(), &ASK)?);
     assert!(rt; survives_changes(rt.alloc(), &DECIDED)?);
+    Ok(())
+}
+
+#[test]
+fn a_fault_in_words(rt: HostRuntime) -> Result<(), Fail> {
+    let text = format!(in rt.alloc(); "{}", WireFault::Short)?;
+    assert!(rt; text.as_str() == "the frame ends too early");
     Ok(())
 }
 

@@ -7,33 +7,33 @@ use Rattle.acceptor.proofs.acceptor.Acceptor.load.Goals as goal
 
 pub loop-key-init : goal.loop-key-init
 loop-key-init g c = (
-  g.met.S.Stable.reads_none c.keys.new.self,
-  λ honest. RecordsSay-same _ _ _ (λ k. refl) (RecordsSay-holds _ _ _ refl c.new.ensures RecordsSay-nothing),
+  g.met.S.Stable.laws.reads_none c.keys.new.self,
+  λ honest. RecordsSay-same _ _ _ (λ k. refl) (RecordsSay-holds _ _ _ refl refl c.new.ensures RecordsSay-nothing),
   λ honest q has. absurd cc,
 )
 
 -- a read that fails comes after reads that did not
 pub returns-in_err-take_in-clause-device : goal.returns-in_err-take_in-clause-device
 returns-in_err-take_in-clause-device g c = λ device.
-    let law = g.met.S.Stable in
+    let law = g.met.S.Stable.laws in
     let before = law.reads_reads _ _ _ c.in_ok-keys.ensures.ok c.loop-key.invariant.0 in
     law.reads_read_fails _ _ _ before (c.in_err-take_in.ensures.device (search rules))
 
 pub returns-in_err-take_in-clause-memory : goal.returns-in_err-take_in-clause-memory
 returns-in_err-take_in-clause-memory g c = λ memory.
-    let law = g.met.S.Stable in
+    let law = g.met.S.Stable.laws in
     let before = law.reads_reads _ _ _ c.in_ok-keys.ensures.ok c.loop-key.invariant.0 in
     law.reads_reads _ _ _ before (c.in_err-take_in.ensures.memory (search rules))
 
 pub returns-in_err-take_in-clause-damaged : goal.returns-in_err-take_in-clause-damaged
 returns-in_err-take_in-clause-damaged g c = λ damaged.
-    let law = g.met.S.Stable in
+    let law = g.met.S.Stable.laws in
     let before = law.reads_reads _ _ _ c.in_ok-keys.ensures.ok c.loop-key.invariant.0 in
     law.reads_reads _ _ _ before (c.in_err-take_in.ensures.damaged (search rules))
 
 pub returns-in_err-take_in-clause-damaged_record : goal.returns-in_err-take_in-clause-damaged_record
 returns-in_err-take_in-clause-damaged_record g c = λ honest damaged.
-    let law = g.met.S.Stable in
+    let law = g.met.S.Stable.laws in
     let reads = c.in_err-take_in.ensures.damaged (search rules) in
     let still = law.reads_honest _ _ reads honest in
     let before = law.reads_reads _ _ _ c.in_ok-keys.ensures.ok c.loop-key.invariant.0 in
@@ -43,7 +43,7 @@ returns-in_err-take_in-clause-damaged_record g c = λ honest damaged.
 -- the next key is none of those before, and its record is taken in
 pub loop-key-preserved : goal.loop-key-preserved
 loop-key-preserved g c =
-    let law = g.met.S.Stable in
+    let law = g.met.S.Stable.laws in
     let keys = c.deref-key-items.result.now in
     let i = c.loop-key.key-index in
     let lt : i < length keys = omega arith in
@@ -64,7 +64,7 @@ loop-key-preserved g c =
 -- what the listed keys hold is all that is held
 pub returns-clause-told : goal.returns-clause-told
 returns-clause-told g c = λ honest.
-    let law = g.met.S.Stable in
+    let law = g.met.S.Stable.laws in
     let listed = law.reads_honest _ _ c.loop-key.invariant.0 honest in
     let says = c.loop-key.invariant.1 honest in
     let whole = take_all c.deref-key-items.result.now c.loop-key.key-index (omega arith) ∙ c.deref-key-items.ensures.value in
@@ -73,15 +73,21 @@ returns-clause-told g c = λ honest.
 
 pub returns-clause-form : goal.returns-clause-form
 returns-clause-form g c = λ honest.
-    let law = g.met.S.Stable in
+    let law = g.met.S.Stable.laws in
     let listed = law.reads_honest _ _ c.loop-key.invariant.0 honest in
     let forms = c.loop-key.invariant.2 honest in
     let whole = take_all c.deref-key-items.result.now c.loop-key.key-index (omega arith) ∙ c.deref-key-items.ensures.value in
     let all = rw whole at forms in
     forms_all _ c.in_ok-keys.keys.items (c.in_ok-keys.ensures.told listed) all
 
+-- the keys were told, so that none is stray
+pub returns-clause-no_stray : goal.returns-clause-no_stray
+returns-clause-no_stray g c = λ honest.
+    let law = g.met.S.Stable.laws in
+    c.in_ok-keys.ensures.no_stray (law.reads_honest _ _ c.loop-key.invariant.0 honest)
+
 pub returns-clause-reads : goal.returns-clause-reads
-returns-clause-reads g c = g.met.S.Stable.reads_reads _ _ _ c.in_ok-keys.ensures.ok c.loop-key.invariant.0
+returns-clause-reads g c = g.met.S.Stable.laws.reads_reads _ _ _ c.in_ok-keys.ensures.ok c.loop-key.invariant.0
 
 pub returns-clause-settled : goal.returns-clause-settled
-returns-clause-settled g c = g.met.S.Stable.reads_settled _ _ c.loop-key.invariant.0 c.in_ok-keys.ensures.settled
+returns-clause-settled g c = g.met.S.Stable.laws.reads_settled _ _ c.loop-key.invariant.0 c.in_ok-keys.ensures.settled

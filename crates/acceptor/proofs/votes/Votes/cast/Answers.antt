@@ -9,7 +9,7 @@ use Rattle.acceptor.proofs.votes.Votes.cast.Goals as goal
 pub returns-in-Ok-clause-votes : goal.returns-in-Ok-clause-votes
 returns-in-Ok-clause-votes g c = λ s.
     let vote = c.args.vote.now in
-    let cast : Cast = record { ballot = vote.ballot; command = c.in_ok-try_clone.field-0 } in
+    let cast : Cast = record { ballot = vote.ballot; command = c.in_ok-clone.field-0 } in
     let same = same_vote cast vote refl (search rules) in
     ap (option_map (vote_at s)) (get-updated c.args.self.now.by_slot c.insert.new.self vote.slot _ c.in_ok-before.ensures.updates s)
     ∙ votes-put (cast_at c.args.self.now) cast vote same s

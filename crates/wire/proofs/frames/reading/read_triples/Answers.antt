@@ -1,6 +1,7 @@
 use Rattle.std.proofs.lemmas.Result.{err_from_is_err_and}
 use Rattle.wire.specs.Reading.{triples_at}
 use Rattle.wire.proofs.LoopLemmas.{triples_go_on, triples_end, triples_done}
+use Rattle.wire.proofs.WantLemmas.{fails_here}
 use Rattle.wire.proofs.SequenceLemmas.{triples_fit}
 use Rattle.wire.proofs.frames.reading.read_triples.Goals as goal
 
@@ -8,7 +9,7 @@ use Rattle.wire.proofs.frames.reading.read_triples.Goals as goal
 pub returns-in_err-point-clause-read : goal.returns-in_err-point-clause-read
 returns-in_err-point-clause-read c =
     let p = err_from_is_err_and c.from_residual-in_err-point.result c.from_residual-in_err-point.ensures.1 in
-    rw (p.1, p.2) (triples_end c.in_err-point.field-0.0 c.loop.points.items c.args.count c.loop.counter c.loop.from c.loop.input (triples_at c.args.count 0 c.args.input.now) c.loop-test.true c.in_err-point.ensures c.loop.invariant)
+    rw (p.1, p.2) (triples_end c.in_err-point.field-0.0 c.loop.points.items c.args.count c.loop.counter c.loop.from c.loop.input (triples_at c.args.count 0 c.args.input.now) c.loop-test.true (fails_here _ _ c.in_err-point.ensures) c.loop.invariant)
 
 -- one triple more
 pub loop-preserved : goal.loop-preserved

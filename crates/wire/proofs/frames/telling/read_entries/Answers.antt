@@ -2,13 +2,20 @@ use Rattle.std.proofs.Common.{rules}
 use Rattle.std.proofs.lemmas.Result.{err_from_is_err_and}
 use Rattle.wire.specs.FrameReading.{entries_at}
 use Rattle.wire.proofs.EntryLemmas.{entries_go_on, entries_end, entries_done}
+use Rattle.wire.proofs.WantLemmas.{entries_want}
 use Rattle.wire.proofs.frames.telling.read_entries.Goals as goal
 
 -- an entry could not be read
-pub returns-in_err-vote : goal.returns-in_err-vote
-returns-in_err-vote c =
+pub returns-in_err-vote-clause-read : goal.returns-in_err-vote-clause-read
+returns-in_err-vote-clause-read c =
     let p = err_from_is_err_and c.from_residual.result c.from_residual.ensures.1 in
-    rw (p.1, p.2) (entries_end c.args.nodes c.args.ballot c.args.last c.in_err-vote.field-0.0 c.loop.entries.items c.args.count c.loop.counter c.loop.from c.loop.input (entries_at c.args.nodes c.args.ballot c.args.last c.args.count c.args.first c.args.input.now) c.loop-test.true c.in_err-vote.ensures c.loop.invariant.so_far)
+    rw (p.1, p.2) (entries_end c.args.nodes c.args.ballot c.args.last c.in_err-vote.field-0.0 c.loop.entries.items c.args.count c.loop.counter c.loop.from c.loop.input (entries_at c.args.nodes c.args.ballot c.args.last c.args.count c.args.first c.args.input.now) c.loop-test.true c.in_err-vote.ensures.read c.loop.invariant.so_far)
+
+pub returns-in_err-vote-clause-memory : goal.returns-in_err-vote-clause-memory
+returns-in_err-vote-clause-memory c = λ wanted.
+    entries_want c.args.nodes c.args.ballot c.args.last c.loop.entries.items c.args.count c.loop.counter c.loop.from c.loop.input
+    (entries_at c.args.nodes c.args.ballot c.args.last c.args.count c.args.first c.args.input.now) c.loop-test.true
+    (c.in_err-vote.ensures.memory (search rules)) c.loop.invariant.so_far
 
 -- one entry more
 pub loop-preserved : goal.loop-preserved
@@ -18,13 +25,13 @@ loop-preserved c = record {
       (entries_go_on c.args.nodes c.args.ballot c.args.last c.loop.entries.items c.args.count c.loop.counter c.loop.from
       c.loop.input c.in_ok-vote.vote c.read_entry.new.input
       (entries_at c.args.nodes c.args.ballot c.args.last c.args.count c.args.first c.args.input.now) c.loop-test.true
-      c.in_ok-vote.ensures c.loop.invariant.so_far);
+      c.in_ok-vote.ensures.read c.loop.invariant.so_far);
   counted = search (rules, c.push.ensures.len, c.loop.invariant.counted);
 }
 
 -- all of them
-pub returns : goal.returns
-returns c =
+pub returns-clause-read : goal.returns-clause-read
+returns-clause-read c =
     entries_done c.args.nodes c.args.ballot c.args.last c.loop.entries.items c.args.count c.loop.counter c.loop.from c.loop.input
     (entries_at c.args.nodes c.args.ballot c.args.last c.args.count c.args.first c.args.input.now) c.loop-test.false
     c.loop.invariant.so_far

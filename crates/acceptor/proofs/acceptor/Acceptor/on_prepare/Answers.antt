@@ -1,0 +1,18 @@
+use Rattle.std.proofs.Common.{rules, ◌≡◌, None, refl, arith}
+use Rattle.acceptor.specs.Accepting.{refusing, TellsFrom}
+use Rattle.acceptor.specs.State.{accepting_of}
+use Rattle.acceptor.specs.declared.answer.Answer.TheVariants.{Promise}
+use Rattle.acceptor.proofs.acceptor.Acceptor.on_prepare.Goals as goal
+
+-- no greater ballot is promised, so the votes are told
+pub returns-clause-answer : goal.returns-clause-answer
+returns-clause-answer g c =
+    let a = accepting_of c.args.self.now in
+    let taken : refusing a.promise c.args.ballot ≡ None = search rules in
+    let told : TellsFrom a c.args.ballot c.args.first (Promise c.in_ok-promise.promise) = record {
+      promise = c.in_ok-promise.promise;
+      is = refl;
+      from_the_floor = omega arith;
+      tells = search rules;
+    } in
+    rw taken told
