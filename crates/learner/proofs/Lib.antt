@@ -1,0 +1,6 @@
+pub mod AllowedLemmas
+pub mod HearLemmas
+pub mod MajorityLemmas
+pub mod PrefixLemmas
+pub mod SlotLemmas
+pub mod TallyLemmas

@@ -1,0 +1,69 @@
+-- The prefix is the first slot that isn't learnt.
+use Rattle.std.proofs.Common.{◌≡◌, ℕ, zero, suc, ◌+◌, ◌-◌, ◌<◌, ◌≤◌, ◌⊎◌, inl, inr, true, false, Option, Some, None, IsSome, is_some}
+use Rattle.std.proofs.Common.{refl, sym, subst, ◌∙◌, arith}
+use Rattle.std.proofs.lemmas.Grind.{common_steps}
+use Rattle.synod.specs.declared.slot.TheConstants.{SLOTS}
+use Rattle.sessions.specs.declared.command.Command.{Command}
+use Rattle.learner.specs.Learning.{Learning, first_unlearnt, prefix}
+use Rattle.learner.specs.Prefixes.{IsLearntTo, IsPrefix}
+
+some_or_none : {A : Type 0} (o : Option A) → (is_some o ≡ true) ⊎ (is_some o ≡ false)
+some_or_none None = inr refl
+some_or_none (Some a) = inl refl
+
+same_or_not : (a b : ℕ) → (a ≡ b) ⊎ ((a < b) ⊎ (b < a))
+same_or_not a b = grind (arith, common_steps)
+
+-- one more slot is learnt
+one_more : (learnt : ℕ → Option Command) (first s : ℕ) → IsLearntTo learnt first s → s < SLOTS → is_some (learnt s) ≡ true
+    → IsLearntTo learnt first (suc s)
+one_more learnt first s to here is = record {
+  from = omega (arith, to.from);
+  in_log = omega (arith, here);
+  below = λ q l m. elim (same_or_not q s) [
+    | inl e ↦ subst (λ n. IsSome (learnt n)) (sym e) is
+    | inr apart ↦ to.below q l (elim apart [ inl less ↦ less | inr more ↦ absurd (omega (arith, m, more)) ])
+  ];
+}
+
+-- the search for it ends at it
+pub is_prefix : (learnt : ℕ → Option Command) (first s n : ℕ) → IsLearntTo learnt first s → s + n ≡ SLOTS
+    → IsPrefix learnt first (first_unlearnt learnt s n)
+unfolding first_unlearnt
+is_prefix learnt first s zero to e = record { learnt_to = to; here = λ l _. omega (arith, e, l) }
+is_prefix learnt first s (suc n) to e = elim (some_or_none (learnt s)) [
+  | inl is ↦ rw is (is_prefix learnt first (suc s) n (one_more learnt first s to (omega (arith, e)) is) (omega (arith, e)))
+  | inr not ↦ rw not (record { learnt_to = to; here = λ _ h. absurd (let bad : false ≡ true = sym not ∙ h in cc) })
+]
+
+-- there is one such slot
+not_below : (learnt : ℕ → Option Command) (first p q : ℕ) → IsPrefix learnt first p → IsPrefix learnt first q → p < q → ⊥
+not_below learnt first p q a b l =
+    a.here (omega (arith, b.learnt_to.in_log, l)) (b.learnt_to.below p a.learnt_to.from l)
+
+pub one_prefix : (learnt : ℕ → Option Command) (first p q : ℕ) → IsPrefix learnt first p → IsPrefix learnt first q → p ≡ q
+one_prefix learnt first p q a b = elim (same_or_not p q) [
+  | inl e ↦ e
+  | inr apart ↦ elim apart [
+    | inl less ↦ absurd (not_below learnt first p q a b less)
+    | inr more ↦ absurd (not_below learnt first q p b a more)
+  ]
+]
+
+pub prefix_is : (l : Learning) → l.first ≤ SLOTS → IsPrefix l.learnt l.first (prefix l)
+unfolding prefix
+prefix_is l within = is_prefix l.learnt l.first l.first (SLOTS - l.first)
+    (record { from = omega arith; in_log = within; below = λ s a b. absurd (omega (arith, a, b)) }) (omega (arith, within))
+
+pub prefix_only : (l : Learning) (p : ℕ) → IsPrefix l.learnt l.first p → p ≡ prefix l
+prefix_only l p is = one_prefix l.learnt l.first p (prefix l) is
+    (prefix_is l (omega (arith, is.learnt_to.from, is.learnt_to.in_log)))
+
+-- where all that was learnt still is, as many slots are learnt in turn
+pub learnt_on : (learnt learnt_then : ℕ → Option Command) (first p : ℕ) → ((s : ℕ) → IsSome (learnt s) → IsSome (learnt_then s))
+    → IsLearntTo learnt first p → IsLearntTo learnt_then first p
+learnt_on learnt learnt_then first p still to = record {
+  from = to.from;
+  in_log = to.in_log;
+  below = λ s l m. still s (to.below s l m);
+}

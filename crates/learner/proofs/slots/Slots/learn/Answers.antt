@@ -1,0 +1,9 @@
+use Rattle.learner.specs.Places.{place_learnt, place_heard}
+use Rattle.learner.proofs.SlotLemmas.{all_updated}
+use Rattle.learner.proofs.slots.Slots.learn.Goals as goal
+
+pub returns-clause-learnt : goal.returns-clause-learnt
+returns-clause-learnt c = all_updated place_learnt c.args.self.now.by_slot c.insert.new.self c.args.slot _ c.in_ok-insert.ensures.updates
+
+pub returns-clause-heard : goal.returns-clause-heard
+returns-clause-heard c = all_updated place_heard c.args.self.now.by_slot c.insert.new.self c.args.slot _ c.in_ok-insert.ensures.updates

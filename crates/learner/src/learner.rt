@@ -1,0 +1,109 @@
+//! What a node has heard of votes, and what it has learnt from them.
+
+ghost use Rattle.std.specs.Prelude.{◌≡◌, ℕ, ◌≤◌, IfOk, OnErr};
+ghost use Rattle.std.specs.Option.{option_copied};
+ghost use Rattle.learner.specs.Prefixes.{IsPrefix};
+ghost use Rattle.learner.specs.Slots.{learnt_of};
+
+use super::learned::Learned;
+use super::slots::Slots;
+use sessions::Command;
+use std::alloc::{AllocError, Global};
+use synod::{SLOTS, Slot, Vote};
+use wire::{NodeId, Nodes};
+
+/// A node's learner. What it has learnt is gone after a restart.
+///
+/// It keeps what it was told of a slot until the slot is learnt: a node's first telling under a ballot counts, a repeat
+/// does not, and different ballots are never added up. A learnt slot never changes.
+///
+/// A call takes a number of steps that grows with the logarithm of the slots of which it holds something.
+#[derive(Drop)]
+pub struct Learner {
+    nodes: Nodes,
+    // The first slot that is kept: what is told of lower ones is ignored.
+    first: u32,
+    slots: Slots,
+    prefix: u32,
+    ghost counted: { IsPrefix (learnt_of slots) first prefix },
+}
+
+impl Learner {
+    ghost use Rattle.learner.specs.Learning.{unlearnt, learnt_at, prefix, HearsVote, HearsDecided};
+    ghost use Rattle.learner.specs.State.{learning_of};
+
+    /// Nothing is heard or learnt yet.
+    pub fn new(alloc: Global, nodes: Nodes) -> Learner
+        ensures { learning_of result ≡ unlearnt nodes }
+    {
+        Learner {
+            nodes,
+            first: 0,
+            slots: Slots::new(alloc),
+            prefix: 0,
+        }
+    }
+
+    /// The command of a slot that is learnt.
+    pub fn get(&self, slot: Slot) -> Option<&Command>
+        ensures { option_copied result ≡ learnt_at (learning_of self.now) slot }
+    {
+        self.slots.learnt(slot)
+    }
+
+    /// The first slot that isn't learnt, of those that are kept: `SLOTS` where all of them are.
+    pub fn prefix(&self) -> u32
+        ensures prefix { result ≡ prefix (learning_of self.now) }
+        ensures in_log { result ≤ SLOTS }
+        ensures counted { IsPrefix (learnt_at (learning_of self.now)) (learning_of self.now).first result }
+    {
+        self.prefix
+    }
+
+    /// A node tells that it voted so. The slot is learnt in the very call in which a majority of different nodes has
+    /// told one command under one ballot.
+    ///
+    /// After `AllocError` it is as it was.
+    pub fn on_accepted(
+        &mut self,
+        alloc: Global,
+        from: NodeId,
+        vote: Vote<Command>,
+    ) -> Result<Option<Learned>, AllocError>
+        ensures hears { IfOk result (λ learned.
+            HearsVote (learning_of self.old) from vote learned (learning_of self.new)) }
+        ensures unchanged { OnErr result (learning_of self.new ≡ learning_of self.old) }
+    {
+        let slot = vote.slot;
+        // Each slot below the prefix is learnt, or is not kept.
+        if from.value() >= self.nodes.count() || slot.value() < self.prefix {
+            return Ok(None);
+        }
+        let learns = self.slots.hear(alloc, self.nodes, from, vote)?;
+        if !learns {
+            return Ok(None);
+        }
+        self.prefix = self.slots.first_unlearnt(self.prefix);
+        Ok(Some(Learned { slot }))
+    }
+
+    /// A node that has learnt the slot tells its command.
+    ///
+    /// After `AllocError` it is as it was.
+    pub fn on_decided(
+        &mut self,
+        slot: Slot,
+        command: Command,
+    ) -> Result<Option<Learned>, AllocError>
+        ensures hears { IfOk result (λ learned.
+            HearsDecided (learning_of self.old) slot command learned (learning_of self.new)) }
+        ensures unchanged { OnErr result (learning_of self.new ≡ learning_of self.old) }
+    {
+        if slot.value() < self.prefix || self.slots.learnt(slot).is_some() {
+            return Ok(None);
+        }
+        self.slots.learn(slot, command)?;
+        self.prefix = self.slots.first_unlearnt(self.prefix);
+        Ok(Some(Learned { slot }))
+    }
+}

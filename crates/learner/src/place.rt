@@ -1,0 +1,59 @@
+//! What is known of one slot.
+
+ghost use Rattle.std.specs.Prelude.{◌≡◌, IfOk, OnErr, Some};
+ghost use Rattle.std.specs.Option.{option_copied};
+ghost use Rattle.learner.specs.Places.{place_learnt, place_heard, PlaceHears};
+
+use super::tallies::Tallies;
+use sessions::Command;
+use std::alloc::AllocError;
+use synod::Ballot;
+use wire::{NodeId, Nodes};
+
+/// What is known of a slot.
+#[derive(Debug, Drop)]
+pub(super) enum Place {
+    /// It isn't learnt, and this was told of it.
+    Told(Tallies),
+    Learnt(Command),
+}
+
+impl Place {
+    /// The command, where it is learnt.
+    pub(super) fn learnt(&self) -> Option<&Command>
+        ensures { option_copied result ≡ place_learnt (Some self.now) }
+    {
+        match self {
+            Place::Told(_) => None,
+            Place::Learnt(command) => Some(command),
+        }
+    }
+
+    /// A node tells that it voted so. Whether the slot is newly learnt by it.
+    pub(super) fn hear(
+        &mut self,
+        nodes: Nodes,
+        from: NodeId,
+        ballot: Ballot,
+        command: Command,
+    ) -> Result<bool, AllocError>
+        ensures hears { IfOk result (λ learns.
+            PlaceHears nodes (Some self.old) from ballot command learns (Some self.new)) }
+        ensures learnt { OnErr result
+            (place_learnt (Some self.new) ≡ place_learnt (Some self.old)) }
+        ensures heard { OnErr result
+            (place_heard (Some self.new) ≡ place_heard (Some self.old)) }
+    {
+        let Place::Told(tallies) = self else {
+            return Ok(false);
+        };
+        if tallies.has_heard(from, ballot) {
+            return Ok(false);
+        }
+        let Some(decided) = tallies.count(nodes, from, ballot, command)? else {
+            return Ok(false);
+        };
+        *self = Place::Learnt(decided);
+        Ok(true)
+    }
+}

@@ -1,0 +1,103 @@
+//! What was told of one slot.
+
+ghost use Rattle.std.specs.Prelude.{◌≡◌, ◌≢◌, ℕ, ◌<◌, [], length, IsTrue, IsSome, Some, None, IfSome, IfOk, OnErr, true, false};
+ghost use Rattle.learner.specs.Learning.{told_too, IsDecided};
+ghost use Rattle.learner.specs.Tallies.{AreApart, told_in, IsPlace, voters_at};
+ghost use Rattle.wire.specs.NodeSets.{has_node};
+
+use super::tally::Tally;
+use sessions::Command;
+use std::alloc::{AllocError, Global};
+use synod::Ballot;
+use wire::{NodeId, NodeSet, Nodes};
+
+/// What was told of a slot that isn't learnt: under each ballot, who told of a vote for which command.
+#[derive(Debug, Drop)]
+pub(super) struct Tallies {
+    tallies: Vec<Tally>,
+    // Each command stands once under a ballot, and so does each node.
+    ghost apart: { AreApart tallies.items },
+}
+
+impl Tallies {
+    /// Nothing was told.
+    pub(super) fn new(alloc: Global) -> Tallies
+        ensures { result.tallies.items ≡ [] }
+    {
+        Tallies {
+            tallies: Vec::new(alloc),
+        }
+    }
+
+    /// Whether the node has told of a vote under the ballot.
+    pub(super) fn has_heard(&self, from: NodeId, ballot: Ballot) -> bool
+        ensures yes { IsTrue result → IsSome (told_in self.now.tallies.items ballot from) }
+        ensures no { result ≡ false → told_in self.now.tallies.items ballot from ≡ None }
+    {
+        self.tallies.iter().any(|tally| tally.ballot == ballot && tally.voters.contains(from))
+    }
+
+    /// Counts a node that tells of a vote, its first under the ballot.
+    ///
+    /// Where a majority of the nodes have told the command under the ballot by then, it is handed back and nothing is
+    /// kept. After `AllocError` nothing is changed.
+    pub(super) fn count(
+        &mut self,
+        nodes: Nodes,
+        from: NodeId,
+        ballot: Ballot,
+        command: Command,
+    ) -> Result<Option<Command>, AllocError>
+        requires { told_in self.old.tallies.items ballot from ≡ None }
+        ensures decided { IfOk result (λ decided. IfSome decided (λ c. (c ≡ command)
+            × IsDecided nodes (told_in self.old.tallies.items) ballot from command)) }
+        ensures heard { IfOk result (λ decided. decided ≡ None
+            → (IsDecided nodes (told_in self.old.tallies.items) ballot from command → ⊥)
+            × (told_in self.new.tallies.items
+            ≡ told_too (told_in self.old.tallies.items) ballot from command)) }
+        ensures unchanged { OnErr result
+            (told_in self.new.tallies.items ≡ told_in self.old.tallies.items) }
+    {
+        let place = self.position(ballot, &command);
+        let voters = self.voters_with(place, from);
+        if voters.is_majority_of(nodes) {
+            return Ok(Some(command));
+        }
+        match place {
+            Some(place) => {
+                self.tallies[place].voters = voters;
+                Ok(None)
+            }
+            None => {
+                self.tallies.push(Tally {
+                    ballot,
+                    command,
+                    voters,
+                })?;
+                Ok(None)
+            }
+        }
+    }
+
+    /// Where it stands who told of the command under the ballot.
+    fn position(&self, ballot: Ballot, command: &Command) -> Option<usize>
+        ensures { IsPlace self.now.tallies.items ballot command.now result }
+    {
+        self.tallies.iter().position(|tally| tally.ballot == ballot && tally.command == *command)
+    }
+
+    /// The voters of a tally, or of none, and one more.
+    fn voters_with(&self, place: Option<usize>, from: NodeId) -> NodeSet
+        requires { IfSome place (λ i. i < length self.now.tallies.items) }
+        ensures member { has_node result from ≡ true }
+        ensures others { (a : ℕ) → a ≢ from → has_node result a
+            ≡ has_node (voters_at self.now.tallies.items place) a }
+    {
+        let mut voters = match place {
+            Some(place) => self.tallies[place].voters,
+            None => NodeSet::new(),
+        };
+        voters.insert(from);
+        voters
+    }
+}

@@ -1,0 +1,13 @@
+//! Who told of one command under one ballot.
+
+use sessions::Command;
+use synod::Ballot;
+use wire::NodeSet;
+
+/// The nodes that told of votes for a command under a ballot. The command stands here once, however many they are.
+#[derive(Debug, Drop)]
+pub(super) struct Tally {
+    pub(super) ballot: Ballot,
+    pub(super) command: Command,
+    pub(super) voters: NodeSet,
+}

@@ -1,0 +1,47 @@
+-- Promises that are counted.
+use Rattle.std.proofs.Common.{◌≡◌, ℕ, List, [], ◌∷◌, ◌++◌, nat_le, min, Bool, true, false, cond, refl, sym, ap, ◌∙◌, subst, append_assoc}
+use Rattle.synod.specs.declared.vote.Vote.{Vote}
+use Rattle.sessions.specs.declared.command.Command.{Command}
+use Rattle.wire.specs.NodeSets.{with_node}
+use Rattle.wire.specs.Promises.{Promised}
+use Rattle.proposer.specs.Campaigning.{Campaigning, counts, with_promise, after_promise, up_to, is_most}
+
+when : (b : Bool) (x y : Campaigning) → b ≡ true → x ≡ cond b x y
+when true x y e = refl
+when false x y e = absurd (cc)
+
+-- what is done where the promise counts
+counted_promise : (nodes from : ℕ) (k : Campaigning) (p : Promised) → counts k from p ≡ true
+    → with_promise nodes k from p ≡ after_promise nodes k from p
+counted_promise nodes from k p e = when (counts k from p) (with_promise nodes k from p) k e
+
+-- field by field
+pub made_promise : (nodes from : ℕ) (k new : Campaigning) (p : Promised) (end' : ℕ) → counts k from p ≡ true → end' ≡ min k.end p.last
+    → new.ballot ≡ k.ballot → new.first ≡ k.first → new.promised ≡ with_node k.promised from → new.end ≡ end'
+    → new.told ≡ up_to end' (k.told ++ p.entries) → new.leading ≡ is_most nodes (with_node k.promised from) → new.proposals ≡ k.proposals
+    → new ≡ after_promise nodes k from p
+made_promise nodes from k new p end' counted least ballot first promised end told leading proposals =
+    let at_last = end ∙ least in
+    let told_to = told ∙ ap (λ e. up_to e (k.told ++ p.entries)) least in
+    (λ i. record {
+      ballot = ballot i;
+      first = first i;
+      promised = promised i;
+      end = at_last i;
+      told = told_to i;
+      leading = leading i;
+      proposals = proposals i;
+    }) ∙ counted_promise nodes from k p counted
+
+-- one vote more is heard
+up_to_first : (b : Bool) (v : Vote Command) (rest : List (Vote Command)) → b ≡ true → v ∷ rest ≡ cond b (v ∷ rest) rest
+up_to_first true v rest e = refl
+up_to_first false v rest e = absurd (cc)
+
+pub heard_one : (old now rest left : List (Vote Command)) (x v : Vote Command) (end' : ℕ) → now ≡ old ++ v ∷ [] → left ≡ x ∷ rest
+    → v ≡ x → nat_le v.slot end' ≡ true → now ++ up_to end' rest ≡ old ++ up_to end' left
+heard_one old now rest left x v end' grown first same within =
+    ap (λ l. l ++ up_to end' rest) grown ∙ append_assoc old (v ∷ []) (up_to end' rest)
+    ∙ ap (λ l. old ++ l) (up_to_first (nat_le v.slot end') v (up_to end' rest) within)
+    ∙ ap (λ (u : Vote Command). old ++ up_to end' (u ∷ rest)) same
+    ∙ ap (λ l. old ++ up_to end' l) (sym first)

@@ -1,0 +1,5 @@
+pub mod RequestLemmas
+pub mod Placing
+pub mod Counting
+pub mod Windows
+pub mod AllowedMoves

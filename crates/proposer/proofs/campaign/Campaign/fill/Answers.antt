@@ -1,0 +1,35 @@
+use Rattle.std.proofs.Common.{rules, ◌≡◌, ◌∙◌, true, false, is_some, sym, ap}
+use Rattle.learner.specs.Learning.{learnt_at}
+use Rattle.learner.specs.State.{learning_of}
+use Rattle.proposer.specs.Campaigning.{Campaigning, Filling}
+use Rattle.proposer.proofs.Windows.{goes_on, stops}
+use Rattle.proposer.proofs.campaign.Campaign.fill.Goals as goal
+
+pub returns-then-not-goes_on-clause-filled : goal.returns-then-not-goes_on-clause-filled
+returns-then-not-goes_on-clause-filled c =
+    let learnt = learnt_at (learning_of c.args.learner.now) in
+    let f : Filling = record { proposals = c.loop-number.self.proposals; sent = c.loop-number.sends.items } in
+    let g : Filling = record { proposals = c.step.new.self.proposals; sent = c.step.new.sends.items } in
+    let at : c.unwrap-slot.result ≡ c.loop-number.number = search rules in
+    let ends : c.in_ok-goes_on.goes_on ≡ false = search rules in
+    stops c.args.self.now c.args.waiting.now c.args.learnt_to learnt c.loop-number.self c.loop-number.self.proposals
+    c.unwrap-slot.result c.loop-number.number c.window_limit-limit.result c.is_learnt-learnt.result c.in_ok-goes_on.goes_on f g
+    c.loop-number.invariant.only at (c.is_learnt-learnt.ensures ∙ ap (λ s. is_some (learnt s)) at) ends c.loop-number-test.true
+    c.in_ok-goes_on.ensures.steps
+    ∙ c.loop-number.invariant.rest
+
+pub loop-number-preserved : goal.loop-number-preserved
+loop-number-preserved c =
+    let learnt = learnt_at (learning_of c.args.learner.now) in
+    let f : Filling = record { proposals = c.loop-number.self.proposals; sent = c.loop-number.sends.items } in
+    let g : Filling = record { proposals = c.step.new.self.proposals; sent = c.step.new.sends.items } in
+    let at : c.unwrap-slot.result ≡ c.loop-number.number = search rules in
+    let going : c.in_ok-goes_on.goes_on ≡ true = search rules in
+    record {
+      only = c.in_ok-goes_on.ensures.only ∙ ap (λ (k : Campaigning). record k { proposals = c.step.new.self.proposals }) c.loop-number.invariant.only;
+      rest = goes_on c.args.self.now c.args.waiting.now c.args.learnt_to learnt c.loop-number.self c.loop-number.self.proposals
+          c.unwrap-slot.result c.loop-number.number c.window_limit-limit.result c.is_learnt-learnt.result c.in_ok-goes_on.goes_on f g
+          c.loop-number.invariant.only at (c.is_learnt-learnt.ensures ∙ ap (λ s. is_some (learnt s)) at) going c.loop-number-test.true
+          c.in_ok-goes_on.ensures.steps
+          ∙ c.loop-number.invariant.rest;
+    }

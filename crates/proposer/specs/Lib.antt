@@ -1,0 +1,4 @@
+pub mod Campaigning
+pub mod Proposing
+pub mod Protocol
+pub mod Requests

@@ -1,0 +1,74 @@
+-- What a proposer's state and what it sends are to the protocol.
+use Rattle.std.specs.Prelude.{◌≡◌, ℕ, ◌==◌, List, [], ◌∷◌, ◌++◌, Option, Some, None, Contains, not, if◌then◌else◌}
+use Rattle.std.specs.Prelude.{filter}
+use Rattle.synod.specs.Messages.{Frame, to_first}
+use Rattle.synod.specs.Minds.{Campaign, Mind}
+use Rattle.synod.specs.Records as synod
+use Rattle.synod.specs.Acts.{Fleet, Input, Local, Does}
+use Rattle.sessions.specs.Asked.{Asked}
+use Rattle.sessions.specs.declared.command.Command.{Command}
+use Rattle.sessions.specs.declared.command.Command.TheVariants.{NoOp, Request}
+use Rattle.wire.specs.NodeSets.{has_node}
+use Rattle.wire.specs.Protocol.{message_of}
+use Rattle.proposer.specs.declared.outgoing.Outgoing.{Outgoing}
+use Rattle.proposer.specs.declared.outgoing.Recipients.{Recipients}
+use Rattle.proposer.specs.declared.outgoing.Recipients.TheVariants.{All, Others}
+use Rattle.proposer.specs.declared.window.Proposal.{Proposal}
+use Rattle.proposer.specs.Campaigning.{Campaigning}
+use Rattle.proposer.specs.Proposing.{Proposing}
+
+-- what is proposed at a slot
+abbrev pub proposed_at : List Proposal → ℕ → Option Command
+proposed_at [] s = None
+proposed_at (p ∷ ps) s = if p.slot == s then Some p.command else proposed_at ps s
+
+-- the protocol's campaign is this one
+pub record CampaignStands (k : Campaigning) (q : Campaign Command) : Type 0 where
+  pub ballot : q.ballot ≡ k.ballot
+  pub first : q.first ≡ k.first
+  pub promised : (a : ℕ) → q.promised a ≡ has_node k.promised a
+  pub end_ : q.end ≡ k.end
+  pub told : q.told ≡ k.told
+  pub leading : q.leading ≡ k.leading
+  pub proposals : (s : ℕ) → q.proposals s ≡ proposed_at k.proposals s
+
+abbrev pub CampaignsStand : Option Campaigning → Option (Campaign Command) → Type 0
+CampaignsStand None q = q ≡ None
+CampaignsStand (Some k) q = (c : Campaign Command) × (q ≡ Some c) × CampaignStands k c
+
+-- the protocol's records and mind say what the proposer holds
+pub record ProposerStands (p : Proposing) (x : Local Command) : Type 0 where
+  pub round : x.records.round ≡ p.round
+  pub campaign : CampaignsStand p.campaign x.mind.campaign
+  pub waiting : (r : Asked) → Contains p.waiting r → Contains x.mind.waiting (Request r)
+
+-- the frames of a message from node i of so many
+abbrev pub frames_to : ℕ → ℕ → Recipients → List (Frame Command) → List (Frame Command)
+frames_to i nodes All frames = frames
+frames_to i nodes (Others set) frames = filter (λ f. not (has_node set f.receiver)) frames
+
+abbrev pub frames_of : ℕ → ℕ → Outgoing → List (Frame Command)
+frames_of i nodes o = frames_to i nodes o.to (to_first nodes i (message_of o.message))
+
+-- from x the node may come to another campaign of which the proposer's state stands, and nothing else changes
+pub record MayHold (f : Fleet Command) (i : ℕ) (input : Input Command) (x : Local Command) (p : Proposing) : Type 0 where
+  pub campaign : Option (Campaign Command)
+  pub does : Does f i input x (record x { mind = record x.mind { campaign = campaign } })
+  pub stands : ProposerStands p (record x { mind = record x.mind { campaign = campaign } })
+
+-- from x the node may come to records of another round and to another campaign, of which the proposer's state stands, and
+-- have sent these frames, and nothing else changes
+pub record MaySend (f : Fleet Command) (i : ℕ) (input : Input Command) (x : Local Command) (p : Proposing)
+    (frames : List (Frame Command)) : Type 0 where
+  pub campaign : Option (Campaign Command)
+  pub records : synod.Records Command
+  pub does : Does f i input x (record x {
+    records = records;
+    mind = record x.mind { campaign = campaign };
+    sent = x.sent ++ frames;
+  })
+  pub stands : ProposerStands p (record x {
+    records = records;
+    mind = record x.mind { campaign = campaign };
+    sent = x.sent ++ frames;
+  })

@@ -1,0 +1,32 @@
+//! What a proposer does is allowed by the protocol.
+//!
+//! Each law is the contract of a function that does nothing.
+
+ghost use Rattle.std.specs.Prelude.{◌≡◌, ℕ};
+ghost use Rattle.synod.specs.Acts.{Fleet, Input, Local};
+ghost use Rattle.sessions.specs.declared.command.Command.{Command};
+ghost use Rattle.wire.specs.Promises.{Refused};
+ghost use Rattle.proposer.specs.declared.outgoing.Outgoing.{Outgoing};
+ghost use Rattle.proposer.specs.Requests.{without};
+ghost use Rattle.proposer.specs.Proposing.{Proposing, StartsCampaign, after_nack};
+ghost use Rattle.proposer.specs.Protocol.{ProposerStands, MayHold, MaySend, frames_of};
+
+/// A campaign may start, once its round is written, and its prepares be sent.
+pub fn timeout_is_allowed()
+    ensures { (f : Fleet Command) (i : ℕ) (input : Input Command) (x : Local Command) (old new : Proposing)
+        (position nodes : ℕ) (sent : Outgoing) → old.id ≡ i → x.mind.position ≡ position → ProposerStands old x
+        → StartsCampaign old position new sent → MaySend f i input x new (frames_of i nodes sent) }
+{}
+
+/// A campaign that is refused may end, and one that isn't may stay.
+pub fn nack_is_allowed()
+    ensures { (f : Fleet Command) (i : ℕ) (input : Input Command) (x : Local Command) (p : Proposing) (n : Refused)
+        → ProposerStands p x → MayHold f i input x (after_nack p n) }
+{}
+
+/// A request that is executed may wait no more.
+pub fn execution_is_allowed()
+    ensures { (f : Fleet Command) (i : ℕ) (input : Input Command) (x : Local Command) (p : Proposing)
+        (client number : ℕ) → ProposerStands p x
+        → MayHold f i input x (record p { waiting = without client number p.waiting }) }
+{}

@@ -1,0 +1,35 @@
+//! Why a proposer did not do what it was asked.
+
+use stable::StableFault;
+use std::alloc::AllocFailed;
+
+/// Why a request was turned away. Nothing changed.
+#[derive(Clone, Copy, Debug, PartialEq, Eq)]
+pub enum SubmitFault {
+    /// `MOST_WAITING` requests wait, and this is none of them.
+    QueueFull,
+    /// A growth was refused.
+    Memory,
+}
+
+impl<T: Drop> From<AllocFailed<T>> for SubmitFault {
+    ghost use Rattle.std.specs.Prelude.{◌≡◌};
+    ghost use Rattle.proposer.specs.declared.fault.SubmitFault.TheVariants.{Memory};
+
+    ghost from_gives = { λ _ fault. fault ≡ Memory };
+
+    fn from(_: AllocFailed<T>) -> SubmitFault {
+        SubmitFault::Memory
+    }
+}
+
+/// Why no campaign was started.
+#[derive(Clone, Copy, Debug, PartialEq, Eq)]
+pub enum TimeoutFault {
+    /// No round is left that was never used. Nothing changed.
+    RoundsUsedUp,
+    /// The device failed: only another load tells which round is the last.
+    Device,
+    /// A growth was refused. Nothing was written or changed.
+    Memory,
+}

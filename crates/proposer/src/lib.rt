@@ -1,0 +1,25 @@
+//! One node's proposer: the requests that wait at it, and its campaigns to have them chosen.
+//!
+//! A campaign gathers promises for the slots from its first on, leads once a majority has promised, and keeps a window of
+//! proposals open. `specs/Proposing.antt` says what each call leaves and sends.
+#![tactic(auto)]
+
+mod allowed;
+mod campaign;
+mod choice;
+mod fault;
+mod name;
+mod outgoing;
+mod proposer;
+mod waiting;
+mod window;
+
+pub use allowed::{execution_is_allowed, nack_is_allowed, timeout_is_allowed};
+pub use fault::{SubmitFault, TimeoutFault};
+pub use outgoing::{Outgoing, Recipients};
+pub use proposer::Proposer;
+pub use waiting::MOST_WAITING;
+pub use window::MOST_OPEN;
+
+#[cfg(test)]
+mod tests;
