@@ -15,8 +15,10 @@ use arrayvec::ArrayVec;
 use sessions::{Command, MOST_PUT_POINTS, Number, Request};
 use std::alloc::{AllocError, Global};
 use store::Op;
-use wire::frames::{Entries, Entry, Envelope, MOST_ENTRIES, Message, Promise, decode, encode};
-use wire::{Ballot, NodeId, Nodes, Slot, Vote};
+use wire::{
+    Ballot, Entries, Entry, Envelope, MOST_ENTRIES, Message, NodeId, Nodes, Promise, Slot, Vote,
+    decode, encode,
+};
 
 /// The envelope that is spelled, or whose frame is read. A sequence that it puts has as many instants as a request may
 /// put.

@@ -19,7 +19,7 @@ use crate::task::{ApplyWork, PointWork, QueryWork, Sent, Work};
 use mfjson::write;
 use sessions::Machine;
 use std::alloc::{AllocError, Global};
-use wire::frames::encode;
+use wire::encode;
 
 /// The sum of what the rounds answer, each as a number, in 64 bits; Usage where the work can't be done on so many
 /// points.

@@ -46,12 +46,12 @@ module _ {S : Type 0} where
 
 module _ {S : Type 0} (storages : Ghosts (Script S)) where
   takes_keep : (old : WorldState S) (node : ℕ) (input : Input) (taken : Bool) (new : WorldState S)
-      → TakesAt storages.reads storages.puts storages.fails old node input taken new → size new ≡ size old
+      → TakesAt storages old node input taken new → size new ≡ size old
   takes_keep old node input taken new t =
       ap size t.leaves ∙ recorded_keeps _ node t.result ∙ length-set old.nodes node t.after
 
   receives_keep : (old : WorldState S) (frame : Envelope) (new : WorldState S)
-      → ReceivesAt storages.reads storages.puts storages.fails old frame new → size new ≡ size old
+      → ReceivesAt storages old frame new → size new ≡ size old
   receives_keep old frame new r =
       elim (r.receiver.up) as (λ up. (up ≡ None → size new ≡ size old) → (IsSome up → size new ≡ size old) → size new ≡ size old) [
         | None ↦ λ lost taken. lost refl
@@ -59,17 +59,17 @@ module _ {S : Type 0} (storages : Ghosts (Script S)) where
       ] (λ e. ap size (r.lost e)) (λ e. let t = r.taken e in takes_keep _ _ _ t.0 new t.1)
 
   delivers_keep : (old : WorldState S) (k : ℕ) (new : WorldState S)
-      → DeliversFrame storages.reads storages.puts storages.fails old k new → size new ≡ size old
+      → DeliversFrame storages old k new → size new ≡ size old
   delivers_keep old k new d = receives_keep _ d.frame new d.receives
 
   flush_keeps : (old : WorldState S) (n : ℕ) (new : WorldState S)
-      → Delivers storages.reads storages.puts storages.fails old n new → size new ≡ size old
+      → Delivers storages old n new → size new ≡ size old
   flush_keeps old n new none = refl
   flush_keeps old n new (more m k between last before lowest delivers) =
       delivers_keep between k last delivers ∙ flush_keeps old m between before
 
   step_keeps : (old : WorldState S) (event : Event) (new : WorldState S)
-      → Steps storages.contents storages.IsHonest storages.reads storages.read_fails storages.puts storages.fails old event new
+      → Steps storages old event new
       → size new ≡ size old
   step_keeps old (Submit node client number op) new s =
       ap size s.leaves ∙ submission_keeps s.between s.taken node _ ∙ takes_keep old node _ s.taken s.between s.takes
@@ -112,21 +112,21 @@ line_spelled n (text ∷ texts) (l ∷ before) after line each = line_spelled n 
 
 module _ {S : Type 0} (storages : Ghosts (Script S)) where
   -- what a spelled action asks for is not refused for want of a node
-  refused_otherwise : (w : WorldState S) (n : ℕ) (words : List (List ℕ)) (action : Action) → size w ≡ n
-      → WordsSpell n words action → ¬ (IsRefused storages action w NoSuchNode)
-  refused_otherwise w n words (Step event) same spells refused = named_below w n words event same spells refused
-  refused_otherwise w n words Flush same spells refused = refused
+  refused_otherwise : (w new : WorldState S) (n : ℕ) (words : List (List ℕ)) (action : Action) → size w ≡ n
+      → WordsSpell n words action → ¬ (IsRefused storages action w NoSuchNode new)
+  refused_otherwise w new n words (Step event) same spells refused = named_below w n words event same spells refused.0
+  refused_otherwise w new n words Flush same spells refused = refused
 
-  ends_otherwise : (plan : Plan) (texts : List NumberedText) (start : WorldState S) (fault : ReplayFault)
-      → SpellEach plan.nodes texts plan.lines → size start ≡ plan.nodes → RunEnds storages plan start fault
+  ends_otherwise : (plan : Plan) (texts : List NumberedText) (start end : WorldState S) (fault : ReplayFault)
+      → SpellEach plan.nodes texts plan.lines → size start ≡ plan.nodes → RunEnds storages plan start fault end
       → fault.cause ≢ NoSuchNode
-  ends_otherwise plan texts start fault each same (at_a_line e) is =
+  ends_otherwise plan texts start end fault each same (at_a_line e) is =
       let spelled = line_spelled plan.nodes texts e.before e.after e.line
       (subst (λ (ls : List ScheduleLine). SpellEach plan.nodes texts ls) e.parts each) in
-      refused_otherwise e.reached plan.nodes (words_of spelled.0.text) e.line.action
+      refused_otherwise e.reached end plan.nodes (words_of spelled.0.text) e.line.action
       (led_keeps storages e.before start e.reached e.led ∙ same) spelled.1.words
-      (subst (λ (cause : ReplayCause). IsRefused storages e.line.action e.reached cause) is e.stopped.refused)
-  ends_otherwise plan texts start fault each same (at_the_last end led memory last) is = let e = sym memory ∙ is in cc
+      (subst (λ (cause : ReplayCause). IsRefused storages e.line.action e.reached cause end) is e.stopped.refused)
+  ends_otherwise plan texts start end fault each same (at_the_last led memory last) is = let e = sym memory ∙ is in cc
 
   -- a replay never ends for want of a node
   pub replay_ends_otherwise : (bytes : List ℕ) (fault : ReplayFault) → ReplayEnds storages bytes fault → fault.cause ≢ NoSuchNode
@@ -135,8 +135,8 @@ module _ {S : Type 0} (storages : Ghosts (Script S)) where
   replay_ends_otherwise bytes fault (not_read (Memory number) refused same) is =
       let e = sym (ap (λ (f : ReplayFault). f.cause) same) ∙ is in cc
   replay_ends_otherwise bytes fault (not_begun plan spelled memory first) is = let e = sym memory ∙ is in cc
-  replay_ends_otherwise bytes fault (not_run plan spelled start starts ends) is =
-      ends_otherwise plan spelled.others start fault spelled.spelled starts.nodes.all ends is
+  replay_ends_otherwise bytes fault (not_run plan spelled start end starts ends safe) is =
+      ends_otherwise plan spelled.others start end fault spelled.spelled starts.nodes.all ends is
 
   pub replay_ends_by_other : {T : Type 0} (bytes : List ℕ) (result : Result T ReplayFault)
       → IfErr result (ReplayEnds storages bytes) → IfErr result (λ fault. fault.cause ≢ NoSuchNode)

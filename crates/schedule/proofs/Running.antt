@@ -1,14 +1,18 @@
 -- Doing line by line.
-use Rattle.std.proofs.Common.{◌≡◌, ℕ, List, [], ◌∷◌, ◌++◌, length, refl, sym, ap, ◌∙◌, subst, arith, Result, Ok, Err, IfOk, IfErr}
+use Rattle.std.proofs.Common.{◌≡◌, ◌⊎◌, inl, inr, ℕ, List, [], ◌∷◌, ◌++◌, length, refl, sym, ap, ◌∙◌, subst, arith, Result, Ok, Err, IfOk, IfErr, IsErrOf}
 use Rattle.std.specs.Global.{Vec}
 use Rattle.stable.specs.Script.{Script}
 use Rattle.stable.specs.declared.stable.Stable.{Ghosts}
-use Rattle.world.specs.Flushing.{IsStart}
-use Rattle.world.specs.Fired.{AreHonestInside}
-use Rattle.world.specs.Reaching.{AreHonest}
-use Rattle.world.specs.Safety.{IsSafe}
+use Rattle.world.specs.Flushing.{Delivers, DeliversSome, IsStart}
+use Rattle.world.specs.declared.fault.WorldFault.{WorldFault}
+use Rattle.world.specs.declared.fault.WorldFault.TheVariants as world_fault
+use Rattle.world.specs.declared.log.TheConstants.{MOST_DELIVERIES}
+use Rattle.world.specs.Waiting.{OneWaits}
+use Rattle.world.specs.Staying.{StaysSafe}
 use Rattle.world.specs.Worlds.{WorldState}
-use Rattle.schedule.specs.Runs.{IsDone, IsStopped, Leads, EndsAt, RunsTo, RunEnds, at_a_line, at_the_last, IsReplay, ReplayEnds, not_run, told_of}
+use Rattle.schedule.specs.Causes.{cause_of}
+use Rattle.schedule.specs.declared.action.Action.TheVariants.{Flush}
+use Rattle.schedule.specs.Runs.{IsDone, IsRefused, IsStopped, Leads, EndsAt, RunsTo, RunFails, at_a_line, at_the_last, IsReplay, ReplayEnds, not_run, told_of}
 use Rattle.schedule.specs.Schedules.{Plan, IsScheduleOf, last_number}
 use Rattle.schedule.specs.declared.plan.ScheduleLine.{ScheduleLine}
 use Rattle.schedule.specs.declared.replay_fault.ReplayFault.{ReplayFault}
@@ -18,7 +22,23 @@ pub nothing_left : {T : Type 0} (l : List T) → length l ≡ 0 → l ≡ []
 nothing_left [] h = refl
 nothing_left (x ∷ xs) h = absurd (omega arith)
 
+abbrev failed : WorldFault → Result ℕ WorldFault
+failed fault = Err fault
+
 module _ {S : Type 0} (storages : Ghosts (Script S)) where
+  -- what a flush that fails is refused for
+  pub flush_refused : (old new : WorldState S) (fault : WorldFault)
+      → (IsErrOf (failed fault) world_fault.FlushLimit → Delivers storages old MOST_DELIVERIES new)
+      → (IsErrOf (failed fault) world_fault.Memory → DeliversSome storages old MOST_DELIVERIES new)
+      → OneWaits new.waiting → (fault ≡ world_fault.FlushLimit) ⊎ (fault ≡ world_fault.Memory)
+      → IsRefused storages Flush old (cause_of fault) new
+  flush_refused old new fault limit memory waits (inl e) =
+      subst (λ (f : WorldFault). IsRefused storages Flush old (cause_of f) new) (sym e)
+      (record { delivers = limit (ap failed e); one_waits = waits })
+  flush_refused old new fault limit memory waits (inr e) =
+      subst (λ (f : WorldFault). IsRefused storages Flush old (cause_of f) new) (sym e)
+      (record { delivers = memory (ap failed e); one_waits = waits })
+
   -- one line more
   pub led_on : (lines : List ScheduleLine) (line : ScheduleLine) (old between new : WorldState S)
       → Leads storages lines old between → IsDone storages line.action between new
@@ -29,11 +49,11 @@ module _ {S : Type 0} (storages : Ghosts (Script S)) where
       (w, done_first, led_on lines line w between new led done)
 
   -- a line that isn't done, after those that are
-  pub ends_here : (all done_lines left rest : List ScheduleLine) (line : ScheduleLine) (old reached : WorldState S)
+  pub ends_here : (all done_lines left rest : List ScheduleLine) (line : ScheduleLine) (old reached new : WorldState S)
       (fault : ReplayFault) → done_lines ++ left ≡ all → left ≡ line ∷ rest
-      → Leads storages done_lines old reached → IsStopped storages line reached fault
-      → EndsAt storages all old fault
-  ends_here all done_lines left rest line old reached fault parts next led stopped = record {
+      → Leads storages done_lines old reached → IsStopped storages line reached fault new
+      → EndsAt storages all old fault new
+  ends_here all done_lines left rest line old reached new fault parts next led stopped = record {
     before = done_lines;
     line = line;
     after = rest;
@@ -46,20 +66,18 @@ module _ {S : Type 0} (storages : Ghosts (Script S)) where
   -- the transcript after all lines
   pub runs_to : (IsHonest : S → Type 0) (plan : Plan) (lines : List ScheduleLine) (start end : WorldState S) (text : List ℕ) → lines ≡ plan.lines
       → Leads storages lines start end → text ≡ told_of end
-      → (AreHonestInside IsHonest end.nodes → AreHonest storages.IsHonest end.nodes)
-      → (AreHonestInside IsHonest end.nodes → ∥ IsSafe end ∥₁)
+      → StaysSafe storages IsHonest end
       → RunsTo storages IsHonest plan start text
-  runs_to IsHonest plan lines start end text same led told honest safe = record {
+  runs_to IsHonest plan lines start end text same led told safe = record {
     end = end;
     led = subst (λ (ls : List ScheduleLine). Leads storages ls start end) same led;
     told = told;
-    honest = honest;
     safe = safe;
   }
 
   -- a run over storages that are always honest is a replay of what spells it
   pub replayed : (IsHonest : S → Type 0) (bytes : List ℕ) (plan : Plan) (start : WorldState S) (text : List ℕ) → ((s : S) → IsHonest s)
-      → IsScheduleOf bytes plan → IsStart storages.contents plan.nodes start → RunsTo storages IsHonest plan start text
+      → IsScheduleOf bytes plan → IsStart storages plan.nodes start → RunsTo storages IsHonest plan start text
       → IsReplay storages bytes text
   replayed IsHonest bytes plan start text always spelled starts runs = record {
     plan = plan;
@@ -69,32 +87,39 @@ module _ {S : Type 0} (storages : Ghosts (Script S)) where
     end = runs.end;
     led = runs.led;
     told = runs.told;
-    honest = runs.honest (λ i n e. always n.storage.inner);
     safe = runs.safe (λ i n e. always n.storage.inner);
   }
 
   pub all_replayed : (IsHonest : S → Type 0) (bytes : List ℕ) (plan : Plan) (start : WorldState S) (result : Result (Vec ℕ) ReplayFault)
-      → ((s : S) → IsHonest s) → IsScheduleOf bytes plan → IsStart storages.contents plan.nodes start
+      → ((s : S) → IsHonest s) → IsScheduleOf bytes plan → IsStart storages plan.nodes start
       → IfOk result (λ text. RunsTo storages IsHonest plan start text.items) → IfOk result (λ text. IsReplay storages bytes text.items)
   all_replayed IsHonest bytes plan start (Ok text) always spelled starts runs = replayed IsHonest bytes plan start text.items always spelled starts runs
   all_replayed IsHonest bytes plan start (Err fault) always spelled starts runs = tt
 
   -- a line isn't done
-  pub run_ends_at : (plan : Plan) (lines : List ScheduleLine) (start : WorldState S) (fault : ReplayFault) → lines ≡ plan.lines
-      → EndsAt storages lines start fault → RunEnds storages plan start fault
-  run_ends_at plan lines start fault same ends =
-      at_a_line (subst (λ (ls : List ScheduleLine). EndsAt storages ls start fault) same ends)
+  pub run_ends_at : (IsHonest : S → Type 0) (plan : Plan) (lines : List ScheduleLine) (start end : WorldState S) (fault : ReplayFault)
+      → lines ≡ plan.lines → EndsAt storages lines start fault end → StaysSafe storages IsHonest end
+      → RunFails storages IsHonest plan start fault
+  run_ends_at IsHonest plan lines start end fault same ends safe = record {
+    end = end;
+    ends = at_a_line (subst (λ (ls : List ScheduleLine). EndsAt storages ls start fault end) same ends);
+    safe = safe;
+  }
 
   -- there is no text after all lines
-  pub run_ends_last : (plan : Plan) (lines : List ScheduleLine) (start end : WorldState S) (last : ℕ) → lines ≡ plan.lines
-      → Leads storages lines start end → last ≡ last_number plan
-      → RunEnds storages plan start (record { line = last; cause = Memory })
-  run_ends_last plan lines start end last same led is_last =
-      at_the_last end (subst (λ (ls : List ScheduleLine). Leads storages ls start end) same led) refl is_last
+  pub run_ends_last : (IsHonest : S → Type 0) (plan : Plan) (lines : List ScheduleLine) (start end : WorldState S) (last : ℕ)
+      → lines ≡ plan.lines → Leads storages lines start end → last ≡ last_number plan → StaysSafe storages IsHonest end
+      → RunFails storages IsHonest plan start (record { line = last; cause = Memory })
+  run_ends_last IsHonest plan lines start end last same led is_last safe = record {
+    end = end;
+    ends = at_the_last (subst (λ (ls : List ScheduleLine). Leads storages ls start end) same led) refl is_last;
+    safe = safe;
+  }
 
   -- why a run ended is why its replay did
-  pub replay_ends : {T : Type 0} (bytes : List ℕ) (plan : Plan) (start : WorldState S) (result : Result T ReplayFault)
-      → IsScheduleOf bytes plan → IsStart storages.contents plan.nodes start
-      → IfErr result (RunEnds storages plan start) → IfErr result (ReplayEnds storages bytes)
-  replay_ends bytes plan start (Ok text) spelled starts ends = ends
-  replay_ends bytes plan start (Err fault) spelled starts ends = not_run plan spelled start starts ends
+  pub replay_ends : {T : Type 0} (IsHonest : S → Type 0) (bytes : List ℕ) (plan : Plan) (start : WorldState S) (result : Result T ReplayFault)
+      → ((s : S) → IsHonest s) → IsScheduleOf bytes plan → IsStart storages plan.nodes start
+      → IfErr result (RunFails storages IsHonest plan start) → IfErr result (ReplayEnds storages bytes)
+  replay_ends IsHonest bytes plan start (Ok text) always spelled starts fails = fails
+  replay_ends IsHonest bytes plan start (Err fault) always spelled starts fails =
+      not_run plan spelled start fails.end starts fails.ends (fails.safe (λ i n e. always n.storage.inner))

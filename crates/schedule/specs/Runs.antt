@@ -5,9 +5,7 @@ use Rattle.stable.specs.declared.stable.Stable.{Ghosts}
 use Rattle.world.specs.Flushing.{Delivers, DeliversSome, IsStart}
 use Rattle.world.specs.Events.{NamesNoFrame, NamesNoNode}
 use Rattle.world.specs.Waiting.{NoneWaits, OneWaits}
-use Rattle.world.specs.Fired.{AreHonestInside}
-use Rattle.world.specs.Reaching.{AreHonest}
-use Rattle.world.specs.Safety.{IsSafe}
+use Rattle.world.specs.Staying.{IsSafeOver, StaysSafe}
 use Rattle.world.specs.Worlds.{WorldState, Steps}
 use Rattle.world.specs.declared.event.Event.{Event}
 use Rattle.world.specs.declared.log.TheConstants.{MOST_DELIVERIES}
@@ -37,9 +35,9 @@ module _ {S : Type 0} (storages : Ghosts (Script S)) where
   -- what a line asks for is done: the event happens, or frames are delivered until none waits
   abbrev pub IsDone : Action → WorldState S → WorldState S → Type 0
   IsDone (Step event) old new = NamesWhatIsThere old event
-      × Steps storages.contents storages.IsHonest storages.reads storages.read_fails storages.puts storages.fails old event new
+      × Steps storages old event new
   IsDone Flush old new = (n : ℕ) × (n ≤ MOST_DELIVERIES)
-      × Delivers storages.reads storages.puts storages.fails old n new × NoneWaits new.waiting
+      × Delivers storages old n new × NoneWaits new.waiting
 
   -- the lines are done, one after another
   abbrev pub Leads : List ScheduleLine → WorldState S → WorldState S → Type 0
@@ -48,76 +46,81 @@ module _ {S : Type 0} (storages : Ghosts (Script S)) where
       (between : WorldState S) × IsDone line.action old between × Leads lines between new
 
   -- as many frames are delivered as one flush may, and one still waits
-  pub record MeetsLimit (old : WorldState S) : Type 0 where
-    pub new : WorldState S
-    pub delivers : Delivers storages.reads storages.puts storages.fails old MOST_DELIVERIES new
+  pub record MeetsLimit (old new : WorldState S) : Type 0 where
+    pub delivers : Delivers storages old MOST_DELIVERIES new
     pub one_waits : OneWaits new.waiting
 
   -- fewer are delivered, and one still waits
-  pub record IsInterrupted (old : WorldState S) : Type 0 where
-    pub new : WorldState S
-    pub delivers : DeliversSome storages.reads storages.puts storages.fails old MOST_DELIVERIES new
+  pub record IsInterrupted (old new : WorldState S) : Type 0 where
+    pub delivers : DeliversSome storages old MOST_DELIVERIES new
     pub one_waits : OneWaits new.waiting
 
-  -- why a world does not do what a line asks for
-  abbrev pub IsRefused : Action → WorldState S → ReplayCause → Type 0
-  IsRefused (Step event) w NoSuchMessage = NamesNoFrame (length w.frames) event
-  IsRefused (Step event) w NoSuchNode = NamesNoNode (length w.nodes) event
-  IsRefused (Step event) w Memory = NamesWhatIsThere w event
-  IsRefused Flush w FlushLimit = MeetsLimit w
-  IsRefused Flush w Memory = IsInterrupted w
-  IsRefused _ w _ = ⊥
+  -- why a world does not do what a line asks for, and what it is then: as it was, but for the frames that a flush has
+  -- delivered
+  abbrev pub IsRefused : Action → WorldState S → ReplayCause → WorldState S → Type 0
+  IsRefused (Step event) old NoSuchMessage new = NamesNoFrame (length old.frames) event × (new ≡ old)
+  IsRefused (Step event) old NoSuchNode new = NamesNoNode (length old.nodes) event × (new ≡ old)
+  IsRefused (Step event) old Memory new = NamesWhatIsThere old event × (new ≡ old)
+  IsRefused Flush old FlushLimit new = MeetsLimit old new
+  IsRefused Flush old Memory new = IsInterrupted old new
+  IsRefused _ old _ new = ⊥
 
   -- a line isn't done
-  pub record IsStopped (line : ScheduleLine) (w : WorldState S) (fault : ReplayFault) : Type 0 where
+  pub record IsStopped (line : ScheduleLine) (old : WorldState S) (fault : ReplayFault) (new : WorldState S) : Type 0 where
     pub number : fault.line ≡ line.number
-    pub refused : IsRefused line.action w fault.cause
+    pub refused : IsRefused line.action old fault.cause new
 
   -- the lines before one are done, and it is not
-  pub record EndsAt (lines : List ScheduleLine) (old : WorldState S) (fault : ReplayFault) : Type 0 where
+  pub record EndsAt (lines : List ScheduleLine) (old : WorldState S) (fault : ReplayFault) (new : WorldState S) : Type 0 where
     pub before : List ScheduleLine
     pub line : ScheduleLine
     pub after : List ScheduleLine
     pub parts : lines ≡ before ++ line ∷ after
     pub reached : WorldState S
     pub led : Leads before old reached
-    pub stopped : IsStopped line reached fault
+    pub stopped : IsStopped line reached fault new
+
+  -- why a run has no transcript, and the world in which it ends: a line isn't done, or at the last one memory is wanting
+  -- for the text
+  pub data RunEnds (plan : Plan) (start : WorldState S) (fault : ReplayFault) (end : WorldState S) : Type 0 where
+    at_a_line : EndsAt plan.lines start fault end → RunEnds plan start fault end
+    at_the_last : Leads plan.lines start end → fault.cause ≡ Memory → fault.line ≡ last_number plan
+        → RunEnds plan start fault end
 
   -- the lines lead to a world of which the text is the transcript
   pub record RunsTo (IsHonest : S → Type 0) (plan : Plan) (start : WorldState S) (text : List ℕ) : Type 0 where
     pub end : WorldState S
     pub led : Leads plan.lines start end
     pub told : text ≡ told_of end
-    -- as long as every storage inside is honest every storage is
-    pub honest : AreHonestInside IsHonest end.nodes → AreHonest storages.IsHonest end.nodes
-    -- and the protocol has held, and one list of commands explains all that is told
-    pub safe : AreHonestInside IsHonest end.nodes → ∥ IsSafe end ∥₁
+    -- as long as every storage inside is honest the protocol has held, and one list of commands explains all that is
+    -- told
+    pub safe : StaysSafe storages IsHonest end
 
-  -- why a run has no transcript: a line isn't done, or at the last one memory is wanting for the text
-  pub data RunEnds (plan : Plan) (start : WorldState S) (fault : ReplayFault) : Type 0 where
-    at_a_line : EndsAt plan.lines start fault → RunEnds plan start fault
-    at_the_last : (end : WorldState S) → Leads plan.lines start end → fault.cause ≡ Memory
-        → fault.line ≡ last_number plan → RunEnds plan start fault
+  -- the run ends in a world without a transcript
+  pub record RunFails (IsHonest : S → Type 0) (plan : Plan) (start : WorldState S) (fault : ReplayFault) : Type 0 where
+    pub end : WorldState S
+    pub ends : RunEnds plan start fault end
+    pub safe : StaysSafe storages IsHonest end
 
   -- the bytes spell a schedule, whose lines lead from the start to a world of which the text is the transcript
   pub record IsReplay (bytes text : List ℕ) : Type 0 where
     pub plan : Plan
     pub spelled : IsScheduleOf bytes plan
     pub start : WorldState S
-    pub starts : IsStart storages.contents plan.nodes start
+    pub starts : IsStart storages plan.nodes start
     pub end : WorldState S
     pub led : Leads plan.lines start end
     pub told : text ≡ told_of end
-    -- every storage has been honest to the end
-    pub honest : AreHonest storages.IsHonest end.nodes
-    -- the protocol has held, and one list of commands explains all that is told
-    pub safe : ∥ IsSafe end ∥₁
+    -- every storage has been honest to the end; the protocol has held, and one list of commands explains all that is
+    -- told
+    pub safe : IsSafeOver storages end
 
   -- why there is no transcript of the bytes: they were not read as a schedule, or no world was made at their first
-  -- line, or the run ended
+  -- line, or the run ended, in a world as safe as that of a transcript
   pub data ReplayEnds (bytes : List ℕ) (fault : ReplayFault) : Type 0 where
     not_read : (refusal : ParseFault) → IsRefusal bytes refusal → fault ≡ fault_of refusal → ReplayEnds bytes fault
     not_begun : (plan : Plan) → IsScheduleOf bytes plan → fault.cause ≡ Memory → fault.line ≡ plan.first
         → ReplayEnds bytes fault
-    not_run : (plan : Plan) → IsScheduleOf bytes plan → (start : WorldState S)
-        → IsStart storages.contents plan.nodes start → RunEnds plan start fault → ReplayEnds bytes fault
+    not_run : (plan : Plan) → IsScheduleOf bytes plan → (start end : WorldState S)
+        → IsStart storages plan.nodes start → RunEnds plan start fault end → IsSafeOver storages end
+        → ReplayEnds bytes fault

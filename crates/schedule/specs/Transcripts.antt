@@ -1,5 +1,5 @@
 -- What is told of a run: the line of each outcome.
-use Rattle.std.specs.Prelude.{ℕ, List, [], ◌∷◌, ◌++◌, Bool, true, false, codes, decimal, drop}
+use Rattle.std.specs.Prelude.{ℕ, List, [], ◌∷◌, ◌++◌, codes, decimal, drop, flat_map, take}
 use Rattle.sessions.specs.Outcomes.{outcome_code}
 use Rattle.sessions.specs.declared.command.Command.{Command}
 use Rattle.sessions.specs.declared.command.Command.TheVariants.{NoOp, Request}
@@ -48,35 +48,24 @@ pub record Entries : Type 0 where
   pub replies : List Replied
   pub answers : List Answered
 
--- the line of the first entry; where there is none, nothing
-abbrev pub first_line : {T : Type 0} → (T → List ℕ) → List T → List ℕ
-first_line line [] = []
-first_line line (entry ∷ entries) = line entry
-
--- that line, if an outcome brought such an entry
-abbrev pub brought_line : {T : Type 0} → Bool → (T → List ℕ) → List T → List ℕ
-brought_line false line entries = []
-brought_line true line entries = first_line line entries
-
--- the entries that are left after an outcome that brought one, or none
-abbrev pub left_after : {T : Type 0} → Bool → List T → List T
-left_after false entries = entries
-left_after true entries = drop 1 entries
+-- the lines of the first entries, so many; for those that are missing, nothing
+abbrev pub first_lines : {T : Type 0} → (T → List ℕ) → ℕ → List T → List ℕ
+first_lines line count entries = flat_map line (take count entries)
 
 -- the lines of an outcome that brought the first of these entries
 abbrev pub lines_of_outcome : Outcome → Entries → List ℕ
-lines_of_outcome (outcome.Done learns replies) entries =
-    brought_line learns learn_line entries.learnt ++ brought_line replies reply_line entries.replies
-lines_of_outcome outcome.Answered entries = first_line answer_line entries.answers
+lines_of_outcome (outcome.Done learnt replies) entries =
+    first_lines learn_line learnt entries.learnt ++ first_lines reply_line replies entries.replies
+lines_of_outcome outcome.Answered entries = first_lines answer_line 1 entries.answers
 lines_of_outcome outcome.Lost entries = []
 lines_of_outcome (outcome.Refused node fault) entries = refuse_line node fault
 lines_of_outcome (outcome.Stopped node fault) entries = stop_line node fault
 
 -- the entries that later outcomes brought
 abbrev pub entries_after : Outcome → Entries → Entries
-entries_after (outcome.Done learns replies) entries = record entries {
-  learnt = left_after learns entries.learnt;
-  replies = left_after replies entries.replies;
+entries_after (outcome.Done learnt replies) entries = record entries {
+  learnt = drop learnt entries.learnt;
+  replies = drop replies entries.replies;
 }
 entries_after outcome.Answered entries = record entries { answers = drop 1 entries.answers }
 entries_after outcome.Lost entries = entries

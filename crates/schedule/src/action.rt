@@ -1,6 +1,6 @@
 //! What a line of a schedule asks for.
 
-ghost use Rattle.std.specs.Prelude.{◌≡◌, IfOk};
+ghost use Rattle.std.specs.Prelude.{◌≡◌};
 
 use std::alloc::AllocError;
 use world::Event;
@@ -14,13 +14,12 @@ pub enum Action {
     Flush,
 }
 
-impl Action {
-    /// A copy, equal to it.
-    pub fn try_clone(&self) -> Result<Action, AllocError>
-        ensures { IfOk result (λ copy. copy ≡ self.now) }
-    {
+impl Clone for Action {
+    ghost is_clone = { λ original copy. copy ≡ original };
+
+    fn clone(&self) -> Result<Action, AllocError> {
         match self {
-            Action::Step(event) => Ok(Action::Step(event.try_clone()?)),
+            Action::Step(event) => Ok(Action::Step(event.clone()?)),
             Action::Flush => Ok(Action::Flush),
         }
     }

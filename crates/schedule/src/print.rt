@@ -1,6 +1,6 @@
 //! The lines of a transcript.
 
-ghost use Rattle.std.specs.Prelude.{◌≡◌, ◌++◌, OnOk};
+ghost use Rattle.std.specs.Prelude.{◌≡◌, ◌++◌, OnOk, flat_map};
 ghost use Rattle.schedule.specs.Transcripts.{answer_line, learn_line, refuse_line, reply_line, stop_line};
 
 use sessions::Command;
@@ -8,8 +8,38 @@ use std::io::{self, Write};
 use wire::NodeId;
 use world::{Answered, Learnt, NodeFault, Replied};
 
+/// Adds the lines of what nodes learnt.
+pub(crate) fn print_learnt(text: &mut Vec<u8>, entries: &[Learnt]) -> io::Result<()>
+    ensures { OnOk result (text.new.items ≡ text.old.items ++ flat_map learn_line entries.now) }
+{
+    for learnt in entries {
+        print_entry(text, learnt)?;
+    }
+    Ok(())
+}
+
+/// Adds the lines of replies.
+pub(crate) fn print_replies(text: &mut Vec<u8>, replies: &[Replied]) -> io::Result<()>
+    ensures { OnOk result (text.new.items ≡ text.old.items ++ flat_map reply_line replies.now) }
+{
+    for replied in replies {
+        print_reply(text, replied)?;
+    }
+    Ok(())
+}
+
+/// Adds the lines of answers.
+pub(crate) fn print_answers(text: &mut Vec<u8>, answers: &[Answered]) -> io::Result<()>
+    ensures { OnOk result (text.new.items ≡ text.old.items ++ flat_map answer_line answers.now) }
+{
+    for answered in answers {
+        print_answer(text, answered)?;
+    }
+    Ok(())
+}
+
 /// Adds the line of what a node learnt: `learn 0 0 7:1`, or `learn 0 0 noop`.
-pub(crate) fn print_learnt(text: &mut Vec<u8>, learnt: &Learnt) -> io::Result<()>
+fn print_entry(text: &mut Vec<u8>, learnt: &Learnt) -> io::Result<()>
     ensures { OnOk result (text.new.items ≡ text.old.items ++ learn_line learnt.now) }
 {
     let node = learnt.node.value();
@@ -25,7 +55,7 @@ pub(crate) fn print_learnt(text: &mut Vec<u8>, learnt: &Learnt) -> io::Result<()
 }
 
 /// Adds the line of a reply: `reply 0 7:1 21`.
-pub(crate) fn print_reply(text: &mut Vec<u8>, replied: &Replied) -> io::Result<()>
+fn print_reply(text: &mut Vec<u8>, replied: &Replied) -> io::Result<()>
     ensures { OnOk result (text.new.items ≡ text.old.items ++ reply_line replied.now) }
 {
     let node = replied.node.value();
@@ -36,7 +66,7 @@ pub(crate) fn print_reply(text: &mut Vec<u8>, replied: &Replied) -> io::Result<(
 }
 
 /// Adds the line of an answer: `answer 0 1 count 0`.
-pub(crate) fn print_answer(text: &mut Vec<u8>, answered: &Answered) -> io::Result<()>
+fn print_answer(text: &mut Vec<u8>, answered: &Answered) -> io::Result<()>
     ensures { OnOk result (text.new.items ≡ text.old.items ++ answer_line answered.now) }
 {
     let node = answered.node.value();

@@ -1,9 +1,9 @@
 //! What is told of a run.
 
-ghost use Rattle.std.specs.Prelude.{◌≡◌, ◌++◌, [], ◌∷◌, drop, None, IfOk, OnOk, MatchOption};
-ghost use Rattle.schedule.specs.Transcripts.{transcript_of, lines_of_outcome, entries_after, first_line, learn_line, reply_line, answer_line};
+ghost use Rattle.std.specs.Prelude.{◌≡◌, ◌++◌, drop, take, IfOk, OnOk};
+ghost use Rattle.schedule.specs.Transcripts.{transcript_of, lines_of_outcome, entries_after};
 
-use super::print::{print_answer, print_learnt, print_refusal, print_reply, print_stop};
+use super::print::{print_answers, print_learnt, print_refusal, print_replies, print_stop};
 use std::alloc::{AllocError, Global};
 use std::io;
 use std::marker::Model;
@@ -67,66 +67,32 @@ impl<'a> Unprinted<'a> {
         ensures left { OnOk result (self.new ≡ entries_after outcome self.old) }
     {
         match outcome {
-            Outcome::Done(learns, replies) => {
-                if learns {
-                    self.print_learnt(text)?;
-                }
-                if replies {
-                    self.print_reply(text)?;
-                }
-                Ok(())
+            Outcome::Done { learnt, replies } => {
+                print_learnt(text, take_first(&mut self.learnt, learnt))?;
+                print_replies(text, take_first(&mut self.replies, replies))
             }
-            Outcome::Answered => self.print_answer(text),
+            Outcome::Answered => print_answers(text, take_first(&mut self.answers, 1)),
             Outcome::Lost => Ok(()),
             Outcome::Refused(node, fault) => print_refusal(text, node, fault),
             Outcome::Stopped(node, fault) => print_stop(text, node, fault),
         }
     }
-
-    fn print_learnt(&mut self, text: &mut Vec<u8>) -> io::Result<()>
-        ensures text { OnOk result
-            (text.new.items ≡ text.old.items ++ first_line learn_line self.old.learnt) }
-        ensures left { OnOk result
-            (self.new ≡ record self.old { learnt = drop 1 self.old.learnt }) }
-    {
-        match take_first(&mut self.learnt) {
-            Some(learnt) => print_learnt(text, learnt),
-            None => Ok(()),
-        }
-    }
-
-    fn print_reply(&mut self, text: &mut Vec<u8>) -> io::Result<()>
-        ensures text { OnOk result
-            (text.new.items ≡ text.old.items ++ first_line reply_line self.old.replies) }
-        ensures left { OnOk result
-            (self.new ≡ record self.old { replies = drop 1 self.old.replies }) }
-    {
-        match take_first(&mut self.replies) {
-            Some(replied) => print_reply(text, replied),
-            None => Ok(()),
-        }
-    }
-
-    fn print_answer(&mut self, text: &mut Vec<u8>) -> io::Result<()>
-        ensures text { OnOk result
-            (text.new.items ≡ text.old.items ++ first_line answer_line self.old.answers) }
-        ensures left { OnOk result
-            (self.new ≡ record self.old { answers = drop 1 self.old.answers }) }
-    {
-        match take_first(&mut self.answers) {
-            Some(answered) => print_answer(text, answered),
-            None => Ok(()),
-        }
-    }
 }
 
-/// Takes the first entry that is left.
-fn take_first<'a, T>(left: &mut &'a [T]) -> Option<&'a T>
-    ensures first { MatchOption result (left.old.now ≡ [])
-        (λ first. left.old.now ≡ first.now ∷ left.new.now) }
-    ensures none { result ≡ None → left.new.now ≡ [] }
+/// Takes the first entries that are left: so many, or all where there are fewer.
+fn take_first<'a, T>(left: &mut &'a [T], count: u32) -> &'a [T]
+    ensures taken { result.now ≡ take count left.old.now }
+    ensures left { left.new.now ≡ drop count left.old.now }
 {
-    let (first, rest) = left.split_first()?;
-    *left = rest;
-    Some(first)
+    match left.split_at_checked(count as usize) {
+        Some((first, rest)) => {
+            *left = rest;
+            first
+        }
+        None => {
+            let all = *left;
+            *left = &[];
+            all
+        }
+    }
 }

@@ -1,13 +1,11 @@
 //! A run of a schedule.
 
-ghost use Rattle.std.specs.Prelude.{◌≡◌, ◌≢◌, IfErr, IfOk, MatchResult};
+ghost use Rattle.std.specs.Prelude.{◌≡◌, ◌≢◌, IfErr, IfOk, MatchResult, OnErr};
 ghost use Rattle.world.specs.Flushing.{IsStart};
-ghost use Rattle.world.specs.Fired.{AreHonestInside};
-ghost use Rattle.world.specs.Reaching.{AreHonest};
-ghost use Rattle.world.specs.Safety.{IsSafe};
 ghost use Rattle.world.specs.Seen.{world_of};
+ghost use Rattle.world.specs.Staying.{StaysSafe};
 ghost use Rattle.schedule.specs.Causes.{cause_of};
-ghost use Rattle.schedule.specs.Runs.{IsDone, IsRefused, IsReplay, IsStopped, Leads, ReplayEnds, RunEnds, RunsTo, EndsAt, told_of};
+ghost use Rattle.schedule.specs.Runs.{EndsAt, IsDone, IsRefused, IsReplay, IsStopped, Leads, ReplayEnds, RunFails, RunsTo, told_of};
 
 use super::action::Action;
 use super::parse::parse_schedule;
@@ -20,7 +18,8 @@ use world::{World, WorldFault};
 
 /// The transcript of the run that the bytes spell, over records in memory.
 ///
-/// The run is safe: records in memory are always honest, whatever faults the schedule arms.
+/// The run is safe, to the end or to the line that ends it: records in memory are always honest, whatever faults the
+/// schedule arms.
 ///
 /// Every line is parsed before the first event. An error is the first faulty line; else the first
 /// line that can't be done, as it delivers or drops a frame that was never sent, or its flush meets
@@ -40,7 +39,7 @@ pub fn replay(alloc: Global, bytes: &[u8]) -> Result<Vec<u8>, ReplayFault>
 /// The world in which a replay begins.
 fn start(alloc: Global, schedule: &Schedule) -> Result<World<MemStable>, ReplayFault>
     ensures started { IfOk result (λ world.
-        IsStart (⟦<Scripted<MemStable> as Stable>⟧.contents) schedule.now.nodes (world_of world)) }
+        IsStart (⟦<Scripted<MemStable> as Stable>⟧) schedule.now.nodes (world_of world)) }
     ensures refused { IfErr result (λ fault.
         fault ≡ record { line = schedule.now.first; cause = ReplayCause.Memory }) }
 {
@@ -55,7 +54,8 @@ fn start(alloc: Global, schedule: &Schedule) -> Result<World<MemStable>, ReplayF
 
 /// The transcript of all that happened in the world once the schedule's lines are done in it.
 ///
-/// The world may have any storages, and any past, which stands in the transcript too.
+/// The world may have any storages, and any past, which stands in the transcript too. As long as the storages inside
+/// are honest the world is safe in which the run ends, with a fault as without.
 pub fn run_lines<S: Stable + Drop>(
     alloc: Global,
     schedule: Schedule,
@@ -64,7 +64,7 @@ pub fn run_lines<S: Stable + Drop>(
     ensures transcript { IfOk result (λ text.
         RunsTo (⟦<Scripted<S> as Stable>⟧) S.IsHonest schedule (world_of world) text.items) }
     ensures fault { IfErr result
-        (RunEnds (⟦<Scripted<S> as Stable>⟧) schedule (world_of world)) }
+        (RunFails (⟦<Scripted<S> as Stable>⟧) S.IsHonest schedule (world_of world)) }
 {
     let mut world = world;
     let last = schedule.last();
@@ -81,10 +81,7 @@ pub fn run_lines<S: Stable + Drop>(
 /// The transcript of all that happened in the world.
 fn world_transcript<S: Stable>(alloc: Global, world: &World<S>) -> Result<Vec<u8>, AllocError>
     ensures told { IfOk result (λ text. text.items ≡ told_of (world_of world.now)) }
-    ensures honest { AreHonestInside S.IsHonest (world_of world.now).nodes
-        → AreHonest (⟦<Scripted<S> as Stable>⟧.IsHonest) (world_of world.now).nodes }
-    ensures safe { AreHonestInside S.IsHonest (world_of world.now).nodes
-        → ∥ IsSafe (world_of world.now) ∥₁ }
+    ensures safe { StaysSafe (⟦<Scripted<S> as Stable>⟧) S.IsHonest (world_of world.now) }
 {
     transcript(
         alloc,
@@ -95,15 +92,16 @@ fn world_transcript<S: Stable>(alloc: Global, world: &World<S>) -> Result<Vec<u8
     )
 }
 
-/// Does the lines in order, up to the first that can't be done.
+/// Does the lines in order, up to the first that can't be done. The world is safe in which they end there.
 fn do_lines<S: Stable>(
     alloc: Global,
     world: &mut World<S>,
     lines: Vec<ScheduleLine>,
 ) -> Result<(), ReplayFault>
-    ensures { MatchResult result
+    ensures ends { MatchResult result
         (λ _. Leads (⟦<Scripted<S> as Stable>⟧) lines.items (world_of world.old) (world_of world.new))
-        (EndsAt (⟦<Scripted<S> as Stable>⟧) lines.items (world_of world.old)) }
+        (λ fault. EndsAt (⟦<Scripted<S> as Stable>⟧) lines.items (world_of world.old) fault (world_of world.new)) }
+    ensures safe { OnErr result (StaysSafe (⟦<Scripted<S> as Stable>⟧) S.IsHonest (world_of world.new)) }
 {
     for line in lines {
         do_line(alloc, world, line)?;
@@ -117,9 +115,10 @@ fn do_line<S: Stable>(
     world: &mut World<S>,
     line: ScheduleLine,
 ) -> Result<(), ReplayFault>
-    ensures { MatchResult result
+    ensures done { MatchResult result
         (λ _. IsDone (⟦<Scripted<S> as Stable>⟧) line.action (world_of world.old) (world_of world.new))
-        (IsStopped (⟦<Scripted<S> as Stable>⟧) line (world_of world.old)) }
+        (λ fault. IsStopped (⟦<Scripted<S> as Stable>⟧) line (world_of world.old) fault (world_of world.new)) }
+    ensures safe { StaysSafe (⟦<Scripted<S> as Stable>⟧) S.IsHonest (world_of world.new) }
 {
     let ScheduleLine { number, action } = line;
     match act(alloc, world, action) {
@@ -133,9 +132,11 @@ fn do_line<S: Stable>(
 
 /// Does what a line asks for.
 fn act<S: Stable>(alloc: Global, world: &mut World<S>, action: Action) -> Result<(), WorldFault>
-    ensures { MatchResult result
+    ensures done { MatchResult result
         (λ _. IsDone (⟦<Scripted<S> as Stable>⟧) action (world_of world.old) (world_of world.new))
-        (λ fault. IsRefused (⟦<Scripted<S> as Stable>⟧) action (world_of world.old) (cause_of fault)) }
+        (λ fault. IsRefused (⟦<Scripted<S> as Stable>⟧) action (world_of world.old) (cause_of fault)
+        (world_of world.new)) }
+    ensures safe { StaysSafe (⟦<Scripted<S> as Stable>⟧) S.IsHonest (world_of world.new) }
 {
     match action {
         Action::Step(event) => world.step(alloc, event),

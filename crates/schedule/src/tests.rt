@@ -204,7 +204,7 @@ fn only_action(alloc: Global, line: &[u8]) -> Result<Action, Fail> {
     file.extend_from_slice(line)?;
     let schedule = parse_schedule(alloc, &file).ok().ok_or("a schedule")?;
     match schedule.lines() {
-        [line] => Ok(line.action.try_clone()?),
+        [line] => Ok(line.action.clone()?),
         _ => Err("one line")?,
     }
 }
@@ -347,6 +347,11 @@ fn laws_run_nothing() {
     first_faults_are_one();
 }
 
+// A step by which so many slots were learnt, with so many replies.
+fn made(learnt: u32, replies: u32) -> Outcome {
+    Outcome::Done { learnt, replies }
+}
+
 // outcomes of each kind, and what is told of them
 #[test]
 fn told_run(rt: HostRuntime) -> Result<(), Fail> {
@@ -354,10 +359,10 @@ fn told_run(rt: HostRuntime) -> Result<(), Fail> {
     let number = Number::new(1).ok_or("a number")?;
     let op = Op::Remove(Id::new(b"bus-7").ok_or("an id")?);
     let outcomes = [
-        Outcome::Done(false, false),
-        Outcome::Done(true, true),
+        made(0, 0),
+        made(1, 2),
         Outcome::Lost,
-        Outcome::Done(true, false),
+        made(1, 0),
         Outcome::Refused(node(1)?, NodeFault::Down),
         Outcome::Answered,
         Outcome::Stopped(node(2)?, NodeFault::Device),
@@ -374,13 +379,21 @@ fn told_run(rt: HostRuntime) -> Result<(), Fail> {
             command: Command::NoOp,
         },
     ];
-    let replies = [Replied {
+    let reply = Replied {
         node: node(0)?,
         client: 7,
         number,
         reply: sessions::Outcome::Applied(Reply::Unknown),
         position: 1,
-    }];
+    };
+    let replies = [
+        reply,
+        Replied {
+            client: 8,
+            position: 2,
+            ..reply
+        },
+    ];
     let answers = [Answered {
         node: node(0)?,
         position: 1,
@@ -388,7 +401,7 @@ fn told_run(rt: HostRuntime) -> Result<(), Fail> {
         text: Text::new(b"count 0".to_vec(alloc)?),
     }];
     let text = transcript(alloc, &outcomes, &learnt, &replies, &answers)?;
-    let wanted = b"learn 0 0 7:1\nreply 0 7:1 21\nlearn 1 0 noop\nrefuse 1 41\n\
+    let wanted = b"learn 0 0 7:1\nreply 0 7:1 21\nreply 0 8:1 21\nlearn 1 0 noop\nrefuse 1 41\n\
 answer 0 1 count 0\nstop 2 46\n";
     assert!(rt; text.as_slice() == wanted.as_slice(), "of {outcomes:?}");
     Ok(())

@@ -193,7 +193,11 @@ module _ (nodes i from : ℕ) (v : Vote Command) (old : Mind) (x : Local Command
   }
 
   abbrev told_all : Told
-  told_all = record { learnt = Some v.command; executed = executed_reply old.machine old.proposing v.command; sends = [] }
+  told_all = record {
+    learnt = Some (record { slot = v.slot; command = v.command });
+    executed = executed_reply old.machine old.proposing v.slot v.command;
+    sends = [];
+  }
 
   -- the node once it has heard, and once it has learnt
   abbrev after_hearing : Local Command
@@ -239,7 +243,7 @@ module _ (nodes i from : ℕ) (v : Vote Command) (old : Mind) (x : Local Command
           };
         };
         sent = sym (append-nil x.sent);
-        learnt = refl;
+        learnt = ap (λ (s : ℕ). x.learnt ++ record { node = i; slot = s; command = v.command } ∷ []) (sym counts.first_slot);
         submitted = sym (append-nil x.submitted);
       }
 

@@ -21,16 +21,16 @@ use Rattle.wire.specs.declared.frames.envelope.Envelope.{Envelope}
 use Rattle.wire.specs.Promises.{Promised}
 use Rattle.wire.specs.declared.frames.message.Message.TheVariants.{Promise}
 use Rattle.world.specs.declared.input.Input.TheVariants as input
-use Rattle.world.specs.Campaigning.{Campaigning, told_with, IsCounted, CountsPromise}
+use Rattle.world.specs.Campaigning.{Campaigning, told_here, told_with, IsCounted, CountsPromise}
 use Rattle.world.specs.Minds.{Mind, Takes, TakesPromise, is_full}
 use Rattle.world.specs.Outputs.{Told, sent, nothing}
 use Rattle.world.specs.Proposing.{Proposing, HearsPromise, CountsInCampaign, filled, fill_sends}
-use Rattle.world.specs.Protocol.{fleet, CampaignStands, IsSeen, IsNode, IsWellToldInput, MayTake}
+use Rattle.world.specs.Protocol.{fleet, CampaignStands, IsSeen, IsNode, MayTake}
 use Rattle.world.specs.Sized.{IsSized, IsFromNode}
 use Rattle.world.proofs.AllowedGoing.{MayGo, HasCampaign, stays, goes_after, goes_takes, mind_with, campaign_of}
 use Rattle.world.proofs.AllowedFill.{fill_is_allowed}
 use Rattle.world.proofs.AllowedProposer.{not_full}
-use Rattle.world.proofs.AllowedTold.{told_with_there, covers_known, covers_told, only_told}
+use Rattle.world.proofs.AllowedTold.{told_with_there, covers_known, covers_told, only_told, here_only, covers_entries}
 
 -- one node more has promised
 flag_put : (flags : List Bool) (f : ℕ → Bool) (from a : ℕ) → from < length flags → f a ≡ has_node flags a
@@ -56,11 +56,13 @@ decide_counted k from b first = elim (cases_Bool k.leading) [
   ])
 ]
 
-module _ (nodes i : ℕ) (from : ℕ) (b : Ballot) (first last : ℕ) (votes : List (Vote Command)) (old : Mind) (x : Local Command)
-    (n : IsNode i nodes old) (seen : IsSeen old x) (few : nodes ≤ 7) (a_node : from < nodes)
-    (well_told : (v : Vote Command) → Contains votes v → v.slot ≡ first) where
+module _ (nodes i : ℕ) (from : ℕ) (b : Ballot) (first last : ℕ) (entries : List (Vote Command)) (old : Mind) (x : Local Command)
+    (n : IsNode i nodes old) (seen : IsSeen old x) (few : nodes ≤ 7) (a_node : from < nodes) where
   abbrev in' : act.Input Command
-  in' = act.Came from (synod.Promise b first last votes)
+  in' = act.Came from (synod.Promise b first last entries)
+
+  abbrev votes : List (Vote Command)
+  votes = told_here entries
 
   abbrev with_campaign : Campaigning → Mind
   with_campaign k = record old { proposing = record old.proposing { campaign = Some k } }
@@ -78,22 +80,25 @@ module _ (nodes i : ℕ) (from : ℕ) (b : Ballot) (first last : ℕ) (votes : L
     more = record q { promised = put q.promised from true; end = 0; told = option_to_list told }
 
     at_zero : (v : Vote Command) → Contains votes v → v.slot ≡ zero
-    at_zero v c = well_told v c ∙ counts.of_the_slot
+    at_zero v c = (here_only entries v c).0
 
-    came : in' ≡ act.Came from (synod.Promise q.ballot q.first last votes)
+    came : in' ≡ act.Came from (synod.Promise q.ballot q.first last entries)
     came =
-        ap (λ (c : Ballot). act.Came from (synod.Promise c first last votes)) (counts.of_the_ballot ∙ sym h.ballot)
-        ∙ ap (λ s. act.Came from (synod.Promise q.ballot s last votes)) (counts.of_the_slot ∙ sym h.first)
+        ap (λ (c : Ballot). act.Came from (synod.Promise c first last entries)) (counts.of_the_ballot ∙ sym h.ballot)
+        ∙ ap (λ s. act.Came from (synod.Promise q.ballot s last entries)) (counts.of_the_slot ∙ sym h.first)
 
-    may_count : act.CountsPromise in' q from last votes 0 (option_to_list told)
+    may_count : act.CountsPromise in' q from last entries 0 (option_to_list told)
     may_count = record {
       gathers = h.leading ∙ counts.gathers;
       came = came;
       before = omega arith;
       within = omega arith;
       covers_old = subst (λ l. synod_minds.Covers l 0 (option_to_list told)) (sym h.told) (covers_known k.told votes h.told_there at_zero);
-      covers_new = covers_told k.told votes h.told_there at_zero;
-      only = λ v c. subst (λ l. Contains l v ⊎ Contains votes v) (sym h.told) (only_told k.told votes h.told_there at_zero v c);
+      covers_new = covers_entries entries (option_to_list told) (covers_told k.told votes h.told_there at_zero);
+      only = λ v c. subst (λ l. Contains l v ⊎ Contains entries v) (sym h.told) (elim (only_told k.told votes h.told_there at_zero v c) [
+        | inl known ↦ inl known
+        | inr new ↦ inr (here_only entries v new).1
+      ]);
     }
 
     flags : (a : ℕ) → put q.promised from true a ≡ has_node (with_node k.promised from) a
@@ -112,10 +117,10 @@ module _ (nodes i : ℕ) (from : ℕ) (b : Ballot) (first last : ℕ) (votes : L
     }
 
     abbrev y : Local Command
-    y = acted i x (act.Counts q from last votes 0 (option_to_list told))
+    y = acted i x (act.Counts q from last entries 0 (option_to_list told))
 
     does_count : Does (fleet nodes) i in' x y
-    does_count = does_one (fleet nodes) i in' x (act.Counts q from last votes 0 (option_to_list told)) (there, may_count)
+    does_count = does_one (fleet nodes) i in' x (act.Counts q from last entries 0 (option_to_list told)) (there, may_count)
 
     still_gathers : q.leading ≡ false
     still_gathers = h.leading ∙ counts.gathers
@@ -204,14 +209,14 @@ module _ (nodes i : ℕ) (from : ℕ) (b : Ballot) (first last : ℕ) (votes : L
 -- a promise may be counted, and what it fills be proposed
 pub promise_lem : (nodes i : ℕ) (old new : Mind) (from : ℕ) (p : Promised) (told : Told) (x : Local Command) → nodes ≤ 7
     → IsFromNode nodes (input.Message from (Promise p)) → IsNode i nodes old → IsSized old
-    → Takes old (input.Message from (Promise p)) new told → IsWellToldInput (input.Message from (Promise p)) → IsSeen old x
+    → Takes old (input.Message from (Promise p)) new told → IsSeen old x
     → MayTake nodes i (input.Message from (Promise p)) x new told
-promise_lem nodes i old new from p told x few a_node n sized takes well_told seen =
+promise_lem nodes i old new from p told x few a_node n sized takes seen =
     let in'' : act.Input Command = act.Came from (synod.Promise p.ballot p.first p.last p.entries) in
     let now : Proposing = takes.0 in
     let t : TakesPromise old from now new told = takes.2 in
     let sends : List Envelope = (cond (is_full old) nothing (sent (fill_sends now))).sends in
     goes_takes (input.Message from (Promise p)) sends refl
-    (t.tells ∙ fills_tell nodes i from p.ballot p.first p.last p.entries old x n seen few a_node well_told now (is_full old))
+    (t.tells ∙ fills_tell nodes i from p.ballot p.first p.last p.entries old x n seen few a_node now (is_full old))
     (subst (λ m. MayGo nodes i in'' x m sends) (sym t.leaves)
-    (fills_then nodes i from p.ballot p.first p.last p.entries old x n seen few a_node well_told now sized takes.1 (is_full old) refl))
+    (fills_then nodes i from p.ballot p.first p.last p.entries old x n seen few a_node now sized takes.1 (is_full old) refl))

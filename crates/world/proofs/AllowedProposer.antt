@@ -109,7 +109,7 @@ started old x b round seen i = record {
     promise = seen.records.promise;
     vote = seen.records.vote;
     round_ = round;
-    floor = seen.records.floor;
+    floor_ = seen.records.floor_;
   };
   mind = mind_with old x.mind (record old.proposing { round = next_round old.proposing; campaign = Some (begun b) })
       (Some (synod_minds.begun b x.mind.position 0)) seen.mind (begun_stands b x.mind.position seen.mind.position) seen.mind.waiting;

@@ -1,13 +1,14 @@
 -- The highest told vote stands for all that were told of the one slot.
 use Rattle.std.proofs.Common.{◌≡◌, zero, ◌<◌, ◌≤◌, ◌⊎◌, List, [], ◌∷◌, Bool, true, false, cond, inl, inr, Option, Some, None, IfSome, Contains, nat_lt, refl, sym, ap, ◌∙◌, subst, arith, le_refl}
 use Rattle.std.specs.Option.{option_to_list}
-use Rattle.std.proofs.lemmas.Bool.{ltb-true, ltb-false}
+use Rattle.std.proofs.lemmas.Bool.{ltb-true, ltb-false, eq-eqb}
+use Rattle.std.proofs.lemmas.Bool.Decides.{eqb_tells}
 use Rattle.std.proofs.lemmas.List.Elements.{Contains-push_cases, Contains-append_right, Contains-append_cases}
 use Rattle.synod.specs.Ballots.{rank}
 use Rattle.synod.specs.declared.vote.Vote.{Vote}
 use Rattle.synod.specs.Minds.{Covers}
 use Rattle.sessions.specs.declared.command.Command.{Command}
-use Rattle.world.specs.Campaigning.{higher, told_with}
+use Rattle.world.specs.Campaigning.{higher, told_here, told_with}
 
 -- what is in a list is its first element or in the rest
 in_first : (v : Vote Command) (vs : List (Vote Command)) → Contains (v ∷ vs) v
@@ -173,3 +174,29 @@ module _ (t : Option (Vote Command)) (votes : List (Vote Command)) (there : IfSo
     | inl known ↦ inl (of_option t v known)
     | inr new ↦ inr new
   ]
+
+-- ---- the votes at the one slot among those that a promise tells
+pub here_only : (entries : List (Vote Command)) (v : Vote Command) → Contains (told_here entries) v → (v.slot ≡ zero) × Contains entries v
+here_only [] v c = absurd (omega (arith, c.1))
+here_only (e ∷ es) v c = elim (eqb_tells e.slot 0) [
+  | inl at ↦ (elim (first_or_rest e v (told_here es) (rw at.0 at c)) [
+    | inl same ↦ (sym (ap (λ (x : Vote Command). x.slot) same) ∙ at.1, subst (Contains (e ∷ es)) same (in_first e es))
+    | inr rest ↦ (let more = here_only es v rest in (more.0, in_rest e v es more.1))
+  ])
+  | inr apart ↦ (let more = here_only es v (rw apart.0 at c) in (more.0, in_rest e v es more.1))
+]
+
+pub here_all : (entries : List (Vote Command)) (v : Vote Command) → v.slot ≡ zero → Contains entries v → Contains (told_here entries) v
+here_all [] v at c = c
+here_all (e ∷ es) v at c = elim (first_or_rest e v es c) [
+  | inl same ↦ (let there : e.slot ≡ zero = ap (λ (x : Vote Command). x.slot) same ∙ at in
+      rw (eq-eqb e.slot 0 there) (subst (Contains (e ∷ told_here es)) same (in_first e (told_here es))))
+  | inr rest ↦ (let more = here_all es v at rest in elim (eqb_tells e.slot 0) [
+    | inl here ↦ rw here.0 (in_rest e v (told_here es) more)
+    | inr apart ↦ rw apart.0 more
+  ])
+]
+
+-- what covers those covers all that were told up to the first slot
+pub covers_entries : (entries told : List (Vote Command)) → Covers (told_here entries) 0 told → Covers entries 0 told
+covers_entries entries told covers v c l = covers v (here_all entries v (omega (arith, l)) c) l

@@ -11,8 +11,9 @@ use Rattle.sessions.specs.declared.command.Command.TheVariants.{Request}
 use Rattle.world.specs.declared.lists.Learnt.{Learnt}
 use Rattle.world.specs.declared.lists.Replied.{Replied}
 use Rattle.world.specs.declared.lists.Answered.{Answered}
-use Rattle.world.specs.Explaining.{IsGrounded, ExplainsReply, ExplainsAnswer, Explains, IsExplained, LearntAgree, LearntGrounded}
-use Rattle.world.specs.Telling.{HasLearnt, TellsReply, TellsAnswer, Tells}
+use Rattle.world.specs.Explaining.{ExplainsReply, ExplainsAnswer, Explains, IsExplained, LearntAgree, LearntGrounded}
+use Rattle.world.specs.Submissions.{IsGrounded}
+use Rattle.world.specs.Telling.{WereLearnt, TellsReply, TellsAnswer, Tells}
 use Rattle.world.specs.Worlds.{WorldState}
 
 first_of : (learnt : List Learnt) → (learnt ≡ []) ⊎ ((t : Learnt) × Contains learnt t)
@@ -62,11 +63,13 @@ only_request c [] r begins = ap (λ (x : Command). x ∷ []) (same_Some c (Reque
 only_request c (d ∷ []) r begins = absurd (let h : None ≡ Some (Request r) = begins (suc zero) (Request r) refl in cc)
 only_request c (d ∷ e ∷ before) r begins = absurd (let h : None ≡ Some e = begins (suc zero) e refl in cc)
 
-module _ {S : Type 0} (w : WorldState S) (tells : Tells w) (agree : LearntAgree w) (grounded : LearntGrounded w) where
-  -- what a node has learnt begins each list that has whatever is learnt at its slot
+module _ {S : Type 0} (w : WorldState S) (tells : Tells w) (agree : LearntAgree w.learnt) (grounded : LearntGrounded w.submitted w.learnt) where
+  -- what was learnt from the first slot on begins each list that has whatever is learnt at its slot
   begins_so : (l : List Command) → ((u : Learnt) → Contains w.learnt u → slice_get l u.slot ≡ Some u.command)
-      → (node : ℕ) (log : List Command) → HasLearnt w.learnt node log → IsBeginning log l
-  begins_so l has node log known i c e = has (record { node = node; slot = i; command = c }) (known i c e)
+      → (log : List Command) → WereLearnt w.learnt log → IsBeginning log l
+  begins_so l has log known i c e =
+      let was = known i c e in
+      subst (λ n. slice_get l n ≡ Some c) was.at (has was.entry was.there ∙ ap (λ (d : Command). Some d) was.holds)
 
   -- ---- nothing is learnt
   module _ (none : w.learnt ≡ []) where
@@ -78,22 +81,22 @@ module _ {S : Type 0} (w : WorldState S) (tells : Tells w) (agree : LearntAgree 
 
     no_reply : (p : Replied) → TellsReply w.learnt p → ExplainsReply [] p
     no_reply p r =
-        let begins = begins_with (r.before ++ Request r.request ∷ []) [] (begins_so [] learnt_nowhere p.node (r.before ++ Request r.request ∷ []) r.known) in
+        let begins = begins_with (r.before ++ Request r.request ∷ []) [] (begins_so [] learnt_nowhere (r.before ++ Request r.request ∷ []) r.known) in
         absurd (longer r.before (Request r.request) begins.0)
       where
         longer : (before : List Command) (c : Command) → length (before ++ c ∷ []) ≤ 0 → ⊥
         longer [] c h = omega (arith, h)
         longer (d ∷ before) c h = omega (arith, h)
 
-    explained_by_none : Explains [] w
+    explained_by_none : Explains [] w.submitted w.learnt w.replies w.answers
     explained_by_none = record {
       fits = omega arith;
-      submitted = λ i c e. absurd (let h : None ≡ Some c = e in cc);
-      learnt = learnt_nowhere;
-      replies = λ p c. no_reply p (tells.replied p c);
-      answers = λ a c.
+      grounded = λ i c e. absurd (let h : None ≡ Some c = e in cc);
+      entered = learnt_nowhere;
+      replied = λ p c. no_reply p (tells.replied p c);
+      answered = λ a c.
           let t : TellsAnswer w.learnt a = tells.answered a c in
-          answer_of [] t.log a (begins_so [] learnt_nowhere a.node t.log t.known) t.position t.answers;
+          answer_of [] t.log a (begins_so [] learnt_nowhere t.log t.known) t.position t.answers;
     }
 
   -- ---- a command is learnt
@@ -115,23 +118,23 @@ module _ {S : Type 0} (w : WorldState S) (tells : Tells w) (agree : LearntAgree 
     reply_there p r =
         reply_of (t.command ∷ []) r.before r.request p
         (only_request t.command r.before r.request
-        (begins_so (t.command ∷ []) learnt_there p.node (r.before ++ Request r.request ∷ []) r.known))
+        (begins_so (t.command ∷ []) learnt_there (r.before ++ Request r.request ∷ []) r.known))
         r.position r.of_client r.of_number r.replies
 
-    explained_by_one : Explains (t.command ∷ []) w
+    explained_by_one : Explains (t.command ∷ []) w.submitted w.learnt w.replies w.answers
     explained_by_one = record {
       fits = omega arith;
-      submitted = grounded_at;
-      learnt = learnt_there;
-      replies = λ p c. reply_there p (tells.replied p c);
-      answers = λ a c.
+      grounded = grounded_at;
+      entered = learnt_there;
+      replied = λ p c. reply_there p (tells.replied p c);
+      answered = λ a c.
           let told : TellsAnswer w.learnt a = tells.answered a c in
-          answer_of (t.command ∷ []) told.log a (begins_so (t.command ∷ []) learnt_there a.node told.log told.known) told.position told.answers;
+          answer_of (t.command ∷ []) told.log a (begins_so (t.command ∷ []) learnt_there told.log told.known) told.position told.answers;
     }
 
   -- what is told is explained
-  pub explained : IsExplained w
+  pub explained : IsExplained w.submitted w.learnt w.replies w.answers
   explained = elim (first_of w.learnt) [
-    | inl none ↦ record { log = []; explains = explained_by_none none; short = omega arith }
-    | inr some ↦ record { log = some.0.command ∷ []; explains = explained_by_one some.0 some.1; short = omega arith }
+    | inl none ↦ record { log = []; explains = explained_by_none none }
+    | inr some ↦ record { log = some.0.command ∷ []; explains = explained_by_one some.0 some.1 }
   ]

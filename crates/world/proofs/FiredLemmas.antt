@@ -1,9 +1,10 @@
 -- At most one armed fault comes in a step, so a u64 counts them as long as it counts the steps.
 use Rattle.std.proofs.Common.{◌≡◌, ◌⊎◌, ℕ, ◌+◌, ◌^◌, ◌<◌, ◌≤◌, inl, inr, List, [], ◌∷◌, ◌++◌, length, slice_get, slice_set, Bool, true, false, Option, Some, None, IsSome, IfSome, IfOk, IfErr, OnOk, OnErr, IsErrOf, Result, Ok, Err, MatchBool, refl, sym, ap, subst, ◌∙◌, arith, rules, length-append}
-use Rattle.stable.specs.Records.{Records}
-use Rattle.stable.specs.Script.{Script, counted, Reads, ReadFails, Puts, Fails}
+use Rattle.stable.specs.Script.{Script, counted}
 use Rattle.stable.specs.ScriptLaws.{read_fails_fired}
 use Rattle.stable.specs.declared.key.Key.{Key}
+use Rattle.stable.specs.declared.stable.Stable.{Ghosts}
+use Rattle.stable.specs.Storages.{scripted}
 use Rattle.acceptor.specs.Accepting.{Write, HasWritten, HasFailed}
 use Rattle.store.specs.declared.query.Query.{Query}
 use Rattle.world.specs.declared.event.Event.{Event}
@@ -26,7 +27,7 @@ use Rattle.world.specs.Minds.{Mind}
 use Rattle.world.specs.Nodes.{NodeState, NodeSteps, TakesInput, RefusesInput, StopsOnInput, StorageStops}
 use Rattle.world.specs.Outputs.{Told}
 use Rattle.world.specs.Reaching.{AreHonest}
-use Rattle.world.specs.Safety.{contents_inside, honest_inside}
+use Rattle.world.specs.Safety.{honest_inside}
 use Rattle.world.specs.Worlds.{WorldState, run_of, TakesAt, ReceivesAt, DeliversFrame, Steps, recorded, with_node, with_submission, answered, without_wait}
 use Rattle.world.proofs.FleetSteps.{set_at}
 
@@ -36,23 +37,20 @@ abbrev pub CountsOn : {S : Type 0} → Script S → Script S → Type 0
 CountsOn a b = (b.fired ≡ a.fired) ⊎ (b.fired ≡ counted a.fired)
 
 -- so it is of every kind of call
-pub record CountsCalls {S : Type 0} (reads read_fails : Script S → Script S → Type 0)
-    (puts fails : Script S → Key → List ℕ → Script S → Type 0) : Type 0 where
-  pub reading : (a b : Script S) → reads a b → CountsOn a b
-  pub failed_reading : (a b : Script S) → read_fails a b → CountsOn a b
-  pub putting : (a b : Script S) (key : Key) (bytes : List ℕ) → puts a key bytes b → CountsOn a b
-  pub failed_putting : (a b : Script S) (key : Key) (bytes : List ℕ) → fails a key bytes b → CountsOn a b
+pub record CountsCalls {S : Type 0} (storages : Ghosts (Script S)) : Type 0 where
+  pub reading : (a b : Script S) → storages.reads a b → CountsOn a b
+  pub failed_reading : (a b : Script S) → storages.read_fails a b → CountsOn a b
+  pub putting : (a b : Script S) (key : Key) (bytes : List ℕ) → storages.puts a key bytes b → CountsOn a b
+  pub failed_putting : (a b : Script S) (key : Key) (bytes : List ℕ) → storages.fails a key bytes b → CountsOn a b
 
-module _ {S : Type 0} (contents : S → Records) (IsHonest : S → Type 0) (reads read_fails : S → S → Type 0)
-    (puts fails : S → Key → List ℕ → S → Type 0) where
-  fails_count : (a b : Script S) (key : Key) (bytes : List ℕ) → Fails contents IsHonest reads read_fails puts fails a key bytes b → CountsOn a b
+module _ {S : Type 0} (storages : Ghosts S) where
+  fails_count : (a b : Script S) (key : Key) (bytes : List ℕ) → (scripted storages).fails a key bytes b → CountsOn a b
   fails_count a b key bytes (inl f) = inr (ap (λ (t : Script S). t.fired) f.after ∙ ap counted f.before.fired)
   fails_count a b key bytes (inr (inl f)) = inr f.fired
   fails_count a b key bytes (inr (inr (inl f))) = inl (ap (λ (t : Script S). t.fired) f.after ∙ f.before.fired)
   fails_count a b key bytes (inr (inr (inr f))) = inl (read_fails_fired a b f.inner)
 
-  pub script_counts : CountsCalls (Reads contents IsHonest reads) (ReadFails contents IsHonest reads read_fails)
-      (Puts contents IsHonest reads puts) (Fails contents IsHonest reads read_fails puts fails)
+  pub script_counts : CountsCalls (scripted storages)
   script_counts = record {
     reading = λ a b r. inl r.fired;
     failed_reading = λ a b f. inl (read_fails_fired a b f);
@@ -142,20 +140,20 @@ module _ {S : Type 0} where
 abbrev failed_with : NodeFault → Result (Unit {0}) NodeFault
 failed_with f = Err f
 
-module _ {S : Type 0} {reads read_fails : Script S → Script S → Type 0} {puts fails : Script S → Key → List ℕ → Script S → Type 0} (calls : CountsCalls reads read_fails puts fails) where
+module _ {S : Type 0} {storages : Ghosts (Script S)} (calls : CountsCalls storages) where
   -- ---- an input comes to a node
-  written : (a b : Script S) (w : Write) → HasWritten reads puts a b w → CountsOn a b
+  written : (a b : Script S) (w : Write) → HasWritten storages.reads storages.puts a b w → CountsOn a b
   written a b None h = calls.reading a b h
   written a b (Some w) h = calls.putting a b w.0 w.1 h
 
-  failed : (a b : Script S) (w : Write) → HasFailed fails a b w → CountsOn a b
+  failed : (a b : Script S) (w : Write) → HasFailed storages.fails a b w → CountsOn a b
   failed a b None h = absurd h
   failed a b (Some w) h = calls.failed_putting a b w.0 w.1 h
 
   same_node : (old new : NodeState (Script S)) → new ≡ old → CountsOn old.storage new.storage
   same_node old new e = inl (ap (λ (n : NodeState (Script S)). n.storage.fired) e)
 
-  stopped : (old new : NodeState (Script S)) (m : Mind) (i : Input) (f : NodeFault) → StorageStops reads puts fails old.storage m i f new.storage
+  stopped : (old new : NodeState (Script S)) (m : Mind) (i : Input) (f : NodeFault) → StorageStops storages old.storage m i f new.storage
       → CountsOn old.storage new.storage
   stopped old new m i fault.Device h = failed old.storage new.storage h.write h.leaves
   stopped old new m i fault.Memory (inl h) = calls.reading old.storage new.storage h
@@ -168,35 +166,35 @@ module _ {S : Type 0} {reads read_fails : Script S → Script S → Type 0} {put
   stopped old new m i fault.Damaged h = absurd h
 
   refused : (old new : NodeState (Script S)) (m : Mind) (i : Input) (f : NodeFault) (b : Bool)
-      → MatchBool b (StopsOnInput reads puts fails old m i f new) (RefusesInput old m i f new) → CountsOn old.storage new.storage
+      → MatchBool b (StopsOnInput storages old m i f new) (RefusesInput old m i f new) → CountsOn old.storage new.storage
   refused old new m i f true h = stopped old new m i f h.storage
   refused old new m i f false h = same_node old new h.leaves
 
   by_result : (old new : NodeState (Script S)) (m : Mind) (i : Input) (r : Result Told NodeFault)
-      → IfOk r (λ told. TakesInput reads puts old m i told new)
-      → IfErr r (λ f. MatchBool (is_stop_fault f) (StopsOnInput reads puts fails old m i f new) (RefusesInput old m i f new))
+      → IfOk r (λ told. TakesInput storages old m i told new)
+      → IfErr r (λ f. MatchBool (is_stop_fault f) (StopsOnInput storages old m i f new) (RefusesInput old m i f new))
       → CountsOn old.storage new.storage
   by_result old new m i (Ok told) taken h = written old.storage new.storage taken.made.write taken.made.leaves
   by_result old new m i (Err f) taken h = refused old new m i f (is_stop_fault f) h
 
   by_mind : (old new : NodeState (Script S)) (i : Input) (r : Result Told NodeFault) (o : Option Mind) → old.up ≡ o
-      → NodeSteps reads puts fails old i r new → CountsOn old.storage new.storage
+      → NodeSteps storages old i r new → CountsOn old.storage new.storage
   by_mind old new i r None up h = same_node old new (h.down up).1
   by_mind old new i r (Some m) up h =
       by_result old new m i r
-      (subst (λ (o : Option Mind). IfSome o (λ n. IfOk r (λ told. TakesInput reads puts old n i told new))) up h.taken)
+      (subst (λ (o : Option Mind). IfSome o (λ n. IfOk r (λ told. TakesInput storages old n i told new))) up h.taken)
       (subst (λ (o : Option Mind). IfSome o (λ n. IfErr r (λ f. MatchBool (is_stop_fault f)
-      (StopsOnInput reads puts fails old n i f new) (RefusesInput old n i f new)))) up h.refused)
+      (StopsOnInput storages old n i f new) (RefusesInput old n i f new)))) up h.refused)
 
   -- ---- the kinds of step
-  takes_counts : (old : WorldState S) (node : ℕ) (i : Input) (taken : Bool) (new : WorldState S) → TakesAt reads puts fails old node i taken new
+  takes_counts : (old : WorldState S) (node : ℕ) (i : Input) (taken : Bool) (new : WorldState S) → TakesAt storages old node i taken new
       → CountsStep old new
   takes_counts old node i taken new h =
       changed_one old new node h.before h.after h.here (by_mind h.before h.after i h.result h.before.up refl h.steps)
       (ap (λ (w : WorldState S). w.nodes) h.leaves ∙ recorded_nodes (with_node old node h.after) node h.result)
       (ap outcome_count h.leaves ∙ recorded_more (with_node old node h.after) node h.result)
 
-  receives_counts : (old : WorldState S) (frame : _) (new : WorldState S) (o : Option Mind) (h : ReceivesAt reads puts fails old frame new)
+  receives_counts : (old : WorldState S) (frame : _) (new : WorldState S) (o : Option Mind) (h : ReceivesAt storages old frame new)
       → h.receiver.up ≡ o → CountsStep old new
   receives_counts old frame new None h up =
       changed_none old new (ap (λ (w : WorldState S). w.nodes) (h.lost up))
@@ -205,81 +203,77 @@ module _ {S : Type 0} {reads read_fails : Script S → Script S → Type 0} {put
       let takes = h.taken (subst (λ (o : Option Mind). IsSome o) (sym up) refl) in
       takes_counts old frame.to (input.Message frame.from frame.message) takes.0 new takes.1
 
-  deliver_counts : (old : WorldState S) (k : ℕ) (new : WorldState S) → DeliversFrame reads puts fails old k new → CountsStep old new
+  deliver_counts : (old : WorldState S) (k : ℕ) (new : WorldState S) → DeliversFrame storages old k new → CountsStep old new
   deliver_counts old k new h =
       let receives = receives_counts (without_wait old k) h.frame new h.receives.receiver.up h.receives refl in
       record { more = receives.more; counts = receives.counts }
 
   -- one after the other
-  pub delivers_few : (old : WorldState S) (n : ℕ) (new : WorldState S) → Delivers reads puts fails old n new → HasFewFaults old → HasFewFaults new
+  pub delivers_few : (old : WorldState S) (n : ℕ) (new : WorldState S) → Delivers storages old n new → HasFewFaults old → HasFewFaults new
   delivers_few old _ new Delivers.none few = few
   delivers_few old _ new (Delivers.more n k between new_ before lowest delivers) few =
       kept between new (deliver_counts between k new delivers) (delivers_few old n between before few)
 
-  module _ (contents : Script S → Records) (IsHonest : Script S → Type 0) where
-    -- a node restarts
-    restarted : (old new : NodeState (Script S)) (result : Result (Unit {0}) NodeFault) → Restarts contents IsHonest reads read_fails old result new
-        → CountsOn old.storage new.storage
-    restarted old new (Ok x) h = calls.reading old.storage new.storage h.up.1
-    restarted old new (Err f) h = elim h.other [
-      | inl device ↦ calls.failed_reading old.storage new.storage (h.device (ap failed_with device))
-      | inr other ↦ calls.reading old.storage new.storage other.1
-    ]
+  -- a node restarts
+  restarted : (old new : NodeState (Script S)) (result : Result (Unit {0}) NodeFault) → Restarts storages old result new
+      → CountsOn old.storage new.storage
+  restarted old new (Ok x) h = calls.reading old.storage new.storage h.up.1
+  restarted old new (Err f) h = elim h.other [
+    | inl device ↦ calls.failed_reading old.storage new.storage (h.device (ap failed_with device))
+    | inr other ↦ calls.reading old.storage new.storage other.1
+  ]
 
-    step_counts : (old : WorldState S) (e : Event) (new : WorldState S) → Steps contents IsHonest reads read_fails puts fails old e new
-        → CountsStep old new
-    step_counts old (event.Submit node client number op) new h =
-        let same = submission_same h.between h.taken node (record { client = client; number = number; op = op }) in
-        let takes = takes_counts old node _ h.taken h.between h.takes in
-        record {
-          more = ap outcome_count h.leaves ∙ ap length same.1 ∙ takes.more;
-          counts = λ most small was. subst (λ (x : List (NodeState (Script S))). AreCounted (most + 1) x)
-              (sym (ap (λ (w : WorldState S). w.nodes) h.leaves ∙ same.0)) (takes.counts most small was);
-        }
-    step_counts old (event.Deliver k) new h = deliver_counts old k new h
-    step_counts old (event.Drop k) new h =
-        changed_none old new (ap (λ (w : WorldState S). w.nodes) h) (ap outcome_count h ∙ length-append old.outcomes (_ ∷ []))
-    step_counts old (event.Timeout node) new h = takes_counts old node input.Timeout h.0 new h.1
-    step_counts old (event.Tick node) new h = takes_counts old node input.Tick h.0 new h.1
-    step_counts old (event.Restart node) new h =
-        changed_one old new node h.before h.after h.here (restarted h.before h.after h.result h.restarts)
-        (ap (λ (w : WorldState S). w.nodes) h.leaves) (ap outcome_count h.leaves ∙ length-append old.outcomes (_ ∷ []))
-    step_counts old (event.Fault node failing) new h =
-        changed_one old new node h.before _ h.here (inl refl)
-        (ap (λ (w : WorldState S). w.nodes) h.leaves) (ap outcome_count h.leaves ∙ length-append old.outcomes (_ ∷ []))
-    step_counts old (event.Query node query) new h =
-        let same = answered_same old node query h.result in
-        changed_none old new (ap (λ (w : WorldState S). w.nodes) h.leaves ∙ same.0) (ap outcome_count h.leaves ∙ same.1)
+  step_counts : (old : WorldState S) (e : Event) (new : WorldState S) → Steps storages old e new
+      → CountsStep old new
+  step_counts old (event.Submit node client number op) new h =
+      let same = submission_same h.between h.taken node (record { client = client; number = number; op = op }) in
+      let takes = takes_counts old node _ h.taken h.between h.takes in
+      record {
+        more = ap outcome_count h.leaves ∙ ap length same.1 ∙ takes.more;
+        counts = λ most small was. subst (λ (x : List (NodeState (Script S))). AreCounted (most + 1) x)
+            (sym (ap (λ (w : WorldState S). w.nodes) h.leaves ∙ same.0)) (takes.counts most small was);
+      }
+  step_counts old (event.Deliver k) new h = deliver_counts old k new h
+  step_counts old (event.Drop k) new h =
+      changed_none old new (ap (λ (w : WorldState S). w.nodes) h) (ap outcome_count h ∙ length-append old.outcomes (_ ∷ []))
+  step_counts old (event.Timeout node) new h = takes_counts old node input.Timeout h.0 new h.1
+  step_counts old (event.Tick node) new h = takes_counts old node input.Tick h.0 new h.1
+  step_counts old (event.Restart node) new h =
+      changed_one old new node h.before h.after h.here (restarted h.before h.after h.result h.restarts)
+      (ap (λ (w : WorldState S). w.nodes) h.leaves) (ap outcome_count h.leaves ∙ length-append old.outcomes (_ ∷ []))
+  step_counts old (event.Fault node failing) new h =
+      changed_one old new node h.before _ h.here (inl refl)
+      (ap (λ (w : WorldState S). w.nodes) h.leaves) (ap outcome_count h.leaves ∙ length-append old.outcomes (_ ∷ []))
+  step_counts old (event.Query node query) new h =
+      let same = answered_same old node query h.result in
+      changed_none old new (ap (λ (w : WorldState S). w.nodes) h.leaves ∙ same.0) (ap outcome_count h.leaves ∙ same.1)
 
-    pub step_few : (old new : WorldState S) (e : Event) → Steps contents IsHonest reads read_fails puts fails old e new
-        → HasFewFaults old → HasFewFaults new
-    step_few old new e h few = kept old new (step_counts old e new h) few
+  pub step_few : (old new : WorldState S) (e : Event) → Steps storages old e new
+      → HasFewFaults old → HasFewFaults new
+  step_few old new e h few = kept old new (step_counts old e new h) few
 
 abbrev failed_world : WorldFault → Result ℕ WorldFault
 failed_world f = Err f
 
-module _ {S : Type 0} (contents : S → Records) (IsHonest : S → Type 0) (reads read_fails : S → S → Type 0)
-    (puts fails : S → Key → List ℕ → S → Type 0) where
+module _ {S : Type 0} (storages : Ghosts S) where
   -- a step, or a refusal
   pub step_keeps_few : (old new : WorldState S) (e : Event) (result : Result (Unit {0}) WorldFault)
-      → OnOk result (Steps (contents_inside contents) (honest_inside IsHonest) (Reads contents IsHonest reads) (ReadFails contents IsHonest reads read_fails)
-      (Puts contents IsHonest reads puts) (Fails contents IsHonest reads read_fails puts fails) old e new)
+      → OnOk result (Steps (scripted storages) old e new)
       → OnErr result (new ≡ old) → HasFewFaults old → HasFewFaults new
   step_keeps_few old new e (Ok x) steps same few =
-      step_few (script_counts contents IsHonest reads read_fails puts fails) (contents_inside contents) (honest_inside IsHonest) old new e steps few
+      step_few (script_counts storages) old new e steps few
   step_keeps_few old new e (Err f) steps same few = subst (λ (w : WorldState S). HasFewFaults w) (sym same) few
 
   -- a flush, to its end or to a fault
   abbrev Delivered : WorldState S → ℕ → WorldState S → Type 0
-  Delivered = Delivers (Reads contents IsHonest reads) (Puts contents IsHonest reads puts) (Fails contents IsHonest reads read_fails puts fails)
+  Delivered = Delivers (scripted storages)
 
   delivered_few : (old new : WorldState S) (n : ℕ) → Delivered old n new → HasFewFaults old → HasFewFaults new
-  delivered_few old new n h few = delivers_few (script_counts contents IsHonest reads read_fails puts fails) old n new h few
+  delivered_few old new n h few = delivers_few (script_counts storages) old n new h few
 
   pub flush_keeps_few : (old new : WorldState S) (result : Result ℕ WorldFault) → IfOk result (λ n. Delivered old n new)
       → (IsErrOf result world_fault.FlushLimit → Delivered old MOST_DELIVERIES new)
-      → (IsErrOf result world_fault.Memory → DeliversSome (Reads contents IsHonest reads) (Puts contents IsHonest reads puts)
-      (Fails contents IsHonest reads read_fails puts fails) old MOST_DELIVERIES new)
+      → (IsErrOf result world_fault.Memory → DeliversSome (scripted storages) old MOST_DELIVERIES new)
       → IfErr result (λ f. (f ≡ world_fault.FlushLimit) ⊎ (f ≡ world_fault.Memory)) → HasFewFaults old → HasFewFaults new
   flush_keeps_few old new (Ok n) done limit memory faults few = delivered_few old new n done few
   flush_keeps_few old new (Err f) done limit memory (inl e) few = delivered_few old new MOST_DELIVERIES (limit (ap failed_world e)) few
@@ -289,8 +283,8 @@ module _ {S : Type 0} (contents : S → Records) (IsHonest : S → Type 0) (read
 
 module _ {S : Type 0} where
   -- at the start none has come
-  pub start_few : (contents : Script S → Records) (count : ℕ) (w : WorldState S) → IsStart contents count w → HasFewFaults w
-  start_few contents count w start = record {
+  pub start_few : (storages : Ghosts (Script S)) (count : ℕ) (w : WorldState S) → IsStart storages count w → HasFewFaults w
+  start_few storages count w start = record {
     few = λ small i n e. rw ((start.nodes.each i n e).fresh.unfired) (record { counted = refl; few = omega arith });
   }
 

@@ -5,8 +5,7 @@ use Rattle.std.proofs.lemmas.Option.{same_Some, none-some}
 use Rattle.std.proofs.lemmas.List.Elements.{All-nil, All-cons, All-push, All-filter}
 use Rattle.acceptor.specs.declared.answer.Answer.{Answer}
 use Rattle.acceptor.specs.declared.answer.Answer.TheVariants as answer
-use Rattle.stable.specs.Records.{Records}
-use Rattle.stable.specs.declared.key.Key.{Key}
+use Rattle.stable.specs.declared.stable.Stable.{Ghosts}
 use Rattle.synod.specs.declared.ballot.Ballot.{Ballot}
 use Rattle.synod.specs.declared.vote.Vote.{Vote}
 use Rattle.sessions.specs.Asked.{Asked}
@@ -20,7 +19,7 @@ use Rattle.world.specs.declared.fault.NodeFault.{NodeFault}
 use Rattle.world.specs.declared.telling.Telling.{Telling}
 use Rattle.world.specs.declared.input.Input.{Input}
 use Rattle.world.specs.declared.input.Input.TheVariants as input
-use Rattle.world.specs.Campaigning.{Campaigning}
+use Rattle.world.specs.Campaigning.{Campaigning, told_here}
 use Rattle.world.specs.Fleets.{IsProposerOf, IsMindOf, IsMember, IsBetween, ComesFrom}
 use Rattle.world.specs.Learning.{Learning, HearsVote, IsIgnored, IsDecided}
 use Rattle.world.specs.Minds.{Mind, Takes, TakesMessage, answer_sends, one_send, after_learning, executed_reply, with_request, waits, is_full}
@@ -161,8 +160,8 @@ module _ (id nodes : ℕ) (there : id < nodes) where
         machine = if b then after_command m.machine v.command else m.machine;
       }
       → told ≡ (if b then record {
-        learnt = Some v.command;
-        executed = executed_reply m.machine m.proposing v.command;
+        learnt = Some (record { slot = v.slot; command = v.command });
+        executed = executed_reply m.machine m.proposing v.slot v.command;
         sends = [];
       } else nothing)
       → IsMindOf id nodes m → Leaves new told
@@ -183,12 +182,12 @@ module _ (id nodes : ℕ) (there : id < nodes) where
   message_leaves : (old : Mind) (from : ℕ) (message : Message) (new : Mind) (told : Told) → TakesMessage old from message new told
       → IsMindOf id nodes old → from < nodes → Leaves new told
   message_leaves old from (Prepare ballot first) new told h mind sender =
-      leaves_so new _ told _ h.0 h.1
+      leaves_so new _ told _ h.2 h.3
       (record { number = mind.number; of_all = mind.of_all; learning = mind.learning; proposing = mind.proposing })
       (answer-between old from _ mind sender)
   message_leaves old from (Promise p) new told h mind sender =
       promised old new told h.0 (is_full old) h.2.leaves h.2.tells mind
-      (counted_own old.proposing h.0 from p.ballot p.first p.entries old.proposing.campaign h.1 mind.proposing)
+      (counted_own old.proposing h.0 from p.ballot p.first (told_here p.entries) old.proposing.campaign h.1 mind.proposing)
   message_leaves old from (Nack n) new told h mind sender =
       leaves_so new _ told nothing h.1 h.2
       (with_proposer old new.proposing mind (another_proposer new.proposing _ h.0.leaves
@@ -236,9 +235,9 @@ module _ (id nodes : ℕ) (there : id < nodes) where
   down_with : {S : Type 0} (n : NodeState S) (storage : S) → IsMember id nodes n → IsMember id nodes (record n { storage = storage; up = None })
   down_with n storage member = record { number = member.number; of_all = member.of_all; up = λ x e. absurd (none-some x e) }
 
-  module _ {S : Type 0} (reads : S → S → Type 0) (puts fails : S → Key → List ℕ → S → Type 0) where
+  module _ {S : Type 0} (storages : Ghosts S) where
     takes_leaves : (old : NodeState S) (m : Mind) (i : Input) (told : Told) (new : NodeState S) → old.up ≡ Some m
-        → TakesInput reads puts old m i told new → IsMember id nodes old → ComesFrom nodes i → NodeLeaves id nodes new (Ok told)
+        → TakesInput storages old m i told new → IsMember id nodes old → ComesFrom nodes i → NodeLeaves id nodes new (Ok told)
     takes_leaves old m i told new up h member sender =
         let after = input_leaves m i h.mind told h.takes (member.up m up) sender in record {
           member = another_node new _ h.leaves (up_with old new.storage h.mind member after.mind);
@@ -246,38 +245,38 @@ module _ (id nodes : ℕ) (there : id < nodes) where
         }
 
     refused_leaves : (old : NodeState S) (m : Mind) (i : Input) (f : NodeFault) (new : NodeState S) (b : Bool)
-        → MatchBool b (StopsOnInput reads puts fails old m i f new) (RefusesInput old m i f new) → IsMember id nodes old
+        → MatchBool b (StopsOnInput storages old m i f new) (RefusesInput old m i f new) → IsMember id nodes old
         → NodeLeaves id nodes new (Err f)
     refused_leaves old m i f new true h member = record { member = another_node new _ h.leaves (down_with old new.storage member); between = tt }
     refused_leaves old m i f new false h member = record { member = another_node new old h.leaves member; between = tt }
 
     up_leaves : (old : NodeState S) (m : Mind) (i : Input) (r : Result Told NodeFault) (new : NodeState S) → old.up ≡ Some m
-        → IfOk r (λ told. TakesInput reads puts old m i told new)
-        → IfErr r (λ f. MatchBool (is_stop_fault f) (StopsOnInput reads puts fails old m i f new) (RefusesInput old m i f new))
+        → IfOk r (λ told. TakesInput storages old m i told new)
+        → IfErr r (λ f. MatchBool (is_stop_fault f) (StopsOnInput storages old m i f new) (RefusesInput old m i f new))
         → IsMember id nodes old → ComesFrom nodes i → NodeLeaves id nodes new r
     up_leaves old m i (Ok told) new up taken refused member sender = takes_leaves old m i told new up taken member sender
     up_leaves old m i (Err f) new up taken refused member sender = refused_leaves old m i f new (is_stop_fault f) refused member
 
     leaves_by : (old : NodeState S) (i : Input) (r : Result Told NodeFault) (new : NodeState S) (o : Option Mind) → old.up ≡ o
-        → NodeSteps reads puts fails old i r new → IsMember id nodes old → ComesFrom nodes i → NodeLeaves id nodes new r
+        → NodeSteps storages old i r new → IsMember id nodes old → ComesFrom nodes i → NodeLeaves id nodes new r
     leaves_by old i r new None up h member sender = record {
       member = another_node new old (h.down up).1 member;
       between = subst (λ (x : Result Told NodeFault). IfOk x (λ told. All (IsBetween nodes) told.sends)) (sym (h.down up).0) tt;
     }
     leaves_by old i r new (Some m) up h member sender =
         up_leaves old m i r new up
-        (subst (λ (o : Option Mind). IfSome o (λ m. IfOk r (λ told. TakesInput reads puts old m i told new))) up h.taken)
+        (subst (λ (o : Option Mind). IfSome o (λ m. IfOk r (λ told. TakesInput storages old m i told new))) up h.taken)
         (subst (λ (o : Option Mind). IfSome o (λ m. IfErr r (λ f. MatchBool (is_stop_fault f)
-        (StopsOnInput reads puts fails old m i f new) (RefusesInput old m i f new)))) up h.refused)
+        (StopsOnInput storages old m i f new) (RefusesInput old m i f new)))) up h.refused)
         member sender
 
     pub node_leaves : (old : NodeState S) (i : Input) (r : Result Told NodeFault) (new : NodeState S)
-        → NodeSteps reads puts fails old i r new → IsMember id nodes old → ComesFrom nodes i → NodeLeaves id nodes new r
+        → NodeSteps storages old i r new → IsMember id nodes old → ComesFrom nodes i → NodeLeaves id nodes new r
     node_leaves old i r new h member sender = leaves_by old i r new old.up refl h member sender
 
-  pub restart_leaves : {S : Type 0} {contents : S → Records} {IsHonest : S → Type 0} {reads read_fails : S → S → Type 0}
+  pub restart_leaves : {S : Type 0} {storages : Ghosts S}
       (old : NodeState S) (r : Result (Unit {0}) NodeFault) (new : NodeState S)
-      → Restarts contents IsHonest reads read_fails old r new → IsMember id nodes old → IsMember id nodes new
+      → Restarts storages old r new → IsMember id nodes old → IsMember id nodes new
   restart_leaves old r new h member = another_node new _ h.leaves (record {
     number = member.number;
     of_all = member.of_all;

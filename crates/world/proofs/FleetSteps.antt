@@ -4,10 +4,9 @@ use Rattle.std.proofs.Math.ListN.{get_or, length-set}
 use Rattle.std.proofs.lemmas.List.{length-map}
 use Rattle.std.proofs.lemmas.List.Elements.{All-append}
 use Rattle.std.proofs.lemmas.Option.{same_Some, slice_get_within, get_or_from_slice_get}
-use Rattle.stable.specs.Records.{Records}
 use Rattle.stable.specs.Script.{Script}
-use Rattle.stable.specs.declared.key.Key.{Key}
 use Rattle.stable.specs.declared.scripted.Failing.{Failing}
+use Rattle.stable.specs.declared.stable.Stable.{Ghosts}
 use Rattle.sessions.specs.Asked.{Asked}
 use Rattle.wire.specs.declared.frames.envelope.Envelope.{Envelope}
 use Rattle.store.specs.declared.query.Query.{Query}
@@ -92,12 +91,12 @@ module _ {S : Type 0} where
   another_world : (v w : WorldState S) → v ≡ w → IsFleet w.nodes w.frames → IsFleet v.nodes v.frames
   another_world v w e fleet = subst (λ (x : WorldState S). IsFleet x.nodes x.frames) (sym e) fleet
 
-  module _ (reads : Script S → Script S → Type 0) (puts fails : Script S → Key → List ℕ → Script S → Type 0) where
+  module _ (storages : Ghosts (Script S)) where
     takes_fleet : (old : WorldState S) (node : ℕ) (i : Input) (taken : Bool) (new : WorldState S)
-        → TakesAt reads puts fails old node i taken new → ComesFrom (length old.nodes) i → IsFleet old.nodes old.frames
+        → TakesAt storages old node i taken new → ComesFrom (length old.nodes) i → IsFleet old.nodes old.frames
         → IsFleet new.nodes new.frames
     takes_fleet old node i taken new h sender fleet =
-        let left = node_leaves node (length old.nodes) (slice_get_within old.nodes node h.before h.here) reads puts fails
+        let left = node_leaves node (length old.nodes) (slice_get_within old.nodes node h.before h.here) storages
         h.before i h.result h.after h.steps (fleet.members node h.before h.here) sender in
         let same : length (slice_set old.nodes node h.after) ≡ length old.nodes = length-set old.nodes node h.after in
         another_world new _ h.leaves (recorded_fleet (with_node old node h.after) node h.result
@@ -105,39 +104,38 @@ module _ {S : Type 0} where
         (subst (λ k. IfOk h.result (λ told. All (IsBetween k) told.sends)) (sym same) left.between))
 
     receives_fleet : (old : WorldState S) (frame : Envelope) (new : WorldState S) (o : Option Mind)
-        → (h : ReceivesAt reads puts fails old frame new) → h.receiver.up ≡ o → IsBetween (length old.nodes) frame
+        → (h : ReceivesAt storages old frame new) → h.receiver.up ≡ o → IsBetween (length old.nodes) frame
         → IsFleet old.nodes old.frames → IsFleet new.nodes new.frames
     receives_fleet old frame new None h up between fleet = another_world new _ (h.lost up) fleet
     receives_fleet old frame new (Some m) h up between fleet =
         let takes = h.taken (subst (λ (o : Option Mind). IsSome o) (sym up) refl) in
         takes_fleet old frame.to (input.Message frame.from frame.message) takes.0 new takes.1 between.from fleet
 
-    delivers_fleet : (old : WorldState S) (k : ℕ) (new : WorldState S) → DeliversFrame reads puts fails old k new
+    delivers_fleet : (old : WorldState S) (k : ℕ) (new : WorldState S) → DeliversFrame storages old k new
         → IsFleet old.nodes old.frames → IsFleet new.nodes new.frames
     delivers_fleet old k new h fleet =
         receives_fleet (without_wait old k) h.frame new h.receives.receiver.up h.receives refl
         (frame_at old.nodes old.frames k h.frame fleet h.sent) fleet
 
     -- one step
-    pub step_fleet : (contents : Script S → Records) (IsHonest : Script S → Type 0) (read_fails : Script S → Script S → Type 0)
-        (old : WorldState S) (e : Event) (new : WorldState S) → Steps contents IsHonest reads read_fails puts fails old e new
+    pub step_fleet : (old : WorldState S) (e : Event) (new : WorldState S) → Steps storages old e new
         → IsFleet old.nodes old.frames → IsFleet new.nodes new.frames
-    step_fleet contents IsHonest read_fails old (event.Submit node client number op) new h fleet =
+    step_fleet old (event.Submit node client number op) new h fleet =
         another_world new _ h.leaves (submitted_fleet h.between h.taken node _
         (takes_fleet old node _ h.taken h.between h.takes tt fleet))
-    step_fleet contents IsHonest read_fails old (event.Deliver k) new h fleet = delivers_fleet old k new h fleet
-    step_fleet contents IsHonest read_fails old (event.Drop k) new h fleet = another_world new _ h fleet
-    step_fleet contents IsHonest read_fails old (event.Timeout node) new h fleet = takes_fleet old node input.Timeout h.0 new h.1 tt fleet
-    step_fleet contents IsHonest read_fails old (event.Tick node) new h fleet = takes_fleet old node input.Tick h.0 new h.1 tt fleet
-    step_fleet contents IsHonest read_fails old (event.Restart node) new h fleet =
+    step_fleet old (event.Deliver k) new h fleet = delivers_fleet old k new h fleet
+    step_fleet old (event.Drop k) new h fleet = another_world new _ h fleet
+    step_fleet old (event.Timeout node) new h fleet = takes_fleet old node input.Timeout h.0 new h.1 tt fleet
+    step_fleet old (event.Tick node) new h fleet = takes_fleet old node input.Tick h.0 new h.1 tt fleet
+    step_fleet old (event.Restart node) new h fleet =
         another_world new _ h.leaves (fleet_with old.nodes old.frames node h.after fleet
         (restart_leaves node (length old.nodes) (slice_get_within old.nodes node h.before h.here) h.before h.result h.after
         h.restarts (fleet.members node h.before h.here)))
-    step_fleet contents IsHonest read_fails old (event.Fault node failing) new h fleet =
+    step_fleet old (event.Fault node failing) new h fleet =
         let member = fleet.members node h.before h.here in
         another_world new _ h.leaves (fleet_with old.nodes old.frames node _ fleet
         (record { number = member.number; of_all = member.of_all; up = member.up }))
-    step_fleet contents IsHonest read_fails old (event.Query node query) new h fleet =
+    step_fleet old (event.Query node query) new h fleet =
         another_world new _ h.leaves (answered_fleet old node query h.result fleet)
 
 -- ---- in the code
@@ -158,13 +156,13 @@ module _ {S : Type 0} where
       (fleet_with (map state_of nodes) frames i (state_of m) fleet (subst (λ k. IsMember i k (state_of m)) same after)))
 
   -- a node of the run has taken an input
-  pub stepped : {reads : Script S → Script S → Type 0} {puts fails : Script S → Key → List ℕ → Script S → Type 0}
+  pub stepped : {storages : Ghosts (Script S)}
       (nodes : List (Node (Script S))) (frames : List Envelope) (len i j : ℕ) (n m : Node (Script S)) (input : Input)
       (r : Result Told NodeFault) → len ≡ length nodes → j ≡ i → i < len → n ≡ get_or nodes j n
-      → IsFleet (map state_of nodes) frames → NodeSteps reads puts fails (state_of n) input r (state_of m)
+      → IsFleet (map state_of nodes) frames → NodeSteps storages (state_of n) input r (state_of m)
       → ComesFrom len input → NodeLeaves i len (state_of m) r
-  stepped {reads} {puts} {fails} nodes frames len i j n m input r e named there lent fleet steps sender =
+  stepped {storages} nodes frames len i j n m input r e named there lent fleet steps sender =
       let same = counted nodes len e in
       let before = fleet.members i (state_of n) (lent_at nodes len i j n e named there lent) in
-      node_leaves i len there reads puts fails (state_of n) input r (state_of m) steps
+      node_leaves i len there storages (state_of n) input r (state_of m) steps
       (subst (λ k. IsMember i k (state_of n)) (sym same) before) sender

@@ -105,18 +105,20 @@ hears_cases P old t slot command false new hears ignored decided heard = elim (i
 ]
 
 -- where the slot is newly learnt it wasn't before, and that is the command; else nothing is learnt that wasn't
-pub record LearnsOrKeeps (old : Learning) (command : Command) (learns : Bool) (new : Learning) : Type 0 where
+pub record LearnsOrKeeps (old : Learning) (slot : ℕ) (command : Command) (learns : Bool) (new : Learning) : Type 0 where
+  pub first : learns ≡ true → slot ≡ zero
   pub fresh : learns ≡ true → old.learnt ≡ None
   pub learns_ : learns ≡ true → new.learnt ≡ Some command
   pub keeps : learns ≡ false → new.learnt ≡ old.learnt
 
 pub learns_or_keeps : (old : Learning) (t : Telling) (slot : ℕ) (command : Command) (learns : Bool) (new : Learning)
-    → HearsVote old t slot command (learns ≡ true) new → LearnsOrKeeps old command learns new
+    → HearsVote old t slot command (learns ≡ true) new → LearnsOrKeeps old slot command learns new
 learns_or_keeps old t slot command learns new hears =
-    hears_cases (LearnsOrKeeps old command) old t slot command learns new hears
-    (record { fresh = λ e. absurd (let h : false ≡ true = e in cc); learns_ = λ e. absurd (let h : false ≡ true = e in cc); keeps = λ _. refl })
-    (λ counts most. record { fresh = λ _. counts.in_time; learns_ = λ _. refl; keeps = λ e. absurd (let h : true ≡ false = e in cc) })
+    hears_cases (LearnsOrKeeps old slot command) old t slot command learns new hears
+    (record { first = λ e. absurd (let h : false ≡ true = e in cc); fresh = λ e. absurd (let h : false ≡ true = e in cc); learns_ = λ e. absurd (let h : false ≡ true = e in cc); keeps = λ _. refl })
+    (λ counts most. record { first = λ _. counts.first_slot; fresh = λ _. counts.in_time; learns_ = λ _. refl; keeps = λ e. absurd (let h : true ≡ false = e in cc) })
     (λ counts. record {
+      first = λ e. absurd (let h : false ≡ true = e in cc);
       fresh = λ e. absurd (let h : false ≡ true = e in cc);
       learns_ = λ e. absurd (let h : false ≡ true = e in cc);
       keeps = λ _. refl;

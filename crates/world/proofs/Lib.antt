@@ -8,7 +8,6 @@ pub mod StorageLaws
 pub mod SayingLemmas
 pub mod MovingLemmas
 pub mod SizedLemmas
-pub mod ToldLemmas
 pub mod StoppingLemmas
 pub mod TakingLemmas
 pub mod NodeMoves
@@ -30,7 +29,8 @@ pub mod StartLemmas
 pub mod TallyLemmas
 pub mod Tellings
 pub mod Explained
-pub mod ScriptedLaws
+pub mod Validity
+pub mod OneAnswer
 pub mod SoundSteps
 pub mod WorldSound
 pub mod Casting

@@ -4,13 +4,14 @@ use Rattle.std.proofs.lemmas.Bool.Decides.{eqb_tells}
 use Rattle.std.proofs.lemmas.List.Elements.{Contains-append_left, Contains-push, Contains-push_cases}
 use Rattle.std.proofs.lemmas.Option.{same_Some, none-some}
 use Rattle.stable.specs.Records.{Records, rank, with_record}
-use Rattle.stable.specs.Script.{Script, Write, Shows, noted, Settles, Reads, ReadFails, Adds, Puts, FailsOld, FailsInside, Fails}
+use Rattle.stable.specs.Script.{Script, Write, Shows, noted, Settles, Adds, FailsOld, FailsInside}
 use Rattle.stable.specs.ScriptLaws.{reads_listed}
 use Rattle.stable.specs.declared.key.Key.{Key}
 use Rattle.stable.proofs.KeyLemmas.{same_rank}
+use Rattle.stable.specs.declared.stable.Stable.{Ghosts}
+use Rattle.stable.specs.Storages.{IsLawful, scripted}
 use Rattle.world.specs.Reaching.{TookEffect}
-use Rattle.world.specs.Safety.{contents_inside, honest_inside}
-use Rattle.world.proofs.ScriptedLaws.{KeepsAllLaws}
+use Rattle.world.specs.Safety.{contents_inside}
 
 -- whatever took effect did so for good; what is new shows; and each record was put, where that was so before
 pub record GoesOn {S : Type 0} (contents : Script S → Records) (a b : Script S) : Type 0 where
@@ -149,71 +150,69 @@ module _ {S : Type 0} (contents : S → Records) where
       }
 
 -- ---- the laws of the list
-pub record KeepsPuts {S : Type 0} (contents : Script S → Records) (IsHonest : Script S → Type 0) (reads read_fails : Script S → Script S → Type 0)
-    (puts fails : Script S → Key → List ℕ → Script S → Type 0) : Type 0 where
-  pub reads_on : (a b : Script S) → reads a b → IsHonest b → GoesOn contents a b
-  pub read_fails_on : (a b : Script S) → read_fails a b → IsHonest b → GoesOn contents a b
-  pub puts_on : (a b : Script S) (key : Key) (bytes : List ℕ) → puts a key bytes b → IsHonest b → GoesOn contents a b
-  pub fails_on : (a b : Script S) (key : Key) (bytes : List ℕ) → fails a key bytes b → IsHonest b → GoesOn contents a b
+pub record KeepsPuts {S : Type 0} (storages : Ghosts (Script S)) : Type 0 where
+  pub reads_on : (a b : Script S) → storages.reads a b → storages.IsHonest b → GoesOn storages.contents a b
+  pub read_fails_on : (a b : Script S) → storages.read_fails a b → storages.IsHonest b → GoesOn storages.contents a b
+  pub puts_on : (a b : Script S) (key : Key) (bytes : List ℕ) → storages.puts a key bytes b → storages.IsHonest b → GoesOn storages.contents a b
+  pub fails_on : (a b : Script S) (key : Key) (bytes : List ℕ) → storages.fails a key bytes b → storages.IsHonest b → GoesOn storages.contents a b
   -- whether a put is unsure
-  pub reads_unsure : (a b : Script S) → reads a b → (b.unsure ≡ None) ⊎ ((b.writes ≡ a.writes) × (b.unsure ≡ a.unsure))
-  pub read_fails_unsure : (a b : Script S) → read_fails a b → (b.unsure ≡ None) ⊎ ((b.writes ≡ a.writes) × (b.unsure ≡ a.unsure))
-  pub puts_sure : (a b : Script S) (key : Key) (bytes : List ℕ) → puts a key bytes b → b.unsure ≡ None
-  pub fails_unsure : (a b : Script S) (key : Key) (bytes : List ℕ) → fails a key bytes b → a.unsure ≡ None
+  pub reads_unsure : (a b : Script S) → storages.reads a b → (b.unsure ≡ None) ⊎ ((b.writes ≡ a.writes) × (b.unsure ≡ a.unsure))
+  pub read_fails_unsure : (a b : Script S) → storages.read_fails a b → (b.unsure ≡ None) ⊎ ((b.writes ≡ a.writes) × (b.unsure ≡ a.unsure))
+  pub puts_sure : (a b : Script S) (key : Key) (bytes : List ℕ) → storages.puts a key bytes b → b.unsure ≡ None
+  pub fails_unsure : (a b : Script S) (key : Key) (bytes : List ℕ) → storages.fails a key bytes b → a.unsure ≡ None
       → (b.unsure ≡ None) ⊎ (b.writes ≡ a.writes)
 
-module _ {S : Type 0} (contents : S → Records) (IsHonest : S → Type 0) (reads read_fails : S → S → Type 0)
-    (puts fails : S → Key → List ℕ → S → Type 0) (laws : KeepsAllLaws contents IsHonest reads read_fails puts fails) where
+module _ {S : Type 0} (storages : Ghosts S) (laws : IsLawful storages) where
   abbrev Same : Script S → Script S → Type 0
-  Same = IsSame (contents_inside contents)
+  Same = IsSame (contents_inside storages.contents)
 
   abbrev Goes : Script S → Script S → Type 0
-  Goes = GoesOn (contents_inside contents)
+  Goes = GoesOn (contents_inside storages.contents)
 
-  read_same : (a b : Script S) → Reads contents IsHonest reads a b → IsHonest b.inner → Same a b
-  read_same a b r honest = listed_same a b (laws.each.reads_contents a.inner b.inner r.inner honest) honest r.list
+  read_same : (a b : Script S) → (scripted storages).reads a b → storages.IsHonest b.inner → Same a b
+  read_same a b r honest = listed_same a b (laws.reads_contents a.inner b.inner r.inner honest) honest r.list
 
-  read_failed_same : (a b : Script S) → ReadFails contents IsHonest reads read_fails a b → IsHonest b.inner → Same a b
+  read_failed_same : (a b : Script S) → (scripted storages).read_fails a b → storages.IsHonest b.inner → Same a b
   read_failed_same a b f honest =
-      let before : IsHonest f.between.inner = laws.each.read_fails_honest f.between.inner b.inner f.inner honest in
+      let before : storages.IsHonest f.between.inner = laws.read_fails_honest f.between.inner b.inner f.inner honest in
       let s : Same a f.between = read_same a f.between f.before before in
-      let t : Same f.between b = same_lists (contents_inside contents) f.between b (laws.each.read_fails_contents f.between.inner b.inner f.inner honest)
+      let t : Same f.between b = same_lists (contents_inside storages.contents) f.between b (laws.read_fails_contents f.between.inner b.inner f.inner honest)
       (ap (λ (x : Script S). x.writes) f.after) (ap (λ (x : Script S). x.unsure) f.after) in
       record { records = t.records ∙ s.records; to = λ w x. t.to w (s.to w x); from = λ w x. s.from w (t.from w x) }
 
-  adds_on : (a between b : Script S) (key : Key) (bytes : List ℕ) → Reads contents IsHonest reads a between → Adds puts between key bytes b
-      → IsHonest b.inner → Goes a b
+  adds_on : (a between b : Script S) (key : Key) (bytes : List ℕ) → (scripted storages).reads a between → Adds storages.puts between key bytes b
+      → storages.IsHonest b.inner → Goes a b
   adds_on a between b key bytes before adds honest =
-      let was : IsHonest between.inner = laws.each.puts_honest between.inner b.inner key bytes adds.inner honest in
-      same_then (contents_inside contents) a between b (read_same a between before was)
-      (added contents between b key bytes adds (laws.each.puts_contents between.inner b.inner key bytes adds.inner honest))
+      let was : storages.IsHonest between.inner = laws.puts_honest between.inner b.inner key bytes adds.inner honest in
+      same_then (contents_inside storages.contents) a between b (read_same a between before was)
+      (added storages.contents between b key bytes adds (laws.puts_contents between.inner b.inner key bytes adds.inner honest))
 
-  fails_old_on : (a b : Script S) → FailsOld contents IsHonest reads a b → IsHonest b.inner → Goes a b
+  fails_old_on : (a b : Script S) → FailsOld storages.contents storages.IsHonest storages.reads a b → storages.IsHonest b.inner → Goes a b
   fails_old_on a b f honest =
       let inner : b.inner ≡ f.between.inner = ap (λ (x : Script S). x.inner) f.after in
-      let s : Same a f.between = read_same a f.between f.before (subst IsHonest inner honest) in
-      same_then (contents_inside contents) a f.between b s (same_goes (contents_inside contents) f.between b (same_lists (contents_inside contents) f.between b (ap contents inner) (ap (λ (x : Script S). x.writes) f.after)
+      let s : Same a f.between = read_same a f.between f.before (subst storages.IsHonest inner honest) in
+      same_then (contents_inside storages.contents) a f.between b s (same_goes (contents_inside storages.contents) f.between b (same_lists (contents_inside storages.contents) f.between b (ap storages.contents inner) (ap (λ (x : Script S). x.writes) f.after)
       (ap (λ (x : Script S). x.unsure) f.after)))
 
-  fails_inside_on : (a b : Script S) (key : Key) (bytes : List ℕ) → FailsInside contents IsHonest reads fails a key bytes b → IsHonest b.inner → Goes a b
+  fails_inside_on : (a b : Script S) (key : Key) (bytes : List ℕ) → FailsInside storages.contents storages.IsHonest storages.reads storages.fails a key bytes b → storages.IsHonest b.inner → Goes a b
   fails_inside_on a b key bytes f honest =
-      let was : IsHonest f.between.inner = laws.each.fails_honest f.between.inner b.inner key bytes f.inner honest in
-      same_then (contents_inside contents) a f.between b (read_same a f.between f.before was)
+      let was : storages.IsHonest f.between.inner = laws.fails_honest f.between.inner b.inner key bytes f.inner honest in
+      same_then (contents_inside storages.contents) a f.between b (read_same a f.between f.before was)
       (subst (λ (x : Script S). Goes f.between x) (sym f.after)
-      (unsure_then contents f.between b.inner key bytes f.settled (laws.each.fails_contents f.between.inner b.inner key bytes f.inner honest)))
+      (unsure_then storages.contents f.between b.inner key bytes f.settled (laws.fails_contents f.between.inner b.inner key bytes f.inner honest)))
 
-  failed_on : (a b : Script S) (key : Key) (bytes : List ℕ) → Fails contents IsHonest reads read_fails puts fails a key bytes b → IsHonest b.inner → Goes a b
+  failed_on : (a b : Script S) (key : Key) (bytes : List ℕ) → (scripted storages).fails a key bytes b → storages.IsHonest b.inner → Goes a b
   failed_on a b key bytes (inl f) honest = fails_old_on a b f honest
   failed_on a b key bytes (inr (inl f)) honest = adds_on a f.between b key bytes f.before f.adds honest
   failed_on a b key bytes (inr (inr (inl f))) honest = fails_inside_on a b key bytes f honest
-  failed_on a b key bytes (inr (inr (inr f))) honest = same_goes (contents_inside contents) a b (read_failed_same a b f.inner honest)
+  failed_on a b key bytes (inr (inr (inr f))) honest = same_goes (contents_inside storages.contents) a b (read_failed_same a b f.inner honest)
 
-  read_unsure : (a b : Script S) → ((b.writes ≡ a.writes) × (b.unsure ≡ a.unsure)) ⊎ Settles contents IsHonest a b
+  read_unsure : (a b : Script S) → ((b.writes ≡ a.writes) × (b.unsure ≡ a.unsure)) ⊎ Settles storages.contents storages.IsHonest a b
       → (b.unsure ≡ None) ⊎ ((b.writes ≡ a.writes) × (b.unsure ≡ a.unsure))
   read_unsure a b (inl list) = inr list
   read_unsure a b (inr s) = inl s.unsure
 
-  read_failed_unsure : (a b : Script S) → ReadFails contents IsHonest reads read_fails a b
+  read_failed_unsure : (a b : Script S) → (scripted storages).read_fails a b
       → (b.unsure ≡ None) ⊎ ((b.writes ≡ a.writes) × (b.unsure ≡ a.unsure))
   read_failed_unsure a b f =
       let list : b.writes ≡ f.between.writes = ap (λ (x : Script S). x.writes) f.after in
@@ -223,18 +222,17 @@ module _ {S : Type 0} (contents : S → Records) (IsHonest : S → Type 0) (read
         | inr same ↦ inr (list ∙ same.0, unsure ∙ same.1)
       ]
 
-  failed_unsure : (a b : Script S) (key : Key) (bytes : List ℕ) → Fails contents IsHonest reads read_fails puts fails a key bytes b → a.unsure ≡ None
+  failed_unsure : (a b : Script S) (key : Key) (bytes : List ℕ) → (scripted storages).fails a key bytes b → a.unsure ≡ None
       → (b.unsure ≡ None) ⊎ (b.writes ≡ a.writes)
   failed_unsure a b key bytes (inl f) sure = inl (ap (λ (x : Script S). x.unsure) f.after ∙ (reads_listed a f.between sure f.before).1)
   failed_unsure a b key bytes (inr (inl f)) sure = inl f.adds.unsure
   failed_unsure a b key bytes (inr (inr (inl f))) sure = inr (ap (λ (x : Script S). x.writes) f.after ∙ (reads_listed a f.between sure f.before).0)
   failed_unsure a b key bytes (inr (inr (inr f))) sure = elim (read_failed_unsure a b f.inner) [ inl now ↦ inl now | inr same ↦ inr same.0 ]
 
-  pub script_puts : KeepsPuts (contents_inside contents) (honest_inside IsHonest) (Reads contents IsHonest reads)
-      (ReadFails contents IsHonest reads read_fails) (Puts contents IsHonest reads puts) (Fails contents IsHonest reads read_fails puts fails)
+  pub script_puts : KeepsPuts (scripted storages)
   script_puts = record {
-    reads_on = λ a b r h. same_goes (contents_inside contents) a b (read_same a b r h.0);
-    read_fails_on = λ a b f h. same_goes (contents_inside contents) a b (read_failed_same a b f h.0);
+    reads_on = λ a b r h. same_goes (contents_inside storages.contents) a b (read_same a b r h.0);
+    read_fails_on = λ a b f h. same_goes (contents_inside storages.contents) a b (read_failed_same a b f h.0);
     puts_on = λ a b key bytes p h. adds_on a p.between b key bytes p.before p.adds h.0;
     fails_on = λ a b key bytes f h. failed_on a b key bytes f h.0;
     reads_unsure = λ a b r. read_unsure a b r.list;

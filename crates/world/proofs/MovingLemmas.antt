@@ -17,7 +17,7 @@ use Rattle.wire.specs.declared.frames.envelope.Envelope.{Envelope}
 use Rattle.world.specs.declared.lists.Submission.{Submission}
 use Rattle.world.specs.declared.lists.Learnt.{Learnt}
 use Rattle.world.specs.States.{NodeState}
-use Rattle.world.specs.Protocol.{fleet, frame_of, learning_of, command_of, IsWellTold}
+use Rattle.world.specs.Protocol.{fleet, frame_of, learning_of, command_of}
 use Rattle.world.specs.Reaching.{StandsAt, IsAllowed}
 use Rattle.world.proofs.NodeComes.{local_of, stands_elsewhere}
 
@@ -55,9 +55,9 @@ module _ {S : Type 0} {contents : Script S → Records} where
       (old : IsAllowed contents nodes frames learnt submitted) (i : ℕ) (after : NodeState (Script S)) (input : act.Input Command) (y : Local Command)
       → HasCome old.state.past input → Does (fleet (length nodes)) i input (local_of old.state i) y
       → StandsAt contents (length nodes) i (placed old.state i y).past (local_of (placed old.state i y) i) after
-      → y.sent ≡ map frame_of more → All (λ e. IsWellTold e.message) more → y.learnt ≡ map learning_of news → y.submitted ≡ map command_of asked
+      → y.sent ≡ map frame_of more → y.learnt ≡ map learning_of news → y.submitted ≡ map command_of asked
       → IsAllowed contents (slice_set nodes i after) (frames ++ more) (learnt ++ news) (submitted ++ asked)
-  moved nodes frames more learnt news submitted asked old i after input y came does now sent told heard asks =
+  moved nodes frames more learnt news submitted asked old i after input y came does now sent heard asks =
       let same : length (slice_set nodes i after) ≡ length nodes = length-set nodes i after in
       record {
         state = placed old.state i y;
@@ -71,5 +71,4 @@ module _ {S : Type 0} {contents : Script S → Records} where
           submitted_ = ap (λ l. old.state.past.submitted ++ l) asks ∙ ap (λ l. l ++ map command_of asked) old.stands.submitted_
               ∙ sym (map-append command_of submitted asked);
         };
-        told = All-append (λ e. IsWellTold e.message) frames more old.told told;
       }

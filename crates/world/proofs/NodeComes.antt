@@ -19,7 +19,8 @@ use Rattle.synod.proofs.Running.{does_reaches, reached_holds}
 use Rattle.stable.specs.Records.{Records}
 use Rattle.stable.specs.Script.{Script}
 use Rattle.stable.specs.Script as script
-use Rattle.stable.specs.declared.key.Key.{Key}
+use Rattle.stable.specs.declared.stable.Stable.{Ghosts}
+use Rattle.stable.specs.Storages.{IsLawful}
 use Rattle.acceptor.specs.Accepting.{Write, HasWritten, HasFailed}
 use Rattle.sessions.specs.declared.command.Command.{Command}
 use Rattle.world.specs.declared.fault.NodeFault.{NodeFault}
@@ -31,13 +32,12 @@ use Rattle.world.specs.Loading.{Restarts}
 use Rattle.world.specs.Minds.{Mind}
 use Rattle.world.specs.Nodes.{NodeState, NodeSteps, TakesInput, RefusesInput, StopsOnInput, StorageStops}
 use Rattle.world.specs.Outputs.{Told}
-use Rattle.world.specs.Protocol.{fleet, frame_of, input_of, IsWellTold, IsWellToldInput}
+use Rattle.world.specs.Protocol.{fleet, frame_of, input_of}
 use Rattle.world.specs.Reaching.{NodeStands, PutsStand, StandsAt}
 use Rattle.world.specs.Voting.{HasVote}
 use Rattle.world.proofs.ListedPuts.{GoesOn, KeepsPuts, same_goes, same_lists}
 use Rattle.world.proofs.NodeMoves.{NodeMoves, node_moves, sends_of, learnt_of, submitted_of}
 use Rattle.world.proofs.RestartLemmas.{restart_stands}
-use Rattle.world.proofs.StorageLaws.{KeepsLaws}
 use Rattle.world.proofs.VotesStand.{puts_go_on, listed_when_sure}
 use Rattle.world.proofs.WorldLemmas.{none_is_not_some}
 
@@ -142,7 +142,6 @@ pub record NodeComes {S : Type 0} (contents : Script S → Records) (nodes i : �
   pub does : Does (fleet nodes) i (input_of input) (local_of w i) to
   pub stands : StandsAt contents nodes i (placed w i to).past (local_of (placed w i to) i) new
   pub sent : to.sent ≡ map frame_of (sends_of result)
-  pub told : All (λ e. IsWellTold e.message) (sends_of result)
   pub learnt : to.learnt ≡ learnt_of i result
   pub submitted : to.submitted ≡ submitted_of input result
 
@@ -160,32 +159,31 @@ pub record ComesQuietly {S : Type 0} (contents : Script S → Records) (nodes i 
 abbrev failed_with : NodeFault → Result (Unit {0}) NodeFault
 failed_with f = Err f
 
-module _ {S : Type 0} {contents : Script S → Records} {IsHonest : Script S → Type 0} {reads read_fails : Script S → Script S → Type 0}
-    {puts fails : Script S → Key → List ℕ → Script S → Type 0} (laws : KeepsLaws contents IsHonest reads read_fails puts fails)
-    (lists : KeepsPuts contents IsHonest reads read_fails puts fails) where
+module _ {S : Type 0} {storages : Ghosts (Script S)} (laws : IsLawful storages)
+    (lists : KeepsPuts storages) where
   -- ---- the storage
-  read_sure : (a b : Script S) → reads a b → a.unsure ≡ None → b.unsure ≡ None
+  read_sure : (a b : Script S) → storages.reads a b → a.unsure ≡ None → b.unsure ≡ None
   read_sure a b h sure = elim (lists.reads_unsure a b h) [ inl now ↦ now | inr same ↦ same.1 ∙ sure ]
 
-  written_goes : (a b : Script S) (w : Write) → HasWritten reads puts a b w → IsHonest b → GoesOn contents a b
+  written_goes : (a b : Script S) (w : Write) → HasWritten storages.reads storages.puts a b w → storages.IsHonest b → GoesOn storages.contents a b
   written_goes a b None h honest = lists.reads_on a b h honest
   written_goes a b (Some w) h honest = lists.puts_on a b w.0 w.1 h honest
 
-  written_sure : (a b : Script S) (w : Write) → HasWritten reads puts a b w → a.unsure ≡ None → b.unsure ≡ None
+  written_sure : (a b : Script S) (w : Write) → HasWritten storages.reads storages.puts a b w → a.unsure ≡ None → b.unsure ≡ None
   written_sure a b None h sure = read_sure a b h sure
   written_sure a b (Some w) h sure = lists.puts_sure a b w.0 w.1 h
 
-  failed_goes : (a b : Script S) (w : Write) → HasFailed fails a b w → IsHonest b → GoesOn contents a b
+  failed_goes : (a b : Script S) (w : Write) → HasFailed storages.fails a b w → storages.IsHonest b → GoesOn storages.contents a b
   failed_goes a b None h honest = absurd h
   failed_goes a b (Some w) h honest = lists.fails_on a b w.0 w.1 h honest
 
-  failed_list : (a b : Script S) (w : Write) → HasFailed fails a b w → a.unsure ≡ None → (b.unsure ≡ None) ⊎ (b.writes ≡ a.writes)
+  failed_list : (a b : Script S) (w : Write) → HasFailed storages.fails a b w → a.unsure ≡ None → (b.unsure ≡ None) ⊎ (b.writes ≡ a.writes)
   failed_list a b None h sure = absurd h
   failed_list a b (Some w) h sure = lists.fails_unsure a b w.0 w.1 h sure
 
   -- ---- an input
-  stopped : (old new : NodeState (Script S)) (m : Mind) (input : Input) (f : NodeFault) → StorageStops reads puts fails old.storage m input f new.storage
-      → new.up ≡ None → old.storage.unsure ≡ None → IsHonest new.storage → ListGoesOn contents old new (Err f)
+  stopped : (old new : NodeState (Script S)) (m : Mind) (input : Input) (f : NodeFault) → StorageStops storages old.storage m input f new.storage
+      → new.up ≡ None → old.storage.unsure ≡ None → storages.IsHonest new.storage → ListGoesOn storages.contents old new (Err f)
   stopped old new m input fault.Device h down sure honest = record {
     goes = failed_goes old.storage new.storage h.write h.leaves honest;
     sure = elim (failed_list old.storage new.storage h.write h.leaves sure) [
@@ -206,22 +204,22 @@ module _ {S : Type 0} {contents : Script S → Records} {IsHonest : Script S →
   stopped old new m input fault.TooLong h down sure honest = absurd h
   stopped old new m input fault.Damaged h down sure honest = absurd h
 
-  unchanged : (old new : NodeState (Script S)) (r : Result Told NodeFault) → new ≡ old → old.storage.unsure ≡ None → ListGoesOn contents old new r
+  unchanged : (old new : NodeState (Script S)) (r : Result Told NodeFault) → new ≡ old → old.storage.unsure ≡ None → ListGoesOn storages.contents old new r
   unchanged old new r e sure =
-      subst (λ (n : NodeState (Script S)). ListGoesOn contents old n r) (sym e)
-      (record { goes = same_goes contents old.storage old.storage (same_lists contents old.storage old.storage refl refl refl); sure = inl sure })
+      subst (λ (n : NodeState (Script S)). ListGoesOn storages.contents old n r) (sym e)
+      (record { goes = same_goes storages.contents old.storage old.storage (same_lists storages.contents old.storage old.storage refl refl refl); sure = inl sure })
 
   list_refused : (old new : NodeState (Script S)) (m : Mind) (input : Input) (f : NodeFault) (b : Bool)
-      → MatchBool b (StopsOnInput reads puts fails old m input f new) (RefusesInput old m input f new) → old.storage.unsure ≡ None
-      → IsHonest new.storage → ListGoesOn contents old new (Err f)
+      → MatchBool b (StopsOnInput storages old m input f new) (RefusesInput old m input f new) → old.storage.unsure ≡ None
+      → storages.IsHonest new.storage → ListGoesOn storages.contents old new (Err f)
   list_refused old new m input f true h sure honest =
       stopped old new m input f h.storage (ap (λ (n : NodeState (Script S)). n.up) h.leaves) sure honest
   list_refused old new m input f false h sure honest = unchanged old new (Err f) h.leaves sure
 
   list_on : (old new : NodeState (Script S)) (m : Mind) (input : Input) (r : Result Told NodeFault)
-      → IfOk r (λ told. TakesInput reads puts old m input told new)
-      → IfErr r (λ f. MatchBool (is_stop_fault f) (StopsOnInput reads puts fails old m input f new) (RefusesInput old m input f new))
-      → old.storage.unsure ≡ None → IsHonest new.storage → ListGoesOn contents old new r
+      → IfOk r (λ told. TakesInput storages old m input told new)
+      → IfErr r (λ f. MatchBool (is_stop_fault f) (StopsOnInput storages old m input f new) (RefusesInput old m input f new))
+      → old.storage.unsure ≡ None → storages.IsHonest new.storage → ListGoesOn storages.contents old new r
   list_on old new m input (Ok told) h refused sure honest = record {
     goes = written_goes old.storage new.storage h.made.write h.made.leaves honest;
     sure = inl (written_sure old.storage new.storage h.made.write h.made.leaves sure);
@@ -231,23 +229,22 @@ module _ {S : Type 0} {contents : Script S → Records} {IsHonest : Script S →
   module _ (nodes i : ℕ) (there : i < nodes) (few : nodes ≤ 7) (w : synod_runs.World Command) (reached : IsReached (fleet nodes) w) where
     -- a node that is down, or refuses, does nothing
     rests : (input : Input) (new : NodeState (Script S)) (r : Result Told NodeFault) (f : NodeFault) → r ≡ Err f
-        → StandsAt contents nodes i w.past (local_of w i) new → NodeComes contents nodes i input w new r
+        → StandsAt storages.contents nodes i w.past (local_of w i) new → NodeComes storages.contents nodes i input w new r
     rests input new r f failed s =
-        subst (λ (q : Result Told NodeFault). NodeComes contents nodes i input w new q) (sym failed) (record {
+        subst (λ (q : Result Told NodeFault). NodeComes storages.contents nodes i input w new q) (sym failed) (record {
           to = local_of w i;
           does = does_nothing (fleet nodes) i (input_of input) (local_of w i);
-          stands = stands_still contents nodes w i new s;
+          stands = stands_still storages.contents nodes w i new s;
           sent = refl;
-          told = All-nil (λ e. IsWellTold e.message);
           learnt = refl;
           submitted = refl;
         })
 
     -- a put is unsure: what stands for the node is kept for the time when that is known
     waits : (old new : NodeState (Script S)) (input : Input) (r : Result Told NodeFault) (u : script.Write) → new.storage.unsure ≡ Some u
-        → HasCome w.past (input_of input) → StandsAt contents nodes i w.past (local_of w i) old
-        → (m : NodeMoves contents nodes i input (local_of w i) new r) → PutsStand contents new.storage m.after.records → WentDown old new r
-        → NodeComes contents nodes i input w new r
+        → HasCome w.past (input_of input) → StandsAt storages.contents nodes i w.past (local_of w i) old
+        → (m : NodeMoves storages.contents nodes i input (local_of w i) new r) → PutsStand storages.contents new.storage m.after.records → WentDown old new r
+        → NodeComes storages.contents nodes i input w new r
     waits old new input r u unsure came s m stand d = rests input new r d.fault_ d.failed (record {
       listed = λ (v : Vote Command).
           subst (λ (ws : List script.Write). Contains (w.past.records i).writes (VoteWrite v) ↔ HasVote ws v) (sym d.list) (s.listed v);
@@ -265,15 +262,14 @@ module _ {S : Type 0} {contents : Script S → Records} {IsHonest : Script S →
     })
 
     arrives : (old new : NodeState (Script S)) (input : Input) (r : Result Told NodeFault) (o : Option script.Write) → new.storage.unsure ≡ o
-        → HasCome w.past (input_of input) → StandsAt contents nodes i w.past (local_of w i) old
-        → (m : NodeMoves contents nodes i input (local_of w i) new r) → PutsStand contents new.storage m.after.records
-        → (new.storage.unsure ≡ None) ⊎ WentDown old new r → NodeComes contents nodes i input w new r
+        → HasCome w.past (input_of input) → StandsAt storages.contents nodes i w.past (local_of w i) old
+        → (m : NodeMoves storages.contents nodes i input (local_of w i) new r) → PutsStand storages.contents new.storage m.after.records
+        → (new.storage.unsure ≡ None) ⊎ WentDown old new r → NodeComes storages.contents nodes i input w new r
     arrives old new input r None sure came s m stand d = record {
       to = m.after;
       does = m.does;
-      stands = stands_here contents nodes w i m.after new m.stands stand sure;
+      stands = stands_here storages.contents nodes w i m.after new m.stands stand sure;
       sent = m.sent;
-      told = m.told;
       learnt = m.learnt;
       submitted = m.submitted;
     }
@@ -281,44 +277,44 @@ module _ {S : Type 0} {contents : Script S → Records} {IsHonest : Script S →
     arrives old new input r (Some u) unsure came s m stand (inr d) = waits old new input r u unsure came s m stand d
 
     by_mind : (old new : NodeState (Script S)) (input : Input) (r : Result Told NodeFault) (o : Option Mind) → old.up ≡ o
-        → HasCome w.past (input_of input) → NodeSteps reads puts fails old input r new → StandsAt contents nodes i w.past (local_of w i) old
-        → IsMember i nodes old → ComesFrom nodes input → IsWellToldInput input → IsHonest new.storage → NodeComes contents nodes i input w new r
-    by_mind old new input r None up came h s member sender well honest =
+        → HasCome w.past (input_of input) → NodeSteps storages old input r new → StandsAt storages.contents nodes i w.past (local_of w i) old
+        → IsMember i nodes old → ComesFrom nodes input → storages.IsHonest new.storage → NodeComes storages.contents nodes i input w new r
+    by_mind old new input r None up came h s member sender honest =
         rests input new r fault.Down (h.down up).0
-        (subst (λ (n : NodeState (Script S)). StandsAt contents nodes i w.past (local_of w i) n) (sym (h.down up).1) s)
-    by_mind old new input r (Some m) up came h s member sender well honest =
+        (subst (λ (n : NodeState (Script S)). StandsAt storages.contents nodes i w.past (local_of w i) n) (sym (h.down up).1) s)
+    by_mind old new input r (Some m) up came h s member sender honest =
         let x : Local Command = local_of w i in
         let sure : old.storage.unsure ≡ None = s.up (subst (λ (o : Option Mind). IsSome o) (sym up) refl) in
-        let stands : NodeStands contents old x.records x.mind =
-        subst (λ (y : Local Command). NodeStands contents old y.records y.mind) (s.sure sure) s.stands in
-        let stand : PutsStand contents old.storage x.records =
-        subst (λ (y : Local Command). PutsStand contents old.storage y.records) (s.sure sure) s.puts in
-        let moves : NodeMoves contents nodes i input x new r =
-        node_moves laws nodes i there few old new input r x h stands member sender well honest in
-        let on : ListGoesOn contents old new r = list_on old new m input r
-        (subst (λ (o : Option Mind). IfSome o (λ n. IfOk r (λ told. TakesInput reads puts old n input told new))) up h.taken)
+        let stands : NodeStands storages.contents old x.records x.mind =
+        subst (λ (y : Local Command). NodeStands storages.contents old y.records y.mind) (s.sure sure) s.stands in
+        let stand : PutsStand storages.contents old.storage x.records =
+        subst (λ (y : Local Command). PutsStand storages.contents old.storage y.records) (s.sure sure) s.puts in
+        let moves : NodeMoves storages.contents nodes i input x new r =
+        node_moves laws nodes i there few old new input r x h stands member sender honest in
+        let on : ListGoesOn storages.contents old new r = list_on old new m input r
+        (subst (λ (o : Option Mind). IfSome o (λ n. IfOk r (λ told. TakesInput storages old n input told new))) up h.taken)
         (subst (λ (o : Option Mind). IfSome o (λ n. IfErr r (λ f. MatchBool (is_stop_fault f)
-        (StopsOnInput reads puts fails old n input f new) (RefusesInput old n input f new)))) up h.refused) sure honest in
+        (StopsOnInput storages old n input f new) (RefusesInput old n input f new)))) up h.refused) sure honest in
         arrives old new input r new.storage.unsure refl came s moves
-        (puts_go_on contents (fleet nodes) i (input_of input) x moves.after old.storage new moves.does on.goes moves.stands
+        (puts_go_on storages.contents (fleet nodes) i (input_of input) x moves.after old.storage new moves.does on.goes moves.stands
         (sound_after nodes w i (input_of input) moves.after reached came moves.does) stand) on.sure
 
     -- a node comes to what stands for it after an input
     pub node_comes : (old new : NodeState (Script S)) (input : Input) (r : Result Told NodeFault) → HasCome w.past (input_of input)
-        → NodeSteps reads puts fails old input r new → StandsAt contents nodes i w.past (local_of w i) old
-        → IsMember i nodes old → ComesFrom nodes input → IsWellToldInput input → IsHonest new.storage → NodeComes contents nodes i input w new r
-    node_comes old new input r came h s member sender well honest = by_mind old new input r old.up refl came h s member sender well honest
+        → NodeSteps storages old input r new → StandsAt storages.contents nodes i w.past (local_of w i) old
+        → IsMember i nodes old → ComesFrom nodes input → storages.IsHonest new.storage → NodeComes storages.contents nodes i input w new r
+    node_comes old new input r came h s member sender honest = by_mind old new input r old.up refl came h s member sender honest
 
     -- ---- a restart
-    restart_goes : (old new : NodeState (Script S)) (r : Result (Unit {0}) NodeFault) → Restarts contents IsHonest reads read_fails old r new
-        → IsHonest new.storage → GoesOn contents old.storage new.storage
+    restart_goes : (old new : NodeState (Script S)) (r : Result (Unit {0}) NodeFault) → Restarts storages old r new
+        → storages.IsHonest new.storage → GoesOn storages.contents old.storage new.storage
     restart_goes old new (Ok x) h honest = lists.reads_on old.storage new.storage h.up.1 honest
     restart_goes old new (Err f) h honest = elim h.other [
       | inl device ↦ lists.read_fails_on old.storage new.storage (h.device (ap failed_with device)) honest
       | inr other ↦ lists.reads_on old.storage new.storage other.1 honest
     ]
 
-    restart_list : (old new : NodeState (Script S)) (r : Result (Unit {0}) NodeFault) → Restarts contents IsHonest reads read_fails old r new
+    restart_list : (old new : NodeState (Script S)) (r : Result (Unit {0}) NodeFault) → Restarts storages old r new
         → (new.storage.unsure ≡ None) ⊎ ((new.storage.writes ≡ old.storage.writes) × (new.storage.unsure ≡ old.storage.unsure))
     restart_list old new (Ok x) h = lists.reads_unsure old.storage new.storage h.up.1
     restart_list old new (Err f) h = elim h.other [
@@ -331,10 +327,10 @@ module _ {S : Type 0} {contents : Script S → Records} {IsHonest : Script S →
     sure_again new (Ok x) settled down up = settled
     sure_again new (Err f) settled down up = absurd (none_is_not_some new.up down up)
 
-    restarted : (old new : NodeState (Script S)) (o : Option script.Write) → new.storage.unsure ≡ o → (s : StandsAt contents nodes i w.past (local_of w i) old)
-        → NodeStands contents new s.after.records blank → PutsStand contents new.storage s.after.records
+    restarted : (old new : NodeState (Script S)) (o : Option script.Write) → new.storage.unsure ≡ o → (s : StandsAt storages.contents nodes i w.past (local_of w i) old)
+        → NodeStands storages.contents new s.after.records blank → PutsStand storages.contents new.storage s.after.records
         → (new.storage.unsure ≡ None) ⊎ ((new.storage.writes ≡ old.storage.writes) × (new.storage.unsure ≡ old.storage.unsure))
-        → (IsSome new.up → new.storage.unsure ≡ None) → ComesQuietly contents nodes i w new
+        → (IsSome new.up → new.storage.unsure ≡ None) → ComesQuietly storages.contents nodes i w new
     restarted old new None sure s stands stand list up =
         let y : Local Command = act.acted i s.after act.Forgets in
         record {
@@ -345,7 +341,7 @@ module _ {S : Type 0} {contents : Script S → Records} {IsHonest : Script S →
           unsent = s.unsent;
           unlearnt = s.unlearnt;
           unsubmitted = s.unsubmitted;
-          stands = stands_here contents nodes w i y new stands stand sure;
+          stands = stands_here storages.contents nodes w i y new stands stand sure;
         }
     restarted old new (Some u) unsure s stands stand (inl sure) up = absurd (none-some u (sym sure ∙ unsure))
     restarted old new (Some u) unsure s stands stand (inr same) up = record {
@@ -356,7 +352,7 @@ module _ {S : Type 0} {contents : Script S → Records} {IsHonest : Script S →
       unsent = refl;
       unlearnt = refl;
       unsubmitted = refl;
-      stands = stands_still contents nodes w i new (record {
+      stands = stands_still storages.contents nodes w i new (record {
         listed = λ (v : Vote Command).
             subst (λ (ws : List script.Write). Contains (w.past.records i).writes (VoteWrite v) ↔ HasVote ws v) (sym same.0) (s.listed v);
         input = s.input;
@@ -373,15 +369,15 @@ module _ {S : Type 0} {contents : Script S → Records} {IsHonest : Script S →
       });
     }
 
-    pub restart_comes : (old new : NodeState (Script S)) (r : Result (Unit {0}) NodeFault) → Restarts contents IsHonest reads read_fails old r new
-        → OnOk r (new.storage.unsure ≡ None) → StandsAt contents nodes i w.past (local_of w i) old → IsHonest new.storage
-        → ComesQuietly contents nodes i w new
+    pub restart_comes : (old new : NodeState (Script S)) (r : Result (Unit {0}) NodeFault) → Restarts storages old r new
+        → OnOk r (new.storage.unsure ≡ None) → StandsAt storages.contents nodes i w.past (local_of w i) old → storages.IsHonest new.storage
+        → ComesQuietly storages.contents nodes i w new
     restart_comes old new r h settled s honest =
         let y : Local Command = act.acted i s.after act.Forgets in
         let forgets : Does (fleet nodes) i s.input s.after y = does_one (fleet nodes) i s.input s.after act.Forgets tt in
-        let stands : NodeStands contents new s.after.records blank =
+        let stands : NodeStands storages.contents new s.after.records blank =
         restart_stands laws old new r s.after.records s.after.mind h honest s.stands in
         let sound : AreSound y.records = sound_after nodes w i s.input y reached s.came (does_then (fleet nodes) i s.input s.does forgets) in
         restarted old new new.storage.unsure refl s stands
-        (puts_go_on contents (fleet nodes) i s.input s.after y old.storage new forgets (restart_goes old new r h honest) stands sound s.puts)
+        (puts_go_on storages.contents (fleet nodes) i s.input s.after y old.storage new forgets (restart_goes old new r h honest) stands sound s.puts)
         (restart_list old new r h) (sure_again new r settled h.down)

@@ -6,8 +6,9 @@ use Rattle.synod.specs.Acts.{Local, Does}
 use Rattle.synod.proofs.Doing.{does_nothing}
 use Rattle.stable.specs.Records.{Records}
 use Rattle.stable.specs.Script.{Script}
-use Rattle.stable.specs.declared.key.Key.{Key}
 use Rattle.stable.specs.declared.key.Key.TheVariants as key
+use Rattle.stable.specs.declared.stable.Stable.{Ghosts}
+use Rattle.stable.specs.Storages.{IsLawful}
 use Rattle.acceptor.specs.Accepting.{Accepting, Write, RecordsSay, records_after}
 use Rattle.acceptor.specs.Protocol.{RecordsStand}
 use Rattle.sessions.specs.declared.command.Command.{Command}
@@ -21,14 +22,13 @@ use Rattle.world.specs.Fleets.{IsMember, IsMindOf, ComesFrom}
 use Rattle.world.specs.Minds.{Mind, refuses, Writes}
 use Rattle.world.specs.Nodes.{NodeState, NodeSteps, TakesInput, RefusesInput, StopsOnInput, StorageStops}
 use Rattle.world.specs.Outputs.{Told}
-use Rattle.world.specs.Protocol.{fleet, frame_of, input_of, learnings, submissions, IsNode, IsSeen, IsWellTold, IsWellToldInput, MayTake}
+use Rattle.world.specs.Protocol.{fleet, frame_of, input_of, learnings, submissions, IsNode, IsSeen, MayTake}
 use Rattle.world.specs.Reaching.{HoldsSame, NodeStands, SaysRound}
 use Rattle.world.specs.Sized.{IsSized}
 use Rattle.world.proofs.SayingLemmas.{SayBoth, other_records, taken_said, input_said, refusal_goes_on, after_input_acceptor, after_input_round}
 use Rattle.world.proofs.SizedLemmas.{taken_sized}
 use Rattle.world.proofs.StoppingLemmas.{MayStop, stops_at_once, input_stops}
-use Rattle.world.proofs.StorageLaws.{KeepsLaws, written_honest, written_contents, failed_honest, failed_contents}
-use Rattle.world.proofs.ToldLemmas.{taken_told}
+use Rattle.world.proofs.StorageLaws.{written_honest, written_contents, failed_honest, failed_contents}
 use Rattle.world.proofs.TakingLemmas.{taking_allowed}
 
 -- what a node told: the frames, what it learnt, what was submitted to it
@@ -51,7 +51,6 @@ pub record NodeMoves {S : Type 0} (contents : Script S → Records) (nodes i : �
   pub does : Does (fleet nodes) i (input_of input) x after
   pub stands : NodeStands contents new after.records after.mind
   pub sent : after.sent ≡ x.sent ++ map frame_of (sends_of result)
-  pub told : All (λ e. IsWellTold e.message) (sends_of result)
   pub learnt : after.learnt ≡ x.learnt ++ learnt_of i result
   pub submitted : after.submitted ≡ x.submitted ++ submitted_of input result
 
@@ -70,25 +69,23 @@ is_node i nodes m mind = record {
   learner_of_all = mind.learning;
 }
 
-module _ {S : Type 0} {contents : Script S → Records} {IsHonest : Script S → Type 0} {reads read_fails : Script S → Script S → Type 0}
-    {puts fails : Script S → Key → List ℕ → Script S → Type 0} (laws : KeepsLaws contents IsHonest reads read_fails puts fails)
+module _ {S : Type 0} {storages : Ghosts (Script S)} (laws : IsLawful storages)
     (nodes i : ℕ) (there : i < nodes) (few : nodes ≤ 7) where
   -- a node that has done nothing, with records that say the same
-  rests : (input : Input) (x : Local Command) (new : NodeState (Script S)) (f : NodeFault) → NodeStands contents new x.records x.mind
-      → NodeMoves contents nodes i input x new (Err f)
+  rests : (input : Input) (x : Local Command) (new : NodeState (Script S)) (f : NodeFault) → NodeStands storages.contents new x.records x.mind
+      → NodeMoves storages.contents nodes i input x new (Err f)
   rests input x new f stands = record {
     after = x;
     does = does_nothing (fleet nodes) i (input_of input) x;
     stands = stands;
     sent = sym (append-nil x.sent);
-    told = All-nil (λ e. IsWellTold e.message);
     learnt = sym (append-nil x.learnt);
     submitted = sym (append-nil x.submitted);
   }
 
   -- a node that has gone down with these records
   stops : (input : Input) (x : Local Command) (new : NodeState (Script S)) (f : NodeFault) (a : Accepting) (round : ℕ) → new.up ≡ None
-      → SayBoth (contents new.storage) a round → MayStop nodes i (input_of input) x a round → NodeMoves contents nodes i input x new (Err f)
+      → SayBoth (storages.contents new.storage) a round → MayStop nodes i (input_of input) x a round → NodeMoves storages.contents nodes i input x new (Err f)
   stops input x new f a round down says s = record {
     after = s.after;
     does = s.does;
@@ -101,23 +98,22 @@ module _ {S : Type 0} {contents : Script S → Records} {IsHonest : Script S →
       up = subst (λ (o : Option Mind). IfSome o (HoldsSame a round s.after.mind)) (sym down) tt;
     };
     sent = s.sent ∙ sym (append-nil x.sent);
-    told = All-nil (λ e. IsWellTold e.message);
     learnt = s.learnt ∙ sym (append-nil x.learnt);
     submitted = s.submitted ∙ sym (append-nil x.submitted);
   }
 
   -- ---- a node that is up
   record StandsUp (old : NodeState (Script S)) (m : Mind) (x : Local Command) : Type 0 where
-    says : SayBoth (contents old.storage) m.accepting m.proposing.round
+    says : SayBoth (storages.contents old.storage) m.accepting m.proposing.round
     seen : IsSeen m x
     sized : IsSized m
 
-  stands_up : (old : NodeState (Script S)) (m : Mind) (x : Local Command) → old.up ≡ Some m → NodeStands contents old x.records x.mind → StandsUp old m x
+  stands_up : (old : NodeState (Script S)) (m : Mind) (x : Local Command) → old.up ≡ Some m → NodeStands storages.contents old x.records x.mind → StandsUp old m x
   stands_up old m x up stands =
       let holds : HoldsSame stands.accepting stands.round x.mind m = subst (λ (o : Option Mind). IfSome o (HoldsSame stands.accepting stands.round x.mind)) up stands.up in
-      let acceptor : RecordsSay (contents old.storage) m.accepting = subst (λ (a : Accepting). RecordsSay (contents old.storage) a) (sym holds.accepting_) stands.says in
-      let proposer : SaysRound (contents old.storage key.Round) m.proposing.round =
-      subst (λ n. SaysRound (contents old.storage key.Round) n) (sym holds.round_) stands.says_round in
+      let acceptor : RecordsSay (storages.contents old.storage) m.accepting = subst (λ (a : Accepting). RecordsSay (storages.contents old.storage) a) (sym holds.accepting_) stands.says in
+      let proposer : SaysRound (storages.contents old.storage key.Round) m.proposing.round =
+      subst (λ n. SaysRound (storages.contents old.storage key.Round) n) (sym holds.round_) stands.says_round in
       let records : RecordsStand m.accepting m.proposing.round x.records =
       subst (λ (a : Accepting). RecordsStand a m.proposing.round x.records) (sym holds.accepting_)
       (subst (λ n. RecordsStand stands.accepting n x.records) (sym holds.round_) stands.stands) in
@@ -128,15 +124,15 @@ module _ {S : Type 0} {contents : Script S → Records} {IsHonest : Script S →
       }
 
   takes : (old new : NodeState (Script S)) (m : Mind) (input : Input) (told : Told) (x : Local Command) → StandsUp old m x → IsMindOf i nodes m
-      → ComesFrom nodes input → IsWellToldInput input → InputFits input → refuses m input ≡ None → TakesInput reads puts old m input told new
-      → IsHonest new.storage → NodeMoves contents nodes i input x new (Ok told)
-  takes old new m input told x up mind sender well fits none h honest =
+      → ComesFrom nodes input → InputFits input → refuses m input ≡ None → TakesInput storages old m input told new
+      → storages.IsHonest new.storage → NodeMoves storages.contents nodes i input x new (Ok told)
+  takes old new m input told x up mind sender fits none h honest =
       let t : MayTake nodes i input x h.mind told =
-      taking_allowed nodes i m h.mind input told x few there (is_node i nodes m mind) up.sized none h.takes well sender up.seen in
-      let kept : contents new.storage ≡ records_after (contents old.storage) h.made.write =
+      taking_allowed nodes i m h.mind input told x few there (is_node i nodes m mind) up.sized none h.takes sender up.seen in
+      let kept : storages.contents new.storage ≡ records_after (storages.contents old.storage) h.made.write =
       written_contents laws old.storage new.storage h.made.write h.made.leaves honest in
-      let says : SayBoth (contents new.storage) h.mind.accepting h.mind.proposing.round =
-      other_records kept (taken_said m input h.mind told (contents old.storage) h.made.write h.takes h.made.made fits none up.says) in
+      let says : SayBoth (storages.contents new.storage) h.mind.accepting h.mind.proposing.round =
+      other_records kept (taken_said m input h.mind told (storages.contents old.storage) h.made.write h.takes h.made.made fits none up.says) in
       let holds : HoldsSame h.mind.accepting h.mind.proposing.round t.after.mind h.mind = record {
         accepting_ = refl;
         round_ = refl;
@@ -155,7 +151,6 @@ module _ {S : Type 0} {contents : Script S → Records} {IsHonest : Script S →
           up = subst (λ (n : NodeState (Script S)). IfSome n.up (HoldsSame h.mind.accepting h.mind.proposing.round t.after.mind)) (sym h.leaves) holds;
         };
         sent = t.sent;
-        told = taken_told m input h.mind told h.takes up.says.acceptor.at_its_slot;
         learnt = t.learnt;
         submitted = t.submitted;
       }
@@ -163,25 +158,25 @@ module _ {S : Type 0} {contents : Script S → Records} {IsHonest : Script S →
   -- the storage as it was, or with the write
   stops_with : (old new : NodeState (Script S)) (m : Mind) (input : Input) (f : NodeFault) (w : Write) (x : Local Command) → StandsUp old m x
       → InputFits input → refuses m input ≡ None → Writes m input w → new.up ≡ None
-      → (contents new.storage ≡ contents old.storage) ⊎ (contents new.storage ≡ records_after (contents old.storage) w)
-      → NodeMoves contents nodes i input x new (Err f)
+      → (storages.contents new.storage ≡ storages.contents old.storage) ⊎ (storages.contents new.storage ≡ records_after (storages.contents old.storage) w)
+      → NodeMoves storages.contents nodes i input x new (Err f)
   stops_with old new m input f w x up fits none made down (inl same) =
       stops input x new f m.accepting m.proposing.round down (other_records same up.says)
       (stops_at_once nodes i x (input_of input) m.accepting m.proposing.round up.seen.records)
   stops_with old new m input f w x up fits none made down (inr written) =
       stops input x new f (after_input_acceptor m input) (after_input_round m input) down
-      (other_records written (input_said m input (contents old.storage) w made fits none up.says))
+      (other_records written (input_said m input (storages.contents old.storage) w made fits none up.says))
       (input_stops nodes i x m input up.seen (omega (arith, there, few)))
 
   stops_as_it_was : (old new : NodeState (Script S)) (m : Mind) (input : Input) (f : NodeFault) (x : Local Command) → StandsUp old m x → new.up ≡ None
-      → contents new.storage ≡ contents old.storage → NodeMoves contents nodes i input x new (Err f)
+      → storages.contents new.storage ≡ storages.contents old.storage → NodeMoves storages.contents nodes i input x new (Err f)
   stops_as_it_was old new m input f x up down same =
       stops input x new f m.accepting m.proposing.round down (other_records same up.says)
       (stops_at_once nodes i x (input_of input) m.accepting m.proposing.round up.seen.records)
 
   stops_by : (old new : NodeState (Script S)) (m : Mind) (input : Input) (f : NodeFault) (x : Local Command) → StandsUp old m x
-      → InputFits input → refuses m input ≡ None → StorageStops reads puts fails old.storage m input f new.storage → new.up ≡ None → IsHonest new.storage
-      → NodeMoves contents nodes i input x new (Err f)
+      → InputFits input → refuses m input ≡ None → StorageStops storages old.storage m input f new.storage → new.up ≡ None → storages.IsHonest new.storage
+      → NodeMoves storages.contents nodes i input x new (Err f)
   stops_by old new m input fault.Device x up fits none h down honest =
       stops_with old new m input fault.Device h.write x up fits none h.made down (failed_contents laws old.storage new.storage h.write h.leaves honest)
   stops_by old new m input fault.Memory x up fits none (inl h) down honest =
@@ -211,46 +206,46 @@ module _ {S : Type 0} {contents : Script S → Records} {IsHonest : Script S →
   taken_not_refused m input told (Some g) e h = absurd (cc)
 
   refused : (old new : NodeState (Script S)) (m : Mind) (input : Input) (f : NodeFault) (x : Local Command) (b : Bool) → is_stop_fault f ≡ b
-      → NodeStands contents old x.records x.mind → StandsUp old m x → InputFits input
+      → NodeStands storages.contents old x.records x.mind → StandsUp old m x → InputFits input
       → IfSome (refuses m input) (λ g. failed f ≡ Err g)
-      → MatchBool b (StopsOnInput reads puts fails old m input f new) (RefusesInput old m input f new) → IsHonest new.storage
-      → NodeMoves contents nodes i input x new (Err f)
+      → MatchBool b (StopsOnInput storages old m input f new) (RefusesInput old m input f new) → storages.IsHonest new.storage
+      → NodeMoves storages.contents nodes i input x new (Err f)
   refused old new m input f x true e stands up fits none h honest =
       stops_by old new m input f x up fits (not_refused m input f (refuses m input) refl e none) h.storage (ap (λ (n : NodeState (Script S)). n.up) h.leaves) honest
   refused old new m input f x false e stands up fits none h honest =
-      rests input x new f (subst (λ (n : NodeState (Script S)). NodeStands contents n x.records x.mind) (sym h.leaves) stands)
+      rests input x new f (subst (λ (n : NodeState (Script S)). NodeStands storages.contents n x.records x.mind) (sym h.leaves) stands)
 
   by_result : (old new : NodeState (Script S)) (m : Mind) (input : Input) (r : Result Told NodeFault) (x : Local Command)
-      → NodeStands contents old x.records x.mind → StandsUp old m x → IsMindOf i nodes m → ComesFrom nodes input → IsWellToldInput input → InputFits input
-      → IfOk r (λ told. TakesInput reads puts old m input told new)
-      → IfErr r (λ f. MatchBool (is_stop_fault f) (StopsOnInput reads puts fails old m input f new) (RefusesInput old m input f new))
-      → IfSome (refuses m input) (λ g. r ≡ Err g) → IsHonest new.storage → NodeMoves contents nodes i input x new r
-  by_result old new m input (Ok told) x stands up mind sender well fits taken refused_ none honest =
-      takes old new m input told x up mind sender well fits (taken_not_refused m input told (refuses m input) refl none) taken honest
-  by_result old new m input (Err f) x stands up mind sender well fits taken refused_ none honest =
+      → NodeStands storages.contents old x.records x.mind → StandsUp old m x → IsMindOf i nodes m → ComesFrom nodes input → InputFits input
+      → IfOk r (λ told. TakesInput storages old m input told new)
+      → IfErr r (λ f. MatchBool (is_stop_fault f) (StopsOnInput storages old m input f new) (RefusesInput old m input f new))
+      → IfSome (refuses m input) (λ g. r ≡ Err g) → storages.IsHonest new.storage → NodeMoves storages.contents nodes i input x new r
+  by_result old new m input (Ok told) x stands up mind sender fits taken refused_ none honest =
+      takes old new m input told x up mind sender fits (taken_not_refused m input told (refuses m input) refl none) taken honest
+  by_result old new m input (Err f) x stands up mind sender fits taken refused_ none honest =
       refused old new m input f x (is_stop_fault f) refl stands up fits none refused_ honest
 
   by_mind : (old new : NodeState (Script S)) (input : Input) (r : Result Told NodeFault) (x : Local Command) (o : Option Mind) → old.up ≡ o
-      → NodeSteps reads puts fails old input r new → NodeStands contents old x.records x.mind → IsMember i nodes old → ComesFrom nodes input
-      → IsWellToldInput input → IsHonest new.storage → NodeMoves contents nodes i input x new r
-  by_mind old new input r x None up h stands member sender well honest =
-      subst (λ (y : Result Told NodeFault). NodeMoves contents nodes i input x new y) (sym (h.down up).0)
-      (rests input x new fault.Down (subst (λ (n : NodeState (Script S)). NodeStands contents n x.records x.mind) (sym (h.down up).1) stands))
-  by_mind old new input r x (Some m) up h stands member sender well honest =
-      by_result old new m input r x stands (stands_up old m x up stands) (member.up m up) sender well h.fits
-      (subst (λ (o : Option Mind). IfSome o (λ n. IfOk r (λ told. TakesInput reads puts old n input told new))) up h.taken)
+      → NodeSteps storages old input r new → NodeStands storages.contents old x.records x.mind → IsMember i nodes old → ComesFrom nodes input
+      → storages.IsHonest new.storage → NodeMoves storages.contents nodes i input x new r
+  by_mind old new input r x None up h stands member sender honest =
+      subst (λ (y : Result Told NodeFault). NodeMoves storages.contents nodes i input x new y) (sym (h.down up).0)
+      (rests input x new fault.Down (subst (λ (n : NodeState (Script S)). NodeStands storages.contents n x.records x.mind) (sym (h.down up).1) stands))
+  by_mind old new input r x (Some m) up h stands member sender honest =
+      by_result old new m input r x stands (stands_up old m x up stands) (member.up m up) sender h.fits
+      (subst (λ (o : Option Mind). IfSome o (λ n. IfOk r (λ told. TakesInput storages old n input told new))) up h.taken)
       (subst (λ (o : Option Mind). IfSome o (λ n. IfErr r (λ f. MatchBool (is_stop_fault f)
-      (StopsOnInput reads puts fails old n input f new) (RefusesInput old n input f new)))) up h.refused)
+      (StopsOnInput storages old n input f new) (RefusesInput old n input f new)))) up h.refused)
       (subst (λ (o : Option Mind). IfSome o (λ n. IfSome (refuses n input) (λ g. r ≡ Err g))) up h.refuses_) honest
 
   pub node_moves : (old new : NodeState (Script S)) (input : Input) (r : Result Told NodeFault) (x : Local Command)
-      → NodeSteps reads puts fails old input r new → NodeStands contents old x.records x.mind → IsMember i nodes old → ComesFrom nodes input
-      → IsWellToldInput input → IsHonest new.storage → NodeMoves contents nodes i input x new r
-  node_moves old new input r x h stands member sender well honest = by_mind old new input r x old.up refl h stands member sender well honest
+      → NodeSteps storages old input r new → NodeStands storages.contents old x.records x.mind → IsMember i nodes old → ComesFrom nodes input
+      → storages.IsHonest new.storage → NodeMoves storages.contents nodes i input x new r
+  node_moves old new input r x h stands member sender honest = by_mind old new input r x old.up refl h stands member sender honest
 
   -- ---- a storage that is honest afterwards was so before
   honest_stopped : (old new : NodeState (Script S)) (m : Mind) (input : Input) (f : NodeFault)
-      → StorageStops reads puts fails old.storage m input f new.storage → IsHonest new.storage → IsHonest old.storage
+      → StorageStops storages old.storage m input f new.storage → storages.IsHonest new.storage → storages.IsHonest old.storage
   honest_stopped old new m input fault.Device h honest = failed_honest laws old.storage new.storage h.write h.leaves honest
   honest_stopped old new m input fault.Memory (inl h) honest = laws.reads_honest old.storage new.storage h honest
   honest_stopped old new m input fault.Memory (inr h) honest = written_honest laws old.storage new.storage h.write h.leaves honest
@@ -262,26 +257,26 @@ module _ {S : Type 0} {contents : Script S → Records} {IsHonest : Script S →
   honest_stopped old new m input fault.Damaged h honest = absurd h
 
   honest_refused : (old new : NodeState (Script S)) (m : Mind) (input : Input) (f : NodeFault) (b : Bool)
-      → MatchBool b (StopsOnInput reads puts fails old m input f new) (RefusesInput old m input f new) → IsHonest new.storage → IsHonest old.storage
+      → MatchBool b (StopsOnInput storages old m input f new) (RefusesInput old m input f new) → storages.IsHonest new.storage → storages.IsHonest old.storage
   honest_refused old new m input f true h honest = honest_stopped old new m input f h.storage honest
-  honest_refused old new m input f false h honest = subst (λ (n : NodeState (Script S)). IsHonest n.storage) h.leaves honest
+  honest_refused old new m input f false h honest = subst (λ (n : NodeState (Script S)). storages.IsHonest n.storage) h.leaves honest
 
   honest_result : (old new : NodeState (Script S)) (m : Mind) (input : Input) (r : Result Told NodeFault)
-      → IfOk r (λ told. TakesInput reads puts old m input told new)
-      → IfErr r (λ f. MatchBool (is_stop_fault f) (StopsOnInput reads puts fails old m input f new) (RefusesInput old m input f new))
-      → IsHonest new.storage → IsHonest old.storage
+      → IfOk r (λ told. TakesInput storages old m input told new)
+      → IfErr r (λ f. MatchBool (is_stop_fault f) (StopsOnInput storages old m input f new) (RefusesInput old m input f new))
+      → storages.IsHonest new.storage → storages.IsHonest old.storage
   honest_result old new m input (Ok told) h refused_ honest = written_honest laws old.storage new.storage h.made.write h.made.leaves honest
   honest_result old new m input (Err f) taken h honest = honest_refused old new m input f (is_stop_fault f) h honest
 
   honest_mind : (old new : NodeState (Script S)) (input : Input) (r : Result Told NodeFault) (o : Option Mind) → old.up ≡ o
-      → NodeSteps reads puts fails old input r new → IsHonest new.storage → IsHonest old.storage
-  honest_mind old new input r None up h honest = subst (λ (n : NodeState (Script S)). IsHonest n.storage) (h.down up).1 honest
+      → NodeSteps storages old input r new → storages.IsHonest new.storage → storages.IsHonest old.storage
+  honest_mind old new input r None up h honest = subst (λ (n : NodeState (Script S)). storages.IsHonest n.storage) (h.down up).1 honest
   honest_mind old new input r (Some m) up h honest =
       honest_result old new m input r
-      (subst (λ (o : Option Mind). IfSome o (λ n. IfOk r (λ told. TakesInput reads puts old n input told new))) up h.taken)
+      (subst (λ (o : Option Mind). IfSome o (λ n. IfOk r (λ told. TakesInput storages old n input told new))) up h.taken)
       (subst (λ (o : Option Mind). IfSome o (λ n. IfErr r (λ f. MatchBool (is_stop_fault f)
-      (StopsOnInput reads puts fails old n input f new) (RefusesInput old n input f new)))) up h.refused) honest
+      (StopsOnInput storages old n input f new) (RefusesInput old n input f new)))) up h.refused) honest
 
-  pub honest_before : (old new : NodeState (Script S)) (input : Input) (r : Result Told NodeFault) → NodeSteps reads puts fails old input r new
-      → IsHonest new.storage → IsHonest old.storage
+  pub honest_before : (old new : NodeState (Script S)) (input : Input) (r : Result Told NodeFault) → NodeSteps storages old input r new
+      → storages.IsHonest new.storage → storages.IsHonest old.storage
   honest_before old new input r h honest = honest_mind old new input r old.up refl h honest

@@ -8,8 +8,9 @@ use Rattle.synod.specs.Minds.{blank}
 use Rattle.synod.proofs.Thinking.{none_in}
 use Rattle.stable.specs.Records.{Records}
 use Rattle.stable.specs.Script.{Script}
-use Rattle.stable.specs.declared.key.Key.{Key}
 use Rattle.stable.specs.declared.key.Key.TheVariants as key
+use Rattle.stable.specs.declared.stable.Stable.{Ghosts}
+use Rattle.stable.specs.Storages.{IsLawful}
 use Rattle.acceptor.specs.Accepting.{Accepting, RecordsSay}
 use Rattle.acceptor.specs.Protocol.{RecordsStand}
 use Rattle.acceptor.proofs.SayingOne.{one_promise, one_vote_each}
@@ -25,7 +26,6 @@ use Rattle.world.specs.Reaching.{HoldsSame, NodeStands, SaysRound}
 use Rattle.world.specs.Sized.{IsSized}
 use Rattle.world.specs.States.{NodeState}
 use Rattle.world.proofs.SayingLemmas.{SayBoth}
-use Rattle.world.proofs.StorageLaws.{KeepsLaws}
 
 -- ---- a record says one round
 one_round : (o : Option (List ℕ)) (a b : ℕ) → SaysRound o a → SaysRound o b → a ≡ b
@@ -86,7 +86,7 @@ stands_too records a b p q r says_a says_b stands = record {
   promise = stands.promise ∙ one_promise records a b says_a.acceptor says_b.acceptor;
   vote = λ s. stands.vote s ∙ one_vote_each records a b says_a.acceptor says_b.acceptor s;
   round_ = stands.round_ ∙ one_round (records key.Round) p q says_a.proposer says_b.proposer;
-  floor = stands.floor;
+  floor_ = stands.floor_ ∙ says_a.acceptor.floor ∙ sym says_b.acceptor.floor;
 }
 
 module _ {S : Type 0} {contents : Script S → Records} where
@@ -123,17 +123,16 @@ module _ {S : Type 0} {contents : Script S → Records} where
 abbrev failed_with : NodeFault → Result (Unit {0}) NodeFault
 failed_with f = Err f
 
-module _ {S : Type 0} {contents : Script S → Records} {IsHonest : Script S → Type 0} {reads read_fails : Script S → Script S → Type 0}
-    {puts fails : Script S → Key → List ℕ → Script S → Type 0} (laws : KeepsLaws contents IsHonest reads read_fails puts fails) where
+module _ {S : Type 0} {storages : Ghosts (Script S)} (laws : IsLawful storages) where
   SameAndHonest : NodeState (Script S) → NodeState (Script S) → Type 0
-  SameAndHonest old new = (contents new.storage ≡ contents old.storage) × IsHonest old.storage
+  SameAndHonest old new = (storages.contents new.storage ≡ storages.contents old.storage) × storages.IsHonest old.storage
 
-  read_only : (old new : NodeState (Script S)) → reads old.storage new.storage → IsHonest new.storage → SameAndHonest old new
+  read_only : (old new : NodeState (Script S)) → storages.reads old.storage new.storage → storages.IsHonest new.storage → SameAndHonest old new
   unfolding SameAndHonest
   read_only old new h honest = (laws.reads_contents old.storage new.storage h honest, laws.reads_honest old.storage new.storage h honest)
 
-  restart_reads : (old new : NodeState (Script S)) (result : Result (Unit {0}) NodeFault) → Restarts contents IsHonest reads read_fails old result new
-      → IsHonest new.storage → SameAndHonest old new
+  restart_reads : (old new : NodeState (Script S)) (result : Result (Unit {0}) NodeFault) → Restarts storages old result new
+      → storages.IsHonest new.storage → SameAndHonest old new
   unfolding SameAndHonest
   restart_reads old new (Ok x) h honest = read_only old new h.up.1 honest
   restart_reads old new (Err f) h honest = elim h.other [
@@ -143,19 +142,19 @@ module _ {S : Type 0} {contents : Script S → Records} {IsHonest : Script S →
     | inr other ↦ read_only old new other.1 honest
   ]
 
-  pub restart_honest : (old new : NodeState (Script S)) (result : Result (Unit {0}) NodeFault) → Restarts contents IsHonest reads read_fails old result new
-      → IsHonest new.storage → IsHonest old.storage
+  pub restart_honest : (old new : NodeState (Script S)) (result : Result (Unit {0}) NodeFault) → Restarts storages old result new
+      → storages.IsHonest new.storage → storages.IsHonest old.storage
   unfolding SameAndHonest
   restart_honest old new result h honest = (restart_reads old new result h honest).1
 
-  loads_or_down : (old new : NodeState (Script S)) (result : Result (Unit {0}) NodeFault) → Restarts contents IsHonest reads read_fails old result new
-      → IsHonest new.storage → IfSome new.up (IsLoaded (contents old.storage) old.id old.nodes)
+  loads_or_down : (old new : NodeState (Script S)) (result : Result (Unit {0}) NodeFault) → Restarts storages old result new
+      → storages.IsHonest new.storage → IfSome new.up (IsLoaded (storages.contents old.storage) old.id old.nodes)
   loads_or_down old new (Ok x) h honest = h.loads honest
-  loads_or_down old new (Err f) h honest = subst (λ (o : Option Mind). IfSome o (IsLoaded (contents old.storage) old.id old.nodes)) (sym h.down) tt
+  loads_or_down old new (Err f) h honest = subst (λ (o : Option Mind). IfSome o (IsLoaded (storages.contents old.storage) old.id old.nodes)) (sym h.down) tt
 
   pub restart_stands : (old new : NodeState (Script S)) (result : Result (Unit {0}) NodeFault) (r : synod_records.Records Command)
-      (s : synod_minds.Mind Command) → Restarts contents IsHonest reads read_fails old result new → IsHonest new.storage → NodeStands contents old r s
-      → NodeStands contents new r blank
+      (s : synod_minds.Mind Command) → Restarts storages old result new → storages.IsHonest new.storage → NodeStands storages.contents old r s
+      → NodeStands storages.contents new r blank
   unfolding SameAndHonest
   restart_stands old new result r s h honest stands =
       up_again old new r stands.accepting stands.round new.up refl (restart_reads old new result h honest).0

@@ -1,5 +1,5 @@
 -- What is allowed is safe.
-use Rattle.std.proofs.Common.{◌≡◌, ◌⊎◌, ℕ, zero, suc, ◌<◌, inl, inr, List, [], ◌∷◌, All, map, length, slice_get, Option, Some, None, IfSome, Contains, option_map, refl, sym, ap, subst, ◌∙◌, arith}
+use Rattle.std.proofs.Common.{◌≡◌, ◌⊎◌, ℕ, zero, suc, ◌<◌, inl, inr, List, [], ◌∷◌, All, map, length, slice_get, Bool, Option, Some, None, IfSome, Contains, option_map, refl, sym, ap, subst, ◌∙◌, arith}
 use Rattle.std.proofs.Math.ListN.{get_or}
 use Rattle.std.proofs.lemmas.List.{length-map}
 use Rattle.std.proofs.lemmas.List.Elements.{All-nil}
@@ -8,6 +8,7 @@ use Rattle.synod.specs.Records.{no_records as nothing_written}
 use Rattle.synod.specs.Minds.{blank}
 use Rattle.synod.specs.History.{Learning}
 use Rattle.synod.specs.Chosen.{Chosen}
+use Rattle.synod.specs.Majorities.{IsMajority, counted}
 use Rattle.synod.specs.Runs as synod_runs
 use Rattle.synod.specs.Acts as act
 use Rattle.synod.specs.declared.ballot.Ballot.{Ballot}
@@ -16,6 +17,7 @@ use Rattle.synod.proofs.Doing.{does_nothing}
 use Rattle.synod.proofs.Thinking.{none_in}
 use Rattle.synod.proofs.Running.{agreed_lem}
 use Rattle.stable.specs.Records.{Records, no_records}
+use Rattle.stable.specs.declared.stable.Stable.{Ghosts}
 use Rattle.stable.specs.Script.{Script, Write}
 use Rattle.acceptor.specs.Accepting.{Accepting}
 use Rattle.acceptor.specs.Protocol.{RecordsStand}
@@ -25,17 +27,19 @@ use Rattle.sessions.specs.declared.command.Command.TheVariants.{NoOp, Request}
 use Rattle.wire.specs.declared.frames.envelope.Envelope.{Envelope}
 use Rattle.world.specs.declared.lists.Submission.{Submission}
 use Rattle.world.specs.declared.lists.Learnt.{Learnt}
-use Rattle.world.specs.Explaining.{IsGrounded, LearntAgree, LearntGrounded}
+use Rattle.world.specs.Explaining.{LearntAgree, LearntGrounded}
 use Rattle.world.specs.Flushing.{IsFresh, IsStart, IsStarted}
 use Rattle.world.specs.Loading.{IsLoaded}
-use Rattle.world.specs.Protocol.{fleet, frame_of, learning_of, asked_of, command_of, IsWellTold}
-use Rattle.world.specs.Reaching.{NodeStands, TookEffect, StandsAt, IsAllowed}
-use Rattle.world.specs.Safety.{HasAgreed}
+use Rattle.world.specs.Protocol.{fleet, frame_of, learning_of}
+use Rattle.world.specs.Reaching.{NodeStands, TookEffect, StandsAt, IsAllowed, AreHonest}
+use Rattle.world.specs.Safety.{HasAgreed, writes_of}
 use Rattle.world.specs.States.{NodeState}
+use Rattle.world.specs.Submissions.{asked_of, command_of, IsGrounded}
 use Rattle.world.specs.Voting.{vote_put, HasVote, IsChosen, HasChosen}
 use Rattle.world.specs.Worlds.{WorldState, submission_of}
 use Rattle.world.proofs.RestartLemmas.{up_again}
 use Rattle.world.proofs.SayingLemmas.{SayBoth}
+use Rattle.world.proofs.VotesStand.{each_held}
 
 -- an element of a list that is told of one by one
 map_contains : {A B : Type 0} (f : A → B) (xs : List A) (x : A) → Contains xs x → Contains (map f xs) (f x)
@@ -60,21 +64,23 @@ submitted_in submitted (Request r) (inr c) =
     }
 
 module _ {S : Type 0} where
-  chosen_of : (w : WorldState S) (h : HasAgreed w) (t : Learnt) → Contains w.learnt t → Chosen (length w.nodes) h.history t.slot t.command
+  chosen_of : (w : WorldState S) (h : HasAgreed w) (t : Learnt) → Contains w.learnt t → Chosen (length w.nodes) h.state.past t.slot t.command
   chosen_of w h t c = h.agreed.learnt (learning_of t) (subst (λ (l : List (Learning Command)). Contains l (learning_of t)) (sym h.learnt)
       (map_contains learning_of w.learnt t c))
 
-  pub learnt_agree : (w : WorldState S) → HasAgreed w → LearntAgree w
+  grounded_of : (w : WorldState S) (h : HasAgreed w) (slot : ℕ) (c : Command) → Chosen (length w.nodes) h.state.past slot c → IsGrounded w.submitted c
+  grounded_of w h slot c chosen = submitted_in w.submitted c (elim (h.agreed.submitted slot c chosen) [
+    | inl none ↦ inl none
+    | inr asked ↦ inr (subst (λ (l : List Command). Contains l c) h.submitted asked)
+  ])
+
+  pub learnt_agree : (w : WorldState S) → HasAgreed w → LearntAgree w.learnt
   learnt_agree w h t u ct cu same =
       h.agreed.one t.slot t.command u.command (chosen_of w h t ct)
-      (subst (λ s. Chosen (length w.nodes) h.history s u.command) (sym same) (chosen_of w h u cu))
+      (subst (λ s. Chosen (length w.nodes) h.state.past s u.command) (sym same) (chosen_of w h u cu))
 
-  pub learnt_grounded : (w : WorldState S) → HasAgreed w → LearntGrounded w
-  learnt_grounded w h t c =
-      submitted_in w.submitted t.command (elim (h.agreed.submitted t.slot t.command (chosen_of w h t c)) [
-        | inl none ↦ inl none
-        | inr asked ↦ inr (subst (λ (l : List Command). Contains l t.command) h.submitted asked)
-      ])
+  pub learnt_grounded : (w : WorldState S) → HasAgreed w → LearntGrounded w.submitted w.learnt
+  learnt_grounded w h t c = grounded_of w h t.slot t.command (chosen_of w h t c)
 
 -- ---- chosen in the past, and by the lists of writes
 if_some : {A : Type 0} (o : Option A) (P : A → Type 0) → ((x : A) → o ≡ Some x → P x) → IfSome o P
@@ -86,52 +92,69 @@ one_there [] i lt = absurd (omega arith)
 one_there (x ∷ xs) zero lt = (x, refl)
 one_there (x ∷ xs) (suc i) lt = one_there xs i (omega (arith, lt))
 
+module _ {S : Type 0} where
+  -- the writes of a node
+  writes_at : (nodes : List (NodeState (Script S))) (i : ℕ) (n : NodeState (Script S)) → slice_get nodes i ≡ Some n
+      → slice_get (writes_of nodes) i ≡ Some n.storage.writes
+  writes_at nodes i n e =
+      slice_get-map (λ (m : NodeState (Script S)). m.storage.writes) nodes i ∙ ap (option_map (λ (m : NodeState (Script S)). m.storage.writes)) e
+
+  length-writes : (nodes : List (NodeState (Script S))) → length (writes_of nodes) ≡ length nodes
+  length-writes nodes = length-map nodes (λ (m : NodeState (Script S)). m.storage.writes)
+
 module _ {S : Type 0} (w : WorldState S) (h : HasAgreed w) where
   abbrev voted : ℕ → Ballot → Command → Vote Command
   voted slot b c = record { slot = slot; ballot = b; command = c }
 
-  by_lists : (slot : ℕ) (c : Command) → Chosen (length w.nodes) h.history slot c → IsChosen w.nodes slot c
+  -- a majority of the nodes, and of their lists
+  same_most : (members : ℕ → Bool) → IsMajority (length w.nodes) (counted members (length w.nodes))
+      → IsMajority (length (writes_of w.nodes)) (counted members (length (writes_of w.nodes)))
+  same_most members most = subst (λ n. IsMajority n (counted members n)) (sym (length-writes w.nodes)) most
+
+  by_lists : (slot : ℕ) (c : Command) → Chosen (length w.nodes) h.state.past slot c → IsChosen (writes_of w.nodes) slot c
   by_lists slot c chosen = (
     chosen.0,
     record {
       members = chosen.1.members;
-      most = chosen.1.most;
-      each = λ a lt e. if_some (slice_get w.nodes a) (λ n. HasVote n.storage.writes (voted slot chosen.0 c))
-          (λ n here. (h.votes a n here (voted slot chosen.0 c)).0 (chosen.1.each a lt e));
+      most = same_most chosen.1.members chosen.1.most;
+      each = λ a lt e.
+          let below : a < length w.nodes = subst (λ n. a < n) (length-writes w.nodes) lt in
+          let n = one_there w.nodes a below in
+          subst (λ (o : Option (List Write)). IfSome o (λ writes. HasVote writes (voted slot chosen.0 c))) (sym (writes_at w.nodes a n.0 n.1))
+          ((h.votes a n.0 n.1 (voted slot chosen.0 c)).0 (chosen.1.each a below e));
     },
   )
 
-  in_the_past : (slot : ℕ) (c : Command) → IsChosen w.nodes slot c → Chosen (length w.nodes) h.history slot c
+  in_the_past : (slot : ℕ) (c : Command) → IsChosen (writes_of w.nodes) slot c → Chosen (length w.nodes) h.state.past slot c
   in_the_past slot c chosen = (
     chosen.0,
     record {
       members = chosen.1.members;
-      most = chosen.1.most;
+      most = subst (λ n. IsMajority n (counted chosen.1.members n)) (length-writes w.nodes) chosen.1.most;
       each = λ a lt e.
           let n = one_there w.nodes a lt in
           let vote : HasVote n.0.storage.writes (voted slot chosen.0 c) =
-          subst (λ (o : Option (NodeState (Script S))). IfSome o (λ m. HasVote m.storage.writes (voted slot chosen.0 c))) n.1 (chosen.1.each a lt e) in
+          subst (λ (o : Option (List Write)). IfSome o (λ writes. HasVote writes (voted slot chosen.0 c))) (writes_at w.nodes a n.0 n.1)
+          (chosen.1.each a (subst (λ n. a < n) (sym (length-writes w.nodes)) lt) e) in
           (h.votes a n.0 n.1 (voted slot chosen.0 c)).1 vote;
     },
   )
 
-  pub has_chosen : HasChosen w
+  pub has_chosen : HasChosen (writes_of w.nodes) w.learnt w.submitted
   has_chosen = record {
-    learnt = λ t c. by_lists t.slot t.command (chosen_of w h t c);
+    all_learnt = λ t c. by_lists t.slot t.command (chosen_of w h t c);
     one = λ slot c d p q. h.agreed.one slot c d (in_the_past slot c p) (in_the_past slot d q);
-    submitted = λ slot c p. submitted_in w.submitted c (elim (h.agreed.submitted slot c (in_the_past slot c p)) [
-      | inl none ↦ inl none
-      | inr asked ↦ inr (subst (λ (l : List Command). Contains l c) h.submitted asked)
-    ]);
+    grounded = λ slot c p. grounded_of w h slot c (in_the_past slot c p);
   }
 
 abbrev nothing_held : Accepting
-nothing_held = record { promise = None; vote = λ s. None }
+nothing_held = record { promise = None; floor = 0; vote = λ s. None }
 
 module _ {S : Type 0} {contents : Script S → Records} where
   pub allowed_agrees : (w : WorldState S) → IsAllowed contents w.nodes w.frames w.learnt w.submitted → HasAgreed w
   allowed_agrees w a = record {
-    history = a.state.past;
+    state = a.state;
+    reached = a.reached;
     frames = a.stands.frames_;
     learnt = a.stands.learnt_;
     submitted = a.stands.submitted_;
@@ -139,26 +162,29 @@ module _ {S : Type 0} {contents : Script S → Records} where
     agreed = agreed_lem (fleet (length w.nodes)) a.state a.reached;
   }
 
-  -- ---- the start
-  started_stands : (i count : ℕ) (n : NodeState (Script S)) → IsStarted contents i count n → NodeStands contents n nothing_written blank
-  started_stands i count n h =
-      let says : SayBoth (contents n.storage) nothing_held zero =
-      subst (λ (c : Records). SayBoth c nothing_held zero) (sym h.fresh.empty) (record { acceptor = RecordsSay-nothing; proposer = refl }) in
-      let stands : RecordsStand nothing_held zero nothing_written = record { promise = refl; vote = λ s. refl; round_ = refl; floor = refl } in
-      let loads : IfSome n.up (IsLoaded (contents n.storage) n.id n.nodes) =
-      subst (λ (c : Records). IfSome n.up (IsLoaded c n.id n.nodes)) (sym h.fresh.empty)
+-- ---- the start
+module _ {S : Type 0} {storages : Ghosts (Script S)} where
+  started_stands : (i count : ℕ) (n : NodeState (Script S)) → IsStarted storages i count n → storages.IsHonest n.storage
+      → NodeStands storages.contents n nothing_written blank
+  started_stands i count n h honest =
+      let empty : storages.contents n.storage ≡ no_records = h.fresh.empty honest in
+      let says : SayBoth (storages.contents n.storage) nothing_held zero =
+      subst (λ (c : Records). SayBoth c nothing_held zero) (sym empty) (record { acceptor = RecordsSay-nothing; proposer = refl }) in
+      let stands : RecordsStand nothing_held zero nothing_written = record { promise = refl; vote = λ s. refl; round_ = refl; floor_ = refl } in
+      let loads : IfSome n.up (IsLoaded (storages.contents n.storage) n.id n.nodes) =
+      subst (λ (c : Records). IfSome n.up (IsLoaded c n.id n.nodes)) (sym empty)
       (subst (λ k. IfSome n.up (IsLoaded no_records k n.nodes)) (sym h.number)
-      (subst (λ k. IfSome n.up (IsLoaded no_records i k)) (sym h.of_all) h.up)) in
+      (subst (λ k. IfSome n.up (IsLoaded no_records i k)) (sym h.of_all) (h.up honest))) in
       up_again n n nothing_written nothing_held zero n.up refl refl says stands loads
 
   -- no put was made, and no vote cast
-  none_put : (s : Script S) (write : Write) → IsFresh contents s → TookEffect contents s write → ⊥
+  none_put : (s : Script S) (write : Write) → IsFresh storages s → TookEffect storages.contents s write → ⊥
   none_put s write fresh (inl c) = none_in write (subst (λ (ws : List Write). Contains ws write) fresh.no_puts c)
   none_put s write fresh (inr u) = none-some write (sym fresh.sure ∙ u.0)
 
-  stands_at_start : (i count : ℕ) (n : NodeState (Script S)) → IsStarted contents i count n → (nodes : ℕ)
-      → StandsAt contents nodes i synod_runs.start.past (synod_runs.here synod_runs.start i) n
-  stands_at_start i count n h nodes = record {
+  stands_at_start : (i count : ℕ) (n : NodeState (Script S)) → IsStarted storages i count n → storages.IsHonest n.storage → (nodes : ℕ)
+      → StandsAt storages.contents nodes i synod_runs.start.past (synod_runs.here synod_runs.start i) n
+  stands_at_start i count n h honest nodes = record {
     listed = λ v. (λ c. absurd (none_in _ c), λ vote. absurd (none_put n.storage (vote_put v) h.fresh (inl vote.written)));
     input = act.Nothing;
     came = tt;
@@ -167,9 +193,10 @@ module _ {S : Type 0} {contents : Script S → Records} where
     unsent = refl;
     unlearnt = refl;
     unsubmitted = refl;
-    stands = started_stands i count n h;
+    stands = started_stands i count n h honest;
     puts = record {
-      shown = λ write shows. absurd (none-some write.1 (ap (λ (c : Records). c write.0) (sym h.fresh.empty) ∙ shows));
+      held = each_held storages.contents n.storage
+          (λ write shows. absurd (none-some write.1 (ap (λ (c : Records). c write.0) (sym (h.fresh.empty honest)) ∙ shows)));
       fit = λ v c. absurd (none_in _ c);
       put = λ v c. absurd (none_in _ c);
       cast = λ v fits t. absurd (none_put n.storage (vote_put v) h.fresh t);
@@ -178,15 +205,15 @@ module _ {S : Type 0} {contents : Script S → Records} where
     up = λ _. h.fresh.sure;
   }
 
-  pub start_allowed : (count : ℕ) (w : WorldState S) → IsStart contents count w → IsAllowed contents w.nodes w.frames w.learnt w.submitted
-  start_allowed count w h = record {
+  pub start_allowed : (count : ℕ) (w : WorldState S) → IsStart storages count w → AreHonest storages.IsHonest w.nodes
+      → IsAllowed storages.contents w.nodes w.frames w.learnt w.submitted
+  start_allowed count w h honest = record {
     state = synod_runs.start;
     reached = record { steps = []; run = refl };
     stands = record {
-      node = λ i n e. stands_at_start i count n (h.nodes.each i n e) (length w.nodes);
+      node = λ i n e. stands_at_start i count n (h.nodes.each i n e) (honest i n e) (length w.nodes);
       frames_ = sym (ap (λ (x : WorldState S). map frame_of x.frames) h.nothing);
       learnt_ = sym (ap (λ (x : WorldState S). map learning_of x.learnt) h.nothing);
       submitted_ = sym (ap (λ (x : WorldState S). map command_of x.submitted) h.nothing);
     };
-    told = subst (λ (l : List Envelope). All (λ e. IsWellTold e.message) l) (sym (ap (λ (x : WorldState S). x.frames) h.nothing)) (All-nil (λ e. IsWellTold e.message));
   }

@@ -16,7 +16,7 @@ use Rattle.world.specs.declared.fault.NodeFault.TheVariants as fault
 use Rattle.world.specs.declared.input.Input.{Input}
 use Rattle.world.specs.declared.log.TheConstants.{MOST_WAITING}
 use Rattle.world.specs.declared.input.Input.TheVariants as input
-use Rattle.world.specs.Campaigning.{Campaigning}
+use Rattle.world.specs.Campaigning.{Campaigning, told_here}
 use Rattle.world.specs.Faults.{is_stop_fault}
 use Rattle.wire.specs.FrameSpelling.{MessageFits}
 use Rattle.world.specs.Fitting.{InputFits}
@@ -130,12 +130,12 @@ input_said m input.Tick records w e fits none both = no_write e both
 -- ---- that is what the node holds then
 held_after_message : (m : Mind) (from : ℕ) (message : Message) (new : Mind) (told : Told) → TakesMessage m from message new told
     → (new.accepting ≡ after_acceptor m message) × (new.proposing.round ≡ m.proposing.round)
-held_after_message m from (Prepare ballot first) new told h = (ap (λ (x : Mind). x.accepting) h.0, ap (λ (x : Mind). x.proposing.round) h.0)
+held_after_message m from (Prepare ballot first) new told h = (ap (λ (x : Mind). x.accepting) h.2, ap (λ (x : Mind). x.proposing.round) h.2)
 held_after_message m from (Promise p) new told h = (
   ap (λ (x : Mind). x.accepting) h.2.leaves,
   ap (λ (x : Mind). x.proposing.round) h.2.leaves ∙ if_round (is_full m) h.0 (filled h.0) m.proposing.round
-      (counted_round m.proposing h.0 from p.ballot p.first p.entries m.proposing.campaign h.1)
-      (filled_round h.0 h.0.campaign ∙ counted_round m.proposing h.0 from p.ballot p.first p.entries m.proposing.campaign h.1),
+      (counted_round m.proposing h.0 from p.ballot p.first (told_here p.entries) m.proposing.campaign h.1)
+      (filled_round h.0 h.0.campaign ∙ counted_round m.proposing h.0 from p.ballot p.first (told_here p.entries) m.proposing.campaign h.1),
 )
 held_after_message m from (Nack n) new told h = (ap (λ (x : Mind). x.accepting) h.1, ap (λ (p : Proposing). p.round) h.0.leaves)
 held_after_message m from (Accept v) new told h = (ap (λ (x : Mind). x.accepting) h.0, ap (λ (x : Mind). x.proposing.round) h.0)

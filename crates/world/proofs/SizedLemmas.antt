@@ -10,7 +10,7 @@ use Rattle.wire.specs.declared.frames.message.Message.{Message}
 use Rattle.wire.specs.declared.frames.message.Message.TheVariants.{Prepare, Promise, Nack, Accept, Accepted, Ask, Decided}
 use Rattle.world.specs.declared.input.Input.{Input}
 use Rattle.world.specs.declared.input.Input.TheVariants as input
-use Rattle.world.specs.Campaigning.{Campaigning, IsCounted, CountsPromise}
+use Rattle.world.specs.Campaigning.{Campaigning, IsCounted, CountsPromise, told_here}
 use Rattle.world.specs.Minds.{Mind, Takes, TakesMessage, with_request, waits, is_full, after_learning}
 use Rattle.world.specs.Outputs.{Told}
 use Rattle.world.specs.Proposing.{Proposing, fills, filled, may_propose, closed, CountsInCampaign}
@@ -60,9 +60,9 @@ closed_seven None seven = tt
 closed_seven (Some k) seven = seven
 
 message_seven : (m : Mind) (from : ℕ) (message : Message) (new : Mind) (told : Told) → TakesMessage m from message new told → IsSized m → IsSized new
-message_seven m from (Prepare ballot first) new told h seven = subst (λ (x : Mind). IsSized x) (sym h.0) seven
+message_seven m from (Prepare ballot first) new told h seven = subst (λ (x : Mind). IsSized x) (sym h.2) seven
 message_seven m from (Promise p) new told h seven =
-    let heard = heard_seven m.proposing h.0 from p.ballot p.first p.entries m.proposing.campaign refl h.1 seven in
+    let heard = heard_seven m.proposing h.0 from p.ballot p.first (told_here p.entries) m.proposing.campaign refl h.1 seven in
     subst (λ (x : Mind). IsSized x) (sym h.2.leaves) (if_seven (is_full m) h.0 (filled h.0) heard (filled_seven h.0 h.0.campaign refl heard))
 message_seven m from (Nack n) new told h seven = refused_seven m.proposing.campaign new.proposing.campaign n.ballot h.0.over h.0.not_over h.0.idle seven
 message_seven m from (Accept v) new told h seven = subst (λ (x : Mind). IsSized x) (sym h.0) seven

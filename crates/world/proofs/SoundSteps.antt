@@ -2,8 +2,9 @@
 use Rattle.std.proofs.Common.{◌≡◌, ℕ, List, [], Option, Some, None, IfSome, IsSome, refl, sym, ap, subst, ◌∙◌}
 use Rattle.stable.specs.Records.{Records, no_records}
 use Rattle.stable.specs.Script.{Script}
-use Rattle.stable.specs.declared.key.Key.{Key}
 use Rattle.stable.specs.declared.scripted.Failing.{Failing}
+use Rattle.stable.specs.declared.stable.Stable.{Ghosts}
+use Rattle.stable.specs.Storages.{IsLawful}
 use Rattle.sessions.specs.Asked.{Asked}
 use Rattle.sessions.specs.Standing.{StandsFor}
 use Rattle.world.specs.declared.event.Event.{Event}
@@ -23,15 +24,20 @@ use Rattle.world.proofs.FleetSteps.{step_fleet}
 use Rattle.world.proofs.ListedPuts.{KeepsPuts}
 use Rattle.world.proofs.RestartLemmas.{restart_honest}
 use Rattle.world.proofs.SafetyLemmas.{allowed_agrees, has_chosen, learnt_agree, learnt_grounded, start_allowed}
-use Rattle.world.proofs.StorageLaws.{KeepsLaws}
 use Rattle.world.proofs.Tellings.{steps_tell, start_tells}
+use Rattle.world.proofs.Validity.{start_valid, step_valid}
 use Rattle.world.proofs.WorldMoves.{honest_nodes, honest_took, step_allowed, submission_nodes, answered_nodes}
 
 -- what is sound is safe
 pub sound_is_safe : {S : Type 0} {contents : Script S → Records} (w : WorldState S) → IsSound contents w → IsSafe w
 sound_is_safe w sound =
     let agreed : HasAgreed w = allowed_agrees w sound.allowed in
-    record { agreed = agreed; chosen = has_chosen w agreed; explained = explained w sound.tells (learnt_agree w agreed) (learnt_grounded w agreed) }
+    record {
+      agreed = agreed;
+      chosen = has_chosen w agreed;
+      explained = explained w sound.tells (learnt_agree w agreed) (learnt_grounded w agreed);
+      valid = sound.valid;
+    }
 
 pub safe_if_honest : {S : Type 0} {contents : Script S → Records} {IsHonest : Script S → Type 0} (w : WorldState S) → IsSoundIfHonest contents IsHonest w
     → AreHonest IsHonest w.nodes → IsSafe w
@@ -39,42 +45,43 @@ safe_if_honest w h honest = sound_is_safe w (h.sound honest)
 
 -- ---- the start
 -- a node that has just started has learnt and executed nothing
-unlearnt_yet : {S : Type 0} (contents : Script S → Records) (i count : ℕ) (n : NodeState (Script S)) (m : Mind) → IsStarted contents i count n → n.up ≡ Some m
-    → (m.learning.learnt ≡ None) × StandsFor m.machine []
-unlearnt_yet contents i count n m h up =
-    let loads : IsLoaded no_records i count m = subst (λ (o : Option Mind). IfSome o (IsLoaded no_records i count)) up h.up in
+unlearnt_yet : {S : Type 0} (storages : Ghosts (Script S)) (i count : ℕ) (n : NodeState (Script S)) (m : Mind) → IsStarted storages i count n
+    → storages.IsHonest n.storage → n.up ≡ Some m → (m.learning.learnt ≡ None) × StandsFor m.machine []
+unlearnt_yet storages i count n m h honest up =
+    let loads : IsLoaded no_records i count m = subst (λ (o : Option Mind). IfSome o (IsLoaded no_records i count)) up (h.up honest) in
     (ap (λ (l : Learning). l.learnt) loads.learning, loads.machine)
 
-pub start_sound : {S : Type 0} (contents : Script S → Records) (IsHonest : Script S → Type 0) (count : ℕ) (w : WorldState S) → IsStart contents count w
-    → IsSoundIfHonest contents IsHonest w
-start_sound contents IsHonest count w start = record {
+pub start_sound : {S : Type 0} (storages : Ghosts (Script S)) (count : ℕ) (w : WorldState S) → IsStart storages count w
+    → IsSoundIfHonest storages.contents storages.IsHonest w
+start_sound storages count w start = record {
   sound = λ honest. record {
-    allowed = start_allowed count w start;
+    allowed = start_allowed count w start honest;
     tells = start_tells w (ap (λ (x : WorldState _). x.learnt) start.nothing) (ap (λ (x : WorldState _). x.replies) start.nothing)
-        (ap (λ (x : WorldState _). x.answers) start.nothing) (λ i n m e up. unlearnt_yet contents i count n m (start.nodes.each i n e) up);
+        (ap (λ (x : WorldState _). x.answers) start.nothing)
+        (λ i n m e up. unlearnt_yet storages i count n m (start.nodes.each i n e) (honest i n e) up);
+    valid = start_valid w (ap (λ (x : WorldState _). x.submitted) start.nothing);
   };
 }
 
-module _ {S : Type 0} {contents : Script S → Records} {IsHonest : Script S → Type 0} {reads read_fails : Script S → Script S → Type 0}
-    {puts fails : Script S → Key → List ℕ → Script S → Type 0} (laws : KeepsLaws contents IsHonest reads read_fails puts fails)
-    (armed_honest : (s : Script S) (f : Failing) → IsHonest (record s { armed = Some f }) → IsHonest s)
-    (armed_contents : (s : Script S) (f : Failing) → contents (record s { armed = Some f }) ≡ contents s)
-    (lists : KeepsPuts contents IsHonest reads read_fails puts fails) where
+module _ {S : Type 0} {storages : Ghosts (Script S)} (laws : IsLawful storages)
+    (armed_honest : (s : Script S) (f : Failing) → storages.IsHonest (record s { armed = Some f }) → storages.IsHonest s)
+    (armed_contents : (s : Script S) (f : Failing) → storages.contents (record s { armed = Some f }) ≡ storages.contents s)
+    (lists : KeepsPuts storages) where
   -- ---- where every storage is honest after a step it was so before
   abbrev Honest : WorldState S → Type 0
-  Honest w = AreHonest IsHonest w.nodes
+  Honest w = AreHonest storages.IsHonest w.nodes
 
   same_nodes : (old new : WorldState S) → new.nodes ≡ old.nodes → Honest new → Honest old
-  same_nodes old new e honest = subst (λ (x : List (NodeState (Script S))). AreHonest IsHonest x) e honest
+  same_nodes old new e honest = subst (λ (x : List (NodeState (Script S))). AreHonest storages.IsHonest x) e honest
 
-  received_honest : (old : WorldState S) (frame : _) (new : WorldState S) (o : Option Mind) (h : ReceivesAt reads puts fails old frame new) → h.receiver.up ≡ o
+  received_honest : (old : WorldState S) (frame : _) (new : WorldState S) (o : Option Mind) (h : ReceivesAt storages old frame new) → h.receiver.up ≡ o
       → IsFleet old.nodes old.frames → Honest new → Honest old
   received_honest old frame new None h up fleet honest = same_nodes old new (ap (λ (w : WorldState S). w.nodes) (h.lost up)) honest
   received_honest old frame new (Some m) h up fleet honest =
       let takes = h.taken (subst (λ (o : Option Mind). IsSome o) (sym up) refl) in
       honest_took laws armed_honest armed_contents lists old frame.to (input.Message frame.from frame.message) takes.0 new takes.1 fleet honest
 
-  step_honest : (old : WorldState S) (e : Event) (new : WorldState S) → Steps contents IsHonest reads read_fails puts fails old e new
+  step_honest : (old : WorldState S) (e : Event) (new : WorldState S) → Steps storages old e new
       → IsFleet old.nodes old.frames → Honest new → Honest old
   step_honest old (event.Submit node client number op) new h fleet honest =
       let r : Asked = record { client = client; number = number; op = op } in
@@ -88,37 +95,38 @@ module _ {S : Type 0} {contents : Script S → Records} {IsHonest : Script S →
   step_honest old (event.Tick node) new h fleet honest = honest_took laws armed_honest armed_contents lists old node input.Tick h.0 new h.1 fleet honest
   step_honest old (event.Restart node) new h fleet honest =
       honest_nodes laws armed_honest armed_contents lists old.nodes node h.before h.after h.here (restart_honest laws h.before h.after h.result h.restarts)
-      (subst (λ (x : List (NodeState (Script S))). AreHonest IsHonest x) (ap (λ (w : WorldState S). w.nodes) h.leaves) honest)
+      (subst (λ (x : List (NodeState (Script S))). AreHonest storages.IsHonest x) (ap (λ (w : WorldState S). w.nodes) h.leaves) honest)
   step_honest old (event.Fault node failing) new h fleet honest =
       honest_nodes laws armed_honest armed_contents lists old.nodes node h.before _ h.here (armed_honest h.before.storage failing)
-      (subst (λ (x : List (NodeState (Script S))). AreHonest IsHonest x) (ap (λ (w : WorldState S). w.nodes) h.leaves) honest)
+      (subst (λ (x : List (NodeState (Script S))). AreHonest storages.IsHonest x) (ap (λ (w : WorldState S). w.nodes) h.leaves) honest)
   step_honest old (event.Query node query) new h fleet honest =
       same_nodes old new (ap (λ (w : WorldState S). w.nodes) h.leaves ∙ answered_nodes laws armed_honest armed_contents lists old node query h.result) honest
 
   -- ---- a step
-  pub step_sound : (old : WorldState S) (e : Event) (new : WorldState S) → Steps contents IsHonest reads read_fails puts fails old e new
-      → IsFleet old.nodes old.frames → IsSoundIfHonest contents IsHonest old → IsSoundIfHonest contents IsHonest new
+  pub step_sound : (old : WorldState S) (e : Event) (new : WorldState S) → Steps storages old e new
+      → IsFleet old.nodes old.frames → IsSoundIfHonest storages.contents storages.IsHonest old → IsSoundIfHonest storages.contents storages.IsHonest new
   step_sound old e new h fleet before = record {
     sound = λ honest. record {
       allowed = step_allowed laws armed_honest armed_contents lists old e new h fleet (λ was. (before.sound was).allowed) honest;
-      tells = steps_tell contents IsHonest reads read_fails puts fails old new e h honest (before.sound (step_honest old e new h fleet honest)).tells;
+      tells = steps_tell storages old new e h honest (before.sound (step_honest old e new h fleet honest)).tells;
+      valid = step_valid storages old e new h (before.sound (step_honest old e new h fleet honest)).valid;
     };
   }
 
   -- ---- deliveries one after the other
   record Kept (w : WorldState S) : Type 0 where
     fleet : IsFleet w.nodes w.frames
-    sound : IsSoundIfHonest contents IsHonest w
+    sound : IsSoundIfHonest storages.contents storages.IsHonest w
 
-  delivers_kept : (old : WorldState S) (n : ℕ) (new : WorldState S) → Delivers reads puts fails old n new → Kept old → Kept new
+  delivers_kept : (old : WorldState S) (n : ℕ) (new : WorldState S) → Delivers storages old n new → Kept old → Kept new
   delivers_kept old _ new Delivers.none kept = kept
   delivers_kept old _ new (Delivers.more n k between new_ before lowest delivers) kept =
       let then = delivers_kept old n between before kept in
       record {
-        fleet = step_fleet reads puts fails contents IsHonest read_fails between (event.Deliver k) new delivers then.fleet;
+        fleet = step_fleet storages between (event.Deliver k) new delivers then.fleet;
         sound = step_sound between (event.Deliver k) new delivers then.fleet then.sound;
       }
 
-  pub delivers_sound : (old : WorldState S) (n : ℕ) (new : WorldState S) → Delivers reads puts fails old n new → IsFleet old.nodes old.frames
-      → IsSoundIfHonest contents IsHonest old → IsSoundIfHonest contents IsHonest new
+  pub delivers_sound : (old : WorldState S) (n : ℕ) (new : WorldState S) → Delivers storages old n new → IsFleet old.nodes old.frames
+      → IsSoundIfHonest storages.contents storages.IsHonest old → IsSoundIfHonest storages.contents storages.IsHonest new
   delivers_sound old n new h fleet sound = (delivers_kept old n new h (record { fleet = fleet; sound = sound })).sound

@@ -62,7 +62,7 @@ module _ (nodes i : ℕ) (x : Local Command) where
         promise = seen.records.promise;
         vote = seen.records.vote;
         round_ = refl;
-        floor = seen.records.floor;
+        floor_ = seen.records.floor_;
       } in
       record {
         after = act.acted i x (act.Begins b zero);

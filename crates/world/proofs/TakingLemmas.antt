@@ -6,7 +6,7 @@ use Rattle.synod.specs.Acts.{Local}
 use Rattle.synod.proofs.Doing.{does_nothing}
 use Rattle.acceptor.specs.declared.answer.Answer.{Answer}
 use Rattle.acceptor.specs.declared.answer.Answer.TheVariants as answer
-use Rattle.acceptor.specs.Accepting.{Accepting, prepare_answer, after_prepare, accept_answer, after_accept}
+use Rattle.acceptor.specs.Accepting.{Accepting, after_prepare, accept_answer, after_accept}
 use Rattle.acceptor.specs.Protocol.{MayAnswer, answer_frames}
 use Rattle.acceptor.proofs.AllowedLemmas.{prepare_answers, accept_answers}
 use Rattle.sessions.specs.declared.command.Command.{Command}
@@ -17,7 +17,7 @@ use Rattle.world.specs.declared.input.Input.TheVariants as input
 use Rattle.world.specs.Fleets.{ComesFrom}
 use Rattle.world.specs.Minds.{Mind, refuses, Takes, answer_sends}
 use Rattle.world.specs.Outputs.{Told, sent, nothing}
-use Rattle.world.specs.Protocol.{fleet, learnings, frame_of, input_of, IsNode, IsSeen, IsWellToldInput, MayTake}
+use Rattle.world.specs.Protocol.{fleet, learnings, frame_of, input_of, IsNode, IsSeen, MayTake}
 use Rattle.world.specs.Sized.{IsSized}
 use Rattle.world.proofs.AllowedSends.{frames_to_all}
 use Rattle.world.proofs.AllowedProposer.{tick_lem, timeout_lem, nack_lem, submit_lem}
@@ -73,27 +73,28 @@ module _ (nodes i : ℕ) (old new : Mind) (told : Told) (x : Local Command) (few
   }
 
   takes_message : (from : ℕ) (message : Message) → refuses old (input.Message from message) ≡ None → Takes old (input.Message from message) new told
-      → IsWellToldInput (input.Message from message) → ComesFrom nodes (input.Message from message) → MayTake nodes i (input.Message from message) x new told
-  takes_message from (Prepare ballot first) none h well sender =
-      answers from (Prepare ballot first) (after_prepare old.accepting ballot) (prepare_answer old.accepting ballot first) h.0 h.1
-      (prepare_answers (fleet nodes) i (input_of (input.Message from (Prepare ballot first))) x old.accepting old.proposing.round seen.records nodes from first ballot)
-  takes_message from (Promise p) none h well sender = promise_lem nodes i old new from p told x few sender own sized h well seen
-  takes_message from (Nack n) none h well sender = nack_lem nodes i old new from n told x h seen
-  takes_message from (Accept v) none h well sender =
+      → ComesFrom nodes (input.Message from message) → MayTake nodes i (input.Message from message) x new told
+  takes_message from (Prepare ballot first) none h sender =
+      answers from (Prepare ballot first) (after_prepare old.accepting ballot) h.0 h.2 h.3
+      (prepare_answers (fleet nodes) i (input_of (input.Message from (Prepare ballot first))) x old.accepting old.proposing.round seen.records nodes from first ballot
+      h.0 h.1)
+  takes_message from (Promise p) none h sender = promise_lem nodes i old new from p told x few sender own sized h seen
+  takes_message from (Nack n) none h sender = nack_lem nodes i old new from n told x h seen
+  takes_message from (Accept v) none h sender =
       answers from (Accept v) (after_accept old.accepting v) (accept_answer old.accepting v) h.0 h.1
       (accept_answers (fleet nodes) i (input_of (input.Message from (Accept v))) x old.accepting old.proposing.round seen.records nodes from v refl)
-  takes_message from (Accepted v) none h well sender = allowed nodes i from v old x few own seen new told h
-  takes_message from (Ask slot) none h well sender = idles from (Ask slot) h.0 h.1
-  takes_message from (Decided slot command) none h well sender = idles from (Decided slot command) h.0 h.1
+  takes_message from (Accepted v) none h sender = allowed nodes i from v old x few own seen new told h
+  takes_message from (Ask slot) none h sender = idles from (Ask slot) h.0 h.1
+  takes_message from (Decided slot command) none h sender = idles from (Decided slot command) h.0 h.1
 
-  takes : (i_ : Input) → refuses old i_ ≡ None → Takes old i_ new told → IsWellToldInput i_ → ComesFrom nodes i_ → MayTake nodes i i_ x new told
-  takes (input.Submit r) none h well sender = submit_lem nodes i old new r told x (omega (arith, there)) own none h seen
-  takes (input.Message from message) none h well sender = takes_message from message none h well sender
-  takes input.Timeout none h well sender = timeout_lem nodes i old new told x own h seen
-  takes input.Tick none h well sender = tick_lem nodes i old new told x own h seen
+  takes : (i_ : Input) → refuses old i_ ≡ None → Takes old i_ new told → ComesFrom nodes i_ → MayTake nodes i i_ x new told
+  takes (input.Submit r) none h sender = submit_lem nodes i old new r told x (omega (arith, there)) own none h seen
+  takes (input.Message from message) none h sender = takes_message from message none h sender
+  takes input.Timeout none h sender = timeout_lem nodes i old new told x own h seen
+  takes input.Tick none h sender = tick_lem nodes i old new told x own h seen
 
 pub taking_allowed : (nodes i : ℕ) (old new : Mind) (input : Input) (told : Told) (x : Local Command) → nodes ≤ 7 → i < nodes
-    → IsNode i nodes old → IsSized old → refuses old input ≡ None → Takes old input new told → IsWellToldInput input → ComesFrom nodes input
+    → IsNode i nodes old → IsSized old → refuses old input ≡ None → Takes old input new told → ComesFrom nodes input
     → IsSeen old x → MayTake nodes i input x new told
-taking_allowed nodes i old new input told x few there own sized none h well sender seen =
-    takes nodes i old new told x few there own sized seen input none h well sender
+taking_allowed nodes i old new input told x few there own sized none h sender seen =
+    takes nodes i old new told x few there own sized seen input none h sender

@@ -1,13 +1,13 @@
 -- Each step keeps what the lists of a world tell of one another.
-use Rattle.std.proofs.Common.{◌≡◌, ℕ, zero, suc, ◌⊎◌, inl, inr, List, [], ◌∷◌, ◌++◌, length, Bool, true, false, Option, Some, None, Result, Ok, Err, is_some, IsSome, IfSome, IfOk, IfErr, OnOk, OnErr, MatchBool, Contains, slice_get, slice_set, if◌then◌else◌, refl, sym, ap, ◌∙◌, subst, append-nil}
+use Rattle.std.proofs.Common.{◌≡◌, ℕ, zero, suc, ◌+◌, ◌⊎◌, inl, inr, List, [], ◌∷◌, ◌++◌, length, Bool, true, false, Option, Some, None, Result, Ok, Err, is_some, IsSome, IfSome, IfOk, IfErr, OnOk, OnErr, MatchBool, Contains, slice_get, slice_set, if◌then◌else◌, refl, sym, ap, ◌∙◌, subst, append-nil}
 use Rattle.std.specs.List.{list_any}
 use Rattle.std.specs.Option.{option_to_list}
 use Rattle.std.proofs.lemmas.List.Elements.{Contains-append_left, Contains-append_cases, Contains-push, Contains-push_cases}
 use Rattle.std.proofs.lemmas.Option.{cond_some, same_Some}
 use Rattle.stable.specs.Records.{Records}
 use Rattle.stable.specs.Script.{Script}
-use Rattle.stable.specs.declared.key.Key.{Key}
 use Rattle.stable.specs.declared.scripted.Failing.{Failing}
+use Rattle.stable.specs.declared.stable.Stable.{Ghosts}
 use Rattle.synod.proofs.Thinking.{none_in}
 use Rattle.sessions.specs.Asked.{Asked}
 use Rattle.sessions.specs.Machines.{MachineState, after_command, reply_to_command}
@@ -32,6 +32,7 @@ use Rattle.world.specs.declared.lists.Replied.{Replied}
 use Rattle.world.specs.declared.lists.Answered.{Answered}
 use Rattle.world.specs.declared.log.TheConstants.{LOG_SLOTS}
 use Rattle.world.specs.declared.outputs.Executed.{Executed}
+use Rattle.world.specs.declared.outputs.LogEntry.{LogEntry}
 use Rattle.world.specs.Faults.{is_stop_fault}
 use Rattle.world.specs.Learning.{Learning}
 use Rattle.world.specs.Loading.{IsLoaded}
@@ -41,7 +42,7 @@ use Rattle.world.specs.Outputs.{Told, nothing, sent, replied_at}
 use Rattle.world.specs.Proposing.{Proposing, fill_sends, is_of}
 use Rattle.world.specs.States.{NodeState}
 use Rattle.world.specs.Reaching.{AreHonest}
-use Rattle.world.specs.Telling.{HasLearnt, TellsReply, TellsAnswer, Knows, prefix, ListsTell, Tells}
+use Rattle.world.specs.Telling.{WereLearnt, TellsReply, TellsAnswer, Knows, prefix, ListsTell, Tells}
 use Rattle.world.specs.Worlds.{WorldState, TakesAt, SubmitsAt, ReceivesAt, AsksAt, ArmsAt, RestartsAt, Steps, recorded, with_node, with_submission, without_wait, learnt_by, replied_by, answered}
 use Rattle.world.proofs.Hearing.{learns_or_keeps}
 
@@ -75,10 +76,15 @@ set_here (x' ∷ xs) (suc i) x y e = set_here xs i x y e
 abbrev StandsBy : Mind → Type 0
 StandsBy m = StandsFor m.machine (prefix m)
 
+-- a command at the first slot
+abbrev first_entry : Command → LogEntry
+first_entry c = record { slot = zero; command = c }
+
 -- a reply is to what is learnt now, after what was learnt before
-record RepliesNow (before : List Command) (learnt : Option Command) (e : Executed) : Type 0 where
+record RepliesNow (before : List Command) (learnt : Option LogEntry) (e : Executed) : Type 0 where
   request : Asked
-  is : learnt ≡ Some (Request request)
+  is : learnt ≡ Some (first_entry (Request request))
+  position : e.position ≡ length before + 1
   of_client : e.client ≡ request.client
   of_number : e.number ≡ request.number
   replies : RepliesAt (before ++ Request request ∷ []) (length before) request (outcome_code e.reply)
@@ -91,15 +97,30 @@ known_before (Some m) = prefix m
 -- what it knows to be learnt it knew, or it tells it now; and a reply is to what it tells now
 record TellsInput (before after : Option Mind) (told : Told) : Type 0 where
   knows : (m : Mind) → after ≡ Some m → (prefix m ≡ []) ⊎ (((k : Mind) × ((before ≡ Some k) × (prefix m ≡ prefix k)))
-      ⊎ ((c : Command) × ((told.learnt ≡ Some c) × (prefix m ≡ c ∷ []))))
+      ⊎ ((c : Command) × ((told.learnt ≡ Some (first_entry c)) × (prefix m ≡ c ∷ []))))
+  slots : (entry : LogEntry) → told.learnt ≡ Some entry → entry.slot ≡ zero
   stands : (m : Mind) → after ≡ Some m → ((k : Mind) → before ≡ Some k → StandsBy k) → StandsBy m
   replies : ((k : Mind) → before ≡ Some k → StandsBy k) → (e : Executed) → told.executed ≡ Some e → RepliesNow [] told.learnt e
 
-no_reply : (told : Told) → told.executed ≡ None → (e : Executed) → told.executed ≡ Some e → RepliesNow [] told.learnt e
-no_reply told none e f = absurd (let h : None ≡ Some e = sym none ∙ f in cc)
+-- it tells of no slot and of no reply
+record IsSilent (told : Told) : Type 0 where
+  learnt : told.learnt ≡ None
+  executed : told.executed ≡ None
+
+silent : (told : Told) (sends : List Envelope) → told ≡ sent sends → IsSilent told
+silent told sends e = record { learnt = ap (λ (t : Told). t.learnt) e; executed = ap (λ (t : Told). t.executed) e }
+
+says_nothing : IsSilent nothing
+says_nothing = silent nothing [] refl
+
+no_reply : (told : Told) → IsSilent told → (e : Executed) → told.executed ≡ Some e → RepliesNow [] told.learnt e
+no_reply told none e f = absurd (let h : None ≡ Some e = sym none.executed ∙ f in cc)
+
+no_slot : (told : Told) → IsSilent told → (entry : LogEntry) → told.learnt ≡ Some entry → entry.slot ≡ zero
+no_slot told none entry f = absurd (let h : None ≡ Some entry = sym none.learnt ∙ f in cc)
 
 -- a node that is as it was in what it has learnt and executed
-quietly : (old new : Mind) (told : Told) → new.learning ≡ old.learning → new.machine ≡ old.machine → told.executed ≡ None
+quietly : (old new : Mind) (told : Told) → new.learning ≡ old.learning → new.machine ≡ old.machine → IsSilent told
     → TellsInput (Some old) (Some new) told
 quietly old new told same machine none = record {
   knows = λ m e.
@@ -113,6 +134,7 @@ quietly old new told same machine none = record {
       subst StandsBy is
       (subst (λ (l : List Command). StandsFor new.machine l) (sym (ap (λ (l : Learning). option_to_list l.learnt) same))
       (subst (λ (k : MachineState). StandsFor k (prefix old)) (sym machine) (before old refl)));
+  slots = no_slot told none;
   replies = λ before. no_reply told none;
 }
 
@@ -121,7 +143,8 @@ down : (before : Option Mind) (after : Option Mind) → after ≡ None → Tells
 down before after gone = record {
   knows = λ m e. absurd (let h : None ≡ Some m = sym gone ∙ e in cc);
   stands = λ m e before. absurd (let h : None ≡ Some m = sym gone ∙ e in cc);
-  replies = λ before. no_reply nothing refl;
+  slots = no_slot nothing says_nothing;
+  replies = λ before. no_reply nothing says_nothing;
 }
 
 -- one that is as it was
@@ -129,33 +152,40 @@ as_it_was : (before after : Option Mind) → after ≡ before → TellsInput bef
 as_it_was before after same = record {
   knows = λ m e. inr (inl (m, (sym same ∙ e, refl)));
   stands = λ m e stood. stood m (sym same ∙ e);
-  replies = λ stood. no_reply nothing refl;
+  slots = no_slot nothing says_nothing;
+  replies = λ stood. no_reply nothing says_nothing;
 }
 
-told_nothing : (b : Bool) (told : Told) (sends : List Envelope) → told ≡ (if b then nothing else sent sends) → told.executed ≡ None
-told_nothing true told sends e = ap (λ (t : Told). t.executed) e
-told_nothing false told sends e = ap (λ (t : Told). t.executed) e
+told_nothing : (b : Bool) (told : Told) (sends : List Envelope) → told ≡ (if b then nothing else sent sends) → IsSilent told
+told_nothing true told sends e = silent told [] e
+told_nothing false told sends e = silent told sends e
 
 -- the reply to a command that is executed first
-executed_of : (k : MachineState) (p : Proposing) (c : Command) (e : Executed) → executed_reply k p c ≡ Some e
-    → StandsFor k [] → RepliesOneMore k c (reply_to_command k c) → RepliesNow [] (Some c) e
-executed_of k p NoOp e f stands replies = absurd (let h : None ≡ Some e = f in cc)
-executed_of k p (Request r) e f stands replies =
-    let executed_at : Executed = record { client = r.client; number = r.number; reply = reply_to_command k (Request r) } in
+executed_of : (k : MachineState) (p : Proposing) (slot : ℕ) (c : Command) (e : Executed) → executed_reply k p slot c ≡ Some e → slot ≡ zero
+    → StandsFor k [] → RepliesOneMore k c (reply_to_command k c) → RepliesNow [] (Some (first_entry c)) e
+executed_of k p slot NoOp e f first stands replies = absurd (let h : None ≡ Some e = f in cc)
+executed_of k p slot (Request r) e f first stands replies =
+    let executed_at : Executed = record { client = r.client; number = r.number; reply = reply_to_command k (Request r); position = slot + 1 } in
     let is : executed_at ≡ e = (cond_some (list_any (is_of r.client r.number) p.waiting) executed_at e f).1 in
-    subst (λ (x : Executed). RepliesNow [] (Some (Request r)) x) is (record {
+    subst (λ (x : Executed). RepliesNow [] (Some (first_entry (Request r))) x) is (record {
       request = r;
       is = refl;
+      position = ap (λ n. n + 1) first;
       of_client = refl;
       of_number = refl;
       replies = replies.replies [] stands;
     })
 
-abbrev told_all : Mind → Command → Told
-told_all old c = record { learnt = Some c; executed = executed_reply old.machine old.proposing c; sends = [] }
+abbrev told_all : Mind → ℕ → Command → Told
+told_all old slot c = record {
+  learnt = Some (record { slot = slot; command = c });
+  executed = executed_reply old.machine old.proposing slot c;
+  sends = [];
+}
 
 -- a telling by which the slot is learnt, or not
-record LearnsSo (old new : Mind) (c : Command) (learns : Bool) : Type 0 where
+record LearnsSo (old new : Mind) (slot : ℕ) (c : Command) (learns : Bool) : Type 0 where
+  first : learns ≡ true → slot ≡ zero
   -- a slot is learnt once
   fresh : learns ≡ true → old.learning.learnt ≡ None
   learns_ : learns ≡ true → new.learning.learnt ≡ Some c
@@ -164,11 +194,12 @@ record LearnsSo (old new : Mind) (c : Command) (learns : Bool) : Type 0 where
   stands : learns ≡ true → StandsForOneMore old.machine new.machine c
   replies : learns ≡ true → RepliesOneMore old.machine c (reply_to_command old.machine c)
 
-accepted_tells : (old new : Mind) (c : Command) (learns : Bool) (told : Told) → LearnsSo old new c learns
-    → told ≡ (if learns then told_all old c else nothing) → TellsInput (Some old) (Some new) told
-accepted_tells old new c true told so tells =
-    let learnt : told.learnt ≡ Some c = ap (λ (t : Told). t.learnt) tells in
-    let executed : told.executed ≡ executed_reply old.machine old.proposing c = ap (λ (t : Told). t.executed) tells in
+accepted_tells : (old new : Mind) (slot : ℕ) (c : Command) (learns : Bool) (told : Told) → LearnsSo old new slot c learns
+    → told ≡ (if learns then told_all old slot c else nothing) → TellsInput (Some old) (Some new) told
+accepted_tells old new slot c true told so tells =
+    let learnt : told.learnt ≡ Some (first_entry c) =
+    ap (λ (t : Told). t.learnt) tells ∙ ap (λ (s : ℕ). Some (record { slot = s; command = c })) (so.first refl) in
+    let executed : told.executed ≡ executed_reply old.machine old.proposing slot c = ap (λ (t : Told). t.executed) tells in
     let none : prefix old ≡ [] = ap (λ (o : Option Command). option_to_list o) (so.fresh refl) in
     let one : prefix new ≡ c ∷ [] = ap (λ (o : Option Command). option_to_list o) (so.learns_ refl) in
     record {
@@ -177,12 +208,13 @@ accepted_tells old new c true told so tells =
           subst StandsBy (same_Some new m e)
           (subst (λ (l : List Command). StandsFor new.machine l) (sym one)
           ((so.stands refl).stands [] (subst (λ (l : List Command). StandsFor old.machine l) none (before old refl))));
+      slots = λ entry f. sym (ap (λ (x : LogEntry). x.slot) (same_Some (first_entry c) entry (sym learnt ∙ f)));
       replies = λ before e f.
-          subst (λ (o : Option Command). RepliesNow [] o e) (sym learnt)
-          (executed_of old.machine old.proposing c e (sym executed ∙ f)
+          subst (λ (o : Option LogEntry). RepliesNow [] o e) (sym learnt)
+          (executed_of old.machine old.proposing slot c e (sym executed ∙ f) (so.first refl)
           (subst (λ (l : List Command). StandsFor old.machine l) none (before old refl)) (so.replies refl));
     }
-accepted_tells old new c false told so tells =
+accepted_tells old new slot c false told so tells =
     let same : prefix new ≡ prefix old = ap (λ (o : Option Command). option_to_list o) (so.keeps refl) in
     record {
       knows = λ m e. inr (inl (old, (refl, sym (ap prefix (same_Some new m e)) ∙ same)));
@@ -190,7 +222,8 @@ accepted_tells old new c false told so tells =
           subst StandsBy (same_Some new m e)
           (subst (λ (l : List Command). StandsFor new.machine l) (sym same)
           (subst (λ (k : MachineState). StandsFor k (prefix old)) (sym so.executes) (before old refl)));
-      replies = λ before. no_reply told (ap (λ (t : Told). t.executed) tells);
+      slots = no_slot told (silent told [] tells);
+      replies = λ before. no_reply told (silent told [] tells);
     }
 
 takes_tells : (old : Mind) (i : Input) (new : Mind) (told : Told) → Takes old i new told → TellsInput (Some old) (Some new) told
@@ -198,17 +231,18 @@ takes_tells old (input.Submit r) new told t =
     quietly old new told (ap (λ (m : Mind). m.learning) t.0) (ap (λ (m : Mind). m.machine) t.0)
     (told_nothing (waits old r) told (fill_sends (with_request old.proposing r)) t.1)
 takes_tells old (input.Message from (message.Prepare ballot first)) new told t =
-    quietly old new told (ap (λ (m : Mind). m.learning) t.0) (ap (λ (m : Mind). m.machine) t.0) (ap (λ (u : Told). u.executed) t.1)
+    quietly old new told (ap (λ (m : Mind). m.learning) t.2) (ap (λ (m : Mind). m.machine) t.2) (silent told _ t.3)
 takes_tells old (input.Message from (message.Promise p)) new told t =
     quietly old new told (ap (λ (m : Mind). m.learning) t.2.leaves) (ap (λ (m : Mind). m.machine) t.2.leaves)
     (told_nothing (is_full old) told (fill_sends t.0) t.2.tells)
 takes_tells old (input.Message from (message.Nack n)) new told t =
-    quietly old new told (ap (λ (m : Mind). m.learning) t.1) (ap (λ (m : Mind). m.machine) t.1) (ap (λ (u : Told). u.executed) t.2)
+    quietly old new told (ap (λ (m : Mind). m.learning) t.1) (ap (λ (m : Mind). m.machine) t.1) (silent told _ t.2)
 takes_tells old (input.Message from (message.Accept v)) new told t =
-    quietly old new told (ap (λ (m : Mind). m.learning) t.0) (ap (λ (m : Mind). m.machine) t.0) (ap (λ (u : Told). u.executed) t.1)
+    quietly old new told (ap (λ (m : Mind). m.learning) t.0) (ap (λ (m : Mind). m.machine) t.0) (silent told _ t.1)
 takes_tells old (input.Message from (message.Accepted v)) new told t =
     let said = learns_or_keeps old.learning (record { ballot = v.ballot; node = from }) v.slot v.command t.learns new.learning t.hears in
-    accepted_tells old new v.command t.learns told (record {
+    accepted_tells old new v.slot v.command t.learns told (record {
+      first = said.first;
       fresh = said.fresh;
       learns_ = said.learns_;
       keeps = said.keeps;
@@ -217,13 +251,13 @@ takes_tells old (input.Message from (message.Accepted v)) new told t =
       replies = t.replies;
     }) t.tells
 takes_tells old (input.Message from (message.Ask slot)) new told t =
-    quietly old new told (ap (λ (m : Mind). m.learning) t.0) (ap (λ (m : Mind). m.machine) t.0) (ap (λ (u : Told). u.executed) t.1)
+    quietly old new told (ap (λ (m : Mind). m.learning) t.0) (ap (λ (m : Mind). m.machine) t.0) (silent told _ t.1)
 takes_tells old (input.Message from (message.Decided slot command)) new told t =
-    quietly old new told (ap (λ (m : Mind). m.learning) t.0) (ap (λ (m : Mind). m.machine) t.0) (ap (λ (u : Told). u.executed) t.1)
+    quietly old new told (ap (λ (m : Mind). m.learning) t.0) (ap (λ (m : Mind). m.machine) t.0) (silent told _ t.1)
 takes_tells old input.Timeout new told t =
-    quietly old new told (ap (λ (m : Mind). m.learning) t.1) (ap (λ (m : Mind). m.machine) t.1) (ap (λ (u : Told). u.executed) t.2)
+    quietly old new told (ap (λ (m : Mind). m.learning) t.1) (ap (λ (m : Mind). m.machine) t.1) (silent told _ t.2)
 takes_tells old input.Tick new told t =
-    quietly old new told (ap (λ (m : Mind). m.learning) t.0) (ap (λ (m : Mind). m.machine) t.0) (ap (λ (u : Told). u.executed) t.1)
+    quietly old new told (ap (λ (m : Mind). m.learning) t.0) (ap (λ (m : Mind). m.machine) t.0) (silent told _ t.1)
 
 abbrev told_of : Result Told NodeFault → Told
 told_of (Ok told) = told
@@ -233,12 +267,12 @@ stops_or_refuses : (b : Bool) {P Q : Type 0} → MatchBool b P Q → P ⊎ Q
 stops_or_refuses true h = inl h
 stops_or_refuses false h = inr h
 
-module _ {S : Type 0} (reads : S → S → Type 0) (puts fails : S → Key → List ℕ → S → Type 0) where
+module _ {S : Type 0} (storages : Ghosts S) where
   node_tells_at : (before after : NodeState S) (i : Input) (up : Option Mind) (result : Result Told NodeFault) → before.up ≡ up
       → (up ≡ None → (result ≡ Err fault.Down) × (after ≡ before))
-      → IfSome up (λ m. IfOk result (λ told. TakesInput reads puts before m i told after))
+      → IfSome up (λ m. IfOk result (λ told. TakesInput storages before m i told after))
       → IfSome up (λ m. IfErr result (λ f. MatchBool (is_stop_fault f)
-      (StopsOnInput reads puts fails before m i f after) (RefusesInput before m i f after)))
+      (StopsOnInput storages before m i f after) (RefusesInput before m i f after)))
       → TellsInput up after.up (told_of result)
   node_tells_at before after i None (Ok told) here none taken refused =
       absurd (let h : ◌≡◌ {A = Result Told NodeFault} (Ok told) (Err fault.Down) = (none refl).0 in cc)
@@ -251,30 +285,32 @@ module _ {S : Type 0} (reads : S → S → Type 0) (puts fails : S → Key → L
     | inr refuses ↦ as_it_was (Some m) after.up (ap (λ (n : NodeState S). n.up) refuses.leaves ∙ here)
   ]
 
-  node_tells : (before after : NodeState S) (i : Input) (result : Result Told NodeFault) → NodeSteps reads puts fails before i result after
+  node_tells : (before after : NodeState S) (i : Input) (result : Result Told NodeFault) → NodeSteps storages before i result after
       → TellsInput before.up after.up (told_of result)
   node_tells before after i result s = node_tells_at before after i before.up result refl s.down s.taken s.refused
 
 -- ---- and the lists
-abbrev learnt_at : ℕ → Command → Learnt
-learnt_at i c = record { node = i; slot = zero; command = c }
+abbrev learnt_at : ℕ → LogEntry → Learnt
+learnt_at i e = record { node = i; slot = e.slot; command = e.command }
 
 -- what was learnt stays so
-log_stays : (learnt more : List Learnt) (node : ℕ) (log : List Command) → HasLearnt learnt node log → HasLearnt (learnt ++ more) node log
-log_stays learnt more node log has slot c e = Contains-append_left learnt more _ (has slot c e)
+log_stays : (learnt more : List Learnt) (log : List Command) → WereLearnt learnt log → WereLearnt (learnt ++ more) log
+log_stays learnt more log were slot c e =
+    let was = were slot c e in
+    record { entry = was.entry; there = Contains-append_left learnt more was.entry was.there; at = was.at; holds = was.holds }
 
-nothing_learnt : (learnt : List Learnt) (node : ℕ) → HasLearnt learnt node []
-nothing_learnt learnt node slot c e = absurd (let h : None ≡ Some c = e in cc)
+nothing_learnt : (learnt : List Learnt) → WereLearnt learnt []
+nothing_learnt learnt slot c e = absurd (let h : None ≡ Some c = e in cc)
 
-one_learnt : (learnt : List Learnt) (node : ℕ) (c : Command) → Contains learnt (learnt_at node c) → HasLearnt learnt node (c ∷ [])
-one_learnt learnt node c there zero d e = subst (λ (x : Command). Contains learnt (learnt_at node x)) (same_Some c d e) there
+one_learnt : (learnt : List Learnt) (node : ℕ) (c : Command) → Contains learnt (learnt_at node (first_entry c)) → WereLearnt learnt (c ∷ [])
+one_learnt learnt node c there zero d e = record { entry = learnt_at node (first_entry c); there = there; at = refl; holds = same_Some c d e }
 one_learnt learnt node c there (suc slot) d e = absurd (let h : None ≡ Some d = e in cc)
 
 reply_stays : (learnt more : List Learnt) (p : Replied) → TellsReply learnt p → TellsReply (learnt ++ more) p
 reply_stays learnt more p t = record {
   before = t.before;
   request = t.request;
-  known = log_stays learnt more p.node _ t.known;
+  known = log_stays learnt more _ t.known;
   of_client = t.of_client;
   of_number = t.of_number;
   position = t.position;
@@ -284,21 +320,23 @@ reply_stays learnt more p t = record {
 answer_stays : (learnt more : List Learnt) (a : Answered) → TellsAnswer learnt a → TellsAnswer (learnt ++ more) a
 answer_stays learnt more a t = record {
   log = t.log;
-  known = log_stays learnt more a.node t.log t.known;
+  known = log_stays learnt more t.log t.known;
   position = t.position;
   answers = t.answers;
 }
 
 -- what is told now is in the longer list
-now_learnt : (learnt : List Learnt) (i : ℕ) (o : Option Command) (c : Command) → o ≡ Some c → HasLearnt (learnt ++ learnt_by i o) i (c ∷ [])
-now_learnt learnt i None c e = absurd (let h : None ≡ Some c = e in cc)
+now_learnt : (learnt : List Learnt) (i : ℕ) (o : Option LogEntry) (c : Command) → o ≡ Some (first_entry c)
+    → WereLearnt (learnt ++ learnt_by i o) (c ∷ [])
+now_learnt learnt i None c e = absurd (let h : None ≡ Some (first_entry c) = e in cc)
 now_learnt learnt i (Some d) c e =
-    subst (λ (x : Command). HasLearnt (learnt ++ learnt_at i d ∷ []) i (x ∷ [])) (same_Some d c e)
-    (one_learnt (learnt ++ learnt_at i d ∷ []) i d (Contains-push learnt (learnt_at i d)))
+    subst (λ (x : LogEntry). WereLearnt (learnt ++ learnt_at i x ∷ []) (c ∷ [])) (sym (same_Some d (first_entry c) e))
+    (one_learnt (learnt ++ learnt_at i (first_entry c) ∷ []) i c (Contains-push learnt (learnt_at i (first_entry c))))
 
-new_slot : (i : ℕ) (o : Option Command) (t : Learnt) → Contains (learnt_by i o) t → t.slot ≡ zero
-new_slot i None t c = absurd (none_in t c)
-new_slot i (Some d) t c = sym (ap (λ (u : Learnt). u.slot) (only_in (learnt_at i d) t c))
+new_slot : (i : ℕ) (o : Option LogEntry) → ((entry : LogEntry) → o ≡ Some entry → entry.slot ≡ zero)
+    → (t : Learnt) → Contains (learnt_by i o) t → t.slot ≡ zero
+new_slot i None first t c = absurd (none_in t c)
+new_slot i (Some d) first t c = sym (ap (λ (u : Learnt). u.slot) (only_in (learnt_at i d) t c)) ∙ first d refl
 
 new_reply : (learnt : List Learnt) (i : ℕ) (told : Told) (o : Option Executed)
     → ((e : Executed) → o ≡ Some e → RepliesNow [] told.learnt e)
@@ -312,21 +350,21 @@ new_reply learnt i told (Some e) says p c =
       known = now_learnt learnt i told.learnt (Request of.request) of.is;
       of_client = of.of_client;
       of_number = of.of_number;
-      position = refl;
+      position = of.position;
       replies = of.replies;
     })
 
 -- what the node that takes an input knows then
 knows_now : {S : Type 0} (nodes : List (NodeState S)) (learnt : List Learnt) (i : ℕ) (before after : NodeState S) (told : Told)
-    → ((m : Mind) → before.up ≡ Some m → Knows learnt i m) → TellsInput before.up after.up told
-    → (m : Mind) → after.up ≡ Some m → Knows (learnt ++ learnt_by i told.learnt) i m
+    → ((m : Mind) → before.up ≡ Some m → Knows learnt m) → TellsInput before.up after.up told
+    → (m : Mind) → after.up ≡ Some m → Knows (learnt ++ learnt_by i told.learnt) m
 knows_now nodes learnt i before after told knew says m up = record {
   told = elim (says.knows m up) [
-    | inl none ↦ subst (HasLearnt (learnt ++ learnt_by i told.learnt) i) (sym none) (nothing_learnt (learnt ++ learnt_by i told.learnt) i)
+    | inl none ↦ subst (WereLearnt (learnt ++ learnt_by i told.learnt)) (sym none) (nothing_learnt (learnt ++ learnt_by i told.learnt))
     | inr some ↦ elim some [
-      | inl old ↦ subst (HasLearnt (learnt ++ learnt_by i told.learnt) i) (sym old.1.1)
-          (log_stays learnt (learnt_by i told.learnt) i (prefix old.0) (knew old.0 old.1.0).told)
-      | inr new ↦ subst (HasLearnt (learnt ++ learnt_by i told.learnt) i) (sym new.1.1)
+      | inl old ↦ subst (WereLearnt (learnt ++ learnt_by i told.learnt)) (sym old.1.1)
+          (log_stays learnt (learnt_by i told.learnt) (prefix old.0) (knew old.0 old.1.0).told)
+      | inr new ↦ subst (WereLearnt (learnt ++ learnt_by i told.learnt)) (sym new.1.1)
           (now_learnt learnt i told.learnt new.0 new.1.0)
     ]
   ];
@@ -334,8 +372,8 @@ knows_now nodes learnt i before after told knew says m up = record {
 }
 
 -- what any other node knows
-knows_still : (learnt more : List Learnt) (i : ℕ) (m : Mind) → Knows learnt i m → Knows (learnt ++ more) i m
-knows_still learnt more i m k = record { told = log_stays learnt more i (prefix m) k.told; stands = k.stands }
+knows_still : (learnt more : List Learnt) (m : Mind) → Knows learnt m → Knows (learnt ++ more) m
+knows_still learnt more m k = record { told = log_stays learnt more (prefix m) k.told; stands = k.stands }
 
 recorded_tells : {S : Type 0} (nodes : List (NodeState S)) (learnt : List Learnt) (replies : List Replied) (answers : List Answered)
     (i : ℕ) (before after : NodeState S) (told : Told) → ListsTell nodes learnt replies answers → slice_get nodes i ≡ Some before
@@ -344,7 +382,7 @@ recorded_tells : {S : Type 0} (nodes : List (NodeState S)) (learnt : List Learnt
 recorded_tells {S} nodes learnt replies answers i before after told t here says = record {
   slots = λ l c. elim (Contains-append_cases learnt (learnt_by i told.learnt) l c) [
     | inl old ↦ t.slots l old
-    | inr new ↦ new_slot i told.learnt l new
+    | inr new ↦ new_slot i told.learnt says.slots l new
   ];
   replied = λ p c. elim (Contains-append_cases replies (replied_by i told.executed) p c) [
     | inl old ↦ reply_stays learnt (learnt_by i told.learnt) p (t.replied p old)
@@ -352,10 +390,9 @@ recorded_tells {S} nodes learnt replies answers i before after told t here says 
   ];
   answered = λ a c. answer_stays learnt (learnt_by i told.learnt) a (t.answered a c);
   knows = λ j n m there up. elim (set_cases nodes i j after n there) [
-    | inl at ↦ subst (λ k. Knows (learnt ++ learnt_by i told.learnt) k m) (sym at.0)
-        (knows_now nodes learnt i before after told (λ k was. t.knows i before k here was) says m
-        (ap (λ (x : NodeState S). x.up) at.1 ∙ up))
-    | inr elsewhere ↦ knows_still learnt (learnt_by i told.learnt) j m (t.knows j n m elsewhere up)
+    | inl at ↦ knows_now nodes learnt i before after told (λ k was. t.knows i before k here was) says m
+        (ap (λ (x : NodeState S). x.up) at.1 ∙ up)
+    | inr elsewhere ↦ knows_still learnt (learnt_by i told.learnt) m (t.knows j n m elsewhere up)
   ];
 }
 
@@ -373,21 +410,21 @@ recorded_result old i after (Ok told) t = t
 recorded_result old i after (Err f) t = quiet_tells (slice_set old.nodes i after) old.learnt old.replies old.answers t
 
 -- ---- the kinds of step
-module _ {S : Type 0} (reads : Script S → Script S → Type 0) (puts fails : Script S → Key → List ℕ → Script S → Type 0) where
+module _ {S : Type 0} (storages : Ghosts (Script S)) where
   takes_at : (old : WorldState S) (node : ℕ) (i : Input) (taken : Bool) (new : WorldState S)
-      → TakesAt reads puts fails old node i taken new → Tells old → Tells new
+      → TakesAt storages old node i taken new → Tells old → Tells new
   takes_at old node i taken new t tells =
       subst (λ (w : WorldState S). Tells w) (sym t.leaves)
       (recorded_result old node t.after t.result
       (recorded_tells old.nodes old.learnt old.replies old.answers node t.before t.after (told_of t.result) tells t.here
-      (node_tells reads puts fails t.before t.after i t.result t.steps)))
+      (node_tells storages t.before t.after i t.result t.steps)))
 
   submission_tells : (w : WorldState S) (taken : Bool) (node : ℕ) (r : Asked) → Tells w → Tells (with_submission w taken node r)
   submission_tells w true node r t = t
   submission_tells w false node r t = t
 
   submits_at : (old : WorldState S) (node : ℕ) (r : Asked) (new : WorldState S)
-      → SubmitsAt reads puts fails old node r new → Tells old → Tells new
+      → SubmitsAt storages old node r new → Tells old → Tells new
   submits_at old node r new s tells =
       subst (λ (w : WorldState S). Tells w) (sym s.leaves)
       (submission_tells s.between s.taken node r (takes_at old node (input.Submit r) s.taken s.between s.takes tells))
@@ -396,7 +433,7 @@ module _ {S : Type 0} (reads : Script S → Script S → Type 0) (puts fails : S
   up_or_down None = inl refl
   up_or_down (Some m) = inr refl
 
-  receives_at : (old : WorldState S) (frame : Envelope) (new : WorldState S) → ReceivesAt reads puts fails old frame new → Tells old → Tells new
+  receives_at : (old : WorldState S) (frame : Envelope) (new : WorldState S) → ReceivesAt storages old frame new → Tells old → Tells new
   receives_at old frame new r tells = elim (up_or_down r.receiver.up) [
     | inl gone ↦ subst (λ (w : WorldState S). Tells w) (sym (r.lost gone)) tells
     | inr up ↦ takes_at old frame.to (input.Message frame.from frame.message) (r.taken up).0 new (r.taken up).1 tells
@@ -417,7 +454,7 @@ answer_tells : {S : Type 0} (nodes : List (NodeState S)) (learnt : List Learnt) 
     → IfSome up (λ m. IsAnswer m.machine.features query text) → TellsAnswer learnt (answer_at node query at text)
 answer_tells nodes learnt replies answers node n query at text None t here is some says_at says = absurd (some refl)
 answer_tells nodes learnt replies answers node n query at text (Some m) t here is some says_at says =
-    let knows : Knows learnt node m = t.knows node n m here is in
+    let knows : Knows learnt m = t.knows node n m here is in
     record {
       log = prefix m;
       known = knows.told;
@@ -475,31 +512,31 @@ loaded_tells records before after (Ok x) loads gone =
     record {
       knows = λ m e. inl (none m e);
       stands = λ m e stood. subst (λ (l : List Command). StandsFor m.machine l) (sym (none m e)) (loaded m e).machine;
-      replies = λ stood. no_reply nothing refl;
+      slots = no_slot nothing says_nothing;
+      replies = λ stood. no_reply nothing says_nothing;
     }
 loaded_tells records before after (Err f) loads gone = down before.up after.up gone
 
-module _ {S : Type 0} (contents : Script S → Records) (IsHonest : Script S → Type 0) (reads read_fails : Script S → Script S → Type 0)
-    (puts fails : Script S → Key → List ℕ → Script S → Type 0) where
-  restarts_at : (old : WorldState S) (node : ℕ) (new : WorldState S) → RestartsAt contents IsHonest reads read_fails old node new
-      → AreHonest IsHonest new.nodes → Tells old → Tells new
+module _ {S : Type 0} (storages : Ghosts (Script S)) where
+  restarts_at : (old : WorldState S) (node : ℕ) (new : WorldState S) → RestartsAt storages old node new
+      → AreHonest storages.IsHonest new.nodes → Tells old → Tells new
   restarts_at old node new r honest tells =
-      let here : IsHonest r.after.storage =
+      let here : storages.IsHonest r.after.storage =
       honest node r.after (subst (λ (w : WorldState S). slice_get w.nodes node ≡ Some r.after) (sym r.leaves)
       (set_here old.nodes node r.before r.after r.here)) in
       subst (λ (w : WorldState S). Tells w) (sym r.leaves)
       (changed_tells old node r.before r.after tells r.here
-      (loaded_tells (contents r.before.storage) r.before r.after r.result (r.restarts.loads here) r.restarts.down))
+      (loaded_tells (storages.contents r.before.storage) r.before r.after r.result (r.restarts.loads here) r.restarts.down))
 
   -- each step, by its kind
-  pub steps_tell : (old new : WorldState S) (e : Event) → Steps contents IsHonest reads read_fails puts fails old e new
-      → AreHonest IsHonest new.nodes → Tells old → Tells new
+  pub steps_tell : (old new : WorldState S) (e : Event) → Steps storages old e new
+      → AreHonest storages.IsHonest new.nodes → Tells old → Tells new
   steps_tell old new (event.Submit node client number op) s honest tells =
-      submits_at reads puts fails old node (record { client = client; number = number; op = op }) new s tells
-  steps_tell old new (event.Deliver k) s honest tells = receives_at reads puts fails (without_wait old k) s.frame new s.receives tells
+      submits_at storages old node (record { client = client; number = number; op = op }) new s tells
+  steps_tell old new (event.Deliver k) s honest tells = receives_at storages (without_wait old k) s.frame new s.receives tells
   steps_tell old new (event.Drop k) s honest tells = subst (λ (w : WorldState S). Tells w) (sym s) tells
-  steps_tell old new (event.Timeout node) s honest tells = takes_at reads puts fails old node input.Timeout s.0 new s.1 tells
-  steps_tell old new (event.Tick node) s honest tells = takes_at reads puts fails old node input.Tick s.0 new s.1 tells
+  steps_tell old new (event.Timeout node) s honest tells = takes_at storages old node input.Timeout s.0 new s.1 tells
+  steps_tell old new (event.Tick node) s honest tells = takes_at storages old node input.Tick s.0 new s.1 tells
   steps_tell old new (event.Restart node) s honest tells = restarts_at old node new s honest tells
   steps_tell old new (event.Fault node failing) s honest tells = arms_at old node failing new s tells
   steps_tell old new (event.Query node query) s honest tells = asks_at old node query new s tells
@@ -516,7 +553,7 @@ start_tells w learnt replies answers fresh = record {
   knows = λ i n m here up.
       let none : prefix m ≡ [] = ap (λ (o : Option Command). option_to_list o) (fresh i n m here up).0 in
       record {
-        told = subst (HasLearnt w.learnt i) (sym none) (nothing_learnt w.learnt i);
+        told = subst (WereLearnt w.learnt) (sym none) (nothing_learnt w.learnt);
         stands = subst (λ (l : List Command). StandsFor m.machine l) (sym none) (fresh i n m here up).1;
       };
 }

@@ -13,10 +13,11 @@ use Rattle.synod.specs.Runs.{HasCome, placed}
 use Rattle.synod.proofs.Doing.{does_nothing}
 use Rattle.stable.specs.Records.{Records}
 use Rattle.stable.specs.Script.{Script}
-use Rattle.stable.specs.declared.key.Key.{Key}
 use Rattle.stable.specs.declared.key.Key.TheVariants as key
 use Rattle.acceptor.specs.Accepting.{RecordsSay}
 use Rattle.stable.specs.declared.scripted.Failing.{Failing}
+use Rattle.stable.specs.declared.stable.Stable.{Ghosts}
+use Rattle.stable.specs.Storages.{IsLawful}
 use Rattle.sessions.specs.Asked.{Asked}
 use Rattle.sessions.specs.declared.command.Command.{Command}
 use Rattle.wire.specs.declared.frames.envelope.Envelope.{Envelope}
@@ -28,11 +29,12 @@ use Rattle.world.specs.declared.input.Input.{Input}
 use Rattle.world.specs.declared.input.Input.TheVariants as input
 use Rattle.world.specs.declared.lists.Submission.{Submission}
 use Rattle.world.specs.declared.lists.Learnt.{Learnt}
+use Rattle.world.specs.declared.outputs.LogEntry.{LogEntry}
 use Rattle.world.specs.Fleets.{IsFleet, IsBetween, ComesFrom}
 use Rattle.world.specs.Minds.{Mind}
 use Rattle.world.specs.Nodes.{NodeState}
 use Rattle.world.specs.Outputs.{Told}
-use Rattle.world.specs.Protocol.{learnings, fleet, frame_of, input_of, learning_of, command_of, IsWellTold, IsWellToldInput}
+use Rattle.world.specs.Protocol.{learnings, fleet, frame_of, input_of, learning_of, command_of}
 use Rattle.world.specs.Reaching.{SaysRound, NodeStands, StandsAt, IsAllowed, AreHonest}
 use Rattle.world.specs.Worlds.{WorldState, submission_of, quiet, TakesAt, ReceivesAt, ArmsAt, RestartsAt, Steps, with_node, recorded, with_submission, answered, without_wait, learnt_by}
 use Rattle.world.proofs.FleetSteps.{frame_at}
@@ -41,7 +43,6 @@ use Rattle.world.proofs.MovingLemmas.{moved}
 use Rattle.world.proofs.NodeComes.{local_of, stands_still, NodeComes, node_comes, ComesQuietly, restart_comes}
 use Rattle.world.proofs.NodeMoves.{honest_before, sends_of, learnt_of, submitted_of}
 use Rattle.world.proofs.RestartLemmas.{restart_honest}
-use Rattle.world.proofs.StorageLaws.{KeepsLaws}
 use Rattle.world.proofs.VotesStand.{puts_same}
 
 -- ---- one element of a list is replaced
@@ -72,7 +73,7 @@ taken_of node input.Tick b = []
 news_listed : (node : ℕ) (r : Result Told NodeFault) → learnt_of node r ≡ map learning_of (news_of node r)
 news_listed node (Ok told) = by_option told.learnt
   where
-    by_option : (o : Option Command) → learnings node o ≡ map learning_of (learnt_by node o)
+    by_option : (o : Option LogEntry) → learnings node o ≡ map learning_of (learnt_by node o)
     by_option None = refl
     by_option (Some c) = refl
 news_listed node (Err f) = refl
@@ -87,40 +88,39 @@ taken_listed node input.Timeout (Err f) = refl
 taken_listed node input.Tick (Ok told) = refl
 taken_listed node input.Tick (Err f) = refl
 
-module _ {S : Type 0} {contents : Script S → Records} {IsHonest : Script S → Type 0} {reads read_fails : Script S → Script S → Type 0}
-    {puts fails : Script S → Key → List ℕ → Script S → Type 0} (laws : KeepsLaws contents IsHonest reads read_fails puts fails)
-    (armed_honest : (s : Script S) (f : Failing) → IsHonest (record s { armed = Some f }) → IsHonest s)
-    (armed_contents : (s : Script S) (f : Failing) → contents (record s { armed = Some f }) ≡ contents s)
-    (list_laws : KeepsPuts contents IsHonest reads read_fails puts fails) where
+module _ {S : Type 0} {storages : Ghosts (Script S)} (laws : IsLawful storages)
+    (armed_honest : (s : Script S) (f : Failing) → storages.IsHonest (record s { armed = Some f }) → storages.IsHonest s)
+    (armed_contents : (s : Script S) (f : Failing) → storages.contents (record s { armed = Some f }) ≡ storages.contents s)
+    (list_laws : KeepsPuts storages) where
   abbrev Nodes : Type 0
   Nodes = List (NodeState (Script S))
 
   -- where every storage is honest afterwards it was so before
-  pub honest_nodes : (nodes : Nodes) (i : ℕ) (before after : NodeState (Script S)) → slice_get nodes i ≡ Some before → (IsHonest after.storage → IsHonest before.storage)
-      → AreHonest IsHonest (slice_set nodes i after) → AreHonest IsHonest nodes
+  pub honest_nodes : (nodes : Nodes) (i : ℕ) (before after : NodeState (Script S)) → slice_get nodes i ≡ Some before → (storages.IsHonest after.storage → storages.IsHonest before.storage)
+      → AreHonest storages.IsHonest (slice_set nodes i after) → AreHonest storages.IsHonest nodes
   honest_nodes nodes i before after here was honest j n e = elim (cases_eq j i) [
     | inl same ↦
         let there : slice_get nodes i ≡ Some n = subst (λ k. slice_get nodes k ≡ Some n) same e in
         let named : before ≡ n = same_Some before n (sym here ∙ there) in
-        subst (λ (x : NodeState (Script S)). IsHonest x.storage) named (was (honest i after (set_there nodes i after before here)))
+        subst (λ (x : NodeState (Script S)). storages.IsHonest x.storage) named (was (honest i after (set_there nodes i after before here)))
     | inr other ↦ honest j n (set_beside nodes i j after other ∙ e)
   ]
 
   -- ---- lists by other names
   named : (nodes nodes' : Nodes) (frames frames' : List Envelope) (learnt learnt' : List Learnt) (submitted submitted' : List Submission)
       → nodes' ≡ nodes → frames' ≡ frames → learnt' ≡ learnt → submitted' ≡ submitted
-      → IsAllowed contents nodes frames learnt submitted → IsAllowed contents nodes' frames' learnt' submitted'
+      → IsAllowed storages.contents nodes frames learnt submitted → IsAllowed storages.contents nodes' frames' learnt' submitted'
   named nodes nodes' frames frames' learnt learnt' submitted submitted' a b c d h =
-      subst (λ (x : Nodes). IsAllowed contents x frames' learnt' submitted') (sym a)
-      (subst (λ (x : List Envelope). IsAllowed contents nodes x learnt' submitted') (sym b)
-      (subst (λ (x : List Learnt). IsAllowed contents nodes frames x submitted') (sym c)
-      (subst (λ (x : List Submission). IsAllowed contents nodes frames learnt x) (sym d) h)))
+      subst (λ (x : Nodes). IsAllowed storages.contents x frames' learnt' submitted') (sym a)
+      (subst (λ (x : List Envelope). IsAllowed storages.contents nodes x learnt' submitted') (sym b)
+      (subst (λ (x : List Learnt). IsAllowed storages.contents nodes frames x submitted') (sym c)
+      (subst (λ (x : List Submission). IsAllowed storages.contents nodes frames learnt x) (sym d) h)))
 
   abbrev WorldAllowed : WorldState S → Type 0
-  WorldAllowed w = IsAllowed contents w.nodes w.frames w.learnt w.submitted
+  WorldAllowed w = IsAllowed storages.contents w.nodes w.frames w.learnt w.submitted
 
   abbrev WorldHonest : WorldState S → Type 0
-  WorldHonest w = AreHonest IsHonest w.nodes
+  WorldHonest w = AreHonest storages.IsHonest w.nodes
 
   same_lists : (old new : WorldState S) → new.nodes ≡ old.nodes → new.frames ≡ old.frames → new.learnt ≡ old.learnt → new.submitted ≡ old.submitted
       → WorldAllowed old → WorldAllowed new
@@ -144,28 +144,28 @@ module _ {S : Type 0} {contents : Script S → Records} {IsHonest : Script S →
   recorded_submitted w node (Err f) = refl
 
   record TakesAllowed (old : WorldState S) (node : ℕ) (input : Input) (taken : Bool) (new : WorldState S) : Type 0 where
-    lists : IsAllowed contents new.nodes new.frames new.learnt (old.submitted ++ taken_of node input taken)
+    lists : IsAllowed storages.contents new.nodes new.frames new.learnt (old.submitted ++ taken_of node input taken)
     submitted : new.submitted ≡ old.submitted
 
-  pub honest_took : (old : WorldState S) (node : ℕ) (i : Input) (taken : Bool) (new : WorldState S) → TakesAt reads puts fails old node i taken new
+  pub honest_took : (old : WorldState S) (node : ℕ) (i : Input) (taken : Bool) (new : WorldState S) → TakesAt storages old node i taken new
       → IsFleet old.nodes old.frames → WorldHonest new → WorldHonest old
   honest_took old node i taken new h fleet_ honest =
       let nodes : new.nodes ≡ slice_set old.nodes node h.after = ap (λ (w : WorldState S). w.nodes) h.leaves ∙ recorded_nodes (with_node old node h.after) node h.result in
       let there : node < length old.nodes = slice_get_within old.nodes node h.before h.here in
       honest_nodes old.nodes node h.before h.after h.here
       (honest_before laws (length old.nodes) node there fleet_.few h.before h.after i h.result h.steps)
-      (subst (λ (x : Nodes). AreHonest IsHonest x) nodes honest)
+      (subst (λ (x : Nodes). AreHonest storages.IsHonest x) nodes honest)
 
-  takes_allowed : (old : WorldState S) (node : ℕ) (i : Input) (taken : Bool) (new : WorldState S) → TakesAt reads puts fails old node i taken new
-      → IsFleet old.nodes old.frames → ComesFrom (length old.nodes) i → IsWellToldInput i → (a : WorldAllowed old) → HasCome a.state.past (input_of i)
+  takes_allowed : (old : WorldState S) (node : ℕ) (i : Input) (taken : Bool) (new : WorldState S) → TakesAt storages old node i taken new
+      → IsFleet old.nodes old.frames → ComesFrom (length old.nodes) i → (a : WorldAllowed old) → HasCome a.state.past (input_of i)
       → WorldHonest new → TakesAllowed old node i taken new
-  takes_allowed old node i taken new h fleet_ sender well a came honest =
+  takes_allowed old node i taken new h fleet_ sender a came honest =
       let nodes : new.nodes ≡ slice_set old.nodes node h.after = ap (λ (w : WorldState S). w.nodes) h.leaves ∙ recorded_nodes (with_node old node h.after) node h.result in
       let there : node < length old.nodes = slice_get_within old.nodes node h.before h.here in
-      let own : IsHonest h.after.storage = honest node h.after (ap (λ (x : Nodes). slice_get x node) nodes ∙ set_there old.nodes node h.after h.before h.here) in
-      let m : NodeComes contents (length old.nodes) node i a.state h.after h.result =
+      let own : storages.IsHonest h.after.storage = honest node h.after (ap (λ (x : Nodes). slice_get x node) nodes ∙ set_there old.nodes node h.after h.before h.here) in
+      let m : NodeComes storages.contents (length old.nodes) node i a.state h.after h.result =
       node_comes laws list_laws (length old.nodes) node there fleet_.few a.state a.reached h.before h.after i h.result came h.steps
-      (a.stands.node node h.before h.here) (fleet_.members node h.before h.here) sender well own in
+      (a.stands.node node h.before h.here) (fleet_.members node h.before h.here) sender own in
       let asks : m.to.submitted ≡ map command_of (taken_of node i taken) =
       m.submitted ∙ taken_listed node i h.result ∙ ap (λ b. map command_of (taken_of node i b)) (sym h.taken_) in
       record {
@@ -174,7 +174,7 @@ module _ {S : Type 0} {contents : Script S → Records} {IsHonest : Script S →
             (ap (λ (w : WorldState S). w.frames) h.leaves ∙ recorded_frames (with_node old node h.after) node h.result)
             (ap (λ (w : WorldState S). w.learnt) h.leaves ∙ recorded_learnt (with_node old node h.after) node h.result) refl
             (moved old.nodes old.frames (sends_of h.result) old.learnt (news_of node h.result) old.submitted (taken_of node i taken) a node h.after
-            (input_of i) m.to came m.does m.stands m.sent m.told (m.learnt ∙ news_listed node h.result) asks);
+            (input_of i) m.to came m.does m.stands m.sent (m.learnt ∙ news_listed node h.result) asks);
         submitted = ap (λ (w : WorldState S). w.submitted) h.leaves ∙ recorded_submitted (with_node old node h.after) node h.result;
       }
 
@@ -213,54 +213,49 @@ module _ {S : Type 0} {contents : Script S → Records} {IsHonest : Script S →
           let within : k < length (map frame_of frames) = slice_get_within (map frame_of frames) k (frame_of frame) mapped in
           (k, within, get_or_from_slice_get (map frame_of frames) k (frame_of frame) (frame_of frame) mapped)
 
-  well_told_at : (old : WorldState S) → WorldAllowed old → (k : ℕ) (frame : Envelope) → slice_get old.frames k ≡ Some frame → IsWellTold frame.message
-  well_told_at old a k frame sent =
-      subst (λ (e : Envelope). IsWellTold e.message) (get_or_from_slice_get old.frames k frame frame sent)
-      (a.told k frame (slice_get_within old.frames k frame sent))
-
   receives_allowed : (old : WorldState S) (k : ℕ) (frame : Envelope) (new : WorldState S) (o : Option Mind) → slice_get old.frames k ≡ Some frame
-      → (h : ReceivesAt reads puts fails old frame new) → h.receiver.up ≡ o → IsFleet old.nodes old.frames
+      → (h : ReceivesAt storages old frame new) → h.receiver.up ≡ o → IsFleet old.nodes old.frames
       → (WorldHonest old → WorldAllowed old) → WorldHonest new → WorldAllowed new
   receives_allowed old k frame new None sent h up fleet_ before honest =
       let lost = h.lost up in
       let nodes : new.nodes ≡ old.nodes = ap (λ (w : WorldState S). w.nodes) lost in
       same_lists old new nodes (ap (λ (w : WorldState S). w.frames) lost) (ap (λ (w : WorldState S). w.learnt) lost) (ap (λ (w : WorldState S). w.submitted) lost)
-      (before (subst (λ (x : Nodes). AreHonest IsHonest x) nodes honest))
+      (before (subst (λ (x : Nodes). AreHonest storages.IsHonest x) nodes honest))
   receives_allowed old k frame new (Some m) sent h up fleet_ before honest =
       let takes = h.taken (subst (λ (o : Option Mind). IsSome o) (sym up) refl) in
       let i : Input = input.Message frame.from frame.message in
       let a : WorldAllowed old = before (honest_took old frame.to i takes.0 new takes.1 fleet_ honest) in
       let between : IsBetween (length old.nodes) frame = frame_at old.nodes old.frames k frame fleet_ sent in
       takes_quietly old frame.to i takes.0 new refl
-      (takes_allowed old frame.to i takes.0 new takes.1 fleet_ between.from (well_told_at old a k frame sent) a (was_sent old a k frame sent) honest)
+      (takes_allowed old frame.to i takes.0 new takes.1 fleet_ between.from a (was_sent old a k frame sent) honest)
 
-  takes_step : (old : WorldState S) (node : ℕ) (i : Input) (taken : Bool) (new : WorldState S) → taken_of node i taken ≡ [] → TakesAt reads puts fails old node i taken new
-      → IsFleet old.nodes old.frames → ComesFrom (length old.nodes) i → IsWellToldInput i → ((a : WorldAllowed old) → HasCome a.state.past (input_of i))
+  takes_step : (old : WorldState S) (node : ℕ) (i : Input) (taken : Bool) (new : WorldState S) → taken_of node i taken ≡ [] → TakesAt storages old node i taken new
+      → IsFleet old.nodes old.frames → ComesFrom (length old.nodes) i → ((a : WorldAllowed old) → HasCome a.state.past (input_of i))
       → (WorldHonest old → WorldAllowed old) → WorldHonest new → WorldAllowed new
-  takes_step old node i taken new none h fleet_ sender well came before honest =
+  takes_step old node i taken new none h fleet_ sender came before honest =
       let a : WorldAllowed old = before (honest_took old node i taken new h fleet_ honest) in
-      takes_quietly old node i taken new none (takes_allowed old node i taken new h fleet_ sender well a (came a) honest)
+      takes_quietly old node i taken new none (takes_allowed old node i taken new h fleet_ sender a (came a) honest)
 
   -- ---- a node is changed, and nothing is told
   changed : (old new : WorldState S) (node : ℕ) (after : NodeState (Script S)) (acts : act.Input Command) (y : Local Command) → new.nodes ≡ slice_set old.nodes node after
       → new.frames ≡ old.frames → new.learnt ≡ old.learnt → new.submitted ≡ old.submitted → (a : WorldAllowed old) → HasCome a.state.past acts
       → act.Does (fleet (length old.nodes)) node acts (local_of a.state node) y
-      → StandsAt contents (length old.nodes) node (placed a.state node y).past (local_of (placed a.state node y) node) after → y.sent ≡ [] → y.learnt ≡ [] → y.submitted ≡ []
+      → StandsAt storages.contents (length old.nodes) node (placed a.state node y).past (local_of (placed a.state node y) node) after → y.sent ≡ [] → y.learnt ≡ [] → y.submitted ≡ []
       → WorldAllowed new
   changed old new node after acts y nodes frames learnt submitted a came does now sent heard asks =
       named (slice_set old.nodes node after) new.nodes (old.frames ++ []) new.frames (old.learnt ++ []) new.learnt (old.submitted ++ []) new.submitted nodes
       (frames ∙ sym (append-nil old.frames)) (learnt ∙ sym (append-nil old.learnt)) (submitted ∙ sym (append-nil old.submitted))
-      (moved old.nodes old.frames [] old.learnt [] old.submitted [] a node after acts y came does now sent (All-nil (λ e. IsWellTold e.message)) heard asks)
+      (moved old.nodes old.frames [] old.learnt [] old.submitted [] a node after acts y came does now sent heard asks)
 
-  restart_allowed : (old new : WorldState S) (node : ℕ) → RestartsAt contents IsHonest reads read_fails old node new → length old.nodes ≤ 7 → (WorldHonest old → WorldAllowed old)
+  restart_allowed : (old new : WorldState S) (node : ℕ) → RestartsAt storages old node new → length old.nodes ≤ 7 → (WorldHonest old → WorldAllowed old)
       → WorldHonest new → WorldAllowed new
   restart_allowed old new node h few before honest =
       let nodes : new.nodes ≡ slice_set old.nodes node h.after = ap (λ (w : WorldState S). w.nodes) h.leaves in
-      let honest_set : AreHonest IsHonest (slice_set old.nodes node h.after) = subst (λ (x : Nodes). AreHonest IsHonest x) nodes honest in
-      let own : IsHonest h.after.storage = honest_set node h.after (set_there old.nodes node h.after h.before h.here) in
+      let honest_set : AreHonest storages.IsHonest (slice_set old.nodes node h.after) = subst (λ (x : Nodes). AreHonest storages.IsHonest x) nodes honest in
+      let own : storages.IsHonest h.after.storage = honest_set node h.after (set_there old.nodes node h.after h.before h.here) in
       let a : WorldAllowed old = before (honest_nodes old.nodes node h.before h.after h.here (restart_honest laws h.before h.after h.result h.restarts) honest_set) in
       let there : node < length old.nodes = slice_get_within old.nodes node h.before h.here in
-      let q : ComesQuietly contents (length old.nodes) node a.state h.after =
+      let q : ComesQuietly storages.contents (length old.nodes) node a.state h.after =
       restart_comes laws list_laws (length old.nodes) node there few a.state a.reached h.before h.after h.result h.restarts h.settled
       (a.stands.node node h.before h.here) own in
       changed old new node h.after q.input q.to nodes (ap (λ (w : WorldState S). w.frames) h.leaves)
@@ -268,7 +263,7 @@ module _ {S : Type 0} {contents : Script S → Records} {IsHonest : Script S →
       q.unsubmitted
 
   armed_stands : (n : NodeState (Script S)) (f : Failing) (r : synod_records.Records Command) (s : synod_minds.Mind Command)
-      → NodeStands contents n r s → NodeStands contents (record n { storage = record n.storage { armed = Some f } }) r s
+      → NodeStands storages.contents n r s → NodeStands storages.contents (record n { storage = record n.storage { armed = Some f } }) r s
   armed_stands n f r s stands = record {
     accepting = stands.accepting;
     round = stands.round;
@@ -279,8 +274,8 @@ module _ {S : Type 0} {contents : Script S → Records} {IsHonest : Script S →
     up = stands.up;
   }
 
-  armed_at : (nodes i : ℕ) (w : synod_runs.World Command) (n : NodeState (Script S)) (f : Failing) → StandsAt contents nodes i w.past (local_of w i) n
-      → StandsAt contents nodes i w.past (local_of w i) (record n { storage = record n.storage { armed = Some f } })
+  armed_at : (nodes i : ℕ) (w : synod_runs.World Command) (n : NodeState (Script S)) (f : Failing) → StandsAt storages.contents nodes i w.past (local_of w i) n
+      → StandsAt storages.contents nodes i w.past (local_of w i) (record n { storage = record n.storage { armed = Some f } })
   armed_at nodes i w n f s = record {
     listed = s.listed;
     input = s.input;
@@ -291,8 +286,8 @@ module _ {S : Type 0} {contents : Script S → Records} {IsHonest : Script S →
     unlearnt = s.unlearnt;
     unsubmitted = s.unsubmitted;
     stands = armed_stands n f s.after.records s.after.mind s.stands;
-    puts = puts_same contents n.storage (record n.storage { armed = Some f }) s.after.records
-        (same_puts contents n.storage (record n.storage { armed = Some f }) (armed_contents n.storage f) refl refl) s.puts;
+    puts = puts_same storages.contents n.storage (record n.storage { armed = Some f }) s.after.records
+        (same_puts storages.contents n.storage (record n.storage { armed = Some f }) (armed_contents n.storage f) refl refl) s.puts;
     sure = s.sure;
     up = s.up;
   }
@@ -302,11 +297,11 @@ module _ {S : Type 0} {contents : Script S → Records} {IsHonest : Script S →
       let after : NodeState (Script S) = record h.before { storage = record h.before.storage { armed = Some f } } in
       let nodes : new.nodes ≡ slice_set old.nodes node after = ap (λ (w : WorldState S). w.nodes) h.leaves in
       let a : WorldAllowed old = before (honest_nodes old.nodes node h.before after h.here (armed_honest h.before.storage f)
-      (subst (λ (x : Nodes). AreHonest IsHonest x) nodes honest)) in
+      (subst (λ (x : Nodes). AreHonest storages.IsHonest x) nodes honest)) in
       let x : Local Command = local_of a.state node in
       changed old new node after act.Nothing x nodes (ap (λ (w : WorldState S). w.frames) h.leaves) (ap (λ (w : WorldState S). w.learnt) h.leaves)
       (ap (λ (w : WorldState S). w.submitted) h.leaves) a tt (does_nothing (fleet (length old.nodes)) node act.Nothing x)
-      (stands_still contents (length old.nodes) a.state node after
+      (stands_still storages.contents (length old.nodes) a.state node after
       (armed_at (length old.nodes) node a.state h.before f (a.stands.node node h.before h.here))) refl refl refl
 
   answered_same : (old : WorldState S) (node : ℕ) (query : Query) (r : Result (ℕ × List ℕ) NodeFault) → WorldAllowed old → WorldAllowed (answered old node query r)
@@ -321,26 +316,26 @@ module _ {S : Type 0} {contents : Script S → Records} {IsHonest : Script S →
   same_world old new e a = subst (λ (w : WorldState S). WorldAllowed w) (sym e) a
 
   -- ---- one step
-  pub step_allowed : (old : WorldState S) (e : Event) (new : WorldState S) → Steps contents IsHonest reads read_fails puts fails old e new
+  pub step_allowed : (old : WorldState S) (e : Event) (new : WorldState S) → Steps storages old e new
       → IsFleet old.nodes old.frames → (WorldHonest old → WorldAllowed old) → WorldHonest new → WorldAllowed new
   step_allowed old (event.Submit node client number op) new h fleet_ before honest =
       let r : Asked = record { client = client; number = number; op = op } in
       let i : Input = input.Submit r in
       let nodes : new.nodes ≡ h.between.nodes = ap (λ (w : WorldState S). w.nodes) h.leaves ∙ submission_nodes h.between h.taken node r in
-      let then : WorldHonest h.between = subst (λ (x : Nodes). AreHonest IsHonest x) nodes honest in
+      let then : WorldHonest h.between = subst (λ (x : Nodes). AreHonest storages.IsHonest x) nodes honest in
       let a : WorldAllowed old = before (honest_took old node i h.taken h.between h.takes fleet_ then) in
-      submits_allowed old h.between new node r h.taken h.leaves (takes_allowed old node i h.taken h.between h.takes fleet_ tt tt a tt then)
+      submits_allowed old h.between new node r h.taken h.leaves (takes_allowed old node i h.taken h.between h.takes fleet_ tt a tt then)
   step_allowed old (event.Deliver k) new h fleet_ before honest =
       receives_allowed (without_wait old k) k h.frame new h.receives.receiver.up h.sent h.receives refl fleet_ before honest
   step_allowed old (event.Drop k) new h fleet_ before honest =
       same_world (quiet (without_wait old k)) new h
-      (before (subst (λ (x : Nodes). AreHonest IsHonest x) (ap (λ (w : WorldState S). w.nodes) h) honest))
+      (before (subst (λ (x : Nodes). AreHonest storages.IsHonest x) (ap (λ (w : WorldState S). w.nodes) h) honest))
   step_allowed old (event.Timeout node) new h fleet_ before honest =
-      takes_step old node input.Timeout h.0 new refl h.1 fleet_ tt tt (λ a. tt) before honest
+      takes_step old node input.Timeout h.0 new refl h.1 fleet_ tt (λ a. tt) before honest
   step_allowed old (event.Tick node) new h fleet_ before honest =
-      takes_step old node input.Tick h.0 new refl h.1 fleet_ tt tt (λ a. tt) before honest
+      takes_step old node input.Tick h.0 new refl h.1 fleet_ tt (λ a. tt) before honest
   step_allowed old (event.Restart node) new h fleet_ before honest = restart_allowed old new node h fleet_.few before honest
   step_allowed old (event.Fault node failing) new h fleet_ before honest = arm_allowed old new node failing h before honest
   step_allowed old (event.Query node query) new h fleet_ before honest =
       same_world (answered old node query h.result) new h.leaves (answered_same old node query h.result
-      (before (subst (λ (x : Nodes). AreHonest IsHonest x) (ap (λ (w : WorldState S). w.nodes) h.leaves ∙ answered_nodes old node query h.result) honest)))
+      (before (subst (λ (x : Nodes). AreHonest storages.IsHonest x) (ap (λ (w : WorldState S). w.nodes) h.leaves ∙ answered_nodes old node query h.result) honest)))

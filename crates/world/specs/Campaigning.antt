@@ -1,5 +1,5 @@
 -- A proposer's attempt to lead under one ballot, for the one slot of the log.
-use Rattle.std.specs.Prelude.{◌≡◌, ℕ, zero, List, Bool, true, false, Option, Some, None, fold, nat_lt, if◌then◌else◌}
+use Rattle.std.specs.Prelude.{◌≡◌, ◌==◌, ℕ, zero, List, filter, Bool, true, false, Option, Some, None, fold, nat_lt, if◌then◌else◌}
 use Rattle.synod.specs.Ballots.{rank}
 use Rattle.synod.specs.Majorities.{counted, IsMajority}
 use Rattle.synod.specs.declared.ballot.Ballot.{Ballot}
@@ -30,6 +30,10 @@ higher (Some u) v = if nat_lt (rank u.ballot) (rank v.ballot) then Some v else S
 -- the told vote, with those that a promise tells of the slot
 abbrev pub told_with : Option (Vote Command) → List (Vote Command) → Option (Vote Command)
 told_with told votes = fold higher told votes
+
+-- of the votes that a promise tells those at the one slot
+abbrev pub told_here : List (Vote Command) → List (Vote Command)
+told_here = filter (λ v. v.slot == 0)
 
 -- a promise counts: it is of this ballot and slot, the node's first, and no majority has promised yet
 pub record IsCounted (c : Campaigning) (from : ℕ) (ballot : Ballot) (first : ℕ) : Type 0 where

@@ -3,6 +3,7 @@ use Rattle.std.specs.Prelude.{◌≡◌, ℕ, ◌⊎◌, List, [], Option, Some,
 use Rattle.std.specs.Option.{ForSome}
 use Rattle.stable.specs.Records.{Records}
 use Rattle.stable.specs.declared.key.Key.TheVariants as key
+use Rattle.stable.specs.declared.stable.Stable.{Ghosts}
 use Rattle.acceptor.specs.Accepting.{RecordsSay}
 use Rattle.sessions.specs.Standing.{StandsFor}
 use Rattle.acceptor.specs.Forms.{HasDamagedRecord}
@@ -34,18 +35,22 @@ abbrev pub HasDamagedRound : Records → Type 0
 HasDamagedRound records = MatchOption (records key.Round) ⊥ (λ bytes. (round : ℕ) → ¬ IsRoundRecord bytes round)
 
 -- a key that is no key's spelling, or a record that is not of its form
-abbrev pub IsDamaged : {S : Type 0} → (S → Records) → (S → Type 0) → S → Type 0
-IsDamaged contents HasStrayKey s = HasStrayKey s ⊎ HasDamagedRecord (contents s) ⊎ HasDamagedRound (contents s)
+abbrev pub IsDamaged : {S : Type 0} → Ghosts S → S → Type 0
+IsDamaged storages s =
+    storages.HasStrayKey s ⊎ HasDamagedRecord (storages.contents s) ⊎ HasDamagedRound (storages.contents s)
 
 -- what a restart makes of a node: it holds what its records leave, or it is down
-pub record Restarts {S : Type 0} (contents : S → Records) (IsHonest : S → Type 0) (reads read_fails : S → S → Type 0)
+pub record Restarts {S : Type 0} (storages : Ghosts S)
     (old : NodeState S) (result : Result (Unit {0}) NodeFault) (new : NodeState S) : Type 0 where
   pub leaves : new ≡ record old { storage = new.storage; up = new.up }
   pub own : ForSome new.up (IsMindOf old.id old.nodes)
-  pub up : OnOk result (IsSome new.up × reads old.storage new.storage)
-  pub loads : IsHonest new.storage → OnOk result
-      (IfSome new.up (IsLoaded (contents old.storage) old.id old.nodes))
+  pub up : OnOk result (IsSome new.up × storages.reads old.storage new.storage)
+  pub loads : storages.IsHonest new.storage → OnOk result
+      (IfSome new.up (IsLoaded (storages.contents old.storage) old.id old.nodes))
   pub down : OnErr result (new.up ≡ None)
-  pub device : IsErrOf result fault.Device → read_fails old.storage new.storage
+  -- what is damaged is told so, and nothing else is
+  pub sound : storages.IsHonest new.storage → OnOk result (¬ (IsDamaged storages old.storage))
+  pub damaged : storages.IsHonest new.storage → IsErrOf result fault.Damaged → IsDamaged storages old.storage
+  pub device : IsErrOf result fault.Device → storages.read_fails old.storage new.storage
   pub other : IfErr result (λ f. (f ≡ fault.Device)
-      ⊎ (((f ≡ fault.Memory) ⊎ (f ≡ fault.Damaged)) × reads old.storage new.storage))
+      ⊎ (((f ≡ fault.Memory) ⊎ (f ≡ fault.Damaged)) × storages.reads old.storage new.storage))

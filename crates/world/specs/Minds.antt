@@ -1,13 +1,13 @@
 -- What a node holds while it is up, and what it makes of an input.
-use Rattle.std.specs.Prelude.{◌≡◌, ℕ, ◌^◌, nat_le, length, List, [], ◌∷◌, ◌++◌, Bool, true, Option, Some, None, is_some, filter, not, if◌then◌else◌}
+use Rattle.std.specs.Prelude.{◌≡◌, ℕ, ◌+◌, ◌^◌, nat_le, length, List, [], ◌∷◌, ◌++◌, Bool, true, Option, Some, None, is_some, filter, not, if◌then◌else◌}
 use Rattle.std.specs.List.{list_any}
 use Rattle.byteorder.specs.Endian.{big_bytes}
 use Rattle.synod.specs.declared.vote.Vote.{Vote}
-use Rattle.stable.specs.declared.key.Key.{Key}
 use Rattle.stable.specs.declared.key.Key.TheVariants as key
+use Rattle.stable.specs.declared.stable.Stable.{Ghosts}
 use Rattle.acceptor.specs.declared.answer.Answer.{Answer}
 use Rattle.acceptor.specs.declared.answer.Answer.TheVariants as answer
-use Rattle.acceptor.specs.Accepting.{Accepting, Write, prepare_answer, prepare_write, after_prepare, accept_answer, after_accept, IsAcceptWrite, HasWritten, HasFailed}
+use Rattle.acceptor.specs.Accepting.{Accepting, Write, AnswersPrepare, prepare_write, after_prepare, accept_answer, after_accept, IsAcceptWrite, HasWritten, HasFailed}
 use Rattle.sessions.specs.Asked.{Asked}
 use Rattle.sessions.specs.Machines.{MachineState, after_command, reply_to_command}
 use Rattle.sessions.specs.Standing.{StandsForOneMore, RepliesOneMore}
@@ -22,6 +22,7 @@ use Rattle.world.specs.declared.input.Input.{Input}
 use Rattle.world.specs.declared.input.Input.TheVariants as input
 use Rattle.world.specs.declared.log.TheConstants.{LOG_SLOTS, MOST_WAITING}
 use Rattle.world.specs.declared.outputs.Executed.{Executed}
+use Rattle.world.specs.Campaigning.{told_here}
 use Rattle.world.specs.Learning.{Learning, HearsVote}
 use Rattle.world.specs.Offers.{is_short}
 use Rattle.world.specs.Outputs.{Told, nothing, sent}
@@ -86,18 +87,18 @@ Writes m input.Timeout write = write ≡ Some (key.Round, big_bytes 8 (next_roun
 Writes m input.Tick write = write ≡ None
 
 -- the storage is what such a write made of it, where none is made it is at most read
-pub record HasMade {S : Type 0} (reads : S → S → Type 0) (puts : S → Key → List ℕ → S → Type 0)
+pub record HasMade {S : Type 0} (storages : Ghosts S)
     (old new : S) (Writes : Write → Type 0) : Type 0 where
   pub write : Write
   pub made : Writes write
-  pub leaves : HasWritten reads puts old new write
+  pub leaves : HasWritten storages.reads storages.puts old new write
 
 -- the storage is what a failure on such a write made of it
-pub record HasFailedToMake {S : Type 0} (fails : S → Key → List ℕ → S → Type 0)
+pub record HasFailedToMake {S : Type 0} (storages : Ghosts S)
     (old new : S) (Writes : Write → Type 0) : Type 0 where
   pub write : Write
   pub made : Writes write
-  pub leaves : HasFailed fails old new write
+  pub leaves : HasFailed storages.fails old new write
 
 -- ---- an acceptor's answer: Accepted goes to every node, any other to the sender of what it answers
 abbrev pub one_send : ℕ → ℕ → Message → List Envelope
@@ -108,12 +109,17 @@ answer_sends m to (answer.Promise p) = one_send m.id to (Promise p)
 answer_sends m to (answer.Accepted v) = to_all m.id m.nodes (Accepted v)
 answer_sends m to (answer.Nack n) = one_send m.id to (Nack n)
 
--- ---- a command is learnt: it is executed, and a request that waited has its reply
-abbrev pub executed_reply : MachineState → Proposing → Command → Option Executed
-executed_reply m p NoOp = None
-executed_reply m p (Request r) =
+-- ---- a command is learnt: it is executed, and a request that waited has its reply, at the position behind the slot
+abbrev pub executed_reply : MachineState → Proposing → ℕ → Command → Option Executed
+executed_reply m p slot NoOp = None
+executed_reply m p slot (Request r) =
     if list_any (is_of r.client r.number) p.waiting
-    then Some (record { client = r.client; number = r.number; reply = reply_to_command m (Request r) })
+    then Some (record {
+      client = r.client;
+      number = r.number;
+      reply = reply_to_command m (Request r);
+      position = slot + 1;
+    })
     else None
 
 abbrev pub without : List Asked → Command → List Asked
@@ -135,8 +141,8 @@ pub record HearsAccepted (old : Mind) (from : ℕ) (v : Vote Command) (new : Min
     machine = if learns then after_command old.machine v.command else old.machine;
   }
   pub tells : told ≡ (if learns then record {
-    learnt = Some v.command;
-    executed = executed_reply old.machine old.proposing v.command;
+    learnt = Some (record { slot = v.slot; command = v.command });
+    executed = executed_reply old.machine old.proposing v.slot v.command;
     sends = [];
   } else nothing)
   -- what that is to each list of commands that its machine stands for
@@ -150,10 +156,11 @@ pub record TakesPromise (old : Mind) (from : ℕ) (p : Proposing) (new : Mind) (
 
 abbrev pub TakesMessage : Mind → ℕ → Message → Mind → Told → Type 0
 TakesMessage old from (Prepare ballot first) new told =
-    (new ≡ record old { accepting = after_prepare old.accepting ballot })
-    × (told ≡ sent (answer_sends old from (prepare_answer old.accepting ballot first)))
+    (answer : Answer) × AnswersPrepare old.accepting ballot first answer
+    × (new ≡ record old { accepting = after_prepare old.accepting ballot })
+    × (told ≡ sent (answer_sends old from answer))
 TakesMessage old from (Promise p) new told =
-    (counted : Proposing) × HearsPromise old.proposing from p.ballot p.first p.entries counted
+    (counted : Proposing) × HearsPromise old.proposing from p.ballot p.first (told_here p.entries) counted
     × TakesPromise old from counted new told
 TakesMessage old from (Nack n) new told =
     HearsRefusal old.proposing n.ballot n.promised new.proposing

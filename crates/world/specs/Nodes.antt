@@ -1,6 +1,6 @@
 -- One node: its records, and what it holds while it is up.
 use Rattle.std.specs.Prelude.{◌≡◌, ℕ, ◌⊎◌, List, Some, None, Result, Err, IfSome, IfOk, IfErr, MatchBool, option_map}
-use Rattle.stable.specs.declared.key.Key.{Key}
+use Rattle.stable.specs.declared.stable.Stable.{Ghosts}
 use Rattle.store.specs.Answers.{IsAnswer}
 use Rattle.store.specs.declared.query.Query.{Query}
 use Rattle.world.specs.declared.fault.NodeFault.{NodeFault}
@@ -24,11 +24,11 @@ state_of n = record {
 
 -- ---- an input comes to a node that is up
 -- it is taken, and the one write that it makes is made
-pub record TakesInput {S : Type 0} (reads : S → S → Type 0) (puts : S → Key → List ℕ → S → Type 0)
+pub record TakesInput {S : Type 0} (storages : Ghosts S)
     (old : NodeState S) (m : Mind) (input : Input) (told : Told) (new : NodeState S) : Type 0 where
   pub mind : Mind
   pub takes : Takes m input mind told
-  pub made : HasMade reads puts old.storage new.storage (Writes m input)
+  pub made : HasMade storages old.storage new.storage (Writes m input)
   pub leaves : new ≡ record old { storage = new.storage; up = Some mind }
 
 -- it is refused, and nothing changes
@@ -39,35 +39,34 @@ pub record RefusesInput {S : Type 0} (old : NodeState S) (m : Mind) (input : Inp
 
 -- what is left of the storage where the node goes down: the device failed on the write that the input
 -- makes, or memory was wanting, and the write was made or not
-abbrev pub StorageStops : {S : Type 0} → (S → S → Type 0) → (S → Key → List ℕ → S → Type 0)
-    → (S → Key → List ℕ → S → Type 0) → S → Mind → Input → NodeFault → S → Type 0
-StorageStops reads puts fails old m input fault.Device new = HasFailedToMake fails old new (Writes m input)
-StorageStops reads puts fails old m input fault.Memory new =
-    reads old new ⊎ HasMade reads puts old new (Writes m input)
-StorageStops reads puts fails old m input fault.Down new = ⊥
-StorageStops reads puts fails old m input fault.LogFull new = ⊥
-StorageStops reads puts fails old m input fault.RoundsUsedUp new = ⊥
-StorageStops reads puts fails old m input fault.QueueFull new = ⊥
-StorageStops reads puts fails old m input fault.TooLong new = ⊥
-StorageStops reads puts fails old m input fault.Damaged new = ⊥
+abbrev pub StorageStops : {S : Type 0} → Ghosts S → S → Mind → Input → NodeFault → S → Type 0
+StorageStops storages old m input fault.Device new = HasFailedToMake storages old new (Writes m input)
+StorageStops storages old m input fault.Memory new =
+    storages.reads old new ⊎ HasMade storages old new (Writes m input)
+StorageStops storages old m input fault.Down new = ⊥
+StorageStops storages old m input fault.LogFull new = ⊥
+StorageStops storages old m input fault.RoundsUsedUp new = ⊥
+StorageStops storages old m input fault.QueueFull new = ⊥
+StorageStops storages old m input fault.TooLong new = ⊥
+StorageStops storages old m input fault.Damaged new = ⊥
 
 -- the node goes down
-pub record StopsOnInput {S : Type 0} (reads : S → S → Type 0) (puts fails : S → Key → List ℕ → S → Type 0)
+pub record StopsOnInput {S : Type 0} (storages : Ghosts S)
     (old : NodeState S) (m : Mind) (input : Input) (f : NodeFault) (new : NodeState S) : Type 0 where
-  pub storage : StorageStops reads puts fails old.storage m input f new.storage
+  pub storage : StorageStops storages old.storage m input f new.storage
   pub leaves : new ≡ record old { storage = new.storage; up = None }
 
 -- what a node makes of an input
-pub record NodeSteps {S : Type 0} (reads : S → S → Type 0) (puts fails : S → Key → List ℕ → S → Type 0)
+pub record NodeSteps {S : Type 0} (storages : Ghosts S)
     (old : NodeState S) (input : Input) (result : Result Told NodeFault) (new : NodeState S) : Type 0 where
   -- what comes is of its type
   pub fits : InputFits input
   -- one that is down refuses every input
   pub down : old.up ≡ None → (result ≡ Err fault.Down) × (new ≡ old)
   -- one that is up takes it, refuses it or goes down on it
-  pub taken : IfSome old.up (λ m. IfOk result (λ told. TakesInput reads puts old m input told new))
+  pub taken : IfSome old.up (λ m. IfOk result (λ told. TakesInput storages old m input told new))
   pub refused : IfSome old.up (λ m. IfErr result (λ f. MatchBool (is_stop_fault f)
-      (StopsOnInput reads puts fails old m input f new) (RefusesInput old m input f new)))
+      (StopsOnInput storages old m input f new) (RefusesInput old m input f new)))
   -- what is to be refused is refused
   pub refuses_ : IfSome old.up (λ m. IfSome (refuses m input) (λ f. result ≡ Err f))
 

@@ -1,13 +1,13 @@
 -- What comes of an input.
 use Rattle.std.specs.Prelude.{ℕ, List, [], Option, None}
-use Rattle.sessions.specs.declared.command.Command.{Command}
 use Rattle.wire.specs.declared.frames.envelope.Envelope.{Envelope}
 use Rattle.world.specs.declared.lists.Replied.{Replied}
 use Rattle.world.specs.declared.outputs.Executed.{Executed}
+use Rattle.world.specs.declared.outputs.LogEntry.{LogEntry}
 
 pub record Told : Type 0 where
-  -- what the slot was learnt to hold
-  pub learnt : Option Command
+  -- the slot that was newly learnt, and what it holds
+  pub learnt : Option LogEntry
   -- the reply to a request that waited
   pub executed : Option Executed
   pub sends : List Envelope
@@ -19,7 +19,7 @@ sent sends = record { learnt = None; executed = None; sends = sends }
 abbrev pub nothing : Told
 nothing = sent []
 
--- the reply of a node, at the position of the one slot
+-- the reply of a node
 abbrev pub replied_at : ℕ → Executed → Replied
 replied_at node e =
-    record { node = node; client = e.client; number = e.number; reply = e.reply; position = 1 }
+    record { node = node; client = e.client; number = e.number; reply = e.reply; position = e.position }

@@ -16,27 +16,17 @@ use Rattle.wire.specs.declared.frames.message.Message.TheVariants.{Prepare, Prom
 use Rattle.acceptor.specs.Protocol.{RecordsStand}
 use Rattle.world.specs.declared.input.Input.{Input}
 use Rattle.world.specs.declared.input.Input.TheVariants as input
-use Rattle.world.specs.declared.lists.Submission.{Submission}
 use Rattle.world.specs.declared.lists.Learnt.{Learnt}
+use Rattle.world.specs.declared.outputs.LogEntry.{LogEntry}
 use Rattle.world.specs.declared.telling.Telling.{Telling}
 use Rattle.world.specs.Campaigning.{Campaigning}
 use Rattle.world.specs.Minds.{Mind}
 use Rattle.world.specs.Outputs.{Told}
+pub use Rattle.world.specs.Submissions.{asked_of, command_of}
 
 -- so many nodes; a no-op does nothing
 abbrev pub fleet : ℕ → Fleet Command
 fleet nodes = record { nodes = nodes; noop = NoOp }
-
--- ---- messages
--- what a promise tells is of its first slot
-abbrev pub IsWellTold : Message → Type 0
-IsWellTold (Prepare ballot first) = ⊤
-IsWellTold (Promise p) = (v : Vote Command) → Contains p.entries v → v.slot ≡ p.first
-IsWellTold (Nack n) = ⊤
-IsWellTold (Accept v) = ⊤
-IsWellTold (Accepted v) = ⊤
-IsWellTold (Ask slot) = ⊤
-IsWellTold (Decided slot command) = ⊤
 
 -- ---- inputs, and what is listed of them
 abbrev pub input_of : Input → acts.Input Command
@@ -45,27 +35,13 @@ input_of (input.Message from message) = acts.Came from (message_of message)
 input_of input.Timeout = acts.Nothing
 input_of input.Tick = acts.Nothing
 
--- the message that an input brings, if it brings one, is well told
-abbrev pub IsWellToldInput : Input → Type 0
-IsWellToldInput (input.Submit r) = ⊤
-IsWellToldInput (input.Message from message) = IsWellTold message
-IsWellToldInput input.Timeout = ⊤
-IsWellToldInput input.Tick = ⊤
-
 abbrev pub learning_of : Learnt → history.Learning Command
 learning_of l = record { node = l.node; slot = l.slot; command = l.command }
 
--- what a node learnt at the one slot
-abbrev pub learnings : ℕ → Option Command → List (history.Learning Command)
+-- what a node learnt
+abbrev pub learnings : ℕ → Option LogEntry → List (history.Learning Command)
 learnings node None = []
-learnings node (Some c) = record { node = node; slot = zero; command = c } ∷ []
-
--- what a submission carries
-abbrev pub asked_of : Submission → Asked
-asked_of s = record { client = s.client; number = s.number; op = s.op }
-
-abbrev pub command_of : Submission → Command
-command_of s = Request (asked_of s)
+learnings node (Some e) = record { node = node; slot = e.slot; command = e.command } ∷ []
 
 -- the commands that an input submits
 abbrev pub submissions : Input → List Command

@@ -11,6 +11,7 @@ use Rattle.synod.specs.Runs.{HasCome, IsReached}
 use Rattle.synod.specs.declared.vote.Vote.{Vote}
 use Rattle.stable.specs.Records.{Records}
 use Rattle.stable.specs.Script.{Script, Write, Shows}
+use Rattle.stable.specs.declared.key.Key.{Key}
 use Rattle.stable.specs.declared.key.Key.TheVariants as key
 use Rattle.acceptor.specs.Accepting.{Accepting, RecordsSay}
 use Rattle.acceptor.specs.Forms.{VoteFits}
@@ -23,7 +24,7 @@ use Rattle.world.specs.Minds.{Mind}
 use Rattle.world.specs.States.{NodeState}
 use Rattle.wire.specs.RecordForms.{IsRoundRecord}
 use Rattle.world.specs.Sized.{IsSized}
-use Rattle.world.specs.Protocol.{fleet, frame_of, learning_of, command_of, IsWellTold, MindStands}
+use Rattle.world.specs.Protocol.{fleet, frame_of, learning_of, command_of, MindStands}
 use Rattle.world.specs.Voting.{vote_put, HasVote}
 
 -- what the record of a round says: without one it is 0
@@ -53,9 +54,13 @@ pub record NodeStands {S : Type 0} (contents : Script S → Records) (n : NodeSt
 abbrev pub TookEffect : {S : Type 0} → (Script S → Records) → Script S → Write → Type 0
 TookEffect contents s write = Contains s.writes write ⊎ ((s.unsure ≡ Some write) × Shows (contents s) write)
 
--- each record was put, and the protocol's votes are those that were put
+-- what a key holds was put under it
+abbrev pub HoldsPut : {S : Type 0} → (Script S → Records) → Script S → Key → Type 0
+HoldsPut contents s key = IfSome (contents s key) (λ bytes. TookEffect contents s (key, bytes))
+
+-- each key holds what was put, and the protocol's votes are those that were put
 pub record PutsStand {S : Type 0} (contents : Script S → Records) (s : Script S) (r : synod_records.Records Command) : Type 0 where
-  pub shown : (write : Write) → Shows (contents s) write → TookEffect contents s write
+  pub held : (key : Key) → HoldsPut contents s key
   pub fit : (v : Vote Command) → Contains r.writes (VoteWrite v) → VoteFits v
   pub put : (v : Vote Command) → Contains r.writes (VoteWrite v) → TookEffect contents s (vote_put v)
   pub cast : (v : Vote Command) → VoteFits v → TookEffect contents s (vote_put v) → Contains r.writes (VoteWrite v)
@@ -96,7 +101,6 @@ pub record IsAllowed {S : Type 0} (contents : Script S → Records) (nodes : Lis
   pub state : synod_runs.World Command
   pub reached : IsReached (fleet (length nodes)) state
   pub stands : WorldStands contents nodes frames learnt submitted state
-  pub told : All (λ e. IsWellTold e.message) frames
 
 -- every storage is honest
 abbrev pub AreHonest : {S : Type 0} → (Script S → Type 0) → List (NodeState (Script S)) → Type 0

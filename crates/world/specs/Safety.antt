@@ -1,43 +1,53 @@
 -- What is promised of a world whose storages are honest.
-use Rattle.std.specs.Prelude.{◌≡◌, ◌↔◌, ℕ, map, length, slice_get, Some, IsSome}
+use Rattle.std.specs.Prelude.{◌≡◌, ◌↔◌, ℕ, List, map, length, slice_get, Some, IsSome}
 use Rattle.stable.specs.Records.{Records}
-use Rattle.stable.specs.Script.{Script}
-use Rattle.synod.specs.History.{History, Voted}
+use Rattle.stable.specs.Script.{Script, Write}
+use Rattle.synod.specs.History.{Voted}
 use Rattle.synod.specs.Invariant.{IsAgreed}
+use Rattle.synod.specs.Runs as synod_runs
+use Rattle.synod.specs.Runs.{IsReached}
 use Rattle.synod.specs.declared.vote.Vote.{Vote}
 use Rattle.sessions.specs.declared.command.Command.{Command}
 use Rattle.world.specs.Explaining.{IsExplained}
 use Rattle.world.specs.Protocol.{fleet, frame_of, learning_of, command_of}
 use Rattle.world.specs.Reaching.{IsAllowed, AreHonest}
 use Rattle.world.specs.States.{NodeState}
+use Rattle.world.specs.Submissions.{BringValid}
 use Rattle.world.specs.Telling.{Tells}
 use Rattle.world.specs.Voting.{HasVote, HasChosen}
 use Rattle.world.specs.Worlds.{WorldState}
 
--- a past of the protocol has led here: these are its frames, all that any node learnt, what was submitted, and its
--- votes, which are those that the lists of writes tell; in it no two commands are chosen for one slot, whatever any
--- node learnt is chosen, and each chosen command is a no-op or was submitted
+-- the writes of each node
+abbrev pub writes_of : {S : Type 0} → List (NodeState (Script S)) → List (List Write)
+writes_of nodes = map (λ n. n.storage.writes) nodes
+
+-- moves that the protocol allows lead from its start to this state: its past has these frames, all that any node learnt,
+-- what was submitted, and the votes that the lists of writes tell; in it no two commands are chosen for one slot,
+-- whatever any node learnt is chosen, and each chosen command is a no-op or was submitted
 pub record HasAgreed {S : Type 0} (w : WorldState S) : Type 0 where
-  pub history : History Command
-  pub frames : history.frames ≡ map frame_of w.frames
-  pub learnt : history.learnt ≡ map learning_of w.learnt
-  pub submitted : history.submitted ≡ map command_of w.submitted
+  pub state : synod_runs.World Command
+  pub reached : IsReached (fleet (length w.nodes)) state
+  pub frames : state.past.frames ≡ map frame_of w.frames
+  pub learnt : state.past.learnt ≡ map learning_of w.learnt
+  pub submitted : state.past.submitted ≡ map command_of w.submitted
   pub votes : (i : ℕ) (n : NodeState (Script S)) → slice_get w.nodes i ≡ Some n
-      → (v : Vote Command) → Voted history i v ↔ HasVote n.storage.writes v
-  pub agreed : IsAgreed (fleet (length w.nodes)) history
+      → (v : Vote Command) → Voted state.past i v ↔ HasVote n.storage.writes v
+  pub agreed : IsAgreed (fleet (length w.nodes)) state.past
 
 -- so whatever any node learnt is chosen by the lists of writes, and one list of commands explains everything that any
--- node told
+-- node told. What the requests bring is valid, so that a query has one answer over such a list
 pub record IsSafe {S : Type 0} (w : WorldState S) : Type 0 where
   pub agreed : HasAgreed w
-  pub chosen : HasChosen w
-  pub explained : IsExplained w
+  pub chosen : HasChosen (writes_of w.nodes) w.learnt w.submitted
+  pub explained : IsExplained w.submitted w.learnt w.replies w.answers
+  pub valid : BringValid w.submitted
 
 -- ---- what is kept from call to call
--- moves that the protocol allows lead there, and the lists tell what the nodes know
+-- moves that the protocol allows lead there, the lists tell what the nodes know, and what was submitted is valid
 pub record IsSound {S : Type 0} (contents : Script S → Records) (w : WorldState S) : Type 0 where
   pub allowed : IsAllowed contents w.nodes w.frames w.learnt w.submitted
   pub tells : Tells w
+  pub valid : BringValid w.submitted
 
 -- of a scripted storage, by what holds of the storage inside
 abbrev pub contents_inside : {S : Type 0} → (S → Records) → Script S → Records

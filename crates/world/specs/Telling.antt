@@ -1,4 +1,4 @@
--- What the lists of a world tell of one another, as far as each node knows by itself.
+-- What the lists of a world tell of one another: whatever a reply or an answer rests on was learnt by some node.
 use Rattle.std.specs.Prelude.{◌≡◌, ℕ, zero, ◌+◌, List, [], ◌∷◌, ◌++◌, length, Some, Contains, slice_get}
 use Rattle.std.specs.Option.{option_to_list}
 use Rattle.sessions.specs.Asked.{Asked}
@@ -14,25 +14,31 @@ use Rattle.world.specs.Minds.{Mind}
 use Rattle.world.specs.States.{NodeState}
 use Rattle.world.specs.Worlds.{WorldState}
 
--- the node learnt these commands at the slots from the first on, before a restart or since
-abbrev pub HasLearnt : List Learnt → ℕ → List Command → Type 0
-HasLearnt learnt node log = (slot : ℕ) (c : Command) → slice_get log slot ≡ Some c
-    → Contains learnt (record { node = node; slot = slot; command = c })
+-- some node learnt the command at the slot
+pub record WasLearnt (learnt : List Learnt) (slot : ℕ) (c : Command) : Type 0 where
+  pub entry : Learnt
+  pub there : Contains learnt entry
+  pub at : entry.slot ≡ slot
+  pub holds : entry.command ≡ c
 
--- a reply is to a request that its node learnt, and is that of all that it had learnt up to there
+-- each of these commands was learnt at its slot, from the first on
+abbrev pub WereLearnt : List Learnt → List Command → Type 0
+WereLearnt learnt log = (slot : ℕ) (c : Command) → slice_get log slot ≡ Some c → WasLearnt learnt slot c
+
+-- a reply is to a request that was learnt, and is that of a list of what was learnt up to there
 pub record TellsReply (learnt : List Learnt) (p : Replied) : Type 0 where
   pub before : List Command
   pub request : Asked
-  pub known : HasLearnt learnt p.node (before ++ Request request ∷ [])
+  pub known : WereLearnt learnt (before ++ Request request ∷ [])
   pub of_client : p.client ≡ request.client
   pub of_number : p.number ≡ request.number
   pub position : p.position ≡ length before + 1
   pub replies : RepliesAt (before ++ Request request ∷ []) (length before) request (outcome_code p.reply)
 
--- an answer is that of all that its node had learnt, as much as its position says
+-- an answer is that of a list of what was learnt, as long as its position says
 pub record TellsAnswer (learnt : List Learnt) (a : Answered) : Type 0 where
   pub log : List Command
-  pub known : HasLearnt learnt a.node log
+  pub known : WereLearnt learnt log
   pub position : a.position ≡ length log
   pub answers : Answers log a.query a.text
 
@@ -40,9 +46,9 @@ pub record TellsAnswer (learnt : List Learnt) (a : Answered) : Type 0 where
 abbrev pub prefix : Mind → List Command
 prefix m = option_to_list m.learning.learnt
 
--- what a node that is up knows to be learnt it has told, and its machine stands for that
-pub record Knows (learnt : List Learnt) (node : ℕ) (m : Mind) : Type 0 where
-  pub told : HasLearnt learnt node (prefix m)
+-- what a node that is up knows to be learnt was learnt, and its machine stands for that
+pub record Knows (learnt : List Learnt) (m : Mind) : Type 0 where
+  pub told : WereLearnt learnt (prefix m)
   pub stands : StandsFor m.machine (prefix m)
 
 pub record ListsTell {S : Type 0} (nodes : List (NodeState S)) (learnt : List Learnt) (replies : List Replied)
@@ -50,7 +56,7 @@ pub record ListsTell {S : Type 0} (nodes : List (NodeState S)) (learnt : List Le
   pub slots : (t : Learnt) → Contains learnt t → t.slot ≡ zero
   pub replied : (p : Replied) → Contains replies p → TellsReply learnt p
   pub answered : (a : Answered) → Contains answers a → TellsAnswer learnt a
-  pub knows : (i : ℕ) (n : NodeState S) (m : Mind) → slice_get nodes i ≡ Some n → n.up ≡ Some m → Knows learnt i m
+  pub knows : (i : ℕ) (n : NodeState S) (m : Mind) → slice_get nodes i ≡ Some n → n.up ≡ Some m → Knows learnt m
 
 abbrev pub Tells : {S : Type 0} → WorldState S → Type 0
 Tells w = ListsTell w.nodes w.learnt w.replies w.answers

@@ -1,12 +1,11 @@
 -- The world: all nodes, everything that was sent, and everything that came of it.
 use Rattle.std.specs.Prelude.{◌≡◌, ℕ, zero, ◌+◌, ◌≤◌, List, [], ◌∷◌, ◌++◌, length, replicate, map, slice_get, slice_set, Bool, true, false, Option, Some, None, is_some, is_ok, Result, Ok, Err, IsSome, OnOk, vec_len, vec_capacity, if◌then◌else◌}
-use Rattle.stable.specs.Records.{Records}
 use Rattle.stable.specs.Script.{Script}
-use Rattle.stable.specs.declared.key.Key.{Key}
 use Rattle.stable.specs.declared.scripted.Failing.{Failing}
+use Rattle.stable.specs.declared.stable.Stable.{Ghosts}
 use Rattle.sessions.specs.Asked.{Asked}
-use Rattle.sessions.specs.declared.command.Command.{Command}
 use Rattle.wire.specs.declared.frames.envelope.Envelope.{Envelope}
+use Rattle.store.specs.Operations.{IsSound}
 use Rattle.store.specs.declared.query.Query.{Query}
 use Rattle.wire.specs.FrameSpelling.{Fits}
 use Rattle.world.specs.declared.event.Event.{Event}
@@ -21,6 +20,7 @@ use Rattle.world.specs.declared.lists.Answered.{Answered}
 use Rattle.world.specs.declared.lists.Outcome.{Outcome}
 use Rattle.world.specs.declared.lists.Outcome.TheVariants.{Done, Lost, Refused, Stopped, Answered as AnsweredOutcome}
 use Rattle.world.specs.declared.outputs.Executed.{Executed}
+use Rattle.world.specs.declared.outputs.LogEntry.{LogEntry}
 use Rattle.world.specs.declared.run.Run.{Run}
 use Rattle.world.specs.Faults.{is_stop_fault}
 use Rattle.world.specs.Loading.{Restarts}
@@ -53,9 +53,9 @@ run_of w = record {
 }
 
 -- ---- what a node told joins the lists
-abbrev pub learnt_by : ℕ → Option Command → List Learnt
+abbrev pub learnt_by : ℕ → Option LogEntry → List Learnt
 learnt_by node None = []
-learnt_by node (Some c) = record { node = node; slot = zero; command = c } ∷ []
+learnt_by node (Some e) = record { node = node; slot = e.slot; command = e.command } ∷ []
 
 abbrev pub replied_by : ℕ → Option Executed → List Replied
 replied_by node None = []
@@ -70,7 +70,7 @@ with_told w node told = record w {
   waiting = w.waiting ++ replicate (length told.sends) true;
   learnt = w.learnt ++ learnt_by node told.learnt;
   replies = w.replies ++ replied_by node told.executed;
-  outcomes = w.outcomes ++ Done (is_some told.learnt) (is_some told.executed) ∷ [];
+  outcomes = w.outcomes ++ Done (length (learnt_by node told.learnt)) (length (replied_by node told.executed)) ∷ [];
 }
 
 -- a refusal and a failure are told, and nothing else
@@ -86,14 +86,13 @@ abbrev pub with_node : {S : Type 0} → WorldState S → ℕ → NodeState (Scri
 with_node w i n = record w { nodes = slice_set w.nodes i n }
 
 -- ---- a node takes an input, and what it tells is recorded
-pub record TakesAt {S : Type 0} (reads : Script S → Script S → Type 0)
-    (puts fails : Script S → Key → List ℕ → Script S → Type 0)
+pub record TakesAt {S : Type 0} (storages : Ghosts (Script S))
     (old : WorldState S) (node : ℕ) (input : Input) (taken : Bool) (new : WorldState S) : Type 0 where
   pub before : NodeState (Script S)
   pub here : slice_get old.nodes node ≡ Some before
   pub after : NodeState (Script S)
   pub result : Result Told NodeFault
-  pub steps : NodeSteps reads puts fails before input result after
+  pub steps : NodeSteps storages before input result after
   pub taken_ : taken ≡ is_ok result
   pub leaves : new ≡ recorded (with_node old node after) node result
 
@@ -114,7 +113,7 @@ without_wait w k = record w { waiting = slice_set w.waiting k false }
 
 -- the step is made, and there is nothing to tell
 abbrev pub quiet : {S : Type 0} → WorldState S → WorldState S
-quiet w = with_outcome w (Done false false)
+quiet w = with_outcome w (Done 0 0)
 
 -- a request that a node took joins the list of submissions
 abbrev pub submission_of : ℕ → Asked → Submission
@@ -124,33 +123,31 @@ abbrev pub with_submission : {S : Type 0} → WorldState S → Bool → ℕ → 
 with_submission w taken node r =
     if taken then record w { submitted = w.submitted ++ submission_of node r ∷ [] } else w
 
--- a client's request comes to a node
-pub record SubmitsAt {S : Type 0} (reads : Script S → Script S → Type 0)
-    (puts fails : Script S → Key → List ℕ → Script S → Type 0)
+-- a client's request comes to a node, and what it brings is valid
+pub record SubmitsAt {S : Type 0} (storages : Ghosts (Script S))
     (old : WorldState S) (node : ℕ) (r : Asked) (new : WorldState S) : Type 0 where
+  pub valid : IsSound r.op
   pub taken : Bool
   pub between : WorldState S
-  pub takes : TakesAt reads puts fails old node (input.Submit r) taken between
+  pub takes : TakesAt storages old node (input.Submit r) taken between
   pub leaves : new ≡ with_submission between taken node r
 
 -- a frame has come: a node that is up takes it, and one that is down loses it
-pub record ReceivesAt {S : Type 0} (reads : Script S → Script S → Type 0)
-    (puts fails : Script S → Key → List ℕ → Script S → Type 0)
+pub record ReceivesAt {S : Type 0} (storages : Ghosts (Script S))
     (old : WorldState S) (frame : Envelope) (new : WorldState S) : Type 0 where
   pub receiver : NodeState (Script S)
   pub here : slice_get old.nodes frame.to ≡ Some receiver
   pub lost : receiver.up ≡ None → new ≡ with_outcome old Lost
   pub taken : IsSome receiver.up → (taken : Bool)
-      × TakesAt reads puts fails old frame.to (input.Message frame.from frame.message) taken new
+      × TakesAt storages old frame.to (input.Message frame.from frame.message) taken new
 
 -- frame k comes to its receiver as the envelope that its bytes spell, and waits no more
-pub record DeliversFrame {S : Type 0} (reads : Script S → Script S → Type 0)
-    (puts fails : Script S → Key → List ℕ → Script S → Type 0)
+pub record DeliversFrame {S : Type 0} (storages : Ghosts (Script S))
     (old : WorldState S) (k : ℕ) (new : WorldState S) : Type 0 where
   pub frame : Envelope
   pub sent : slice_get old.frames k ≡ Some frame
   pub fits : Fits 7 frame
-  pub receives : ReceivesAt reads puts fails (without_wait old k) frame new
+  pub receives : ReceivesAt storages (without_wait old k) frame new
 
 -- the next put of a node fails so
 pub record ArmsAt {S : Type 0} (old : WorldState S) (node : ℕ) (failing : Failing) (new : WorldState S) : Type 0 where
@@ -181,34 +178,32 @@ pub record AsksAt {S : Type 0} (old : WorldState S) (node : ℕ) (query : Query)
 
 -- a node restarts
 abbrev pub restart_outcome : ℕ → Result (Unit {0}) NodeFault → Outcome
-restart_outcome node (Ok x) = Done false false
+restart_outcome node (Ok x) = Done 0 0
 restart_outcome node (Err f) = Stopped node f
 
-pub record RestartsAt {S : Type 0} (contents : Script S → Records) (IsHonest : Script S → Type 0)
-    (reads read_fails : Script S → Script S → Type 0) (old : WorldState S) (node : ℕ) (new : WorldState S) : Type 0 where
+pub record RestartsAt {S : Type 0} (storages : Ghosts (Script S)) (old : WorldState S) (node : ℕ) (new : WorldState S) : Type 0 where
   pub before : NodeState (Script S)
   pub here : slice_get old.nodes node ≡ Some before
   pub after : NodeState (Script S)
   pub result : Result (Unit {0}) NodeFault
-  pub restarts : Restarts contents IsHonest reads read_fails before result after
+  pub restarts : Restarts storages before result after
   -- one that is up again knows of each put whether it took effect
   pub settled : OnOk result (after.storage.unsure ≡ None)
   pub leaves : new ≡ with_outcome (with_node old node after) (restart_outcome node result)
 
 -- ---- one atomic step
-abbrev pub Steps : {S : Type 0} (contents : Script S → Records) (IsHonest : Script S → Type 0)
-    (reads read_fails : Script S → Script S → Type 0) (puts fails : Script S → Key → List ℕ → Script S → Type 0)
+abbrev pub Steps : {S : Type 0} (storages : Ghosts (Script S))
     → WorldState S → Event → WorldState S → Type 0
-Steps contents IsHonest reads read_fails puts fails old (event.Submit node client number op) new =
-    SubmitsAt reads puts fails old node (record { client = client; number = number; op = op }) new
-Steps contents IsHonest reads read_fails puts fails old (event.Deliver k) new =
-    DeliversFrame reads puts fails old k new
-Steps contents IsHonest reads read_fails puts fails old (event.Drop k) new = new ≡ quiet (without_wait old k)
-Steps contents IsHonest reads read_fails puts fails old (event.Timeout node) new =
-    (taken : Bool) × TakesAt reads puts fails old node input.Timeout taken new
-Steps contents IsHonest reads read_fails puts fails old (event.Tick node) new =
-    (taken : Bool) × TakesAt reads puts fails old node input.Tick taken new
-Steps contents IsHonest reads read_fails puts fails old (event.Restart node) new =
-    RestartsAt contents IsHonest reads read_fails old node new
-Steps contents IsHonest reads read_fails puts fails old (event.Fault node failing) new = ArmsAt old node failing new
-Steps contents IsHonest reads read_fails puts fails old (event.Query node query) new = AsksAt old node query new
+Steps storages old (event.Submit node client number op) new =
+    SubmitsAt storages old node (record { client = client; number = number; op = op }) new
+Steps storages old (event.Deliver k) new =
+    DeliversFrame storages old k new
+Steps storages old (event.Drop k) new = new ≡ quiet (without_wait old k)
+Steps storages old (event.Timeout node) new =
+    (taken : Bool) × TakesAt storages old node input.Timeout taken new
+Steps storages old (event.Tick node) new =
+    (taken : Bool) × TakesAt storages old node input.Tick taken new
+Steps storages old (event.Restart node) new =
+    RestartsAt storages old node new
+Steps storages old (event.Fault node failing) new = ArmsAt old node failing new
+Steps storages old (event.Query node query) new = AsksAt old node query new

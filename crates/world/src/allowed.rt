@@ -16,13 +16,13 @@ ghost use Rattle.world.specs.Fitting.{InputFits};
 ghost use Rattle.world.specs.Fleets.{ComesFrom};
 ghost use Rattle.world.specs.Sized.{IsSized};
 ghost use Rattle.world.specs.Reaching.{SaysRound};
-ghost use Rattle.world.specs.Protocol.{IsNode, IsSeen, IsWellToldInput, MayTake};
+ghost use Rattle.world.specs.Protocol.{IsNode, IsSeen, MayTake};
 
 /// Whatever a node makes of an input that it takes is allowed.
 pub fn taking_is_allowed()
     ensures { (nodes i : ℕ) (old new : Mind) (input : Input) (told : Told) (x : Local Command) → nodes ≤ 7
         → i < nodes → IsNode i nodes old → IsSized old → refuses old input ≡ None → Takes old input new told
-        → IsWellToldInput input → ComesFrom nodes input → IsSeen old x → MayTake nodes i input x new told }
+        → ComesFrom nodes input → IsSeen old x → MayTake nodes i input x new told }
 {}
 
 /// Records that say what a node holds say so after an input and the write that it makes.

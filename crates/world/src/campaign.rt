@@ -3,7 +3,7 @@
 ghost use Rattle.std.specs.Prelude.{◌≡◌, true, false, IsTrue, ◌↔◌, Some, None};
 ghost use Rattle.std.specs.Option.{option_copied};
 ghost use Rattle.world.specs.Proposing.{may_propose};
-ghost use Rattle.world.specs.Campaigning.{begun, higher, told_with, CountsPromise, IsCounted};
+ghost use Rattle.world.specs.Campaigning.{begun, higher, told_here, told_with, CountsPromise, IsCounted};
 
 use sessions::Command;
 use std::marker::Model;
@@ -102,7 +102,7 @@ impl Campaign {
 
     /// Counts a promise for the ballot and the slot, once a node, while it gathers. With a majority it leads.
     pub fn count(&mut self, from: NodeId, promise: Promise, nodes: Nodes)
-        ensures { CountsPromise nodes self.old from promise.ballot promise.first promise.entries self.new }
+        ensures { CountsPromise nodes self.old from promise.ballot promise.first (told_here promise.entries) self.new }
     {
         if !self.counts(from, promise.ballot(), promise.first().value()) {
             return;
@@ -134,13 +134,16 @@ impl Campaign {
     }
 }
 
-// The vote of the highest ballot among what was told before and what is told now.
+// The vote of the highest ballot at the one slot, among what was told before and what is told now.
 fn highest(told: Option<Vote<Command>>, entries: Entries) -> Option<Vote<Command>>
-    ensures { result ≡ told_with told entries.items }
+    ensures { result ≡ told_with told (told_here entries.items) }
 {
     let mut highest = told;
     for entry in entries {
-        highest = Some(higher(highest, entry.into_vote()));
+        let vote = entry.into_vote();
+        if vote.slot.value() == 0 {
+            highest = Some(higher(highest, vote));
+        }
     }
     highest
 }

@@ -1,6 +1,6 @@
 //! What may happen in a world.
 
-ghost use Rattle.std.specs.Prelude.{◌≡◌, IfOk};
+ghost use Rattle.std.specs.Prelude.{◌≡◌};
 
 use sessions::Number;
 use stable::Failing;
@@ -34,11 +34,10 @@ pub enum Event {
     Query(NodeId, Query),
 }
 
-impl Event {
-    /// A copy, equal to it.
-    pub fn try_clone(&self) -> Result<Event, AllocError>
-        ensures { IfOk result (λ copy. copy ≡ self.now) }
-    {
+impl Clone for Event {
+    ghost is_clone = { λ original copy. copy ≡ original };
+
+    fn clone(&self) -> Result<Event, AllocError> {
         match self {
             Event::Submit {
                 node,
@@ -49,7 +48,7 @@ impl Event {
                 node: *node,
                 client: *client,
                 number: *number,
-                op: op.try_clone()?,
+                op: op.clone()?,
             }),
             Event::Deliver(frame) => Ok(Event::Deliver(*frame)),
             Event::Drop(frame) => Ok(Event::Drop(*frame)),

@@ -26,14 +26,13 @@ pub fn a_start_tells<S>()
 /// Each step that leaves the storages honest keeps what the lists of a world tell of one another.
 pub fn steps_tell<S: Stable>()
     ensures { (old new : WorldState S) (event : Event)
-        → Steps (⟦<Scripted<S> as Stable>⟧.contents) (⟦<Scripted<S> as Stable>⟧.IsHonest)
-        (⟦<Scripted<S> as Stable>⟧.reads) (⟦<Scripted<S> as Stable>⟧.read_fails) (⟦<Scripted<S> as Stable>⟧.puts)
-        (⟦<Scripted<S> as Stable>⟧.fails) old event new
+        → Steps (⟦<Scripted<S> as Stable>⟧) old event new
         → AreHonest (⟦<Scripted<S> as Stable>⟧.IsHonest) new.nodes → Tells old → Tells new }
 {}
 
 /// Where any two nodes that learnt a slot learnt one command there, a no-op or a request that was submitted, one list of
 /// commands explains everything that any node told.
 pub fn tellings_are_explained<S>()
-    ensures { (w : WorldState S) → Tells w → LearntAgree w → LearntGrounded w → IsExplained w }
+    ensures { (w : WorldState S) → Tells w → LearntAgree w.learnt → LearntGrounded w.submitted w.learnt
+        → IsExplained w.submitted w.learnt w.replies w.answers }
 {}

@@ -30,7 +30,7 @@ mod world;
 pub use event::Event;
 pub use fault::{NodeFault, WorldFault};
 pub use frame::Frame;
-pub use laws::lists_are_as_told;
+pub use laws::{answers_are_one, lists_are_as_told};
 pub use lists::{Answered, Learnt, Outcome, Replied, Submission, Text};
 pub use log::{LOG_SLOTS, MOST_DELIVERIES, MOST_WAITING};
 pub use world::World;

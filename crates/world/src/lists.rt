@@ -78,8 +78,8 @@ pub struct Answered {
 /// What came of a step. What was learnt, replied and answered stands in the world's lists, in the order of the steps.
 #[derive(Clone, Copy, Debug, PartialEq, Eq)]
 pub enum Outcome {
-    /// The step was made: whether a node learnt a slot by it, and whether a request that waited there has its reply.
-    Done(bool, bool),
+    /// The step was made: how many slots a node learnt by it, and how many requests that waited there have their reply.
+    Done { learnt: u32, replies: u32 },
     /// A query was answered.
     Answered,
     /// A frame came to a node that is down, and was lost.

@@ -37,9 +37,9 @@ pub fn choice(told: Option<&Vote<Command>>, waiting: &[Request]) -> Result<Comma
     ensures { IfOk result (λ command. command ≡ choice (option_copied told.entry) waiting.now) }
 {
     match told {
-        Some(vote) => vote.command.try_clone(),
+        Some(vote) => vote.command.clone(),
         None => match waiting {
-            [request, ..] => Ok(Command::Request(request.try_clone()?)),
+            [request, ..] => Ok(Command::Request(request.clone()?)),
             [] => Ok(Command::NoOp),
         },
     }

@@ -25,7 +25,7 @@ pub struct Node<S> {
 impl<S: Stable> Node<S> {
     ghost use Rattle.world.specs.Fitting.{InputFits};
     ghost use Rattle.world.specs.Fleets.{IsMember};
-    ghost use Rattle.world.specs.Loading.{IsLoaded, IsDamaged, Restarts};
+    ghost use Rattle.world.specs.Loading.{IsLoaded, Restarts};
     ghost use Rattle.world.specs.Nodes.{state_of, NodeSteps, NodeAnswers};
 
     /// A node over these records, which it loads. It begins down where they can't be loaded.
@@ -56,10 +56,8 @@ impl<S: Stable> Node<S> {
 
     /// Loses what is not in the records, and loads these.
     pub fn restart(&mut self, alloc: Global) -> Result<(), NodeFault>
-        ensures restarts { Restarts S.contents S.IsHonest S.reads S.read_fails (state_of self.old) result (state_of self.new) }
+        ensures restarts { Restarts S.Stable (state_of self.old) result (state_of self.new) }
         ensures settled { OnOk result (S.IsSettled (state_of self.new).storage) }
-        ensures damaged { S.IsHonest (state_of self.new).storage → IsErrOf result NodeFault.Damaged
-            → IsDamaged S.contents S.HasStrayKey (state_of self.old).storage }
     {
         self.stop();
         let running = Running::load(alloc, &mut self.storage, self.id, self.nodes)?;
@@ -77,7 +75,7 @@ impl<S: Stable> Node<S> {
     /// Takes an input, which may stand in a frame where it is a message.
     pub fn step(&mut self, alloc: Global, input: Input) -> Result<Outputs, NodeFault>
         requires fits { InputFits input }
-        ensures steps { NodeSteps S.reads S.puts S.fails (state_of self.old) input result (state_of self.new) }
+        ensures steps { NodeSteps S.Stable (state_of self.old) input result (state_of self.new) }
         ensures few { IfOk result (λ told. length told.sends ≤ MOST_NODES) }
     {
         let Some(running) = &mut self.running else {

@@ -1,6 +1,7 @@
 //! What a client asks a node for.
 
 ghost use Rattle.std.specs.Prelude.{◌≡◌, ◌↔◌, IsOk, IfOk, true};
+ghost use Rattle.store.specs.Operations.{IsSound};
 ghost use Rattle.world.specs.Offers.{is_short};
 
 use sessions::{Number, Request, TooLong};
@@ -25,10 +26,12 @@ impl Model for Offer {
 }
 
 impl Offer {
-    /// What this client asks for under this number.
+    /// What this client asks for under this number. What it brings is valid.
     pub fn new(client: u8, number: Number, op: Op) -> Offer
-        ensures { result ≡ record { client = client; number = number; op = op } }
+        ensures value { result ≡ record { client = client; number = number; op = op } }
+        ensures valid { IsSound op }
     {
+        see_valid(&op);
         Offer { client, number, op }
     }
 
@@ -38,5 +41,20 @@ impl Offer {
         ensures value { IfOk result (λ request. request ≡ self) }
     {
         Request::new(self.client, self.number, self.op)
+    }
+}
+
+// What an operation brings is valid, as its type has it: a sequence, or a point with its coordinates in range.
+fn see_valid(op: &Op)
+    ensures { IsSound op.now }
+{
+    match op {
+        Op::Put(_, seq) => {
+            let _interp = seq.interp();
+        }
+        Op::Append(addition) => {
+            let _point = addition.point();
+        }
+        Op::Remove(_) => {}
     }
 }

@@ -7,20 +7,29 @@ use super::frame::Frame;
 use sessions::{Command, Number};
 use std::alloc::Global;
 use std::marker::Model;
+use synod::Slot;
 
-/// A request that waited at the node was executed, and has this reply.
+/// A slot that the node newly learnt, and what it holds.
+#[derive(Debug, Drop)]
+pub struct LogEntry {
+    pub slot: Slot,
+    pub command: Command,
+}
+
+/// A request that waited at the node was executed, and has this reply. Its position is one more than its slot.
 #[derive(Clone, Copy, Debug, PartialEq, Eq)]
 pub struct Executed {
     pub client: u8,
     pub number: Number,
     pub reply: sessions::Outcome,
+    pub position: u32,
 }
 
 /// What comes of an input, to be told in this order.
 #[derive(Debug, Drop)]
 pub struct Outputs {
-    /// What the slot was learnt to hold.
-    pub learnt: Option<Command>,
+    /// What was newly learnt.
+    pub learnt: Option<LogEntry>,
     /// The reply to a request that waited.
     pub executed: Option<Executed>,
     /// What is sent.

@@ -6,6 +6,7 @@ ghost use Rattle.byteorder.specs.Endian.{big_bytes};
 ghost use Rattle.stable.specs.declared.key.Key.TheVariants as key;
 ghost use Rattle.world.specs.Fleets.{IsProposerOf};
 ghost use Rattle.wire.specs.RecordForms.{IsRoundRecord};
+ghost use Rattle.world.specs.Campaigning.{told_here};
 ghost use Rattle.world.specs.Proposing.{loaded, is_of, next_round, StartsCampaign, HearsPromise, HearsRefusal, filled, fill_sends, closed, sends_again};
 
 use super::campaign::Campaign;
@@ -19,8 +20,7 @@ use stable::{Key, Stable, StableFault};
 use std::alloc::{AllocError, Global};
 use std::marker::Model;
 use synod::{Ballot, MOST_NODES};
-use wire::frames::{round_of_record, round_record};
-use wire::{Nack, NodeId, Nodes, Promise};
+use wire::{Nack, NodeId, Nodes, Promise, round_of_record, round_record};
 
 /// A node's proposer. After `Device` or `Memory` it must be dropped, and loaded again.
 #[derive(Drop)]
@@ -155,7 +155,7 @@ impl Proposer {
 
     /// A promise has come.
     pub fn on_promise(&mut self, from: NodeId, promise: Promise)
-        ensures { HearsPromise self.old from promise.ballot promise.first promise.entries self.new }
+        ensures { HearsPromise self.old from promise.ballot promise.first (told_here promise.entries) self.new }
     {
         let Some(campaign) = &mut self.campaign else {
             return;
@@ -211,7 +211,7 @@ impl Proposer {
             return Ok(Vec::new(alloc));
         }
         let command = choice(campaign.told(), self.waiting.as_slice())?;
-        let message = accept(campaign.ballot(), command.try_clone()?);
+        let message = accept(campaign.ballot(), command.clone()?);
         campaign.propose(command);
         send_to_all(alloc, self.id, self.nodes, message)
     }
@@ -235,7 +235,7 @@ impl Proposer {
         }
         match campaign.proposal() {
             Some(command) => {
-                let message = accept(campaign.ballot(), command.try_clone()?);
+                let message = accept(campaign.ballot(), command.clone()?);
                 send_to_all(alloc, self.id, self.nodes, message)
             }
             None => Ok(Vec::new(alloc)),

@@ -17,13 +17,13 @@ use super::lists::{Answered, Learnt, Outcome, Replied, Submission, Text};
 use super::log::MOST_DELIVERIES;
 use super::node::Node;
 use super::offer::Offer;
-use super::outputs::{Executed, Outputs};
+use super::outputs::{Executed, LogEntry, Outputs};
 use super::start::start_nodes;
 use sessions::Number;
 use stable::{Failing, MemStable, Put, Scripted, Stable};
 use std::alloc::Global;
 use store::{Op, Query};
-use synod::{MOST_NODES, Slot};
+use synod::MOST_NODES;
 use wire::{Envelope, NodeId, Nodes};
 
 /// All nodes of a run, over storages of one kind.
@@ -51,7 +51,7 @@ impl Run<MemStable> {
 
     /// A world of so many nodes over empty records in memory. `Memory` is its only fault.
     pub fn new(alloc: Global, count: Nodes) -> Result<Run<MemStable>, WorldFault>
-        ensures start { IfOk result (λ w. IsStart (⟦<Scripted<MemStable> as Stable>⟧.contents) count (run_of w)) }
+        ensures start { IfOk result (λ w. IsStart (⟦<Scripted<MemStable> as Stable>⟧) count (run_of w)) }
         ensures faults { IfErr result (λ f. f ≡ WorldFault.Memory) }
     {
         let nodes = start_nodes(alloc, count)?;
@@ -128,10 +128,7 @@ impl<S: Stable> Run<S> {
 
     /// One atomic step. After a fault the world is as it was.
     pub fn step(&mut self, alloc: Global, event: Event) -> Result<(), WorldFault>
-        ensures steps { OnOk result (Steps (⟦<Scripted<S> as Stable>⟧.contents)
-            (⟦<Scripted<S> as Stable>⟧.IsHonest) (⟦<Scripted<S> as Stable>⟧.reads)
-            (⟦<Scripted<S> as Stable>⟧.read_fails) (⟦<Scripted<S> as Stable>⟧.puts)
-            (⟦<Scripted<S> as Stable>⟧.fails) (run_of self.old) event (run_of self.new)) }
+        ensures steps { OnOk result (Steps (⟦<Scripted<S> as Stable>⟧) (run_of self.old) event (run_of self.new)) }
         ensures err { OnErr result (run_of self.new ≡ run_of self.old) }
 
         // Each fault.
@@ -161,18 +158,15 @@ impl<S: Stable> Run<S> {
 
     /// Delivers the lowest waiting frame until none waits: how many. What was delivered before a fault stays so.
     pub fn flush(&mut self, alloc: Global) -> Result<u32, WorldFault>
-        ensures delivers { IfOk result (λ n. Delivers (⟦<Scripted<S> as Stable>⟧.reads)
-            (⟦<Scripted<S> as Stable>⟧.puts) (⟦<Scripted<S> as Stable>⟧.fails)
+        ensures delivers { IfOk result (λ n. Delivers (⟦<Scripted<S> as Stable>⟧)
             (run_of self.old) n (run_of self.new)) }
         ensures to_the_end { OnOk result (NoneWaits (run_of self.new).waiting) }
         ensures most { IfOk result (λ n. n ≤ MOST_DELIVERIES) }
 
         // What a fault leaves.
-        ensures limit { IsErrOf result WorldFault.FlushLimit → Delivers (⟦<Scripted<S> as Stable>⟧.reads)
-            (⟦<Scripted<S> as Stable>⟧.puts) (⟦<Scripted<S> as Stable>⟧.fails)
+        ensures limit { IsErrOf result WorldFault.FlushLimit → Delivers (⟦<Scripted<S> as Stable>⟧)
             (run_of self.old) MOST_DELIVERIES (run_of self.new) }
-        ensures memory { IsErrOf result WorldFault.Memory → DeliversSome (⟦<Scripted<S> as Stable>⟧.reads)
-            (⟦<Scripted<S> as Stable>⟧.puts) (⟦<Scripted<S> as Stable>⟧.fails)
+        ensures memory { IsErrOf result WorldFault.Memory → DeliversSome (⟦<Scripted<S> as Stable>⟧)
             (run_of self.old) MOST_DELIVERIES (run_of self.new) }
         ensures not_to_the_end { OnErr result (OneWaits (run_of self.new).waiting) }
         ensures faults { IfErr result (λ f. (f ≡ WorldFault.FlushLimit) ⊎ (f ≡ WorldFault.Memory)) }
@@ -212,8 +206,7 @@ impl<S: Stable> Run<S> {
         number: Number,
         op: Op,
     ) -> Result<(), WorldFault>
-        ensures submits { OnOk result (SubmitsAt (⟦<Scripted<S> as Stable>⟧.reads)
-            (⟦<Scripted<S> as Stable>⟧.puts) (⟦<Scripted<S> as Stable>⟧.fails)
+        ensures submits { OnOk result (SubmitsAt (⟦<Scripted<S> as Stable>⟧)
             (run_of self.old) node (record { client = client; number = number; op = op }) (run_of self.new)) }
         ensures err { OnErr result (run_of self.new ≡ run_of self.old) }
         ensures no_node { IsErrOf result WorldFault.NoSuchNode ↔ (length (run_of self.old).nodes ≤ node) }
@@ -221,7 +214,7 @@ impl<S: Stable> Run<S> {
     {
         self.find(node)?;
         self.reserve()?;
-        let copy = op.try_clone()?;
+        let copy = op.clone()?;
         let offer = Offer::new(client, number, op);
         if self.take(alloc, node, Input::Submit(offer)) {
             let _ = self.submitted.push(Submission {
@@ -238,8 +231,7 @@ impl<S: Stable> Run<S> {
     fn input(&mut self, alloc: Global, node: NodeId, input: Input) -> Result<(), WorldFault>
         requires sender { ComesFrom (vec_len self.old.nodes) input }
         requires fits { InputFits input }
-        ensures takes { OnOk result ((taken : Bool) × TakesAt (⟦<Scripted<S> as Stable>⟧.reads)
-            (⟦<Scripted<S> as Stable>⟧.puts) (⟦<Scripted<S> as Stable>⟧.fails)
+        ensures takes { OnOk result ((taken : Bool) × TakesAt (⟦<Scripted<S> as Stable>⟧)
             (run_of self.old) node input taken (run_of self.new)) }
         ensures err { OnErr result (run_of self.new ≡ run_of self.old) }
         ensures no_node { IsErrOf result WorldFault.NoSuchNode ↔ (length (run_of self.old).nodes ≤ node) }
@@ -253,8 +245,7 @@ impl<S: Stable> Run<S> {
 
     // A frame comes to its receiver.
     fn deliver(&mut self, alloc: Global, frame: u64) -> Result<(), WorldFault>
-        ensures delivers { OnOk result (DeliversFrame (⟦<Scripted<S> as Stable>⟧.reads)
-            (⟦<Scripted<S> as Stable>⟧.puts) (⟦<Scripted<S> as Stable>⟧.fails)
+        ensures delivers { OnOk result (DeliversFrame (⟦<Scripted<S> as Stable>⟧)
             (run_of self.old) frame (run_of self.new)) }
         ensures err { OnErr result (run_of self.new ≡ run_of self.old) }
         ensures no_frame { IsErrOf result WorldFault.NoSuchMessage
@@ -274,8 +265,7 @@ impl<S: Stable> Run<S> {
         requires between { IsBetween (vec_len self.old.nodes) envelope }
         requires fits { Fits 7 envelope }
         requires room { HasRoom self.old }
-        ensures { ReceivesAt (⟦<Scripted<S> as Stable>⟧.reads) (⟦<Scripted<S> as Stable>⟧.puts)
-            (⟦<Scripted<S> as Stable>⟧.fails) (run_of self.old) envelope (run_of self.new) }
+        ensures { ReceivesAt (⟦<Scripted<S> as Stable>⟧) (run_of self.old) envelope (run_of self.new) }
     {
         let Envelope { from, to, message } = envelope;
         let at = &self.nodes[usize::from(to.value())];
@@ -380,9 +370,7 @@ impl<S: Stable> Run<S> {
 
     // A node loses what is not in its records, and loads these.
     fn restart(&mut self, alloc: Global, node: NodeId) -> Result<(), WorldFault>
-        ensures restarts { OnOk result (RestartsAt (⟦<Scripted<S> as Stable>⟧.contents)
-            (⟦<Scripted<S> as Stable>⟧.IsHonest) (⟦<Scripted<S> as Stable>⟧.reads)
-            (⟦<Scripted<S> as Stable>⟧.read_fails) (run_of self.old) node (run_of self.new)) }
+        ensures restarts { OnOk result (RestartsAt (⟦<Scripted<S> as Stable>⟧) (run_of self.old) node (run_of self.new)) }
         ensures err { OnErr result (run_of self.new ≡ run_of self.old) }
         ensures no_node { IsErrOf result WorldFault.NoSuchNode ↔ (length (run_of self.old).nodes ≤ node) }
         ensures faults { IfErr result (λ f. (f ≡ WorldFault.NoSuchNode) ⊎ (f ≡ WorldFault.Memory)) }
@@ -397,8 +385,7 @@ impl<S: Stable> Run<S> {
     fn restart_node(&mut self, alloc: Global, node: NodeId)
         requires there { node < vec_len self.old.nodes }
         requires room { HasRoom self.old }
-        ensures { RestartsAt (⟦<Scripted<S> as Stable>⟧.contents) (⟦<Scripted<S> as Stable>⟧.IsHonest)
-            (⟦<Scripted<S> as Stable>⟧.reads) (⟦<Scripted<S> as Stable>⟧.read_fails)
+        ensures { RestartsAt (⟦<Scripted<S> as Stable>⟧)
             (run_of self.old) node (run_of self.new) }
     {
         let at = &mut self.nodes[usize::from(node.value())];
@@ -446,8 +433,7 @@ impl<S: Stable> Run<S> {
         requires sender { ComesFrom (vec_len self.old.nodes) input }
         requires fits { InputFits input }
         requires room { HasRoom self.old }
-        ensures taken { TakesAt (⟦<Scripted<S> as Stable>⟧.reads) (⟦<Scripted<S> as Stable>⟧.puts)
-            (⟦<Scripted<S> as Stable>⟧.fails) (run_of self.old) node input result (run_of self.new) }
+        ensures taken { TakesAt (⟦<Scripted<S> as Stable>⟧) (run_of self.old) node input result (run_of self.new) }
         ensures submitted { self.new.submitted ≡ self.old.submitted }
     {
         let at = &mut self.nodes[usize::from(node.value())];
@@ -492,9 +478,11 @@ impl<S: Stable> Run<S> {
             executed,
             mut sends,
         } = outputs;
-        let outcome = Outcome::Done(learnt.is_some(), executed.is_some());
-        if let Some(command) = learnt {
-            let slot = Slot::first();
+        let outcome = Outcome::Done {
+            learnt: u32::from(learnt.is_some()),
+            replies: u32::from(executed.is_some()),
+        };
+        if let Some(LogEntry { slot, command }) = learnt {
             let _ = self.learnt.push(Learnt {
                 node,
                 slot,
@@ -524,7 +512,7 @@ impl<S: Stable> Run<S> {
     }
 }
 
-// A reply, at the position of the one slot.
+// A reply of a node.
 fn replied(node: NodeId, executed: Executed) -> Replied
     ensures { result ≡ replied_at node executed }
 {
@@ -533,9 +521,12 @@ fn replied(node: NodeId, executed: Executed) -> Replied
         client: executed.client,
         number: executed.number,
         reply: executed.reply,
-        position: 1,
+        position: executed.position,
     }
 }
 
 // The step was made, and there is nothing to tell.
-const QUIET: Outcome = Outcome::Done(false, false);
+const QUIET: Outcome = Outcome::Done {
+    learnt: 0,
+    replies: 0,
+};

@@ -18,7 +18,7 @@ use super::input::Input;
 use super::learner::Learner;
 use super::log::LOG_SLOTS;
 use super::offer::Offer;
-use super::outputs::{Executed, Outputs};
+use super::outputs::{Executed, LogEntry, Outputs};
 use super::proposer::Proposer;
 use super::sends::send_to_all;
 use acceptor::{Acceptor, Answer};
@@ -58,6 +58,7 @@ impl Running {
         ensures loads { S.IsHonest storage.new → IfOk result (λ running.
             IsLoaded (S.contents storage.old) id nodes (mind_of running)) }
         ensures own { IfOk result (λ running. IsMindOf id nodes (mind_of running)) }
+        ensures sound { S.IsHonest storage.new → OnOk result (¬ (IsDamaged S.Stable storage.old)) }
         ensures reads { OnOk result (S.reads storage.old storage.new) }
         ensures settled { OnOk result (S.IsSettled storage.new) }
 
@@ -66,7 +67,7 @@ impl Running {
         ensures memory { IsErrOf result StableFault.Memory → S.reads storage.old storage.new }
         ensures damaged { IsErrOf result StableFault.Damaged → S.reads storage.old storage.new }
         ensures damaged_record { S.IsHonest storage.new → IsErrOf result StableFault.Damaged
-            → IsDamaged S.contents S.HasStrayKey storage.old }
+            → IsDamaged S.Stable storage.old }
     {
         let acceptor = Acceptor::load(alloc, storage)?;
         let proposer = Proposer::load(alloc, storage, id, nodes)?;
@@ -107,7 +108,7 @@ impl Running {
         ensures few { IfOk result (λ told. length told.sends ≤ MOST_NODES) }
         ensures takes { IfOk result (λ told.
             Takes (mind_of self.old) input (mind_of self.new) told) }
-        ensures written { OnOk result (HasMade S.reads S.puts storage.old storage.new
+        ensures written { OnOk result (HasMade S.Stable storage.old storage.new
             (Writes (mind_of self.old) input)) }
 
         // What is refused, and only that.
@@ -118,9 +119,9 @@ impl Running {
 
         // What a failure leaves.
         ensures device { IsErrOf result NodeFault.Device
-            → HasFailedToMake S.fails storage.old storage.new (Writes (mind_of self.old) input) }
+            → HasFailedToMake S.Stable storage.old storage.new (Writes (mind_of self.old) input) }
         ensures memory { IsErrOf result NodeFault.Memory → S.reads storage.old storage.new
-            ⊎ HasMade S.reads S.puts storage.old storage.new (Writes (mind_of self.old) input) }
+            ⊎ HasMade S.Stable storage.old storage.new (Writes (mind_of self.old) input) }
     {
         match input {
             Input::Submit(offer) => self.submit(alloc, offer),
@@ -141,14 +142,14 @@ impl Running {
         ensures few { IfOk result (λ told. length told.sends ≤ MOST_NODES) }
         ensures takes { IfOk result (λ told.
             TakesMessage (mind_of self.old) from message (mind_of self.new) told) }
-        ensures written { OnOk result (HasMade S.reads S.puts storage.old storage.new
+        ensures written { OnOk result (HasMade S.Stable storage.old storage.new
             (WritesOnMessage (mind_of self.old) message)) }
         ensures err { IfErr result (λ fault. (fault ≡ NodeFault.Device) ⊎ (fault ≡ NodeFault.Memory)) }
         ensures device { IsErrOf result NodeFault.Device
-            → HasFailedToMake S.fails storage.old storage.new
+            → HasFailedToMake S.Stable storage.old storage.new
             (WritesOnMessage (mind_of self.old) message) }
         ensures memory { IsErrOf result NodeFault.Memory → S.reads storage.old storage.new
-            ⊎ HasMade S.reads S.puts storage.old storage.new
+            ⊎ HasMade S.Stable storage.old storage.new
             (WritesOnMessage (mind_of self.old) message) }
     {
         match message {
@@ -193,12 +194,12 @@ impl Running {
         ensures few { IfOk result (λ told. length told.sends ≤ MOST_NODES) }
         ensures takes { IfOk result (λ told.
             Takes (mind_of self.old) input.Timeout (mind_of self.new) told) }
-        ensures written { OnOk result (HasMade S.reads S.puts storage.old storage.new
+        ensures written { OnOk result (HasMade S.Stable storage.old storage.new
             (Writes (mind_of self.old) input.Timeout)) }
         ensures refuses { IfSome (refuses_timeout (mind_of self.old)) (λ fault. (result ≡ Err fault)
             × (mind_of self.new ≡ mind_of self.old) × (storage.new ≡ storage.old)) }
         ensures device { IsErrOf result NodeFault.Device
-            → HasFailedToMake S.fails storage.old storage.new (Writes (mind_of self.old) input.Timeout) }
+            → HasFailedToMake S.Stable storage.old storage.new (Writes (mind_of self.old) input.Timeout) }
         ensures memory { IsErrOf result NodeFault.Memory → S.reads storage.old storage.new }
         ensures err { IfErr result (λ fault. (fault ≡ NodeFault.Device) ⊎ (fault ≡ NodeFault.Memory)
             ⊎ (refuses_timeout (mind_of self.old) ≡ Some fault)) }
@@ -325,10 +326,13 @@ impl Running {
         let Some(command) = self.learner.get(learned.slot) else {
             unreachable!();
         };
-        let learnt = command.try_clone()?;
-        let executed = self.execute(&learnt)?;
+        let learnt = command.clone()?;
+        let executed = self.execute(slot, &learnt)?;
         Ok(Outputs {
-            learnt: Some(learnt),
+            learnt: Some(LogEntry {
+                slot,
+                command: learnt,
+            }),
             executed,
             sends: Vec::new(alloc),
         })
@@ -366,10 +370,10 @@ impl Running {
         Ok(Outputs::sent(sends))
     }
 
-    // A command is learnt: it is executed, and a request that waited here has its reply.
-    fn execute(&mut self, command: &Command) -> Result<Option<Executed>, AllocError>
+    // A command is learnt at a slot: it is executed, and a request that waited here has its reply.
+    fn execute(&mut self, slot: Slot, command: &Command) -> Result<Option<Executed>, AllocError>
         ensures reply { IfOk result (λ told.
-            told ≡ executed_reply (mind_of self.old).machine (mind_of self.old).proposing command.now) }
+            told ≡ executed_reply (mind_of self.old).machine (mind_of self.old).proposing slot command.now) }
         ensures state { OnOk result (mind_of self.new ≡ record (mind_of self.old) {
           proposing = after_learning (mind_of self.old).proposing command.now;
           machine = after_command (mind_of self.old).machine command.now;
@@ -393,6 +397,7 @@ impl Running {
             client: request.client(),
             number: request.number(),
             reply,
+            position: slot.value() + 1,
         }))
     }
 }

@@ -15,7 +15,7 @@ pub fn start_nodes(
     alloc: Global,
     count: Nodes,
 ) -> Result<Vec<Node<Scripted<MemStable>>>, AllocError>
-    ensures started { IfOk result (λ nodes. HaveStarted (⟦<Scripted<MemStable> as Stable>⟧.contents)
+    ensures started { IfOk result (λ nodes. HaveStarted (⟦<Scripted<MemStable> as Stable>⟧)
         count count (map state_of nodes.items)) }
     ensures few { IfOk result (λ nodes. vec_len nodes ≤ MOST_NODES) }
 {
@@ -28,7 +28,7 @@ pub fn start_nodes(
 
 // A node over empty records in memory.
 fn start_node(alloc: Global, id: NodeId, count: Nodes) -> Node<Scripted<MemStable>>
-    ensures { IsStarted (⟦<Scripted<MemStable> as Stable>⟧.contents) id count (state_of result) }
+    ensures { IsStarted (⟦<Scripted<MemStable> as Stable>⟧) id count (state_of result) }
 {
     Node::start(
         alloc,

@@ -34,16 +34,13 @@ pub struct World<S: Stable> {
 impl World<MemStable> {
     ghost use Rattle.world.specs.Seen.{world_of};
     ghost use Rattle.world.specs.Flushing.{IsStart};
-    ghost use Rattle.world.specs.Reaching.{AreHonest};
-    ghost use Rattle.world.specs.Safety.{IsSafe};
+    ghost use Rattle.world.specs.Staying.{IsSafeOver};
 
     /// A world of so many nodes over empty records in memory. `Memory` is its only fault.
     pub fn new(alloc: Global, count: Nodes) -> Result<World<MemStable>, WorldFault>
-        ensures start { IfOk result (λ w. IsStart (⟦<Scripted<MemStable> as Stable>⟧.contents) count (world_of w)) }
+        ensures start { IfOk result (λ w. IsStart (⟦<Scripted<MemStable> as Stable>⟧) count (world_of w)) }
         ensures faults { IfErr result (λ f. f ≡ WorldFault.Memory) }
-        ensures honest { IfOk result (λ w.
-            AreHonest (⟦<Scripted<MemStable> as Stable>⟧.IsHonest) (world_of w).nodes) }
-        ensures safe { IfOk result (λ w. ∥ IsSafe (world_of w) ∥₁) }
+        ensures safe { IfOk result (λ w. IsSafeOver (⟦<Scripted<MemStable> as Stable>⟧) (world_of w)) }
     {
         let run = Run::new(alloc, count)?;
         Ok(World { run })
@@ -55,9 +52,7 @@ impl<S: Stable> World<S> {
     ghost use Rattle.world.specs.Worlds.{Steps};
     ghost use Rattle.world.specs.Events.{NamesNoFrame, NamesNoNode};
     ghost use Rattle.world.specs.Flushing.{Delivers, DeliversSome};
-    ghost use Rattle.world.specs.Reaching.{AreHonest};
-    ghost use Rattle.world.specs.Safety.{IsSafe};
-    ghost use Rattle.world.specs.Fired.{AreHonestInside};
+    ghost use Rattle.world.specs.Staying.{StaysSafe};
 
     /// The requests that nodes took.
     pub fn submitted(&self) -> &[Submission]
@@ -97,10 +92,7 @@ impl<S: Stable> World<S> {
     /// What came of each step. Whoever looks knows that all of it is safe.
     pub fn outcomes(&self) -> &[Outcome]
         ensures outcomes { result.now ≡ (world_of self.now).outcomes }
-        ensures honest { AreHonestInside S.IsHonest (world_of self.now).nodes
-            → AreHonest (⟦<Scripted<S> as Stable>⟧.IsHonest) (world_of self.now).nodes }
-        ensures safe { AreHonestInside S.IsHonest (world_of self.now).nodes
-            → ∥ IsSafe (world_of self.now) ∥₁ }
+        ensures safe { StaysSafe (⟦<Scripted<S> as Stable>⟧) S.IsHonest (world_of self.now) }
     {
         self.run.outcomes()
     }
@@ -116,10 +108,7 @@ impl<S: Stable> World<S> {
 
     /// One atomic step. After a fault the world is as it was.
     pub fn step(&mut self, alloc: Global, event: Event) -> Result<(), WorldFault>
-        ensures steps { OnOk result (Steps (⟦<Scripted<S> as Stable>⟧.contents)
-            (⟦<Scripted<S> as Stable>⟧.IsHonest) (⟦<Scripted<S> as Stable>⟧.reads)
-            (⟦<Scripted<S> as Stable>⟧.read_fails) (⟦<Scripted<S> as Stable>⟧.puts)
-            (⟦<Scripted<S> as Stable>⟧.fails) (world_of self.old) event (world_of self.new)) }
+        ensures steps { OnOk result (Steps (⟦<Scripted<S> as Stable>⟧) (world_of self.old) event (world_of self.new)) }
         ensures err { OnErr result (world_of self.new ≡ world_of self.old) }
 
         // Each fault.
@@ -131,37 +120,28 @@ impl<S: Stable> World<S> {
             ⊎ (f ≡ WorldFault.Memory)) }
 
         // Whatever came of it.
-        ensures honest { AreHonestInside S.IsHonest (world_of self.new).nodes
-            → AreHonest (⟦<Scripted<S> as Stable>⟧.IsHonest) (world_of self.new).nodes }
-        ensures safe { AreHonestInside S.IsHonest (world_of self.new).nodes
-            → ∥ IsSafe (world_of self.new) ∥₁ }
+        ensures safe { StaysSafe (⟦<Scripted<S> as Stable>⟧) S.IsHonest (world_of self.new) }
     {
         self.run.step(alloc, event)
     }
 
     /// Delivers the lowest waiting frame until none waits: how many. What was delivered before a fault stays so.
     pub fn flush(&mut self, alloc: Global) -> Result<u32, WorldFault>
-        ensures delivers { IfOk result (λ n. Delivers (⟦<Scripted<S> as Stable>⟧.reads)
-            (⟦<Scripted<S> as Stable>⟧.puts) (⟦<Scripted<S> as Stable>⟧.fails)
+        ensures delivers { IfOk result (λ n. Delivers (⟦<Scripted<S> as Stable>⟧)
             (world_of self.old) n (world_of self.new)) }
         ensures to_the_end { OnOk result (NoneWaits (world_of self.new).waiting) }
         ensures most { IfOk result (λ n. n ≤ MOST_DELIVERIES) }
 
         // What a fault leaves.
-        ensures limit { IsErrOf result WorldFault.FlushLimit → Delivers (⟦<Scripted<S> as Stable>⟧.reads)
-            (⟦<Scripted<S> as Stable>⟧.puts) (⟦<Scripted<S> as Stable>⟧.fails)
+        ensures limit { IsErrOf result WorldFault.FlushLimit → Delivers (⟦<Scripted<S> as Stable>⟧)
             (world_of self.old) MOST_DELIVERIES (world_of self.new) }
-        ensures memory { IsErrOf result WorldFault.Memory → DeliversSome (⟦<Scripted<S> as Stable>⟧.reads)
-            (⟦<Scripted<S> as Stable>⟧.puts) (⟦<Scripted<S> as Stable>⟧.fails)
+        ensures memory { IsErrOf result WorldFault.Memory → DeliversSome (⟦<Scripted<S> as Stable>⟧)
             (world_of self.old) MOST_DELIVERIES (world_of self.new) }
         ensures not_to_the_end { OnErr result (OneWaits (world_of self.new).waiting) }
         ensures faults { IfErr result (λ f. (f ≡ WorldFault.FlushLimit) ⊎ (f ≡ WorldFault.Memory)) }
 
         // Whatever came of it.
-        ensures honest { AreHonestInside S.IsHonest (world_of self.new).nodes
-            → AreHonest (⟦<Scripted<S> as Stable>⟧.IsHonest) (world_of self.new).nodes }
-        ensures safe { AreHonestInside S.IsHonest (world_of self.new).nodes
-            → ∥ IsSafe (world_of self.new) ∥₁ }
+        ensures safe { StaysSafe (⟦<Scripted<S> as Stable>⟧) S.IsHonest (world_of self.new) }
     {
         self.run.flush(alloc)
     }

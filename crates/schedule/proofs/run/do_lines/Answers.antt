@@ -18,19 +18,19 @@ loop-line-preserved g c =
           let gone = c.in-Some.ensures.steps.1 in
           let short = ap length steps in
           omega arith;
-      led = led_on (scripted.ghosts g.row.S g.S.Stable g.S.Stable-dict) at.yielded line _ _ _ at.invariant.led c.in_ok-do_line.ensures;
+      led = led_on (scripted.ghosts g.row.S g.S.Stable g.S.Stable-dict) at.yielded line _ _ _ at.invariant.led c.in_ok-do_line.ensures.done;
     }
 
-pub returns-in_err-do_line : goal.returns-in_err-do_line
-returns-in_err-do_line g c =
+pub returns-in_err-do_line-clause-ends : goal.returns-in_err-do_line-clause-ends
+returns-in_err-do_line-clause-ends g c =
     let at = c.loop-line in
     let steps = c.in-Some.ensures.steps.0 in
     let p = err_from_is_err_and c.from_residual.result c.from_residual.ensures.1 in
-    rw (p.1, p.2) (ends_here (scripted.ghosts g.row.S g.S.Stable g.S.Stable-dict) _ at.yielded _ _ _ _ _ _ (at.invariant.parts ∙ c.into_iter-line-iterator.ensures.into_iter_gives.0) steps
-    at.invariant.led c.in_err-do_line.ensures)
+    rw (p.1, p.2) (ends_here (scripted.ghosts g.row.S g.S.Stable g.S.Stable-dict) _ at.yielded _ _ _ _ _ _ _ (at.invariant.parts ∙ c.into_iter-line-iterator.ensures.into_iter_gives.0) steps
+    at.invariant.led c.in_err-do_line.ensures.done)
 
-pub returns : goal.returns
-returns g c =
+pub returns-clause-ends : goal.returns-clause-ends
+returns-clause-ends g c =
     let at = c.loop-line in
     let none = c.in-None.ensures.steps in
     let empty : into_iter_items at.line-iterator ≡ [] = nothing_left _ (sym at.invariant.counted ∙ none.0) in

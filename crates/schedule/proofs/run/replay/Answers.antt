@@ -25,9 +25,9 @@ returns-clause-transcript c =
 
 pub returns-clause-fault : goal.returns-clause-fault
 returns-clause-fault c =
-    replay_ends _ _ _ _ c.run_lines.result c.in_ok-schedule.ensures.spelled c.in_ok-world.ensures.started c.run_lines.ensures.fault
+    replay_ends _ (λ _. Unit {0}) _ _ _ c.run_lines.result (λ _. tt) c.in_ok-schedule.ensures.spelled c.in_ok-world.ensures.started c.run_lines.ensures.fault
 
 pub returns-clause-nodes_are_there : goal.returns-clause-nodes_are_there
 returns-clause-nodes_are_there c =
     replay_ends_by_other _ _ c.run_lines.result
-    (replay_ends _ _ _ _ c.run_lines.result c.in_ok-schedule.ensures.spelled c.in_ok-world.ensures.started c.run_lines.ensures.fault)
+    (replay_ends _ (λ _. Unit {0}) _ _ _ c.run_lines.result (λ _. tt) c.in_ok-schedule.ensures.spelled c.in_ok-world.ensures.started c.run_lines.ensures.fault)

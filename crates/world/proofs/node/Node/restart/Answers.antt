@@ -23,11 +23,26 @@ returns-clause-restarts g c =
       up = (refl, rw storage at c.in_ok-running.ensures.reads);
       loads = λ honest. rw id at (rw nodes at (rw storage at (c.in_ok-running.ensures.loads honest)));
       down = search rules;
+      sound = λ honest. rw storage at (c.in_ok-running.ensures.sound honest);
+      damaged = λ honest damaged. absurd (search (rules, damaged));
       device = search rules;
       other = search rules;
     }
 
-pub returns-in_err-running-clause-damaged : goal.returns-in_err-running-clause-damaged
-returns-in_err-running-clause-damaged g c = λ honest damaged.
+-- it is down, and what it was refused by is what the load was
+pub returns-in_err-running-clause-restarts : goal.returns-in_err-running-clause-restarts
+returns-in_err-running-clause-restarts g c =
+    let id : c.stop.new.self.id ≡ c.args.self.now.id = ap (λ n. n.id) c.stop.ensures in
+    let nodes : c.stop.new.self.nodes ≡ c.args.self.now.nodes = ap (λ n. n.nodes) c.stop.ensures in
     let storage : c.stop.new.self.storage ≡ c.args.self.now.storage = ap (λ n. n.storage) c.stop.ensures in
-    rw storage at (c.in_err-running.ensures.damaged_record honest (search rules))
+    record {
+      leaves = search rules;
+      own = search rules;
+      up = search rules;
+      loads = search rules;
+      down = search rules;
+      sound = search rules;
+      damaged = λ honest damaged. rw storage at (c.in_err-running.ensures.damaged_record honest (search rules));
+      device = search rules;
+      other = search rules;
+    }

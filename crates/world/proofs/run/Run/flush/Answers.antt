@@ -1,14 +1,14 @@
-use Rattle.std.proofs.Common.{◌≡◌, rules, length, ◌≤◌}
+use Rattle.std.proofs.Common.{◌≡◌, refl, ◌∙◌, arith, rules, length, ◌≤◌}
 use Rattle.world.specs.Worlds.{run_of}
-use Rattle.world.proofs.FlushLemmas.{none_delivered, one_delivered, waiting_was_sent}
+use Rattle.world.proofs.FlushLemmas.{as_delivered, none_delivered, one_delivered, waiting_was_sent}
 use Rattle.world.proofs.run.Run.flush.Goals as goal
 
 pub loop-delivered-init : goal.loop-delivered-init
-loop-delivered-init g c = none_delivered _ _ _ (run_of c.args.self.now)
+loop-delivered-init g c = none_delivered _ (run_of c.args.self.now)
 
 pub loop-delivered-preserved : goal.loop-delivered-preserved
 loop-delivered-preserved g c =
-    one_delivered _ _ _ _ (run_of c.loop-delivered.self) (run_of c.next_waiting.new.self) _ c.loop-delivered.delivered
+    one_delivered _ _ (run_of c.loop-delivered.self) (run_of c.next_waiting.new.self) _ c.loop-delivered.delivered
     c.in-Some.frame c.next_waiting.result c.loop-delivered.invariant c.next_waiting.ensures.same c.next_waiting.ensures.lowest
     c.in-Some.is c.in_ok-deliver-in-Some.ensures.delivers
 
@@ -21,3 +21,24 @@ returns-in_err-deliver-in-Some-clause-faults g c =
     waiting_was_sent c.loop-delivered.self.waiting.items _ c.in-Some.frame c.next_waiting.result same
     c.next_waiting.ensures.lowest c.in-Some.is in
     search (rules, sent)
+
+-- fewer than that, since this one was not delivered
+pub returns-in_err-deliver-in-Some-clause-memory : goal.returns-in_err-deliver-in-Some-clause-memory
+returns-in_err-deliver-in-Some-clause-memory g c = λ _. record {
+  delivered = c.loop-delivered.delivered;
+  fewer = search (rules, arith);
+  delivers = as_delivered _ _ _ _ _ _ c.loop-delivered.invariant
+      (c.in_err-deliver-in-Some.ensures.err ∙ c.next_waiting.ensures.same) refl;
+}
+
+pub returns-in-None-clause-delivers : goal.returns-in-None-clause-delivers
+returns-in-None-clause-delivers g c = as_delivered _ _ _ _ _ _ c.loop-delivered.invariant c.next_waiting.ensures.same refl
+
+-- as many as may be
+pub returns-in-Some-next_waiting-clause-limit : goal.returns-in-Some-next_waiting-clause-limit
+returns-in-Some-next_waiting-clause-limit g c = λ _.
+    as_delivered _ _ _ _ _ _ c.loop-delivered.invariant c.next_waiting-2.ensures.same (search (rules, arith))
+
+pub returns-in-None-next_waiting-clause-delivers : goal.returns-in-None-next_waiting-clause-delivers
+returns-in-None-next_waiting-clause-delivers g c =
+    as_delivered _ _ _ _ _ _ c.loop-delivered.invariant c.next_waiting-2.ensures.same (search (rules, arith))

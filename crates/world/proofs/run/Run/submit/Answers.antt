@@ -1,0 +1,23 @@
+use Rattle.std.proofs.Common.{rules}
+use Rattle.world.specs.Worlds.{run_of}
+use Rattle.world.proofs.run.Run.submit.Goals as goal
+
+-- the request was taken, and joins the list
+pub returns-then-take-clause-submits : goal.returns-then-take-clause-submits
+returns-then-take-clause-submits g c = record {
+  taken = c.take.result;
+  between = run_of c.take.new.self;
+  valid = c.new-offer.ensures.valid;
+  takes = rw c.new-offer.ensures.value at (rw c.reserve.ensures.same at c.take.ensures.taken);
+  leaves = search rules;
+}
+
+-- it was not
+pub returns-else-take-clause-submits : goal.returns-else-take-clause-submits
+returns-else-take-clause-submits g c = record {
+  taken = c.take.result;
+  between = run_of c.take.new.self;
+  valid = c.new-offer.ensures.valid;
+  takes = rw c.new-offer.ensures.value at (rw c.reserve.ensures.same at c.take.ensures.taken);
+  leaves = search rules;
+}
