@@ -201,7 +201,7 @@ def tell(title, words, counts, bad):
 
 def named(pattern):
     """The examples whose names fit: each name, and its path."""
-    for path in sorted(glob.glob(os.path.join(HERE, "..", "examples", pattern))):
+    for path in sorted(glob.glob(os.path.join(HERE, "..", "crates", "examples", "data", pattern))):
         yield os.path.splitext(os.path.basename(path))[0], path
 
 
@@ -214,8 +214,8 @@ def main():
                        check=True)
         runs = Runs(os.path.abspath(program), library)
         print("%-24s %-14s %8s  %s" % ("example", "words", "requests", "  ".join(ENDS)))
-        for name, path in named("*.schedule"):
-            with open(path) as file:
+        for name, path in named("*.transcript"):
+            with open(os.path.splitext(path)[0] + ".schedule") as file:
                 lines = file.read().splitlines()
             for title, tried, words in (
                 (name, lines, []),

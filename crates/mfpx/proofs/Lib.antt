@@ -1,3 +1,1 @@
 pub mod Endings
-pub mod Given
-pub mod Naming

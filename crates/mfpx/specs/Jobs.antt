@@ -1,6 +1,5 @@
 -- What a run of the program prints, and how one ends that prints nothing.
-use Rattle.std.specs.Prelude.{◌≡◌, ◌≢◌, ℕ, List, [], ◌∷◌, ◌++◌, Option}
-use Rattle.clap.specs.Words.{Text}
+use Rattle.std.specs.Prelude.{◌≡◌, ◌≢◌, ℕ, List, [], ◌∷◌, ◌++◌, Option, IfSome}
 use Rattle.mfjson.specs.Document.{IsCanonical, IsDocumentOf}
 use Rattle.mfjson.specs.Faults.{IsFaultOf, code_of, index_of}
 use Rattle.mfjson.specs.declared.fault.MfFault.{MfFault}
@@ -12,13 +11,19 @@ use Rattle.schedule.specs.Causes.{cause_code}
 use Rattle.schedule.specs.Runs.{IsReplay, ReplayEnds}
 use Rattle.schedule.specs.declared.replay_fault.ReplayCause.TheVariants as cause
 use Rattle.schedule.specs.declared.replay_fault.ReplayFault.{ReplayFault}
-use Rattle.mfpx.specs.Forms.{AskFor, MayName}
-use Rattle.mfpx.specs.declared.failure.Failure.{Failure}
-use Rattle.mfpx.specs.declared.failure.Failure.TheVariants as failure
-use Rattle.mfpx.specs.declared.failure.FaultyDocument.{FaultyDocument}
-use Rattle.mfpx.specs.declared.failure.FaultyLine.{FaultyLine}
-use Rattle.mfpx.specs.declared.words.Work.{Work}
-use Rattle.mfpx.specs.declared.words.Work.TheVariants.{Replay, Check}
+use Rattle.commandline.specs.Forms.{AskFor, NameInput}
+use Rattle.commandline.specs.declared.job.Work.{Work}
+use Rattle.commandline.specs.declared.job.Work.TheVariants.{Replay, Check}
+use Rattle.endings.specs.declared.failure.Failure.{Failure}
+use Rattle.endings.specs.declared.failure.Failure.TheVariants as failure
+use Rattle.endings.specs.declared.failure.FaultyDocument.{FaultyDocument}
+use Rattle.endings.specs.declared.failure.FaultyLine.{FaultyLine}
+
+-- ---- the bytes
+-- these may be the bytes that the words name: of the input all that it has left, where that is known; of a file nothing
+-- is known
+abbrev pub MayName : List (List ℕ) → Option (List ℕ) → List ℕ → Type 0
+MayName words left bytes = NameInput words → IfSome left (λ all. bytes ≡ all)
 
 -- ---- a check
 -- the bytes are a document of a feature, and the text is that feature's canonical document and a line feed
@@ -59,7 +64,7 @@ module _ {S : Type 0} (storages : Ghosts (Script S)) where
   EndsWith work bytes other = ⊥
 
   -- the text is what the work that the words ask for makes of the bytes that they name
-  pub record IsAnswer (words : List Text) (left : Option (List ℕ)) (text : List ℕ) : Type 0 where
+  pub record IsAnswer (words : List (List ℕ)) (left : Option (List ℕ)) (text : List ℕ) : Type 0 where
     pub work : Work
     pub asked : AskFor words work
     pub bytes : List ℕ
@@ -67,7 +72,7 @@ module _ {S : Type 0} (storages : Ghosts (Script S)) where
     pub made : Makes work bytes text
 
   -- so that work ends on them
-  pub record IsFaulty (words : List Text) (left : Option (List ℕ)) (failure : Failure) : Type 0 where
+  pub record IsFaulty (words : List (List ℕ)) (left : Option (List ℕ)) (failure : Failure) : Type 0 where
     pub work : Work
     pub asked : AskFor words work
     pub bytes : List ℕ

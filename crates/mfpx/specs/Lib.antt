@@ -1,3 +1,2 @@
-pub mod Failures
-pub mod Forms
 pub mod Jobs
+pub mod Words

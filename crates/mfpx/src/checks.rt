@@ -1,7 +1,7 @@
 //! Whole checks of documents: what goes in, and all that comes out.
 
-use crate::run::command;
-use std::io::{Error, ErrorKind, Read, Write};
+use crate::tests::{Unwritable, answer, told_over};
+use std::io::{self, Error, ErrorKind, Read};
 use std::test::Fail;
 
 /// A reader that gives the beginning of a document, and then fails.
@@ -11,7 +11,7 @@ struct Broken {
 }
 
 impl Read for Broken {
-    fn read(&mut self, buf: &mut [u8]) -> std::io::Result<usize> {
+    fn read(&mut self, buf: &mut [u8]) -> io::Result<usize> {
         if self.begun || buf.is_empty() {
             return Err(Error::from(ErrorKind::BrokenPipe));
         }
@@ -21,40 +21,9 @@ impl Read for Broken {
     }
 }
 
-/// A writer that takes nothing.
-#[derive(Debug, Drop)]
-struct Unwritable;
-
-impl Write for Unwritable {
-    fn write(&mut self, _buf: &[u8]) -> std::io::Result<usize> {
-        Err(Error::from(ErrorKind::BrokenPipe))
-    }
-
-    fn flush(&mut self) -> std::io::Result<()> {
-        Err(Error::from(ErrorKind::BrokenPipe))
-    }
-}
-
 // in the canonical order, with no blanks: 195 bytes
 const CANONICAL: &str =
     r#"{"id":"bus-7","temporalGeometry":{"coordinates":[[0,0],[10,5]],"datetimes":["2020-01-01T00:00:00.000Z","2020-01-01T00:00:03.000Z"],"interpolation":"Linear","type":"MovingPoint"},"type":"Feature"}"#;
-
-fn owned(rt: &HostRuntime, words: &[&str]) -> Result<Vec<String>, Fail> {
-    let mut all = Vec::new(rt.alloc());
-    for word in words {
-        all.push(String::from_str(rt.alloc(), word)?)?;
-    }
-    Ok(all)
-}
-
-/// The status of a check of the input, and what went to each stream.
-fn checked(rt: &HostRuntime, words: &[&str], input: &[u8]) -> Result<(u8, String, String), Fail> {
-    let mut input = input;
-    let mut out = Vec::new(rt.alloc());
-    let mut err = Vec::new(rt.alloc());
-    let status = command(rt, owned(rt, words)?, &mut input, &mut out, &mut err);
-    Ok((status, String::from_utf8(out)?, String::from_utf8(err)?))
-}
 
 /// Each document is another text of the same feature, and none of them comes back as it came.
 #[test]
@@ -74,7 +43,7 @@ fn check_echoes_document(rt: HostRuntime) -> Result<(), Fail> {
     assert_eq!(rt; line.len(), 196);
     for document in documents {
         for words in [["check", "-"].as_slice(), &["check", "--", "-"]] {
-            let (status, out, err) = checked(&rt, words, document.as_bytes())?;
+            let (status, out, err) = answer(&rt, words, document.as_bytes())?;
             assert_eq!(rt; status, 0, "{document}");
             assert_eq!(rt; out.as_str(), line.as_str());
             assert_eq!(rt; err.as_str(), "");
@@ -86,11 +55,11 @@ fn check_echoes_document(rt: HostRuntime) -> Result<(), Fail> {
 /// The canonical document comes back as it is, and once more so, with its line feed.
 #[test]
 fn canonical_documents_stay(rt: HostRuntime) -> Result<(), Fail> {
-    let (status, line, err) = checked(&rt, &["check", "-"], CANONICAL.as_bytes())?;
+    let (status, line, err) = answer(&rt, &["check", "-"], CANONICAL.as_bytes())?;
     assert_eq!(rt; status, 0);
     assert_eq!(rt; line.len(), 196);
     assert_eq!(rt; err.as_str(), "");
-    let (status, again, err) = checked(&rt, &["check", "-"], line.as_bytes())?;
+    let (status, again, err) = answer(&rt, &["check", "-"], line.as_bytes())?;
     assert_eq!(rt; status, 0);
     assert_eq!(rt; again.as_str(), line.as_str());
     assert_eq!(rt; err.as_str(), "");
@@ -147,7 +116,7 @@ const FAULTS: [(&str, &str); 14] = [
 #[test]
 fn documents_that_are_none(rt: HostRuntime) -> Result<(), Fail> {
     for (document, line) in FAULTS {
-        let (status, out, err) = checked(&rt, &["check", "-"], document.as_bytes())?;
+        let (status, out, err) = answer(&rt, &["check", "-"], document.as_bytes())?;
         assert_eq!(rt; status, 1, "{document}");
         assert_eq!(rt; out.as_str(), "");
         assert_eq!(rt; err.as_str(), line);
@@ -170,7 +139,7 @@ fn documents_that_are_too_long(rt: HostRuntime) -> Result<(), Fail> {
         document.extend_from_slice(b",[0,0]")?;
     }
     document.extend_from_slice(b"]}}")?;
-    let (status, out, err) = checked(&rt, &["check", "-"], document.as_slice())?;
+    let (status, out, err) = answer(&rt, &["check", "-"], document.as_slice())?;
     assert_eq!(rt; status, 1);
     assert_eq!(rt; out.as_str(), "");
     assert_eq!(rt; err.as_str(), "mfpx: document fault 11\n");
@@ -178,65 +147,30 @@ fn documents_that_are_too_long(rt: HostRuntime) -> Result<(), Fail> {
 }
 
 #[test]
-fn checks_whose_streams_and_files_fail(rt: HostRuntime) -> Result<(), Fail> {
-    // a file that isn't there, and a folder
-    for path in ["no such file", "."] {
-        let (status, out, err) = checked(&rt, &["check", path], CANONICAL.as_bytes())?;
-        assert_eq!(rt; status, 3, "{path}");
-        assert_eq!(rt; out.as_str(), "");
-        assert_eq!(rt; err.as_str(), "mfpx: device\n");
-    }
+fn checks_whose_streams_fail(rt: HostRuntime) -> Result<(), Fail> {
+    let words = ["check", "-"];
+    let device = "mfpx: device\n";
     // what came before the failure isn't told as a fault of the document
     let mut input = Broken { begun: false };
-    let mut out = Vec::new(rt.alloc());
-    let mut err = Vec::new(rt.alloc());
-    let words = owned(&rt, &["check", "-"])?;
-    let status = command(&rt, words, &mut input, &mut out, &mut err);
-    assert_eq!(rt; status, 3);
-    assert_eq!(rt; out.as_slice(), b"".as_slice());
-    assert_eq!(rt; err.as_slice(), b"mfpx: device\n".as_slice());
-
+    let (status, err) = told_over(&rt, &words, &mut input, Vec::new(rt.alloc()))?;
+    assert_eq!(rt; (status, err.as_str()), (3, device));
     let mut input = CANONICAL.as_bytes();
-    let mut err = Vec::new(rt.alloc());
-    let words = owned(&rt, &["check", "-"])?;
-    let status = command(&rt, words, &mut input, &mut Unwritable, &mut err);
-    assert_eq!(rt; status, 3);
-    assert_eq!(rt; err.as_slice(), b"mfpx: device\n".as_slice());
-
+    let (status, err) = told_over(&rt, &words, &mut input, Unwritable)?;
+    assert_eq!(rt; (status, err.as_str()), (3, device));
     // room for all but the line feed
     let mut input = CANONICAL.as_bytes();
     let mut room = [0u8; 195];
-    let mut out = room.as_mut_slice();
-    let mut err = Vec::new(rt.alloc());
-    let words = owned(&rt, &["check", "-"])?;
-    let status = command(&rt, words, &mut input, &mut out, &mut err);
-    assert_eq!(rt; status, 3);
-    assert_eq!(rt; err.as_slice(), b"mfpx: device\n".as_slice());
+    let (status, err) = told_over(&rt, &words, &mut input, room.as_mut_slice())?;
+    assert_eq!(rt; (status, err.as_str()), (3, device));
     Ok(())
 }
 
-/// The words are looked at first, then the file, then the document.
+/// A file that can't be read is told, whatever standard input holds.
 #[test]
-fn words_come_before_files_and_documents(rt: HostRuntime) -> Result<(), Fail> {
-    let (status, out, err) = checked(&rt, &["check", "no such file", "-"], b"{}")?;
-    assert_eq!(rt; status, 2);
-    assert_eq!(rt; out.as_str(), "");
-    assert_eq!(rt; err.as_str(), "mfpx: usage\n");
-    // a file that can't be read is told, whatever standard input holds
-    let (status, out, err) = checked(&rt, &["check", "no such file"], b"{}")?;
+fn files_come_before_documents(rt: HostRuntime) -> Result<(), Fail> {
+    let (status, out, err) = answer(&rt, &["check", "no such file"], b"{}")?;
     assert_eq!(rt; status, 3);
     assert_eq!(rt; out.as_str(), "");
     assert_eq!(rt; err.as_str(), "mfpx: device\n");
-    Ok(())
-}
-
-#[test]
-fn an_err_that_fails_leaves_the_status_of_a_check(rt: HostRuntime) -> Result<(), Fail> {
-    let mut input: &[u8] = b"{}";
-    let mut out = Vec::new(rt.alloc());
-    let words = owned(&rt, &["check", "-"])?;
-    let status = command(&rt, words, &mut input, &mut out, &mut Unwritable);
-    assert_eq!(rt; status, 1);
-    assert_eq!(rt; out.as_slice(), b"".as_slice());
     Ok(())
 }

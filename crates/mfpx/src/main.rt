@@ -2,40 +2,37 @@
 //! checked, and its canonical form is printed.
 //!
 //! `mfpx replay FILE` and `mfpx check FILE` read the file, or standard input where FILE is `-`.
-//! No words stand for `replay -`. `words` says what the words ask for, `run` does it over any
-//! streams, and `failure` says how a run ends that prints nothing. Here the streams are those of
-//! the process.
+//! No words stand for `replay -`. The crate `commandline` says what the words ask for, `run` does
+//! it over any streams, and the crate `endings` says how a run ends; `failures` says what each fault
+//! is to the program. Here the streams are those of the process.
 #![tactic(auto)]
 
 #[cfg(test)]
 mod checks;
-mod failure;
-#[cfg(test)]
-mod fleets;
+mod failures;
 mod run;
 #[cfg(test)]
 mod runs;
 #[cfg(test)]
 mod tests;
-mod words;
 
 ghost use Rattle.std.specs.Prelude.{◌≡◌, ◌≢◌, ◌⊎◌, IfErr};
 ghost use Rattle.std.specs.IoError.{error_kind};
 
-use crate::failure::Failure;
 use crate::run::command;
+use endings::{Failure, Tracked};
 use std::env;
 use std::io::{self, ErrorKind};
 use std::process::ExitCode;
 
 fn main(rt: HostRuntime) -> ExitCode {
     let mut input = rt.stdin();
-    let mut out = rt.stdout();
-    let mut err = rt.stderr();
+    let mut out = Tracked::new(rt.stdout());
+    let mut err = Tracked::new(rt.stderr());
     let status = match own_words(&rt) {
         Ok(words) => command(&rt, words, &mut input, &mut out, &mut err),
         Err(failure) => {
-            let _ = failure.tell(&mut err);
+            err.tell(failure);
             failure.status()
         }
     };

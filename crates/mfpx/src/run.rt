@@ -1,16 +1,17 @@
 //! A run of the program over any streams.
 
 ghost use Rattle.std.specs.Prelude.{◌≡◌, ◌≢◌, ◌≤◌, ◌⊎◌, [], ◌∷◌, ◌++◌, ℕ, List, map};
-ghost use Rattle.std.specs.Prelude.{string_bytes, IfOk, IfErr, IfSome, OnOk};
-ghost use Rattle.std.specs.Io.KnownBytes.{Appends};
+ghost use Rattle.std.specs.Prelude.{string_bytes, true, IfOk, IfErr, IfSome, OnErr, OnOk};
 ghost use Rattle.schedule.specs.Runs.{IsReplay};
 ghost use Rattle.mfjson.specs.Document.{IsCanonical};
-ghost use Rattle.mfpx.specs.Failures.{status_of};
-ghost use Rattle.mfpx.specs.Forms.{AskFor, NameInput};
+ghost use Rattle.endings.specs.Failures.{line_text, status_of};
+ghost use Rattle.commandline.specs.Forms.{AskFor, NameInput};
 ghost use Rattle.mfpx.specs.Jobs.{EndsWith, IsAnswer, IsChecked, IsFaulty, Makes};
+ghost use Rattle.endings.specs.Streams.{Takes, Tells};
 
-use crate::failure::{Failure, device_failure, document_failure, replay_failure};
-use crate::words::{Source, Work, job_of};
+use crate::failures::{document_failure, replay_failure, words_failure};
+use commandline::{Source, Work, job_of};
+use endings::{Failure, Tracked, device_failure};
 use mfjson::Feature;
 use schedule::replay;
 use stable::{MemStable, Scripted, Stable};
@@ -38,27 +39,37 @@ pub fn command<R: Read, O: Write, E: Write>(
     rt: &HostRuntime,
     words: Vec<String>,
     input: &mut R,
-    out: &mut O,
-    err: &mut E,
+    out: &mut Tracked<O>,
+    err: &mut Tracked<E>,
 ) -> u8
     ensures statuses { result ≤ 3 }
-    ensures done { result ≡ 0 → (text : List ℕ)
-        × IsAnswer (⟦<Scripted<MemStable> as Stable>⟧) (map string_bytes words.items) (R.remaining input.old) text
-        × Appends (O.contents out.old) (O.contents out.new) text }
-    ensures done_silently { result ≡ 0 → err.new ≡ err.old }
-    ensures faulty { result ≡ 1 → (failure : Failure)
-        × IsFaulty (⟦<Scripted<MemStable> as Stable>⟧) (map string_bytes words.items) (R.remaining input.old) failure }
-    ensures faulty_unprinted { result ≡ 1 → out.new ≡ out.old }
-    ensures usage { result ≡ 2 → (work : Work) → ¬ AskFor (map string_bytes words.items) work }
-    ensures usage_unprinted { result ≡ 2 → out.new ≡ out.old }
     ensures words_come_first { result ≡ 2 → input.new ≡ input.old }
     ensures file_alone { ¬ NameInput (map string_bytes words.items) → input.new ≡ input.old }
+
+    // What goes to `out`: the whole text, or nothing, or what a stream took before it failed.
+    ensures done { result ≡ 0 → (text : List ℕ)
+        × IsAnswer (⟦<Scripted<MemStable> as Stable>⟧) (map string_bytes words.items) (R.remaining input.old) text
+        × Takes O.contents out.old out.new text }
+    ensures faulty_unprinted { result ≡ 1 → out.new ≡ out.old }
+    ensures usage_unprinted { result ≡ 2 → out.new ≡ out.old }
+    ensures failed_unprinted { result ≡ 3 → (out.new ≡ out.old) ⊎ ((text : List ℕ)
+        × IsAnswer (⟦<Scripted<MemStable> as Stable>⟧) (map string_bytes words.items) (R.remaining input.old) text
+        × (out.new.has_failed ≡ true)) }
+
+    // Why, and what goes to `err`: the line of that failure.
+    ensures done_silently { result ≡ 0 → err.new ≡ err.old }
+    ensures faulty { result ≡ 1 → (failure : Failure)
+        × IsFaulty (⟦<Scripted<MemStable> as Stable>⟧) (map string_bytes words.items) (R.remaining input.old) failure
+        × Tells E.contents err.old err.new (line_text failure) }
+    ensures usage { result ≡ 2 → (work : Work) → ¬ AskFor (map string_bytes words.items) work }
+    ensures usage_told { result ≡ 2 → Tells E.contents err.old err.new (line_text Failure.Usage) }
+    ensures failed_told { result ≡ 3 → Tells E.contents err.old err.new (line_text Failure.Device)
+        ⊎ Tells E.contents err.old err.new (line_text Failure.Memory) }
 {
     match run(rt, words.as_slice(), input, out) {
         Ok(()) => 0,
         Err(failure) => {
-            // The status tells what the line can't, where even the line can't be written.
-            let _ = failure.tell(err);
+            err.tell(failure);
             failure.status()
         }
     }
@@ -69,25 +80,34 @@ fn run<R: Read, O: Write>(
     rt: &HostRuntime,
     words: &[String],
     input: &mut R,
-    out: &mut O,
+    out: &mut Tracked<O>,
 ) -> Result<(), Failure>
     ensures done { OnOk result ((text : List ℕ)
         × IsAnswer (⟦<Scripted<MemStable> as Stable>⟧) (map string_bytes words.now) (R.remaining input.old) text
-        × Appends (O.contents out.old) (O.contents out.new) text) }
+        × Takes O.contents out.old out.new text) }
     ensures faulty { IfErr result (λ failure. status_of failure ≡ 1
         → IsFaulty (⟦<Scripted<MemStable> as Stable>⟧) (map string_bytes words.now) (R.remaining input.old) failure) }
     ensures usage { IfErr result (λ failure. failure ≡ Failure.Usage
         → (work : Work) → ¬ AskFor (map string_bytes words.now) work) }
     ensures untouched { IfErr result (λ failure. failure ≢ Failure.Device
         → out.new ≡ out.old) }
+    ensures unprinted { OnErr result ((out.new ≡ out.old) ⊎ ((text : List ℕ)
+        × IsAnswer (⟦<Scripted<MemStable> as Stable>⟧) (map string_bytes words.now) (R.remaining input.old) text
+        × (out.new.has_failed ≡ true))) }
     ensures words_come_first { IfErr result (λ failure. failure ≡ Failure.Usage
         → input.new ≡ input.old) }
     ensures file_alone { ¬ NameInput (map string_bytes words.now) → input.new ≡ input.old }
 {
-    let job = job_of(rt.alloc(), words)?;
+    let job = match job_of(rt.alloc(), words) {
+        Ok(job) => job,
+        Err(fault) => return Err(words_failure(fault)),
+    };
     let bytes = content(rt, &job.source, input)?;
     let text = made(rt.alloc(), job.work, bytes.as_slice())?;
-    print(out, text.as_slice())
+    match out.print(text.as_slice()) {
+        Ok(()) => Ok(()),
+        Err(_) => Err(Failure::Device),
+    }
 }
 
 /// The bytes of the source.
@@ -175,18 +195,4 @@ fn canonical_line(alloc: Global, feature: &Feature) -> Result<Vec<u8>, AllocErro
     let mut line = mfjson::write(alloc, feature)?;
     line.push(b'\n')?;
     Ok(line)
-}
-
-/// Writes the text, all of it.
-fn print<O: Write>(out: &mut O, text: &[u8]) -> Result<(), Failure>
-    ensures ok { OnOk result (Appends (O.contents out.old) (O.contents out.new) text.now) }
-    ensures err { IfErr result (λ failure. failure ≡ Failure.Device) }
-{
-    if let Err(_) = out.write_all(text) {
-        return Err(Failure::Device);
-    }
-    match out.flush() {
-        Ok(()) => Ok(()),
-        Err(_) => Err(Failure::Device),
-    }
 }

@@ -1,6 +1,6 @@
-//! Whole runs of the program: what goes in, and all that comes out.
+//! Whole runs of the program: what goes in, and all that comes out. Further ones are the examples.
 
-use crate::run::command;
+use crate::tests::{answer, told_over};
 use std::test::Fail;
 
 // the main job
@@ -8,73 +8,15 @@ const FIRST_RUN: &[u8] = b"nodes 3\nsubmit 0 7 1 remove bus-7\ntimeout 0\nflush\
 
 const FIRST_LINES: &str = "learn 0 0 7:1\nreply 0 7:1 21\nlearn 1 0 7:1\nlearn 2 0 7:1\n";
 
-// node 1's vote is written, and the write is reported as failed
-const VOTE_BEFORE_THE_CRASH: &[u8] = b"nodes 3\nsubmit 0 7 1 remove bus-7\ntimeout 0\n\
-deliver 0\ndeliver 1\ndeliver 3\ndeliver 4\nfault 1 new\ndeliver 6\nrestart 1\ntimeout 2\n\
-deliver 9\ndeliver 10\ndeliver 11\ndeliver 12\ndeliver 14\ndeliver 15\ndeliver 18\ndeliver 21\n";
-
-// the same, but the vote isn't written
-const CRASH_BEFORE_THE_VOTE: &[u8] = b"nodes 3\nsubmit 0 7 1 remove bus-7\ntimeout 0\n\
-deliver 0\ndeliver 1\ndeliver 3\ndeliver 4\nfault 1 old\ndeliver 6\nrestart 1\ntimeout 2\n\
-deliver 9\ndeliver 10\ndeliver 11\ndeliver 12\ndeliver 14\ndeliver 15\ndeliver 18\ndeliver 21\n";
-
-/// The status, and what went to each stream.
-pub(crate) fn answer(rt: &HostRuntime, input: &[u8]) -> Result<(u8, String, String), Fail> {
-    let mut input = input;
-    let mut out = Vec::new(rt.alloc());
-    let mut err = Vec::new(rt.alloc());
-    let status = command(rt, Vec::new(rt.alloc()), &mut input, &mut out, &mut err);
-    Ok((status, String::from_utf8(out)?, String::from_utf8(err)?))
-}
-
 #[test]
 fn schedules_and_their_transcripts(rt: HostRuntime) -> Result<(), Fail> {
-    let cases: [(&[u8], &str); 4] = [
-        (b"nodes 3\n", ""),
-        (FIRST_RUN, FIRST_LINES),
-        (VOTE_BEFORE_THE_CRASH, "stop 1 46\nlearn 2 0 7:1\n"),
-        (CRASH_BEFORE_THE_VOTE, "stop 1 46\nlearn 2 0 noop\n"),
-    ];
+    let cases: [(&[u8], &str); 2] = [(b"nodes 3\n", ""), (FIRST_RUN, FIRST_LINES)];
     for (schedule, transcript) in cases {
-        let (status, out, err) = answer(&rt, schedule)?;
+        let (status, out, err) = answer(&rt, &[], schedule)?;
         assert_eq!(rt; status, 0);
         assert_eq!(rt; out.as_str(), transcript);
         assert_eq!(rt; err.as_str(), "");
     }
-    Ok(())
-}
-
-#[test]
-fn a_frame_that_was_never_sent(rt: HostRuntime) -> Result<(), Fail> {
-    // the last of them has a transcript up to its fault, and nothing of it is printed
-    let cases: [(&[u8], &str); 4] = [
-        (b"nodes 3\ndeliver 0\n", "mfpx: line 2 fault 51\n"),
-        (b"nodes 3\ndrop 0\n", "mfpx: line 2 fault 51\n"),
-        (
-            b"nodes 3\n\ntimeout 0\ndeliver 3\n",
-            "mfpx: line 4 fault 51\n",
-        ),
-        (
-            b"nodes 3\nsubmit 0 7 1 remove bus-7\ntimeout 0\nflush\ndeliver 18\n",
-            "mfpx: line 5 fault 51\n",
-        ),
-    ];
-    for (schedule, line) in cases {
-        let (status, out, err) = answer(&rt, schedule)?;
-        assert_eq!(rt; status, 1);
-        assert_eq!(rt; out.as_str(), "");
-        assert_eq!(rt; err.as_str(), line);
-    }
-    Ok(())
-}
-
-/// All lines are parsed before the first event: the fault of a later line is told.
-#[test]
-fn a_faulty_line_comes_before_the_run(rt: HostRuntime) -> Result<(), Fail> {
-    let (status, out, err) = answer(&rt, b"nodes 3\ndeliver 0\ntimeout 3\n")?;
-    assert_eq!(rt; status, 1);
-    assert_eq!(rt; out.as_str(), "");
-    assert_eq!(rt; err.as_str(), "mfpx: line 3 fault 5\n");
     Ok(())
 }
 
@@ -87,7 +29,7 @@ fn a_flush_that_would_not_end(rt: HostRuntime) -> Result<(), Fail> {
         schedule.extend_from_slice(b"timeout 0\n")?;
     }
     schedule.extend_from_slice(b"flush\n")?;
-    let (status, out, err) = answer(&rt, schedule.as_slice())?;
+    let (status, out, err) = answer(&rt, &[], schedule.as_slice())?;
     assert_eq!(rt; status, 1);
     assert_eq!(rt; out.as_str(), "");
     assert_eq!(rt; err.as_str(), "mfpx: line 3336 fault 53\n");
@@ -99,10 +41,39 @@ fn a_flush_that_would_not_end(rt: HostRuntime) -> Result<(), Fail> {
 fn a_transcript_that_can_not_be_written(rt: HostRuntime) -> Result<(), Fail> {
     let mut input = FIRST_RUN;
     let mut room = [0u8; 20];
-    let mut out = room.as_mut_slice();
-    let mut err = Vec::new(rt.alloc());
-    let status = command(&rt, Vec::new(rt.alloc()), &mut input, &mut out, &mut err);
-    assert_eq!(rt; status, 3);
-    assert_eq!(rt; err.as_slice(), b"mfpx: device\n".as_slice());
+    let (status, err) = told_over(&rt, &[], &mut input, room.as_mut_slice())?;
+    assert_eq!(rt; (status, err.as_str()), (3, "mfpx: device\n"));
+    Ok(())
+}
+
+/// So many points of bus-7, one a second, each at (0, 0), as the middle of a document has them.
+fn points(rt: &HostRuntime, count: u16) -> Result<(String, String), Fail> {
+    let mut datetimes = String::new(rt.alloc());
+    let mut coordinates = String::new(rt.alloc());
+    for number in 0..count {
+        let comma = if number == 0 { "" } else { "," };
+        let (minute, second) = (number / 60, number % 60);
+        let datetime = format!(in rt.alloc(); "{comma}\"2020-01-01T00:{minute:02}:{second:02}Z\"")?;
+        datetimes.push_str(datetime.as_str())?;
+        coordinates.push_str(comma)?;
+        coordinates.push_str("[0,0]")?;
+    }
+    Ok((datetimes, coordinates))
+}
+
+#[test]
+fn a_put_is_too_long_from_513_points_on(rt: HostRuntime) -> Result<(), Fail> {
+    for (count, told) in [(512, ""), (513, "refuse 0 45\n")] {
+        let (datetimes, coordinates) = points(&rt, count)?;
+        let schedule = format!(in rt.alloc();
+            "nodes 3\nsubmit 0 7 1 put {{\"type\":\"Feature\",\"id\":\"a\",\"temporalGeometry\":{{\
+\"type\":\"MovingPoint\",\"datetimes\":[{datetimes}],\"coordinates\":[{coordinates}],\
+\"interpolation\":\"Step\"}}}}\n"
+        )?;
+        let (status, out, err) = answer(&rt, &[], schedule.as_bytes())?;
+        assert_eq!(rt; status, 0, "{count}");
+        assert_eq!(rt; out.as_str(), told);
+        assert_eq!(rt; err.as_str(), "");
+    }
     Ok(())
 }

@@ -1,0 +1,26 @@
+//! A work, and where the bytes stand that it is done on.
+
+/// What is done with the bytes of a source.
+#[derive(Clone, Copy, Debug, PartialEq, Eq)]
+pub enum Work {
+    /// The schedule is run, and its transcript printed.
+    Replay,
+    /// The document is read, and its canonical form printed.
+    Check,
+}
+
+/// Where the bytes stand.
+#[derive(Debug, Drop)]
+pub enum Source<'a> {
+    /// On standard input.
+    Input,
+    /// In the file of this name.
+    File(&'a str),
+}
+
+/// What the words ask for.
+#[derive(Debug, Drop)]
+pub struct Job<'a> {
+    pub work: Work,
+    pub source: Source<'a>,
+}

@@ -1,0 +1,111 @@
+//! From words to a job.
+
+ghost use Rattle.std.specs.Prelude.{◌≡◌, ◌≢◌, ◌⊎◌, ◌∷◌, [], ℕ, List, map, codes, string_bytes};
+ghost use Rattle.std.specs.Prelude.{IfErr, IfOk, IfSome, IsNone, MatchOption, MatchResult};
+ghost use Rattle.clap.specs.Words.{app_of, kind_of, subcommand_rows_of};
+ghost use Rattle.commandline.specs.Forms.{AskFor, NameSource, Names};
+ghost use Rattle.commandline.specs.Forms.{forms, given_file, given_name, name_of};
+
+use crate::fault::WordsFault;
+use crate::job::{Job, Source, Work};
+use clap::error::ErrorKind;
+use clap::{Arg, ArgMatches, Command, Error};
+use std::alloc::{AllocError, Global};
+
+/// The job that the words ask for. No words stand for a replay of standard input.
+pub fn job_of<'a>(alloc: Global, words: &'a [String]) -> Result<Job<'a>, WordsFault>
+    ensures work { IfOk result (λ job. AskFor (map string_bytes words.now) job.work) }
+    ensures source { IfOk result (λ job. NameSource (map string_bytes words.now) job.source) }
+    ensures no_form { IfErr result (λ fault. fault ≡ WordsFault.NoForm
+        → (work : Work) → ¬ AskFor (map string_bytes words.now) work) }
+
+    // What the forms come to where standard input is named.
+    ensures no_words { words.now ≡ []
+        → result ≡ Ok (record { work = Work.Replay; source = Source.Input }) }
+    ensures dash { (work : Work) → map string_bytes words.now ≡ name_of work ∷ codes "-" ∷ []
+        → MatchResult result (λ job. job ≡ record { work = work; source = Source.Input })
+        (λ fault. fault ≡ WordsFault.Memory) }
+{
+    if words.is_empty() {
+        return Ok(Job {
+            work: Work::Replay,
+            source: Source::Input,
+        });
+    }
+    let command = program(alloc)?;
+    match command.try_get_matches_from(words) {
+        Ok(matches) => job_in(&matches).ok_or(WordsFault::NoForm),
+        Err(refusal) => Err(fault_of_refusal(&refusal)),
+    }
+}
+
+/// The forms that `clap` accepts. It answers a call for help or for the version with an error
+/// like any other, as neither is one of the forms.
+fn program<'a>(alloc: Global) -> Result<Command<'a>, AllocError>
+    ensures { IfOk result (λ command. app_of command ≡ forms) }
+{
+    let replay = Command::new(alloc, "replay")
+        .disable_help_flag(true)
+        .arg(Arg::new(alloc, "FILE").required(true))?;
+    let check = Command::new(alloc, "check")
+        .disable_help_flag(true)
+        .arg(Arg::new(alloc, "FILE").required(true))?;
+    Command::new(alloc, "mfpx")
+        .no_binary_name(true)
+        .disable_help_flag(true)
+        .disable_help_subcommand(true)
+        .subcommand_required(true)
+        .subcommand(replay)?
+        .subcommand(check)
+}
+
+/// The job of words that were accepted.
+fn job_in<'a>(matches: &ArgMatches<'a>) -> Option<Job<'a>>
+    ensures work { IfSome result (λ job.
+        given_name (subcommand_rows_of matches.now) ≡ Some (name_of job.work)) }
+    ensures source { IfSome result (λ job. (text : List ℕ)
+        × (given_file (subcommand_rows_of matches.now) ≡ Some text) × Names text job.source) }
+    ensures none { IsNone result → (given_file (subcommand_rows_of matches.now) ≡ None)
+        ⊎ ((work : Work) → given_name (subcommand_rows_of matches.now) ≢ Some (name_of work)) }
+{
+    let (name, inner) = matches.subcommand()?;
+    let work = work_named(name)?;
+    let file = inner.get_str("FILE")?;
+    Some(Job {
+        work,
+        source: source_named(file),
+    })
+}
+
+/// The work of this name.
+fn work_named(name: &str) -> Option<Work>
+    ensures { MatchOption result ((work : Work) → name.now ≢ name_of work)
+        (λ work. name.now ≡ name_of work) }
+{
+    match name {
+        "replay" => Some(Work::Replay),
+        "check" => Some(Work::Check),
+        _ => None,
+    }
+}
+
+/// The source that a FILE names.
+fn source_named(file: &str) -> Source
+    ensures { Names file.now result }
+{
+    match file {
+        "-" => Source::Input,
+        path => Source::File(path),
+    }
+}
+
+/// Why words that were refused have no job.
+fn fault_of_refusal(refusal: &Error) -> WordsFault
+    ensures memory { kind_of refusal.now ≡ ErrorKind.OutOfMemory → result ≡ WordsFault.Memory }
+    ensures no_form { kind_of refusal.now ≢ ErrorKind.OutOfMemory → result ≡ WordsFault.NoForm }
+{
+    match refusal.kind() {
+        ErrorKind::OutOfMemory => WordsFault::Memory,
+        _ => WordsFault::NoForm,
+    }
+}

@@ -1,0 +1,14 @@
+//! How a run of the program ends: its exit status, and what it tells on standard error.
+//!
+//! A `Failure` says why nothing is printed, and has one status and one line. A `Tracked` writer
+//! remembers whether it failed, so that a contract can tell a line that was not written from one
+//! that couldn't be. Neither knows of schedules or documents but the numbers of their faults.
+#![tactic(auto)]
+
+mod failure;
+#[cfg(test)]
+mod tests;
+mod tracked;
+
+pub use failure::{Failure, FaultyDocument, FaultyLine, device_failure};
+pub use tracked::Tracked;
