@@ -47,6 +47,8 @@ begun_stands b position = record {
   told = refl;
   leading = refl;
   proposals = λ s. refl;
+  flags = refl;
+  apart = tt;
 }
 
 above_round : (r round refused b : ℕ) → r ≡ round → b ≡ max round refused + 1 → r < b

@@ -3,3 +3,5 @@ pub mod Placing
 pub mod Counting
 pub mod Windows
 pub mod AllowedMoves
+pub mod Proposed
+pub mod AllowedTick

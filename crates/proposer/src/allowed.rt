@@ -2,14 +2,15 @@
 //!
 //! Each law is the contract of a function that does nothing.
 
-ghost use Rattle.std.specs.Prelude.{◌≡◌, ℕ};
+ghost use Rattle.std.specs.Prelude.{◌≡◌, ◌++◌, ◌∷◌, [], ℕ};
 ghost use Rattle.synod.specs.Acts.{Fleet, Input, Local};
+ghost use Rattle.sessions.specs.Asked.{Asked};
 ghost use Rattle.sessions.specs.declared.command.Command.{Command};
 ghost use Rattle.wire.specs.Promises.{Refused};
 ghost use Rattle.proposer.specs.declared.outgoing.Outgoing.{Outgoing};
 ghost use Rattle.proposer.specs.Requests.{without};
-ghost use Rattle.proposer.specs.Proposing.{Proposing, StartsCampaign, after_nack};
-ghost use Rattle.proposer.specs.Protocol.{ProposerStands, MayHold, MaySend, frames_of};
+ghost use Rattle.proposer.specs.Proposing.{Proposing, StartsCampaign, after_nack, sends_again};
+ghost use Rattle.proposer.specs.Protocol.{ProposerStands, MayHold, MaySend, MaySubmit, frames_of, frames_of_all};
 
 /// A campaign may start, once its round is written, and its prepares be sent.
 pub fn timeout_is_allowed()
@@ -29,4 +30,18 @@ pub fn execution_is_allowed()
     ensures { (f : Fleet Command) (i : ℕ) (input : Input Command) (x : Local Command) (p : Proposing)
         (client number : ℕ) → ProposerStands p x
         → MayHold f i input x (record p { waiting = without client number p.waiting }) }
+{}
+
+/// A request may be submitted: it waits from now on, or its name waits already and nothing changes.
+pub fn submission_is_allowed()
+    ensures last { (f : Fleet Command) (i : ℕ) (input : Input Command) (x : Local Command) (p : Proposing) (r : Asked)
+        → ProposerStands p x → MaySubmit f i input x (record p { waiting = p.waiting ++ r ∷ [] }) r }
+    ensures again { (f : Fleet Command) (i : ℕ) (input : Input Command) (x : Local Command) (p : Proposing) (r : Asked)
+        → ProposerStands p x → MaySubmit f i input x p r }
+{}
+
+/// What a tick sends again may be sent, and nothing else changes.
+pub fn tick_is_allowed()
+    ensures { (f : Fleet Command) (i : ℕ) (input : Input Command) (x : Local Command) (p : Proposing) (nodes : ℕ)
+        → ProposerStands p x → MaySend f i input x p (frames_of_all i nodes (sends_again p.campaign)) }
 {}
