@@ -5,3 +5,4 @@ pub mod Windows
 pub mod AllowedMoves
 pub mod Proposed
 pub mod AllowedTick
+pub mod AllowedClosing

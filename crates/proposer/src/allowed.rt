@@ -3,13 +3,14 @@
 //! Each law is the contract of a function that does nothing.
 
 ghost use Rattle.std.specs.Prelude.{◌≡◌, ◌++◌, ◌∷◌, [], ℕ};
+ghost use Rattle.synod.specs.Minds.{IsSettled};
 ghost use Rattle.synod.specs.Acts.{Fleet, Input, Local};
 ghost use Rattle.sessions.specs.Asked.{Asked};
 ghost use Rattle.sessions.specs.declared.command.Command.{Command};
 ghost use Rattle.wire.specs.Promises.{Refused};
 ghost use Rattle.proposer.specs.declared.outgoing.Outgoing.{Outgoing};
 ghost use Rattle.proposer.specs.Requests.{without};
-ghost use Rattle.proposer.specs.Proposing.{Proposing, StartsCampaign, after_nack, sends_again};
+ghost use Rattle.proposer.specs.Proposing.{Proposing, StartsCampaign, after_nack, after_learned, sends_again};
 ghost use Rattle.proposer.specs.Protocol.{ProposerStands, MayHold, MaySend, MaySubmit, frames_of, frames_of_all};
 
 /// A campaign may start, once its round is written, and its prepares be sent.
@@ -44,4 +45,10 @@ pub fn submission_is_allowed()
 pub fn tick_is_allowed()
     ensures { (f : Fleet Command) (i : ℕ) (input : Input Command) (x : Local Command) (p : Proposing) (nodes : ℕ)
         → ProposerStands p x → MaySend f i input x p (frames_of_all i nodes (sends_again p.campaign)) }
+{}
+
+/// Where a slot is learnt, or the log is executed past it, its proposal may be closed.
+pub fn learning_is_allowed()
+    ensures { (f : Fleet Command) (i : ℕ) (input : Input Command) (x : Local Command) (p : Proposing) (slot : ℕ)
+        → IsSettled x.mind.position x.mind.learnt slot → ProposerStands p x → MayHold f i input x (after_learned p slot) }
 {}
