@@ -6,3 +6,5 @@ pub mod AllowedMoves
 pub mod Proposed
 pub mod AllowedTick
 pub mod AllowedClosing
+pub mod Votes
+pub mod AllowedPromise

@@ -2,15 +2,16 @@
 //!
 //! Each law is the contract of a function that does nothing.
 
-ghost use Rattle.std.specs.Prelude.{◌≡◌, ◌++◌, ◌∷◌, [], ℕ};
+ghost use Rattle.std.specs.Prelude.{◌≡◌, ◌<◌, ◌++◌, ◌∷◌, [], ℕ};
 ghost use Rattle.synod.specs.Minds.{IsSettled};
-ghost use Rattle.synod.specs.Acts.{Fleet, Input, Local};
+ghost use Rattle.synod.specs.Messages.{Promise};
+ghost use Rattle.synod.specs.Acts.{Fleet, Input, Came, Local};
 ghost use Rattle.sessions.specs.Asked.{Asked};
 ghost use Rattle.sessions.specs.declared.command.Command.{Command};
-ghost use Rattle.wire.specs.Promises.{Refused};
+ghost use Rattle.wire.specs.Promises.{Promised, Refused};
 ghost use Rattle.proposer.specs.declared.outgoing.Outgoing.{Outgoing};
 ghost use Rattle.proposer.specs.Requests.{without};
-ghost use Rattle.proposer.specs.Proposing.{Proposing, StartsCampaign, after_nack, after_learned, sends_again};
+ghost use Rattle.proposer.specs.Proposing.{Proposing, StartsCampaign, with_promised, after_nack, after_learned, sends_again};
 ghost use Rattle.proposer.specs.Protocol.{ProposerStands, MayHold, MaySend, MaySubmit, frames_of, frames_of_all};
 
 /// A campaign may start, once its round is written, and its prepares be sent.
@@ -51,4 +52,14 @@ pub fn tick_is_allowed()
 pub fn learning_is_allowed()
     ensures { (f : Fleet Command) (i : ℕ) (input : Input Command) (x : Local Command) (p : Proposing) (slot : ℕ)
         → IsSettled x.mind.position x.mind.learnt slot → ProposerStands p x → MayHold f i input x (after_learned p slot) }
+{}
+
+/// A promise that has come may be counted, and with a majority the campaign may lead.
+///
+/// Whoever sent it: a majority is one of the run's nodes alone.
+pub fn promise_is_allowed()
+    ensures { (f : Fleet Command) (i from : ℕ) (x : Local Command) (p : Proposing) (promise : Promised)
+        → f.nodes ≡ p.nodes → from < 7 → ProposerStands p x
+        → MayHold f i (Came from (Promise promise.ballot promise.first promise.last promise.entries)) x
+        (with_promised p from promise) }
 {}
