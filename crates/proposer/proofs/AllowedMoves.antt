@@ -38,7 +38,7 @@ waited_before client number (r ∷ rs) s c =
 nobody : (a : ℕ) → false ≡ has_node no_nodes a
 nobody a = grind (arith, common_steps)
 
-begun_stands : (b : Ballot) (position : ℕ) → CampaignStands (begun b position) (synod_minds.begun b position 65535)
+pub begun_stands : (b : Ballot) (position : ℕ) → CampaignStands (begun b position) (synod_minds.begun b position 65535)
 begun_stands b position = record {
   ballot = refl;
   first = refl;

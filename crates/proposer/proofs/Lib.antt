@@ -8,3 +8,6 @@ pub mod AllowedTick
 pub mod AllowedClosing
 pub mod Votes
 pub mod AllowedPromise
+pub mod Choosing
+pub mod AllowedFilling
+pub mod AllowedPropose

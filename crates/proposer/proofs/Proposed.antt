@@ -1,8 +1,12 @@
 -- What is proposed at each slot, where proposals come and go.
-use Rattle.std.proofs.Common.{◌≡◌, ℕ, ◌==◌, List, [], ◌∷◌, Bool, true, false, cond, filter, Option, Some, None, refl, sym, ap, ◌∙◌}
-use Rattle.std.proofs.lemmas.Bool.{cond_both, cond-true, cond-false, eq-eqb, eqb-true}
+use Rattle.std.proofs.Common.{◌≡◌, ℕ, ◌==◌, List, [], ◌∷◌, Bool, true, false, cond, filter, nat_lt, Option, Some, None, refl, sym, ap, ◌∙◌}
+use Rattle.std.specs.List.{list_any}
+use Rattle.std.proofs.lemmas.Bool.{cond_both, cond-true, cond-false, eq-eqb, eqb-true, eqb-false, ne_eqb, or_parts}
+use Rattle.synod.specs.Records.{put}
+use Rattle.synod.proofs.Puts.{put_cases}
 use Rattle.sessions.specs.declared.command.Command.{Command}
 use Rattle.proposer.specs.declared.window.Proposal.{Proposal}
+use Rattle.proposer.specs.Campaigning.{is_at, placed}
 use Rattle.proposer.specs.Protocol.{proposed_at, AreApart}
 
 -- the first proposal stands at its own slot
@@ -55,3 +59,66 @@ module _ (stays : ℕ → Bool) where
       apart_first (stays p.slot) p ps
       (proposed_left ps p.slot ∙ cond_both (stays p.slot) (proposed_at ps p.slot) None (λ o. o ≡ None) (λ _. h.0) (λ _. refl))
       (apart_left ps h.1)
+
+-- ---- a proposal is placed
+-- two tests of which one at most passes may change places
+swapped : (a b : Bool) (x y o : Option Command) → (a ≡ true → b ≡ true → ⊥) → cond a x (cond b y o) ≡ cond b y (cond a x o)
+swapped true true x y o h = absurd (h refl refl)
+swapped true false x y o h = refl
+swapped false true x y o h = refl
+swapped false false x y o h = refl
+
+-- what has nothing at a slot has nothing there in its parts
+first_none : (b : Bool) (c : Command) (o : Option Command) → cond b (Some c) o ≡ None → (b ≡ false) × (o ≡ None)
+first_none true c o e = absurd (cc)
+first_none false c o e = (refl, e)
+
+pub unopened : (slot : ℕ) (ps : List Proposal) → list_any (is_at slot) ps ≡ false → proposed_at ps slot ≡ None
+unopened slot [] e = refl
+unopened slot (p ∷ ps) e =
+    let parts = or_parts (p.slot == slot) (list_any (is_at slot) ps) e in
+    cond-false (p.slot == slot) (Some p.command) (proposed_at ps slot) parts.0 ∙ unopened slot ps parts.1
+
+module _ (p : Proposal) where
+  placed_first : (b : Bool) (q : Proposal) (qs : List Proposal) (s : ℕ) → (q.slot == p.slot) ≡ false
+      → proposed_at (placed p qs) s ≡ proposed_at (p ∷ qs) s
+      → proposed_at (cond b (q ∷ placed p qs) (p ∷ q ∷ qs)) s ≡ proposed_at (p ∷ q ∷ qs) s
+  placed_first true q qs s other e =
+      ap (λ o. cond (q.slot == s) (Some q.command) o) e
+      ∙ swapped (q.slot == s) (p.slot == s) (Some q.command) (Some p.command) (proposed_at qs s)
+      (λ one two. eqb-false q.slot p.slot other (eqb-true q.slot s one ∙ sym (eqb-true p.slot s two)))
+  placed_first false q qs s other e = refl
+
+  -- it stands at its slot, and the others at theirs
+  pub proposed_placed : (qs : List Proposal) (s : ℕ) → proposed_at qs p.slot ≡ None → proposed_at (placed p qs) s ≡ proposed_at (p ∷ qs) s
+  proposed_placed [] s none = refl
+  proposed_placed (q ∷ qs) s none =
+      let parts = first_none (q.slot == p.slot) q.command (proposed_at qs p.slot) none in
+      placed_first (nat_lt q.slot p.slot) q qs s parts.0 (proposed_placed qs s parts.1)
+
+  apart_more : (b : Bool) (q : Proposal) (qs : List Proposal) → proposed_at (q ∷ qs) p.slot ≡ None → AreApart (q ∷ qs)
+      → AreApart (placed p qs) → AreApart (cond b (q ∷ placed p qs) (p ∷ q ∷ qs))
+  apart_more true q qs none h rest =
+      let parts = first_none (q.slot == p.slot) q.command (proposed_at qs p.slot) none in (
+        proposed_placed qs q.slot parts.1
+            ∙ cond-false (p.slot == q.slot) (Some p.command) (proposed_at qs q.slot)
+            (ne_eqb p.slot q.slot (λ e. eqb-false q.slot p.slot parts.0 (sym e))) ∙ h.0,
+        rest,
+      )
+  apart_more false q qs none h rest = (none, h)
+
+  pub apart_placed : (qs : List Proposal) → proposed_at qs p.slot ≡ None → AreApart qs → AreApart (placed p qs)
+  apart_placed [] none h = (refl, tt)
+  apart_placed (q ∷ qs) none h =
+      let parts = first_none (q.slot == p.slot) q.command (proposed_at qs p.slot) none in
+      apart_more (nat_lt q.slot p.slot) q qs none h (apart_placed qs parts.1 h.1)
+
+  -- and so it does in the protocol's campaign
+  pub put_placed : (proposals : ℕ → Option Command) (qs : List Proposal) → proposed_at qs p.slot ≡ None
+      → ((s : ℕ) → proposals s ≡ proposed_at qs s) → (s : ℕ)
+      → put proposals p.slot (Some p.command) s ≡ proposed_at (placed p qs) s
+  put_placed proposals qs none same s =
+      put_cases (λ o. o ≡ proposed_at (placed p qs) s) proposals p.slot (Some p.command) s
+      (λ here. sym (proposed_placed qs s none ∙ ap (λ t. proposed_at (p ∷ qs) t) here ∙ proposed_first p qs))
+      (λ other. same s ∙ sym (proposed_placed qs s none
+      ∙ cond-false (p.slot == s) (Some p.command) (proposed_at qs s) (ne_eqb p.slot s (λ e. other (sym e)))))

@@ -2,16 +2,19 @@
 //!
 //! Each law is the contract of a function that does nothing.
 
-ghost use Rattle.std.specs.Prelude.{◌≡◌, ◌<◌, ◌++◌, ◌∷◌, [], ℕ};
+ghost use Rattle.std.specs.Prelude.{◌≡◌, ◌<◌, ◌≤◌, ◌++◌, ◌∷◌, [], ℕ};
 ghost use Rattle.synod.specs.Minds.{IsSettled};
 ghost use Rattle.synod.specs.Messages.{Promise};
 ghost use Rattle.synod.specs.Acts.{Fleet, Input, Came, Local};
 ghost use Rattle.sessions.specs.Asked.{Asked};
 ghost use Rattle.sessions.specs.declared.command.Command.{Command};
+ghost use Rattle.sessions.specs.declared.command.Command.TheVariants.{NoOp};
 ghost use Rattle.wire.specs.Promises.{Promised, Refused};
+ghost use Rattle.learner.specs.Learning.{Learning, prefix};
+ghost use Rattle.learner.specs.Protocol.{LearnerStands};
 ghost use Rattle.proposer.specs.declared.outgoing.Outgoing.{Outgoing};
 ghost use Rattle.proposer.specs.Requests.{without};
-ghost use Rattle.proposer.specs.Proposing.{Proposing, StartsCampaign, with_promised, after_nack, after_learned, sends_again};
+ghost use Rattle.proposer.specs.Proposing.{Proposing, StartsCampaign, with_promised, after_nack, after_learned, proposes, sends_again};
 ghost use Rattle.proposer.specs.Protocol.{ProposerStands, MayHold, MaySend, MaySubmit, frames_of, frames_of_all};
 
 /// A campaign may start, once its round is written, and its prepares be sent.
@@ -62,4 +65,12 @@ pub fn promise_is_allowed()
         → f.nodes ≡ p.nodes → from < 7 → ProposerStands p x
         → MayHold f i (Came from (Promise promise.ballot promise.first promise.last promise.entries)) x
         (with_promised p from promise) }
+{}
+
+/// What a proposer proposes may be proposed, and its promises be gathered further on, where the mind's position is the learner's
+/// prefix and has learnt what the learner has.
+pub fn proposing_is_allowed()
+    ensures { (f : Fleet Command) (i : ℕ) (input : Input Command) (x : Local Command) (p : Proposing) (l : Learning)
+        (nodes : ℕ) → f.noop ≡ NoOp → 1 ≤ nodes → x.mind.position ≡ prefix l → LearnerStands l x.mind → ProposerStands p x
+        → MaySend f i input x (proposes p p.campaign l).0 (frames_of_all i nodes (proposes p p.campaign l).1) }
 {}
