@@ -43,7 +43,8 @@ module _ (stays : ℕ → Bool) (k : Campaigning) (q : synod_minds.Campaign Comm
     only = λ s c e. h.proposals s ∙ was_there (stays s) (proposed_at k.proposals s) c (sym (proposed_left stays k.proposals s) ∙ e);
     all = λ s c e.
         cond_both (stays s) (proposed_at k.proposals s) None
-        (λ o. proposed_at (left stays k.proposals) s ≡ o → (proposed_at (left stays k.proposals) s ≡ Some c) ⊎ IsSettled m.position m.learnt s)
+        (λ o. proposed_at (left stays k.proposals) s ≡ o
+        → (proposed_at (left stays k.proposals) s ≡ Some c) ⊎ IsSettled m.position m.learnt s)
         (λ yes_ is. inl (is ∙ sym (h.proposals s) ∙ e))
         (λ no_ is. inr (settled s no_))
         (proposed_left stays k.proposals s);

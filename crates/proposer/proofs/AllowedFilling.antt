@@ -27,7 +27,8 @@ none_of None e = refl
 none_of (Some x) e = absurd (cc)
 
 -- the frames of two lists of messages
-frames_both : (i nodes : ℕ) (os more : List Outgoing) → frames_of_all i nodes os ++ frames_of_all i nodes more ≡ frames_of_all i nodes (os ++ more)
+frames_both : (i nodes : ℕ) (os more : List Outgoing)
+    → frames_of_all i nodes os ++ frames_of_all i nodes more ≡ frames_of_all i nodes (os ++ more)
 frames_both i nodes [] more = refl
 frames_both i nodes (o ∷ os) more =
     append_assoc (frames_of i nodes o) (frames_of_all i nodes os) (frames_of_all i nodes more)
@@ -83,7 +84,8 @@ module _ (f : Fleet Command) (i : ℕ) (input : Input Command) (nodes : ℕ) (so
 
   opens : (n : ℕ) (x : Local Command) (q : synod_minds.Campaign Command) (s : ℕ) (c : Command) → 1 ≤ n → x.mind.campaign ≡ Some q
       → MayPropose f x.mind q s c
-      → Does f i input x (sending (campaigns x (record q { proposals = put q.proposals s (Some c) })) (to_first n i (synod.Accept (proposal q s c))))
+      → Does f i input x (sending (campaigns x (record q { proposals = put q.proposals s (Some c) }))
+      (to_first n i (synod.Accept (proposal q s c))))
   opens zero x q s c l here may = absurd (omega (arith, l))
   opens (suc n) x q s c l here may = proposes_to_first f i input x q s c here may n
 
@@ -149,7 +151,8 @@ module _ (f : Fleet Command) (i : ℕ) (input : Input Command) (nodes : ℕ) (so
         cond_both (nat_le MOST_OPEN (length g.proposals)) None next StepFills (λ _. tt)
         (λ _. chosen parts.1 parts.0 (choice k waiting learnt_to slot g.proposals) refl)))
 
-    goes_on : (o : Option Filling) (rest : Filling → Filling) → ((new : Filling) (s : Fills x g new) → Fills (come x g new s) new (rest new))
+    goes_on : (o : Option Filling) (rest : Filling → Filling)
+        → ((new : Filling) (s : Fills x g new) → Fills (come x g new s) new (rest new))
         → StepFills o → Fills x g (going_on o g rest)
     goes_on None rest then s = stays x g h
     goes_on (Some new) rest then s = fills_then x g new (rest new) s (then new s)

@@ -92,7 +92,8 @@ module _ (f : Fleet Command) (i from : ℕ) (x : Local Command) (p : Proposing) 
       within = omega arith;
       covers_old = subst (λ l. synod_minds.Covers l last' told') (sym h.told)
           (λ v c l. (v, in_up_to last' (k.told ++ promise.entries) v (Contains-append_left k.told promise.entries v c) l, refl, le_refl _));
-      covers_new = λ v c l. (v, in_up_to last' (k.told ++ promise.entries) v (Contains-append_right k.told promise.entries v c) l, refl, le_refl _);
+      covers_new = λ v c l.
+          (v, in_up_to last' (k.told ++ promise.entries) v (Contains-append_right k.told promise.entries v c) l, refl, le_refl _);
       only = λ v c. elim (Contains-append_cases k.told promise.entries v (out_of_up_to last' (k.told ++ promise.entries) v c)) [
         | inl known ↦ inl (subst (λ l. Contains l v) (sym h.told) known)
         | inr new ↦ inr new
@@ -127,7 +128,8 @@ module _ (f : Fleet Command) (i from : ℕ) (x : Local Command) (p : Proposing) 
       does = does_count;
       stands = record {
         round = stands.round;
-        campaign = (more, refl, subst (λ l. CampaignStands (now false) (record more { leading = l })) (sym still_gathers) (more_stands false));
+        campaign =
+            (more, refl, subst (λ l. CampaignStands (now false) (record more { leading = l })) (sym still_gathers) (more_stands false));
         waiting = stands.waiting;
       };
     }

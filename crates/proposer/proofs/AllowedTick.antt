@@ -17,7 +17,7 @@ use Rattle.proposer.specs.declared.window.Proposal.{Proposal}
 use Rattle.proposer.specs.Campaigning.{Campaigning, accept}
 use Rattle.proposer.specs.Campaigning as campaign
 use Rattle.proposer.specs.Proposing.{Proposing, sends_again}
-use Rattle.proposer.specs.Protocol.{CampaignStands, CampaignsStand, ProposerStands, AreApart, proposed_at, MaySend, MaySubmit, frames_of, frames_of_all}
+use Rattle.proposer.specs.Protocol.{CampaignStands, CampaignsStand, ProposerStands, AreApart, proposed_at, MaySend, MayCome, submitting, frames_of, frames_of_all}
 use Rattle.proposer.proofs.Proposed.{proposed_first, proposed_later}
 
 -- no frame more, and some after others
@@ -110,7 +110,7 @@ module _ (f : Fleet Command) (i : ℕ) (input : Input Command) where
 
   -- ---- a request
   module _ (x : Local Command) (p : Proposing) (r : Asked) (stands : ProposerStands p x) where
-    pub submit_last_lem : MaySubmit f i input x (record p { waiting = p.waiting ++ r ∷ [] }) r
+    pub submit_last_lem : MayCome f i input x (record p { waiting = p.waiting ++ r ∷ [] }) (submitting x r)
     submit_last_lem = record {
       does = does_one f i input x (act.Submits (Request r)) tt;
       stands = record {
@@ -118,12 +118,13 @@ module _ (f : Fleet Command) (i : ℕ) (input : Input Command) where
         campaign = stands.campaign;
         waiting = λ s c. elim (Contains-push_cases p.waiting r s c) [
           | inl before ↦ Contains-append_left x.mind.waiting (Request r ∷ []) (Request s) (stands.waiting s before)
-          | inr now ↦ subst (λ (a : Asked). Contains (x.mind.waiting ++ Request r ∷ []) (Request a)) now (Contains-push x.mind.waiting (Request r))
+          | inr now ↦ subst (λ (a : Asked). Contains (x.mind.waiting ++ Request r ∷ []) (Request a)) now
+              (Contains-push x.mind.waiting (Request r))
         ];
       };
     }
 
-    pub submit_again_lem : MaySubmit f i input x p r
+    pub submit_again_lem : MayCome f i input x p (submitting x r)
     submit_again_lem = record {
       does = does_one f i input x (act.Submits (Request r)) tt;
       stands = record {

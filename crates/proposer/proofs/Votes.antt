@@ -50,7 +50,8 @@ out_of_filter test x [] c = c
 out_of_filter test x (y ∷ ys) c = left_among (test y) y x ys (filter test ys) (out_of_filter test x ys) c
 
 -- ---- votes
-pub in_up_to : (end' : ℕ) (votes : List (Vote Command)) (v : Vote Command) → Contains votes v → v.slot ≤ end' → Contains (up_to end' votes) v
+pub in_up_to : (end' : ℕ) (votes : List (Vote Command)) (v : Vote Command) → Contains votes v → v.slot ≤ end'
+    → Contains (up_to end' votes) v
 in_up_to end' votes v c l = in_filter (λ (u : Vote Command). nat_le u.slot end') v votes (le-leb v.slot end' l) c
 
 pub out_of_up_to : (end' : ℕ) (votes : List (Vote Command)) (v : Vote Command) → Contains (up_to end' votes) v → Contains votes v

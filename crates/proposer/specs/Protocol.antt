@@ -2,7 +2,7 @@
 use Rattle.std.specs.Prelude.{◌≡◌, ℕ, ◌==◌, List, [], ◌∷◌, ◌++◌, Option, Some, None, Contains, not, if◌then◌else◌}
 use Rattle.std.specs.Prelude.{filter, length}
 use Rattle.synod.specs.Messages.{Frame, to_first}
-use Rattle.synod.specs.Minds.{Campaign}
+use Rattle.synod.specs.Minds.{Campaign, blank}
 use Rattle.synod.specs.Records as synod
 use Rattle.synod.specs.Acts.{Fleet, Input, Local, Does}
 use Rattle.sessions.specs.Asked.{Asked}
@@ -86,13 +86,23 @@ pub record MaySend (f : Fleet Command) (i : ℕ) (input : Input Command) (x : Lo
     sent = x.sent ++ frames;
   })
 
--- from x the node may submit the request, and then the proposer's state stands
-pub record MaySubmit (f : Fleet Command) (i : ℕ) (input : Input Command) (x : Local Command) (p : Proposing) (r : Asked) : Type 0 where
-  pub does : Does f i input x (record x {
-    mind = record x.mind { waiting = x.mind.waiting ++ Request r ∷ [] };
-    submitted = x.submitted ++ Request r ∷ [];
-  })
-  pub stands : ProposerStands p (record x {
-    mind = record x.mind { waiting = x.mind.waiting ++ Request r ∷ [] };
-    submitted = x.submitted ++ Request r ∷ [];
-  })
+-- from x the node may come to y, and there the proposer's state stands
+pub record MayCome (f : Fleet Command) (i : ℕ) (input : Input Command) (x : Local Command) (p : Proposing) (y : Local Command) : Type 0
+  where
+    pub does : Does f i input x y
+    pub stands : ProposerStands p y
+
+-- the request is submitted
+abbrev pub submitting : Local Command → Asked → Local Command
+submitting x r = record x {
+  mind = record x.mind { waiting = x.mind.waiting ++ Request r ∷ [] };
+  submitted = x.submitted ++ Request r ∷ [];
+}
+
+-- the log is executed up to here
+abbrev pub advancing : Local Command → ℕ → Local Command
+advancing x position = record x { mind = record x.mind { position = position } }
+
+-- all but these records is lost
+abbrev pub stopping : Local Command → synod.Records Command → Local Command
+stopping x records = record x { records = records; mind = blank }

@@ -5,6 +5,7 @@
 ghost use Rattle.std.specs.Prelude.{◌≡◌, ◌<◌, ◌≤◌, ◌++◌, ◌∷◌, [], ℕ};
 ghost use Rattle.synod.specs.Minds.{IsSettled};
 ghost use Rattle.synod.specs.Messages.{Promise};
+ghost use Rattle.synod.specs.Records.{with_round};
 ghost use Rattle.synod.specs.Acts.{Fleet, Input, Came, Local};
 ghost use Rattle.sessions.specs.Asked.{Asked};
 ghost use Rattle.sessions.specs.declared.command.Command.{Command};
@@ -14,8 +15,8 @@ ghost use Rattle.learner.specs.Learning.{Learning, prefix};
 ghost use Rattle.learner.specs.Protocol.{LearnerStands};
 ghost use Rattle.proposer.specs.declared.outgoing.Outgoing.{Outgoing};
 ghost use Rattle.proposer.specs.Requests.{without};
-ghost use Rattle.proposer.specs.Proposing.{Proposing, StartsCampaign, with_promised, after_nack, after_learned, proposes, sends_again};
-ghost use Rattle.proposer.specs.Protocol.{ProposerStands, MayHold, MaySend, MaySubmit, frames_of, frames_of_all};
+ghost use Rattle.proposer.specs.Proposing.{Proposing, loaded, next_round, StartsCampaign, with_promised, after_nack, after_learned, proposes, sends_again};
+ghost use Rattle.proposer.specs.Protocol.{ProposerStands, MayHold, MaySend, MayCome, submitting, advancing, stopping, frames_of, frames_of_all};
 
 /// A campaign may start, once its round is written, and its prepares be sent.
 pub fn timeout_is_allowed()
@@ -40,9 +41,9 @@ pub fn execution_is_allowed()
 /// A request may be submitted: it waits from now on, or its name waits already and nothing changes.
 pub fn submission_is_allowed()
     ensures last { (f : Fleet Command) (i : ℕ) (input : Input Command) (x : Local Command) (p : Proposing) (r : Asked)
-        → ProposerStands p x → MaySubmit f i input x (record p { waiting = p.waiting ++ r ∷ [] }) r }
+        → ProposerStands p x → MayCome f i input x (record p { waiting = p.waiting ++ r ∷ [] }) (submitting x r) }
     ensures again { (f : Fleet Command) (i : ℕ) (input : Input Command) (x : Local Command) (p : Proposing) (r : Asked)
-        → ProposerStands p x → MaySubmit f i input x p r }
+        → ProposerStands p x → MayCome f i input x p (submitting x r) }
 {}
 
 /// What a tick sends again may be sent, and nothing else changes.
@@ -73,4 +74,20 @@ pub fn proposing_is_allowed()
     ensures { (f : Fleet Command) (i : ℕ) (input : Input Command) (x : Local Command) (p : Proposing) (l : Learning)
         (nodes : ℕ) → f.noop ≡ NoOp → 1 ≤ nodes → x.mind.position ≡ prefix l → LearnerStands l x.mind → ProposerStands p x
         → MaySend f i input x (proposes p p.campaign l).0 (frames_of_all i nodes (proposes p p.campaign l).1) }
+{}
+
+/// The log may be executed further: a proposer's state says nothing of the position, and stands.
+pub fn advance_is_allowed()
+    ensures { (f : Fleet Command) (i : ℕ) (input : Input Command) (x : Local Command) (p : Proposing) (position : ℕ)
+        → x.mind.position ≤ position → ProposerStands p x → MayCome f i input x p (advancing x position) }
+{}
+
+/// A node may stop at any time, and what is loaded then stands: also where the round of a timeout was written, of which nobody
+/// has heard.
+pub fn stop_is_allowed()
+    ensures unwritten { (f : Fleet Command) (i : ℕ) (input : Input Command) (x : Local Command) (p : Proposing)
+        → ProposerStands p x → MayCome f i input x (loaded p.id p.nodes p.round) (stopping x x.records) }
+    ensures written { (f : Fleet Command) (i : ℕ) (input : Input Command) (x : Local Command) (p : Proposing)
+        → p.id ≡ i → p.id < 7 → ProposerStands p x
+        → MayCome f i input x (loaded p.id p.nodes (next_round p)) (stopping x (with_round x.records (next_round p))) }
 {}
