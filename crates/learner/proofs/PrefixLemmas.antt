@@ -1,10 +1,15 @@
 -- The prefix is the first slot that isn't learnt.
 use Rattle.std.proofs.Common.{◌≡◌, ℕ, zero, suc, ◌+◌, ◌-◌, ◌<◌, ◌≤◌, ◌⊎◌, inl, inr, true, false, Option, Some, None, IsSome, is_some}
-use Rattle.std.proofs.Common.{refl, sym, subst, ◌∙◌, arith}
+use Rattle.std.proofs.Common.{refl, sym, ap, subst, ◌∙◌, arith}
 use Rattle.std.proofs.lemmas.Grind.{common_steps}
+use Rattle.synod.specs.Records.{put}
+use Rattle.synod.specs.declared.vote.Vote.{Vote}
+use Rattle.synod.proofs.Puts.{put_cases}
 use Rattle.synod.specs.declared.slot.TheConstants.{SLOTS}
 use Rattle.sessions.specs.declared.command.Command.{Command}
-use Rattle.learner.specs.Learning.{Learning, first_unlearnt, prefix}
+use Rattle.learner.specs.declared.learned.Learned.{Learned}
+use Rattle.learner.specs.Learning.{Learning, first_unlearnt, prefix, with_learnt, HearsVote, HearsDecided}
+use Rattle.learner.specs.Learning.{ignores, hears, learns, ignores_decided, learns_decided}
 use Rattle.learner.specs.Prefixes.{IsLearntTo, IsPrefix}
 
 some_or_none : {A : Type 0} (o : Option A) → (is_some o ≡ true) ⊎ (is_some o ≡ false)
@@ -67,3 +72,64 @@ learnt_on learnt learnt_then first p still to = record {
   in_log = to.in_log;
   below = λ s l m. still s (to.below s l m);
 }
+
+-- ---- it never falls
+-- where no slot is kept, it is the first
+none_kept : (learnt : ℕ → Option Command) (s n : ℕ) → n ≡ 0 → first_unlearnt learnt s n ≡ s
+unfolding first_unlearnt
+none_kept learnt s zero e = refl
+none_kept learnt s (suc n) e = absurd (omega (arith, e))
+
+first_of_none : (l : Learning) → SLOTS < l.first → prefix l ≡ l.first
+unfolding prefix
+first_of_none l beyond = none_kept l.learnt l.first (SLOTS - l.first) (omega (arith, beyond))
+
+module _ (old new : Learning) (same : new.first ≡ old.first) (still : (s : ℕ) → IsSome (old.learnt s) → IsSome (new.learnt s)) where
+  grows_within : old.first ≤ SLOTS → prefix old ≤ prefix new
+  grows_within within =
+      let a : IsPrefix old.learnt old.first (prefix old) = prefix_is old within in
+      let b : IsPrefix new.learnt new.first (prefix new) = prefix_is new (omega (arith, within, same)) in
+      elim (same_or_not (prefix old) (prefix new)) [
+        | inl e ↦ omega (arith, e)
+        | inr apart ↦ elim apart [
+          | inl less ↦ omega (arith, less)
+          | inr more ↦ absurd (b.here (omega (arith, more, a.learnt_to.in_log))
+              (still (prefix new) (a.learnt_to.below (prefix new) (omega (arith, b.learnt_to.from, same)) more)))
+        ]
+      ]
+
+  grows : prefix old ≤ prefix new
+  grows = elim (same_or_not old.first SLOTS) [
+    | inl e ↦ grows_within (omega (arith, e))
+    | inr apart ↦ elim apart [
+      | inl less ↦ grows_within (omega (arith, less))
+      | inr more ↦ omega (arith, first_of_none old more, first_of_none new (omega (arith, more, same)), same)
+    ]
+  ]
+
+-- one slot is newly learnt
+one_learnt : (learnt : ℕ → Option Command) (s : ℕ) (c : Command) (t : ℕ) → IsSome (learnt t) → IsSome (put learnt s (Some c) t)
+one_learnt learnt s c t is = put_cases (λ o. IsSome o) learnt s (Some c) t (λ _. refl) (λ _. is)
+
+with_one : (old new : Learning) (s : ℕ) (c : Command) → new ≡ with_learnt old s c → prefix old ≤ prefix new
+with_one old new s c same =
+    grows old new (ap (λ (l : Learning). l.first) same)
+    (λ t is. subst (λ (l : Learning). IsSome (l.learnt t)) (sym same) (one_learnt old.learnt s c t is))
+
+with_none : (old new : Learning) → new.first ≡ old.first → new.learnt ≡ old.learnt → prefix old ≤ prefix new
+with_none old new first learnt =
+    grows old new first (λ t is. subst (λ (g : ℕ → Option Command). IsSome (g t)) (sym learnt) is)
+
+pub vote_grows : (old new : Learning) (from : ℕ) (v : Vote Command) (learned : Option Learned) → HearsVote old from v learned new
+    → prefix old ≤ prefix new
+vote_grows old new from v learned (ignores never none same) =
+    with_none old new (ap (λ (l : Learning). l.first) same) (ap (λ (l : Learning). l.learnt) same)
+vote_grows old new from v learned (hears counts few none same) =
+    with_none old new (ap (λ (l : Learning). l.first) same) (ap (λ (l : Learning). l.learnt) same)
+vote_grows old new from v learned (learns counts decided is same) = with_one old new v.slot v.command same
+
+pub decided_grows : (old new : Learning) (s : ℕ) (c : Command) (learned : Option Learned) → HearsDecided old s c learned new
+    → prefix old ≤ prefix new
+decided_grows old new s c learned (ignores_decided never none same) =
+    with_none old new (ap (λ (l : Learning). l.first) same) (ap (λ (l : Learning). l.learnt) same)
+decided_grows old new s c learned (learns_decided open' is same) = with_one old new s c same

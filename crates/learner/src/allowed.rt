@@ -2,13 +2,13 @@
 //!
 //! Each law is the contract of a function that does nothing.
 
-ghost use Rattle.std.specs.Prelude.{◌≡◌, ℕ, Option};
+ghost use Rattle.std.specs.Prelude.{◌≡◌, ◌≤◌, ℕ, Option};
 ghost use Rattle.synod.specs.declared.vote.Vote.{Vote};
 ghost use Rattle.synod.specs.Messages.{Accepted, Decided};
 ghost use Rattle.synod.specs.Acts.{Fleet, Input, Local, Came, Brings};
 ghost use Rattle.sessions.specs.declared.command.Command.{Command};
 ghost use Rattle.learner.specs.declared.learned.Learned.{Learned};
-ghost use Rattle.learner.specs.Learning.{Learning, HearsVote, HearsDecided};
+ghost use Rattle.learner.specs.Learning.{Learning, prefix, HearsVote, HearsDecided};
 ghost use Rattle.learner.specs.Protocol.{LearnerStands, MayLearn};
 
 /// What a learner makes of the news of a vote that has come is allowed.
@@ -23,4 +23,12 @@ pub fn decided_is_allowed()
     ensures { (f : Fleet Command) (i : ℕ) (input : Input Command) (x : Local Command) (old new : Learning) (s : ℕ)
         (c : Command) (learned : Option Learned) → Brings input (Decided s c) → LearnerStands old x.mind
         → HearsDecided old s c learned new → MayLearn f i input x c learned new }
+{}
+
+/// The prefix never falls, so the log's position may rise to it.
+pub fn prefix_never_falls()
+    ensures vote { (old new : Learning) (from : ℕ) (v : Vote Command) (learned : Option Learned)
+        → HearsVote old from v learned new → prefix old ≤ prefix new }
+    ensures decided { (old new : Learning) (s : ℕ) (c : Command) (learned : Option Learned)
+        → HearsDecided old s c learned new → prefix old ≤ prefix new }
 {}

@@ -1,5 +1,5 @@
 -- What a proposer does is allowed by the protocol.
-use Rattle.std.proofs.Common.{◌≡◌, ℕ, ◌+◌, ◌<◌, max, List, [], ◌∷◌, ◌++◌, Bool, true, false, cond, inl, inr, Option, Some, None, Contains, refl, sym, ap, ◌∙◌, subst, arith}
+use Rattle.std.proofs.Common.{◌≡◌, ℕ, ◌+◌, ◌<◌, ◌≤◌, max, List, [], ◌∷◌, ◌++◌, Bool, true, false, cond, inl, inr, Option, Some, None, Contains, refl, sym, ap, ◌∙◌, subst, arith}
 use Rattle.std.proofs.lemmas.List.Elements.{Contains-append_left, Contains-append_right, Contains-append_cases}
 use Rattle.std.proofs.lemmas.Grind.{common_steps}
 use Rattle.synod.specs.declared.ballot.Ballot.{Ballot}
@@ -17,8 +17,8 @@ use Rattle.wire.specs.Same.{same_ballot}
 use Rattle.proposer.specs.declared.outgoing.Outgoing.{Outgoing}
 use Rattle.proposer.specs.Requests.{is_of, without}
 use Rattle.proposer.specs.Campaigning.{Campaigning, begun}
-use Rattle.proposer.specs.Proposing.{Proposing, StartsCampaign, next_round, unless_refused, after_nack}
-use Rattle.proposer.specs.Protocol.{CampaignStands, CampaignsStand, ProposerStands, MayHold, MaySend, frames_of}
+use Rattle.proposer.specs.Proposing.{Proposing, loaded, StartsCampaign, next_round, unless_refused, after_nack}
+use Rattle.proposer.specs.Protocol.{CampaignStands, CampaignsStand, ProposerStands, MayHold, MaySend, MayCome, advancing, stopping, frames_of}
 
 -- what is left of a list was there before
 left_over : (b : Bool) (r s : Asked) (rest left : List Asked) → ((t : Asked) → Contains left t → Contains rest t)
@@ -38,7 +38,7 @@ waited_before client number (r ∷ rs) s c =
 nobody : (a : ℕ) → false ≡ has_node no_nodes a
 nobody a = grind (arith, common_steps)
 
-begun_stands : (b : Ballot) (position : ℕ) → CampaignStands (begun b position) (synod_minds.begun b position 65535)
+pub begun_stands : (b : Ballot) (position : ℕ) → CampaignStands (begun b position) (synod_minds.begun b position 65535)
 begun_stands b position = record {
   ballot = refl;
   first = refl;
@@ -47,6 +47,8 @@ begun_stands b position = record {
   told = refl;
   leading = refl;
   proposals = λ s. refl;
+  flags = refl;
+  apart = tt;
 }
 
 above_round : (r round refused b : ℕ) → r ≡ round → b ≡ max round refused + 1 → r < b
@@ -60,10 +62,12 @@ module _ (f : Fleet Command) (i : ℕ) (input : Input Command) (x : Local Comman
       let y : Local Command = acted i x (act.Begins b 65535) in
       let first : Does f i input x y = does_one f i input x (act.Begins b 65535)
       (s.own ∙ own, above_round x.records.round old.round old.refused b.round stands.round s.round) in
-      let all : Does f i input x (record y { sent = x.sent ++ to_first nodes i Plain }) = does_then f i input first (says_to_first f i input y nodes) in
+      let all : Does f i input x (record y { sent = x.sent ++ to_first nodes i Plain }) =
+      does_then f i input first (says_to_first f i input y nodes) in
       let frames : to_first nodes i Plain ≡ frames_of i nodes sent = ap (λ o. frames_of i nodes o) (sym s.asks_all) in
       subst (λ (p : Proposing). MaySend f i input x p (frames_of i nodes sent)) (sym s.leaves)
-      (subst (λ l. MaySend f i input x (record old { round = next_round old; campaign = Some (begun b x.mind.position) }) l) frames (record {
+      (subst (λ l. MaySend f i input x (record old { round = next_round old; campaign = Some (begun b x.mind.position) }) l) frames
+      (record {
         campaign = Some (synod_minds.begun b x.mind.position 65535);
         records = with_round x.records b.round;
         does = all;
@@ -117,3 +121,28 @@ module _ (f : Fleet Command) (i : ℕ) (input : Input Command) (x : Local Comman
       waiting = λ r c. stands.waiting r (waited_before client number p.waiting r c);
     };
   }
+
+  -- ---- the log is executed, and the node stops
+  pub advance_lem : (p : Proposing) (position : ℕ) → x.mind.position ≤ position → ProposerStands p x
+      → MayCome f i input x p (advancing x position)
+  advance_lem p position up stands = record {
+    does = does_one f i input x (act.Advances position) up;
+    stands = record { round = stands.round; campaign = stands.campaign; waiting = stands.waiting };
+  }
+
+  pub stop_lem : (p : Proposing) → ProposerStands p x → MayCome f i input x (loaded p.id p.nodes p.round) (stopping x x.records)
+  stop_lem p stands = record {
+    does = does_one f i input x act.Forgets tt;
+    stands = record { round = stands.round; campaign = refl; waiting = λ r c. absurd (omega (arith, c.1)) };
+  }
+
+  pub stop_written_lem : (p : Proposing) → p.id ≡ i → p.id < 7 → ProposerStands p x
+      → MayCome f i input x (loaded p.id p.nodes (next_round p)) (stopping x (with_round x.records (next_round p)))
+  stop_written_lem p own a_node stands =
+      let b : Ballot = record { round = next_round p; node = p.id; begun = omega arith; of_a_node = a_node } in
+      let first : Does f i input x (acted i x (act.Begins b 65535)) =
+      does_one f i input x (act.Begins b 65535) (own, above_round x.records.round p.round p.refused b.round stands.round refl) in
+      record {
+        does = does_then f i input first (does_one f i input (acted i x (act.Begins b 65535)) act.Forgets tt);
+        stands = record { round = refl; campaign = refl; waiting = λ r c. absurd (omega (arith, c.1)) };
+      }

@@ -1,5 +1,5 @@
 -- Promises that are counted.
-use Rattle.std.proofs.Common.{◌≡◌, ℕ, List, [], ◌∷◌, ◌++◌, nat_le, min, Bool, true, false, cond, refl, sym, ap, ◌∙◌, subst, append_assoc}
+use Rattle.std.proofs.Common.{◌≡◌, ℕ, List, [], ◌∷◌, ◌++◌, nat_le, min, Bool, true, false, cond, refl, sym, ap, ◌∙◌, append_assoc}
 use Rattle.synod.specs.declared.vote.Vote.{Vote}
 use Rattle.sessions.specs.declared.command.Command.{Command}
 use Rattle.wire.specs.NodeSets.{with_node}

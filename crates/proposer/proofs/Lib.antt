@@ -3,3 +3,11 @@ pub mod Placing
 pub mod Counting
 pub mod Windows
 pub mod AllowedMoves
+pub mod Proposed
+pub mod AllowedTick
+pub mod AllowedClosing
+pub mod Votes
+pub mod AllowedPromise
+pub mod Choosing
+pub mod AllowedFilling
+pub mod AllowedPropose

@@ -1,5 +1,5 @@
 -- A proposal's place among the others.
-use Rattle.std.proofs.Common.{◌≡◌, ℕ, List, [], ◌∷◌, Bool, true, false, cond, length, take_while, insert, nat_lt, refl, ap}
+use Rattle.std.proofs.Common.{◌≡◌, List, [], ◌∷◌, Bool, true, false, cond, length, take_while, insert, nat_lt, refl, ap}
 use Rattle.std.proofs.lemmas.List.Sums.{take_while-cons}
 use Rattle.proposer.specs.declared.window.Proposal.{Proposal}
 use Rattle.proposer.specs.Campaigning.{placed}

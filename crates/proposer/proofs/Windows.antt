@@ -1,5 +1,5 @@
 -- A window that is filled slot by slot.
-use Rattle.std.proofs.Common.{◌≡◌, ℕ, suc, ◌+◌, ◌-◌, ◌<◌, List, Bool, true, false, Option, Some, None, is_some, refl, sym, ap, ◌∙◌, subst, arith}
+use Rattle.std.proofs.Common.{◌≡◌, ℕ, suc, ◌+◌, ◌-◌, ◌<◌, List, Bool, true, false, Option, Some, None, is_some, sym, ap, ◌∙◌, subst, arith}
 use Rattle.sessions.specs.Asked.{Asked}
 use Rattle.sessions.specs.declared.command.Command.{Command}
 use Rattle.proposer.specs.declared.window.Proposal.{Proposal}

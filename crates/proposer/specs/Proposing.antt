@@ -1,8 +1,7 @@
 -- A node's proposer: the requests that wait at it, and its campaign.
-use Rattle.std.specs.Prelude.{◌≡◌, ℕ, zero, ◌+◌, ◌-◌, max, List, [], ◌∷◌, Bool, true, false, Option, Some, None, not, nat_lt, if◌then◌else◌}
+use Rattle.std.specs.Prelude.{◌≡◌, ℕ, zero, ◌+◌, max, List, [], ◌∷◌, Bool, false, Option, Some, None, nat_lt, if◌then◌else◌}
 use Rattle.synod.specs.declared.ballot.Ballot.{Ballot}
 use Rattle.sessions.specs.Asked.{Asked}
-use Rattle.sessions.specs.declared.command.Command.{Command}
 use Rattle.synod.specs.declared.slot.TheConstants.{SLOTS}
 use Rattle.learner.specs.Learning.{Learning, prefix}
 use Rattle.wire.specs.Promises.{Promised, Refused}

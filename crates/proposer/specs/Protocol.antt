@@ -1,13 +1,13 @@
 -- What a proposer's state and what it sends are to the protocol.
 use Rattle.std.specs.Prelude.{◌≡◌, ℕ, ◌==◌, List, [], ◌∷◌, ◌++◌, Option, Some, None, Contains, not, if◌then◌else◌}
-use Rattle.std.specs.Prelude.{filter}
+use Rattle.std.specs.Prelude.{filter, length}
 use Rattle.synod.specs.Messages.{Frame, to_first}
-use Rattle.synod.specs.Minds.{Campaign, Mind}
+use Rattle.synod.specs.Minds.{Campaign, blank}
 use Rattle.synod.specs.Records as synod
 use Rattle.synod.specs.Acts.{Fleet, Input, Local, Does}
 use Rattle.sessions.specs.Asked.{Asked}
 use Rattle.sessions.specs.declared.command.Command.{Command}
-use Rattle.sessions.specs.declared.command.Command.TheVariants.{NoOp, Request}
+use Rattle.sessions.specs.declared.command.Command.TheVariants.{Request}
 use Rattle.wire.specs.NodeSets.{has_node}
 use Rattle.wire.specs.Protocol.{message_of}
 use Rattle.proposer.specs.declared.outgoing.Outgoing.{Outgoing}
@@ -22,6 +22,11 @@ abbrev pub proposed_at : List Proposal → ℕ → Option Command
 proposed_at [] s = None
 proposed_at (p ∷ ps) s = if p.slot == s then Some p.command else proposed_at ps s
 
+-- no two proposals are of one slot
+abbrev pub AreApart : List Proposal → Type 0
+AreApart [] = Unit {0}
+AreApart (p ∷ ps) = (proposed_at ps p.slot ≡ None) × AreApart ps
+
 -- the protocol's campaign is this one
 pub record CampaignStands (k : Campaigning) (q : Campaign Command) : Type 0 where
   pub ballot : q.ballot ≡ k.ballot
@@ -31,6 +36,9 @@ pub record CampaignStands (k : Campaigning) (q : Campaign Command) : Type 0 wher
   pub told : q.told ≡ k.told
   pub leading : q.leading ≡ k.leading
   pub proposals : (s : ℕ) → q.proposals s ≡ proposed_at k.proposals s
+  -- the set has a flag for each node that a fleet may have, and each slot one proposal at most
+  pub flags : length k.promised ≡ 7
+  pub apart : AreApart k.proposals
 
 abbrev pub CampaignsStand : Option Campaigning → Option (Campaign Command) → Type 0
 CampaignsStand None q = q ≡ None
@@ -49,6 +57,11 @@ frames_to i nodes (Others set) frames = filter (λ f. not (has_node set f.receiv
 
 abbrev pub frames_of : ℕ → ℕ → Outgoing → List (Frame Command)
 frames_of i nodes o = frames_to i nodes o.to (to_first nodes i (message_of o.message))
+
+-- those of one message after the other
+abbrev pub frames_of_all : ℕ → ℕ → List Outgoing → List (Frame Command)
+frames_of_all i nodes [] = []
+frames_of_all i nodes (o ∷ os) = frames_of i nodes o ++ frames_of_all i nodes os
 
 -- from x the node may come to another campaign of which the proposer's state stands, and nothing else changes
 pub record MayHold (f : Fleet Command) (i : ℕ) (input : Input Command) (x : Local Command) (p : Proposing) : Type 0 where
@@ -72,3 +85,24 @@ pub record MaySend (f : Fleet Command) (i : ℕ) (input : Input Command) (x : Lo
     mind = record x.mind { campaign = campaign };
     sent = x.sent ++ frames;
   })
+
+-- from x the node may come to y, and there the proposer's state stands
+pub record MayCome (f : Fleet Command) (i : ℕ) (input : Input Command) (x : Local Command) (p : Proposing) (y : Local Command) : Type 0
+  where
+    pub does : Does f i input x y
+    pub stands : ProposerStands p y
+
+-- the request is submitted
+abbrev pub submitting : Local Command → Asked → Local Command
+submitting x r = record x {
+  mind = record x.mind { waiting = x.mind.waiting ++ Request r ∷ [] };
+  submitted = x.submitted ++ Request r ∷ [];
+}
+
+-- the log is executed up to here
+abbrev pub advancing : Local Command → ℕ → Local Command
+advancing x position = record x { mind = record x.mind { position = position } }
+
+-- all but these records is lost
+abbrev pub stopping : Local Command → synod.Records Command → Local Command
+stopping x records = record x { records = records; mind = blank }

@@ -1,4 +1,4 @@
-use Rattle.std.proofs.Common.{rules, ◌≡◌, ◌∙◌, true, false, is_some, sym, ap}
+use Rattle.std.proofs.Common.{rules, ◌≡◌, ◌∙◌, true, false, is_some, ap}
 use Rattle.learner.specs.Learning.{learnt_at}
 use Rattle.learner.specs.State.{learning_of}
 use Rattle.proposer.specs.Campaigning.{Campaigning, Filling}

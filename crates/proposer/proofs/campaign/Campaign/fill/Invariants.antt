@@ -1,7 +1,7 @@
 use Rattle.std.proofs.Common.{◌≡◌, ◌-◌}
 use Rattle.learner.specs.Learning.{learnt_at}
 use Rattle.learner.specs.State.{learning_of}
-use Rattle.proposer.specs.Campaigning.{Filling, filled, window_filled}
+use Rattle.proposer.specs.Campaigning.{filled, window_filled}
 use Rattle.proposer.proofs.campaign.Campaign.fill.Given as goal
 
 -- what is still to be done leads to what the whole leads to

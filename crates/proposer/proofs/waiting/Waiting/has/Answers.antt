@@ -1,4 +1,4 @@
-use Rattle.std.proofs.Common.{◌≡◌, ◌∙◌, is_some, ap}
+use Rattle.std.proofs.Common.{◌∙◌, is_some, ap}
 use Rattle.std.specs.Map.{lookup}
 use Rattle.proposer.specs.declared.name.Name.{Name}
 use Rattle.proposer.proofs.RequestLemmas.{is_named, found_by_name}

@@ -1,4 +1,4 @@
-use Rattle.std.proofs.Common.{◌≡◌, ◌∙◌, None, is_some, sym, ap}
+use Rattle.std.proofs.Common.{◌≡◌, ◌∙◌, is_some, sym, ap}
 use Rattle.std.specs.Map.{lookup, remove_entry}
 use Rattle.proposer.specs.declared.name.Name.{Name}
 use Rattle.proposer.specs.Requests.{AreNamed}

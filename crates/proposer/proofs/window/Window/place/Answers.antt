@@ -1,4 +1,4 @@
-use Rattle.std.proofs.Common.{rules, ◌∙◌, ap, insert}
+use Rattle.std.proofs.Common.{◌∙◌, ap, insert}
 use Rattle.proposer.proofs.Placing.{placed_by_count}
 use Rattle.proposer.proofs.window.Window.place.Goals as goal
 
