@@ -70,6 +70,7 @@ module _ (f : Fleet Command) (i : ℕ) (input : Input Command) (x : Local Comman
       (record {
         campaign = Some (synod_minds.begun b x.mind.position 65535);
         records = with_round x.records b.round;
+        keeps = (refl, refl, refl);
         does = all;
         stands = record {
           round = s.round;

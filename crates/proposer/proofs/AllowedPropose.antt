@@ -34,6 +34,7 @@ module _ (f : Fleet Command) (i : ℕ) (input : Input Command) (x : Local Comman
   nothing_sent = record {
     campaign = x.mind.campaign;
     records = x.records;
+    keeps = (refl, refl, refl);
     does = subst (Does f i input x) (sym (sending_nothing x)) (does_nothing f i input x);
     stands = record { round = stands.round; campaign = stands.campaign; waiting = stands.waiting };
   }
@@ -55,6 +56,7 @@ module _ (f : Fleet Command) (i : ℕ) (input : Input Command) (x : Local Comman
         record {
           campaign = Some k';
           records = x.records;
+          keeps = (refl, refl, refl);
           does = subst (λ gs. Does f i input x (sending y gs)) (sym (append-nil plain)) two;
           stands = record { round = stands.round; campaign = (k', refl, same); waiting = stands.waiting };
         }
@@ -82,6 +84,7 @@ module _ (f : Fleet Command) (i : ℕ) (input : Input Command) (x : Local Comman
         record {
           campaign = Some filled'.campaign;
           records = x.records;
+          keeps = (refl, refl, refl);
           does = subst (λ os. Does f i input x (sending (campaigns x filled'.campaign) (frames_of_all i nodes os))) (sym filled'.sends)
               (does_then f i input one filled'.does);
           stands = record { round = stands.round; campaign = (filled'.campaign, refl, filled'.stands); waiting = stands.waiting };

@@ -85,6 +85,7 @@ module _ (f : Fleet Command) (i : ℕ) (input : Input Command) where
     only_sends gs does = record {
       campaign = x.mind.campaign;
       records = x.records;
+      keeps = (refl, refl, refl);
       does = does;
       stands = record { round = stands.round; campaign = stands.campaign; waiting = stands.waiting };
     }

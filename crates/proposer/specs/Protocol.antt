@@ -70,11 +70,12 @@ pub record MayHold (f : Fleet Command) (i : ℕ) (input : Input Command) (x : Lo
   pub stands : ProposerStands p (record x { mind = record x.mind { campaign = campaign } })
 
 -- from x the node may come to records of another round and to another campaign, of which the proposer's state stands, and
--- have sent these frames, and nothing else changes
+-- have sent these frames, and nothing else changes: of the records the promise, the votes and the floor stay
 pub record MaySend (f : Fleet Command) (i : ℕ) (input : Input Command) (x : Local Command) (p : Proposing)
     (frames : List (Frame Command)) : Type 0 where
   pub campaign : Option (Campaign Command)
   pub records : synod.Records Command
+  pub keeps : (records.promise ≡ x.records.promise) × (records.vote ≡ x.records.vote) × (records.floor ≡ x.records.floor)
   pub does : Does f i input x (record x {
     records = records;
     mind = record x.mind { campaign = campaign };
