@@ -69,6 +69,11 @@ abbrev pub after_learned : Proposing → ℕ → Proposing
 after_learned p slot = record p { learnt_to = max p.learnt_to (slot + 1); campaign = learnt_in slot p.campaign }
 
 -- ---- a leader proposes
+-- a campaign leads
+abbrev pub is_led : Option Campaigning → Bool
+is_led None = false
+is_led (Some k) = k.leading
+
 -- it gathers further on, where the log has slots left and a request waits
 abbrev pub gathers : List Asked → ℕ → Bool
 gathers [] position = false

@@ -8,7 +8,7 @@ ghost use Rattle.wire.specs.RecordForms.{IsRoundRecord};
 ghost use Rattle.learner.specs.Learning.{prefix};
 ghost use Rattle.learner.specs.State.{learning_of};
 ghost use Rattle.proposer.specs.Requests.{is_of, without};
-ghost use Rattle.proposer.specs.Proposing.{loaded, next_round, StartsCampaign, with_promised, after_nack, after_learned, gathers_on, proposes, sends_again};
+ghost use Rattle.proposer.specs.Proposing.{loaded, next_round, StartsCampaign, with_promised, after_nack, after_learned, is_led, gathers_on, proposes, sends_again};
 
 use super::campaign::Campaign;
 use super::fault::{SubmitFault, TimeoutFault};
@@ -89,6 +89,23 @@ impl Proposer {
         })
     }
 
+    /// Whether the request of this client and number waits.
+    pub fn waits(&self, client: u8, number: Number) -> bool
+        ensures { result ≡ list_any (is_of client number) self.now.waiting }
+    {
+        self.waiting.has(client, number)
+    }
+
+    /// Whether it has a campaign that leads.
+    pub fn is_leading(&self) -> bool
+        ensures { result ≡ is_led self.now.campaign }
+    {
+        match &self.campaign {
+            Some(campaign) => campaign.is_leading(),
+            None => false,
+        }
+    }
+
     /// A request waits from now on. One that waits already keeps its place, and nothing changes.
     pub fn submit(&mut self, request: Request) -> Result<(), SubmitFault>
         ensures again { list_any (is_of request.client request.number) self.old.waiting ≡ true
@@ -123,6 +140,7 @@ impl Proposer {
         // Each error.
         ensures used_up { IsErrOf result TimeoutFault.RoundsUsedUp
             → (2 ^ 64 ≤ next_round self.old) × (self.new ≡ self.old) × (storage.new ≡ storage.old) }
+        ensures used_up_refused { 2 ^ 64 ≤ next_round self.old → IsErrOf result TimeoutFault.RoundsUsedUp }
         ensures device { IsErrOf result TimeoutFault.Device
             → S.fails storage.old key.Round (big_bytes 8 (next_round self.old)) storage.new }
         ensures memory { IsErrOf result TimeoutFault.Memory → S.reads storage.old storage.new × (self.new ≡ self.old) }

@@ -7,6 +7,7 @@ pub mod FieldLemmas
 pub mod FrameExamples
 pub mod FrameLaws
 pub mod FrameLengths
+pub mod FrameSeen
 pub mod LengthLemmas
 pub mod LoopLemmas
 pub mod PushLemmas

@@ -9,8 +9,8 @@ mod node_set;
 mod nodes;
 
 pub use frames::{
-    Entries, Entry, Envelope, Kind, LONGEST_FRAME, MAGIC, MOST_ENTRIES, Message, Nack, Promise,
-    WireFault, ballot_of_record, ballot_record, decode, encode, no_frame_begins_another,
+    Entries, Entry, Envelope, Frame, Kind, LONGEST_FRAME, MAGIC, MOST_ENTRIES, Message, Nack,
+    Promise, WireFault, ballot_of_record, ballot_record, decode, encode, no_frame_begins_another,
     round_of_record, round_record, vote_of_record, vote_record,
 };
 pub use node_set::NodeSet;

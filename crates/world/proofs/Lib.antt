@@ -37,4 +37,3 @@ pub mod Casting
 pub mod ListedPuts
 pub mod VotesStand
 pub mod NodeComes
-pub mod FrameSeen

@@ -6,7 +6,6 @@ pub mod Fired
 pub mod Fitting
 pub mod Fleets
 pub mod Flushing
-pub mod Framing
 pub mod Learners
 pub mod Learning
 pub mod Loading

@@ -7,7 +7,6 @@ mod event;
 mod explaining;
 mod fault;
 mod flags;
-mod frame;
 mod input;
 mod laws;
 mod learner;
@@ -29,7 +28,6 @@ mod world;
 
 pub use event::Event;
 pub use fault::{NodeFault, WorldFault};
-pub use frame::Frame;
 pub use laws::{answers_are_one, lists_are_as_told};
 pub use lists::{Answered, Learnt, Outcome, Replied, Submission, Text};
 pub use log::{LOG_SLOTS, MOST_DELIVERIES, MOST_WAITING};

@@ -3,11 +3,11 @@
 ghost use Rattle.std.specs.Prelude.{◌≡◌};
 ghost use Rattle.world.specs.Outputs.{sent, nothing};
 
-use super::frame::Frame;
 use sessions::{Command, Number};
 use std::alloc::Global;
 use std::marker::Model;
 use synod::Slot;
+use wire::Frame;
 
 /// A slot that the node newly learnt, and what it holds.
 #[derive(Debug, Drop)]

@@ -11,7 +11,6 @@ ghost use Rattle.world.specs.Proposing.{loaded, is_of, next_round, StartsCampaig
 
 use super::campaign::Campaign;
 use super::fault::NodeFault;
-use super::frame::Frame;
 use super::log::MOST_WAITING;
 use super::messages::{accept, choice, prepare};
 use super::sends::{send_to_all, send_to_others};
@@ -20,7 +19,7 @@ use stable::{Key, Stable, StableFault};
 use std::alloc::{AllocError, Global};
 use std::marker::Model;
 use synod::{Ballot, MOST_NODES};
-use wire::{Nack, NodeId, Nodes, Promise, round_of_record, round_record};
+use wire::{Frame, Nack, NodeId, Nodes, Promise, round_of_record, round_record};
 
 /// A node's proposer. After `Device` or `Memory` it must be dropped, and loaded again.
 #[derive(Drop)]

@@ -11,7 +11,6 @@ ghost use Rattle.world.specs.Waiting.{NoneWaits, NoneWaitsBelow, OneWaits, IsLow
 use super::event::Event;
 use super::fault::{NodeFault, WorldFault};
 use super::flags::first_set;
-use super::frame::Frame;
 use super::input::Input;
 use super::lists::{Answered, Learnt, Outcome, Replied, Submission, Text};
 use super::log::MOST_DELIVERIES;
@@ -24,7 +23,7 @@ use stable::{Failing, MemStable, Put, Scripted, Stable};
 use std::alloc::Global;
 use store::{Op, Query};
 use synod::MOST_NODES;
-use wire::{Envelope, NodeId, Nodes};
+use wire::{Envelope, Frame, NodeId, Nodes};
 
 /// All nodes of a run, over storages of one kind.
 #[derive(Drop)]

@@ -13,7 +13,6 @@ ghost use Rattle.world.specs.declared.input.Input.TheVariants as input;
 ghost use Rattle.wire.specs.declared.frames.message.Message.TheVariants as message;
 
 use super::fault::NodeFault;
-use super::frame::Frame;
 use super::input::Input;
 use super::learner::Learner;
 use super::log::LOG_SLOTS;
@@ -27,7 +26,7 @@ use stable::{Stable, StableFault};
 use std::alloc::{AllocError, Global};
 use store::Query;
 use synod::{Ballot, MOST_NODES, Slot, Vote};
-use wire::{Envelope, Message, Nack, NodeId, Nodes, Promise};
+use wire::{Envelope, Frame, Message, Nack, NodeId, Nodes, Promise};
 
 /// A node's roles. All of it is gone after a restart.
 #[derive(Drop)]

@@ -4,10 +4,9 @@ ghost use Rattle.std.specs.Prelude.{◌≡◌, ◌≤◌, IfOk, filter, not, vec
 ghost use Rattle.wire.specs.NodeSets.{has_node};
 ghost use Rattle.world.specs.Sending.{to_all};
 
-use super::frame::Frame;
 use std::alloc::{AllocError, Global};
 use synod::MOST_NODES;
-use wire::{Envelope, Message, NodeId, NodeSet, Nodes};
+use wire::{Envelope, Frame, Message, NodeId, NodeSet, Nodes};
 
 /// The message from one node to every node, itself included, in order of their numbers.
 pub fn send_to_all(

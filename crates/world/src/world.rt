@@ -8,13 +8,12 @@ ghost use Rattle.world.specs.Fired.{HasFewFaults};
 
 use super::event::Event;
 use super::fault::WorldFault;
-use super::frame::Frame;
 use super::lists::{Answered, Learnt, Outcome, Replied, Submission};
 use super::log::MOST_DELIVERIES;
 use super::run::Run;
 use stable::{MemStable, Put, Scripted, Stable};
 use std::alloc::Global;
-use wire::{NodeId, Nodes};
+use wire::{Frame, NodeId, Nodes};
 
 /// All nodes of a run, over storages of one kind.
 ///

@@ -1,5 +1,5 @@
-use Rattle.world.proofs.FrameSeen.{shows, is_of_what_it_shows}
-use Rattle.world.proofs.frame.Frame.of.Goals as goal
+use Rattle.wire.proofs.FrameSeen.{shows, is_of_what_it_shows}
+use Rattle.wire.proofs.frames.frame.Frame.of.Goals as goal
 
 pub invariant_of-result : goal.invariant_of-result
 invariant_of-result c = is_of_what_it_shows _ _ c.in_ok-bytes.ensures.frame

@@ -6,7 +6,7 @@ use Rattle.wire.specs.declared.frames.envelope.Envelope.{Envelope}
 use Rattle.wire.specs.declared.frames.fault.WireFault.{WireFault}
 use Rattle.wire.proofs.FrameLaws.{frame_only}
 use Rattle.wire.proofs.FrameLengths.{frame_most}
-use Rattle.world.specs.Framing.{envelope_in, read_or_ask}
+use Rattle.wire.specs.Framing.{envelope_in, read_or_ask}
 
 pub shows : (bytes : List ℕ) (e : Envelope) → IsFrame 7 bytes e → envelope_in bytes ≡ e
 shows bytes e frame =

@@ -1,13 +1,17 @@
-//! Frames: what is sent, as its bytes.
+//! A frame: a message on its way, as its bytes.
 
 ghost use Rattle.std.specs.Prelude.{◌≡◌, IfOk};
 ghost use Rattle.wire.specs.FrameSpelling.{IsFrame, Fits};
 
+use super::decoding::decode;
+use super::encoding::encode;
+use super::envelope::Envelope;
+use crate::Nodes;
 use std::alloc::{AllocError, Global};
 use std::marker::Model;
-use wire::{Envelope, MOST_NODES, Nodes, decode, encode};
+use synod::MOST_NODES;
 
-/// A frame that was sent. Contracts see the envelope that its bytes spell.
+/// The bytes of an envelope, which spell it among the nodes of the largest run. Contracts see the envelope.
 #[derive(Debug, Drop)]
 pub struct Frame {
     bytes: Vec<u8>,
@@ -16,7 +20,7 @@ pub struct Frame {
 impl Model for Frame {
     ghost use Rattle.wire.specs.FrameSpelling.{IsFrame};
     ghost use Rattle.wire.specs.declared.frames.envelope.Envelope.{Envelope};
-    ghost use Rattle.world.specs.Framing.{envelope_in};
+    ghost use Rattle.wire.specs.Framing.{envelope_in};
 
     ghost Value = { Envelope };
 
@@ -42,7 +46,7 @@ impl Frame {
     }
 
     /// The envelope, decoded from the bytes.
-    pub(super) fn open(&self, alloc: Global) -> Result<Envelope, AllocError>
+    pub fn open(&self, alloc: Global) -> Result<Envelope, AllocError>
         ensures envelope { IfOk result (λ envelope. envelope ≡ self.now) }
         ensures fits { IfOk result (Fits 7) }
     {
@@ -54,7 +58,7 @@ impl Frame {
     }
 }
 
-// The nodes of the largest run.
+/// The nodes of the largest run.
 fn largest_run() -> Nodes
     ensures { result ≡ 7 }
 {

@@ -1,0 +1,51 @@
+use Rattle.std.proofs.Common.{◌≡◌, Some, refl, ap, rules, subst}
+use Rattle.std.proofs.lemmas.Option.{same_Some}
+use Rattle.node.specs.Loading.{IsMindOf}
+use Rattle.node.specs.Minds.{Mind}
+use Rattle.node.specs.Roles.{mind_of}
+use Rattle.node.proofs.node.Node.restart.Goals as goal
+
+-- it is down before it loads, and loads its own records
+pub returns-clause-restarts : goal.returns-clause-restarts
+returns-clause-restarts g c =
+    let id : c.stop.new.self.id ≡ c.args.self.now.id = ap (λ n. n.id) c.stop.ensures in
+    let nodes : c.stop.new.self.nodes ≡ c.args.self.now.nodes = ap (λ n. n.nodes) c.stop.ensures in
+    let storage : c.stop.new.self.storage ≡ c.args.self.now.storage = ap (λ n. n.storage) c.stop.ensures in
+    record {
+      leaves = λ i. record {
+        id = id i;
+        nodes = nodes i;
+        storage = c.load.new.storage;
+        up = Some (mind_of c.in_ok-roles.roles);
+      };
+      own = λ m up. subst (λ (x : Mind). IsMindOf c.args.self.now.id c.args.self.now.nodes x) (same_Some _ m up)
+          (rw id at (rw nodes at c.in_ok-roles.ensures.own));
+      up = (refl, rw storage at c.in_ok-roles.ensures.reads);
+      loads = λ honest. rw id at (rw nodes at (rw storage at (c.in_ok-roles.ensures.loads honest)));
+      down = search rules;
+      sound = λ honest. rw storage at (c.in_ok-roles.ensures.sound honest);
+      damaged = λ honest damaged. absurd (search (rules, damaged));
+      device = search rules;
+      other = search rules;
+    }
+
+-- it is down, and what it was refused by is what the load was
+pub returns-in_err-roles-clause-restarts : goal.returns-in_err-roles-clause-restarts
+returns-in_err-roles-clause-restarts g c =
+    let id : c.stop.new.self.id ≡ c.args.self.now.id = ap (λ n. n.id) c.stop.ensures in
+    let nodes : c.stop.new.self.nodes ≡ c.args.self.now.nodes = ap (λ n. n.nodes) c.stop.ensures in
+    let storage : c.stop.new.self.storage ≡ c.args.self.now.storage = ap (λ n. n.storage) c.stop.ensures in
+    record {
+      leaves = search rules;
+      own = search rules;
+      up = search rules;
+      loads = search rules;
+      down = search rules;
+      sound = search rules;
+      damaged = λ honest damaged. rw storage at (c.in_err-roles.ensures.damaged_record honest (search rules));
+      device = search rules;
+      other = search rules;
+    }
+
+pub returns-clause-meaning : goal.returns-clause-meaning
+returns-clause-meaning g c = c.in_ok-roles.ensures.meaning

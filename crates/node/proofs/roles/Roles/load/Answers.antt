@@ -1,0 +1,64 @@
+use Rattle.std.proofs.Common.{◌≡◌, ℕ, List, Option, Some, None, MatchOption, IfSome, inl, inr, rules, subst}
+use Rattle.stable.specs.Records.{Records}
+use Rattle.stable.specs.declared.key.Key.TheVariants as key
+use Rattle.acceptor.specs.Forms.{IsOfItsForm, AreOfTheirForm, HasDamagedRecord}
+use Rattle.wire.specs.RecordForms.{IsRoundRecord}
+use Rattle.node.specs.Loading.{LoadsRound}
+use Rattle.proposer.specs.Proposing.{Proposing, loaded}
+use Rattle.node.proofs.Meanings.{meaning_begun}
+use Rattle.node.proofs.roles.Roles.load.Goals as goal
+
+round_loaded : (found : Option (List ℕ)) (id nodes : ℕ) (p : Proposing)
+    → MatchOption found (p ≡ loaded id nodes 0) (λ bytes. IsRoundRecord bytes p.round × (p ≡ loaded id nodes p.round))
+    → LoadsRound found id nodes p
+round_loaded None id nodes p h = h
+round_loaded (Some bytes) id nodes p h = h
+
+-- the round's record is one, so it is not damaged
+round_sound : (found : Option (List ℕ)) (id nodes : ℕ) (p : Proposing)
+    → MatchOption found (p ≡ loaded id nodes 0) (λ bytes. IsRoundRecord bytes p.round × (p ≡ loaded id nodes p.round))
+    → ¬ (MatchOption found ⊥ (λ bytes. (round : ℕ) → ¬ IsRoundRecord bytes round))
+round_sound None id nodes p h damaged = damaged
+round_sound (Some bytes) id nodes p h damaged = damaged p.round h.0
+
+records_sound : (records : Records) → AreOfTheirForm records → ¬ (HasDamagedRecord records)
+records_sound records forms d = d.3 (subst (λ o. IfSome o (IsOfItsForm d.0)) d.2 (forms d.0))
+
+-- no key was stray, and each record that was read is of its form
+pub returns-clause-sound : goal.returns-clause-sound
+returns-clause-sound g c = λ honest damaged.
+    let law = g.met.S.Stable.laws in
+    let still = law.reads_honest _ _ c.in_ok-proposer.ensures.reads honest in
+    let same = law.reads_contents _ _ c.in_ok-acceptor.ensures.reads still in
+    elim damaged [
+      | inl stray ↦ c.in_ok-acceptor.ensures.no_stray still stray
+      | inr (inl record_) ↦ records_sound _ (c.in_ok-acceptor.ensures.form still) record_
+      | inr (inr round) ↦ round_sound _ _ _ _ (rw same at (c.in_ok-proposer.ensures.round honest)) round
+    ]
+
+-- the proposer is loaded from what the acceptor was loaded from, which was only read
+pub returns-clause-loads : goal.returns-clause-loads
+returns-clause-loads g c = λ honest.
+    let law = g.met.S.Stable.laws in
+    let still = law.reads_honest _ _ c.in_ok-proposer.ensures.reads honest in
+    let same = law.reads_contents _ _ c.in_ok-acceptor.ensures.reads still in
+    let round = round_loaded _ _ _ _ (c.in_ok-proposer.ensures.round honest) in
+    record {
+      number = search rules;
+      of_all = search rules;
+      accepting = c.in_ok-acceptor.ensures.told still;
+      learning = c.new.ensures;
+      proposing = subst (λ records. LoadsRound (records key.Round) c.args.id c.args.nodes c.in_ok-proposer.proposer) same round;
+      machine = c.new-2.ensures.stands;
+    }
+
+pub returns-clause-reads : goal.returns-clause-reads
+returns-clause-reads g c =
+    g.met.S.Stable.laws.reads_reads _ _ _ c.in_ok-acceptor.ensures.reads c.in_ok-proposer.ensures.reads
+
+pub returns-clause-settled : goal.returns-clause-settled
+returns-clause-settled g c =
+    g.met.S.Stable.laws.reads_settled _ _ c.in_ok-proposer.ensures.reads c.in_ok-acceptor.ensures.settled
+
+pub returns-clause-meaning : goal.returns-clause-meaning
+returns-clause-meaning g c = meaning_begun _ c.args.nodes c.new.ensures c.new-2.ensures.stands

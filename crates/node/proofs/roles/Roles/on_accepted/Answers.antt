@@ -1,0 +1,26 @@
+use Rattle.std.proofs.Common.{Option, Some, IsSome, refl, sym, subst}
+use Rattle.learner.specs.Learning.{Learning, HearsVote}
+use Rattle.learner.specs.State.{learning_of}
+use Rattle.learner.specs.declared.learned.Learned.{Learned}
+use Rattle.node.specs.Minds.{Mind}
+use Rattle.node.specs.Roles.{mind_of}
+use Rattle.node.proofs.News.{vote_news}
+use Rattle.node.proofs.roles.Roles.on_accepted.Goals as goal
+
+pub go_on-requires-clause-learnt : goal.go_on-requires-clause-learnt
+go_on-requires-clause-learnt c =
+    let news = vote_news (learning_of c.args.self.now.learner) (learning_of c.on_accepted.new.self) c.args.from c.args.vote
+    c.in_ok-learned.field-0 c.in-Some.learned c.in_ok-learned.ensures.hears c.in-Some.is in
+    subst IsSome (sym news.there) refl
+
+pub returns-in_ok-go_on-in-Some-clause-takes : goal.returns-in_ok-go_on-in-Some-clause-takes
+returns-in_ok-go_on-in-Some-clause-takes c =
+    let old : Mind = mind_of c.args.self.now in
+    let l : Learning = learning_of c.on_accepted.new.self in
+    let heard = c.in_ok-learned.ensures.hears in
+    let news = vote_news old.learning l c.args.from c.args.vote c.in_ok-learned.field-0 c.in-Some.learned heard c.in-Some.is in (
+      Some c.in-Some.learned,
+      l,
+      subst (λ (o : Option Learned). HearsVote old.learning c.args.from c.args.vote o l) c.in-Some.is heard,
+      c.in_ok-go_on-in-Some.ensures old c.args.vote.command refl c.position-position.ensures.value news.there,
+    )

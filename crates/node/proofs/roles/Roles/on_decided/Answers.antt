@@ -1,0 +1,39 @@
+use Rattle.std.proofs.Common.{◌≡◌, ◌++◌, ℕ, List, Option, Some, IsSome, refl, sym, ap, ◌∙◌, subst}
+use Rattle.learner.specs.Learning.{Learning, prefix, HearsDecided}
+use Rattle.learner.specs.State.{learning_of}
+use Rattle.learner.specs.declared.learned.Learned.{Learned}
+use Rattle.wire.specs.declared.frames.envelope.Envelope.{Envelope}
+use Rattle.node.specs.Minds.{Mind}
+use Rattle.node.specs.Outputs.{Response}
+use Rattle.node.specs.Roles.{mind_of}
+use Rattle.node.specs.Sending.{ask_sends}
+use Rattle.node.proofs.News.{decided_news, asks_last}
+use Rattle.node.proofs.roles.Roles.on_decided.Goals as goal
+
+pub go_on-requires-clause-learnt : goal.go_on-requires-clause-learnt
+go_on-requires-clause-learnt c =
+    let news = decided_news (learning_of c.args.self.now.learner) (learning_of c.on_decided.new.self) c.args.slot c.args.command
+    c.in_ok-learned.field-0 c.in-Some.learned c.in_ok-learned.ensures.hears c.in-Some.is in
+    subst IsSome (sym news.there) refl
+
+-- the question goes last
+pub returns-clause-takes : goal.returns-clause-takes
+returns-clause-takes c =
+    let old : Mind = mind_of c.args.self.now in
+    let l : Learning = learning_of c.on_decided.new.self in
+    let heard = c.in_ok-learned.ensures.hears in
+    let news = decided_news old.learning l c.args.slot c.args.command c.in_ok-learned.field-0 c.in-Some.learned heard c.in-Some.is in
+    let learns = c.in_ok-outputs.ensures old c.args.command refl c.position-position.ensures.value news.there in
+    let at : ask_sends c.go_on.new.self.id c.args.from c.position.result ≡ ask_sends old.id c.args.from (prefix l) =
+    ap (λ (p : ℕ). ask_sends c.go_on.new.self.id c.args.from p) c.position.ensures.value
+    ∙ ap (λ (m : Mind). ask_sends m.id c.args.from (prefix m.learning)) learns.leaves in
+    let sent : c.send_ask.new.sends.items ≡ c.outputs.inside.sends.items ++ ask_sends old.id c.args.from (prefix l) =
+    c.in_ok-send_ask.ensures ∙ ap (λ (es : List Envelope). c.outputs.inside.sends.items ++ es) at in (
+      Some c.in-Some.learned,
+      l,
+      subst (λ (o : Option Learned). HearsDecided old.learning c.args.slot c.args.command o l) c.in-Some.is heard,
+      asks_last old c.in-Some.learned.slot c.args.command l (ask_sends old.id c.args.from (prefix l)) (mind_of c.go_on.new.self)
+          c.in_ok-outputs.outputs _ learns
+          (ap (λ (es : List Envelope). record { learnt = c.outputs.inside.learnt; replies = c.outputs.inside.replies.items; sends = es }) sent
+          ∙ ap (λ (r : Response). record r { sends = r.sends ++ ask_sends old.id c.args.from (prefix l) }) c.outputs.view_is),
+    )

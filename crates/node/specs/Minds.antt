@@ -1,0 +1,63 @@
+-- What a node holds while it is up, and which inputs it refuses.
+use Rattle.std.specs.Prelude.{ℕ, ◌^◌, nat_le, length, not, Bool, Option, Some, None, if◌then◌else◌}
+use Rattle.std.specs.List.{list_any}
+use Rattle.synod.specs.declared.slot.TheConstants.{SLOTS}
+use Rattle.store.specs.declared.op.Op.{Op}
+use Rattle.sessions.specs.Asked.{Asked}
+use Rattle.sessions.specs.Machines.{MachineState}
+use Rattle.acceptor.specs.Accepting.{Accepting}
+use Rattle.learner.specs.Learning.{Learning, prefix}
+use Rattle.proposer.specs.Proposing.{Proposing, next_round}
+use Rattle.proposer.specs.Requests.{is_of}
+use Rattle.proposer.specs.declared.waiting.TheConstants.{MOST_WAITING}
+use Rattle.node.specs.Inputs.{is_short}
+use Rattle.node.specs.declared.fault.NodeFault.{NodeFault}
+use Rattle.node.specs.declared.fault.NodeFault.TheVariants as fault
+use Rattle.node.specs.declared.input.Input.{Input}
+use Rattle.node.specs.declared.input.Input.TheVariants as input
+
+-- its number, that of all nodes, and what its roles hold; its machine has executed the commands below the position
+pub record Mind : Type 0 where
+  pub id : ℕ
+  pub nodes : ℕ
+  pub accepting : Accepting
+  pub learning : Learning
+  pub proposing : Proposing
+  pub machine : MachineState
+
+-- the first slot that isn't learnt, of those that are kept
+abbrev pub position : Mind → ℕ
+position m = prefix m.learning
+
+-- the whole log is executed
+abbrev pub is_full : Mind → Bool
+is_full m = nat_le SLOTS (position m)
+
+-- what a client asks for
+abbrev pub asked : ℕ → ℕ → Op → Asked
+asked client number op = record { client = client; number = number; op = op }
+
+-- the request of this client and number waits
+abbrev pub waits : Mind → ℕ → ℕ → Bool
+waits m client number = list_any (is_of client number) m.proposing.waiting
+
+-- ---- which inputs are refused, and leave the node as it was
+abbrev pub refuses_submit : Mind → Asked → Option NodeFault
+refuses_submit m r =
+    if is_full m then Some fault.LogFull
+    else if not (is_short r.op) then Some fault.TooLong
+    else if waits m r.client r.number then None
+    else if nat_le MOST_WAITING (length m.proposing.waiting) then Some fault.QueueFull
+    else None
+
+abbrev pub refuses_timeout : Mind → Option NodeFault
+refuses_timeout m =
+    if is_full m then Some fault.LogFull
+    else if nat_le (2 ^ 64) (next_round m.proposing) then Some fault.RoundsUsedUp
+    else None
+
+abbrev pub refuses : Mind → Input → Option NodeFault
+refuses m (input.Submit client number op) = refuses_submit m (asked client number op)
+refuses m (input.Message e) = None
+refuses m input.Timeout = refuses_timeout m
+refuses m input.Tick = None

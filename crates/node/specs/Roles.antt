@@ -1,0 +1,15 @@
+-- What a node that is up holds, by its roles.
+use Rattle.acceptor.specs.State.{accepting_of}
+use Rattle.learner.specs.State.{learning_of}
+use Rattle.node.specs.declared.roles.Roles.{Roles}
+use Rattle.node.specs.Minds.{Mind}
+
+abbrev pub mind_of : Roles → Mind
+mind_of r = record {
+  id = r.id;
+  nodes = r.nodes;
+  accepting = accepting_of r.acceptor;
+  learning = learning_of r.learner;
+  proposing = r.proposer;
+  machine = r.machine;
+}

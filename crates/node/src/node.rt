@@ -1,0 +1,140 @@
+//! One node: its records, and its roles while it is up.
+
+ghost use Rattle.std.specs.Prelude.{◌≡◌, ◌⊎◌, ◌↔◌, ℕ, [], List, IfSome, OnOk, IsTrue, IsSome, None, MatchOption};
+
+use super::fault::NodeFault;
+use super::input::Input;
+use super::outputs::{Outputs, Text};
+use super::roles::Roles;
+use stable::{Failing, Put, Scripted, Stable};
+use std::alloc::Global;
+use store::Query;
+use wire::{NodeId, Nodes};
+
+/// A node, which is up or down.
+#[derive(Drop)]
+pub struct Node<S> {
+    id: NodeId,
+    nodes: Nodes,
+    storage: S,
+    roles: Option<Roles>,
+}
+
+impl<S: Stable> Node<S> {
+    ghost use Rattle.node.specs.Composition.{IsMeaningOf};
+    ghost use Rattle.node.specs.Loading.{IsLoaded, IsMember, Restarts};
+    ghost use Rattle.node.specs.Minds.{position};
+    ghost use Rattle.node.specs.Nodes.{state_of, NodeSteps, NodeAnswers, StaysMeaning, AnswersMeaning};
+
+    /// A node over these records, which it loads. It begins down where they can't be loaded.
+    pub fn start(alloc: Global, storage: S, id: NodeId, nodes: Nodes) -> Node<S>
+        ensures member { IsMember id nodes (state_of result) }
+        ensures loads { S.IsHonest (state_of result).storage → IfSome (state_of result).up
+            (IsLoaded (S.contents storage) id nodes) }
+        ensures meaning { IfSome (state_of result).up (IsMeaningOf []) }
+        ensures up { IsSome (state_of result).up → S.reads storage (state_of result).storage }
+        ensures down { (state_of result).up ≡ None → S.reads storage (state_of result).storage
+            ⊎ S.read_fails storage (state_of result).storage }
+    {
+        let mut storage = storage;
+        match Roles::load(alloc, &mut storage, id, nodes) {
+            Ok(roles) => Node {
+                id,
+                nodes,
+                storage,
+                roles: Some(roles),
+            },
+            Err(_fault) => Node {
+                id,
+                nodes,
+                storage,
+                roles: None,
+            },
+        }
+    }
+
+    /// Loses what is not in the records, and loads these.
+    pub fn restart(&mut self, alloc: Global) -> Result<(), NodeFault>
+        ensures restarts { Restarts S.Stable (state_of self.old) result (state_of self.new) }
+        ensures meaning { IfSome (state_of self.new).up (IsMeaningOf []) }
+        ensures settled { OnOk result (S.IsSettled (state_of self.new).storage) }
+    {
+        self.stop();
+        let roles = Roles::load(alloc, &mut self.storage, self.id, self.nodes)?;
+        self.roles = Some(roles);
+        Ok(())
+    }
+
+    /// Whether it is up.
+    pub fn is_up(&self) -> bool
+        ensures { IsTrue result ↔ IsSome (state_of self.now).up }
+    {
+        self.roles.is_some()
+    }
+
+    /// The first slot that it hasn't learnt; 0 while it is down.
+    pub fn position(&self) -> u32
+        ensures { MatchOption (state_of self.now).up (result ≡ 0) (λ m. result ≡ position m) }
+    {
+        match &self.roles {
+            Some(roles) => roles.position(),
+            None => 0,
+        }
+    }
+
+    /// Takes an input, refuses it, or goes down on it.
+    pub fn step(&mut self, alloc: Global, input: Input) -> Result<Outputs, NodeFault>
+        ensures steps { NodeSteps S.Stable (state_of self.old) input result (state_of self.new) }
+        ensures meaning { StaysMeaning (state_of self.old) result (state_of self.new) }
+    {
+        let Some(roles) = &mut self.roles else {
+            return Err(NodeFault::Down);
+        };
+        let result = roles.take(alloc, &mut self.storage, input);
+        if let Err(fault) = &result {
+            if fault.is_stop() {
+                self.stop();
+            }
+        }
+        result
+    }
+
+    /// Goes down: what is not in the records is gone.
+    pub fn stop(&mut self)
+        ensures { state_of self.new ≡ record (state_of self.old) { up = None } }
+    {
+        self.roles = None;
+    }
+
+    /// Answers a query: its position, and the text. The node is as it was.
+    pub fn query(&self, alloc: Global, query: &Query) -> Result<(u32, Text), NodeFault>
+        ensures answers { NodeAnswers (state_of self.now) query.now result }
+        ensures meaning { AnswersMeaning (state_of self.now) query.now result }
+    {
+        let Some(roles) = &self.roles else {
+            return Err(NodeFault::Down);
+        };
+        let text = roles.answer(alloc, query)?;
+        Ok((roles.position(), Text::new(text)))
+    }
+}
+
+impl<S: Stable> Node<Scripted<S>> {
+    ghost use Rattle.node.specs.Nodes.{state_of};
+
+    /// The next put fails so.
+    pub fn arm(&mut self, failing: Failing)
+        ensures { state_of self.new ≡ record (state_of self.old) {
+          storage = record (state_of self.old).storage { armed = Some failing };
+        } }
+    {
+        self.storage.arm(failing);
+    }
+
+    /// The puts that took effect, the oldest first.
+    pub fn writes(&self) -> &[Put]
+        ensures { result.now ≡ (state_of self.now).storage.writes }
+    {
+        self.storage.puts()
+    }
+}

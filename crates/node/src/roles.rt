@@ -1,0 +1,480 @@
+//! What a node holds while it is up.
+
+ghost use Rattle.std.specs.Prelude.{◌≡◌, ◌≤◌, ◌⊎◌, [], Some, IfOk, OnOk, IfErr, IfSome, IsErrOf, IsSome};
+ghost use Rattle.store.specs.Answers.{IsAnswer};
+ghost use Rattle.sessions.specs.declared.command.Command.{Command};
+ghost use Rattle.byteorder.specs.Endian.{big_bytes};
+ghost use Rattle.stable.specs.declared.key.Key.TheVariants as key;
+ghost use Rattle.sessions.specs.Standing.{AnswersAll};
+ghost use Rattle.acceptor.specs.Accepting.{Write, HasWritten, HasFailed, prepare_write, IsAcceptWrite};
+ghost use Rattle.learner.specs.Learning.{learnt_at};
+ghost use Rattle.learner.specs.Prefixes.{IsPrefix};
+ghost use Rattle.proposer.specs.Proposing.{next_round};
+ghost use Rattle.wire.specs.declared.frames.message.Message.TheVariants as message;
+ghost use Rattle.node.specs.declared.input.Input.TheVariants as input;
+ghost use Rattle.node.specs.Composition.{IsMeaningOf, StandsForMore, RepliesToMore, AddsReplies};
+ghost use Rattle.node.specs.Executing.{executed, with_command};
+
+use super::fault::NodeFault;
+use super::input::{Input, concerns};
+use super::outputs::{Executed, LogEntry, Outputs};
+use super::sends::{send, send_answer, send_ask, send_asks, send_each, send_outgoing};
+use acceptor::Acceptor;
+use learner::{Learned, Learner};
+use proposer::Proposer;
+use sessions::{Command, Machine, Number, Request};
+use stable::{Stable, StableFault};
+use std::alloc::{AllocError, Global};
+use store::{Op, Query};
+use synod::{Ballot, SLOTS, Slot, Vote};
+use wire::{Envelope, Frame, Message, Nack, NodeId, Nodes, Promise};
+
+/// A node's roles. All of it is gone after a restart.
+#[derive(Drop)]
+pub struct Roles {
+    id: NodeId,
+    nodes: Nodes,
+    acceptor: Acceptor,
+    learner: Learner,
+    proposer: Proposer,
+    // It has executed what is learnt, up to the learner's prefix.
+    machine: Machine,
+}
+
+impl Roles {
+    ghost use Rattle.node.specs.Loading.{IsLoaded, IsDamaged, IsMindOf};
+    ghost use Rattle.node.specs.Minds.{Mind, position, asked, refuses, refuses_submit, refuses_timeout};
+    ghost use Rattle.node.specs.Roles.{mind_of};
+    ghost use Rattle.node.specs.Nodes.{HasMade, HasFailedToMake};
+    ghost use Rattle.node.specs.Outputs.{sent, silence};
+    ghost use Rattle.node.specs.Sending.{to_one, ask_sends};
+    ghost use Rattle.node.specs.Taking.{Writes, WritesOnMessage, Takes, TakesMessage, Learns, executing_of, with_executing, learnt_from, with_proposer, proposer_sends, after_promise, after_submit, proposed};
+
+    /// What the records leave of a node.
+    pub fn load<S: Stable>(
+        alloc: Global,
+        storage: &mut S,
+        id: NodeId,
+        nodes: Nodes,
+    ) -> Result<Roles, StableFault>
+        ensures loads { S.IsHonest storage.new → IfOk result (λ roles.
+            IsLoaded (S.contents storage.old) id nodes (mind_of roles)) }
+        ensures own { IfOk result (λ roles. IsMindOf id nodes (mind_of roles)) }
+        ensures meaning { IfOk result (λ roles. IsMeaningOf [] (mind_of roles)) }
+        ensures sound { S.IsHonest storage.new → OnOk result (¬ (IsDamaged S.Stable storage.old)) }
+        ensures reads { OnOk result (S.reads storage.old storage.new) }
+        ensures settled { OnOk result (S.IsSettled storage.new) }
+
+        // Each error.
+        ensures device { IsErrOf result StableFault.Device → S.read_fails storage.old storage.new }
+        ensures memory { IsErrOf result StableFault.Memory → S.reads storage.old storage.new }
+        ensures damaged { IsErrOf result StableFault.Damaged → S.reads storage.old storage.new }
+        ensures damaged_record { S.IsHonest storage.new → IsErrOf result StableFault.Damaged
+            → IsDamaged S.Stable storage.old }
+    {
+        let acceptor = Acceptor::load(alloc, storage)?;
+        let proposer = Proposer::load(alloc, storage, id, nodes)?;
+        Ok(Roles {
+            id,
+            nodes,
+            acceptor,
+            learner: Learner::new(alloc, nodes),
+            proposer,
+            machine: Machine::new(alloc),
+        })
+    }
+
+    /// The first slot that isn't learnt.
+    pub fn position(&self) -> u32
+        ensures value { result ≡ position (mind_of self.now) }
+        ensures counted { IsPrefix (mind_of self.now).learning.learnt (mind_of self.now).learning.first (position (mind_of self.now)) }
+    {
+        self.learner.prefix()
+    }
+
+    /// The answer to a query, over what its machine holds.
+    pub fn answer(&self, alloc: Global, query: &Query) -> Result<Vec<u8>, AllocError>
+        ensures says { IfOk result (λ text. IsAnswer (mind_of self.now).machine.features query.now text.items) }
+        ensures answers { IfOk result (λ text. AnswersAll (mind_of self.now).machine query.now text.items) }
+    {
+        self.machine.answer(alloc, query)
+    }
+
+    /// Takes an input.
+    ///
+    /// After `Device` or `Memory` it must be dropped: the write that the input makes was made or not. Any other fault leaves it
+    /// and the storage as they were.
+    pub fn take<S: Stable>(
+        &mut self,
+        alloc: Global,
+        storage: &mut S,
+        input: Input,
+    ) -> Result<Outputs, NodeFault>
+        ensures takes { IfOk result (λ said. Takes (mind_of self.old) input (mind_of self.new) said) }
+        ensures written { OnOk result (HasMade S.Stable storage.old storage.new
+            (Writes (mind_of self.old) input)) }
+
+        // What is refused, and only that.
+        ensures refuses { IfSome (refuses (mind_of self.old) input) (λ fault. (result ≡ Err fault)
+            × (mind_of self.new ≡ mind_of self.old) × (storage.new ≡ storage.old)) }
+        ensures err { IfErr result (λ fault. (fault ≡ NodeFault.Device) ⊎ (fault ≡ NodeFault.Memory)
+            ⊎ (refuses (mind_of self.old) input ≡ Some fault)) }
+
+        // What a failure leaves.
+        ensures device { IsErrOf result NodeFault.Device
+            → HasFailedToMake S.Stable storage.old storage.new (Writes (mind_of self.old) input) }
+        ensures memory { IsErrOf result NodeFault.Memory → S.reads storage.old storage.new
+            ⊎ HasMade S.Stable storage.old storage.new (Writes (mind_of self.old) input) }
+    {
+        match input {
+            Input::Submit { client, number, op } => self.submit(alloc, client, number, op),
+            Input::Message(envelope) => self.receive(alloc, storage, envelope),
+            Input::Timeout => self.timeout(alloc, storage),
+            Input::Tick => self.tick(alloc),
+        }
+    }
+
+    /// A client's request. One that waits already is taken, and nothing changes.
+    fn submit(
+        &mut self,
+        alloc: Global,
+        client: u8,
+        number: Number,
+        op: Op,
+    ) -> Result<Outputs, NodeFault>
+        ensures takes { IfOk result (λ said.
+            Takes (mind_of self.old) (input.Submit client number op) (mind_of self.new) said) }
+        ensures refuses { IfSome (refuses_submit (mind_of self.old) (asked client number op)) (λ fault.
+            (result ≡ Err fault) × (mind_of self.new ≡ mind_of self.old)) }
+        ensures err { IfErr result (λ fault. (fault ≡ NodeFault.Memory)
+            ⊎ (refuses_submit (mind_of self.old) (asked client number op) ≡ Some fault)) }
+    {
+        if self.position() >= SLOTS {
+            return Err(NodeFault::LogFull);
+        }
+        let request = Request::new(client, number, op)?;
+        if self.proposer.waits(client, number) {
+            return Ok(Outputs::silence(alloc));
+        }
+        self.proposer.submit(request)?;
+        Ok(Outputs::sent(alloc, self.propose(alloc)?))
+    }
+
+    /// Its patience ends.
+    fn timeout<S: Stable>(&mut self, alloc: Global, storage: &mut S) -> Result<Outputs, NodeFault>
+        ensures takes { IfOk result (λ said.
+            Takes (mind_of self.old) input.Timeout (mind_of self.new) said) }
+        ensures written { OnOk result (HasMade S.Stable storage.old storage.new
+            (Writes (mind_of self.old) input.Timeout)) }
+        ensures refuses { IfSome (refuses_timeout (mind_of self.old)) (λ fault. (result ≡ Err fault)
+            × (mind_of self.new ≡ mind_of self.old) × (storage.new ≡ storage.old)) }
+        ensures err { IfErr result (λ fault. (fault ≡ NodeFault.Device) ⊎ (fault ≡ NodeFault.Memory)
+            ⊎ (refuses_timeout (mind_of self.old) ≡ Some fault)) }
+        ensures device { IsErrOf result NodeFault.Device
+            → HasFailedToMake S.Stable storage.old storage.new (Writes (mind_of self.old) input.Timeout) }
+        ensures memory { IsErrOf result NodeFault.Memory → S.reads storage.old storage.new
+            ⊎ HasMade S.Stable storage.old storage.new (Writes (mind_of self.old) input.Timeout) }
+    {
+        if self.position() >= SLOTS {
+            return Err(NodeFault::LogFull);
+        }
+        let prepare = self.proposer.timeout(alloc, storage, &self.learner)?;
+        let mut sends = Vec::new(alloc);
+        send_outgoing(alloc, &mut sends, self.id, self.nodes, prepare)?;
+        Ok(Outputs::sent(alloc, sends))
+    }
+
+    /// What may have been lost is sent again, and the others are asked for what is learnt at the position.
+    fn tick(&mut self, alloc: Global) -> Result<Outputs, NodeFault>
+        ensures takes { IfOk result (λ said.
+            Takes (mind_of self.old) input.Tick (mind_of self.new) said) }
+        ensures err { IfErr result (λ fault. fault ≡ NodeFault.Memory) }
+    {
+        let again = self.proposer.tick(alloc)?;
+        let mut sends = Vec::new(alloc);
+        send_each(alloc, &mut sends, self.id, self.nodes, again)?;
+        send_asks(alloc, &mut sends, self.id, self.nodes, self.position())?;
+        Ok(Outputs::sent(alloc, sends))
+    }
+
+    /// An envelope has come. One that doesn't concern the node is ignored.
+    fn receive<S: Stable>(
+        &mut self,
+        alloc: Global,
+        storage: &mut S,
+        envelope: Envelope,
+    ) -> Result<Outputs, NodeFault>
+        ensures takes { IfOk result (λ said.
+            Takes (mind_of self.old) (input.Message envelope) (mind_of self.new) said) }
+        ensures written { OnOk result (HasMade S.Stable storage.old storage.new
+            (Writes (mind_of self.old) (input.Message envelope))) }
+        ensures err { IfErr result (λ fault. (fault ≡ NodeFault.Device) ⊎ (fault ≡ NodeFault.Memory)) }
+        ensures device { IsErrOf result NodeFault.Device
+            → HasFailedToMake S.Stable storage.old storage.new (Writes (mind_of self.old) (input.Message envelope)) }
+        ensures memory { IsErrOf result NodeFault.Memory → S.reads storage.old storage.new
+            ⊎ HasMade S.Stable storage.old storage.new (Writes (mind_of self.old) (input.Message envelope)) }
+    {
+        if !concerns(self.id, self.nodes, &envelope) {
+            return Ok(Outputs::silence(alloc));
+        }
+        let Envelope { from, message, .. } = envelope;
+        self.hear(alloc, storage, from, message)
+    }
+
+    /// A message has come that concerns the node.
+    fn hear<S: Stable>(
+        &mut self,
+        alloc: Global,
+        storage: &mut S,
+        from: NodeId,
+        message: Message,
+    ) -> Result<Outputs, NodeFault>
+        ensures takes { IfOk result (λ said.
+            TakesMessage (mind_of self.old) from message (mind_of self.new) said) }
+        ensures written { OnOk result (HasMade S.Stable storage.old storage.new
+            (WritesOnMessage (mind_of self.old) message)) }
+        ensures err { IfErr result (λ fault. (fault ≡ NodeFault.Device) ⊎ (fault ≡ NodeFault.Memory)) }
+        ensures device { IsErrOf result NodeFault.Device
+            → HasFailedToMake S.Stable storage.old storage.new (WritesOnMessage (mind_of self.old) message) }
+        ensures memory { IsErrOf result NodeFault.Memory → S.reads storage.old storage.new
+            ⊎ HasMade S.Stable storage.old storage.new (WritesOnMessage (mind_of self.old) message) }
+    {
+        match message {
+            Message::Prepare { ballot, first } => {
+                self.on_prepare(alloc, storage, from, ballot, first)
+            }
+            Message::Promise(promise) => self.on_promise(alloc, from, promise),
+            Message::Nack(nack) => Ok(self.on_nack(alloc, from, nack)),
+            Message::Accept(vote) => self.on_accept(alloc, storage, from, vote),
+            Message::Accepted(vote) => self.on_accepted(alloc, from, vote),
+            Message::Ask { slot } => self.on_ask(alloc, from, slot),
+            Message::Decided { slot, command } => self.on_decided(alloc, from, slot, command),
+        }
+    }
+
+    /// A prepare has come.
+    fn on_prepare<S: Stable>(
+        &mut self,
+        alloc: Global,
+        storage: &mut S,
+        from: NodeId,
+        ballot: Ballot,
+        first: Slot,
+    ) -> Result<Outputs, NodeFault>
+        ensures takes { IfOk result (λ said.
+            TakesMessage (mind_of self.old) from (message.Prepare ballot first) (mind_of self.new) said) }
+        ensures written { OnOk result (HasWritten S.reads S.puts storage.old storage.new
+            (prepare_write (mind_of self.old).accepting ballot)) }
+        ensures device { IsErrOf result NodeFault.Device
+            → HasFailed S.fails storage.old storage.new
+            (prepare_write (mind_of self.old).accepting ballot) }
+        ensures memory { IsErrOf result NodeFault.Memory → S.reads storage.old storage.new
+            ⊎ HasWritten S.reads S.puts storage.old storage.new
+            (prepare_write (mind_of self.old).accepting ballot) }
+        ensures err { IfErr result (λ fault. (fault ≡ NodeFault.Device) ⊎ (fault ≡ NodeFault.Memory)) }
+    {
+        let answer = self.acceptor.on_prepare(alloc, storage, ballot, first)?;
+        let sends = send_answer(alloc, self.id, self.nodes, from, answer)?;
+        Ok(Outputs::sent(alloc, sends))
+    }
+
+    /// An accept has come.
+    fn on_accept<S: Stable>(
+        &mut self,
+        alloc: Global,
+        storage: &mut S,
+        from: NodeId,
+        vote: Vote<Command>,
+    ) -> Result<Outputs, NodeFault>
+        ensures takes { IfOk result (λ said.
+            TakesMessage (mind_of self.old) from (message.Accept vote) (mind_of self.new) said) }
+        ensures written { OnOk result ((w : Write) × IsAcceptWrite (mind_of self.old).accepting vote w
+            × HasWritten S.reads S.puts storage.old storage.new w) }
+        ensures device { IsErrOf result NodeFault.Device
+            → (w : Write) × IsAcceptWrite (mind_of self.old).accepting vote w
+            × HasFailed S.fails storage.old storage.new w }
+        ensures memory { IsErrOf result NodeFault.Memory → S.reads storage.old storage.new
+            ⊎ ((w : Write) × IsAcceptWrite (mind_of self.old).accepting vote w
+            × HasWritten S.reads S.puts storage.old storage.new w) }
+        ensures err { IfErr result (λ fault. (fault ≡ NodeFault.Device) ⊎ (fault ≡ NodeFault.Memory)) }
+    {
+        let answer = self.acceptor.on_accept(alloc, storage, vote)?;
+        let sends = send_answer(alloc, self.id, self.nodes, from, answer)?;
+        Ok(Outputs::sent(alloc, sends))
+    }
+
+    /// A promise has come.
+    fn on_promise(
+        &mut self,
+        alloc: Global,
+        from: NodeId,
+        promise: Promise,
+    ) -> Result<Outputs, NodeFault>
+        ensures takes { IfOk result (λ said.
+            TakesMessage (mind_of self.old) from (message.Promise promise) (mind_of self.new) said) }
+        ensures err { IfErr result (λ fault. fault ≡ NodeFault.Memory) }
+    {
+        let led = self.proposer.is_leading();
+        self.proposer.on_promise(from, promise)?;
+        let leads = self.proposer.is_leading();
+        if led || !leads {
+            return Ok(Outputs::silence(alloc));
+        }
+        Ok(Outputs::sent(alloc, self.propose(alloc)?))
+    }
+
+    /// A refusal has come.
+    fn on_nack(&mut self, alloc: Global, from: NodeId, nack: Nack) -> Outputs
+        ensures { TakesMessage (mind_of self.old) from (message.Nack nack) (mind_of self.new) result }
+    {
+        self.proposer.on_nack(nack);
+        Outputs::silence(alloc)
+    }
+
+    /// A vote has come.
+    fn on_accepted(
+        &mut self,
+        alloc: Global,
+        from: NodeId,
+        vote: Vote<Command>,
+    ) -> Result<Outputs, NodeFault>
+        ensures takes { IfOk result (λ said.
+            TakesMessage (mind_of self.old) from (message.Accepted vote) (mind_of self.new) said) }
+        ensures err { IfErr result (λ fault. fault ≡ NodeFault.Memory) }
+    {
+        let position = self.position();
+        match self.learner.on_accepted(alloc, from, vote)? {
+            Some(learned) => Ok(self.go_on(alloc, position, learned)?),
+            None => Ok(Outputs::silence(alloc)),
+        }
+    }
+
+    /// A node tells what is learnt at a slot. Where that is news, it is asked for the next.
+    fn on_decided(
+        &mut self,
+        alloc: Global,
+        from: NodeId,
+        slot: Slot,
+        command: Command,
+    ) -> Result<Outputs, NodeFault>
+        ensures takes { IfOk result (λ said.
+            TakesMessage (mind_of self.old) from (message.Decided slot command) (mind_of self.new) said) }
+        ensures err { IfErr result (λ fault. fault ≡ NodeFault.Memory) }
+    {
+        let position = self.position();
+        let Some(learned) = self.learner.on_decided(slot, command)? else {
+            return Ok(Outputs::silence(alloc));
+        };
+        let mut outputs = self.go_on(alloc, position, learned)?;
+        send_ask(alloc, &mut outputs.sends, self.id, from, self.position())?;
+        Ok(outputs)
+    }
+
+    /// A node asks what is learnt at a slot.
+    fn on_ask(&self, alloc: Global, from: NodeId, slot: Slot) -> Result<Outputs, NodeFault>
+        ensures takes { IfOk result (λ said.
+            TakesMessage (mind_of self.now) from (message.Ask slot) (mind_of self.now) said) }
+        ensures err { IfErr result (λ fault. fault ≡ NodeFault.Memory) }
+    {
+        let Some(command) = self.learner.get(slot) else {
+            return Ok(Outputs::silence(alloc));
+        };
+        let command = command.clone()?;
+        let mut sends = Vec::new(alloc);
+        send(
+            alloc,
+            &mut sends,
+            self.id,
+            from,
+            Message::Decided { slot, command },
+        )?;
+        Ok(Outputs::sent(alloc, sends))
+    }
+
+    /// A slot is newly learnt: what is learnt by now is executed, from the position before on, and the proposer proposes.
+    fn go_on(&mut self, alloc: Global, from: u32, learned: Learned) -> Result<Outputs, AllocError>
+        requires learnt { IsSome (learnt_at (mind_of self.old).learning learned.slot) }
+        requires kept { (mind_of self.old).learning.first ≤ from }
+        ensures { IfOk result (λ said. (before : Mind) (command : Command)
+            → mind_of self.old ≡ record before { learning = (mind_of self.old).learning }
+            → from ≡ position before
+            → learnt_at (mind_of self.old).learning learned.slot ≡ Some command
+            → Learns before learned.slot command (mind_of self.old).learning [] (mind_of self.new) said) }
+    {
+        let slot = learned.slot;
+        let Some(command) = self.learner.get(slot) else {
+            unreachable!();
+        };
+        let command = command.clone()?;
+        self.proposer.on_learned(slot);
+        let replies = self.execute(alloc, from)?;
+        let sends = self.propose(alloc)?;
+        Ok(Outputs {
+            learnt: Some(LogEntry { slot, command }),
+            replies,
+            sends,
+        })
+    }
+
+    /// Executes what is learnt, from a slot to the position: the replies to requests that waited.
+    fn execute(&mut self, alloc: Global, from: u32) -> Result<Vec<Executed>, AllocError>
+        requires kept { (mind_of self.old).learning.first ≤ from }
+        ensures executes { IfOk result (λ replies. executing_of (mind_of self.new) replies.items
+            ≡ executed (executing_of (mind_of self.old) []) from (learnt_from (mind_of self.old) from)) }
+        ensures only { OnOk result (mind_of self.new ≡ with_executing (mind_of self.old) (executing_of (mind_of self.new) [])) }
+        ensures stands { OnOk result (StandsForMore (mind_of self.old).machine (mind_of self.new).machine
+            (learnt_from (mind_of self.old) from)) }
+        ensures replies { IfOk result (λ replies. RepliesToMore (mind_of self.old).machine from
+            (learnt_from (mind_of self.old) from) replies.items) }
+    {
+        let mut replies = Vec::new(alloc);
+        for number in from..self.position() {
+            let slot = Slot::new(number).unwrap();
+            self.execute_at(slot, &mut replies)?;
+        }
+        Ok(replies)
+    }
+
+    /// Executes what is learnt at a slot. A request that waited has its reply.
+    fn execute_at(&mut self, slot: Slot, replies: &mut Vec<Executed>) -> Result<(), AllocError>
+        ensures executes { OnOk result (executing_of (mind_of self.new) replies.new.items
+            ≡ executed (executing_of (mind_of self.old) replies.old.items) slot
+            (with_command (learnt_at (mind_of self.old).learning slot) [])) }
+        ensures only { OnOk result (mind_of self.new ≡ with_executing (mind_of self.old) (executing_of (mind_of self.new) [])) }
+        ensures stands { OnOk result (StandsForMore (mind_of self.old).machine (mind_of self.new).machine
+            (with_command (learnt_at (mind_of self.old).learning slot) [])) }
+        ensures replies { OnOk result (AddsReplies (mind_of self.old).machine slot
+            (with_command (learnt_at (mind_of self.old).learning slot) []) replies.old.items replies.new.items) }
+    {
+        let Some(command) = self.learner.get(slot) else {
+            return Ok(());
+        };
+        let reply = self.machine.execute(command)?;
+        let Command::Request(request) = command else {
+            return Ok(());
+        };
+        let (client, number) = (request.client(), request.number());
+        if self.proposer.executed(client, number) {
+            replies.push(Executed {
+                client,
+                number,
+                reply,
+                position: slot.value() + 1,
+            })?;
+        }
+        Ok(())
+    }
+
+    /// The proposer proposes what it may: what is sent.
+    fn propose(&mut self, alloc: Global) -> Result<Vec<Frame>, AllocError>
+        ensures state { OnOk result (mind_of self.new ≡ with_proposer (mind_of self.old)
+            (proposed (mind_of self.old).proposing (mind_of self.old).learning)) }
+        ensures sends { IfOk result (λ sends. sends.items ≡ proposer_sends (mind_of self.old)
+            (proposed (mind_of self.old).proposing (mind_of self.old).learning)) }
+    {
+        let messages = self.proposer.propose(alloc, &self.learner)?;
+        let mut sends = Vec::new(alloc);
+        send_each(alloc, &mut sends, self.id, self.nodes, messages)?;
+        Ok(sends)
+    }
+}

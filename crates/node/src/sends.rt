@@ -1,0 +1,162 @@
+//! Messages to one node, and to several.
+
+ghost use Rattle.std.specs.Prelude.{◌≡◌, ◌++◌, ◌==◌, ◌<◌, IfOk, OnOk, filter, not};
+ghost use Rattle.wire.specs.NodeSets.{has_node};
+ghost use Rattle.node.specs.Sending.{to_one, to_all, envelopes_of, envelopes, answer_sends, ask_sends, ask_others};
+
+use acceptor::Answer;
+use proposer::{Outgoing, Recipients};
+use std::alloc::{AllocError, Global};
+use synod::Slot;
+use wire::{Envelope, Frame, Message, NodeId, NodeSet, Nodes};
+
+/// A message from one node to another.
+pub fn send(
+    alloc: Global,
+    sends: &mut Vec<Frame>,
+    from: NodeId,
+    to: NodeId,
+    message: Message,
+) -> Result<(), AllocError>
+    ensures { OnOk result (sends.new.items ≡ sends.old.items ++ to_one from to message) }
+{
+    let envelope = Envelope { from, to, message };
+    sends.push(Frame::of(alloc, &envelope)?)?;
+    Ok(())
+}
+
+/// A message from one node to every node, itself included, in order of their numbers.
+pub fn send_to_all(
+    alloc: Global,
+    sends: &mut Vec<Frame>,
+    from: NodeId,
+    nodes: Nodes,
+    message: Message,
+) -> Result<(), AllocError>
+    ensures { OnOk result (sends.new.items ≡ sends.old.items ++ to_all from nodes message) }
+{
+    let mut envelope = Envelope {
+        from,
+        to: from,
+        message,
+    };
+    for value in 0..nodes.count() {
+        envelope.to = nodes.node(value);
+        sends.push(Frame::of(alloc, &envelope)?)?;
+    }
+    Ok(())
+}
+
+/// A message from one node to every node that isn't in the set, in order of their numbers.
+pub fn send_to_others(
+    alloc: Global,
+    sends: &mut Vec<Frame>,
+    from: NodeId,
+    nodes: Nodes,
+    set: &NodeSet,
+    message: Message,
+) -> Result<(), AllocError>
+    ensures { OnOk result (sends.new.items
+        ≡ sends.old.items ++ filter (λ e. not (has_node set.now e.to)) (to_all from nodes message)) }
+{
+    let mut envelope = Envelope {
+        from,
+        to: from,
+        message,
+    };
+    for value in 0..nodes.count() {
+        envelope.to = nodes.node(value);
+        if !set.contains(envelope.to) {
+            sends.push(Frame::of(alloc, &envelope)?)?;
+        }
+    }
+    Ok(())
+}
+
+/// What a proposer sends, message by message.
+pub fn send_each(
+    alloc: Global,
+    sends: &mut Vec<Frame>,
+    from: NodeId,
+    nodes: Nodes,
+    messages: Vec<Outgoing>,
+) -> Result<(), AllocError>
+    ensures { OnOk result (sends.new.items ≡ sends.old.items ++ envelopes from nodes messages.items) }
+{
+    for outgoing in messages {
+        send_outgoing(alloc, sends, from, nodes, outgoing)?;
+    }
+    Ok(())
+}
+
+/// A message of a proposer's, to its recipients.
+pub fn send_outgoing(
+    alloc: Global,
+    sends: &mut Vec<Frame>,
+    from: NodeId,
+    nodes: Nodes,
+    outgoing: Outgoing,
+) -> Result<(), AllocError>
+    ensures { OnOk result (sends.new.items ≡ sends.old.items ++ envelopes_of from nodes outgoing) }
+{
+    let Outgoing { to, message } = outgoing;
+    match to {
+        Recipients::All => send_to_all(alloc, sends, from, nodes, message),
+        Recipients::Others(set) => send_to_others(alloc, sends, from, nodes, &set, message),
+    }
+}
+
+/// An acceptor's answer, to whom it concerns.
+pub fn send_answer(
+    alloc: Global,
+    from: NodeId,
+    nodes: Nodes,
+    to: NodeId,
+    answer: Answer,
+) -> Result<Vec<Frame>, AllocError>
+    ensures { IfOk result (λ sends. sends.items ≡ answer_sends from nodes to answer) }
+{
+    let mut sends = Vec::new(alloc);
+    match answer {
+        Answer::Promise(promise) => send(alloc, &mut sends, from, to, Message::Promise(promise))?,
+        Answer::Nack(nack) => send(alloc, &mut sends, from, to, Message::Nack(nack))?,
+        Answer::Accepted(vote) => {
+            send_to_all(alloc, &mut sends, from, nodes, Message::Accepted(vote))?;
+        }
+    }
+    Ok(sends)
+}
+
+/// Asks a node what is learnt at a position, where the log has a slot there.
+pub fn send_ask(
+    alloc: Global,
+    sends: &mut Vec<Frame>,
+    from: NodeId,
+    to: NodeId,
+    position: u32,
+) -> Result<(), AllocError>
+    ensures { OnOk result (sends.new.items ≡ sends.old.items ++ ask_sends from to position) }
+{
+    match Slot::new(position) {
+        Some(slot) => send(alloc, sends, from, to, Message::Ask { slot }),
+        None => Ok(()),
+    }
+}
+
+/// Asks every other node so.
+pub fn send_asks(
+    alloc: Global,
+    sends: &mut Vec<Frame>,
+    from: NodeId,
+    nodes: Nodes,
+    position: u32,
+) -> Result<(), AllocError>
+    ensures { OnOk result (sends.new.items ≡ sends.old.items ++ ask_others from nodes position) }
+{
+    let Some(slot) = Slot::new(position) else {
+        return Ok(());
+    };
+    let mut itself = NodeSet::new();
+    itself.insert(from);
+    send_to_others(alloc, sends, from, nodes, &itself, Message::Ask { slot })
+}

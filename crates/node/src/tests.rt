@@ -1,0 +1,1 @@
+//! Nodes, step by step.
