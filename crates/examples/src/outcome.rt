@@ -1,8 +1,7 @@
 //! What comes of an example.
 
-ghost use Rattle.std.specs.Prelude.{◌≡◌, ◌≢◌, IfErr, IfOk, MatchOption};
+ghost use Rattle.std.specs.Prelude.{◌≡◌, ◌≢◌, codes, IfErr, IfOk, MatchOption, OnOk};
 ghost use Rattle.endings.specs.Failures.{line_text};
-ghost use Rattle.works.specs.Works.{Makes};
 ghost use Rattle.examples.specs.Outcomes.{IsOutcome, input_ending, text_ending};
 
 use endings::Failure;
@@ -36,7 +35,7 @@ pub(crate) fn work_of(ending: &str) -> Option<Work>
 /// the bytes.
 pub(crate) fn outcome_of(alloc: Global, work: Work, bytes: &[u8]) -> Result<Outcome, Failure>
     ensures ok { IfOk result (IsOutcome (⟦<Scripted<MemStable> as Stable>⟧) work bytes.now) }
-    ensures err { IfErr result (λ failure. failure ≡ Failure.Memory) }
+    ensures err { IfErr result (λ refusal. refusal ≡ Failure.Memory) }
 {
     match made(alloc, work, bytes) {
         Ok(text) => Ok(Outcome {
@@ -59,10 +58,10 @@ fn ending_of(work: Work) -> &'static str
 
 /// A run that ends with this failure's line of standard error.
 fn told(alloc: Global, failure: Failure) -> Result<Outcome, Failure>
-    ensures ok { IfOk result (λ outcome. (outcome.ending.now ≡ codes "error")
-        × (outcome.text.items ≡ line_text failure)) }
-    ensures memory { failure ≡ Failure.Memory → IsErr result }
-    ensures err { IfErr result (λ failure. failure ≡ Failure.Memory) }
+    ensures ending { IfOk result (λ outcome. outcome.ending.now ≡ codes "error") }
+    ensures line { IfOk result (λ outcome. outcome.text.items ≡ line_text failure) }
+    ensures not_memory { OnOk result (failure ≢ Failure.Memory) }
+    ensures err { IfErr result (λ refusal. refusal ≡ Failure.Memory) }
 {
     if let Failure::Memory = failure {
         return Err(Failure::Memory);
