@@ -1,4 +1,5 @@
 use super::*;
+use jobs::{Source, Work};
 use std::test::Fail;
 
 fn owned(rt: &HostRuntime, words: &[&str]) -> Result<Vec<String>, Fail> {

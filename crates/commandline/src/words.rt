@@ -7,9 +7,9 @@ ghost use Rattle.commandline.specs.Forms.{AskFor, NameSource, Names};
 ghost use Rattle.commandline.specs.Forms.{forms, given_file, given_name, name_of};
 
 use crate::fault::WordsFault;
-use crate::job::{Job, Source, Work};
 use clap::error::ErrorKind;
 use clap::{Arg, ArgMatches, Command, Error};
+use jobs::{Job, Source, Work};
 use std::alloc::{AllocError, Global};
 
 /// The job that the words ask for. No words stand for a replay of standard input.

@@ -1,83 +1,78 @@
 //! What comes of an example.
 
-use mfjson::{Feature, MfFault};
-use schedule::{ReplayFault, replay};
-use std::alloc::{AllocError, Global};
+ghost use Rattle.std.specs.Prelude.{◌≡◌, ◌≢◌, codes, IfErr, IfOk, MatchOption, OnOk};
+ghost use Rattle.endings.specs.Failures.{line_text};
+ghost use Rattle.examples.specs.Outcomes.{IsOutcome, input_ending, text_ending};
 
-/// What goes into a run, by the ending of its file.
-#[derive(Clone, Copy, Debug, PartialEq, Eq)]
-pub enum Input {
-    /// `.schedule`
-    Schedule,
-    /// `.json`
-    Document,
-}
-
-impl Input {
-    /// What a file of this ending is, where it goes into a run.
-    pub fn of(ending: &str) -> Option<Input> {
-        match ending {
-            "schedule" => Some(Input::Schedule),
-            "json" => Some(Input::Document),
-            _ => None,
-        }
-    }
-}
+use endings::Failure;
+use jobs::Work;
+use stable::{MemStable, Scripted, Stable};
+use std::alloc::Global;
+use works::made;
 
 /// What comes of a run, and the ending of the file that has it.
 #[derive(Debug, Drop)]
-pub struct Outcome {
+pub(crate) struct Outcome {
     /// `transcript` and `canonical` for standard output, `error` for standard error.
-    pub ending: &'static str,
-    pub text: Vec<u8>,
+    pub(crate) ending: &'static str,
+    pub(crate) text: Vec<u8>,
 }
 
-/// What the program prints of the input.
-pub fn outcome_of(alloc: Global, input: Input, bytes: &[u8]) -> Result<Outcome, AllocError> {
-    match input {
-        Input::Schedule => match replay(alloc, bytes) {
-            Ok(text) => Ok(Outcome {
-                ending: "transcript",
-                text,
-            }),
-            Err(fault) => error(schedule_line(alloc, fault)?),
-        },
-        Input::Document => match mfjson::read(alloc, bytes) {
-            Ok(feature) => Ok(Outcome {
-                ending: "canonical",
-                text: canonical_line(alloc, &feature)?,
-            }),
-            Err(fault) => error(document_line(alloc, fault)?),
-        },
+/// The work that takes files of this ending, where one does.
+pub(crate) fn work_of(ending: &str) -> Option<Work>
+    ensures { MatchOption result ((work : Work) → ending.now ≢ input_ending work)
+        (λ work. ending.now ≡ input_ending work) }
+{
+    match ending {
+        "schedule" => Some(Work::Replay),
+        "json" => Some(Work::Check),
+        _ => None,
     }
 }
 
-/// The canonical document, as a line.
-fn canonical_line(alloc: Global, feature: &Feature) -> Result<Vec<u8>, AllocError> {
-    let mut line = mfjson::write(alloc, feature)?;
-    line.push(b'\n')?;
-    Ok(line)
+/// What the program prints where it does this work on the bytes: to standard output what is made of
+/// them, or to standard error why nothing is. Want of memory is an error, as it tells nothing of
+/// the bytes.
+pub(crate) fn outcome_of(alloc: Global, work: Work, bytes: &[u8]) -> Result<Outcome, Failure>
+    ensures ok { IfOk result (IsOutcome (⟦<Scripted<MemStable> as Stable>⟧) work bytes.now) }
+    ensures err { IfErr result (λ refusal. refusal ≡ Failure.Memory) }
+{
+    match made(alloc, work, bytes) {
+        Ok(text) => Ok(Outcome {
+            ending: ending_of(work),
+            text,
+        }),
+        Err(failure) => told(alloc, failure),
+    }
 }
 
-/// A run that ends with this line of standard error.
-fn error(line: String) -> Result<Outcome, AllocError> {
-    Ok(Outcome {
-        ending: "error",
-        text: line.into_bytes(),
-    })
+/// The ending of the file with what the work makes.
+fn ending_of(work: Work) -> &'static str
+    ensures { result.now ≡ text_ending work }
+{
+    match work {
+        Work::Replay => "transcript",
+        Work::Check => "canonical",
+    }
 }
 
-/// The line that tells where a schedule is wrong.
-fn schedule_line(alloc: Global, fault: ReplayFault) -> Result<String, AllocError> {
-    let (line, number) = (fault.line, fault.cause.number());
-    format!(in alloc; "mfpx: line {line} fault {number}\n")
-}
-
-/// The line that tells what is wrong with a document.
-fn document_line(alloc: Global, fault: MfFault) -> Result<String, AllocError> {
-    let number = fault.code();
-    match fault.index() {
-        Some(i) => format!(in alloc; "mfpx: document fault {number} at {i}\n"),
-        None => format!(in alloc; "mfpx: document fault {number}\n"),
+/// A run that ends with this failure's line of standard error.
+fn told(alloc: Global, failure: Failure) -> Result<Outcome, Failure>
+    ensures ending { IfOk result (λ outcome. outcome.ending.now ≡ codes "error") }
+    ensures line { IfOk result (λ outcome. outcome.text.items ≡ line_text failure) }
+    ensures not_memory { OnOk result (failure ≢ Failure.Memory) }
+    ensures err { IfErr result (λ refusal. refusal ≡ Failure.Memory) }
+{
+    if let Failure::Memory = failure {
+        return Err(Failure::Memory);
+    }
+    let mut line = Vec::new(alloc);
+    match failure.tell(&mut line) {
+        Ok(()) => Ok(Outcome {
+            ending: "error",
+            text: line,
+        }),
+        // A vector takes whatever memory is there for.
+        Err(_) => Err(Failure::Memory),
     }
 }

@@ -1,75 +1,26 @@
 -- What a run of the program prints, and how one ends that prints nothing.
-use Rattle.std.specs.Prelude.{◌≡◌, ◌≢◌, ℕ, List, [], ◌∷◌, ◌++◌, Option, IfSome}
-use Rattle.mfjson.specs.Document.{IsCanonical, IsDocumentOf}
-use Rattle.mfjson.specs.Faults.{IsFaultOf, code_of, index_of}
-use Rattle.mfjson.specs.declared.fault.MfFault.{MfFault}
-use Rattle.mfjson.specs.declared.fault.MfFault.TheVariants as document
-use Rattle.mfjson.specs.declared.feature.Feature.{Feature}
+use Rattle.std.specs.Prelude.{◌≡◌, ℕ, List, Option, IfSome}
 use Rattle.stable.specs.Script.{Script}
 use Rattle.stable.specs.declared.stable.Stable.{Ghosts}
-use Rattle.schedule.specs.Causes.{cause_code}
-use Rattle.schedule.specs.Runs.{IsReplay, ReplayEnds}
-use Rattle.schedule.specs.declared.replay_fault.ReplayCause.TheVariants as cause
-use Rattle.schedule.specs.declared.replay_fault.ReplayFault.{ReplayFault}
 use Rattle.commandline.specs.Forms.{AskFor, NameInput}
-use Rattle.commandline.specs.declared.job.Work.{Work}
-use Rattle.commandline.specs.declared.job.Work.TheVariants.{Replay, Check}
+use Rattle.jobs.specs.declared.job.Work.{Work}
 use Rattle.endings.specs.declared.failure.Failure.{Failure}
-use Rattle.endings.specs.declared.failure.Failure.TheVariants as failure
-use Rattle.endings.specs.declared.failure.FaultyDocument.{FaultyDocument}
-use Rattle.endings.specs.declared.failure.FaultyLine.{FaultyLine}
+use Rattle.works.specs.Works.{EndsWith, Makes}
 
--- ---- the bytes
 -- these may be the bytes that the words name: of the input all that it has left, where that is known; of a file nothing
 -- is known
 abbrev pub MayName : List (List ℕ) → Option (List ℕ) → List ℕ → Type 0
 MayName words left bytes = NameInput words → IfSome left (λ all. bytes ≡ all)
 
--- ---- a check
--- the bytes are a document of a feature, and the text is that feature's canonical document and a line feed
-pub record IsChecked (bytes text : List ℕ) : Type 0 where
-  pub feature : Feature
-  pub is_document : IsDocumentOf bytes feature
-  pub canonical : List ℕ
-  pub is_canonical : IsCanonical canonical feature
-  pub line : text ≡ canonical ++ 10 ∷ []
-
--- the bytes have this fault, and not for want of memory
-pub record IsNoDocument (bytes : List ℕ) (at : FaultyDocument) : Type 0 where
-  pub fault : MfFault
-  pub is_fault : IsFaultOf bytes fault
-  pub cause : fault ≢ document.Memory
-  pub told : at ≡ record { fault = code_of fault; index = index_of fault }
-
 -- over storages of which it is known what their calls may do
 module _ {S : Type 0} (storages : Ghosts (Script S)) where
-  -- ---- a replay
-  -- the replay of the bytes ends at this line, with this number, and not for want of memory
-  pub record EndsAtLine (bytes : List ℕ) (at : FaultyLine) : Type 0 where
-    pub fault : ReplayFault
-    pub ends : ReplayEnds storages bytes fault
-    pub cause : fault.cause ≢ cause.Memory
-    pub told : at ≡ record { line = fault.line; fault = cause_code fault.cause }
-
-  -- ---- both
-  -- the text is what the work makes of these bytes
-  abbrev pub Makes : Work → List ℕ → List ℕ → Type 0
-  Makes Replay bytes text = IsReplay storages bytes text
-  Makes Check bytes text = IsChecked bytes text
-
-  -- the work ends so on these bytes, and makes nothing of them
-  abbrev pub EndsWith : Work → List ℕ → Failure → Type 0
-  EndsWith Replay bytes (failure.Schedule at) = EndsAtLine bytes at
-  EndsWith Check bytes (failure.Document at) = IsNoDocument bytes at
-  EndsWith work bytes other = ⊥
-
   -- the text is what the work that the words ask for makes of the bytes that they name
   pub record IsAnswer (words : List (List ℕ)) (left : Option (List ℕ)) (text : List ℕ) : Type 0 where
     pub work : Work
     pub asked : AskFor words work
     pub bytes : List ℕ
     pub named : MayName words left bytes
-    pub made : Makes work bytes text
+    pub made : Makes storages work bytes text
 
   -- so that work ends on them
   pub record IsFaulty (words : List (List ℕ)) (left : Option (List ℕ)) (failure : Failure) : Type 0 where
@@ -77,4 +28,4 @@ module _ {S : Type 0} (storages : Ghosts (Script S)) where
     pub asked : AskFor words work
     pub bytes : List ℕ
     pub named : MayName words left bytes
-    pub ends : EndsWith work bytes failure
+    pub ends : EndsWith storages work bytes failure

@@ -1,14 +1,10 @@
-//! What the faults of words, schedules and documents are to the program.
+//! What the faults of words are to the program.
 
-ghost use Rattle.std.specs.Prelude.{◌≡◌, ◌≢◌};
-ghost use Rattle.schedule.specs.Causes.{cause_code};
-ghost use Rattle.mfjson.specs.Faults.{code_of, index_of};
+ghost use Rattle.std.specs.Prelude.{◌≡◌};
 ghost use Rattle.mfpx.specs.Words.{failure_of};
 
 use commandline::WordsFault;
-use endings::{Failure, FaultyDocument, FaultyLine};
-use mfjson::MfFault;
-use schedule::{ReplayCause, ReplayFault};
+use endings::Failure;
 
 /// What words that have no job are to the program.
 pub(crate) fn words_failure(fault: WordsFault) -> Failure
@@ -17,35 +13,5 @@ pub(crate) fn words_failure(fault: WordsFault) -> Failure
     match fault {
         WordsFault::NoForm => Failure::Usage,
         WordsFault::Memory => Failure::Memory,
-    }
-}
-
-/// What a replay's fault is to the program. Want of memory has no line, wherever it came.
-pub(crate) fn replay_failure(fault: ReplayFault) -> Failure
-    ensures memory { fault.cause ≡ ReplayCause.Memory → result ≡ Failure.Memory }
-    ensures line { fault.cause ≢ ReplayCause.Memory
-        → result ≡ Failure.Schedule (record { line = fault.line; fault = cause_code fault.cause }) }
-{
-    match fault.cause {
-        ReplayCause::Memory => Failure::Memory,
-        cause => Failure::Schedule(FaultyLine {
-            line: fault.line,
-            fault: cause.number(),
-        }),
-    }
-}
-
-/// What a document's fault is to the program. Want of memory has no line of its own.
-pub(crate) fn document_failure(fault: MfFault) -> Failure
-    ensures memory { fault ≡ MfFault.Memory → result ≡ Failure.Memory }
-    ensures told { fault ≢ MfFault.Memory
-        → result ≡ Failure.Document (record { fault = code_of fault; index = index_of fault }) }
-{
-    match fault {
-        MfFault::Memory => Failure::Memory,
-        other => Failure::Document(FaultyDocument {
-            fault: other.code(),
-            index: other.index(),
-        }),
     }
 }

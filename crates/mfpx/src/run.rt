@@ -1,23 +1,21 @@
 //! A run of the program over any streams.
 
-ghost use Rattle.std.specs.Prelude.{◌≡◌, ◌≢◌, ◌≤◌, ◌⊎◌, [], ◌∷◌, ◌++◌, ℕ, List, map};
+ghost use Rattle.std.specs.Prelude.{◌≡◌, ◌≢◌, ◌≤◌, ◌⊎◌, ℕ, List, map};
 ghost use Rattle.std.specs.Prelude.{string_bytes, true, IfOk, IfErr, IfSome, OnErr, OnOk};
-ghost use Rattle.schedule.specs.Runs.{IsReplay};
-ghost use Rattle.mfjson.specs.Document.{IsCanonical};
 ghost use Rattle.endings.specs.Failures.{line_text, status_of};
 ghost use Rattle.commandline.specs.Forms.{AskFor, NameInput};
-ghost use Rattle.mfpx.specs.Jobs.{EndsWith, IsAnswer, IsChecked, IsFaulty, Makes};
+ghost use Rattle.mfpx.specs.Jobs.{IsAnswer, IsFaulty};
 ghost use Rattle.endings.specs.Streams.{Takes, Tells};
 
-use crate::failures::{document_failure, replay_failure, words_failure};
-use commandline::{Source, Work, job_of};
+use crate::failures::words_failure;
+use commandline::job_of;
 use endings::{Failure, Tracked, device_failure};
-use mfjson::Feature;
-use schedule::replay;
+use jobs::{Source, Work};
 use stable::{MemStable, Scripted, Stable};
-use std::alloc::{AllocError, Global};
+use std::alloc::Global;
 use std::fs;
 use std::io::{Read, Write};
+use works::made;
 
 /// Runs the program on the words after its name, and answers its exit status. What it makes, a
 /// transcript or a document, goes to `out`, and only once all of it is made; why there is nothing
@@ -147,52 +145,4 @@ fn file_bytes(rt: &HostRuntime, path: &str) -> Result<Vec<u8>, Failure>
         Ok(bytes) => Ok(bytes),
         Err(error) => Err(device_failure(&error)),
     }
-}
-
-/// What the work makes of the bytes.
-fn made(alloc: Global, work: Work, bytes: &[u8]) -> Result<Vec<u8>, Failure>
-    ensures makes { IfOk result (λ text.
-        Makes (⟦<Scripted<MemStable> as Stable>⟧) work bytes.now text.items) }
-    ensures ends { IfErr result (λ failure. failure ≢ Failure.Memory
-        → EndsWith (⟦<Scripted<MemStable> as Stable>⟧) work bytes.now failure) }
-{
-    match work {
-        Work::Replay => transcript(alloc, bytes),
-        Work::Check => checked(alloc, bytes),
-    }
-}
-
-/// The transcript of the schedule that the bytes spell.
-fn transcript(alloc: Global, bytes: &[u8]) -> Result<Vec<u8>, Failure>
-    ensures replay { IfOk result (λ text.
-        IsReplay (⟦<Scripted<MemStable> as Stable>⟧) bytes.now text.items) }
-    ensures ends { IfErr result (λ failure. failure ≢ Failure.Memory
-        → EndsWith (⟦<Scripted<MemStable> as Stable>⟧) Work.Replay bytes.now failure) }
-{
-    match replay(alloc, bytes) {
-        Ok(text) => Ok(text),
-        Err(fault) => Err(replay_failure(fault)),
-    }
-}
-
-/// The canonical form of the document that the bytes are, as a line.
-fn checked(alloc: Global, bytes: &[u8]) -> Result<Vec<u8>, Failure>
-    ensures checked { IfOk result (λ text. IsChecked bytes.now text.items) }
-    ensures ends { IfErr result (λ failure. failure ≢ Failure.Memory
-        → EndsWith (⟦<Scripted<MemStable> as Stable>⟧) Work.Check bytes.now failure) }
-{
-    match mfjson::read(alloc, bytes) {
-        Ok(feature) => Ok(canonical_line(alloc, &feature)?),
-        Err(fault) => Err(document_failure(fault)),
-    }
-}
-
-/// The canonical document of the feature, and a line feed.
-fn canonical_line(alloc: Global, feature: &Feature) -> Result<Vec<u8>, AllocError>
-    ensures { IfOk result (λ line. (text : List ℕ) × IsCanonical text feature.now
-        × (line.items ≡ text ++ 10 ∷ [])) }
-{
-    let mut line = mfjson::write(alloc, feature)?;
-    line.push(b'\n')?;
-    Ok(line)
 }

@@ -3,7 +3,7 @@ use Rattle.std.proofs.Common.{rules, ◌≡◌, ◌∙◌, ap, ap₂, codes, tru
 use Rattle.std.proofs.lemmas.Result.{IfOk-weaker}
 use Rattle.clap.specs.Simple.{app_of_fields}
 use Rattle.clap.specs.Words.{App, app_of, new_app, rule_of, with_rule, with_subcommand}
-use Rattle.commandline.specs.declared.job.Work.TheVariants.{Replay, Check}
+use Rattle.jobs.specs.declared.job.Work.TheVariants.{Replay, Check}
 use Rattle.commandline.specs.Forms.{file, name_of, file_form, with_names_alone, without_help}
 use Rattle.commandline.proofs.words.program.Goals as goal
 

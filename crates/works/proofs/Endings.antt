@@ -9,10 +9,10 @@ use Rattle.schedule.specs.declared.replay_fault.ReplayFault.{ReplayFault}
 use Rattle.mfjson.specs.Faults.{IsFaultOf, code_of, index_of}
 use Rattle.mfjson.specs.declared.fault.MfFault.{MfFault}
 use Rattle.mfjson.specs.declared.fault.MfFault.TheVariants as document
-use Rattle.mfpx.specs.Jobs.{EndsWith}
+use Rattle.works.specs.Works.{EndsWith}
 use Rattle.endings.specs.declared.failure.Failure.{Failure}
 use Rattle.endings.specs.declared.failure.Failure.TheVariants.{Schedule, Document, Memory}
-use Rattle.commandline.specs.declared.job.Work.TheVariants.{Replay, Check}
+use Rattle.jobs.specs.declared.job.Work.TheVariants.{Replay, Check}
 
 -- a fault of a schedule has a line, but for want of memory
 abbrev HasLine : ReplayFault → Failure → Type 0

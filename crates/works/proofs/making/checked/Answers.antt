@@ -1,8 +1,8 @@
 use Rattle.stable.specs.contracts.memory.MemStable as memory
 use Rattle.stable.specs.contracts.memory.MemStableStable.TheImpl as memory_stable
 use Rattle.stable.specs.contracts.scripted.ScriptedStable.TheImpl as scripted
-use Rattle.mfpx.proofs.Endings.{check_ends}
-use Rattle.mfpx.proofs.run.checked.Goals as goal
+use Rattle.works.proofs.Endings.{check_ends}
+use Rattle.works.proofs.making.checked.Goals as goal
 
 pub returns-in-Err-clause-ends : goal.returns-in-Err-clause-ends
 returns-in-Err-clause-ends c =

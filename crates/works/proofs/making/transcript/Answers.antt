@@ -1,5 +1,5 @@
-use Rattle.mfpx.proofs.Endings.{replay_ends}
-use Rattle.mfpx.proofs.run.transcript.Goals as goal
+use Rattle.works.proofs.Endings.{replay_ends}
+use Rattle.works.proofs.making.transcript.Goals as goal
 
 pub returns-in-Err-clause-ends : goal.returns-in-Err-clause-ends
 returns-in-Err-clause-ends c =
