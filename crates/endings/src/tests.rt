@@ -64,7 +64,10 @@ fn what_was_printed(rt: HostRuntime) -> Result<(), Fail> {
     out.print(b"learn ")?;
     out.print(b"0\n")?;
     assert_eq!(rt; out.into_inner().as_slice(), b"learn 0\n".as_slice());
-    assert!(rt; Tracked::new(Unwritable).print(b"learn ").is_err());
+    // The writer's own error is handed on, of which no contract speaks.
+    let refused = Tracked::new(Unwritable).print(b"learn ").err();
+    let kind = refused.ok_or("an error")?.kind();
+    assert_eq!(rt; kind, ErrorKind::BrokenPipe);
     let kind = Error::from(ErrorKind::OutOfMemory);
     assert_eq!(rt; device_failure(&kind), Failure::Memory);
     Ok(())

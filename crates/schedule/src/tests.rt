@@ -352,13 +352,9 @@ fn made(learnt: u32, replies: u32) -> Outcome {
     Outcome::Done { learnt, replies }
 }
 
-// outcomes of each kind, and what is told of them
-#[test]
-fn told_run(rt: HostRuntime) -> Result<(), Fail> {
-    let alloc = rt.alloc();
-    let number = Number::new(1).ok_or("a number")?;
-    let op = Op::Remove(Id::new(b"bus-7").ok_or("an id")?);
-    let outcomes = [
+// One outcome of each kind, and steps by which one slot, two replies or nothing came of it.
+fn told_outcomes() -> Result<[Outcome; 7], Fail> {
+    Ok([
         made(0, 0),
         made(1, 2),
         Outcome::Lost,
@@ -366,19 +362,29 @@ fn told_run(rt: HostRuntime) -> Result<(), Fail> {
         Outcome::Refused(node(1)?, NodeFault::Down),
         Outcome::Answered,
         Outcome::Stopped(node(2)?, NodeFault::Device),
-    ];
-    let learnt = [
+    ])
+}
+
+// A request at one node, and a no-op at another.
+fn told_learnt(number: Number) -> Result<[Learnt; 2], Fail> {
+    let op = Op::Remove(Id::new(b"bus-7").ok_or("an id")?);
+    let request = Request::new(7, number, op).ok().ok_or("a request")?;
+    Ok([
         Learnt {
             node: node(0)?,
             slot: Slot::first(),
-            command: Command::Request(Request::new(7, number, op).ok().ok_or("a request")?),
+            command: Command::Request(request),
         },
         Learnt {
             node: node(1)?,
             slot: Slot::first(),
             command: Command::NoOp,
         },
-    ];
+    ])
+}
+
+// What two clients are told of one number.
+fn told_replies(number: Number) -> Result<[Replied; 2], Fail> {
     let reply = Replied {
         node: node(0)?,
         client: 7,
@@ -386,21 +392,34 @@ fn told_run(rt: HostRuntime) -> Result<(), Fail> {
         reply: sessions::Outcome::Applied(Reply::Unknown),
         position: 1,
     };
-    let replies = [
+    Ok([
         reply,
         Replied {
             client: 8,
             position: 2,
             ..reply
         },
-    ];
+    ])
+}
+
+#[test]
+fn told_run(rt: HostRuntime) -> Result<(), Fail> {
+    let alloc = rt.alloc();
+    let number = Number::new(1).ok_or("a number")?;
+    let outcomes = told_outcomes()?;
     let answers = [Answered {
         node: node(0)?,
         position: 1,
         query: Query::Count,
         text: Text::new(b"count 0".to_vec(alloc)?),
     }];
-    let text = transcript(alloc, &outcomes, &learnt, &replies, &answers)?;
+    let text = transcript(
+        alloc,
+        &outcomes,
+        &told_learnt(number)?,
+        &told_replies(number)?,
+        &answers,
+    )?;
     let wanted = b"learn 0 0 7:1\nreply 0 7:1 21\nreply 0 8:1 21\nlearn 1 0 noop\nrefuse 1 41\n\
 answer 0 1 count 0\nstop 2 46\n";
     assert!(rt; text.as_slice() == wanted.as_slice(), "of {outcomes:?}");
