@@ -1,5 +1,5 @@
 -- One step more.
-use Rattle.std.proofs.Common.{◌≡◌, ℕ, suc, ◌+◌, ◌%◌, ◌^◌, subst, arith}
+use Rattle.std.proofs.Common.{ℕ, suc, ◌+◌, ◌%◌, ◌^◌, subst, arith}
 use Rattle.benchmarks.specs.Steps.{Reached, Passes, IsAnswered}
 use Rattle.benchmarks.specs.Sums.{SumsTo}
 use Rattle.benchmarks.proofs.Adding.{sum_of_none, sum_of_more}

@@ -1,7 +1,6 @@
 use Rattle.std.proofs.Common.{◌≡◌, ◌∙◌, ◌+◌, subst, arith}
 use Rattle.acceptor.specs.Accepting.{AnswersPrepare}
 use Rattle.acceptor.specs.State.{accepting_of}
-use Rattle.benchmarks.specs.Acceptors.{first_slot}
 use Rattle.benchmarks.proofs.acceptors.promise_number.Goals as goal
 
 pub returns : goal.returns

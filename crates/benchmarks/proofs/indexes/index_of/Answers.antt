@@ -1,7 +1,7 @@
-use Rattle.std.proofs.Common.{◌≡◌, ◌∙◌, ◌+◌, ◌*◌, ap, arith}
+use Rattle.std.proofs.Common.{◌≡◌, ◌∙◌, ap, arith}
 use Rattle.timeindex.specs.Entries.{with_entry}
 use Rattle.timeindex.specs.declared.entry.Entry.{Entry}
-use Rattle.benchmarks.specs.Indexes.{begin_of, entry_at}
+use Rattle.benchmarks.specs.Indexes.{entry_at}
 use Rattle.benchmarks.proofs.Indexing.{entries_none, entries_more}
 use Rattle.benchmarks.proofs.indexes.index_of.Goals as goal
 

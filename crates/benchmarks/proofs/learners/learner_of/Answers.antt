@@ -1,8 +1,7 @@
-use Rattle.std.proofs.Common.{◌≡◌, ℕ, ◌+◌, ◌/◌, ◌%◌, ◌∙◌, ap, subst}
+use Rattle.std.proofs.Common.{◌≡◌, ℕ, ◌%◌, ◌∙◌, ap, subst}
 use Rattle.learner.specs.Learning.{unlearnt, HearsVote}
 use Rattle.learner.specs.State.{learning_of}
 use Rattle.benchmarks.specs.Learners.{Tells}
-use Rattle.benchmarks.specs.Requests.{vote_at}
 use Rattle.benchmarks.proofs.Stepping.{reached_none, reached_more}
 use Rattle.benchmarks.proofs.learners.learner_of.Goals as goal
 

@@ -31,7 +31,7 @@ returns c =
     let next : c.from.result + (1 + c.from-number.result) ≡ waiting + (1 + place) = omega (arith, c.from.ensures, c.from-number.ensures) in
     let comes = subst (λ (n : ℕ). Submits c.executed-waited.new.self (request_of n) c.submit.new.proposer) next c.in_ok-submit.ensures in
     let waited = c.executed-waited.ensures.waited ∙ ap (λ (n : ℕ). list_any (is_of CLIENT n) c.on_learned.new.self.waiting) named
-        ∙ ap (λ p. list_any (is_of CLIENT (1 + place)) p.waiting) closed in
+    ∙ ap (λ p. list_any (is_of CLIENT (1 + place)) p.waiting) closed in
     let counts = c.from-2.ensures ∙ waited_byte c.executed-waited.result ∙ ap (λ b. waited_number b) waited in
     record {
       opened = opened;
