@@ -40,7 +40,7 @@ def main():
         timing.table(path, (word,), sizes, what)
     for word, calls in FILLED:
         rates = [timing.figure(filled(path, word, calls, few, few + 20000)) for few in (10000, 40000)]
-        print("%-16s to 30,000 slots %12s, from 40,000 to 60,000 %12s" % (word, *rates))
+        print("%-16s from 10,000 to 30,000 %12s, from 40,000 to 60,000 %12s" % (word, *rates))
 
 
 if __name__ == "__main__":
