@@ -23,12 +23,14 @@ returns c =
     let number : c.unwrap.result ≡ 1 + c.from-number.result = rw c.unwrap.ensures at c.new-2.ensures.value in
     let named : c.unwrap.result ≡ 1 + place = omega (arith, number, c.from-number.ensures) in
     let chosen = c.in_ok-request.ensures ∙ ap (λ (n : ℕ). request_of (1 + n)) c.from-number.ensures in
-    let learns = subst (λ (s : ℕ). HearsDecided old s (Request c.in_ok-request.field-0) learned new) slot c.in_ok-on_decided.ensures.hears in
+    let learns = subst (λ (s : ℕ). HearsDecided old s (Request c.in_ok-request.field-0) learned new) slot
+    c.in_ok-on_decided.ensures.hears in
     let closed = c.on_learned.ensures ∙ ap (λ (s : ℕ). after_learned opened s) slot in
     let done : c.executed-waited.new.self ≡ executed (after_learned opened place) (1 + place) =
     c.executed-waited.ensures.rest ∙ ap (λ (n : ℕ). executed c.on_learned.new.self n) named
     ∙ ap (λ p. executed p (1 + place)) closed in
-    let next : c.from.result + (1 + c.from-number.result) ≡ waiting + (1 + place) = omega (arith, c.from.ensures, c.from-number.ensures) in
+    let next : c.from.result + (1 + c.from-number.result) ≡ waiting + (1 + place) =
+    omega (arith, c.from.ensures, c.from-number.ensures) in
     let comes = subst (λ (n : ℕ). Submits c.executed-waited.new.self (request_of n) c.submit.new.proposer) next c.in_ok-submit.ensures in
     let waited = c.executed-waited.ensures.waited ∙ ap (λ (n : ℕ). list_any (is_of CLIENT n) c.on_learned.new.self.waiting) named
     ∙ ap (λ p. list_any (is_of CLIENT (1 + place)) p.waiting) closed in
