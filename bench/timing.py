@@ -52,10 +52,10 @@ def figure(calls):
     return "%.1f k" % (calls / 1e3)
 
 
-def table(path, words, points):
-    """A line for each word, with a figure for each number of points."""
+def table(path, words, sizes, what="points"):
+    """A line for each word, with a figure for each size, which is a number of points or of what else there is."""
     print("calls a second of processor time, best of %d, on %d cores" % (TRIES, os.cpu_count()))
-    print("%-16s" % "points" + "".join("%12d" % count for count in points))
+    print("%-16s" % what + "".join("%12d" % size for size in sizes))
     for word in words:
-        row = [figure(calls_a_second(path, [word, str(count)])) for count in points]
+        row = [figure(calls_a_second(path, [word, str(size)])) for size in sizes]
         print("%-16s" % word + "".join("%12s" % cell for cell in row), flush=True)

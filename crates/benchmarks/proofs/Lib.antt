@@ -4,3 +4,6 @@ pub mod NameLemmas
 pub mod Filling
 pub mod Executing
 pub mod Sending
+pub mod Stepping
+pub mod Indexing
+pub mod Campaigning

@@ -1,8 +1,8 @@
 -- A word that is the name of no work of any kind is the name of no work.
 use Rattle.std.proofs.Common.{◌≢◌, ℕ, List, codes}
-use Rattle.benchmarks.specs.Tasks.{name_of, point_name, query_name, apply_name, encode_name, decode_name}
-use Rattle.benchmarks.specs.declared.task.Work.{Work}
-use Rattle.benchmarks.specs.declared.task.Work.TheVariants.{Point, Query, Apply, Check, Execute, Encode, Decode}
+use Rattle.benchmarks.specs.Tasks.{scene_name, point_name, query_name, apply_name, encode_name, decode_name}
+use Rattle.benchmarks.specs.declared.task.SceneWork.{SceneWork}
+use Rattle.benchmarks.specs.declared.task.SceneWork.TheVariants.{Point, Query, Apply, Check, Execute, Encode, Decode}
 use Rattle.benchmarks.specs.declared.task.PointWork.{PointWork}
 use Rattle.benchmarks.specs.declared.task.QueryWork.{QueryWork}
 use Rattle.benchmarks.specs.declared.task.ApplyWork.{ApplyWork}
@@ -10,7 +10,7 @@ use Rattle.benchmarks.specs.declared.task.Sent.{Sent}
 
 pub none_named : (word : List ℕ) → ((w : PointWork) → word ≢ point_name w) → ((w : QueryWork) → word ≢ query_name w) →
     ((w : ApplyWork) → word ≢ apply_name w) → ((s : Sent) → word ≢ encode_name s) → ((s : Sent) → word ≢ decode_name s) →
-    word ≢ codes "check" → word ≢ codes "execute" → (work : Work) → word ≢ name_of work
+    word ≢ codes "check" → word ≢ codes "execute" → (work : SceneWork) → word ≢ scene_name work
 none_named word point query apply encode decode check execute (Point w) = point w
 none_named word point query apply encode decode check execute (Query w) = query w
 none_named word point query apply encode decode check execute (Apply w) = apply w

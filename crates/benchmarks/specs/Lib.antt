@@ -6,4 +6,11 @@ pub mod Numbers
 pub mod Fleets
 pub mod Commands
 pub mod Messages
+pub mod Requests
+pub mod Steps
+pub mod Learners
+pub mod Acceptors
+pub mod Leaders
+pub mod Indexes
+pub mod Parts
 pub mod Rounds

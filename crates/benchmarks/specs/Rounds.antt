@@ -5,7 +5,9 @@ use Rattle.benchmarks.specs.declared.scene.Scene.{Scene}
 use Rattle.benchmarks.specs.declared.scene.TheConstants.{START}
 use Rattle.benchmarks.specs.declared.numbers.TheConstants.{STEP}
 use Rattle.benchmarks.specs.declared.task.Work.{Work}
-use Rattle.benchmarks.specs.declared.task.Work.TheVariants.{Point, Query, Apply, Check, Execute, Encode, Decode}
+use Rattle.benchmarks.specs.declared.task.Work.TheVariants.{Scene as OfScene, Part}
+use Rattle.benchmarks.specs.declared.task.SceneWork.{SceneWork}
+use Rattle.benchmarks.specs.declared.task.SceneWork.TheVariants.{Point, Query, Apply, Check, Execute, Encode, Decode}
 use Rattle.benchmarks.specs.declared.task.PointWork.{PointWork}
 use Rattle.benchmarks.specs.declared.task.PointWork.TheVariants.{ValueAt, EverMiddle, EverWhole, AlwaysMiddle, AlwaysWhole}
 use Rattle.benchmarks.specs.declared.task.PointWork.TheVariants.{CutMiddle, CutWhole, Write, Datetimes}
@@ -16,6 +18,7 @@ use Rattle.benchmarks.specs.Numbers.{IsValue, IsEverNumber, IsAlwaysNumber, IsCu
 use Rattle.benchmarks.specs.Commands.{IsOutcomeNumber}
 use Rattle.benchmarks.specs.Fleets.{fleet_of, query_of, IsAnswerLength, IsReplyNumber}
 use Rattle.benchmarks.specs.Messages.{IsFrameLength, IsSlotNumber}
+use Rattle.benchmarks.specs.Parts.{PartAnswers}
 
 -- the length of the canonical document
 pub record IsLength (s : Scene) (number : ℕ) : Type 0 where
@@ -35,7 +38,7 @@ PointAnswers CutWhole s round number = IsCutNumber s s.whole number
 PointAnswers Write s round number = IsLength s number
 PointAnswers Datetimes s round number = number ≡ START + STEP * round
 
-abbrev pub Answers : Work → Scene → ℕ → ℕ → Type 0
+abbrev pub Answers : SceneWork → Scene → ℕ → ℕ → Type 0
 Answers (Point work) s round number = PointAnswers work s round number
 Answers (Query work) s round number = IsAnswerLength (fleet_of s) (query_of work s round) number
 Answers (Apply work) s round number = IsReplyNumber work s round number
@@ -44,8 +47,16 @@ Answers Execute s round number = IsOutcomeNumber s round number
 Answers (Encode sent) s round number = IsFrameLength sent number
 Answers (Decode sent) s round number = IsSlotNumber sent number
 
--- the sum that a task asks for
-pub record IsSumOf (task : Task) (total : ℕ) : Type 0 where
+-- the sum of so many rounds on a moving point of so many points
+pub record IsSceneSum (work : SceneWork) (points rounds total : ℕ) : Type 0 where
   pub scene : Scene
-  pub made : IsScene task.points scene
-  pub sums : SumsTo (Answers task.work scene) task.rounds total
+  pub made : IsScene points scene
+  pub sums : SumsTo (Answers work scene) rounds total
+
+abbrev pub IsSum : Work → ℕ → ℕ → ℕ → Type 0
+IsSum (OfScene work) size rounds total = IsSceneSum work size rounds total
+IsSum (Part work) size rounds total = SumsTo (PartAnswers work size) rounds total
+
+-- the sum that a task asks for
+abbrev pub IsSumOf : Task → ℕ → Type 0
+IsSumOf task total = IsSum task.work task.size task.rounds total

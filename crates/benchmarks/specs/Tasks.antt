@@ -3,7 +3,9 @@ use Rattle.std.specs.Prelude.{◌≡◌, ℕ, ◌^◌, ◌<◌, List, [], ◌∷
 use Rattle.std.specs.Str.Parse.{IsNumeral, digits_value, without_leading_plus}
 use Rattle.benchmarks.specs.declared.task.Task.{Task}
 use Rattle.benchmarks.specs.declared.task.Work.{Work}
-use Rattle.benchmarks.specs.declared.task.Work.TheVariants.{Point, Query, Apply, Check, Execute, Encode, Decode}
+use Rattle.benchmarks.specs.declared.task.Work.TheVariants.{Scene, Part}
+use Rattle.benchmarks.specs.declared.task.SceneWork.{SceneWork}
+use Rattle.benchmarks.specs.declared.task.SceneWork.TheVariants.{Point, Query, Apply, Check, Execute, Encode, Decode}
 use Rattle.benchmarks.specs.declared.task.PointWork.{PointWork}
 use Rattle.benchmarks.specs.declared.task.PointWork.TheVariants.{ValueAt, EverMiddle, EverWhole, AlwaysMiddle, AlwaysWhole}
 use Rattle.benchmarks.specs.declared.task.PointWork.TheVariants.{CutMiddle, CutWhole, Write, Datetimes}
@@ -13,6 +15,8 @@ use Rattle.benchmarks.specs.declared.task.ApplyWork.{ApplyWork}
 use Rattle.benchmarks.specs.declared.task.ApplyWork.TheVariants as apply_work
 use Rattle.benchmarks.specs.declared.task.Sent.{Sent}
 use Rattle.benchmarks.specs.declared.task.Sent.TheVariants as sent
+use Rattle.benchmarks.specs.declared.task.PartWork.{PartWork}
+use Rattle.benchmarks.specs.declared.task.PartWork.TheVariants.{Tellings, Promises, Proposals, Overlapping}
 
 -- the word for a work
 abbrev pub point_name : PointWork → List ℕ
@@ -54,14 +58,24 @@ decode_name sent.Promise = codes "frame_decode_promise"
 decode_name sent.AcceptPut = codes "frame_decode_accept_put"
 decode_name sent.AcceptedAppend = codes "frame_decode_accepted_append"
 
+abbrev pub scene_name : SceneWork → List ℕ
+scene_name (Point work) = point_name work
+scene_name (Query work) = query_name work
+scene_name (Apply work) = apply_name work
+scene_name Check = codes "check"
+scene_name Execute = codes "execute"
+scene_name (Encode message) = encode_name message
+scene_name (Decode message) = decode_name message
+
+abbrev pub part_name : PartWork → List ℕ
+part_name Tellings = codes "tellings"
+part_name Promises = codes "promises"
+part_name Proposals = codes "proposals"
+part_name Overlapping = codes "overlapping"
+
 abbrev pub name_of : Work → List ℕ
-name_of (Point work) = point_name work
-name_of (Query work) = query_name work
-name_of (Apply work) = apply_name work
-name_of Check = codes "check"
-name_of Execute = codes "execute"
-name_of (Encode message) = encode_name message
-name_of (Decode message) = decode_name message
+name_of (Scene work) = scene_name work
+name_of (Part work) = part_name work
 
 -- a word is read as a number below 2^bits: decimal digits, and a plus before them or not
 pub record IsReadAs (bits : ℕ) (word : List ℕ) (n : ℕ) : Type 0 where
@@ -69,14 +83,14 @@ pub record IsReadAs (bits : ℕ) (word : List ℕ) (n : ℕ) : Type 0 where
   pub value : n ≡ digits_value 10 (without_leading_plus word)
   pub fits : n < 2 ^ bits
 
--- the words for a task's work, points and rounds
-pub record Names (work points rounds : List ℕ) (task : Task) : Type 0 where
+-- the words for a task's work, size and rounds
+pub record Names (work size rounds : List ℕ) (task : Task) : Type 0 where
   pub name : work ≡ name_of task.work
-  pub size : IsReadAs 16 points task.points
+  pub extent : IsReadAs 16 size task.size
   pub times : IsReadAs 32 rounds task.rounds
 
--- the words ask for a task; without a number of points it is one
+-- the words ask for a task; without a size it is one
 abbrev pub Asks : List (List ℕ) → Task → Type 0
 Asks (work ∷ rounds ∷ []) task = Names work (codes "1") rounds task
-Asks (work ∷ points ∷ rounds ∷ []) task = Names work points rounds task
+Asks (work ∷ size ∷ rounds ∷ []) task = Names work size rounds task
 Asks _ task = ⊥

@@ -1,10 +1,12 @@
 //! Why nothing is done.
 
 ghost use Rattle.std.specs.Prelude.{◌≡◌};
-ghost use Rattle.benchmarks.specs.Faults.{status_of};
+ghost use Rattle.benchmarks.specs.Faults.{status_of, of_submit};
 ghost use Rattle.benchmarks.specs.declared.fault.Fault.TheVariants.{Usage, Memory};
 
+use proposer::{SubmitFault, TimeoutFault};
 use sessions::TooLong;
+use stable::StableFault;
 use std::alloc::{AllocError, AllocFailed};
 use thiserror::Error;
 use tpoint::SeqFault;
@@ -12,8 +14,8 @@ use tpoint::SeqFault;
 /// Why a task is not done.
 #[derive(Clone, Copy, Debug, Drop, PartialEq, Eq, Error)]
 pub enum Fault {
-    /// The words ask for no work, or for one of no points or of too many.
-    #[error("usage: benchmarks WORK POINTS ROUNDS, or benchmarks WORK ROUNDS for a single point")]
+    /// The words ask for no work, or for one of no points, or of too many things.
+    #[error("usage: benchmarks WORK SIZE ROUNDS, or benchmarks WORK ROUNDS for a size of 1")]
     Usage,
     /// A growth was refused.
     #[error("out of memory")]
@@ -61,5 +63,34 @@ impl From<TooLong> for Fault {
 
     fn from(_refused: TooLong) -> Fault {
         Fault::Usage
+    }
+}
+
+// A storage in memory fails for want of memory alone.
+impl From<StableFault> for Fault {
+    ghost from_gives = { λ _ fault. fault ≡ Memory };
+
+    fn from(_refused: StableFault) -> Fault {
+        Fault::Memory
+    }
+}
+
+// So does a campaign over it, as rounds are left.
+impl From<TimeoutFault> for Fault {
+    ghost from_gives = { λ _ fault. fault ≡ Memory };
+
+    fn from(_refused: TimeoutFault) -> Fault {
+        Fault::Memory
+    }
+}
+
+impl From<SubmitFault> for Fault {
+    ghost from_gives = { λ refused fault. fault ≡ of_submit refused };
+
+    fn from(refused: SubmitFault) -> Fault {
+        match refused {
+            SubmitFault::QueueFull => Fault::Usage,
+            SubmitFault::Memory => Fault::Memory,
+        }
     }
 }

@@ -1,24 +1,32 @@
-//! Timed loops over the queries, the documents, the commands and the frames.
+//! Timed loops over the queries, the documents, the commands, the frames and the parts of a node.
 //!
-//! `benchmarks WORK POINTS ROUNDS` asks for one work in so many rounds, of a moving point with so
-//! many points, and prints the sum of what was answered, which is the same on every machine. It
-//! reads no clock: the scripts in `bench/` do.
+//! `benchmarks WORK SIZE ROUNDS` asks for one work in so many rounds, of a moving point with so many
+//! points or of a part of a node that holds so many things, and prints the sum of what was answered,
+//! which is the same on every machine. It reads no clock: the scripts in `bench/` do.
 //!
 //! `task` reads the words, and `scene` makes a moving point and what is asked of it. `numbers` has
 //! the answers of one moving point as numbers, `queries` and `operations` those of a full database,
 //! which `fleet` makes, `documents` those of reading, `execution` those of a machine, and `messages`
-//! those of frames; `rounds` adds them up. A further kind of work is a variant of `Work`, a module
-//! with the number of a round, and a loop in `rounds`.
+//! those of frames; `rounds` adds them up. `learners`, `acceptors`, `leader` and `indexes` have the
+//! answers of the parts of a node, to which `requests` are made; `parts` adds them up. A further kind
+//! of work is a variant of `SceneWork` or `PartWork`, a module with the number of a round, and a loop
+//! in `rounds` or `parts`.
 #![tactic(auto)]
 
+mod acceptors;
 mod documents;
 mod execution;
 mod fault;
 mod fleet;
+mod indexes;
+mod leader;
+mod learners;
 mod messages;
 mod numbers;
 mod operations;
+mod parts;
 mod queries;
+mod requests;
 mod rounds;
 mod scene;
 mod task;
@@ -32,9 +40,10 @@ ghost use Rattle.benchmarks.specs.Faults.{status_of};
 ghost use Rattle.benchmarks.specs.Rounds.{IsSumOf};
 
 use crate::fault::Fault;
-use crate::rounds::total;
+use crate::parts::part_total;
+use crate::rounds::scene_total;
 use crate::scene::Scene;
-use crate::task::{Task, task_of};
+use crate::task::{Task, Work, task_of};
 use std::env;
 use std::io::{self, ErrorKind};
 use std::process::ExitCode;
@@ -81,8 +90,13 @@ fn words_fault(error: &io::Error) -> Fault
 fn sum(rt: &HostRuntime, task: Task) -> Result<u64, Fault>
     ensures { IfOk result (IsSumOf task) }
 {
-    let scene = Scene::new(rt.alloc(), task.points)?;
-    total(rt.alloc(), task.work, &scene, task.rounds)
+    match task.work {
+        Work::Scene(work) => {
+            let scene = Scene::new(rt.alloc(), task.size)?;
+            scene_total(rt.alloc(), work, &scene, task.rounds)
+        }
+        Work::Part(work) => part_total(rt.alloc(), work, task.size, task.rounds),
+    }
 }
 
 /// Says why nothing is done, and the status that tells it.

@@ -130,7 +130,7 @@ fn append(scene: &Scene) -> Op
 }
 
 /// The first ballot of node 0.
-fn first_ballot() -> Ballot
+pub fn first_ballot() -> Ballot
     ensures { result ≡ ballot_of 1 0 }
 {
     Ballot::new(1, 0).unwrap()

@@ -1,10 +1,10 @@
-//! The rounds of a work.
+//! The rounds of a work with a moving point.
 
 ghost use Rattle.std.specs.Prelude.{IfOk};
 ghost use Rattle.benchmarks.specs.Sums.{SumsTo};
 ghost use Rattle.benchmarks.specs.Rounds.{Answers, PointAnswers};
-ghost use Rattle.benchmarks.specs.declared.task.Work.TheVariants.{Point, Query, Apply, Check};
-ghost use Rattle.benchmarks.specs.declared.task.Work.TheVariants.{Execute, Encode, Decode};
+ghost use Rattle.benchmarks.specs.declared.task.SceneWork.TheVariants.{Point, Query, Apply, Check};
+ghost use Rattle.benchmarks.specs.declared.task.SceneWork.TheVariants.{Execute, Encode, Decode};
 
 use crate::documents::checked_length;
 use crate::execution::outcome_number;
@@ -15,7 +15,7 @@ use crate::numbers::{always_number, cut_number, datetime_number, ever_number, va
 use crate::operations::reply_number;
 use crate::queries::answer_length;
 use crate::scene::Scene;
-use crate::task::{ApplyWork, PointWork, QueryWork, Sent, Work};
+use crate::task::{ApplyWork, PointWork, QueryWork, SceneWork, Sent};
 use mfjson::write;
 use sessions::Machine;
 use std::alloc::{AllocError, Global};
@@ -23,17 +23,17 @@ use wire::encode;
 
 /// The sum of what the rounds answer, each as a number, in 64 bits; Usage where the work can't be done on so many
 /// points.
-pub fn total(alloc: Global, work: Work, scene: &Scene, rounds: u32) -> Result<u64, Fault>
+pub fn scene_total(alloc: Global, work: SceneWork, scene: &Scene, rounds: u32) -> Result<u64, Fault>
     ensures { IfOk result (SumsTo (Answers work scene.now) rounds) }
 {
     match work {
-        Work::Point(work) => Ok(point_total(alloc, work, scene, rounds)?),
-        Work::Query(work) => Ok(query_total(alloc, work, scene, rounds)?),
-        Work::Apply(work) => Ok(apply_total(alloc, work, scene, rounds)?),
-        Work::Check => Ok(check_total(alloc, scene, rounds)?),
-        Work::Execute => execute_total(alloc, scene, rounds),
-        Work::Encode(sent) => encode_total(alloc, sent, scene, rounds),
-        Work::Decode(sent) => decode_total(alloc, sent, scene, rounds),
+        SceneWork::Point(work) => Ok(point_total(alloc, work, scene, rounds)?),
+        SceneWork::Query(work) => Ok(query_total(alloc, work, scene, rounds)?),
+        SceneWork::Apply(work) => Ok(apply_total(alloc, work, scene, rounds)?),
+        SceneWork::Check => Ok(check_total(alloc, scene, rounds)?),
+        SceneWork::Execute => execute_total(alloc, scene, rounds),
+        SceneWork::Encode(sent) => encode_total(alloc, sent, scene, rounds),
+        SceneWork::Decode(sent) => decode_total(alloc, sent, scene, rounds),
     }
 }
 

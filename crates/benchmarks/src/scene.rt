@@ -105,7 +105,7 @@ pub fn instant(ms: u64) -> Instant
 }
 
 /// The period between two instants in milliseconds.
-fn period(begin: u64, end: u64) -> Period
+pub fn period(begin: u64, end: u64) -> Period
     requires begins { IsInstant (pos begin) }
     requires ends { IsInstant (pos end) }
     requires ordered { begin ≤ end }

@@ -1,12 +1,21 @@
 //! What the words of the command line ask for.
 
 ghost use Rattle.std.specs.Prelude.{◌≡◌, ◌≢◌, ℕ, MatchOption, map, string_bytes};
-ghost use Rattle.benchmarks.specs.Tasks.{name_of, point_name, query_name, apply_name, encode_name, decode_name};
+ghost use Rattle.benchmarks.specs.Tasks.{name_of, scene_name, point_name, query_name, apply_name, encode_name, decode_name, part_name};
 ghost use Rattle.benchmarks.specs.Tasks.{IsReadAs, Names, Asks};
 
 /// What is timed.
 #[derive(Clone, Copy, Debug, PartialEq, Eq)]
 pub enum Work {
+    /// What is done with a moving point of so many points.
+    Scene(SceneWork),
+    /// What is asked of a part of a node, which holds so many things by then.
+    Part(PartWork),
+}
+
+/// What is done with a moving point of so many points.
+#[derive(Clone, Copy, Debug, PartialEq, Eq)]
+pub enum SceneWork {
     /// A question of one moving point.
     Point(PointWork),
     /// A query of a plain database.
@@ -93,43 +102,53 @@ pub enum Sent {
     AcceptedAppend,
 }
 
-/// A work, how many points it is done on, and how many times.
+/// What is asked of a part of a node.
+#[derive(Clone, Copy, Debug, PartialEq, Eq)]
+pub enum PartWork {
+    /// Votes are told to a learner that has learnt so many slots.
+    Tellings,
+    /// An acceptor that holds so many votes promises.
+    Promises,
+    /// A proposer at which so many requests wait proposes.
+    Proposals,
+    /// Which of so many entries of a time index overlap a period.
+    Overlapping,
+}
+
+/// A work, how large that is on which it is done, and how many times.
 #[derive(Clone, Copy, Debug)]
 pub struct Task {
     pub work: Work,
-    pub points: u16,
+    /// How many points a moving point has, or how many things a part of a node holds.
+    pub size: u16,
     pub rounds: u32,
 }
 
-/// The task that the words ask for: `WORK POINTS ROUNDS`, or `WORK ROUNDS` for a single point.
+/// The task that the words ask for: `WORK SIZE ROUNDS`, or `WORK ROUNDS` for a size of one.
 pub fn task_of(words: &[String]) -> Option<Task>
     ensures { MatchOption result ((task : Task) → ¬ Asks (map string_bytes words.now) task)
         (Asks (map string_bytes words.now)) }
 {
     match words {
         [work, rounds] => numbered(work.as_str(), "1", rounds.as_str()),
-        [work, points, rounds] => numbered(work.as_str(), points.as_str(), rounds.as_str()),
+        [work, size, rounds] => numbered(work.as_str(), size.as_str(), rounds.as_str()),
         _ => None,
     }
 }
 
 /// The task of this work and these numbers.
-fn numbered(work: &str, points: &str, rounds: &str) -> Option<Task>
-    ensures { MatchOption result ((task : Task) → ¬ Names work.now points.now rounds.now task)
-        (Names work.now points.now rounds.now) }
+fn numbered(work: &str, size: &str, rounds: &str) -> Option<Task>
+    ensures { MatchOption result ((task : Task) → ¬ Names work.now size.now rounds.now task)
+        (Names work.now size.now rounds.now) }
 {
     let work = work_of(work)?;
-    let points = number_of_points(points)?;
+    let size = size_of(size)?;
     let rounds = number_of_rounds(rounds)?;
-    Some(Task {
-        work,
-        points,
-        rounds,
-    })
+    Some(Task { work, size, rounds })
 }
 
-/// The number of points that the word is read as.
-fn number_of_points(word: &str) -> Option<u16>
+/// The size that the word is read as.
+fn size_of(word: &str) -> Option<u16>
     ensures { MatchOption result ((n : ℕ) → ¬ IsReadAs 16 word.now n) (IsReadAs 16 word.now) }
 {
     word.parse::<u16>().ok()
@@ -143,29 +162,39 @@ fn number_of_rounds(word: &str) -> Option<u32>
 }
 
 /// The work of this name.
-#[tactic(auto, using(crate::proofs::NameLemmas::none_named))]
 fn work_of(name: &str) -> Option<Work>
     ensures { MatchOption result ((work : Work) → name.now ≢ name_of work)
         (λ work. name.now ≡ name_of work) }
 {
+    if let Some(work) = scene_work_of(name) {
+        return Some(Work::Scene(work));
+    }
+    part_work_of(name).map(Work::Part)
+}
+
+#[tactic(auto, using(crate::proofs::NameLemmas::none_named))]
+fn scene_work_of(name: &str) -> Option<SceneWork>
+    ensures { MatchOption result ((work : SceneWork) → name.now ≢ scene_name work)
+        (λ work. name.now ≡ scene_name work) }
+{
     if let Some(work) = point_work_of(name) {
-        return Some(Work::Point(work));
+        return Some(SceneWork::Point(work));
     }
     if let Some(work) = query_work_of(name) {
-        return Some(Work::Query(work));
+        return Some(SceneWork::Query(work));
     }
     if let Some(work) = apply_work_of(name) {
-        return Some(Work::Apply(work));
+        return Some(SceneWork::Apply(work));
     }
     if let Some(sent) = encoded_of(name) {
-        return Some(Work::Encode(sent));
+        return Some(SceneWork::Encode(sent));
     }
     if let Some(sent) = decoded_of(name) {
-        return Some(Work::Decode(sent));
+        return Some(SceneWork::Decode(sent));
     }
     match name {
-        "check" => Some(Work::Check),
-        "execute" => Some(Work::Execute),
+        "check" => Some(SceneWork::Check),
+        "execute" => Some(SceneWork::Execute),
         _ => None,
     }
 }
@@ -240,6 +269,19 @@ fn decoded_of(name: &str) -> Option<Sent>
         "frame_decode_promise" => Some(Sent::Promise),
         "frame_decode_accept_put" => Some(Sent::AcceptPut),
         "frame_decode_accepted_append" => Some(Sent::AcceptedAppend),
+        _ => None,
+    }
+}
+
+fn part_work_of(name: &str) -> Option<PartWork>
+    ensures { MatchOption result ((work : PartWork) → name.now ≢ part_name work)
+        (λ work. name.now ≡ part_name work) }
+{
+    match name {
+        "tellings" => Some(PartWork::Tellings),
+        "promises" => Some(PartWork::Promises),
+        "proposals" => Some(PartWork::Proposals),
+        "overlapping" => Some(PartWork::Overlapping),
         _ => None,
     }
 }

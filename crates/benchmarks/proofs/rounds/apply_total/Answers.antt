@@ -3,7 +3,7 @@ use Rattle.store.specs.Operations.{reply, effect}
 use Rattle.store.specs.Replies.{reply_code}
 use Rattle.benchmarks.specs.Rounds.{Answers}
 use Rattle.benchmarks.specs.Fleets.{op_of}
-use Rattle.benchmarks.specs.declared.task.Work.TheVariants.{Apply}
+use Rattle.benchmarks.specs.declared.task.SceneWork.TheVariants.{Apply}
 use Rattle.benchmarks.proofs.Adding.{sum_of_none, sum_of_more}
 use Rattle.benchmarks.proofs.Filling.{after_none, after_more}
 use Rattle.benchmarks.proofs.rounds.apply_total.Goals as goal

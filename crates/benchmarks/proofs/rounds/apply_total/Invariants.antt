@@ -1,7 +1,7 @@
 use Rattle.std.specs.Prelude.{◌≡◌}
 use Rattle.benchmarks.specs.Rounds.{Answers}
 use Rattle.benchmarks.specs.Fleets.{after}
-use Rattle.benchmarks.specs.declared.task.Work.TheVariants.{Apply}
+use Rattle.benchmarks.specs.declared.task.SceneWork.TheVariants.{Apply}
 use Rattle.benchmarks.specs.Sums.{SumsTo}
 use Rattle.benchmarks.proofs.rounds.apply_total.Given as goal
 

@@ -1,5 +1,5 @@
 use Rattle.benchmarks.specs.Rounds.{Answers}
-use Rattle.benchmarks.specs.declared.task.Work.TheVariants.{Check}
+use Rattle.benchmarks.specs.declared.task.SceneWork.TheVariants.{Check}
 use Rattle.benchmarks.proofs.Adding.{sum_of_more}
 use Rattle.benchmarks.proofs.rounds.check_total.Goals as goal
 

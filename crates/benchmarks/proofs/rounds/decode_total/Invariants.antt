@@ -1,5 +1,5 @@
 use Rattle.benchmarks.specs.Rounds.{Answers}
-use Rattle.benchmarks.specs.declared.task.Work.TheVariants.{Decode}
+use Rattle.benchmarks.specs.declared.task.SceneWork.TheVariants.{Decode}
 use Rattle.benchmarks.specs.Sums.{SumsTo}
 use Rattle.benchmarks.proofs.rounds.decode_total.Given as goal
 

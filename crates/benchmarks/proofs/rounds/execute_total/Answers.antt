@@ -2,7 +2,7 @@ use Rattle.std.proofs.Common.{subst}
 use Rattle.sessions.specs.Standing.{StandsFor}
 use Rattle.benchmarks.specs.Commands.{commands}
 use Rattle.benchmarks.specs.Rounds.{Answers}
-use Rattle.benchmarks.specs.declared.task.Work.TheVariants.{Execute}
+use Rattle.benchmarks.specs.declared.task.SceneWork.TheVariants.{Execute}
 use Rattle.benchmarks.proofs.Adding.{sum_of_none, sum_of_more}
 use Rattle.benchmarks.proofs.Executing.{commands_none, commands_more, outcome_at}
 use Rattle.benchmarks.proofs.rounds.execute_total.Goals as goal

@@ -1,7 +1,7 @@
 use Rattle.sessions.specs.Standing.{StandsFor}
 use Rattle.benchmarks.specs.Commands.{commands}
 use Rattle.benchmarks.specs.Rounds.{Answers}
-use Rattle.benchmarks.specs.declared.task.Work.TheVariants.{Execute}
+use Rattle.benchmarks.specs.declared.task.SceneWork.TheVariants.{Execute}
 use Rattle.benchmarks.specs.Sums.{SumsTo}
 use Rattle.benchmarks.proofs.rounds.execute_total.Given as goal
 

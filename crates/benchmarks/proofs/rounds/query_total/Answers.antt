@@ -1,7 +1,7 @@
 use Rattle.std.proofs.Common.{subst}
 use Rattle.benchmarks.specs.Rounds.{Answers}
 use Rattle.benchmarks.specs.Fleets.{IsAnswerLength, query_of}
-use Rattle.benchmarks.specs.declared.task.Work.TheVariants.{Query}
+use Rattle.benchmarks.specs.declared.task.SceneWork.TheVariants.{Query}
 use Rattle.benchmarks.proofs.Adding.{sum_of_more}
 use Rattle.benchmarks.proofs.rounds.query_total.Goals as goal
 

@@ -1,5 +1,5 @@
 use Rattle.benchmarks.specs.Rounds.{Answers}
-use Rattle.benchmarks.specs.declared.task.Work.TheVariants.{Query}
+use Rattle.benchmarks.specs.declared.task.SceneWork.TheVariants.{Query}
 use Rattle.benchmarks.specs.Sums.{SumsTo}
 use Rattle.benchmarks.proofs.rounds.query_total.Given as goal
 
