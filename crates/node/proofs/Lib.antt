@@ -1,6 +1,19 @@
+-- what is learnt, as a list, and its execution
 pub mod Commands
 pub mod Executions
 pub mod Replying
+-- what a node is the meaning of
 pub mod Meanings
 pub mod News
+-- what is sent
 pub mod SendLemmas
+-- what the protocol allows
+pub mod AllowedSends
+pub mod AllowedGoing
+pub mod AllowedCases
+pub mod AllowedLearning
+pub mod AllowedTaking
+pub mod AllowedStopping
+pub mod AllowedLoading
+pub mod RecordsGoOn
+pub mod RefusalLemmas

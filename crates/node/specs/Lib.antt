@@ -6,6 +6,7 @@ pub mod Loading
 pub mod Minds
 pub mod Nodes
 pub mod Outputs
+pub mod Protocol
 pub mod Roles
 pub mod Sending
 pub mod States

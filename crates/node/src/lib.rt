@@ -5,6 +5,7 @@
 //! node says, by the cases of its acceptor, its learner and its proposer; `specs/Nodes.antt` says what becomes of its storage.
 #![tactic(auto)]
 
+mod allowed;
 mod fault;
 mod input;
 mod node;
@@ -12,6 +13,9 @@ mod outputs;
 mod roles;
 mod sends;
 
+pub use allowed::{
+    loading_is_allowed, records_go_on, refusals_go_on, stopping_is_allowed, taking_is_allowed,
+};
 pub use fault::NodeFault;
 pub use input::Input;
 pub use node::Node;

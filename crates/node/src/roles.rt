@@ -376,18 +376,13 @@ impl Roles {
             TakesMessage (mind_of self.now) from (message.Ask slot) (mind_of self.now) said) }
         ensures err { IfErr result (λ fault. fault ≡ NodeFault.Memory) }
     {
-        let Some(command) = self.learner.get(slot) else {
+        let Some(learnt) = self.learner.get(slot) else {
             return Ok(Outputs::silence(alloc));
         };
-        let command = command.clone()?;
+        let command = learnt.clone()?;
         let mut sends = Vec::new(alloc);
-        send(
-            alloc,
-            &mut sends,
-            self.id,
-            from,
-            Message::Decided { slot, command },
-        )?;
+        let decided = Message::Decided { slot, command };
+        send(alloc, &mut sends, self.id, from, decided)?;
         Ok(Outputs::sent(alloc, sends))
     }
 

@@ -1,0 +1,8 @@
+use Rattle.node.proofs.AllowedStopping.{unwritten_allowed, written_allowed}
+use Rattle.node.proofs.allowed.stopping_is_allowed.Goals as goal
+
+pub returns-clause-unwritten : goal.returns-clause-unwritten
+returns-clause-unwritten c = unwritten_allowed
+
+pub returns-clause-written : goal.returns-clause-written
+returns-clause-written c = written_allowed
