@@ -1,5 +1,6 @@
 -- What is learnt is executed, slot by slot.
-use Rattle.std.proofs.Common.{◌≡◌, true, false, ℕ, suc, ◌+◌, ◌-◌, ◌<◌, ◌≤◌, List, [], length, Option, Some, None, IsSome, refl, sym, ap, ◌∙◌, subst, arith, rules}
+use Rattle.std.proofs.Common.{◌≡◌, true, false, ℕ, suc, ◌+◌, ◌-◌, ◌<◌, ◌≤◌, List, [], length, Option, Some, None, IsSome, refl, sym, ap}
+use Rattle.std.proofs.Common.{◌∙◌, subst, arith, rules}
 use Rattle.sessions.specs.Machines.{MachineState}
 use Rattle.sessions.specs.declared.command.Command.{Command}
 use Rattle.learner.specs.Prefixes.{IsPrefix}

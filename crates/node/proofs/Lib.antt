@@ -5,6 +5,8 @@ pub mod Replying
 -- what a node is the meaning of
 pub mod Meanings
 pub mod News
+-- a node stays the node that it is
+pub mod Members
 -- what is sent
 pub mod SendLemmas
 -- what the protocol allows

@@ -1,5 +1,7 @@
 -- A node goes on being the meaning of what it has learnt.
-use Rattle.std.proofs.Common.{◌≡◌, ℕ, ◌+◌, ◌-◌, ◌<◌, ◌≤◌, Bool, true, false, List, [], ◌++◌, length, Option, Some, None, IsSome, IfSome, IfOk, Result, Ok, Err, Contains, inl, inr, refl, sym, ap, ◌∙◌, subst, append_assoc, arith, rules}
+use Rattle.std.proofs.Common.{◌≡◌, ℕ, ◌+◌, ◌-◌, ◌<◌, ◌≤◌, Bool, true, false, List, [], ◌++◌, length, Option, Some, None, IsSome, IfSome}
+use Rattle.std.proofs.Common.{IfOk, Result, Ok, Err, Contains, inl, inr, refl, sym, ap, ◌∙◌, subst, append_assoc, append-nil, arith}
+use Rattle.std.proofs.Common.{rules}
 use Rattle.std.proofs.lemmas.List.{length-append}
 use Rattle.std.proofs.lemmas.Bool.Decides.{eqb_tells}
 use Rattle.synod.specs.Records.{put}
@@ -41,6 +43,10 @@ goes_on_same base old new said h learning machine none = record {
         (subst (λ m. StandsFor m (executed_from base old)) (sym machine) h.stands);
   };
   position_ = subst (λ (l : Learning). prefix old.learning ≤ prefix l) (sym learning) (omega arith);
+  more = (
+    [],
+    ap (λ (l : Learning). base ++ commands l.learnt l.first (prefix l - l.first)) learning ∙ sym (append-nil (executed_from base old)),
+  );
   replies_ = λ e there. absurd (let none_there : Contains [] e = subst (λ es. Contains es e) none there in search (rules, none_there));
 }
 
@@ -94,26 +100,30 @@ same_prefix : (a b : Learning) → a.learnt ≡ b.learnt → a.first ≡ b.first
 unfolding prefix
 same_prefix a b learnt first = rw learnt (rw first refl)
 
+-- ---- as many commands as the position
+module _ (base : List Command) (m : Mind) (h : IsMeaningOf base m) where
+  pub meaning_prefix : IsPrefix m.learning.learnt m.learning.first (position m)
+  meaning_prefix = prefix_is m.learning h.in_log
+
+  pub learnt_below : (s : ℕ) → m.learning.first ≤ s → s < m.learning.first + (position m - m.learning.first) → IsSome (m.learning.learnt s)
+  learnt_below s from to = meaning_prefix.learnt_to.below s from (omega (arith, to, meaning_prefix.learnt_to.from))
+
+  pub as_many : length (executed_from base m) ≡ position m
+  as_many =
+      let there : length (commands m.learning.learnt m.learning.first (position m - m.learning.first)) ≡ position m - m.learning.first =
+      commands_length m.learning.learnt m.learning.first (position m - m.learning.first) learnt_below in
+      let both : length (executed_from base m)
+      ≡ length base + length (commands m.learning.learnt m.learning.first (position m - m.learning.first)) =
+      length-append base _ in
+      omega (arith, there, both, h.begun, meaning_prefix.learnt_to.from)
+
 -- ---- what is learnt by now is what was learnt, and the news
 module _ (base : List Command) (old : Mind) (l : Learning) (h : IsMeaningOf base old) (keeps : KeepsLearnt old.learning l) where
   abbrev before : ℕ
   before = position old
 
   is_prefix : IsPrefix old.learning.learnt old.learning.first before
-  is_prefix = prefix_is old.learning h.in_log
-
-  learnt_below : (s : ℕ) → old.learning.first ≤ s → s < old.learning.first + (before - old.learning.first)
-      → IsSome (old.learning.learnt s)
-  learnt_below s from to = is_prefix.learnt_to.below s from (omega (arith, to, is_prefix.learnt_to.from))
-
-  -- there are as many as the position
-  as_many : length (executed_from base old) ≡ before
-  as_many =
-      let there : length (commands old.learning.learnt old.learning.first (before - old.learning.first)) ≡ before - old.learning.first =
-      commands_length old.learning.learnt old.learning.first (before - old.learning.first) learnt_below in
-      let both : length (executed_from base old) ≡ length base + length (commands old.learning.learnt old.learning.first (before - old.learning.first)) =
-      length-append base _ in
-      omega (arith, there, both, h.begun, is_prefix.learnt_to.from)
+  is_prefix = meaning_prefix base old h
 
   abbrev old_commands : List Command
   old_commands = commands old.learning.learnt old.learning.first (before - old.learning.first)
@@ -126,7 +136,7 @@ module _ (base : List Command) (old : Mind) (l : Learning) (h : IsMeaningOf base
       let at : old.learning.first + (before - old.learning.first) ≡ before = omega (arith, is_prefix.learnt_to.from) in
       let same : commands l.learnt old.learning.first (before - old.learning.first) ≡ old_commands =
       commands_same l.learnt old.learning.learnt old.learning.first (before - old.learning.first)
-      (λ s from to. keeps.still s (learnt_below s from to)) in
+      (λ s from to. keeps.still s (learnt_below base old h s from to)) in
       let all : commands l.learnt l.first (prefix l - l.first) ≡ old_commands ++ news old l =
       ap (λ (i : ℕ). commands l.learnt i (prefix l - i)) first
       ∙ ap (λ (k : ℕ). commands l.learnt old.learning.first k) n
@@ -148,7 +158,8 @@ module _ (base : List Command) (old : Mind) (l : Learning) (h : IsMeaningOf base
           stands = rw whole (k.stands.stands (executed_from base old) h.stands);
         };
         position_ = subst (λ (x : Learning). before ≤ prefix x) (sym learning) keeps.grows;
-        replies_ = λ e there. rw whole (k.replies.replies_ (executed_from base old) h.stands as_many e there);
+        more = (news old l, whole);
+        replies_ = λ e there. rw whole (k.replies.replies_ (executed_from base old) h.stands (as_many base old h) e there);
       }
 
   -- nothing is newly learnt, so the position stays
@@ -173,6 +184,7 @@ module _ (base : List Command) (old : Mind) (l : Learning) (h : IsMeaningOf base
           stands = rw whole (subst (λ m. StandsFor m (executed_from base old)) (sym machine) h.stands);
         };
         position_ = subst (λ (x : Learning). before ≤ prefix x) (sym learning) keeps.grows;
+        more = ([], whole ∙ sym (append-nil (executed_from base old)));
         replies_ = λ e there. absurd (let none : said.replies ≡ [] = ap (λ (r : Response). r.replies) k.1 in
             let none_there : Contains [] e = subst (λ es. Contains es e) none there in search (rules, none_there));
       }

@@ -42,7 +42,7 @@ pub record AddsReplies (m : MachineState) (slot : ℕ) (cs : List Command) (old 
 abbrev pub executed_from : List Command → Mind → List Command
 executed_from base m = base ++ commands m.learning.learnt m.learning.first (position m - m.learning.first)
 
--- the node is their meaning, and they are as many as its position
+-- the node is their meaning; they are as many as its position, as the law `meanings_are_as_long_as_positions` says
 pub record IsMeaningOf (base : List Command) (m : Mind) : Type 0 where
   pub begun : length base ≡ m.learning.first
   pub in_log : m.learning.first ≤ SLOTS
@@ -53,4 +53,6 @@ pub record IsMeaningOf (base : List Command) (m : Mind) : Type 0 where
 pub record GoesOnFrom (base : List Command) (old new : Mind) (said : Response) : Type 0 where
   pub meaning : IsMeaningOf base new
   pub position_ : position old ≤ position new
+  -- the list goes on: nothing that was learnt changes
+  pub more : (cs : List Command) × (executed_from base new ≡ executed_from base old ++ cs)
   pub replies_ : (e : Executed) → Contains said.replies e → IsReplyOf (executed_from base new) e

@@ -22,6 +22,12 @@ pub record IsMindOf (id nodes : ℕ) (m : Mind) : Type 0 where
   pub learning : m.learning.nodes ≡ nodes
   pub proposing : (m.proposing.id ≡ id) × (m.proposing.nodes ≡ nodes)
 
+-- nothing is learnt, nothing waits, no campaign is on its way, and nothing is executed
+pub record IsFresh (id nodes : ℕ) (m : Mind) : Type 0 where
+  pub learning : m.learning ≡ unlearnt nodes
+  pub proposing : m.proposing ≡ loaded id nodes m.proposing.round
+  pub machine : StandsFor m.machine []
+
 -- a proposer that has just loaded the record of its round, if there is one
 abbrev pub LoadsRound : Option (List ℕ) → ℕ → ℕ → Proposing → Type 0
 LoadsRound None id nodes p = p ≡ loaded id nodes 0
@@ -50,6 +56,8 @@ pub record Restarts {S : Type 0} (storages : Ghosts S)
     (old : NodeState S) (result : Result (Unit {0}) NodeFault) (new : NodeState S) : Type 0 where
   pub leaves : new ≡ record old { storage = new.storage; up = new.up }
   pub own : ForSome new.up (IsMindOf old.id old.nodes)
+  -- whatever the storage is: what was not in the records is gone
+  pub fresh : ForSome new.up (IsFresh old.id old.nodes)
   pub up : OnOk result (IsSome new.up × storages.reads old.storage new.storage)
   pub loads : storages.IsHonest new.storage → OnOk result
       (IfSome new.up (IsLoaded (storages.contents old.storage) old.id old.nodes))

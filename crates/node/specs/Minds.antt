@@ -1,5 +1,5 @@
 -- What a node holds while it is up, and which inputs it refuses.
-use Rattle.std.specs.Prelude.{ℕ, ◌^◌, nat_le, length, not, Bool, Option, Some, None, if◌then◌else◌}
+use Rattle.std.specs.Prelude.{◌≡◌, ℕ, ◌^◌, nat_le, length, not, Bool, true, false, Option, Some, None, if◌then◌else◌}
 use Rattle.std.specs.List.{list_any}
 use Rattle.synod.specs.declared.slot.TheConstants.{SLOTS}
 use Rattle.store.specs.declared.op.Op.{Op}
@@ -10,7 +10,7 @@ use Rattle.learner.specs.Learning.{Learning, prefix}
 use Rattle.proposer.specs.Proposing.{Proposing, next_round}
 use Rattle.proposer.specs.Requests.{is_of}
 use Rattle.proposer.specs.declared.waiting.TheConstants.{MOST_WAITING}
-use Rattle.node.specs.Inputs.{is_short}
+use Rattle.node.specs.Inputs.{is_short, concerns}
 use Rattle.node.specs.declared.fault.NodeFault.{NodeFault}
 use Rattle.node.specs.declared.fault.NodeFault.TheVariants as fault
 use Rattle.node.specs.declared.input.Input.{Input}
@@ -61,3 +61,11 @@ refuses m (input.Submit client number op) = refuses_submit m (asked client numbe
 refuses m (input.Message e) = None
 refuses m input.Timeout = refuses_timeout m
 refuses m input.Tick = None
+
+-- ---- of which inputs nothing comes, and nothing is written: a request that waits already, and an envelope that doesn't concern
+-- the node
+abbrev pub Ignores : Mind → Input → Type 0
+Ignores m (input.Submit client number op) = (refuses_submit m (asked client number op) ≡ None) × (waits m client number ≡ true)
+Ignores m (input.Message e) = concerns m.id m.nodes e ≡ false
+Ignores m input.Timeout = ⊥
+Ignores m input.Tick = ⊥

@@ -1,5 +1,5 @@
 -- One node: its records, and what it holds while it is up.
-use Rattle.std.specs.Prelude.{◌≡◌, ℕ, ◌⊎◌, List, Some, None, Result, Err, IfSome, IfOk, IfErr, MatchBool, option_map}
+use Rattle.std.specs.Prelude.{◌≡◌, ℕ, ◌⊎◌, List, Some, None, Result, Ok, Err, IfSome, IfOk, IfErr, MatchBool, option_map}
 use Rattle.stable.specs.declared.stable.Stable.{Ghosts}
 use Rattle.store.specs.Answers.{IsAnswer}
 use Rattle.store.specs.declared.query.Query.{Query}
@@ -12,8 +12,8 @@ use Rattle.node.specs.declared.input.Input.{Input}
 use Rattle.node.specs.declared.node.Node.{Node}
 use Rattle.node.specs.Composition.{IsMeaningOf, GoesOnFrom, executed_from}
 use Rattle.node.specs.Faults.{is_stop_fault}
-use Rattle.node.specs.Minds.{Mind, position, refuses}
-use Rattle.node.specs.Outputs.{Response}
+use Rattle.node.specs.Minds.{Mind, position, refuses, Ignores}
+use Rattle.node.specs.Outputs.{Response, silence}
 use Rattle.node.specs.Roles.{mind_of}
 use Rattle.node.specs.Taking.{Writes, Takes}
 pub use Rattle.node.specs.States.{NodeState}
@@ -82,6 +82,8 @@ pub record NodeSteps {S : Type 0} (storages : Ghosts S)
   pub taken : IfSome old.up (λ m. IfOk result (λ said. TakesInput storages old m input said new))
   pub refused : IfSome old.up (λ m. IfErr result (λ f. MatchBool (is_stop_fault f)
       (StopsOnInput storages old m input f new) (RefusesInput old m input f new)))
+  -- what is to be ignored is ignored
+  pub ignored : IfSome old.up (λ m. Ignores m input → (result ≡ Ok silence) × (new ≡ old))
   -- what is to be refused is refused
   pub refuses_ : IfSome old.up (λ m. IfSome (refuses m input) (λ f. result ≡ Err f))
 

@@ -9,7 +9,8 @@ use Rattle.acceptor.specs.declared.answer.Answer.{Answer}
 use Rattle.acceptor.specs.Accepting.{Write, AnswersPrepare, prepare_write, after_prepare, accept_answer, after_accept, IsAcceptWrite}
 use Rattle.learner.specs.Learning.{Learning, prefix, learnt_at, HearsVote, HearsDecided}
 use Rattle.learner.specs.declared.learned.Learned.{Learned}
-use Rattle.proposer.specs.Proposing.{Proposing, next_round, StartsCampaign, with_promised, after_nack, after_learned, is_led, proposes, sends_again}
+use Rattle.proposer.specs.Proposing.{Proposing, next_round, StartsCampaign, with_promised, after_nack, after_learned, is_led, proposes}
+use Rattle.proposer.specs.Proposing.{sends_again}
 use Rattle.proposer.specs.declared.outgoing.Outgoing.{Outgoing}
 use Rattle.wire.specs.Promises.{Promised}
 use Rattle.wire.specs.declared.frames.envelope.Envelope.{Envelope}

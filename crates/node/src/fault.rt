@@ -7,7 +7,7 @@ ghost use Rattle.node.specs.declared.fault.NodeFault.TheVariants as node_fault;
 use proposer::{SubmitFault, TimeoutFault};
 use sessions::TooLong;
 use stable::StableFault;
-use std::alloc::{AllocError, AllocFailed};
+use std::alloc::AllocError;
 use std::error::Error;
 use std::fmt;
 
@@ -124,14 +124,6 @@ impl From<AllocError> for NodeFault {
     ghost from_gives = { λ _ fault. fault ≡ node_fault.Memory };
 
     fn from(_: AllocError) -> NodeFault {
-        NodeFault::Memory
-    }
-}
-
-impl<T: Drop> From<AllocFailed<T>> for NodeFault {
-    ghost from_gives = { λ _ fault. fault ≡ node_fault.Memory };
-
-    fn from(_: AllocFailed<T>) -> NodeFault {
         NodeFault::Memory
     }
 }

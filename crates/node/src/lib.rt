@@ -8,6 +8,7 @@
 mod allowed;
 mod fault;
 mod input;
+mod laws;
 mod node;
 mod outputs;
 mod roles;
@@ -18,6 +19,7 @@ pub use allowed::{
 };
 pub use fault::NodeFault;
 pub use input::Input;
+pub use laws::{meanings_are_as_long_as_positions, members_stay};
 pub use node::Node;
 pub use outputs::{Executed, LogEntry, Outputs, Text};
 

@@ -22,7 +22,8 @@ pub struct Node<S> {
 
 impl<S: Stable> Node<S> {
     ghost use Rattle.node.specs.Composition.{IsMeaningOf};
-    ghost use Rattle.node.specs.Loading.{IsLoaded, IsMember, Restarts};
+    ghost use Rattle.learner.specs.Prefixes.{IsPrefix};
+    ghost use Rattle.node.specs.Loading.{IsLoaded, IsFresh, IsDamaged, IsMember, Restarts};
     ghost use Rattle.node.specs.Minds.{position};
     ghost use Rattle.node.specs.Nodes.{state_of, NodeSteps, NodeAnswers, StaysMeaning, AnswersMeaning};
 
@@ -31,6 +32,10 @@ impl<S: Stable> Node<S> {
         ensures member { IsMember id nodes (state_of result) }
         ensures loads { S.IsHonest (state_of result).storage → IfSome (state_of result).up
             (IsLoaded (S.contents storage) id nodes) }
+        ensures fresh { IfSome (state_of result).up (IsFresh id nodes) }
+        ensures sound { S.IsHonest (state_of result).storage → IsSome (state_of result).up
+            → ¬ (IsDamaged S.Stable storage) }
+        ensures settled { IsSome (state_of result).up → S.IsSettled (state_of result).storage }
         ensures meaning { IfSome (state_of result).up (IsMeaningOf []) }
         ensures up { IsSome (state_of result).up → S.reads storage (state_of result).storage }
         ensures down { (state_of result).up ≡ None → S.reads storage (state_of result).storage
@@ -74,7 +79,8 @@ impl<S: Stable> Node<S> {
 
     /// The first slot that it hasn't learnt; 0 while it is down.
     pub fn position(&self) -> u32
-        ensures { MatchOption (state_of self.now).up (result ≡ 0) (λ m. result ≡ position m) }
+        ensures value { MatchOption (state_of self.now).up (result ≡ 0) (λ m. result ≡ position m) }
+        ensures first { IfSome (state_of self.now).up (λ m. IsPrefix m.learning.learnt m.learning.first (position m)) }
     {
         match &self.roles {
             Some(roles) => roles.position(),

@@ -1,6 +1,6 @@
 //! What a node holds while it is up.
 
-ghost use Rattle.std.specs.Prelude.{◌≡◌, ◌≤◌, ◌⊎◌, [], Some, IfOk, OnOk, IfErr, IfSome, IsErrOf, IsSome};
+ghost use Rattle.std.specs.Prelude.{◌≡◌, ◌≤◌, ◌⊎◌, [], Some, IfOk, OnOk, IfErr, IfSome, IsErrOf, IsSome, None, true, false};
 ghost use Rattle.store.specs.Answers.{IsAnswer};
 ghost use Rattle.sessions.specs.declared.command.Command.{Command};
 ghost use Rattle.byteorder.specs.Endian.{big_bytes};
@@ -42,13 +42,15 @@ pub struct Roles {
 }
 
 impl Roles {
-    ghost use Rattle.node.specs.Loading.{IsLoaded, IsDamaged, IsMindOf};
-    ghost use Rattle.node.specs.Minds.{Mind, position, asked, refuses, refuses_submit, refuses_timeout};
+    ghost use Rattle.node.specs.Loading.{IsLoaded, IsFresh, IsDamaged, IsMindOf};
+    ghost use Rattle.node.specs.Inputs.{concerns};
+    ghost use Rattle.node.specs.Minds.{Mind, position, asked, waits, refuses, refuses_submit, refuses_timeout, Ignores};
     ghost use Rattle.node.specs.Roles.{mind_of};
     ghost use Rattle.node.specs.Nodes.{HasMade, HasFailedToMake};
     ghost use Rattle.node.specs.Outputs.{sent, silence};
     ghost use Rattle.node.specs.Sending.{to_one, ask_sends};
-    ghost use Rattle.node.specs.Taking.{Writes, WritesOnMessage, Takes, TakesMessage, Learns, executing_of, with_executing, learnt_from, with_proposer, proposer_sends, after_promise, after_submit, proposed};
+    ghost use Rattle.node.specs.Taking.{Writes, WritesOnMessage, Takes, TakesMessage, Learns, with_proposer, proposer_sends, proposed};
+    ghost use Rattle.node.specs.Taking.{executing_of, with_executing, learnt_from};
 
     /// What the records leave of a node.
     pub fn load<S: Stable>(
@@ -60,6 +62,7 @@ impl Roles {
         ensures loads { S.IsHonest storage.new → IfOk result (λ roles.
             IsLoaded (S.contents storage.old) id nodes (mind_of roles)) }
         ensures own { IfOk result (λ roles. IsMindOf id nodes (mind_of roles)) }
+        ensures fresh { IfOk result (λ roles. IsFresh id nodes (mind_of roles)) }
         ensures meaning { IfOk result (λ roles. IsMeaningOf [] (mind_of roles)) }
         ensures sound { S.IsHonest storage.new → OnOk result (¬ (IsDamaged S.Stable storage.old)) }
         ensures reads { OnOk result (S.reads storage.old storage.new) }
@@ -120,6 +123,10 @@ impl Roles {
         ensures err { IfErr result (λ fault. (fault ≡ NodeFault.Device) ⊎ (fault ≡ NodeFault.Memory)
             ⊎ (refuses (mind_of self.old) input ≡ Some fault)) }
 
+        // Of what is ignored nothing comes.
+        ensures ignores { Ignores (mind_of self.old) input → (result ≡ Ok silence)
+            × (mind_of self.new ≡ mind_of self.old) × (storage.new ≡ storage.old) }
+
         // What a failure leaves.
         ensures device { IsErrOf result NodeFault.Device
             → HasFailedToMake S.Stable storage.old storage.new (Writes (mind_of self.old) input) }
@@ -146,6 +153,9 @@ impl Roles {
             Takes (mind_of self.old) (input.Submit client number op) (mind_of self.new) said) }
         ensures refuses { IfSome (refuses_submit (mind_of self.old) (asked client number op)) (λ fault.
             (result ≡ Err fault) × (mind_of self.new ≡ mind_of self.old)) }
+        ensures repeats { refuses_submit (mind_of self.old) (asked client number op) ≡ None
+            → waits (mind_of self.old) client number ≡ true
+            → (result ≡ Ok silence) × (mind_of self.new ≡ mind_of self.old) }
         ensures err { IfErr result (λ fault. (fault ≡ NodeFault.Memory)
             ⊎ (refuses_submit (mind_of self.old) (asked client number op) ≡ Some fault)) }
     {
@@ -206,6 +216,8 @@ impl Roles {
     ) -> Result<Outputs, NodeFault>
         ensures takes { IfOk result (λ said.
             Takes (mind_of self.old) (input.Message envelope) (mind_of self.new) said) }
+        ensures ignores { concerns self.old.id self.old.nodes envelope ≡ false → (result ≡ Ok silence)
+            × (mind_of self.new ≡ mind_of self.old) × (storage.new ≡ storage.old) }
         ensures written { OnOk result (HasMade S.Stable storage.old storage.new
             (Writes (mind_of self.old) (input.Message envelope))) }
         ensures err { IfErr result (λ fault. (fault ≡ NodeFault.Device) ⊎ (fault ≡ NodeFault.Memory)) }

@@ -8,6 +8,7 @@ use super::{Row, rows_follow, rows_hold};
 use crate::{Input, Node, NodeFault};
 use stable::MemStable;
 use std::alloc::Global;
+use std::process::Abort;
 use std::test::Fail;
 use store::Query;
 use wire::Nodes;
@@ -178,10 +179,26 @@ fn the_log_ends(rt: HostRuntime) -> Result<(), Fail> {
     let outputs = member.step(alloc, Input::Message(first))?;
     assert!(rt; outputs.learnt.is_some() && outputs.sends.is_empty());
     assert_eq!(rt; member.position(), 65_536);
-    for input in [request()?, too_long(alloc)?, Input::Timeout] {
-        let fault = member.step(alloc, input).err();
-        assert_eq!(rt; fault, Some(NodeFault::LogFull));
-    }
+    is_full(&rt, alloc, &mut member, request()?)?;
+    is_full(&rt, alloc, &mut member, too_long(alloc)?)?;
+    is_full(&rt, alloc, &mut member, Input::Timeout)?;
+    ends(&rt, alloc, &mut member)
+}
+
+/// The node refuses the input, since its log is full.
+fn is_full(
+    rt: &impl Abort,
+    alloc: Global,
+    member: &mut Node<MemStable>,
+    input: Input,
+) -> Result<(), Fail> {
+    let fault = member.step(alloc, input).err();
+    assert_eq!(rt; fault, Some(NodeFault::LogFull));
+    Ok(())
+}
+
+/// The node asks for no further slot. It answers what it is asked.
+fn ends(rt: &impl Abort, alloc: Global, member: &mut Node<MemStable>) -> Result<(), Fail> {
     let outputs = member.step(alloc, Input::Tick)?;
     assert!(rt; outputs.sends.is_empty());
     let asked = envelope(1, 0, Ask(65_535))?;

@@ -1,7 +1,7 @@
 //! Larger fleets, frames that are lost, and what is sent again.
 
 use super::fleet::Step::{Deliver, Flush, Hear, Look, Lose, Submit, Tick, Timeout};
-use super::letters::Said::{Decided, Nack, Promise};
+use super::letters::Said::{Accepted, Decided, Nack, Promise};
 use super::{Row, rows_hold};
 use std::test::Fail;
 
@@ -182,4 +182,42 @@ const GATHERED_ON: [Row; 9] = [
 #[test]
 fn campaigns_gather_further_on(rt: HostRuntime) -> Result<(), Fail> {
     rows_hold(&rt, rt.alloc(), 3, &GATHERED_ON)
+}
+
+// Below a slot that is learnt every gap is filled with a no-op, whatever waits. What is learnt meanwhile isn't sent again.
+const GAPS_FILLED: [Row; 11] = [
+    (
+        Hear(0, 1, Decided(2, (7, 1))),
+        "learn 0 2 7:1; send 0 ask 0 to 1",
+    ),
+    (Submit(0, 8, 1), ""),
+    (Timeout(0), "send 0 prepare 1.0 0 to 0 1 2"),
+    (Hear(0, 1, Promise((1, 0), 0, 65_535, &[])), ""),
+    (
+        Hear(0, 2, Promise((1, 0), 0, 65_535, &[])),
+        "send 0 accept 1.0 0 noop to 0 1 2; send 0 accept 1.0 1 noop to 0 1 2; send 0 accept 1.0 3 8:1 to 0 1 2",
+    ),
+    (
+        Hear(0, 1, Decided(0, (0, 0))),
+        "learn 0 0 noop; send 0 ask 1 to 1",
+    ),
+    (
+        Tick(0),
+        "send 0 accept 1.0 1 noop to 0 1 2; send 0 accept 1.0 3 8:1 to 0 1 2; send 0 ask 1 to 1 2",
+    ),
+    (
+        Hear(0, 1, Decided(1, (0, 0))),
+        "learn 0 1 noop; send 0 ask 3 to 1",
+    ),
+    (Hear(0, 1, Accepted((1, 0), 3, (8, 1))), ""),
+    (
+        Hear(0, 2, Accepted((1, 0), 3, (8, 1))),
+        "learn 0 3 8:1; reply 0 8:1 21 4",
+    ),
+    (Look(0), "0 up 4 round"),
+];
+
+#[test]
+fn gaps_are_filled(rt: HostRuntime) -> Result<(), Fail> {
+    rows_hold(&rt, rt.alloc(), 3, &GAPS_FILLED)
 }

@@ -114,3 +114,27 @@ const TWO_REQUESTS: [Row; 25] = [
 fn two_requests(rt: HostRuntime) -> Result<(), Fail> {
     rows_hold(&rt, rt.alloc(), 3, &TWO_REQUESTS)
 }
+
+// A request waits at two nodes, and is executed once: both reply. It is proposed again where one of them is asked again, and
+// not twice.
+const AT_TWO_NODES: [Row; 11] = [
+    (Submit(0, 7, 1), ""),
+    (Submit(1, 7, 1), ""),
+    (Timeout(0), "send 0 prepare 1.0 0 to 0 1 2"),
+    (
+        Flush,
+        "learn 0 0 7:1; reply 0 7:1 21 1; learn 1 0 7:1; reply 1 7:1 21 1; learn 2 0 7:1",
+    ),
+    (Restart(1), ""),
+    (Submit(1, 7, 1), ""),
+    (Timeout(1), "send 1 prepare 1.1 0 to 0 1 2"),
+    (Deliver(18), "send 0 promise 1.1 0 65535 (1.0 0 7:1) to 1"),
+    (Flush, "learn 1 0 7:1; reply 1 7:1 21 1"),
+    (Count(1), "answer 1 1 count 0"),
+    (Look(1), "1 up 1 promise vote 0 round promise vote 0"),
+];
+
+#[test]
+fn a_request_at_two_nodes(rt: HostRuntime) -> Result<(), Fail> {
+    rows_hold(&rt, rt.alloc(), 3, &AT_TWO_NODES)
+}

@@ -1,6 +1,6 @@
 use Rattle.std.proofs.Common.{◌≡◌, Some, refl, ap, rules, subst}
 use Rattle.std.proofs.lemmas.Option.{same_Some}
-use Rattle.node.specs.Loading.{IsMindOf}
+use Rattle.node.specs.Loading.{IsFresh, IsMindOf}
 use Rattle.node.specs.Minds.{Mind}
 use Rattle.node.specs.Roles.{mind_of}
 use Rattle.node.proofs.node.Node.restart.Goals as goal
@@ -20,6 +20,8 @@ returns-clause-restarts g c =
       };
       own = λ m up. subst (λ (x : Mind). IsMindOf c.args.self.now.id c.args.self.now.nodes x) (same_Some _ m up)
           (rw id at (rw nodes at c.in_ok-roles.ensures.own));
+      fresh = λ m up. subst (λ (x : Mind). IsFresh c.args.self.now.id c.args.self.now.nodes x) (same_Some _ m up)
+          (rw id at (rw nodes at c.in_ok-roles.ensures.fresh));
       up = (refl, rw storage at c.in_ok-roles.ensures.reads);
       loads = λ honest. rw id at (rw nodes at (rw storage at (c.in_ok-roles.ensures.loads honest)));
       down = search rules;
@@ -38,6 +40,7 @@ returns-in_err-roles-clause-restarts g c =
     record {
       leaves = search rules;
       own = search rules;
+      fresh = search rules;
       up = search rules;
       loads = search rules;
       down = search rules;

@@ -6,7 +6,8 @@ use Rattle.node.specs.Executing.{executed, with_command}
 use Rattle.node.specs.Minds.{Mind}
 use Rattle.node.specs.Roles.{mind_of}
 use Rattle.node.specs.Taking.{executing_of, learnt_from}
-use Rattle.node.proofs.Executions.{rest_done, stands_done, replies_done, all_done, none_left, only_done, learnt_there, stands_begun, replies_begun}
+use Rattle.node.proofs.Executions.{rest_done, stands_done, replies_done, all_done, none_left, only_done, learnt_there, stands_begun}
+use Rattle.node.proofs.Executions.{replies_begun}
 use Rattle.node.proofs.roles.Roles.execute.Goals as goal
 
 -- nothing is done yet

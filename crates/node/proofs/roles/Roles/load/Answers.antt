@@ -62,3 +62,10 @@ returns-clause-settled g c =
 
 pub returns-clause-meaning : goal.returns-clause-meaning
 returns-clause-meaning g c = meaning_begun _ c.args.nodes c.new.ensures c.new-2.ensures.stands
+
+pub returns-clause-fresh : goal.returns-clause-fresh
+returns-clause-fresh g c = record {
+  learning = c.new.ensures;
+  proposing = c.in_ok-proposer.ensures.own;
+  machine = c.new-2.ensures.stands;
+}
