@@ -1,17 +1,11 @@
 //! What a node refuses, and with which number.
 
+use super::fleet::Fleet;
 use super::fleet::Step::{Count, Flush, Hear, Look, Put, Restart, Submit, Tick, Timeout};
-use super::fleet::{Fleet, ride};
-use super::letters::Said::{Ask, Decided, Nack};
-use super::letters::{envelope, node, number, removal};
+use super::letters::Said::{Decided, Nack};
 use super::{Row, rows_follow, rows_hold};
-use crate::{Input, Node, NodeFault};
-use stable::MemStable;
-use std::alloc::Global;
-use std::process::Abort;
+use crate::NodeFault;
 use std::test::Fail;
-use store::Query;
-use wire::Nodes;
 
 // Each fault with its number, whether the node goes down with it, and its text.
 const FAULTS: [(NodeFault, u8, bool, &str); 8] = [
@@ -138,74 +132,4 @@ const REFUSED_ROUND: [Row; 5] = [
 fn rounds_are_used_up(rt: HostRuntime) -> Result<(), Fail> {
     rows_hold(&rt, rt.alloc(), 3, &LAST_ROUND)?;
     rows_hold(&rt, rt.alloc(), 3, &REFUSED_ROUND)
-}
-
-/// A node of three that was told of every slot but the first, and at which client 7's first request waits.
-fn told_all_but_one(alloc: Global) -> Result<Node<MemStable>, Fail> {
-    let nodes = Nodes::new(3).ok_or("nodes")?;
-    let mut member = Node::start(alloc, MemStable::new(alloc), node(0)?, nodes);
-    let _ = member.step(alloc, request()?)?;
-    for slot in 1..65_536 {
-        let told = envelope(1, 0, Decided(slot, (0, 0)))?;
-        let _ = member.step(alloc, Input::Message(told))?;
-    }
-    Ok(member)
-}
-
-/// Client 7's first request.
-fn request() -> Result<Input, Fail> {
-    Ok(Input::Submit {
-        client: 7,
-        number: number(1)?,
-        op: removal()?,
-    })
-}
-
-/// Client 7's second request, which puts a sequence that is too long.
-fn too_long(alloc: Global) -> Result<Input, Fail> {
-    Ok(Input::Submit {
-        client: 7,
-        number: number(2)?,
-        op: ride(alloc, 513)?,
-    })
-}
-
-#[test]
-fn the_log_ends(rt: HostRuntime) -> Result<(), Fail> {
-    let alloc = rt.alloc();
-    let mut member = told_all_but_one(alloc)?;
-    assert_eq!(rt; member.position(), 0);
-    let first = envelope(1, 0, Decided(0, (8, 1)))?;
-    let outputs = member.step(alloc, Input::Message(first))?;
-    assert!(rt; outputs.learnt.is_some() && outputs.sends.is_empty());
-    assert_eq!(rt; member.position(), 65_536);
-    is_full(&rt, alloc, &mut member, request()?)?;
-    is_full(&rt, alloc, &mut member, too_long(alloc)?)?;
-    is_full(&rt, alloc, &mut member, Input::Timeout)?;
-    ends(&rt, alloc, &mut member)
-}
-
-/// The node refuses the input, since its log is full.
-fn is_full(
-    rt: &impl Abort,
-    alloc: Global,
-    member: &mut Node<MemStable>,
-    input: Input,
-) -> Result<(), Fail> {
-    let fault = member.step(alloc, input).err();
-    assert_eq!(rt; fault, Some(NodeFault::LogFull));
-    Ok(())
-}
-
-/// The node asks for no further slot. It answers what it is asked.
-fn ends(rt: &impl Abort, alloc: Global, member: &mut Node<MemStable>) -> Result<(), Fail> {
-    let outputs = member.step(alloc, Input::Tick)?;
-    assert!(rt; outputs.sends.is_empty());
-    let asked = envelope(1, 0, Ask(65_535))?;
-    let outputs = member.step(alloc, Input::Message(asked))?;
-    assert_eq!(rt; outputs.sends.len(), 1);
-    let (position, text) = member.query(alloc, &Query::Count)?;
-    assert_eq!(rt; position, 65_536);
-    assert_eq!(rt; text.as_bytes(), b"count 0".as_slice());
-    Ok(())
 }
