@@ -5,6 +5,7 @@ use Rattle.synod.specs.declared.slot.TheConstants.{SLOTS}
 use Rattle.store.specs.declared.op.Op.{Op}
 use Rattle.sessions.specs.Asked.{Asked}
 use Rattle.sessions.specs.Machines.{MachineState}
+use Rattle.sessions.specs.declared.command.Command.{Command}
 use Rattle.acceptor.specs.Accepting.{Accepting}
 use Rattle.learner.specs.Learning.{Learning, prefix}
 use Rattle.proposer.specs.Proposing.{Proposing, next_round}
@@ -28,6 +29,10 @@ pub record Mind : Type 0 where
 -- the first slot that isn't learnt, of those that are kept
 abbrev pub position : Mind → ℕ
 position m = prefix m.learning
+
+-- what it has learnt at a slot
+abbrev pub learnt_in : Mind → ℕ → Option Command
+learnt_in m slot = m.learning.learnt slot
 
 -- the whole log is executed
 abbrev pub is_full : Mind → Bool

@@ -124,6 +124,17 @@ pub record RecordsHold (records : Records) (a : Accepting) (round : ℕ) : Type 
   pub acceptor : RecordsSay records a
   pub proposer : SaysRound (records key.Round) round
 
+-- a node's records say what the protocol's do
+pub record RecordsAgree (records : Records) (r : synod_records.Records Command) : Type 0 where
+  pub accepting : Accepting
+  pub round : ℕ
+  pub holds : RecordsHold records accepting round
+  pub stands : RecordsStand accepting round r
+
+-- a node that is up holds what its records say
+abbrev pub HoldsRecords : Mind → Records → Type 0
+HoldsRecords m records = RecordsHold records m.accepting m.proposing.round
+
 -- from x node `id` may go down: its records stand for this then, and nothing is left of its mind
 pub record MayStop (nodes id : ℕ) (input : acts.Input Command) (x : Local Command) (a : Accepting) (round : ℕ) : Type 0 where
   pub records : synod_records.Records Command

@@ -21,7 +21,8 @@ pub use fault::NodeFault;
 pub use input::Input;
 pub use laws::{meanings_are_as_long_as_positions, members_stay};
 pub use node::Node;
-pub use outputs::{Executed, LogEntry, Outputs, Text};
+pub use outputs::{Executed, LogEntry, MOST_SENDS, Outputs, Text};
+pub use proposer::MOST_WAITING;
 
 #[cfg(test)]
 mod tests;

@@ -9,6 +9,9 @@ use std::marker::Model;
 use synod::Slot;
 use wire::Frame;
 
+/// At most this many frames are sent in one step: on a tick, eight proposals to seven nodes and an Ask to each of six.
+pub const MOST_SENDS: usize = 62;
+
 /// A slot that the node newly learnt, and what it holds.
 #[derive(Debug, Drop)]
 pub struct LogEntry {

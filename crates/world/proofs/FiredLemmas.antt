@@ -9,23 +9,23 @@ use Rattle.acceptor.specs.Accepting.{Write, HasWritten, HasFailed}
 use Rattle.store.specs.declared.query.Query.{Query}
 use Rattle.world.specs.declared.event.Event.{Event}
 use Rattle.world.specs.declared.event.Event.TheVariants as event
-use Rattle.world.specs.declared.fault.NodeFault.{NodeFault}
-use Rattle.world.specs.declared.fault.NodeFault.TheVariants as fault
+use Rattle.node.specs.declared.fault.NodeFault.{NodeFault}
+use Rattle.node.specs.declared.fault.NodeFault.TheVariants as fault
 use Rattle.world.specs.declared.fault.WorldFault.{WorldFault}
 use Rattle.world.specs.declared.fault.WorldFault.TheVariants as world_fault
-use Rattle.world.specs.declared.input.Input.{Input}
-use Rattle.world.specs.declared.input.Input.TheVariants as input
+use Rattle.node.specs.declared.input.Input.{Input}
+use Rattle.node.specs.declared.input.Input.TheVariants as input
 use Rattle.world.specs.declared.lists.Outcome.{Outcome}
 use Rattle.world.specs.declared.log.TheConstants.{MOST_DELIVERIES}
 use Rattle.world.specs.declared.run.Run.{Run}
 use Rattle.sessions.specs.Asked.{Asked}
-use Rattle.world.specs.Faults.{is_stop_fault}
+use Rattle.node.specs.Faults.{is_stop_fault}
 use Rattle.world.specs.Fired.{AreHonestInside, IsCounted, AreCounted, HasFewFaults}
 use Rattle.world.specs.Flushing.{IsStart, Delivers, DeliversSome}
-use Rattle.world.specs.Loading.{Restarts}
-use Rattle.world.specs.Minds.{Mind}
-use Rattle.world.specs.Nodes.{NodeState, NodeSteps, TakesInput, RefusesInput, StopsOnInput, StorageStops}
-use Rattle.world.specs.Outputs.{Told}
+use Rattle.node.specs.Loading.{Restarts}
+use Rattle.node.specs.Minds.{Mind}
+use Rattle.node.specs.Nodes.{NodeState, NodeSteps, TakesInput, RefusesInput, StopsOnInput, StorageStops}
+use Rattle.node.specs.Outputs.{Response}
 use Rattle.world.specs.Reaching.{AreHonest}
 use Rattle.world.specs.Safety.{honest_inside}
 use Rattle.world.specs.Worlds.{WorldState, run_of, TakesAt, ReceivesAt, DeliversFrame, Steps, recorded, with_node, with_submission, answered, without_wait}
@@ -119,11 +119,11 @@ module _ {S : Type 0} where
   one_outcome : (outcomes : List Outcome) (o : Outcome) (w : WorldState S) → w.outcomes ≡ outcomes ++ o ∷ [] → outcome_count w ≡ length outcomes + 1
   one_outcome outcomes o w e = ap length e ∙ length-append outcomes (o ∷ [])
 
-  recorded_nodes : (w : WorldState S) (node : ℕ) (r : Result Told NodeFault) → (recorded w node r).nodes ≡ w.nodes
+  recorded_nodes : (w : WorldState S) (node : ℕ) (r : Result Response NodeFault) → (recorded w node r).nodes ≡ w.nodes
   recorded_nodes w node (Ok told) = refl
   recorded_nodes w node (Err f) = refl
 
-  recorded_more : (w : WorldState S) (node : ℕ) (r : Result Told NodeFault) → outcome_count (recorded w node r) ≡ outcome_count w + 1
+  recorded_more : (w : WorldState S) (node : ℕ) (r : Result Response NodeFault) → outcome_count (recorded w node r) ≡ outcome_count w + 1
   recorded_more w node (Ok told) = length-append w.outcomes (_ ∷ [])
   recorded_more w node (Err f) = length-append w.outcomes (_ ∷ [])
 
@@ -170,14 +170,14 @@ module _ {S : Type 0} {storages : Ghosts (Script S)} (calls : CountsCalls storag
   refused old new m i f true h = stopped old new m i f h.storage
   refused old new m i f false h = same_node old new h.leaves
 
-  by_result : (old new : NodeState (Script S)) (m : Mind) (i : Input) (r : Result Told NodeFault)
+  by_result : (old new : NodeState (Script S)) (m : Mind) (i : Input) (r : Result Response NodeFault)
       → IfOk r (λ told. TakesInput storages old m i told new)
       → IfErr r (λ f. MatchBool (is_stop_fault f) (StopsOnInput storages old m i f new) (RefusesInput old m i f new))
       → CountsOn old.storage new.storage
   by_result old new m i (Ok told) taken h = written old.storage new.storage taken.made.write taken.made.leaves
   by_result old new m i (Err f) taken h = refused old new m i f (is_stop_fault f) h
 
-  by_mind : (old new : NodeState (Script S)) (i : Input) (r : Result Told NodeFault) (o : Option Mind) → old.up ≡ o
+  by_mind : (old new : NodeState (Script S)) (i : Input) (r : Result Response NodeFault) (o : Option Mind) → old.up ≡ o
       → NodeSteps storages old i r new → CountsOn old.storage new.storage
   by_mind old new i r None up h = same_node old new (h.down up).1
   by_mind old new i r (Some m) up h =

@@ -15,18 +15,18 @@ use Rattle.sessions.specs.declared.command.Command.{Command}
 use Rattle.wire.specs.declared.frames.envelope.Envelope.{Envelope}
 use Rattle.wire.specs.declared.frames.message.Message.{Message}
 use Rattle.wire.specs.declared.frames.message.Message.TheVariants.{Prepare, Promise, Nack, Accept, Accepted, Ask, Decided}
-use Rattle.world.specs.declared.fault.NodeFault.{NodeFault}
+use Rattle.node.specs.declared.fault.NodeFault.{NodeFault}
 use Rattle.world.specs.declared.telling.Telling.{Telling}
-use Rattle.world.specs.declared.input.Input.{Input}
-use Rattle.world.specs.declared.input.Input.TheVariants as input
+use Rattle.node.specs.declared.input.Input.{Input}
+use Rattle.node.specs.declared.input.Input.TheVariants as input
 use Rattle.world.specs.Campaigning.{Campaigning, told_here}
 use Rattle.world.specs.Fleets.{IsProposerOf, IsMindOf, IsMember, IsBetween, ComesFrom}
 use Rattle.world.specs.Learning.{Learning, HearsVote, IsIgnored, IsDecided}
-use Rattle.world.specs.Minds.{Mind, Takes, TakesMessage, answer_sends, one_send, after_learning, executed_reply, with_request, waits, is_full}
-use Rattle.world.specs.Faults.{is_stop_fault}
-use Rattle.world.specs.Loading.{Restarts}
-use Rattle.world.specs.Nodes.{NodeState, NodeSteps, TakesInput, StopsOnInput, RefusesInput}
-use Rattle.world.specs.Outputs.{Told, nothing, sent}
+use Rattle.node.specs.Minds.{Mind, Takes, TakesMessage, answer_sends, one_send, after_learning, executed_reply, with_request, waits, is_full}
+use Rattle.node.specs.Faults.{is_stop_fault}
+use Rattle.node.specs.Loading.{Restarts}
+use Rattle.node.specs.Nodes.{NodeState, NodeSteps, TakesInput, StopsOnInput, RefusesInput}
+use Rattle.world.specs.Outputs.{Response, nothing, sent}
 use Rattle.world.specs.Proposing.{Proposing, fills, filled, fill_sends, may_propose, choice, accept, prepare, CountsInCampaign, sends_again, proposal_again}
 use Rattle.world.specs.Sending.{to_all}
 
@@ -49,7 +49,7 @@ to_one nodes i to m sender receiver =
     (record { from = sender; to = receiver }) (All-nil (IsBetween nodes))
 
 -- what a step makes of a node, and what it sends
-pub record NodeLeaves {S : Type 0} (id nodes : ℕ) (n : NodeState S) (result : Result Told NodeFault) : Type 0 where
+pub record NodeLeaves {S : Type 0} (id nodes : ℕ) (n : NodeState S) (result : Result Response NodeFault) : Type 0 where
   pub member : IsMember id nodes n
   pub between : IfOk result (λ told. All (IsBetween nodes) told.sends)
 
@@ -97,14 +97,14 @@ module _ (id nodes : ℕ) (there : id < nodes) where
   again_between p (Some k) own = again_campaigning p k k.leading refl own
 
   -- ---- what an input makes of a node, and what it sends
-  record Leaves (m : Mind) (told : Told) : Type 0 where
+  record Leaves (m : Mind) (told : Response) : Type 0 where
     mind : IsMindOf id nodes m
     between : All (IsBetween nodes) told.sends
 
-  leaves_so : (m n : Mind) (t u : Told) → m ≡ n → t ≡ u → IsMindOf id nodes n → All (IsBetween nodes) u.sends → Leaves m t
+  leaves_so : (m n : Mind) (t u : Response) → m ≡ n → t ≡ u → IsMindOf id nodes n → All (IsBetween nodes) u.sends → Leaves m t
   leaves_so m n t u e f mind between = record {
     mind = subst (λ (x : Mind). IsMindOf id nodes x) (sym e) mind;
-    between = subst (λ (x : Told). All (IsBetween nodes) x.sends) (sym f) between;
+    between = subst (λ (x : Response). All (IsBetween nodes) x.sends) (sym f) between;
   }
 
   -- another proposer of the same node
@@ -115,7 +115,7 @@ module _ (id nodes : ℕ) (there : id < nodes) where
   another_proposer p q e own = subst (λ (x : Proposing). IsProposerOf id nodes x) (sym e) own
 
   -- a request comes: it waits already, or the proposer takes it
-  submitted : (m new : Mind) (told : Told) (r : Asked) (b : Bool)
+  submitted : (m new : Mind) (told : Response) (r : Asked) (b : Bool)
       → new ≡ record m { proposing = if b then m.proposing else filled (with_request m.proposing r) }
       → told ≡ (if b then nothing else sent (fill_sends (with_request m.proposing r)))
       → IsMindOf id nodes m → Leaves new told
@@ -131,7 +131,7 @@ module _ (id nodes : ℕ) (there : id < nodes) where
   counted_own p q from b first votes (Some k) counts own =
       another_proposer q _ counts.leaves (record { number = own.number; of_all = own.of_all })
 
-  promised : (m new : Mind) (told : Told) (p : Proposing) (b : Bool)
+  promised : (m new : Mind) (told : Response) (p : Proposing) (b : Bool)
       → new ≡ record m { proposing = if b then p else filled p } → told ≡ (if b then nothing else sent (fill_sends p))
       → IsMindOf id nodes m → IsProposerOf id nodes p → Leaves new told
   promised m new told p true e f mind own = leaves_so new _ told nothing e f (with_proposer m p mind own) (All-nil (IsBetween nodes))
@@ -153,7 +153,7 @@ module _ (id nodes : ℕ) (there : id < nodes) where
       let undecided : IsDecided old t c → ⊥ = λ d. differs (ap (λ (l : Learning). l.nodes) (h.decided counts d).1) in
       differs (ap (λ (l : Learning). l.nodes) (h.heard counts undecided).1))
 
-  learnt_or_heard : (m new : Mind) (told : Told) (v : Vote Command) (b : Bool) → new.learning.nodes ≡ nodes
+  learnt_or_heard : (m new : Mind) (told : Response) (v : Vote Command) (b : Bool) → new.learning.nodes ≡ nodes
       → new ≡ record m {
         learning = new.learning;
         proposing = if b then after_learning m.proposing v.command else m.proposing;
@@ -179,7 +179,7 @@ module _ (id nodes : ℕ) (there : id < nodes) where
   }) (All-nil (IsBetween nodes))
 
   -- a message comes from a node of the run
-  message_leaves : (old : Mind) (from : ℕ) (message : Message) (new : Mind) (told : Told) → TakesMessage old from message new told
+  message_leaves : (old : Mind) (from : ℕ) (message : Message) (new : Mind) (told : Response) → TakesMessage old from message new told
       → IsMindOf id nodes old → from < nodes → Leaves new told
   message_leaves old from (Prepare ballot first) new told h mind sender =
       leaves_so new _ told _ h.2 h.3
@@ -205,7 +205,7 @@ module _ (id nodes : ℕ) (there : id < nodes) where
   message_leaves old from (Decided slot command) new told h mind sender =
       leaves_so new old told nothing h.0 h.1 mind (All-nil (IsBetween nodes))
 
-  input_leaves : (old : Mind) (i : Input) (new : Mind) (told : Told) → Takes old i new told
+  input_leaves : (old : Mind) (i : Input) (new : Mind) (told : Response) → Takes old i new told
       → IsMindOf id nodes old → ComesFrom nodes i → Leaves new told
   input_leaves old (input.Submit r) new told h mind sender = submitted old new told r (waits old r) h.0 h.1 mind
   input_leaves old (input.Message from message) new told h mind sender = message_leaves old from message new told h mind sender
@@ -236,7 +236,7 @@ module _ (id nodes : ℕ) (there : id < nodes) where
   down_with n storage member = record { number = member.number; of_all = member.of_all; up = λ x e. absurd (none-some x e) }
 
   module _ {S : Type 0} (storages : Ghosts S) where
-    takes_leaves : (old : NodeState S) (m : Mind) (i : Input) (told : Told) (new : NodeState S) → old.up ≡ Some m
+    takes_leaves : (old : NodeState S) (m : Mind) (i : Input) (told : Response) (new : NodeState S) → old.up ≡ Some m
         → TakesInput storages old m i told new → IsMember id nodes old → ComesFrom nodes i → NodeLeaves id nodes new (Ok told)
     takes_leaves old m i told new up h member sender =
         let after = input_leaves m i h.mind told h.takes (member.up m up) sender in record {
@@ -250,18 +250,18 @@ module _ (id nodes : ℕ) (there : id < nodes) where
     refused_leaves old m i f new true h member = record { member = another_node new _ h.leaves (down_with old new.storage member); between = tt }
     refused_leaves old m i f new false h member = record { member = another_node new old h.leaves member; between = tt }
 
-    up_leaves : (old : NodeState S) (m : Mind) (i : Input) (r : Result Told NodeFault) (new : NodeState S) → old.up ≡ Some m
+    up_leaves : (old : NodeState S) (m : Mind) (i : Input) (r : Result Response NodeFault) (new : NodeState S) → old.up ≡ Some m
         → IfOk r (λ told. TakesInput storages old m i told new)
         → IfErr r (λ f. MatchBool (is_stop_fault f) (StopsOnInput storages old m i f new) (RefusesInput old m i f new))
         → IsMember id nodes old → ComesFrom nodes i → NodeLeaves id nodes new r
     up_leaves old m i (Ok told) new up taken refused member sender = takes_leaves old m i told new up taken member sender
     up_leaves old m i (Err f) new up taken refused member sender = refused_leaves old m i f new (is_stop_fault f) refused member
 
-    leaves_by : (old : NodeState S) (i : Input) (r : Result Told NodeFault) (new : NodeState S) (o : Option Mind) → old.up ≡ o
+    leaves_by : (old : NodeState S) (i : Input) (r : Result Response NodeFault) (new : NodeState S) (o : Option Mind) → old.up ≡ o
         → NodeSteps storages old i r new → IsMember id nodes old → ComesFrom nodes i → NodeLeaves id nodes new r
     leaves_by old i r new None up h member sender = record {
       member = another_node new old (h.down up).1 member;
-      between = subst (λ (x : Result Told NodeFault). IfOk x (λ told. All (IsBetween nodes) told.sends)) (sym (h.down up).0) tt;
+      between = subst (λ (x : Result Response NodeFault). IfOk x (λ told. All (IsBetween nodes) told.sends)) (sym (h.down up).0) tt;
     }
     leaves_by old i r new (Some m) up h member sender =
         up_leaves old m i r new up
@@ -270,7 +270,7 @@ module _ (id nodes : ℕ) (there : id < nodes) where
         (StopsOnInput storages old m i f new) (RefusesInput old m i f new)))) up h.refused)
         member sender
 
-    pub node_leaves : (old : NodeState S) (i : Input) (r : Result Told NodeFault) (new : NodeState S)
+    pub node_leaves : (old : NodeState S) (i : Input) (r : Result Response NodeFault) (new : NodeState S)
         → NodeSteps storages old i r new → IsMember id nodes old → ComesFrom nodes i → NodeLeaves id nodes new r
     node_leaves old i r new h member sender = leaves_by old i r new old.up refl h member sender
 

@@ -12,14 +12,14 @@ use Rattle.wire.specs.declared.frames.envelope.Envelope.{Envelope}
 use Rattle.store.specs.declared.query.Query.{Query}
 use Rattle.world.specs.declared.event.Event.{Event}
 use Rattle.world.specs.declared.event.Event.TheVariants as event
-use Rattle.world.specs.declared.fault.NodeFault.{NodeFault}
-use Rattle.world.specs.declared.input.Input.{Input}
-use Rattle.world.specs.declared.input.Input.TheVariants as input
-use Rattle.world.specs.declared.node.Node.{Node}
+use Rattle.node.specs.declared.fault.NodeFault.{NodeFault}
+use Rattle.node.specs.declared.input.Input.{Input}
+use Rattle.node.specs.declared.input.Input.TheVariants as input
+use Rattle.node.specs.declared.node.Node.{Node}
 use Rattle.world.specs.Fleets.{IsMember, IsBetween, IsFleet, ComesFrom}
-use Rattle.world.specs.Minds.{Mind}
-use Rattle.world.specs.Nodes.{NodeState, NodeSteps, state_of}
-use Rattle.world.specs.Outputs.{Told}
+use Rattle.node.specs.Minds.{Mind}
+use Rattle.node.specs.Nodes.{NodeState, NodeSteps, state_of}
+use Rattle.node.specs.Outputs.{Response}
 use Rattle.world.specs.Worlds.{WorldState, TakesAt, ReceivesAt, DeliversFrame, Steps, with_node, recorded, with_submission, answered, without_wait}
 use Rattle.world.proofs.WorldLemmas.{lent_at, shown_set}
 use Rattle.world.proofs.FleetLemmas.{NodeLeaves, node_leaves, restart_leaves}
@@ -73,7 +73,7 @@ module _ {S : Type 0} where
       (record { number = member.number; of_all = member.of_all; up = member.up })
 
   -- what a node told is recorded
-  pub recorded_fleet : (w : WorldState S) (node : ℕ) (r : Result Told NodeFault) → IsFleet w.nodes w.frames
+  pub recorded_fleet : (w : WorldState S) (node : ℕ) (r : Result Response NodeFault) → IsFleet w.nodes w.frames
       → IfOk r (λ told. All (IsBetween (length w.nodes)) told.sends) → IsFleet (recorded w node r).nodes (recorded w node r).frames
   recorded_fleet w node (Ok told) fleet between = fleet_sent w.nodes w.frames told.sends fleet between
   recorded_fleet w node (Err f) fleet between = fleet
@@ -158,7 +158,7 @@ module _ {S : Type 0} where
   -- a node of the run has taken an input
   pub stepped : {storages : Ghosts (Script S)}
       (nodes : List (Node (Script S))) (frames : List Envelope) (len i j : ℕ) (n m : Node (Script S)) (input : Input)
-      (r : Result Told NodeFault) → len ≡ length nodes → j ≡ i → i < len → n ≡ get_or nodes j n
+      (r : Result Response NodeFault) → len ≡ length nodes → j ≡ i → i < len → n ≡ get_or nodes j n
       → IsFleet (map state_of nodes) frames → NodeSteps storages (state_of n) input r (state_of m)
       → ComesFrom len input → NodeLeaves i len (state_of m) r
   stepped {storages} nodes frames len i j n m input r e named there lent fleet steps sender =

@@ -1,39 +1,29 @@
-pub mod FleetLemmas
-pub mod FleetSteps
-pub mod Deciding
-pub mod SendLemmas
-pub mod Proposals
-pub mod WorldLemmas
+-- one node of a world
 pub mod StorageLaws
-pub mod SayingLemmas
-pub mod MovingLemmas
-pub mod SizedLemmas
-pub mod StoppingLemmas
-pub mod TakingLemmas
-pub mod NodeMoves
+pub mod WorldLemmas
 pub mod RestartLemmas
-pub mod WorldMoves
-pub mod SafetyLemmas
-pub mod AllowedSends
-pub mod AllowedGoing
-pub mod AllowedFill
-pub mod AllowedProposer
-pub mod AllowedTold
-pub mod AllowedPromise
-pub mod Commands
-pub mod Hearing
-pub mod AllowedLearner
-pub mod FiredLemmas
-pub mod FlushLemmas
-pub mod StartLemmas
-pub mod TallyLemmas
-pub mod Tellings
-pub mod Explained
-pub mod Validity
-pub mod OneAnswer
-pub mod SoundSteps
-pub mod WorldSound
+pub mod NodeMoves
 pub mod Casting
 pub mod ListedPuts
 pub mod VotesStand
 pub mod NodeComes
+-- the fleet: each node has its place as its number
+pub mod FleetLemmas
+pub mod FleetSteps
+-- what moves of the protocol lead to
+pub mod MovingLemmas
+pub mod WorldMoves
+pub mod SafetyLemmas
+-- what the lists tell, and the list that explains them
+pub mod Tellings
+pub mod Explained
+pub mod Validity
+pub mod OneAnswer
+pub mod TallyLemmas
+-- the start, and deliveries one after the other
+pub mod StartLemmas
+pub mod FlushLemmas
+pub mod FiredLemmas
+-- all of it, for the public calls
+pub mod SoundSteps
+pub mod WorldSound

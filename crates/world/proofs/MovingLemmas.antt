@@ -16,7 +16,7 @@ use Rattle.sessions.specs.declared.command.Command.{Command}
 use Rattle.wire.specs.declared.frames.envelope.Envelope.{Envelope}
 use Rattle.world.specs.declared.lists.Submission.{Submission}
 use Rattle.world.specs.declared.lists.Learnt.{Learnt}
-use Rattle.world.specs.States.{NodeState}
+use Rattle.node.specs.States.{NodeState}
 use Rattle.world.specs.Protocol.{fleet, frame_of, learning_of, command_of}
 use Rattle.world.specs.Reaching.{StandsAt, IsAllowed}
 use Rattle.world.proofs.NodeComes.{local_of, stands_elsewhere}

@@ -23,15 +23,15 @@ use Rattle.stable.specs.declared.stable.Stable.{Ghosts}
 use Rattle.stable.specs.Storages.{IsLawful}
 use Rattle.acceptor.specs.Accepting.{Write, HasWritten, HasFailed}
 use Rattle.sessions.specs.declared.command.Command.{Command}
-use Rattle.world.specs.declared.fault.NodeFault.{NodeFault}
-use Rattle.world.specs.declared.fault.NodeFault.TheVariants as fault
-use Rattle.world.specs.declared.input.Input.{Input}
-use Rattle.world.specs.Faults.{is_stop_fault}
+use Rattle.node.specs.declared.fault.NodeFault.{NodeFault}
+use Rattle.node.specs.declared.fault.NodeFault.TheVariants as fault
+use Rattle.node.specs.declared.input.Input.{Input}
+use Rattle.node.specs.Faults.{is_stop_fault}
 use Rattle.world.specs.Fleets.{IsMember, ComesFrom}
-use Rattle.world.specs.Loading.{Restarts}
-use Rattle.world.specs.Minds.{Mind}
-use Rattle.world.specs.Nodes.{NodeState, NodeSteps, TakesInput, RefusesInput, StopsOnInput, StorageStops}
-use Rattle.world.specs.Outputs.{Told}
+use Rattle.node.specs.Loading.{Restarts}
+use Rattle.node.specs.Minds.{Mind}
+use Rattle.node.specs.Nodes.{NodeState, NodeSteps, TakesInput, RefusesInput, StopsOnInput, StorageStops}
+use Rattle.node.specs.Outputs.{Response}
 use Rattle.world.specs.Protocol.{fleet, frame_of, input_of}
 use Rattle.world.specs.Reaching.{NodeStands, PutsStand, StandsAt}
 use Rattle.world.specs.Voting.{HasVote}
@@ -125,19 +125,19 @@ sound_after nodes w i input y reached came does =
 
 -- ---- what an input makes of a node's list of writes
 -- the node has gone down, and its list is as it was
-record WentDown {S : Type 0} (old new : NodeState (Script S)) (r : Result Told NodeFault) : Type 0 where
+record WentDown {S : Type 0} (old new : NodeState (Script S)) (r : Result Response NodeFault) : Type 0 where
   fault_ : NodeFault
   failed : r ≡ Err fault_
   down : new.up ≡ None
   list : new.storage.writes ≡ old.storage.writes
 
-record ListGoesOn {S : Type 0} (contents : Script S → Records) (old new : NodeState (Script S)) (r : Result Told NodeFault) : Type 0 where
+record ListGoesOn {S : Type 0} (contents : Script S → Records) (old new : NodeState (Script S)) (r : Result Response NodeFault) : Type 0 where
   goes : GoesOn contents old.storage new.storage
   sure : (new.storage.unsure ≡ None) ⊎ WentDown old new r
 
 -- node i may come on this input to what stands for it, and tells this on the way
 pub record NodeComes {S : Type 0} (contents : Script S → Records) (nodes i : ℕ) (input : Input) (w : synod_runs.World Command)
-    (new : NodeState (Script S)) (result : Result Told NodeFault) : Type 0 where
+    (new : NodeState (Script S)) (result : Result Response NodeFault) : Type 0 where
   pub to : Local Command
   pub does : Does (fleet nodes) i (input_of input) (local_of w i) to
   pub stands : StandsAt contents nodes i (placed w i to).past (local_of (placed w i to) i) new
@@ -204,7 +204,7 @@ module _ {S : Type 0} {storages : Ghosts (Script S)} (laws : IsLawful storages)
   stopped old new m input fault.TooLong h down sure honest = absurd h
   stopped old new m input fault.Damaged h down sure honest = absurd h
 
-  unchanged : (old new : NodeState (Script S)) (r : Result Told NodeFault) → new ≡ old → old.storage.unsure ≡ None → ListGoesOn storages.contents old new r
+  unchanged : (old new : NodeState (Script S)) (r : Result Response NodeFault) → new ≡ old → old.storage.unsure ≡ None → ListGoesOn storages.contents old new r
   unchanged old new r e sure =
       subst (λ (n : NodeState (Script S)). ListGoesOn storages.contents old n r) (sym e)
       (record { goes = same_goes storages.contents old.storage old.storage (same_lists storages.contents old.storage old.storage refl refl refl); sure = inl sure })
@@ -216,7 +216,7 @@ module _ {S : Type 0} {storages : Ghosts (Script S)} (laws : IsLawful storages)
       stopped old new m input f h.storage (ap (λ (n : NodeState (Script S)). n.up) h.leaves) sure honest
   list_refused old new m input f false h sure honest = unchanged old new (Err f) h.leaves sure
 
-  list_on : (old new : NodeState (Script S)) (m : Mind) (input : Input) (r : Result Told NodeFault)
+  list_on : (old new : NodeState (Script S)) (m : Mind) (input : Input) (r : Result Response NodeFault)
       → IfOk r (λ told. TakesInput storages old m input told new)
       → IfErr r (λ f. MatchBool (is_stop_fault f) (StopsOnInput storages old m input f new) (RefusesInput old m input f new))
       → old.storage.unsure ≡ None → storages.IsHonest new.storage → ListGoesOn storages.contents old new r
@@ -228,10 +228,10 @@ module _ {S : Type 0} {storages : Ghosts (Script S)} (laws : IsLawful storages)
 
   module _ (nodes i : ℕ) (there : i < nodes) (few : nodes ≤ 7) (w : synod_runs.World Command) (reached : IsReached (fleet nodes) w) where
     -- a node that is down, or refuses, does nothing
-    rests : (input : Input) (new : NodeState (Script S)) (r : Result Told NodeFault) (f : NodeFault) → r ≡ Err f
+    rests : (input : Input) (new : NodeState (Script S)) (r : Result Response NodeFault) (f : NodeFault) → r ≡ Err f
         → StandsAt storages.contents nodes i w.past (local_of w i) new → NodeComes storages.contents nodes i input w new r
     rests input new r f failed s =
-        subst (λ (q : Result Told NodeFault). NodeComes storages.contents nodes i input w new q) (sym failed) (record {
+        subst (λ (q : Result Response NodeFault). NodeComes storages.contents nodes i input w new q) (sym failed) (record {
           to = local_of w i;
           does = does_nothing (fleet nodes) i (input_of input) (local_of w i);
           stands = stands_still storages.contents nodes w i new s;
@@ -241,7 +241,7 @@ module _ {S : Type 0} {storages : Ghosts (Script S)} (laws : IsLawful storages)
         })
 
     -- a put is unsure: what stands for the node is kept for the time when that is known
-    waits : (old new : NodeState (Script S)) (input : Input) (r : Result Told NodeFault) (u : script.Write) → new.storage.unsure ≡ Some u
+    waits : (old new : NodeState (Script S)) (input : Input) (r : Result Response NodeFault) (u : script.Write) → new.storage.unsure ≡ Some u
         → HasCome w.past (input_of input) → StandsAt storages.contents nodes i w.past (local_of w i) old
         → (m : NodeMoves storages.contents nodes i input (local_of w i) new r) → PutsStand storages.contents new.storage m.after.records → WentDown old new r
         → NodeComes storages.contents nodes i input w new r
@@ -252,16 +252,16 @@ module _ {S : Type 0} {storages : Ghosts (Script S)} (laws : IsLawful storages)
       came = came;
       after = m.after;
       does = m.does;
-      unsent = m.sent ∙ ap (λ (q : Result Told NodeFault). map frame_of (sends_of q)) d.failed;
-      unlearnt = m.learnt ∙ ap (λ (q : Result Told NodeFault). learnt_of i q) d.failed;
-      unsubmitted = m.submitted ∙ ap (λ (q : Result Told NodeFault). submitted_of input q) d.failed;
+      unsent = m.sent ∙ ap (λ (q : Result Response NodeFault). map frame_of (sends_of q)) d.failed;
+      unlearnt = m.learnt ∙ ap (λ (q : Result Response NodeFault). learnt_of i q) d.failed;
+      unsubmitted = m.submitted ∙ ap (λ (q : Result Response NodeFault). submitted_of input q) d.failed;
       stands = m.stands;
       puts = stand;
       sure = λ none. absurd (none-some u (sym none ∙ unsure));
       up = λ up. absurd (none_is_not_some new.up d.down up);
     })
 
-    arrives : (old new : NodeState (Script S)) (input : Input) (r : Result Told NodeFault) (o : Option script.Write) → new.storage.unsure ≡ o
+    arrives : (old new : NodeState (Script S)) (input : Input) (r : Result Response NodeFault) (o : Option script.Write) → new.storage.unsure ≡ o
         → HasCome w.past (input_of input) → StandsAt storages.contents nodes i w.past (local_of w i) old
         → (m : NodeMoves storages.contents nodes i input (local_of w i) new r) → PutsStand storages.contents new.storage m.after.records
         → (new.storage.unsure ≡ None) ⊎ WentDown old new r → NodeComes storages.contents nodes i input w new r
@@ -276,7 +276,7 @@ module _ {S : Type 0} {storages : Ghosts (Script S)} (laws : IsLawful storages)
     arrives old new input r (Some u) unsure came s m stand (inl sure) = absurd (none-some u (sym sure ∙ unsure))
     arrives old new input r (Some u) unsure came s m stand (inr d) = waits old new input r u unsure came s m stand d
 
-    by_mind : (old new : NodeState (Script S)) (input : Input) (r : Result Told NodeFault) (o : Option Mind) → old.up ≡ o
+    by_mind : (old new : NodeState (Script S)) (input : Input) (r : Result Response NodeFault) (o : Option Mind) → old.up ≡ o
         → HasCome w.past (input_of input) → NodeSteps storages old input r new → StandsAt storages.contents nodes i w.past (local_of w i) old
         → IsMember i nodes old → ComesFrom nodes input → storages.IsHonest new.storage → NodeComes storages.contents nodes i input w new r
     by_mind old new input r None up came h s member sender honest =
@@ -300,7 +300,7 @@ module _ {S : Type 0} {storages : Ghosts (Script S)} (laws : IsLawful storages)
         (sound_after nodes w i (input_of input) moves.after reached came moves.does) stand) on.sure
 
     -- a node comes to what stands for it after an input
-    pub node_comes : (old new : NodeState (Script S)) (input : Input) (r : Result Told NodeFault) → HasCome w.past (input_of input)
+    pub node_comes : (old new : NodeState (Script S)) (input : Input) (r : Result Response NodeFault) → HasCome w.past (input_of input)
         → NodeSteps storages old input r new → StandsAt storages.contents nodes i w.past (local_of w i) old
         → IsMember i nodes old → ComesFrom nodes input → storages.IsHonest new.storage → NodeComes storages.contents nodes i input w new r
     node_comes old new input r came h s member sender honest = by_mind old new input r old.up refl came h s member sender honest

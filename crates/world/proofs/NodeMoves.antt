@@ -13,15 +13,15 @@ use Rattle.acceptor.specs.Accepting.{Accepting, Write, RecordsSay, records_after
 use Rattle.acceptor.specs.Protocol.{RecordsStand}
 use Rattle.sessions.specs.declared.command.Command.{Command}
 use Rattle.wire.specs.declared.frames.envelope.Envelope.{Envelope}
-use Rattle.world.specs.declared.fault.NodeFault.{NodeFault}
-use Rattle.world.specs.declared.fault.NodeFault.TheVariants as fault
-use Rattle.world.specs.declared.input.Input.{Input}
-use Rattle.world.specs.Faults.{is_stop_fault}
+use Rattle.node.specs.declared.fault.NodeFault.{NodeFault}
+use Rattle.node.specs.declared.fault.NodeFault.TheVariants as fault
+use Rattle.node.specs.declared.input.Input.{Input}
+use Rattle.node.specs.Faults.{is_stop_fault}
 use Rattle.world.specs.Fitting.{InputFits}
 use Rattle.world.specs.Fleets.{IsMember, IsMindOf, ComesFrom}
-use Rattle.world.specs.Minds.{Mind, refuses, Writes}
-use Rattle.world.specs.Nodes.{NodeState, NodeSteps, TakesInput, RefusesInput, StopsOnInput, StorageStops}
-use Rattle.world.specs.Outputs.{Told}
+use Rattle.node.specs.Minds.{Mind, refuses, Writes}
+use Rattle.node.specs.Nodes.{NodeState, NodeSteps, TakesInput, RefusesInput, StopsOnInput, StorageStops}
+use Rattle.node.specs.Outputs.{Response}
 use Rattle.world.specs.Protocol.{fleet, frame_of, input_of, learnings, submissions, IsNode, IsSeen, MayTake}
 use Rattle.world.specs.Reaching.{HoldsSame, NodeStands, SaysRound}
 use Rattle.world.specs.Sized.{IsSized}
@@ -32,21 +32,21 @@ use Rattle.world.proofs.StorageLaws.{written_honest, written_contents, failed_ho
 use Rattle.world.proofs.TakingLemmas.{taking_allowed}
 
 -- what a node told: the frames, what it learnt, what was submitted to it
-abbrev pub sends_of : Result Told NodeFault → List Envelope
+abbrev pub sends_of : Result Response NodeFault → List Envelope
 sends_of (Ok told) = told.sends
 sends_of (Err f) = []
 
-abbrev pub learnt_of : ℕ → Result Told NodeFault → List (history.Learning Command)
+abbrev pub learnt_of : ℕ → Result Response NodeFault → List (history.Learning Command)
 learnt_of i (Ok told) = learnings i told.learnt
 learnt_of i (Err f) = []
 
-abbrev pub submitted_of : Input → Result Told NodeFault → List Command
+abbrev pub submitted_of : Input → Result Response NodeFault → List Command
 submitted_of input (Ok told) = submissions input
 submitted_of input (Err f) = []
 
 -- some allowed acts lead from x to what stands for the node then, and tell this
 pub record NodeMoves {S : Type 0} (contents : Script S → Records) (nodes i : ℕ) (input : Input) (x : Local Command)
-    (new : NodeState (Script S)) (result : Result Told NodeFault) : Type 0 where
+    (new : NodeState (Script S)) (result : Result Response NodeFault) : Type 0 where
   pub after : Local Command
   pub does : Does (fleet nodes) i (input_of input) x after
   pub stands : NodeStands contents new after.records after.mind
@@ -54,10 +54,10 @@ pub record NodeMoves {S : Type 0} (contents : Script S → Records) (nodes i : �
   pub learnt : after.learnt ≡ x.learnt ++ learnt_of i result
   pub submitted : after.submitted ≡ x.submitted ++ submitted_of input result
 
-abbrev failed : NodeFault → Result Told NodeFault
+abbrev failed : NodeFault → Result Response NodeFault
 failed f = Err f
 
-abbrev took : Told → Result Told NodeFault
+abbrev took : Response → Result Response NodeFault
 took told = Ok told
 
 is_node : (i nodes : ℕ) (m : Mind) → IsMindOf i nodes m → IsNode i nodes m
@@ -123,7 +123,7 @@ module _ {S : Type 0} {storages : Ghosts (Script S)} (laws : IsLawful storages)
         sized = holds.sized;
       }
 
-  takes : (old new : NodeState (Script S)) (m : Mind) (input : Input) (told : Told) (x : Local Command) → StandsUp old m x → IsMindOf i nodes m
+  takes : (old new : NodeState (Script S)) (m : Mind) (input : Input) (told : Response) (x : Local Command) → StandsUp old m x → IsMindOf i nodes m
       → ComesFrom nodes input → InputFits input → refuses m input ≡ None → TakesInput storages old m input told new
       → storages.IsHonest new.storage → NodeMoves storages.contents nodes i input x new (Ok told)
   takes old new m input told x up mind sender fits none h honest =
@@ -200,7 +200,7 @@ module _ {S : Type 0} {storages : Ghosts (Script S)} (laws : IsLawful storages)
       let goes_on : is_stop_fault f ≡ false = ap is_stop_fault same ∙ refusal_goes_on m input g e in
       absurd (let bad : true ≡ false = sym stop ∙ goes_on in cc)
 
-  taken_not_refused : (m : Mind) (input : Input) (told : Told) (o : Option NodeFault) → refuses m input ≡ o
+  taken_not_refused : (m : Mind) (input : Input) (told : Response) (o : Option NodeFault) → refuses m input ≡ o
       → IfSome o (λ g. took told ≡ Err g) → refuses m input ≡ None
   taken_not_refused m input told None e h = e
   taken_not_refused m input told (Some g) e h = absurd (cc)
@@ -215,7 +215,7 @@ module _ {S : Type 0} {storages : Ghosts (Script S)} (laws : IsLawful storages)
   refused old new m input f x false e stands up fits none h honest =
       rests input x new f (subst (λ (n : NodeState (Script S)). NodeStands storages.contents n x.records x.mind) (sym h.leaves) stands)
 
-  by_result : (old new : NodeState (Script S)) (m : Mind) (input : Input) (r : Result Told NodeFault) (x : Local Command)
+  by_result : (old new : NodeState (Script S)) (m : Mind) (input : Input) (r : Result Response NodeFault) (x : Local Command)
       → NodeStands storages.contents old x.records x.mind → StandsUp old m x → IsMindOf i nodes m → ComesFrom nodes input → InputFits input
       → IfOk r (λ told. TakesInput storages old m input told new)
       → IfErr r (λ f. MatchBool (is_stop_fault f) (StopsOnInput storages old m input f new) (RefusesInput old m input f new))
@@ -225,11 +225,11 @@ module _ {S : Type 0} {storages : Ghosts (Script S)} (laws : IsLawful storages)
   by_result old new m input (Err f) x stands up mind sender fits taken refused_ none honest =
       refused old new m input f x (is_stop_fault f) refl stands up fits none refused_ honest
 
-  by_mind : (old new : NodeState (Script S)) (input : Input) (r : Result Told NodeFault) (x : Local Command) (o : Option Mind) → old.up ≡ o
+  by_mind : (old new : NodeState (Script S)) (input : Input) (r : Result Response NodeFault) (x : Local Command) (o : Option Mind) → old.up ≡ o
       → NodeSteps storages old input r new → NodeStands storages.contents old x.records x.mind → IsMember i nodes old → ComesFrom nodes input
       → storages.IsHonest new.storage → NodeMoves storages.contents nodes i input x new r
   by_mind old new input r x None up h stands member sender honest =
-      subst (λ (y : Result Told NodeFault). NodeMoves storages.contents nodes i input x new y) (sym (h.down up).0)
+      subst (λ (y : Result Response NodeFault). NodeMoves storages.contents nodes i input x new y) (sym (h.down up).0)
       (rests input x new fault.Down (subst (λ (n : NodeState (Script S)). NodeStands storages.contents n x.records x.mind) (sym (h.down up).1) stands))
   by_mind old new input r x (Some m) up h stands member sender honest =
       by_result old new m input r x stands (stands_up old m x up stands) (member.up m up) sender h.fits
@@ -238,7 +238,7 @@ module _ {S : Type 0} {storages : Ghosts (Script S)} (laws : IsLawful storages)
       (StopsOnInput storages old n input f new) (RefusesInput old n input f new)))) up h.refused)
       (subst (λ (o : Option Mind). IfSome o (λ n. IfSome (refuses n input) (λ g. r ≡ Err g))) up h.refuses_) honest
 
-  pub node_moves : (old new : NodeState (Script S)) (input : Input) (r : Result Told NodeFault) (x : Local Command)
+  pub node_moves : (old new : NodeState (Script S)) (input : Input) (r : Result Response NodeFault) (x : Local Command)
       → NodeSteps storages old input r new → NodeStands storages.contents old x.records x.mind → IsMember i nodes old → ComesFrom nodes input
       → storages.IsHonest new.storage → NodeMoves storages.contents nodes i input x new r
   node_moves old new input r x h stands member sender honest = by_mind old new input r x old.up refl h stands member sender honest
@@ -261,14 +261,14 @@ module _ {S : Type 0} {storages : Ghosts (Script S)} (laws : IsLawful storages)
   honest_refused old new m input f true h honest = honest_stopped old new m input f h.storage honest
   honest_refused old new m input f false h honest = subst (λ (n : NodeState (Script S)). storages.IsHonest n.storage) h.leaves honest
 
-  honest_result : (old new : NodeState (Script S)) (m : Mind) (input : Input) (r : Result Told NodeFault)
+  honest_result : (old new : NodeState (Script S)) (m : Mind) (input : Input) (r : Result Response NodeFault)
       → IfOk r (λ told. TakesInput storages old m input told new)
       → IfErr r (λ f. MatchBool (is_stop_fault f) (StopsOnInput storages old m input f new) (RefusesInput old m input f new))
       → storages.IsHonest new.storage → storages.IsHonest old.storage
   honest_result old new m input (Ok told) h refused_ honest = written_honest laws old.storage new.storage h.made.write h.made.leaves honest
   honest_result old new m input (Err f) taken h honest = honest_refused old new m input f (is_stop_fault f) h honest
 
-  honest_mind : (old new : NodeState (Script S)) (input : Input) (r : Result Told NodeFault) (o : Option Mind) → old.up ≡ o
+  honest_mind : (old new : NodeState (Script S)) (input : Input) (r : Result Response NodeFault) (o : Option Mind) → old.up ≡ o
       → NodeSteps storages old input r new → storages.IsHonest new.storage → storages.IsHonest old.storage
   honest_mind old new input r None up h honest = subst (λ (n : NodeState (Script S)). storages.IsHonest n.storage) (h.down up).1 honest
   honest_mind old new input r (Some m) up h honest =
@@ -277,6 +277,6 @@ module _ {S : Type 0} {storages : Ghosts (Script S)} (laws : IsLawful storages)
       (subst (λ (o : Option Mind). IfSome o (λ n. IfErr r (λ f. MatchBool (is_stop_fault f)
       (StopsOnInput storages old n input f new) (RefusesInput old n input f new)))) up h.refused) honest
 
-  pub honest_before : (old new : NodeState (Script S)) (input : Input) (r : Result Told NodeFault) → NodeSteps storages old input r new
+  pub honest_before : (old new : NodeState (Script S)) (input : Input) (r : Result Response NodeFault) → NodeSteps storages old input r new
       → storages.IsHonest new.storage → storages.IsHonest old.storage
   honest_before old new input r h honest = honest_mind old new input r old.up refl h honest

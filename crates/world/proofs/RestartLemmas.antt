@@ -15,16 +15,16 @@ use Rattle.acceptor.specs.Accepting.{Accepting, RecordsSay}
 use Rattle.acceptor.specs.Protocol.{RecordsStand}
 use Rattle.acceptor.proofs.SayingOne.{one_promise, one_vote_each}
 use Rattle.sessions.specs.declared.command.Command.{Command}
-use Rattle.world.specs.declared.fault.NodeFault.{NodeFault}
+use Rattle.node.specs.declared.fault.NodeFault.{NodeFault}
 use Rattle.world.specs.declared.telling.Telling.{Telling}
 use Rattle.world.specs.Learning.{Learning}
-use Rattle.world.specs.Loading.{IsLoaded, LoadsRound, Restarts}
-use Rattle.world.specs.Minds.{Mind}
+use Rattle.node.specs.Loading.{IsLoaded, LoadsRound, Restarts}
+use Rattle.node.specs.Minds.{Mind}
 use Rattle.world.specs.Proposing.{Proposing, loaded}
 use Rattle.world.specs.Protocol.{at_first, CampaignsStand, MindStands}
 use Rattle.world.specs.Reaching.{HoldsSame, NodeStands, SaysRound}
 use Rattle.world.specs.Sized.{IsSized}
-use Rattle.world.specs.States.{NodeState}
+use Rattle.node.specs.States.{NodeState}
 use Rattle.world.proofs.SayingLemmas.{SayBoth}
 
 -- ---- a record says one round

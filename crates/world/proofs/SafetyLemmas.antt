@@ -29,11 +29,11 @@ use Rattle.world.specs.declared.lists.Submission.{Submission}
 use Rattle.world.specs.declared.lists.Learnt.{Learnt}
 use Rattle.world.specs.Explaining.{LearntAgree, LearntGrounded}
 use Rattle.world.specs.Flushing.{IsFresh, IsStart, IsStarted}
-use Rattle.world.specs.Loading.{IsLoaded}
+use Rattle.node.specs.Loading.{IsLoaded}
 use Rattle.world.specs.Protocol.{fleet, frame_of, learning_of}
 use Rattle.world.specs.Reaching.{NodeStands, TookEffect, StandsAt, IsAllowed, AreHonest}
 use Rattle.world.specs.Safety.{HasAgreed, writes_of}
-use Rattle.world.specs.States.{NodeState}
+use Rattle.node.specs.States.{NodeState}
 use Rattle.world.specs.Submissions.{asked_of, command_of, IsGrounded}
 use Rattle.world.specs.Voting.{vote_put, HasVote, IsChosen, HasChosen}
 use Rattle.world.specs.Worlds.{WorldState, submission_of}

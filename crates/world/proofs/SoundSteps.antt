@@ -9,13 +9,13 @@ use Rattle.sessions.specs.Asked.{Asked}
 use Rattle.sessions.specs.Standing.{StandsFor}
 use Rattle.world.specs.declared.event.Event.{Event}
 use Rattle.world.specs.declared.event.Event.TheVariants as event
-use Rattle.world.specs.declared.input.Input.TheVariants as input
+use Rattle.node.specs.declared.input.Input.TheVariants as input
 use Rattle.world.specs.Fleets.{IsFleet}
 use Rattle.world.specs.Flushing.{IsStart, IsStarted, Delivers}
 use Rattle.world.specs.Learning.{Learning}
-use Rattle.world.specs.Loading.{IsLoaded}
-use Rattle.world.specs.Minds.{Mind}
-use Rattle.world.specs.Nodes.{NodeState}
+use Rattle.node.specs.Loading.{IsLoaded}
+use Rattle.node.specs.Minds.{Mind}
+use Rattle.node.specs.Nodes.{NodeState}
 use Rattle.world.specs.Reaching.{AreHonest}
 use Rattle.world.specs.Safety.{HasAgreed, IsSafe, IsSound, IsSoundIfHonest}
 use Rattle.world.specs.Worlds.{WorldState, Steps, ReceivesAt, without_wait}

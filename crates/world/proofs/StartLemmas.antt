@@ -6,10 +6,10 @@ use Rattle.std.proofs.lemmas.Option.{same_Some, none-some}
 use Rattle.stable.specs.Script.{Script}
 use Rattle.stable.specs.declared.stable.Stable.{Ghosts}
 use Rattle.wire.specs.declared.frames.envelope.Envelope.{Envelope}
-use Rattle.world.specs.declared.node.Node.{Node}
+use Rattle.node.specs.declared.node.Node.{Node}
 use Rattle.world.specs.Fleets.{IsMember, IsBetween, IsFleet}
 use Rattle.world.specs.Flushing.{IsStarted, HaveStarted}
-use Rattle.world.specs.Nodes.{NodeState, state_of}
+use Rattle.node.specs.Nodes.{NodeState, state_of}
 
 -- what stands in a list with one element more at its end: that one, or what stood there
 pub pushed_at : {A : Type 0} (xs : List A) (i : ℕ) (y z : A) → slice_get (xs ++ y ∷ []) i ≡ Some z

@@ -9,18 +9,18 @@ use Rattle.wire.specs.declared.frames.envelope.Envelope.{Envelope}
 use Rattle.store.specs.declared.query.Query.{Query}
 use Rattle.world.specs.declared.event.Event.{Event}
 use Rattle.world.specs.declared.event.Event.TheVariants as event
-use Rattle.world.specs.declared.fault.NodeFault.{NodeFault}
-use Rattle.world.specs.declared.input.Input.{Input}
-use Rattle.world.specs.declared.input.Input.TheVariants as input
+use Rattle.node.specs.declared.fault.NodeFault.{NodeFault}
+use Rattle.node.specs.declared.input.Input.{Input}
+use Rattle.node.specs.declared.input.Input.TheVariants as input
 use Rattle.world.specs.declared.lists.Outcome.{Outcome}
 use Rattle.world.specs.declared.lists.Outcome.TheVariants.{Done, Answered, Lost, Refused, Stopped}
-use Rattle.world.specs.Faults.{is_stop_fault}
+use Rattle.node.specs.Faults.{is_stop_fault}
 use Rattle.world.specs.Flushing.{IsStart}
-use Rattle.world.specs.Minds.{Mind}
-use Rattle.world.specs.Outputs.{Told}
-use Rattle.world.specs.States.{NodeState}
+use Rattle.node.specs.Minds.{Mind}
+use Rattle.node.specs.Outputs.{Response}
+use Rattle.node.specs.States.{NodeState}
 use Rattle.world.specs.Tallies.{learnt_told, replies_told, answers_told, IsTallied, StepsTally}
-use Rattle.world.specs.Worlds.{WorldState, TakesAt, ReceivesAt, Steps, with_node, with_told, with_outcome, recorded, with_submission, answered, restart_outcome, without_wait, learnt_by, replied_by}
+use Rattle.world.specs.Worlds.{WorldState, TakesAt, ReceivesAt, Steps, with_node, with_response, with_outcome, recorded, with_submission, answered, restart_outcome, without_wait, learnt_by, replied_by}
 
 -- entries join a list, and an outcome tells of as many
 grows : {A : Type 0} (xs ys : List A) (f : Outcome → ℕ) (os : List Outcome) (o : Outcome) → length xs ≡ sum_by f os
@@ -45,7 +45,7 @@ module _ {S : Type 0} where
     answers = stays w.answers answers_told w.outcomes o t.answers a;
   }
 
-  told_tallied : (w : WorldState S) (node : ℕ) (told : Told) → IsTallied w → IsTallied (with_told w node told)
+  told_tallied : (w : WorldState S) (node : ℕ) (told : Response) → IsTallied w → IsTallied (with_response w node told)
   told_tallied w node told t =
       let o = Done (length (learnt_by node told.learnt)) (length (replied_by node told.executed)) in
       record {
@@ -60,7 +60,7 @@ module _ {S : Type 0} where
   fault_tallied w node f true t = with_quiet w (Stopped node f) refl refl refl t
   fault_tallied w node f false t = with_quiet w (Refused node f) refl refl refl t
 
-  recorded_tallied : (w : WorldState S) (node : ℕ) (r : Result Told NodeFault) → IsTallied w → IsTallied (recorded w node r)
+  recorded_tallied : (w : WorldState S) (node : ℕ) (r : Result Response NodeFault) → IsTallied w → IsTallied (recorded w node r)
   recorded_tallied w node (Ok told) t = told_tallied w node told t
   recorded_tallied w node (Err f) t = fault_tallied w node f (is_stop_fault f) t
 

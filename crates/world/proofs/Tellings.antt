@@ -23,24 +23,24 @@ use Rattle.wire.specs.declared.frames.message.Message.TheVariants as message
 use Rattle.wire.specs.declared.frames.envelope.Envelope.{Envelope}
 use Rattle.world.specs.declared.event.Event.{Event}
 use Rattle.world.specs.declared.event.Event.TheVariants as event
-use Rattle.world.specs.declared.fault.NodeFault.{NodeFault}
-use Rattle.world.specs.declared.fault.NodeFault.TheVariants as fault
-use Rattle.world.specs.declared.input.Input.{Input}
-use Rattle.world.specs.declared.input.Input.TheVariants as input
+use Rattle.node.specs.declared.fault.NodeFault.{NodeFault}
+use Rattle.node.specs.declared.fault.NodeFault.TheVariants as fault
+use Rattle.node.specs.declared.input.Input.{Input}
+use Rattle.node.specs.declared.input.Input.TheVariants as input
 use Rattle.world.specs.declared.lists.Learnt.{Learnt}
 use Rattle.world.specs.declared.lists.Replied.{Replied}
 use Rattle.world.specs.declared.lists.Answered.{Answered}
 use Rattle.world.specs.declared.log.TheConstants.{LOG_SLOTS}
-use Rattle.world.specs.declared.outputs.Executed.{Executed}
-use Rattle.world.specs.declared.outputs.LogEntry.{LogEntry}
-use Rattle.world.specs.Faults.{is_stop_fault}
+use Rattle.node.specs.declared.outputs.Executed.{Executed}
+use Rattle.node.specs.declared.outputs.LogEntry.{LogEntry}
+use Rattle.node.specs.Faults.{is_stop_fault}
 use Rattle.world.specs.Learning.{Learning}
-use Rattle.world.specs.Loading.{IsLoaded}
-use Rattle.world.specs.Minds.{Mind, Takes, executed_reply, waits, with_request, is_full, position}
-use Rattle.world.specs.Nodes.{NodeSteps, NodeAnswers, TakesInput, RefusesInput, StopsOnInput}
-use Rattle.world.specs.Outputs.{Told, nothing, sent, replied_at}
+use Rattle.node.specs.Loading.{IsLoaded}
+use Rattle.node.specs.Minds.{Mind, Takes, executed_reply, waits, with_request, is_full, position}
+use Rattle.node.specs.Nodes.{NodeSteps, NodeAnswers, TakesInput, RefusesInput, StopsOnInput}
+use Rattle.world.specs.Outputs.{Response, nothing, sent, replied_at}
 use Rattle.world.specs.Proposing.{Proposing, fill_sends, is_of}
-use Rattle.world.specs.States.{NodeState}
+use Rattle.node.specs.States.{NodeState}
 use Rattle.world.specs.Reaching.{AreHonest}
 use Rattle.world.specs.Telling.{WereLearnt, TellsReply, TellsAnswer, Knows, prefix, ListsTell, Tells}
 use Rattle.world.specs.Worlds.{WorldState, TakesAt, SubmitsAt, ReceivesAt, AsksAt, ArmsAt, RestartsAt, Steps, recorded, with_node, with_submission, without_wait, learnt_by, replied_by, answered}
@@ -95,7 +95,7 @@ known_before None = []
 known_before (Some m) = prefix m
 
 -- what it knows to be learnt it knew, or it tells it now; and a reply is to what it tells now
-record TellsInput (before after : Option Mind) (told : Told) : Type 0 where
+record TellsInput (before after : Option Mind) (told : Response) : Type 0 where
   knows : (m : Mind) → after ≡ Some m → (prefix m ≡ []) ⊎ (((k : Mind) × ((before ≡ Some k) × (prefix m ≡ prefix k)))
       ⊎ ((c : Command) × ((told.learnt ≡ Some (first_entry c)) × (prefix m ≡ c ∷ []))))
   slots : (entry : LogEntry) → told.learnt ≡ Some entry → entry.slot ≡ zero
@@ -103,24 +103,24 @@ record TellsInput (before after : Option Mind) (told : Told) : Type 0 where
   replies : ((k : Mind) → before ≡ Some k → StandsBy k) → (e : Executed) → told.executed ≡ Some e → RepliesNow [] told.learnt e
 
 -- it tells of no slot and of no reply
-record IsSilent (told : Told) : Type 0 where
+record IsSilent (told : Response) : Type 0 where
   learnt : told.learnt ≡ None
   executed : told.executed ≡ None
 
-silent : (told : Told) (sends : List Envelope) → told ≡ sent sends → IsSilent told
-silent told sends e = record { learnt = ap (λ (t : Told). t.learnt) e; executed = ap (λ (t : Told). t.executed) e }
+silent : (told : Response) (sends : List Envelope) → told ≡ sent sends → IsSilent told
+silent told sends e = record { learnt = ap (λ (t : Response). t.learnt) e; executed = ap (λ (t : Response). t.executed) e }
 
 says_nothing : IsSilent nothing
 says_nothing = silent nothing [] refl
 
-no_reply : (told : Told) → IsSilent told → (e : Executed) → told.executed ≡ Some e → RepliesNow [] told.learnt e
+no_reply : (told : Response) → IsSilent told → (e : Executed) → told.executed ≡ Some e → RepliesNow [] told.learnt e
 no_reply told none e f = absurd (let h : None ≡ Some e = sym none.executed ∙ f in cc)
 
-no_slot : (told : Told) → IsSilent told → (entry : LogEntry) → told.learnt ≡ Some entry → entry.slot ≡ zero
+no_slot : (told : Response) → IsSilent told → (entry : LogEntry) → told.learnt ≡ Some entry → entry.slot ≡ zero
 no_slot told none entry f = absurd (let h : None ≡ Some entry = sym none.learnt ∙ f in cc)
 
 -- a node that is as it was in what it has learnt and executed
-quietly : (old new : Mind) (told : Told) → new.learning ≡ old.learning → new.machine ≡ old.machine → IsSilent told
+quietly : (old new : Mind) (told : Response) → new.learning ≡ old.learning → new.machine ≡ old.machine → IsSilent told
     → TellsInput (Some old) (Some new) told
 quietly old new told same machine none = record {
   knows = λ m e.
@@ -156,7 +156,7 @@ as_it_was before after same = record {
   replies = λ stood. no_reply nothing says_nothing;
 }
 
-told_nothing : (b : Bool) (told : Told) (sends : List Envelope) → told ≡ (if b then nothing else sent sends) → IsSilent told
+told_nothing : (b : Bool) (told : Response) (sends : List Envelope) → told ≡ (if b then nothing else sent sends) → IsSilent told
 told_nothing true told sends e = silent told [] e
 told_nothing false told sends e = silent told sends e
 
@@ -176,7 +176,7 @@ executed_of k p slot (Request r) e f first stands replies =
       replies = replies.replies [] stands;
     })
 
-abbrev told_all : Mind → ℕ → Command → Told
+abbrev told_all : Mind → ℕ → Command → Response
 told_all old slot c = record {
   learnt = Some (record { slot = slot; command = c });
   executed = executed_reply old.machine old.proposing slot c;
@@ -194,12 +194,12 @@ record LearnsSo (old new : Mind) (slot : ℕ) (c : Command) (learns : Bool) : Ty
   stands : learns ≡ true → StandsForOneMore old.machine new.machine c
   replies : learns ≡ true → RepliesOneMore old.machine c (reply_to_command old.machine c)
 
-accepted_tells : (old new : Mind) (slot : ℕ) (c : Command) (learns : Bool) (told : Told) → LearnsSo old new slot c learns
+accepted_tells : (old new : Mind) (slot : ℕ) (c : Command) (learns : Bool) (told : Response) → LearnsSo old new slot c learns
     → told ≡ (if learns then told_all old slot c else nothing) → TellsInput (Some old) (Some new) told
 accepted_tells old new slot c true told so tells =
     let learnt : told.learnt ≡ Some (first_entry c) =
-    ap (λ (t : Told). t.learnt) tells ∙ ap (λ (s : ℕ). Some (record { slot = s; command = c })) (so.first refl) in
-    let executed : told.executed ≡ executed_reply old.machine old.proposing slot c = ap (λ (t : Told). t.executed) tells in
+    ap (λ (t : Response). t.learnt) tells ∙ ap (λ (s : ℕ). Some (record { slot = s; command = c })) (so.first refl) in
+    let executed : told.executed ≡ executed_reply old.machine old.proposing slot c = ap (λ (t : Response). t.executed) tells in
     let none : prefix old ≡ [] = ap (λ (o : Option Command). option_to_list o) (so.fresh refl) in
     let one : prefix new ≡ c ∷ [] = ap (λ (o : Option Command). option_to_list o) (so.learns_ refl) in
     record {
@@ -226,7 +226,7 @@ accepted_tells old new slot c false told so tells =
       replies = λ before. no_reply told (silent told [] tells);
     }
 
-takes_tells : (old : Mind) (i : Input) (new : Mind) (told : Told) → Takes old i new told → TellsInput (Some old) (Some new) told
+takes_tells : (old : Mind) (i : Input) (new : Mind) (told : Response) → Takes old i new told → TellsInput (Some old) (Some new) told
 takes_tells old (input.Submit r) new told t =
     quietly old new told (ap (λ (m : Mind). m.learning) t.0) (ap (λ (m : Mind). m.machine) t.0)
     (told_nothing (waits old r) told (fill_sends (with_request old.proposing r)) t.1)
@@ -259,7 +259,7 @@ takes_tells old input.Timeout new told t =
 takes_tells old input.Tick new told t =
     quietly old new told (ap (λ (m : Mind). m.learning) t.0) (ap (λ (m : Mind). m.machine) t.0) (silent told _ t.1)
 
-abbrev told_of : Result Told NodeFault → Told
+abbrev told_of : Result Response NodeFault → Response
 told_of (Ok told) = told
 told_of (Err f) = nothing
 
@@ -268,14 +268,14 @@ stops_or_refuses true h = inl h
 stops_or_refuses false h = inr h
 
 module _ {S : Type 0} (storages : Ghosts S) where
-  node_tells_at : (before after : NodeState S) (i : Input) (up : Option Mind) (result : Result Told NodeFault) → before.up ≡ up
+  node_tells_at : (before after : NodeState S) (i : Input) (up : Option Mind) (result : Result Response NodeFault) → before.up ≡ up
       → (up ≡ None → (result ≡ Err fault.Down) × (after ≡ before))
       → IfSome up (λ m. IfOk result (λ told. TakesInput storages before m i told after))
       → IfSome up (λ m. IfErr result (λ f. MatchBool (is_stop_fault f)
       (StopsOnInput storages before m i f after) (RefusesInput before m i f after)))
       → TellsInput up after.up (told_of result)
   node_tells_at before after i None (Ok told) here none taken refused =
-      absurd (let h : ◌≡◌ {A = Result Told NodeFault} (Ok told) (Err fault.Down) = (none refl).0 in cc)
+      absurd (let h : ◌≡◌ {A = Result Response NodeFault} (Ok told) (Err fault.Down) = (none refl).0 in cc)
   node_tells_at before after i None (Err f) here none taken refused =
       down None after.up (ap (λ (n : NodeState S). n.up) (none refl).1 ∙ here)
   node_tells_at before after i (Some m) (Ok told) here none taken refused =
@@ -285,7 +285,7 @@ module _ {S : Type 0} (storages : Ghosts S) where
     | inr refuses ↦ as_it_was (Some m) after.up (ap (λ (n : NodeState S). n.up) refuses.leaves ∙ here)
   ]
 
-  node_tells : (before after : NodeState S) (i : Input) (result : Result Told NodeFault) → NodeSteps storages before i result after
+  node_tells : (before after : NodeState S) (i : Input) (result : Result Response NodeFault) → NodeSteps storages before i result after
       → TellsInput before.up after.up (told_of result)
   node_tells before after i result s = node_tells_at before after i before.up result refl s.down s.taken s.refused
 
@@ -338,7 +338,7 @@ new_slot : (i : ℕ) (o : Option LogEntry) → ((entry : LogEntry) → o ≡ Som
 new_slot i None first t c = absurd (none_in t c)
 new_slot i (Some d) first t c = sym (ap (λ (u : Learnt). u.slot) (only_in (learnt_at i d) t c)) ∙ first d refl
 
-new_reply : (learnt : List Learnt) (i : ℕ) (told : Told) (o : Option Executed)
+new_reply : (learnt : List Learnt) (i : ℕ) (told : Response) (o : Option Executed)
     → ((e : Executed) → o ≡ Some e → RepliesNow [] told.learnt e)
     → (p : Replied) → Contains (replied_by i o) p → TellsReply (learnt ++ learnt_by i told.learnt) p
 new_reply learnt i told None says p c = absurd (none_in p c)
@@ -355,7 +355,7 @@ new_reply learnt i told (Some e) says p c =
     })
 
 -- what the node that takes an input knows then
-knows_now : {S : Type 0} (nodes : List (NodeState S)) (learnt : List Learnt) (i : ℕ) (before after : NodeState S) (told : Told)
+knows_now : {S : Type 0} (nodes : List (NodeState S)) (learnt : List Learnt) (i : ℕ) (before after : NodeState S) (told : Response)
     → ((m : Mind) → before.up ≡ Some m → Knows learnt m) → TellsInput before.up after.up told
     → (m : Mind) → after.up ≡ Some m → Knows (learnt ++ learnt_by i told.learnt) m
 knows_now nodes learnt i before after told knew says m up = record {
@@ -376,7 +376,7 @@ knows_still : (learnt more : List Learnt) (m : Mind) → Knows learnt m → Know
 knows_still learnt more m k = record { told = log_stays learnt more (prefix m) k.told; stands = k.stands }
 
 recorded_tells : {S : Type 0} (nodes : List (NodeState S)) (learnt : List Learnt) (replies : List Replied) (answers : List Answered)
-    (i : ℕ) (before after : NodeState S) (told : Told) → ListsTell nodes learnt replies answers → slice_get nodes i ≡ Some before
+    (i : ℕ) (before after : NodeState S) (told : Response) → ListsTell nodes learnt replies answers → slice_get nodes i ≡ Some before
     → TellsInput before.up after.up told
     → ListsTell (slice_set nodes i after) (learnt ++ learnt_by i told.learnt) (replies ++ replied_by i told.executed) answers
 recorded_tells {S} nodes learnt replies answers i before after told t here says = record {
@@ -403,7 +403,7 @@ quiet_tells nodes learnt replies answers t =
     subst (λ (ls : List Learnt). ListsTell nodes ls replies answers) (append-nil learnt)
     (subst (λ (rs : List Replied). ListsTell nodes (learnt ++ []) rs answers) (append-nil replies) t)
 
-recorded_result : {S : Type 0} (old : WorldState S) (i : ℕ) (after : NodeState (Script S)) (result : Result Told NodeFault)
+recorded_result : {S : Type 0} (old : WorldState S) (i : ℕ) (after : NodeState (Script S)) (result : Result Response NodeFault)
     → ListsTell (slice_set old.nodes i after) (old.learnt ++ learnt_by i (told_of result).learnt)
     (old.replies ++ replied_by i (told_of result).executed) old.answers → Tells (recorded (with_node old i after) i result)
 recorded_result old i after (Ok told) t = t

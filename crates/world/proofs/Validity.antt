@@ -10,11 +10,11 @@ use Rattle.synod.proofs.Thinking.{none_in}
 use Rattle.wire.specs.declared.frames.envelope.Envelope.{Envelope}
 use Rattle.world.specs.declared.event.Event.{Event}
 use Rattle.world.specs.declared.event.Event.TheVariants as event
-use Rattle.world.specs.declared.fault.NodeFault.{NodeFault}
-use Rattle.world.specs.declared.input.Input.{Input}
+use Rattle.node.specs.declared.fault.NodeFault.{NodeFault}
+use Rattle.node.specs.declared.input.Input.{Input}
 use Rattle.world.specs.declared.lists.Submission.{Submission}
-use Rattle.world.specs.Minds.{Mind}
-use Rattle.world.specs.Outputs.{Told}
+use Rattle.node.specs.Minds.{Mind}
+use Rattle.node.specs.Outputs.{Response}
 use Rattle.world.specs.Submissions.{BringValid}
 use Rattle.world.specs.Worlds.{WorldState, TakesAt, ReceivesAt, Steps, recorded, with_submission, submission_of, answered, without_wait}
 
@@ -41,7 +41,7 @@ module _ {S : Type 0} where
   abbrev submitted_in : WorldState S → List Submission
   submitted_in w = w.submitted
 
-  recorded_same : (w : WorldState S) (node : ℕ) (r : Result Told NodeFault) → (recorded w node r).submitted ≡ w.submitted
+  recorded_same : (w : WorldState S) (node : ℕ) (r : Result Response NodeFault) → (recorded w node r).submitted ≡ w.submitted
   recorded_same w node (Ok told) = refl
   recorded_same w node (Err f) = refl
 

@@ -14,7 +14,7 @@ use Rattle.acceptor.specs.Spelling.{vote_bytes}
 use Rattle.acceptor.proofs.SayingOne.{one_vote}
 use Rattle.sessions.specs.declared.command.Command.{Command}
 use Rattle.world.specs.Reaching.{NodeStands, TookEffect, HoldsPut, PutsStand, VotesAreListed}
-use Rattle.world.specs.States.{NodeState}
+use Rattle.node.specs.States.{NodeState}
 use Rattle.world.specs.Voting.{vote_put}
 use Rattle.world.proofs.Casting.{does_votes, does_casts}
 use Rattle.world.proofs.ListedPuts.{GoesOn, IsSame}

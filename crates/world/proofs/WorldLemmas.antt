@@ -4,8 +4,8 @@ use Rattle.std.proofs.lemmas.List.{map-set}
 use Rattle.std.proofs.lemmas.Option.{slice_get-map, slice_get_read}
 use Rattle.std.proofs.Math.ListN.{get_or}
 use Rattle.stable.specs.Script.{Script}
-use Rattle.world.specs.declared.node.Node.{Node}
-use Rattle.world.specs.Nodes.{NodeState, state_of}
+use Rattle.node.specs.declared.node.Node.{Node}
+use Rattle.node.specs.Nodes.{NodeState, state_of}
 use Rattle.world.specs.Worlds.{WorldState, with_node}
 
 -- the node at a place, as it shows

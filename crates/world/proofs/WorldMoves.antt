@@ -24,16 +24,16 @@ use Rattle.wire.specs.declared.frames.envelope.Envelope.{Envelope}
 use Rattle.store.specs.declared.query.Query.{Query}
 use Rattle.world.specs.declared.event.Event.{Event}
 use Rattle.world.specs.declared.event.Event.TheVariants as event
-use Rattle.world.specs.declared.fault.NodeFault.{NodeFault}
-use Rattle.world.specs.declared.input.Input.{Input}
-use Rattle.world.specs.declared.input.Input.TheVariants as input
+use Rattle.node.specs.declared.fault.NodeFault.{NodeFault}
+use Rattle.node.specs.declared.input.Input.{Input}
+use Rattle.node.specs.declared.input.Input.TheVariants as input
 use Rattle.world.specs.declared.lists.Submission.{Submission}
 use Rattle.world.specs.declared.lists.Learnt.{Learnt}
-use Rattle.world.specs.declared.outputs.LogEntry.{LogEntry}
+use Rattle.node.specs.declared.outputs.LogEntry.{LogEntry}
 use Rattle.world.specs.Fleets.{IsFleet, IsBetween, ComesFrom}
-use Rattle.world.specs.Minds.{Mind}
-use Rattle.world.specs.Nodes.{NodeState}
-use Rattle.world.specs.Outputs.{Told}
+use Rattle.node.specs.Minds.{Mind}
+use Rattle.node.specs.Nodes.{NodeState}
+use Rattle.node.specs.Outputs.{Response}
 use Rattle.world.specs.Protocol.{learnings, fleet, frame_of, input_of, learning_of, command_of}
 use Rattle.world.specs.Reaching.{SaysRound, NodeStands, StandsAt, IsAllowed, AreHonest}
 use Rattle.world.specs.Worlds.{WorldState, submission_of, quiet, TakesAt, ReceivesAt, ArmsAt, RestartsAt, Steps, with_node, recorded, with_submission, answered, without_wait, learnt_by}
@@ -59,7 +59,7 @@ set_beside (x ∷ xs) (suc i) zero y ne = refl
 set_beside (x ∷ xs) (suc i) (suc j) y ne = set_beside xs i j y (λ same. ne (ap suc same))
 
 -- ---- what a node told, as the world lists it
-abbrev news_of : ℕ → Result Told NodeFault → List Learnt
+abbrev news_of : ℕ → Result Response NodeFault → List Learnt
 news_of node (Ok told) = learnt_by node told.learnt
 news_of node (Err f) = []
 
@@ -70,7 +70,7 @@ taken_of node (input.Message from message) b = []
 taken_of node input.Timeout b = []
 taken_of node input.Tick b = []
 
-news_listed : (node : ℕ) (r : Result Told NodeFault) → learnt_of node r ≡ map learning_of (news_of node r)
+news_listed : (node : ℕ) (r : Result Response NodeFault) → learnt_of node r ≡ map learning_of (news_of node r)
 news_listed node (Ok told) = by_option told.learnt
   where
     by_option : (o : Option LogEntry) → learnings node o ≡ map learning_of (learnt_by node o)
@@ -78,7 +78,7 @@ news_listed node (Ok told) = by_option told.learnt
     by_option (Some c) = refl
 news_listed node (Err f) = refl
 
-taken_listed : (node : ℕ) (i : Input) (r : Result Told NodeFault) → submitted_of i r ≡ map command_of (taken_of node i (is_ok r))
+taken_listed : (node : ℕ) (i : Input) (r : Result Response NodeFault) → submitted_of i r ≡ map command_of (taken_of node i (is_ok r))
 taken_listed node (input.Submit r) (Ok told) = refl
 taken_listed node (input.Submit r) (Err f) = refl
 taken_listed node (input.Message from message) (Ok told) = refl
@@ -127,19 +127,19 @@ module _ {S : Type 0} {storages : Ghosts (Script S)} (laws : IsLawful storages)
   same_lists old new a b c d h = named old.nodes new.nodes old.frames new.frames old.learnt new.learnt old.submitted new.submitted a b c d h
 
   -- ---- a node takes an input
-  recorded_nodes : (w : WorldState S) (node : ℕ) (r : Result Told NodeFault) → (recorded w node r).nodes ≡ w.nodes
+  recorded_nodes : (w : WorldState S) (node : ℕ) (r : Result Response NodeFault) → (recorded w node r).nodes ≡ w.nodes
   recorded_nodes w node (Ok told) = refl
   recorded_nodes w node (Err f) = refl
 
-  recorded_frames : (w : WorldState S) (node : ℕ) (r : Result Told NodeFault) → (recorded w node r).frames ≡ w.frames ++ sends_of r
+  recorded_frames : (w : WorldState S) (node : ℕ) (r : Result Response NodeFault) → (recorded w node r).frames ≡ w.frames ++ sends_of r
   recorded_frames w node (Ok told) = refl
   recorded_frames w node (Err f) = sym (append-nil w.frames)
 
-  recorded_learnt : (w : WorldState S) (node : ℕ) (r : Result Told NodeFault) → (recorded w node r).learnt ≡ w.learnt ++ news_of node r
+  recorded_learnt : (w : WorldState S) (node : ℕ) (r : Result Response NodeFault) → (recorded w node r).learnt ≡ w.learnt ++ news_of node r
   recorded_learnt w node (Ok told) = refl
   recorded_learnt w node (Err f) = sym (append-nil w.learnt)
 
-  recorded_submitted : (w : WorldState S) (node : ℕ) (r : Result Told NodeFault) → (recorded w node r).submitted ≡ w.submitted
+  recorded_submitted : (w : WorldState S) (node : ℕ) (r : Result Response NodeFault) → (recorded w node r).submitted ≡ w.submitted
   recorded_submitted w node (Ok told) = refl
   recorded_submitted w node (Err f) = refl
 

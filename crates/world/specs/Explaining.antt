@@ -1,5 +1,6 @@
 -- One list of commands explains everything that any node told.
-use Rattle.std.specs.Prelude.{◌≡◌, ℕ, ◌+◌, ◌≤◌, length, take, List, Some, Contains, slice_get}
+use Rattle.std.specs.Prelude.{◌≡◌, ℕ, ◌+◌, ◌<◌, ◌≤◌, length, take, List, Some, Contains, slice_get}
+use Rattle.synod.specs.declared.slot.TheConstants.{SLOTS}
 use Rattle.sessions.specs.Asked.{Asked}
 use Rattle.sessions.specs.Meaning.{RepliesAt, Answers}
 use Rattle.sessions.specs.Outcomes.{outcome_code}
@@ -27,7 +28,7 @@ pub record ExplainsAnswer (l : List Command) (a : Answered) : Type 0 where
 -- the list explains what was learnt, replied and answered, and each of its commands is a no-op or was submitted
 pub record Explains (l : List Command) (submitted : List Submission) (learnt : List Learnt) (replies : List Replied)
     (answers : List Answered) : Type 0 where
-  pub fits : length l ≤ 65536
+  pub fits : length l ≤ SLOTS
   pub grounded : (i : ℕ) (c : Command) → slice_get l i ≡ Some c → IsGrounded submitted c
   pub entered : (t : Learnt) → Contains learnt t → slice_get l t.slot ≡ Some t.command
   pub replied : (p : Replied) → Contains replies p → ExplainsReply l p
@@ -40,6 +41,10 @@ pub record IsExplained (submitted : List Submission) (learnt : List Learnt) (rep
   pub explains : Explains log submitted learnt replies answers
 
 -- ---- what has to be known for that
+-- whatever was learnt was learnt at a slot of the log
+abbrev pub LearntInLog : List Learnt → Type 0
+LearntInLog learnt = (t : Learnt) → Contains learnt t → t.slot < SLOTS
+
 -- no two nodes learnt different commands for one slot
 abbrev pub LearntAgree : List Learnt → Type 0
 LearntAgree learnt = (t u : Learnt) → Contains learnt t → Contains learnt u → t.slot ≡ u.slot → t.command ≡ u.command

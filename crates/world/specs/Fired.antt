@@ -2,7 +2,7 @@
 use Rattle.std.specs.Prelude.{◌≡◌, ℕ, ◌<◌, ◌≤◌, ◌^◌, List, length, slice_get, Option, Some, IsSome, unwrap_or}
 use Rattle.stable.specs.Script.{Script}
 use Rattle.world.specs.Reaching.{AreHonest}
-use Rattle.world.specs.States.{NodeState}
+use Rattle.node.specs.States.{NodeState}
 use Rattle.world.specs.Worlds.{WorldState}
 
 -- every storage inside is honest

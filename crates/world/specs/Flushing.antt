@@ -1,12 +1,10 @@
 -- Frames that are delivered one after the other, the lowest first; and the world with which a run begins.
-use Rattle.std.specs.Option.{ForSome}
 use Rattle.std.specs.Prelude.{◌≡◌, ℕ, zero, suc, ◌<◌, List, [], length, slice_get, Some, None, IfSome}
 use Rattle.stable.specs.Records.{no_records}
 use Rattle.stable.specs.Script.{Script, IsUnarmed}
 use Rattle.stable.specs.declared.stable.Stable.{Ghosts}
-use Rattle.world.specs.Fleets.{IsMindOf}
-use Rattle.world.specs.Loading.{IsLoaded}
-use Rattle.world.specs.States.{NodeState}
+use Rattle.node.specs.Loading.{IsFresh, IsLoaded, IsMember}
+use Rattle.node.specs.States.{NodeState}
 use Rattle.world.specs.Waiting.{IsLowestWaiting}
 use Rattle.world.specs.Worlds.{WorldState, DeliversFrame}
 
@@ -26,7 +24,7 @@ pub record DeliversSome {S : Type 0} (storages : Ghosts (Script S)) (old : World
 -- ---- the start
 module _ {S : Type 0} (storages : Ghosts (Script S)) where
   -- no record was ever written, no put is made to fail, and none is listed
-  pub record IsFresh (storage : Script S) : Type 0 where
+  pub record IsUnused (storage : Script S) : Type 0 where
     pub empty : storages.IsHonest storage → storages.contents storage ≡ no_records
     pub unarmed : IsUnarmed storage.armed
     pub no_puts : storage.writes ≡ []
@@ -35,10 +33,9 @@ module _ {S : Type 0} (storages : Ghosts (Script S)) where
 
   -- a node of so many that has started on no records: it holds what these leave, or it is down
   pub record IsStarted (id nodes : ℕ) (n : NodeState (Script S)) : Type 0 where
-    pub number : n.id ≡ id
-    pub of_all : n.nodes ≡ nodes
-    pub fresh : IsFresh n.storage
-    pub own : ForSome n.up (IsMindOf id nodes)
+    pub member : IsMember id nodes n
+    pub unused : IsUnused n.storage
+    pub fresh : IfSome n.up (IsFresh id nodes)
     pub up : storages.IsHonest n.storage → IfSome n.up (IsLoaded no_records id nodes)
 
   -- the first nodes of a run of so many have started

@@ -1,7 +1,6 @@
 -- A world whose storages are honest is one to which moves lead that the protocol allows.
-use Rattle.std.specs.Prelude.{◌≡◌, ◌↔◌, ◌⊎◌, ℕ, zero, List, [], map, All, length, slice_get, Option, Some, None, IfSome, IsSome, Contains}
+use Rattle.std.specs.Prelude.{◌≡◌, ◌↔◌, ◌⊎◌, ℕ, List, [], map, length, slice_get, Some, None, IfSome, IsSome, Contains}
 use Rattle.synod.specs.Records as synod_records
-use Rattle.synod.specs.Minds as synod_minds
 use Rattle.synod.specs.Records.{VoteWrite}
 use Rattle.synod.specs.History.{History}
 use Rattle.synod.specs.Acts as acts
@@ -12,42 +11,21 @@ use Rattle.synod.specs.declared.vote.Vote.{Vote}
 use Rattle.stable.specs.Records.{Records}
 use Rattle.stable.specs.Script.{Script, Write, Shows}
 use Rattle.stable.specs.declared.key.Key.{Key}
-use Rattle.stable.specs.declared.key.Key.TheVariants as key
-use Rattle.acceptor.specs.Accepting.{Accepting, RecordsSay}
 use Rattle.acceptor.specs.Forms.{VoteFits}
-use Rattle.acceptor.specs.Protocol.{RecordsStand}
 use Rattle.sessions.specs.declared.command.Command.{Command}
 use Rattle.wire.specs.declared.frames.envelope.Envelope.{Envelope}
 use Rattle.world.specs.declared.lists.Submission.{Submission}
 use Rattle.world.specs.declared.lists.Learnt.{Learnt}
-use Rattle.world.specs.Minds.{Mind}
-use Rattle.world.specs.States.{NodeState}
-use Rattle.wire.specs.RecordForms.{IsRoundRecord}
-use Rattle.world.specs.Sized.{IsSized}
-use Rattle.world.specs.Protocol.{fleet, frame_of, learning_of, command_of, MindStands}
+use Rattle.node.specs.Protocol.{RecordsAgree, HoldsRecords, MindStands}
+use Rattle.node.specs.States.{NodeState}
+use Rattle.world.specs.Protocol.{fleet, frame_of, learning_of, command_of}
 use Rattle.world.specs.Voting.{vote_put, HasVote}
 
--- what the record of a round says: without one it is 0
-abbrev pub SaysRound : Option (List ℕ) → ℕ → Type 0
-SaysRound None round = round ≡ zero
-SaysRound (Some bytes) round = IsRoundRecord bytes round
-
--- what a node holds while it is up is what its records say, and stands for the protocol's mind
-pub record HoldsSame (accepting : Accepting) (round : ℕ) (s : synod_minds.Mind Command) (m : Mind) : Type 0 where
-  pub accepting_ : m.accepting ≡ accepting
-  pub round_ : m.proposing.round ≡ round
-  pub sized : IsSized m
-  pub mind : MindStands m s
-
--- a node's records say what the protocol's records do, and where it is up it holds that
-pub record NodeStands {S : Type 0} (contents : Script S → Records) (n : NodeState (Script S))
-    (r : synod_records.Records Command) (s : synod_minds.Mind Command) : Type 0 where
-  pub accepting : Accepting
-  pub round : ℕ
-  pub says : RecordsSay (contents n.storage) accepting
-  pub says_round : SaysRound (contents n.storage key.Round) round
-  pub stands : RecordsStand accepting round r
-  pub up : IfSome n.up (HoldsSame accepting round s)
+-- a node's records say what the protocol's records do, and where it is up it holds what they say, and stands for the
+-- protocol's mind
+pub record NodeStands {S : Type 0} (contents : Script S → Records) (n : NodeState (Script S)) (x : Local Command) : Type 0 where
+  pub records : RecordsAgree (contents n.storage) x.records
+  pub up : IfSome n.up (λ m. HoldsRecords m (contents n.storage) × MindStands m x)
 
 -- ---- the list of writes
 -- the put took effect: it is listed, or it is the one that is unsure, and the records show it
@@ -81,7 +59,7 @@ pub record StandsAt {S : Type 0} (contents : Script S → Records) (nodes i : �
   pub unsent : after.sent ≡ []
   pub unlearnt : after.learnt ≡ []
   pub unsubmitted : after.submitted ≡ []
-  pub stands : NodeStands contents n after.records after.mind
+  pub stands : NodeStands contents n after
   pub puts : PutsStand contents n.storage after.records
   pub sure : n.storage.unsure ≡ None → after ≡ x
   pub up : IsSome n.up → n.storage.unsure ≡ None

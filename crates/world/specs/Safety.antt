@@ -11,7 +11,7 @@ use Rattle.sessions.specs.declared.command.Command.{Command}
 use Rattle.world.specs.Explaining.{IsExplained}
 use Rattle.world.specs.Protocol.{fleet, frame_of, learning_of, command_of}
 use Rattle.world.specs.Reaching.{IsAllowed, AreHonest}
-use Rattle.world.specs.States.{NodeState}
+use Rattle.node.specs.States.{NodeState}
 use Rattle.world.specs.Submissions.{BringValid}
 use Rattle.world.specs.Telling.{Tells}
 use Rattle.world.specs.Voting.{HasVote, HasChosen}

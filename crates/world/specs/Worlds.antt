@@ -10,23 +10,25 @@ use Rattle.store.specs.declared.query.Query.{Query}
 use Rattle.wire.specs.FrameSpelling.{Fits}
 use Rattle.world.specs.declared.event.Event.{Event}
 use Rattle.world.specs.declared.event.Event.TheVariants as event
-use Rattle.world.specs.declared.fault.NodeFault.{NodeFault}
-use Rattle.world.specs.declared.input.Input.{Input}
-use Rattle.world.specs.declared.input.Input.TheVariants as input
+use Rattle.node.specs.declared.fault.NodeFault.{NodeFault}
+use Rattle.node.specs.declared.input.Input.{Input}
+use Rattle.node.specs.declared.input.Input.TheVariants as input
+use Rattle.node.specs.declared.outputs.TheConstants.{MOST_SENDS}
+use Rattle.node.specs.declared.outputs.Executed.{Executed}
+use Rattle.node.specs.declared.outputs.LogEntry.{LogEntry}
+use Rattle.node.specs.Faults.{is_stop_fault}
+use Rattle.node.specs.Loading.{Restarts}
+use Rattle.node.specs.Nodes.{NodeState, state_of, NodeSteps, NodeAnswers, StaysMeaning, AnswersMeaning}
+use Rattle.node.specs.Outputs.{Response}
+use Rattle.proposer.specs.declared.waiting.TheConstants.{MOST_WAITING}
 use Rattle.world.specs.declared.lists.Submission.{Submission}
 use Rattle.world.specs.declared.lists.Learnt.{Learnt}
 use Rattle.world.specs.declared.lists.Replied.{Replied}
 use Rattle.world.specs.declared.lists.Answered.{Answered}
 use Rattle.world.specs.declared.lists.Outcome.{Outcome}
 use Rattle.world.specs.declared.lists.Outcome.TheVariants.{Done, Lost, Refused, Stopped, Answered as AnsweredOutcome}
-use Rattle.world.specs.declared.outputs.Executed.{Executed}
-use Rattle.world.specs.declared.outputs.LogEntry.{LogEntry}
 use Rattle.world.specs.declared.run.Run.{Run}
-use Rattle.world.specs.Faults.{is_stop_fault}
-use Rattle.world.specs.Loading.{Restarts}
-use Rattle.world.specs.States.{NodeState}
-use Rattle.world.specs.Nodes.{state_of, NodeSteps, NodeAnswers}
-use Rattle.world.specs.Outputs.{Told, replied_at}
+use Rattle.world.specs.Outputs.{replied_at}
 
 -- all nodes over their storages, and everything that happened
 pub record WorldState (S : Type 0) : Type 0 where
@@ -57,20 +59,19 @@ abbrev pub learnt_by : ℕ → Option LogEntry → List Learnt
 learnt_by node None = []
 learnt_by node (Some e) = record { node = node; slot = e.slot; command = e.command } ∷ []
 
-abbrev pub replied_by : ℕ → Option Executed → List Replied
-replied_by node None = []
-replied_by node (Some e) = replied_at node e ∷ []
+abbrev pub replied_by : ℕ → List Executed → List Replied
+replied_by node replies = map (replied_at node) replies
 
 abbrev pub with_outcome : {S : Type 0} → WorldState S → Outcome → WorldState S
 with_outcome w outcome = record w { outcomes = w.outcomes ++ outcome ∷ [] }
 
-abbrev pub with_told : {S : Type 0} → WorldState S → ℕ → Told → WorldState S
-with_told w node told = record w {
-  frames = w.frames ++ told.sends;
-  waiting = w.waiting ++ replicate (length told.sends) true;
-  learnt = w.learnt ++ learnt_by node told.learnt;
-  replies = w.replies ++ replied_by node told.executed;
-  outcomes = w.outcomes ++ Done (length (learnt_by node told.learnt)) (length (replied_by node told.executed)) ∷ [];
+abbrev pub with_response : {S : Type 0} → WorldState S → ℕ → Response → WorldState S
+with_response w node said = record w {
+  frames = w.frames ++ said.sends;
+  waiting = w.waiting ++ replicate (length said.sends) true;
+  learnt = w.learnt ++ learnt_by node said.learnt;
+  replies = w.replies ++ replied_by node said.replies;
+  outcomes = w.outcomes ++ Done (length (learnt_by node said.learnt)) (length said.replies) ∷ [];
 }
 
 -- a refusal and a failure are told, and nothing else
@@ -78,8 +79,8 @@ abbrev pub outcome_of : ℕ → NodeFault → Outcome
 outcome_of node f = if is_stop_fault f then Stopped node f else Refused node f
 
 -- the world once a node's answer to an input is recorded
-abbrev pub recorded : {S : Type 0} → WorldState S → ℕ → Result Told NodeFault → WorldState S
-recorded w node (Ok told) = with_told w node told
+abbrev pub recorded : {S : Type 0} → WorldState S → ℕ → Result Response NodeFault → WorldState S
+recorded w node (Ok said) = with_response w node said
 recorded w node (Err f) = with_outcome w (outcome_of node f)
 
 abbrev pub with_node : {S : Type 0} → WorldState S → ℕ → NodeState (Script S) → WorldState S
@@ -91,18 +92,20 @@ pub record TakesAt {S : Type 0} (storages : Ghosts (Script S))
   pub before : NodeState (Script S)
   pub here : slice_get old.nodes node ≡ Some before
   pub after : NodeState (Script S)
-  pub result : Result Told NodeFault
+  pub result : Result Response NodeFault
   pub steps : NodeSteps storages before input result after
+  -- it goes on being the meaning of what it has learnt
+  pub meaning : StaysMeaning before result after
   pub taken_ : taken ≡ is_ok result
   pub leaves : new ≡ recorded (with_node old node after) node result
 
 -- ---- room for all that one step may add
 pub record HasRoom {S : Type 0} (w : Run S) : Type 0 where
   pub submitted : vec_len w.submitted + 1 ≤ vec_capacity w.submitted
-  pub frames : vec_len w.frames + 7 ≤ vec_capacity w.frames
-  pub waiting : vec_len w.waiting + 7 ≤ vec_capacity w.waiting
+  pub frames : vec_len w.frames + MOST_SENDS ≤ vec_capacity w.frames
+  pub waiting : vec_len w.waiting + MOST_SENDS ≤ vec_capacity w.waiting
   pub learnt : vec_len w.learnt + 1 ≤ vec_capacity w.learnt
-  pub replies : vec_len w.replies + 1 ≤ vec_capacity w.replies
+  pub replies : vec_len w.replies + MOST_WAITING ≤ vec_capacity w.replies
   pub answers : vec_len w.answers + 1 ≤ vec_capacity w.answers
   pub outcomes : vec_len w.outcomes + 1 ≤ vec_capacity w.outcomes
 
@@ -129,7 +132,7 @@ pub record SubmitsAt {S : Type 0} (storages : Ghosts (Script S))
   pub valid : IsSound r.op
   pub taken : Bool
   pub between : WorldState S
-  pub takes : TakesAt storages old node (input.Submit r) taken between
+  pub takes : TakesAt storages old node (input.Submit r.client r.number r.op) taken between
   pub leaves : new ≡ with_submission between taken node r
 
 -- a frame has come: a node that is up takes it, and one that is down loses it
@@ -174,6 +177,8 @@ pub record AsksAt {S : Type 0} (old : WorldState S) (node : ℕ) (query : Query)
   pub here : slice_get old.nodes node ≡ Some asked
   pub result : Result (ℕ × List ℕ) NodeFault
   pub answers : NodeAnswers asked query result
+  -- an answer is that of what the node has learnt
+  pub meaning : AnswersMeaning asked query result
   pub leaves : new ≡ answered old node query result
 
 -- a node restarts

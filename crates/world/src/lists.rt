@@ -1,10 +1,7 @@
 //! What a world remembers of its run.
 
-ghost use Rattle.std.specs.Prelude.{◌≡◌};
-
-use super::fault::NodeFault;
+use node::{NodeFault, Text};
 use sessions::{Command, Number};
-use std::marker::Model;
 use store::{Op, Query};
 use synod::Slot;
 use wire::NodeId;
@@ -34,36 +31,6 @@ pub struct Replied {
     pub number: Number,
     pub reply: sessions::Outcome,
     pub position: u32,
-}
-
-/// The text of an answer.
-#[derive(Debug, Drop)]
-pub struct Text {
-    bytes: Vec<u8>,
-}
-
-impl Model for Text {
-    ghost use Rattle.std.specs.Prelude.{List, ℕ};
-
-    ghost Value = { List ℕ };
-
-    ghost view = { λ t. t.bytes.items };
-}
-
-impl Text {
-    /// The text of these bytes.
-    pub fn new(bytes: Vec<u8>) -> Text
-        ensures { result ≡ bytes.items }
-    {
-        Text { bytes }
-    }
-
-    /// Its bytes.
-    pub fn as_bytes(&self) -> &[u8]
-        ensures { result.now ≡ self.now }
-    {
-        self.bytes.as_slice()
-    }
 }
 
 /// A node's answer to a query: the text, and the position of which it speaks.

@@ -1,28 +1,29 @@
 //! The world: all nodes, everything that was sent, and everything that came of it.
 
 ghost use Rattle.std.specs.Prelude.{◌≡◌, ◌≤◌, ◌<◌, ◌+◌, ◌++◌, ◌∷◌, [], ◌↔◌, ℕ, true, length, vec_len, vec_capacity, Some, None, IsNone, OnOk, OnErr, IsOk, IsErrOf, ◌⊎◌, Bool, IfOk, IfErr, IfSome, IsTrue, is_ok, slice_get, MatchBool, MatchOption, All, map};
-ghost use Rattle.world.specs.Fleets.{IsBetween, IsFleet, ComesFrom};
-ghost use Rattle.world.specs.Nodes.{state_of};
-ghost use Rattle.world.specs.Fitting.{InputFits};
+ghost use Rattle.store.specs.Operations.{IsSound};
+ghost use Rattle.node.specs.Nodes.{state_of};
+ghost use Rattle.node.specs.Outputs.{IsFew};
+ghost use Rattle.node.specs.Sending.{IsBetween};
+ghost use Rattle.world.specs.Fleets.{IsFleet};
 ghost use Rattle.wire.specs.FrameSpelling.{Fits};
 ghost use Rattle.world.specs.Outputs.{replied_at};
+ghost use Rattle.world.specs.Worlds.{replied_by};
 ghost use Rattle.world.specs.Waiting.{NoneWaits, NoneWaitsBelow, OneWaits, IsLowestWaiting};
 
 use super::event::Event;
-use super::fault::{NodeFault, WorldFault};
+use super::fault::WorldFault;
 use super::flags::first_set;
-use super::input::Input;
-use super::lists::{Answered, Learnt, Outcome, Replied, Submission, Text};
+use super::lists::{Answered, Learnt, Outcome, Replied, Submission};
 use super::log::MOST_DELIVERIES;
-use super::node::Node;
-use super::offer::Offer;
-use super::outputs::{Executed, LogEntry, Outputs};
 use super::start::start_nodes;
+use node::{
+    Executed, Input, LogEntry, MOST_SENDS, MOST_WAITING, Node, NodeFault, Outputs, Text,
+};
 use sessions::Number;
 use stable::{Failing, MemStable, Put, Scripted, Stable};
 use std::alloc::Global;
 use store::{Op, Query};
-use synod::MOST_NODES;
 use wire::{Envelope, Frame, NodeId, Nodes};
 
 /// All nodes of a run, over storages of one kind.
@@ -69,7 +70,7 @@ impl Run<MemStable> {
 }
 
 impl<S: Stable> Run<S> {
-    ghost use Rattle.world.specs.Worlds.{run_of, with_told, with_outcome, outcome_of, TakesAt, SubmitsAt, ArmsAt, AsksAt, ReceivesAt, DeliversFrame, RestartsAt, Steps, with_answer, quiet, without_wait, HasRoom};
+    ghost use Rattle.world.specs.Worlds.{run_of, with_response, with_outcome, outcome_of, TakesAt, SubmitsAt, ArmsAt, AsksAt, ReceivesAt, DeliversFrame, RestartsAt, Steps, with_answer, quiet, without_wait, HasRoom};
     ghost use Rattle.world.specs.Events.{NamesNoFrame, NamesNoNode};
     ghost use Rattle.world.specs.Flushing.{Delivers, DeliversSome};
 
@@ -214,8 +215,8 @@ impl<S: Stable> Run<S> {
         self.find(node)?;
         self.reserve()?;
         let copy = op.clone()?;
-        let offer = Offer::new(client, number, op);
-        if self.take(alloc, node, Input::Submit(offer)) {
+        see_valid(&copy);
+        if self.take(alloc, node, Input::Submit { client, number, op }) {
             let _ = self.submitted.push(Submission {
                 node,
                 client,
@@ -228,8 +229,6 @@ impl<S: Stable> Run<S> {
 
     // Anything but a frame or a client's request comes to a node.
     fn input(&mut self, alloc: Global, node: NodeId, input: Input) -> Result<(), WorldFault>
-        requires sender { ComesFrom (vec_len self.old.nodes) input }
-        requires fits { InputFits input }
         ensures takes { OnOk result ((taken : Bool) × TakesAt (⟦<Scripted<S> as Stable>⟧)
             (run_of self.old) node input taken (run_of self.new)) }
         ensures err { OnErr result (run_of self.new ≡ run_of self.old) }
@@ -266,13 +265,13 @@ impl<S: Stable> Run<S> {
         requires room { HasRoom self.old }
         ensures { ReceivesAt (⟦<Scripted<S> as Stable>⟧) (run_of self.old) envelope (run_of self.new) }
     {
-        let Envelope { from, to, message } = envelope;
+        let to = envelope.to;
         let at = &self.nodes[usize::from(to.value())];
         if !at.is_up() {
             let _ = self.outcomes.push(Outcome::Lost);
             return;
         }
-        let _taken = self.take(alloc, to, Input::Message(from, message));
+        let _taken = self.take(alloc, to, Input::Message(envelope));
     }
 
     // A frame waits no more.
@@ -429,8 +428,6 @@ impl<S: Stable> Run<S> {
     // A node takes an input, and what it tells joins the lists: whether it took it.
     fn take(&mut self, alloc: Global, node: NodeId, input: Input) -> bool
         requires there { node < vec_len self.old.nodes }
-        requires sender { ComesFrom (vec_len self.old.nodes) input }
-        requires fits { InputFits input }
         requires room { HasRoom self.old }
         ensures taken { TakesAt (⟦<Scripted<S> as Stable>⟧) (run_of self.old) node input result (run_of self.new) }
         ensures submitted { self.new.submitted ≡ self.old.submitted }
@@ -455,10 +452,10 @@ impl<S: Stable> Run<S> {
         ensures memory { IfErr result (λ fault. fault ≡ WorldFault.Memory) }
     {
         self.submitted.try_reserve(1)?;
-        self.frames.try_reserve(usize::from(MOST_NODES))?;
-        self.waiting.try_reserve(usize::from(MOST_NODES))?;
+        self.frames.try_reserve(MOST_SENDS)?;
+        self.waiting.try_reserve(MOST_SENDS)?;
         self.learnt.try_reserve(1)?;
-        self.replies.try_reserve(1)?;
+        self.replies.try_reserve(MOST_WAITING)?;
         self.answers.try_reserve(1)?;
         self.outcomes.try_reserve(1)?;
         Ok(())
@@ -467,19 +464,19 @@ impl<S: Stable> Run<S> {
     // The outputs of a node join the lists.
     fn record(&mut self, node: NodeId, outputs: Outputs)
         requires room { HasRoom self.old }
-        requires few { length outputs.sends ≤ MOST_NODES }
+        requires few { IsFew outputs }
         requires between { All (IsBetween (vec_len self.old.nodes)) outputs.sends }
-        ensures lists { run_of self.new ≡ with_told (run_of self.old) node outputs }
+        ensures lists { run_of self.new ≡ with_response (run_of self.old) node outputs }
         ensures submitted { self.new.submitted ≡ self.old.submitted }
     {
         let Outputs {
             learnt,
-            executed,
+            replies,
             mut sends,
         } = outputs;
         let outcome = Outcome::Done {
             learnt: u32::from(learnt.is_some()),
-            replies: u32::from(executed.is_some()),
+            replies: replies.len() as u32,
         };
         if let Some(LogEntry { slot, command }) = learnt {
             let _ = self.learnt.push(Learnt {
@@ -488,9 +485,7 @@ impl<S: Stable> Run<S> {
                 command,
             });
         }
-        if let Some(executed) = executed {
-            let _ = self.replies.push(replied(node, executed));
-        }
+        add_replies(&mut self.replies, node, replies);
         let _ = self.frames.append(&mut sends);
         let _ = self.waiting.resize(self.frames.len(), true);
         let _ = self.outcomes.push(outcome);
@@ -508,6 +503,31 @@ impl<S: Stable> Run<S> {
             Outcome::Refused(node, fault)
         };
         let _ = self.outcomes.push(outcome);
+    }
+}
+
+// The replies of a node join the list, which has room for them.
+fn add_replies(replies: &mut Vec<Replied>, node: NodeId, executed: Vec<Executed>)
+    requires room { vec_len replies.old + vec_len executed ≤ vec_capacity replies.old }
+    ensures added { replies.new.items ≡ replies.old.items ++ replied_by node executed.items }
+{
+    for executed in executed {
+        let _ = replies.push(replied(node, executed));
+    }
+}
+
+// What an operation brings is valid, as its type has it: a sequence, or a point with its coordinates in range.
+fn see_valid(op: &Op)
+    ensures { IsSound op.now }
+{
+    match op {
+        Op::Put(_, seq) => {
+            let _interp = seq.interp();
+        }
+        Op::Append(addition) => {
+            let _point = addition.point();
+        }
+        Op::Remove(_) => {}
     }
 }
 

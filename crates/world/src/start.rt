@@ -2,9 +2,9 @@
 
 ghost use Rattle.std.specs.Prelude.{◌≤◌, IfOk, map, vec_len};
 ghost use Rattle.world.specs.Flushing.{IsStarted, HaveStarted};
-ghost use Rattle.world.specs.Nodes.{state_of};
+ghost use Rattle.node.specs.Nodes.{state_of};
 
-use super::node::Node;
+use node::Node;
 use stable::{MemStable, Scripted, Stable};
 use std::alloc::{AllocError, Global};
 use synod::MOST_NODES;

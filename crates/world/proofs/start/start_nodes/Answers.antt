@@ -2,7 +2,7 @@ use Rattle.std.proofs.Common.{subst}
 use Rattle.stable.specs.Memory.{in_memory}
 use Rattle.stable.specs.Storages.{scripted}
 use Rattle.world.specs.Flushing.{IsStarted}
-use Rattle.world.specs.Nodes.{state_of}
+use Rattle.node.specs.Nodes.{state_of}
 use Rattle.world.proofs.StartLemmas.{one_more_started}
 use Rattle.world.proofs.start.start_nodes.Goals as goal
 

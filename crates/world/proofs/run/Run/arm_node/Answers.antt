@@ -1,5 +1,5 @@
 use Rattle.std.proofs.Common.{◌≡◌, refl, rules, ap, ◌∙◌, vec_len}
-use Rattle.world.specs.Nodes.{state_of}
+use Rattle.node.specs.Nodes.{state_of}
 use Rattle.world.specs.Worlds.{run_of, quiet, with_node}
 use Rattle.world.proofs.FleetSteps.{armed_member, lent_fleet}
 use Rattle.world.proofs.WorldLemmas.{lent_at, left_by}

@@ -1,5 +1,5 @@
 use Rattle.std.proofs.Common.{◌≡◌, rules, vec_len, true}
-use Rattle.world.specs.Nodes.{state_of}
+use Rattle.node.specs.Nodes.{state_of}
 use Rattle.world.proofs.WorldLemmas.{lent_at, none_is_not_some}
 use Rattle.world.proofs.run.Run.receive.Goals as goal
 

@@ -1,6 +1,6 @@
 use Rattle.std.proofs.Common.{◌≡◌, refl, rules, subst, vec_len, None, Result, Ok, Err, OnOk}
-use Rattle.world.specs.declared.fault.NodeFault.{NodeFault}
-use Rattle.world.specs.Nodes.{state_of}
+use Rattle.node.specs.declared.fault.NodeFault.{NodeFault}
+use Rattle.node.specs.Nodes.{state_of}
 use Rattle.world.specs.Worlds.{run_of, with_outcome, restart_outcome}
 use Rattle.world.proofs.FleetLemmas.{restart_leaves}
 use Rattle.world.proofs.FleetSteps.{lent_fleet}

@@ -1,8 +1,8 @@
 use Rattle.std.proofs.Common.{◌≡◌, refl, rules, subst, arith, Ok, Err, slice_get, Some, vec_len, All, IfOk}
 use Rattle.std.proofs.lemmas.Option.{slice_get_read}
 use Rattle.world.specs.Fleets.{IsBetween}
-use Rattle.world.specs.Nodes.{state_of}
-use Rattle.world.specs.Worlds.{run_of, with_told, with_outcome, outcome_of}
+use Rattle.node.specs.Nodes.{state_of}
+use Rattle.world.specs.Worlds.{run_of, with_response, with_outcome, outcome_of}
 use Rattle.world.proofs.FleetSteps.{lent_fleet, stepped}
 use Rattle.world.proofs.WorldLemmas.{shown_at, left_by}
 use Rattle.world.proofs.run.Run.take.Goals as goal
@@ -21,7 +21,7 @@ returns-in-Ok-clause-taken g c =
       steps = rw (← c.in-Ok.is) c.step.ensures.steps;
       taken_ = refl;
       leaves = left_by _ (run_of c.args.self.now) c.args.self.now.nodes.items c.args.node c.step.new.self
-          (λ w. with_told w c.args.node c.in-Ok.outputs) (rw named at c.record.ensures.lists) refl;
+          (λ w. with_response w c.args.node c.in-Ok.outputs) (rw named at c.record.ensures.lists) refl;
     }
 
 pub returns-in-Err-clause-taken : goal.returns-in-Err-clause-taken
