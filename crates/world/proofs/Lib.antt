@@ -18,6 +18,7 @@ pub mod SafetyLemmas
 pub mod Tellings
 pub mod Explained
 pub mod Validity
+pub mod InLog
 pub mod OneAnswer
 pub mod TallyLemmas
 -- the start, and deliveries one after the other
