@@ -1,8 +1,10 @@
 -- What comes of an input.
-use Rattle.std.specs.Prelude.{List, [], Option, None}
+use Rattle.std.specs.Prelude.{◌≤◌, List, [], length, Option, None}
+use Rattle.proposer.specs.declared.waiting.TheConstants.{MOST_WAITING}
 use Rattle.wire.specs.declared.frames.envelope.Envelope.{Envelope}
 use Rattle.node.specs.declared.outputs.Executed.{Executed}
 use Rattle.node.specs.declared.outputs.LogEntry.{LogEntry}
+use Rattle.node.specs.declared.outputs.TheConstants.{MOST_SENDS}
 
 -- what a node says, in this order
 pub record Response : Type 0 where
@@ -18,3 +20,8 @@ sent sends = record { learnt = None; replies = []; sends = sends }
 
 abbrev pub silence : Response
 silence = sent []
+
+-- it is no more than a node may say on one input
+pub record IsFew (said : Response) : Type 0 where
+  pub sends : length said.sends ≤ MOST_SENDS
+  pub replies : length said.replies ≤ MOST_WAITING

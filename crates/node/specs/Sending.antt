@@ -1,5 +1,5 @@
 -- To whom messages go.
-use Rattle.std.specs.Prelude.{ℕ, zero, suc, List, [], ◌∷◌, ◌++◌, Option, Some, None, filter, not}
+use Rattle.std.specs.Prelude.{ℕ, zero, suc, ◌<◌, List, [], ◌∷◌, ◌++◌, Option, Some, None, filter, not}
 use Rattle.synod.specs.declared.slot.TheConstants.{SLOTS}
 use Rattle.std.specs.Prelude.{nat_lt, if◌then◌else◌}
 use Rattle.sessions.specs.declared.command.Command.{Command}
@@ -12,6 +12,11 @@ use Rattle.wire.specs.NodeSets.{has_node, no_nodes, with_node}
 use Rattle.wire.specs.declared.frames.envelope.Envelope.{Envelope}
 use Rattle.wire.specs.declared.frames.message.Message.{Message}
 use Rattle.wire.specs.declared.frames.message.Message.TheVariants.{Promise, Nack, Accepted, Ask, Decided}
+
+-- the envelope goes from one node of so many to another, or to itself
+pub record IsBetween (nodes : ℕ) (e : Envelope) : Type 0 where
+  pub from : e.from < nodes
+  pub to : e.to < nodes
 
 -- the message from one node to another
 abbrev pub to_one : ℕ → ℕ → Message → List Envelope

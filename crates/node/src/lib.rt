@@ -19,9 +19,13 @@ pub use allowed::{
 };
 pub use fault::NodeFault;
 pub use input::Input;
-pub use laws::{meanings_are_as_long_as_positions, members_stay};
+pub use laws::{
+    fresh_minds_mean_nothing, frames_go_between, learnt_is_told, meanings_are_as_long_as_positions,
+    meanings_are_of_learnt_slots, members_stay,
+};
 pub use node::Node;
-pub use outputs::{Executed, LogEntry, Outputs, Text};
+pub use outputs::{Executed, LogEntry, MOST_SENDS, Outputs, Text};
+pub use proposer::MOST_WAITING;
 
 #[cfg(test)]
 mod tests;

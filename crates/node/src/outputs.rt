@@ -9,6 +9,9 @@ use std::marker::Model;
 use synod::Slot;
 use wire::Frame;
 
+/// At most this many messages are sent on an input: eight proposals to each of seven nodes, and a question to six of them.
+pub const MOST_SENDS: usize = 62;
+
 /// A slot that the node newly learnt, and what it holds.
 #[derive(Debug, Drop)]
 pub struct LogEntry {
