@@ -126,7 +126,7 @@ module _ (set : List Bool) (id from : ℕ) (m : Message) (in_set : has_node set 
       ]
     where
       below : (n id : ℕ) → id < suc n → (n ≡ id → ⊥) → id < n
-      below n id there other = elim (same_or_less n id there) [ | inl same ↦ absurd (other same) | inr less ↦ less ]
+      below n id there other = elim (same_or_less n id there) [ inl same ↦ absurd (other same) | inr less ↦ less ]
         where
           same_or_less : (n id : ℕ) → id < suc n → (n ≡ id) ⊎ (id < n)
           same_or_less n id there = grind (arith)

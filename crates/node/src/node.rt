@@ -95,10 +95,10 @@ impl<S: Stable> Node<S> {
         ensures value { MatchOption (state_of self.now).up (result ≡ 0) (λ m. result ≡ length m.proposing.waiting) }
         ensures few { result ≤ MOST_WAITING }
     {
-        match &self.roles {
-            Some(roles) => roles.waiting(),
-            None => 0,
-        }
+        let Some(roles) = &self.roles else {
+            return 0;
+        };
+        roles.waiting()
     }
 
     /// Takes an input, refuses it, or goes down on it.
