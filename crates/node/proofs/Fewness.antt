@@ -1,7 +1,7 @@
 -- What a node says on one input is not much.
 use Rattle.std.proofs.Common.{◌≡◌, ◌||◌, ℕ, zero, suc, ◌+◌, ◌-◌, ◌*◌, ◌<◌, ◌≤◌, nat_lt, nat_le, min, Bool, true, false, cond, not, List, []}
 use Rattle.std.proofs.Common.{◌∷◌, ◌++◌, length, filter, map, Option, Some, None, Result, Ok, Err, IfOk, IfSome, refl, sym, ap, ◌∙◌, subst}
-use Rattle.std.proofs.Common.{arith, is_some}
+use Rattle.std.proofs.Common.{arith, is_some, ◌⊎◌, inl, inr}
 use Rattle.std.specs.List.{list_any}
 use Rattle.std.proofs.Math.Nat.{min-le_left}
 use Rattle.std.proofs.lemmas.Bool.{cond_both}
@@ -14,6 +14,7 @@ use Rattle.synod.specs.declared.slot.TheConstants.{SLOTS}
 use Rattle.sessions.specs.Asked.{Asked}
 use Rattle.sessions.specs.declared.command.Command.{Command}
 use Rattle.sessions.specs.declared.command.Command.TheVariants.{NoOp, Request}
+use Rattle.acceptor.specs.Accepting.{accept_answer}
 use Rattle.acceptor.specs.declared.answer.Answer.{Answer}
 use Rattle.acceptor.specs.declared.answer.Answer.TheVariants as answer
 use Rattle.learner.specs.Learning.{Learning, prefix, learnt_at}
@@ -42,7 +43,7 @@ use Rattle.node.specs.Minds.{Mind, IsSmall, position, asked, waits}
 use Rattle.node.specs.Outputs.{Response, IsFew}
 use Rattle.node.specs.Sending.{to_one, to_all, to_recipients, envelopes_of, envelopes, answer_sends, decided_sends, ask_sends, ask_others}
 use Rattle.node.specs.Taking.{Takes, TakesEnvelope, TakesMessage, Hears, Learns, proposed, begins_to_lead, after_counting, with_request, after_submit}
-use Rattle.node.specs.Taking.{executing_of, execution, after_news, news}
+use Rattle.node.specs.Taking.{executing_of, execution, after_news, after_promise, news, proposer_of}
 
 -- ---- messages to nodes
 to_all-length : (from n : ℕ) (m : Message) → length (to_all from n m) ≡ n
@@ -84,9 +85,9 @@ tells_few : (from to slot : ℕ) (o : Option Command) → length (decided_sends 
 tells_few from to slot None = omega arith
 tells_few from to slot (Some c) = omega arith
 
-asks_few : (from to position : ℕ) → length (ask_sends from to position) ≤ 1
-asks_few from to position =
-    cond_both (nat_lt position SLOTS) (to_one from to (Ask position)) [] (λ (es : List Envelope). length es ≤ 1)
+asks_few : (from to slot : ℕ) → length (ask_sends from to slot) ≤ 1
+asks_few from to slot =
+    cond_both (nat_lt slot SLOTS) (to_one from to (Ask slot)) [] (λ (es : List Envelope). length es ≤ 1)
     (λ _. omega arith) (λ _. omega arith)
 
 -- ---- messages to all nodes but one
@@ -99,6 +100,15 @@ itself (suc (suc (suc (suc zero)))) few = refl
 itself (suc (suc (suc (suc (suc zero))))) few = refl
 itself (suc (suc (suc (suc (suc (suc zero)))))) few = refl
 itself (suc (suc (suc (suc (suc (suc (suc n))))))) few = absurd (omega (arith, few))
+
+same_or_less : (n id : ℕ) → id < suc n → (n ≡ id) ⊎ (id < n)
+same_or_less n id there = grind (arith)
+
+below : (n id : ℕ) → id < suc n → (n ≡ id → ⊥) → id < n
+below n id there other = elim (same_or_less n id there) [ inl same ↦ absurd (other same) | inr less ↦ less ]
+
+six_or_seven : (n : ℕ) → n ≤ 7 → (n ≤ 6) ⊎ (n ≡ 7)
+six_or_seven n few = grind (arith)
 
 module _ (set : List Bool) (id from : ℕ) (m : Message) (in_set : has_node set id ≡ true) where
   abbrev passes : Envelope → Bool
@@ -124,25 +134,16 @@ module _ (set : List Bool) (id from : ℕ) (m : Message) (in_set : has_node set 
             let before = one_fewer n (below n id there other.1) in
             omega (arith, parts, one, before))
       ]
-    where
-      below : (n id : ℕ) → id < suc n → (n ≡ id → ⊥) → id < n
-      below n id there other = elim (same_or_less n id there) [ inl same ↦ absurd (other same) | inr less ↦ less ]
-        where
-          same_or_less : (n id : ℕ) → id < suc n → (n ≡ id) ⊎ (id < n)
-          same_or_less n id there = grind (arith)
 
-others_few : (id n position : ℕ) → id < 7 → n ≤ 7 → length (ask_others id n position) ≤ 6
-others_few id n position number few =
-    cond_both (nat_lt position SLOTS) (to_recipients (Others (with_node no_nodes id)) (to_all id n (Ask position))) []
+others_few : (id n slot : ℕ) → id < 7 → n ≤ 7 → length (ask_others id n slot) ≤ 6
+others_few id n slot number few =
+    cond_both (nat_lt slot SLOTS) (to_recipients (Others (with_node no_nodes id)) (to_all id n (Ask slot))) []
     (λ (es : List Envelope). length es ≤ 6) (λ _. elim (six_or_seven n few) [
-      | inl six ↦ (let some = some_few (Others (with_node no_nodes id)) (to_all id n (Ask position)) in
-          omega (arith, six, some, to_all-length id n (Ask position)))
-      | inr seven ↦ (let some = one_fewer (with_node no_nodes id) id id (Ask position) (itself id number) n (omega (arith, number, seven)) in
+      | inl six ↦ (let some = some_few (Others (with_node no_nodes id)) (to_all id n (Ask slot)) in
+          omega (arith, six, some, to_all-length id n (Ask slot)))
+      | inr seven ↦ (let some = one_fewer (with_node no_nodes id) id id (Ask slot) (itself id number) n (omega (arith, number, seven)) in
           omega (arith, few, some))
     ]) (λ _. omega arith)
-  where
-    six_or_seven : (n : ℕ) → n ≤ 7 → (n ≤ 6) ⊎ (n ≡ 7)
-    six_or_seven n few = grind (arith)
 
 -- ---- a proposer
 -- a slot of the window is gone through, and a message at most is sent
@@ -187,10 +188,10 @@ window_few k waiting learnt_to l =
 abbrev Eight : Proposing × List Outgoing → Type 0
 Eight x = length x.1 ≤ 8
 
-gathers_few : (p : Proposing) (k : Option Campaigning) (position : ℕ) → Eight (gathers_on p k position)
-gathers_few p None position = omega arith
-gathers_few p (Some k) position =
-    cond_both (gathers p.waiting position) _ _ Eight (λ _. omega arith) (λ _. omega arith)
+gathers_few : (p : Proposing) (k : Option Campaigning) (slot : ℕ) → Eight (gathers_on p k slot)
+gathers_few p None slot = omega arith
+gathers_few p (Some k) slot =
+    cond_both (gathers p.waiting slot) _ _ Eight (λ _. omega arith) (λ _. omega arith)
 
 leads_few : (p : Proposing) (k : Campaigning) (l : Learning) → Eight (leads p k l)
 leads_few p k l = cond_both (nat_lt k.end (prefix l)) _ _ Eight (λ _. gathers_few p (Some k) (prefix l))
@@ -268,9 +269,10 @@ module _ (old new : Mind) (said : Response) (small : IsSmall old) where
       → Hears old c o l last new said → IsFew said
   hears_few c None l last few k = few_sends _ k.1 refl (omega arith)
   hears_few c (Some learned) l last few k =
+      let p : Proposing = proposer_of old learned.slot (execution old l) in
       let x : Proposing × List Outgoing = after_news old learned.slot l in
       let both = length-append (sends_of x.1) last in
-      let proposals = few_outgoing x.1 (proposes_few _ _ l) in
+      let proposals = few_outgoing x.1 (proposes_few p p.campaign l) in
       let replies_ = execution_few old l in
       subst IsFew (sym k.says) (record {
         sends = omega (arith, both, proposals, few);
@@ -282,10 +284,12 @@ module _ (old new : Mind) (said : Response) (small : IsSmall old) where
       few_sends _ e refl (let n = answers_few old.id old.nodes from a small.of_all in omega (arith, n))
   message_few from (Promise p) k =
       few_sends _ k.1 refl
-      (let n = few_outgoing _ (counting_few old.proposing (with_promised old.proposing from p) old.learning) in omega (arith, n))
+      (let n = few_outgoing (after_promise old from p).1
+      (counting_few old.proposing (with_promised old.proposing from p) old.learning) in
+      omega (arith, n))
   message_few from (Nack n) k = few_sends _ k.1 refl (omega arith)
   message_few from (Accept v) k =
-      few_sends _ k.1 refl (let n = answers_few old.id old.nodes from _ small.of_all in omega (arith, n))
+      few_sends _ k.1 refl (let n = answers_few old.id old.nodes from (accept_answer old.accepting v) small.of_all in omega (arith, n))
   message_few from (Accepted v) (o, l, heard, k) = hears_few v.command o l [] (omega arith) k
   message_few from (Ask slot) k =
       few_sends _ k.1 refl (let n = tells_few old.id from slot (learnt_at old.learning slot) in omega (arith, n))
@@ -297,7 +301,8 @@ module _ (old new : Mind) (said : Response) (small : IsSmall old) where
 
   pub takes_few : (i : Input) → Takes old i new said → IsFew said
   takes_few (input.Submit client number op) k =
-      few_sends _ k.1 refl (let n = few_outgoing _ (submit_few old (asked client number op)) in omega (arith, n))
+      few_sends _ k.1 refl
+      (let n = few_outgoing (after_submit old (asked client number op)).1 (submit_few old (asked client number op)) in omega (arith, n))
   takes_few (input.Message e) k = envelope_few e (concerns old.id old.nodes e) k
   takes_few input.Timeout (prepare_, starts, leaves, e) =
       few_sends _ e refl (let n = outgoing_few old.id old.nodes prepare_ small.of_all in omega (arith, n))
