@@ -6,10 +6,13 @@ pub mod Replying
 pub mod Meanings
 pub mod News
 pub mod LearntSlots
+pub mod Learnt
 -- a node stays the node that it is
 pub mod Members
 -- what is sent
 pub mod SendLemmas
+pub mod Between
+pub mod Fewness
 -- what the protocol allows
 pub mod AllowedSends
 pub mod AllowedGoing
