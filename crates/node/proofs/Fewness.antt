@@ -1,6 +1,6 @@
 -- What a node says on one input is not much.
 use Rattle.std.proofs.Common.{◌≡◌, ◌||◌, ℕ, zero, suc, ◌+◌, ◌-◌, ◌*◌, ◌<◌, ◌≤◌, nat_lt, nat_le, min, Bool, true, false, cond, not, List, []}
-use Rattle.std.proofs.Common.{◌∷◌, ◌++◌, length, filter, map, Option, Some, None, Result, Ok, Err, IfOk, IfSome, refl, sym, ap, ◌∙◌, subst}
+use Rattle.std.proofs.Common.{◌∷◌, length, filter, map, Option, Some, None, Result, Ok, Err, IfOk, IfSome, refl, sym, ap, ◌∙◌, subst}
 use Rattle.std.proofs.Common.{arith, is_some, ◌⊎◌, inl, inr}
 use Rattle.std.specs.List.{list_any}
 use Rattle.std.proofs.Math.Nat.{min-le_left}
@@ -19,15 +19,13 @@ use Rattle.acceptor.specs.declared.answer.Answer.{Answer}
 use Rattle.acceptor.specs.declared.answer.Answer.TheVariants as answer
 use Rattle.learner.specs.Learning.{Learning, prefix, learnt_at}
 use Rattle.learner.specs.declared.learned.Learned.{Learned}
-use Rattle.proposer.specs.Campaigning.{Campaigning, Filling, is_at, stepped, proposing, going_on, filled, window_filled, accept, prepare, choice}
-use Rattle.proposer.specs.Campaigning.{closed_below, begun}
-use Rattle.proposer.specs.Campaigning as campaign
-use Rattle.proposer.specs.Proposing.{Proposing, gathers, gathers_on, fills, leads, proposes, sends_again, with_promised}
+use Rattle.proposer.specs.Campaigning.{Campaigning, Filling, is_at, stepped, proposing, going_on, filled, window_filled, accept, choice}
+use Rattle.proposer.specs.Campaigning.{closed_below}
+use Rattle.proposer.specs.Proposing.{Proposing, gathers, gathers_on, leads, proposes, sends_again, with_promised}
 use Rattle.proposer.specs.Requests.{is_of, without}
 use Rattle.proposer.specs.declared.outgoing.Outgoing.{Outgoing}
 use Rattle.proposer.specs.declared.outgoing.Recipients.{Recipients}
 use Rattle.proposer.specs.declared.outgoing.Recipients.TheVariants.{All, Others}
-use Rattle.proposer.specs.declared.window.Proposal.{Proposal}
 use Rattle.proposer.specs.declared.window.TheConstants.{MOST_OPEN}
 use Rattle.wire.specs.NodeSets.{has_node, no_nodes, with_node}
 use Rattle.wire.specs.declared.frames.envelope.Envelope.{Envelope}
@@ -36,13 +34,12 @@ use Rattle.wire.specs.declared.frames.message.Message.TheVariants.{Prepare, Prom
 use Rattle.node.specs.declared.fault.NodeFault.{NodeFault}
 use Rattle.node.specs.declared.input.Input.{Input}
 use Rattle.node.specs.declared.input.Input.TheVariants as input
-use Rattle.node.specs.declared.outputs.Executed.{Executed}
 use Rattle.node.specs.Executing.{Executing, executing, executed, reply_at}
 use Rattle.node.specs.Inputs.{concerns}
 use Rattle.node.specs.Minds.{Mind, IsSmall, position, asked, waits}
 use Rattle.node.specs.Outputs.{Response, IsFew}
 use Rattle.node.specs.Sending.{to_one, to_all, to_recipients, envelopes_of, envelopes, answer_sends, decided_sends, ask_sends, ask_others}
-use Rattle.node.specs.Taking.{Takes, TakesEnvelope, TakesMessage, Hears, Learns, proposed, begins_to_lead, after_counting, with_request, after_submit}
+use Rattle.node.specs.Taking.{Takes, TakesEnvelope, TakesMessage, Hears, begins_to_lead, after_counting, with_request, after_submit}
 use Rattle.node.specs.Taking.{executing_of, execution, after_news, after_promise, news, proposer_of}
 
 -- ---- messages to nodes
