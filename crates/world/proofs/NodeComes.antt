@@ -71,25 +71,7 @@ here_placed w i y =
     ap (λ (r : synod_records.Records Command). begins r ((placed w i y).mind i)) (put_same w.past.records i y.records)
     ∙ ap (λ (m : synod_minds.Mind Command). begins y.records m) (put_same w.mind i y.mind)
 
-t-- where a node has come to with its records and its mind, the rest aside
-begun_mind : (m : Mind) (y : Local Command) → MindStands m y → MindStands m (begins y.records y.mind)
-begun_mind m y h = record {
-  records = h.records;
-  learner = h.learner;
-  proposer = record { round = h.proposer.round; campaign = h.proposer.campaign; waiting = h.proposer.waiting };
-  position_ = h.position_;
-}
-
-begun_up : (records : Records) (o : Option Mind) (y : Local Command) → IfSome o (λ m. HoldsRecords m records × MindStands m y)
-    → IfSome o (λ m. HoldsRecords m records × MindStands m (begins y.records y.mind))
-begun_up records None y h = tt
-begun_up records (Some m) y h = (h.0, begun_mind m y h.1)
-
-begun : {S : Type 0} (contents : Script S → Records) (n : NodeState (Script S)) (y : Local Command) → NodeStands contents n y
-    → NodeStands contents n (begins y.records y.mind)
-begun contents n y h = record { records = h.records; up = begun_up (contents n.storage) n.up y h.up }
-
-here_placed : (w : synod_runs.World Command) (i : ℕ) (y : Local Command) (j : ℕ) → (j ≡ i → ⊥) → local_of (placed w i y) j ≡ local_of w j
+there_placed : (w : synod_runs.World Command) (i : ℕ) (y : Local Command) (j : ℕ) → (j ≡ i → ⊥) → local_of (placed w i y) j ≡ local_of w j
 there_placed w i y j other =
     ap (λ (r : synod_records.Records Command). begins r ((placed w i y).mind j)) (put_other w.past.records i y.records j other)
     ∙ ap (λ (m : synod_minds.Mind Command). begins (w.past.records j) m) (put_other w.mind i y.mind j other)

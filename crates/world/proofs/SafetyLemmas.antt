@@ -161,15 +161,15 @@ module _ {S : Type 0} {contents : Script S → Records} where
   }
 
 -- ---- the start
-module _ {S : Type 0} {storages : Ghosts (Script S)} where
-  nothing_agrees : (records : Records) → records ≡ no_records → RecordsAgree records nothing_written
-  nothing_agrees records e = subst (λ (c : Records). RecordsAgree c nothing_written) (sym e) (record {
-    accepting = nothing_held;
-    round = zero;
-    holds = record { acceptor = RecordsSay-nothing; proposer = refl };
-    stands = record { promise = refl; vote = λ s. refl; round_ = refl; floor_ = refl };
-  })
+nothing_agrees : (records : Records) → records ≡ no_records → RecordsAgree records nothing_written
+nothing_agrees records e = subst (λ (c : Records). RecordsAgree c nothing_written) (sym e) (record {
+  accepting = nothing_held;
+  round = zero;
+  holds = record { acceptor = RecordsSay-nothing; proposer = refl };
+  stands = record { promise = refl; vote = λ s. refl; round_ = refl; floor_ = refl };
+})
 
+module _ {S : Type 0} {storages : Ghosts (Script S)} where
   started_stands : (i count : ℕ) (n : NodeState (Script S)) → IsStarted storages i count n → storages.IsHonest n.storage
       → NodeStands storages.contents n (synod_runs.here synod_runs.start i)
   started_stands i count n h honest =
