@@ -1,5 +1,5 @@
 -- What a node replies, as a world lists it.
-use Rattle.std.specs.Prelude.{ℕ}
+use Rattle.std.specs.Prelude.{ℕ, List, map}
 use Rattle.node.specs.declared.outputs.Executed.{Executed}
 use Rattle.world.specs.declared.lists.Replied.{Replied}
 
@@ -7,6 +7,10 @@ use Rattle.world.specs.declared.lists.Replied.{Replied}
 abbrev pub replied_at : ℕ → Executed → Replied
 replied_at node e =
     record { node = node; client = e.client; number = e.number; reply = e.reply; position = e.position }
+
+-- its replies, in their order
+abbrev pub replied_by : ℕ → List Executed → List Replied
+replied_by node replies = map (replied_at node) replies
 
 -- what was executed, of which this is the reply
 abbrev pub executed_of : Replied → Executed

@@ -1,5 +1,5 @@
 -- The world: all nodes, everything that was sent, and everything that came of it.
-use Rattle.std.specs.Prelude.{◌≡◌, ℕ, zero, ◌+◌, ◌≤◌, List, [], ◌∷◌, ◌++◌, length, replicate, map, slice_get, slice_set, Bool, true, false, Option, Some, None, is_some, is_ok, Result, Ok, Err, IsSome, OnOk, vec_len, vec_capacity, if◌then◌else◌}
+use Rattle.std.specs.Prelude.{◌≡◌, ℕ, ◌+◌, ◌≤◌, List, [], ◌∷◌, ◌++◌, length, replicate, map, slice_get, slice_set, Bool, true, false, Option, Some, None, is_ok, Result, Ok, Err, IsSome, OnOk, vec_len, vec_capacity, if◌then◌else◌}
 use Rattle.stable.specs.Script.{Script}
 use Rattle.stable.specs.declared.scripted.Failing.{Failing}
 use Rattle.stable.specs.declared.stable.Stable.{Ghosts}
@@ -14,7 +14,6 @@ use Rattle.node.specs.declared.fault.NodeFault.{NodeFault}
 use Rattle.node.specs.declared.input.Input.{Input}
 use Rattle.node.specs.declared.input.Input.TheVariants as input
 use Rattle.node.specs.declared.outputs.TheConstants.{MOST_SENDS}
-use Rattle.node.specs.declared.outputs.Executed.{Executed}
 use Rattle.node.specs.declared.outputs.LogEntry.{LogEntry}
 use Rattle.node.specs.Faults.{is_stop_fault}
 use Rattle.node.specs.Loading.{Restarts}
@@ -28,7 +27,7 @@ use Rattle.world.specs.declared.lists.Answered.{Answered}
 use Rattle.world.specs.declared.lists.Outcome.{Outcome}
 use Rattle.world.specs.declared.lists.Outcome.TheVariants.{Done, Lost, Refused, Stopped, Answered as AnsweredOutcome}
 use Rattle.world.specs.declared.run.Run.{Run}
-use Rattle.world.specs.Outputs.{replied_at}
+use Rattle.world.specs.Outputs.{replied_by}
 
 -- all nodes over their storages, and everything that happened
 pub record WorldState (S : Type 0) : Type 0 where
@@ -58,9 +57,6 @@ run_of w = record {
 abbrev pub learnt_by : ℕ → Option LogEntry → List Learnt
 learnt_by node None = []
 learnt_by node (Some e) = record { node = node; slot = e.slot; command = e.command } ∷ []
-
-abbrev pub replied_by : ℕ → List Executed → List Replied
-replied_by node replies = map (replied_at node) replies
 
 abbrev pub with_outcome : {S : Type 0} → WorldState S → Outcome → WorldState S
 with_outcome w outcome = record w { outcomes = w.outcomes ++ outcome ∷ [] }
@@ -141,8 +137,7 @@ pub record ReceivesAt {S : Type 0} (storages : Ghosts (Script S))
   pub receiver : NodeState (Script S)
   pub here : slice_get old.nodes frame.to ≡ Some receiver
   pub lost : receiver.up ≡ None → new ≡ with_outcome old Lost
-  pub taken : IsSome receiver.up → (taken : Bool)
-      × TakesAt storages old frame.to (input.Message frame.from frame.message) taken new
+  pub taken : IsSome receiver.up → (taken : Bool) × TakesAt storages old frame.to (input.Message frame) taken new
 
 -- frame k comes to its receiver as the envelope that its bytes spell, and waits no more
 pub record DeliversFrame {S : Type 0} (storages : Ghosts (Script S))

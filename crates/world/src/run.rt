@@ -7,8 +7,7 @@ ghost use Rattle.node.specs.Outputs.{IsFew};
 ghost use Rattle.node.specs.Sending.{IsBetween};
 ghost use Rattle.world.specs.Fleets.{IsFleet};
 ghost use Rattle.wire.specs.FrameSpelling.{Fits};
-ghost use Rattle.world.specs.Outputs.{replied_at};
-ghost use Rattle.world.specs.Worlds.{replied_by};
+ghost use Rattle.world.specs.Outputs.{replied_at, replied_by};
 ghost use Rattle.world.specs.Waiting.{NoneWaits, NoneWaitsBelow, OneWaits, IsLowestWaiting};
 
 use super::event::Event;
