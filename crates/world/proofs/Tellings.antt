@@ -2,7 +2,6 @@
 use Rattle.std.proofs.Common.{◌≡◌, ℕ, zero, suc, ◌+◌, ◌≤◌, ◌⊎◌, inl, inr, List, [], ◌∷◌, ◌++◌, length, map, Bool, true, false, Option}
 use Rattle.std.proofs.Common.{Some, None, Result, Ok, Err, IsSome, IfSome, IfOk, IfErr, OnOk, OnErr, MatchBool, Contains, slice_get}
 use Rattle.std.proofs.Common.{slice_set, refl, sym, ap, ◌∙◌, subst, append-nil, arith}
-use Rattle.std.specs.Option.{ForSome}
 use Rattle.std.proofs.lemmas.List.Elements.{Contains-append_left, Contains-append_right, Contains-append_cases, Contains-push}
 use Rattle.std.proofs.lemmas.List.Elements.{Contains-push_cases}
 use Rattle.std.proofs.lemmas.Option.{same_Some}
@@ -37,10 +36,10 @@ use Rattle.world.specs.declared.lists.Learnt.{Learnt}
 use Rattle.world.specs.declared.lists.Replied.{Replied}
 use Rattle.world.specs.declared.lists.Answered.{Answered}
 use Rattle.world.specs.Flushing.{IsStart, IsStarted}
-use Rattle.world.specs.Outputs.{replied_at}
+use Rattle.world.specs.Outputs.{replied_at, replied_by}
 use Rattle.world.specs.Telling.{WasLearnt, WereLearnt, TellsReply, TellsAnswer, Knows, ListsTell, Tells}
 use Rattle.world.specs.Worlds.{WorldState, TakesAt, SubmitsAt, ReceivesAt, AsksAt, ArmsAt, RestartsAt, Steps, recorded, with_node}
-use Rattle.world.specs.Worlds.{with_submission, without_wait, learnt_by, replied_by, answered}
+use Rattle.world.specs.Worlds.{with_submission, without_wait, learnt_by, answered}
 
 -- ---- lists
 -- what stands in a list to which a function is applied is its value at an element
@@ -275,8 +274,7 @@ module _ {S : Type 0} (storages : Ghosts (Script S)) where
   restarts_at old node new r tells =
       subst (λ (w : WorldState S). Tells w) (sym r.leaves)
       (changed_tells old node r.after tells (record {
-        knows = λ m up. fresh_knows old.learnt r.before.id r.before.nodes m
-            (subst (λ (o : Option Mind). ForSome o (IsFresh r.before.id r.before.nodes)) up r.restarts.fresh);
+        knows = λ m up. fresh_knows old.learnt r.before.id r.before.nodes m (r.restarts.fresh m up);
         replied = λ e c. absurd (none_in e c);
       }))
 
