@@ -1,5 +1,5 @@
 -- One list of commands explains what is told: at each slot of the log what was learnt there, or a no-op.
-use Rattle.std.proofs.Common.{◌≡◌, ℕ, zero, suc, ◌+◌, ◌<◌, ◌≤◌, ◌⊎◌, inl, inr, List, [], ◌∷◌, ◌++◌, length, take, Some, None, Contains}
+use Rattle.std.proofs.Common.{◌≡◌, ℕ, zero, suc, ◌+◌, ◌<◌, ◌≤◌, ◌⊎◌, inl, inr, List, [], ◌∷◌, length, take, Some, None, Contains}
 use Rattle.std.proofs.Common.{slice_get, refl, sym, ap, ◌∙◌, subst, arith}
 use Rattle.std.proofs.lemmas.Bool.{cases_eq}
 use Rattle.std.proofs.lemmas.List.Elements.{Contains-append_left, Contains-append_right, Contains-append_cases, Contains-push}
@@ -16,7 +16,7 @@ use Rattle.world.specs.declared.lists.Submission.{Submission}
 use Rattle.world.specs.declared.lists.Learnt.{Learnt}
 use Rattle.world.specs.declared.lists.Replied.{Replied}
 use Rattle.world.specs.declared.lists.Answered.{Answered}
-use Rattle.world.specs.Explaining.{ExplainsReply, ExplainsAnswer, Explains, IsExplained, LearntAgree, LearntInLog, LearntGrounded}
+use Rattle.world.specs.Explaining.{ExplainsReply, ExplainsAnswer, IsExplained, LearntAgree, LearntInLog, LearntGrounded}
 use Rattle.world.specs.Outputs.{executed_of}
 use Rattle.world.specs.Submissions.{IsGrounded}
 use Rattle.world.specs.Telling.{WasLearnt, WereLearnt, TellsReply, TellsAnswer, Tells}

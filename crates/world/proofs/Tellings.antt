@@ -1,6 +1,6 @@
 -- Each step keeps what the lists of a world tell of one another.
-use Rattle.std.proofs.Common.{◌≡◌, ℕ, zero, suc, ◌+◌, ◌≤◌, ◌⊎◌, inl, inr, List, [], ◌∷◌, ◌++◌, length, map, Bool, true, false, Option}
-use Rattle.std.proofs.Common.{Some, None, Result, Ok, Err, IsSome, IfSome, IfOk, IfErr, OnOk, OnErr, MatchBool, Contains, slice_get}
+use Rattle.std.proofs.Common.{◌≡◌, ℕ, zero, suc, ◌+◌, ◌⊎◌, inl, inr, List, [], ◌∷◌, ◌++◌, map, Bool, true, false, Option}
+use Rattle.std.proofs.Common.{Some, None, Result, Ok, Err, IsSome, IfSome, IfOk, IfErr, MatchBool, Contains, slice_get}
 use Rattle.std.proofs.Common.{slice_set, refl, sym, ap, ◌∙◌, subst, append-nil, arith}
 use Rattle.std.proofs.lemmas.List.Elements.{Contains-append_left, Contains-append_right, Contains-append_cases, Contains-push}
 use Rattle.std.proofs.lemmas.List.Elements.{Contains-push_cases}
@@ -23,7 +23,7 @@ use Rattle.node.specs.declared.outputs.LogEntry.{LogEntry}
 use Rattle.node.specs.Composition.{IsMeaningOf, IsReplyOf, GoesOnFrom, executed_from}
 use Rattle.node.specs.Faults.{is_stop_fault}
 use Rattle.node.specs.Loading.{IsFresh}
-use Rattle.node.specs.Minds.{Mind, learnt_in, position}
+use Rattle.node.specs.Minds.{Mind, position}
 use Rattle.node.specs.Nodes.{TakesInput, RefusesInput, StopsOnInput, NodeAnswers, AnswersMeaning}
 use Rattle.node.specs.Outputs.{Response, silence}
 use Rattle.node.specs.States.{NodeState}
