@@ -1,6 +1,5 @@
 -- Whatever a node makes of an input that it takes is allowed.
-use Rattle.std.proofs.Common.{◌≡◌, ◌==◌, ◌&&◌, ℕ, ◌<◌, ◌≤◌, Bool, true, false, nat_lt, [], refl, sym, subst, arith}
-use Rattle.std.proofs.lemmas.Bool.{and_parts, ltb-true}
+use Rattle.std.proofs.Common.{◌≡◌, ℕ, ◌<◌, ◌≤◌, Bool, true, false, [], refl, sym, subst, arith}
 use Rattle.synod.specs.Acts.{Local}
 use Rattle.sessions.specs.declared.command.Command.{Command}
 use Rattle.wire.specs.declared.frames.envelope.Envelope.{Envelope}
@@ -9,7 +8,7 @@ use Rattle.wire.specs.declared.frames.message.Message.TheVariants.{Prepare, Prom
 use Rattle.synod.specs.Acts as act
 use Rattle.node.specs.declared.input.Input.{Input}
 use Rattle.node.specs.declared.input.Input.TheVariants as input
-use Rattle.node.specs.Inputs.{names_run, concerns}
+use Rattle.node.specs.Inputs.{concerns}
 use Rattle.node.specs.Loading.{IsMindOf}
 use Rattle.node.specs.Minds.{Mind}
 use Rattle.node.specs.Outputs.{Response}
@@ -18,13 +17,7 @@ use Rattle.node.specs.Taking.{Takes, TakesMessage, TakesEnvelope}
 use Rattle.node.proofs.AllowedCases.{idle_case, prepare_case, accept_case, ask_case, nack_case, promise_case}
 use Rattle.node.proofs.AllowedCases.{submit_case, timeout_case, tick_case}
 use Rattle.node.proofs.AllowedLearning.{vote_case, decided_case}
-
--- an envelope that concerns a node comes from one of the run
-from_the_run : (id nodes : ℕ) (e : Envelope) → concerns id nodes e ≡ true → e.from < nodes
-from_the_run id nodes e h =
-    let of_run : (nat_lt e.from nodes && names_run nodes e.message) ≡ true =
-    (and_parts (e.to == id) (nat_lt e.from nodes && names_run nodes e.message) h).1 in
-    ltb-true e.from nodes (and_parts (nat_lt e.from nodes) (names_run nodes e.message) of_run).0
+use Rattle.node.proofs.Between.{from_the_run}
 
 module _ (old new : Mind) (said : Response) (x : Local Command) (few : old.nodes ≤ 7) (there : old.id < old.nodes)
     (own : IsMindOf old.id old.nodes old) (stands : MindStands old x) where

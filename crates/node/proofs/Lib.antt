@@ -5,10 +5,13 @@ pub mod Replying
 -- what a node is the meaning of
 pub mod Meanings
 pub mod News
+pub mod Learnt
 -- a node stays the node that it is
 pub mod Members
 -- what is sent
 pub mod SendLemmas
+pub mod Between
+pub mod Fewness
 -- what the protocol allows
 pub mod AllowedSends
 pub mod AllowedGoing

@@ -1,7 +1,6 @@
 -- A node stays the node that it is.
-use Rattle.std.proofs.Common.{◌≡◌, ℕ, ◌++◌, ◌∷◌, [], nat_lt, Bool, true, false, List, Option, Some, None, Result, Ok, Err, IfSome, IfOk}
+use Rattle.std.proofs.Common.{◌≡◌, ℕ, nat_lt, Bool, true, false, List, Option, Some, None, Result, Ok, Err, IfSome, IfOk}
 use Rattle.std.proofs.Common.{IfErr, MatchBool, refl, sym, ap, ◌∙◌, subst}
-use Rattle.std.specs.Option.{ForSome}
 use Rattle.std.proofs.lemmas.Bool.{cond_both}
 use Rattle.synod.specs.declared.vote.Vote.{Vote}
 use Rattle.stable.specs.declared.stable.Stable.{Ghosts}
@@ -26,8 +25,8 @@ use Rattle.node.specs.Loading.{IsMindOf, IsMember}
 use Rattle.node.specs.Minds.{Mind, waits, asked}
 use Rattle.node.specs.Nodes.{NodeState, NodeSteps, TakesInput, StopsOnInput, RefusesInput}
 use Rattle.node.specs.Outputs.{Response}
-use Rattle.node.specs.Taking.{Takes, TakesEnvelope, TakesMessage, Hears, Learns, after_news, begins_to_lead, after_counting}
-use Rattle.node.specs.Taking.{after_submit, with_request, proposer_of, proposed, execution}
+use Rattle.node.specs.Taking.{Takes, TakesEnvelope, TakesMessage, Hears, after_news, begins_to_lead, after_counting}
+use Rattle.node.specs.Taking.{with_request, proposer_of, proposed, execution}
 
 -- ---- a proposer
 pub record KeepsOwn (old new : Proposing) : Type 0 where

@@ -1,6 +1,7 @@
 -- What a node holds while it is up, and which inputs it refuses.
-use Rattle.std.specs.Prelude.{◌≡◌, ℕ, ◌^◌, nat_le, length, not, Bool, true, false, Option, Some, None, if◌then◌else◌}
+use Rattle.std.specs.Prelude.{◌≡◌, ℕ, ◌<◌, ◌≤◌, ◌^◌, nat_le, length, not, Bool, true, false, Option, Some, None, IfSome, if◌then◌else◌}
 use Rattle.std.specs.List.{list_any}
+use Rattle.synod.specs.declared.ballot.TheConstants.{MOST_NODES}
 use Rattle.synod.specs.declared.slot.TheConstants.{SLOTS}
 use Rattle.store.specs.declared.op.Op.{Op}
 use Rattle.sessions.specs.Asked.{Asked}
@@ -11,6 +12,7 @@ use Rattle.learner.specs.Learning.{Learning, prefix}
 use Rattle.proposer.specs.Proposing.{Proposing, next_round}
 use Rattle.proposer.specs.Requests.{is_of}
 use Rattle.proposer.specs.declared.waiting.TheConstants.{MOST_WAITING}
+use Rattle.proposer.specs.declared.window.TheConstants.{MOST_OPEN}
 use Rattle.node.specs.Inputs.{is_short, concerns}
 use Rattle.node.specs.declared.fault.NodeFault.{NodeFault}
 use Rattle.node.specs.declared.fault.NodeFault.TheVariants as fault
@@ -30,7 +32,7 @@ pub record Mind : Type 0 where
 abbrev pub position : Mind → ℕ
 position m = prefix m.learning
 
--- what it has learnt at a slot
+-- what the node has learnt at a slot
 abbrev pub learnt_in : Mind → ℕ → Option Command
 learnt_in m slot = m.learning.learnt slot
 
@@ -45,6 +47,13 @@ asked client number op = record { client = client; number = number; op = op }
 -- the request of this client and number waits
 abbrev pub waits : Mind → ℕ → ℕ → Bool
 waits m client number = list_any (is_of client number) m.proposing.waiting
+
+-- it is one of seven nodes at most, few requests wait, and few proposals are open
+pub record IsSmall (m : Mind) : Type 0 where
+  pub number : m.id < MOST_NODES
+  pub of_all : m.nodes ≤ MOST_NODES
+  pub waiting : length m.proposing.waiting ≤ MOST_WAITING
+  pub proposals : IfSome m.proposing.campaign (λ k. length k.proposals ≤ MOST_OPEN)
 
 -- ---- which inputs are refused, and leave the node as it was
 abbrev pub refuses_submit : Mind → Asked → Option NodeFault

@@ -1,10 +1,10 @@
 -- What comes of an input.
 use Rattle.std.specs.Prelude.{◌≤◌, List, [], length, Option, None}
+use Rattle.proposer.specs.declared.waiting.TheConstants.{MOST_WAITING}
 use Rattle.wire.specs.declared.frames.envelope.Envelope.{Envelope}
 use Rattle.node.specs.declared.outputs.Executed.{Executed}
 use Rattle.node.specs.declared.outputs.LogEntry.{LogEntry}
 use Rattle.node.specs.declared.outputs.TheConstants.{MOST_SENDS}
-use Rattle.proposer.specs.declared.waiting.TheConstants.{MOST_WAITING}
 
 -- what a node says, in this order
 pub record Response : Type 0 where
@@ -21,7 +21,7 @@ sent sends = record { learnt = None; replies = []; sends = sends }
 abbrev pub silence : Response
 silence = sent []
 
--- a node says no more than one step may: there is room for so much
+-- it is no more than a node may say on one input
 pub record IsFew (said : Response) : Type 0 where
   pub sends : length said.sends ≤ MOST_SENDS
   pub replies : length said.replies ≤ MOST_WAITING

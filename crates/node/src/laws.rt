@@ -1,14 +1,17 @@
 //! What holds of every node. Nothing runs.
 
-ghost use Rattle.std.specs.Prelude.{◌≡◌, ℕ, List, Result, length};
+ghost use Rattle.std.specs.Prelude.{◌≡◌, ◌⊎◌, ◌<◌, ◌≤◌, ℕ, List, [], Some, None, All, Result, IfOk, length, slice_get};
 ghost use Rattle.sessions.specs.declared.command.Command.{Command};
 ghost use Rattle.node.specs.Composition.{IsMeaningOf, executed_from};
 ghost use Rattle.node.specs.declared.fault.NodeFault.{NodeFault};
 ghost use Rattle.node.specs.declared.input.Input.{Input};
-ghost use Rattle.node.specs.Loading.{IsMember};
-ghost use Rattle.node.specs.Minds.{Mind, position};
+ghost use Rattle.node.specs.declared.outputs.LogEntry.{LogEntry};
+ghost use Rattle.node.specs.Loading.{IsFresh, IsMember};
+ghost use Rattle.node.specs.Minds.{Mind, learnt_in, position};
 ghost use Rattle.node.specs.Nodes.{NodeState, NodeSteps};
 ghost use Rattle.node.specs.Outputs.{Response};
+ghost use Rattle.node.specs.Sending.{IsBetween};
+ghost use Rattle.node.specs.Taking.{Takes};
 
 use stable::Stable;
 
@@ -21,4 +24,32 @@ pub fn meanings_are_as_long_as_positions()
 pub fn members_stay<S: Stable>()
     ensures { (id nodes : ℕ) (old new : NodeState S) (input : Input) (result : Result Response NodeFault)
         → NodeSteps S.Stable old input result new → IsMember id nodes old → IsMember id nodes new }
+{}
+
+/// What a node of a run sends goes between nodes of the run.
+pub fn frames_go_between<S: Stable>()
+    ensures { (id nodes : ℕ) (old new : NodeState S) (input : Input) (result : Result Response NodeFault)
+        → NodeSteps S.Stable old input result new → IsMember id nodes old → id < nodes
+        → IfOk result (λ said. All (IsBetween nodes) said.sends) }
+{}
+
+/// What a node newly learns it tells, and it tells nothing else as learnt.
+pub fn learnt_is_told()
+    ensures told { (old new : Mind) (input : Input) (said : Response) → Takes old input new said
+        → (slot : ℕ) (c : Command) → learnt_in new slot ≡ Some c
+        → (learnt_in old slot ≡ Some c) ⊎ (said.learnt ≡ Some (record { slot = slot; command = c })) }
+    ensures news { (old new : Mind) (input : Input) (said : Response) → Takes old input new said
+        → (e : LogEntry) → said.learnt ≡ Some e → (learnt_in new e.slot ≡ Some e.command) × (learnt_in old e.slot ≡ None) }
+{}
+
+/// Of the commands of which a node is the meaning, those behind its first are learnt at their slots.
+pub fn meanings_are_of_learnt_slots()
+    ensures { (base : List Command) (m : Mind) → IsMeaningOf base m → (slot : ℕ) (c : Command) → length base ≤ slot
+        → slice_get (executed_from base m) slot ≡ Some c → learnt_in m slot ≡ Some c }
+{}
+
+/// A node that has just loaded its records has learnt nothing, and is the meaning of no command.
+pub fn fresh_minds_mean_nothing()
+    ensures { (id nodes : ℕ) (m : Mind) → IsFresh id nodes m
+        → IsMeaningOf [] m × ((slot : ℕ) → learnt_in m slot ≡ None) }
 {}

@@ -1,11 +1,12 @@
 //! One node: its records, and its roles while it is up.
 
-ghost use Rattle.std.specs.Prelude.{◌≡◌, ◌⊎◌, ◌↔◌, ℕ, [], List, IfSome, OnOk, IsTrue, IsSome, None, MatchOption};
+ghost use Rattle.std.specs.Prelude.{◌≡◌, ◌⊎◌, ◌↔◌, ◌≤◌, ℕ, [], List, length, IfOk, IfSome, OnOk, IsTrue, IsSome, None, MatchOption};
 
 use super::fault::NodeFault;
 use super::input::Input;
 use super::outputs::{Outputs, Text};
 use super::roles::Roles;
+use proposer::MOST_WAITING;
 use stable::{Failing, Put, Scripted, Stable};
 use std::alloc::Global;
 use store::Query;
@@ -26,6 +27,7 @@ impl<S: Stable> Node<S> {
     ghost use Rattle.node.specs.Loading.{IsLoaded, IsFresh, IsDamaged, IsMember, Restarts};
     ghost use Rattle.node.specs.Minds.{position};
     ghost use Rattle.node.specs.Nodes.{state_of, NodeSteps, NodeAnswers, StaysMeaning, AnswersMeaning};
+    ghost use Rattle.node.specs.Outputs.{IsFew};
 
     /// A node over these records, which it loads. It begins down where they can't be loaded.
     pub fn start(alloc: Global, storage: S, id: NodeId, nodes: Nodes) -> Node<S>
@@ -88,14 +90,27 @@ impl<S: Stable> Node<S> {
         }
     }
 
+    /// How many requests wait at it; 0 while it is down.
+    pub fn waiting(&self) -> usize
+        ensures value { MatchOption (state_of self.now).up (result ≡ 0) (λ m. result ≡ length m.proposing.waiting) }
+        ensures few { result ≤ MOST_WAITING }
+    {
+        let Some(roles) = &self.roles else {
+            return 0;
+        };
+        roles.waiting()
+    }
+
     /// Takes an input, refuses it, or goes down on it.
     pub fn step(&mut self, alloc: Global, input: Input) -> Result<Outputs, NodeFault>
         ensures steps { NodeSteps S.Stable (state_of self.old) input result (state_of self.new) }
         ensures meaning { StaysMeaning (state_of self.old) result (state_of self.new) }
+        ensures few { IfOk result IsFew }
     {
         let Some(roles) = &mut self.roles else {
             return Err(NodeFault::Down);
         };
+        roles.see_small();
         let result = roles.take(alloc, &mut self.storage, input);
         if let Err(fault) = &result {
             if fault.is_stop() {

@@ -9,7 +9,7 @@ use std::marker::Model;
 use synod::Slot;
 use wire::Frame;
 
-/// At most this many frames are sent in one step: on a tick, eight proposals to seven nodes and an Ask to each of six.
+/// At most this many messages are sent on an input: eight proposals to each of seven nodes, and a question to six of them.
 pub const MOST_SENDS: usize = 62;
 
 /// A slot that the node newly learnt, and what it holds.

@@ -1,6 +1,6 @@
 //! What a node holds while it is up.
 
-ghost use Rattle.std.specs.Prelude.{◌≡◌, ◌≤◌, ◌⊎◌, [], Some, IfOk, OnOk, IfErr, IfSome, IsErrOf, IsSome, None, true, false};
+ghost use Rattle.std.specs.Prelude.{◌≡◌, ◌≤◌, ◌⊎◌, [], Some, IfOk, OnOk, IfErr, IfSome, IsErrOf, IsSome, None, true, false, length};
 ghost use Rattle.store.specs.Answers.{IsAnswer};
 ghost use Rattle.sessions.specs.declared.command.Command.{Command};
 ghost use Rattle.byteorder.specs.Endian.{big_bytes};
@@ -21,7 +21,7 @@ use super::outputs::{Executed, LogEntry, Outputs};
 use super::sends::{send, send_answer, send_ask, send_asks, send_each, send_outgoing};
 use acceptor::Acceptor;
 use learner::{Learned, Learner};
-use proposer::Proposer;
+use proposer::{MOST_WAITING, Proposer};
 use sessions::{Command, Machine, Number, Request};
 use stable::{Stable, StableFault};
 use std::alloc::{AllocError, Global};
@@ -44,7 +44,7 @@ pub struct Roles {
 impl Roles {
     ghost use Rattle.node.specs.Loading.{IsLoaded, IsFresh, IsDamaged, IsMindOf};
     ghost use Rattle.node.specs.Inputs.{concerns};
-    ghost use Rattle.node.specs.Minds.{Mind, position, asked, waits, refuses, refuses_submit, refuses_timeout, Ignores};
+    ghost use Rattle.node.specs.Minds.{Mind, IsSmall, position, asked, waits, refuses, refuses_submit, refuses_timeout, Ignores};
     ghost use Rattle.node.specs.Roles.{mind_of};
     ghost use Rattle.node.specs.Nodes.{HasMade, HasFailedToMake};
     ghost use Rattle.node.specs.Outputs.{sent, silence};
@@ -93,6 +93,24 @@ impl Roles {
         ensures counted { IsPrefix (mind_of self.now).learning.learnt (mind_of self.now).learning.first (position (mind_of self.now)) }
     {
         self.learner.prefix()
+    }
+
+    /// How many requests wait.
+    pub fn waiting(&self) -> usize
+        ensures count { result ≡ length (mind_of self.now).proposing.waiting }
+        ensures few { result ≤ MOST_WAITING }
+    {
+        self.proposer.waiting()
+    }
+
+    // What is known of its parts: nodes and their names, the requests that wait, and the open proposals.
+    pub fn see_small(&self)
+        ensures { IsSmall (mind_of self.now) }
+    {
+        let _count = self.nodes.count();
+        let _number = self.id.value();
+        let _waiting = self.proposer.waiting();
+        let _open = self.proposer.open();
     }
 
     /// The answer to a query, over what its machine holds.

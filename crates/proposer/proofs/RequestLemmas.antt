@@ -1,5 +1,5 @@
 -- Requests in a map, by name.
-use Rattle.std.proofs.Common.{◌≡◌, ℕ, ◌==◌, ◌&&◌, ◌||◌, List, [], ◌∷◌, ◌++◌, Bool, true, false, cond, Option, Some, None, is_some, refl, ap, ◌∙◌}
+use Rattle.std.proofs.Common.{◌≡◌, ℕ, ◌+◌, ◌<◌, ◌≤◌, arith, ◌==◌, ◌&&◌, ◌||◌, List, [], ◌∷◌, ◌++◌, Bool, true, false, cond, Option, Some, None, is_some, refl, ap, ◌∙◌}
 use Rattle.std.specs.List.{list_any}
 use Rattle.std.specs.Map.{lookup, remove_entry, values_of}
 use Rattle.sessions.specs.Asked.{Asked}
@@ -58,6 +58,11 @@ named_push (e ∷ es) k r h c n = (h.0, named_push es k r h.1 c n)
 pub values_push : (es : List (Name × Asked)) (k : Name) (r : Asked) → values_of (es ++ (k, r) ∷ []) ≡ values_of es ++ r ∷ []
 values_push [] k r = refl
 values_push (e ∷ es) k r = ap (λ l. e.1 ∷ l) (values_push es k r)
+
+-- where there was a place for it
+pub one_more : {A : Type 0} (o : Option A) (before after : ℕ) → after ≡ before + cond (is_some o) 0 1 → before < 64 → after ≤ 64
+one_more None before after e place = omega (arith, e, place)
+one_more (Some x) before after e place = omega (arith, e, place)
 
 -- none there
 pub none_found : {A : Type 0} (o : Option A) → is_some o ≡ false → o ≡ None

@@ -1,6 +1,6 @@
 //! A proposer's attempt to lead under one ballot.
 
-ghost use Rattle.std.specs.Prelude.{◌≡◌, ◌≤◌, ◌++◌, ◌∷◌, [], ◌||◌, min, true, false, IsTrue, ◌↔◌, Some, None, IfOk, OnOk, OnErr, MatchOption, filter, nat_le, map, ◌+◌, is_some};
+ghost use Rattle.std.specs.Prelude.{◌≡◌, ◌≤◌, ◌++◌, ◌∷◌, [], ◌||◌, min, true, false, IsTrue, ◌↔◌, Some, None, IfOk, OnOk, OnErr, MatchOption, filter, length, nat_le, map, ◌+◌, is_some};
 ghost use Rattle.proposer.specs.Campaigning.{begun, counts, after_promise, up_to, is_most, closed, closed_below, choice, window_limit, window_filled, stepped, IsStep, sends_again, accept, prepare};
 ghost use Rattle.learner.specs.Learning.{learnt_at};
 ghost use Rattle.learner.specs.State.{learning_of};
@@ -8,7 +8,7 @@ ghost use Rattle.learner.specs.State.{learning_of};
 use super::choice::{free_choice, highest, is_told_after};
 use super::outgoing::{Outgoing, Recipients};
 use super::waiting::Waiting;
-use super::window::Window;
+use super::window::{MOST_OPEN, Window};
 use learner::Learner;
 use sessions::Command;
 use std::alloc::{AllocError, Global};
@@ -82,6 +82,14 @@ impl Campaign {
         ensures { result ≡ self.now.leading }
     {
         self.leading
+    }
+
+    /// How many proposals are open.
+    pub fn open(&self) -> usize
+        ensures count { result ≡ length self.now.proposals }
+        ensures few { result ≤ MOST_OPEN }
+    {
+        self.window.count()
     }
 
     /// Counts a promise for the ballot and the first slot, once a node, while it gathers. With a majority it leads.

@@ -14,6 +14,7 @@ use super::campaign::Campaign;
 use super::fault::{SubmitFault, TimeoutFault};
 use super::outgoing::{Outgoing, Recipients};
 use super::waiting::{MOST_WAITING, Waiting};
+use super::window::MOST_OPEN;
 use learner::Learner;
 use sessions::{Number, Request};
 use stable::{Key, Stable, StableFault};
@@ -94,6 +95,25 @@ impl Proposer {
         ensures { result ≡ list_any (is_of client number) self.now.waiting }
     {
         self.waiting.has(client, number)
+    }
+
+    /// How many requests wait.
+    pub fn waiting(&self) -> usize
+        ensures count { result ≡ length self.now.waiting }
+        ensures few { result ≤ MOST_WAITING }
+    {
+        self.waiting.count()
+    }
+
+    /// How many of its proposals are open; 0 without a campaign.
+    pub fn open(&self) -> usize
+        ensures count { MatchOption self.now.campaign (result ≡ 0) (λ k. result ≡ length k.proposals) }
+        ensures few { result ≤ MOST_OPEN }
+    {
+        match &self.campaign {
+            Some(campaign) => campaign.open(),
+            None => 0,
+        }
     }
 
     /// Whether it has a campaign that leads.

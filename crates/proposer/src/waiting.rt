@@ -26,15 +26,17 @@ pub struct Waiting {
 
 impl Model for Waiting {
     ghost use Rattle.std.specs.Prelude.{List};
-    ghost use Rattle.indexmap.specs.IndexMap.{values};
+    ghost use Rattle.std.specs.Prelude.{◌≤◌};
+    ghost use Rattle.indexmap.specs.IndexMap.{index_map_len, values};
     ghost use Rattle.sessions.specs.Asked.{Asked};
     ghost use Rattle.proposer.specs.Requests.{AreNamed};
+    ghost use Rattle.proposer.specs.declared.waiting.TheConstants.{MOST_WAITING};
 
     ghost Value = { List Asked };
 
     ghost view = { λ w. values w.requests };
 
-    ghost invariant = { λ w. AreNamed w.requests.entries };
+    ghost invariant = { λ w. AreNamed w.requests.entries × (index_map_len w.requests ≤ MOST_WAITING) };
 }
 
 impl Waiting {
@@ -59,6 +61,14 @@ impl Waiting {
         ensures { IsTrue result ↔ (self.now ≡ []) }
     {
         self.requests.is_empty()
+    }
+
+    /// How many requests wait.
+    pub fn count(&self) -> usize
+        ensures count { result ≡ length self.now }
+        ensures few { result ≤ MOST_WAITING }
+    {
+        self.requests.len()
     }
 
     /// The first request that is in no open proposal.

@@ -61,6 +61,14 @@ impl Window {
         self.places.as_slice()
     }
 
+    /// How many proposals are open.
+    pub fn count(&self) -> usize
+        ensures count { result ≡ length self.now }
+        ensures few { result ≤ MOST_OPEN }
+    {
+        self.places.len()
+    }
+
     /// Whether a proposal for the slot is open.
     pub fn has(&self, slot: Slot) -> bool
         ensures { result ≡ list_any (is_at slot) self.now }

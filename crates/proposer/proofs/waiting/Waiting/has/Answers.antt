@@ -9,4 +9,4 @@ returns c =
     let es = c.self.inside.requests.entries in
     rw (← c.self.view_is) (c.contains_key.ensures
     ∙ ap (λ (n : Name). is_some (lookup (is_named n.client n.number) es)) c.new.ensures
-    ∙ found_by_name c.args.client c.args.number es c.self.invariant)
+    ∙ found_by_name c.args.client c.args.number es c.self.invariant.0)

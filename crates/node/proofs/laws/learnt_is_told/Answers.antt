@@ -1,0 +1,8 @@
+use Rattle.node.proofs.Learnt.{takes_tells}
+use Rattle.node.proofs.laws.learnt_is_told.Goals as goal
+
+pub returns-clause-told : goal.returns-clause-told
+returns-clause-told c = λ old new input said k. (takes_tells old new said input k).told
+
+pub returns-clause-news : goal.returns-clause-news
+returns-clause-news c = λ old new input said k. (takes_tells old new said input k).news
