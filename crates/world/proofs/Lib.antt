@@ -16,6 +16,7 @@ pub mod WorldMoves
 pub mod SafetyLemmas
 -- what the lists tell, and the list that explains them
 pub mod Tellings
+pub mod Longer
 pub mod Explained
 pub mod Validity
 pub mod InLog
