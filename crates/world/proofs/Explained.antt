@@ -98,12 +98,15 @@ abbrev Looked : List Learnt → ℕ → Type 0
 Looked learnt slot = ((c : Command) × WasLearnt learnt slot c) ⊎ ((t : Learnt) → Contains learnt t → t.slot ≡ slot → ⊥)
 
 look_on : (t : Learnt) (learnt : List Learnt) (slot : ℕ) → (t.slot ≡ slot → ⊥) → Looked learnt slot → Looked (t ∷ learnt) slot
-look_on t learnt slot other (inl (c, was)) = inl (c, record {
-  entry = was.entry;
-  there = Contains-append_right (t ∷ []) learnt was.entry was.there;
-  at = was.at;
-  holds = was.holds;
-})
+look_on t learnt slot other (inl (c, was)) = inl (
+  c,
+  record {
+    entry = was.entry;
+    there = Contains-append_right (t ∷ []) learnt was.entry was.there;
+    at = was.at;
+    holds = was.holds;
+  },
+)
 look_on t learnt slot other (inr none) = inr (λ u there at. elim (Contains-append_cases (t ∷ []) learnt u there) [
   | inl first ↦ elim (Contains-push_cases [] t u first) [
     | inl nothing ↦ none_in u nothing
@@ -115,12 +118,15 @@ look_on t learnt slot other (inr none) = inr (λ u there at. elim (Contains-appe
 look : (learnt : List Learnt) (slot : ℕ) → Looked learnt slot
 look [] slot = inr (λ t there at. none_in t there)
 look (t ∷ learnt) slot = elim (cases_eq t.slot slot) [
-  | inl at ↦ inl (t.command, record {
-    entry = t;
-    there = Contains-append_left (t ∷ []) learnt t (Contains-push [] t);
-    at = at;
-    holds = refl;
-  })
+  | inl at ↦ inl (
+    t.command,
+    record {
+      entry = t;
+      there = Contains-append_left (t ∷ []) learnt t (Contains-push [] t);
+      at = at;
+      holds = refl;
+    },
+  )
   | inr other ↦ look_on t learnt slot other (look learnt slot)
 ]
 
