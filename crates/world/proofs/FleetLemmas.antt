@@ -1,10 +1,9 @@
 -- Nodes keep their names, and what they send goes between nodes of the run.
-use Rattle.std.proofs.Common.{◌≡◌, ℕ, ◌<◌, All, IfOk, Result, sym, subst}
+use Rattle.std.proofs.Common.{ℕ, ◌<◌, All, IfOk, Result, sym, subst}
 use Rattle.stable.specs.declared.stable.Stable.{Ghosts}
 use Rattle.node.specs.declared.fault.NodeFault.{NodeFault}
 use Rattle.node.specs.declared.input.Input.{Input}
 use Rattle.node.specs.Loading.{IsMindOf, IsMember, Restarts}
-use Rattle.node.specs.Minds.{Mind}
 use Rattle.node.specs.Nodes.{NodeState, NodeSteps}
 use Rattle.node.specs.Outputs.{Response}
 use Rattle.node.specs.Sending.{IsBetween}
