@@ -120,11 +120,11 @@ module _ {S : Type 0} where
   one_outcome outcomes o w e = ap length e ∙ length-append outcomes (o ∷ [])
 
   recorded_nodes : (w : WorldState S) (node : ℕ) (r : Result Response NodeFault) → (recorded w node r).nodes ≡ w.nodes
-  recorded_nodes w node (Ok told) = refl
+  recorded_nodes w node (Ok said) = refl
   recorded_nodes w node (Err f) = refl
 
   recorded_more : (w : WorldState S) (node : ℕ) (r : Result Response NodeFault) → outcome_count (recorded w node r) ≡ outcome_count w + 1
-  recorded_more w node (Ok told) = length-append w.outcomes (_ ∷ [])
+  recorded_more w node (Ok said) = length-append w.outcomes (_ ∷ [])
   recorded_more w node (Err f) = length-append w.outcomes (_ ∷ [])
 
   submission_same : (w : WorldState S) (taken : Bool) (node : ℕ) (r : Asked)
@@ -171,10 +171,10 @@ module _ {S : Type 0} {storages : Ghosts (Script S)} (calls : CountsCalls storag
   refused old new m i f false h = same_node old new h.leaves
 
   by_result : (old new : NodeState (Script S)) (m : Mind) (i : Input) (r : Result Response NodeFault)
-      → IfOk r (λ told. TakesInput storages old m i told new)
+      → IfOk r (λ said. TakesInput storages old m i said new)
       → IfErr r (λ f. MatchBool (is_stop_fault f) (StopsOnInput storages old m i f new) (RefusesInput old m i f new))
       → CountsOn old.storage new.storage
-  by_result old new m i (Ok told) taken h = written old.storage new.storage taken.made.write taken.made.leaves
+  by_result old new m i (Ok said) taken h = written old.storage new.storage taken.made.write taken.made.leaves
   by_result old new m i (Err f) taken h = refused old new m i f (is_stop_fault f) h
 
   by_mind : (old new : NodeState (Script S)) (i : Input) (r : Result Response NodeFault) (o : Option Mind) → old.up ≡ o
@@ -182,7 +182,7 @@ module _ {S : Type 0} {storages : Ghosts (Script S)} (calls : CountsCalls storag
   by_mind old new i r None up h = same_node old new (h.down up).1
   by_mind old new i r (Some m) up h =
       by_result old new m i r
-      (subst (λ (o : Option Mind). IfSome o (λ n. IfOk r (λ told. TakesInput storages old n i told new))) up h.taken)
+      (subst (λ (o : Option Mind). IfSome o (λ n. IfOk r (λ said. TakesInput storages old n i said new))) up h.taken)
       (subst (λ (o : Option Mind). IfSome o (λ n. IfErr r (λ f. MatchBool (is_stop_fault f)
       (StopsOnInput storages old n i f new) (RefusesInput old n i f new)))) up h.refused)
 
@@ -201,7 +201,7 @@ module _ {S : Type 0} {storages : Ghosts (Script S)} (calls : CountsCalls storag
       (ap outcome_count (h.lost up) ∙ length-append old.outcomes (_ ∷ []))
   receives_counts old frame new (Some m) h up =
       let takes = h.taken (subst (λ (o : Option Mind). IsSome o) (sym up) refl) in
-      takes_counts old frame.to (input.Message frame.from frame.message) takes.0 new takes.1
+      takes_counts old frame.to (input.Message frame) takes.0 new takes.1
 
   deliver_counts : (old : WorldState S) (k : ℕ) (new : WorldState S) → DeliversFrame storages old k new → CountsStep old new
   deliver_counts old k new h =
@@ -285,7 +285,7 @@ module _ {S : Type 0} where
   -- at the start none has come
   pub start_few : (storages : Ghosts (Script S)) (count : ℕ) (w : WorldState S) → IsStart storages count w → HasFewFaults w
   start_few storages count w start = record {
-    few = λ small i n e. rw ((start.nodes.each i n e).fresh.unfired) (record { counted = refl; few = omega arith });
+    few = λ small i n e. rw ((start.nodes.each i n e).unused.unfired) (record { counted = refl; few = omega arith });
   }
 
   -- the outcomes are in a Vec, whose length a u64 counts

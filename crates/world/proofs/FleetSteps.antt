@@ -16,10 +16,12 @@ use Rattle.node.specs.declared.fault.NodeFault.{NodeFault}
 use Rattle.node.specs.declared.input.Input.{Input}
 use Rattle.node.specs.declared.input.Input.TheVariants as input
 use Rattle.node.specs.declared.node.Node.{Node}
-use Rattle.world.specs.Fleets.{IsMember, IsBetween, IsFleet, ComesFrom}
+use Rattle.node.specs.Loading.{IsMember}
 use Rattle.node.specs.Minds.{Mind}
 use Rattle.node.specs.Nodes.{NodeState, NodeSteps, state_of}
 use Rattle.node.specs.Outputs.{Response}
+use Rattle.node.specs.Sending.{IsBetween}
+use Rattle.world.specs.Fleets.{IsFleet}
 use Rattle.world.specs.Worlds.{WorldState, TakesAt, ReceivesAt, DeliversFrame, Steps, with_node, recorded, with_submission, answered, without_wait}
 use Rattle.world.proofs.WorldLemmas.{lent_at, shown_set}
 use Rattle.world.proofs.FleetLemmas.{NodeLeaves, node_leaves, restart_leaves}
@@ -72,10 +74,10 @@ module _ {S : Type 0} where
   armed_member i len n m failing e member = subst (λ (x : NodeState (Script S)). IsMember i len x) (sym e)
       (record { number = member.number; of_all = member.of_all; up = member.up })
 
-  -- what a node told is recorded
+  -- what a node said is recorded
   pub recorded_fleet : (w : WorldState S) (node : ℕ) (r : Result Response NodeFault) → IsFleet w.nodes w.frames
-      → IfOk r (λ told. All (IsBetween (length w.nodes)) told.sends) → IsFleet (recorded w node r).nodes (recorded w node r).frames
-  recorded_fleet w node (Ok told) fleet between = fleet_sent w.nodes w.frames told.sends fleet between
+      → IfOk r (λ said. All (IsBetween (length w.nodes)) said.sends) → IsFleet (recorded w node r).nodes (recorded w node r).frames
+  recorded_fleet w node (Ok said) fleet between = fleet_sent w.nodes w.frames said.sends fleet between
   recorded_fleet w node (Err f) fleet between = fleet
 
   submitted_fleet : (w : WorldState S) (taken : Bool) (node : ℕ) (r : Asked) → IsFleet w.nodes w.frames
@@ -93,44 +95,40 @@ module _ {S : Type 0} where
 
   module _ (storages : Ghosts (Script S)) where
     takes_fleet : (old : WorldState S) (node : ℕ) (i : Input) (taken : Bool) (new : WorldState S)
-        → TakesAt storages old node i taken new → ComesFrom (length old.nodes) i → IsFleet old.nodes old.frames
-        → IsFleet new.nodes new.frames
-    takes_fleet old node i taken new h sender fleet =
-        let left = node_leaves node (length old.nodes) (slice_get_within old.nodes node h.before h.here) storages
-        h.before i h.result h.after h.steps (fleet.members node h.before h.here) sender in
+        → TakesAt storages old node i taken new → IsFleet old.nodes old.frames → IsFleet new.nodes new.frames
+    takes_fleet old node i taken new h fleet =
+        let left = node_leaves node (length old.nodes) storages (slice_get_within old.nodes node h.before h.here)
+        h.before i h.result h.after h.steps (fleet.members node h.before h.here) in
         let same : length (slice_set old.nodes node h.after) ≡ length old.nodes = length-set old.nodes node h.after in
         another_world new _ h.leaves (recorded_fleet (with_node old node h.after) node h.result
         (fleet_with old.nodes old.frames node h.after fleet left.member)
-        (subst (λ k. IfOk h.result (λ told. All (IsBetween k) told.sends)) (sym same) left.between))
+        (subst (λ k. IfOk h.result (λ said. All (IsBetween k) said.sends)) (sym same) left.between))
 
     receives_fleet : (old : WorldState S) (frame : Envelope) (new : WorldState S) (o : Option Mind)
-        → (h : ReceivesAt storages old frame new) → h.receiver.up ≡ o → IsBetween (length old.nodes) frame
-        → IsFleet old.nodes old.frames → IsFleet new.nodes new.frames
-    receives_fleet old frame new None h up between fleet = another_world new _ (h.lost up) fleet
-    receives_fleet old frame new (Some m) h up between fleet =
+        → (h : ReceivesAt storages old frame new) → h.receiver.up ≡ o → IsFleet old.nodes old.frames → IsFleet new.nodes new.frames
+    receives_fleet old frame new None h up fleet = another_world new _ (h.lost up) fleet
+    receives_fleet old frame new (Some m) h up fleet =
         let takes = h.taken (subst (λ (o : Option Mind). IsSome o) (sym up) refl) in
-        takes_fleet old frame.to (input.Message frame.from frame.message) takes.0 new takes.1 between.from fleet
+        takes_fleet old frame.to (input.Message frame) takes.0 new takes.1 fleet
 
     delivers_fleet : (old : WorldState S) (k : ℕ) (new : WorldState S) → DeliversFrame storages old k new
         → IsFleet old.nodes old.frames → IsFleet new.nodes new.frames
     delivers_fleet old k new h fleet =
-        receives_fleet (without_wait old k) h.frame new h.receives.receiver.up h.receives refl
-        (frame_at old.nodes old.frames k h.frame fleet h.sent) fleet
+        receives_fleet (without_wait old k) h.frame new h.receives.receiver.up h.receives refl fleet
 
     -- one step
     pub step_fleet : (old : WorldState S) (e : Event) (new : WorldState S) → Steps storages old e new
         → IsFleet old.nodes old.frames → IsFleet new.nodes new.frames
     step_fleet old (event.Submit node client number op) new h fleet =
         another_world new _ h.leaves (submitted_fleet h.between h.taken node _
-        (takes_fleet old node _ h.taken h.between h.takes tt fleet))
+        (takes_fleet old node _ h.taken h.between h.takes fleet))
     step_fleet old (event.Deliver k) new h fleet = delivers_fleet old k new h fleet
     step_fleet old (event.Drop k) new h fleet = another_world new _ h fleet
-    step_fleet old (event.Timeout node) new h fleet = takes_fleet old node input.Timeout h.0 new h.1 tt fleet
-    step_fleet old (event.Tick node) new h fleet = takes_fleet old node input.Tick h.0 new h.1 tt fleet
+    step_fleet old (event.Timeout node) new h fleet = takes_fleet old node input.Timeout h.0 new h.1 fleet
+    step_fleet old (event.Tick node) new h fleet = takes_fleet old node input.Tick h.0 new h.1 fleet
     step_fleet old (event.Restart node) new h fleet =
         another_world new _ h.leaves (fleet_with old.nodes old.frames node h.after fleet
-        (restart_leaves node (length old.nodes) (slice_get_within old.nodes node h.before h.here) h.before h.result h.after
-        h.restarts (fleet.members node h.before h.here)))
+        (restart_leaves node (length old.nodes) h.before h.result h.after h.restarts (fleet.members node h.before h.here)))
     step_fleet old (event.Fault node failing) new h fleet =
         let member = fleet.members node h.before h.here in
         another_world new _ h.leaves (fleet_with old.nodes old.frames node _ fleet
@@ -159,10 +157,9 @@ module _ {S : Type 0} where
   pub stepped : {storages : Ghosts (Script S)}
       (nodes : List (Node (Script S))) (frames : List Envelope) (len i j : ℕ) (n m : Node (Script S)) (input : Input)
       (r : Result Response NodeFault) → len ≡ length nodes → j ≡ i → i < len → n ≡ get_or nodes j n
-      → IsFleet (map state_of nodes) frames → NodeSteps storages (state_of n) input r (state_of m)
-      → ComesFrom len input → NodeLeaves i len (state_of m) r
-  stepped {storages} nodes frames len i j n m input r e named there lent fleet steps sender =
+      → IsFleet (map state_of nodes) frames → NodeSteps storages (state_of n) input r (state_of m) → NodeLeaves i len (state_of m) r
+  stepped {storages} nodes frames len i j n m input r e named there lent fleet steps =
       let same = counted nodes len e in
       let before = fleet.members i (state_of n) (lent_at nodes len i j n e named there lent) in
-      node_leaves i len there storages (state_of n) input r (state_of m) steps
-      (subst (λ k. IsMember i k (state_of n)) (sym same) before) sender
+      node_leaves i len storages there (state_of n) input r (state_of m) steps
+      (subst (λ k. IsMember i k (state_of n)) (sym same) before)

@@ -7,7 +7,9 @@ use Rattle.stable.specs.Script.{Script}
 use Rattle.stable.specs.declared.stable.Stable.{Ghosts}
 use Rattle.wire.specs.declared.frames.envelope.Envelope.{Envelope}
 use Rattle.node.specs.declared.node.Node.{Node}
-use Rattle.world.specs.Fleets.{IsMember, IsBetween, IsFleet}
+use Rattle.node.specs.Loading.{IsMember}
+use Rattle.node.specs.Sending.{IsBetween}
+use Rattle.world.specs.Fleets.{IsFleet}
 use Rattle.world.specs.Flushing.{IsStarted, HaveStarted}
 use Rattle.node.specs.Nodes.{NodeState, state_of}
 
@@ -45,9 +47,7 @@ module _ {S : Type 0} (storages : Ghosts (Script S)) where
       → IsFleet nodes []
   fleet_of count nodes h few = record {
     few = few;
-    members = λ i n here. let started = h.each i n here in
-        subst (λ k. IsMember i k n) (sym h.all)
-        (record { number = started.number; of_all = started.of_all; up = started.own });
+    members = λ i n here. subst (λ k. IsMember i k n) (sym h.all) (h.each i n here).member;
     between = All-nil (IsBetween (length nodes));
   }
 

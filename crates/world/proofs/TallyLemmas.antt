@@ -1,6 +1,6 @@
 -- Every step keeps the lists as long as the outcomes say.
 use Rattle.std.proofs.Common.{◌≡◌, ℕ, List, [], ◌∷◌, ◌++◌, length, sum_by, Bool, true, false, Option, Some, None, IsSome, Result, Ok, Err, if◌then◌else◌, refl, sym, subst, arith}
-use Rattle.std.proofs.lemmas.List.{length-append}
+use Rattle.std.proofs.lemmas.List.{length-append, length-map}
 use Rattle.std.proofs.lemmas.List.Sums.{sum_by-append}
 use Rattle.stable.specs.Script.{Script}
 use Rattle.stable.specs.declared.stable.Stable.{Ghosts}
@@ -20,7 +20,8 @@ use Rattle.node.specs.Minds.{Mind}
 use Rattle.node.specs.Outputs.{Response}
 use Rattle.node.specs.States.{NodeState}
 use Rattle.world.specs.Tallies.{learnt_told, replies_told, answers_told, IsTallied, StepsTally}
-use Rattle.world.specs.Worlds.{WorldState, TakesAt, ReceivesAt, Steps, with_node, with_response, with_outcome, recorded, with_submission, answered, restart_outcome, without_wait, learnt_by, replied_by}
+use Rattle.world.specs.Worlds.{WorldState, TakesAt, ReceivesAt, Steps, with_node, with_response, with_outcome, recorded, with_submission, answered, restart_outcome, without_wait, learnt_by}
+use Rattle.world.specs.Outputs.{replied_at, replied_by}
 
 -- entries join a list, and an outcome tells of as many
 grows : {A : Type 0} (xs ys : List A) (f : Outcome → ℕ) (os : List Outcome) (o : Outcome) → length xs ≡ sum_by f os
@@ -45,12 +46,13 @@ module _ {S : Type 0} where
     answers = stays w.answers answers_told w.outcomes o t.answers a;
   }
 
-  told_tallied : (w : WorldState S) (node : ℕ) (told : Response) → IsTallied w → IsTallied (with_response w node told)
-  told_tallied w node told t =
-      let o = Done (length (learnt_by node told.learnt)) (length (replied_by node told.executed)) in
+  said_tallied : (w : WorldState S) (node : ℕ) (said : Response) → IsTallied w → IsTallied (with_response w node said)
+  said_tallied w node said t =
+      let o = Done (length (learnt_by node said.learnt)) (length said.replies) in
       record {
-        learnt = grows w.learnt (learnt_by node told.learnt) learnt_told w.outcomes o t.learnt refl;
-        replies = grows w.replies (replied_by node told.executed) replies_told w.outcomes o t.replies refl;
+        learnt = grows w.learnt (learnt_by node said.learnt) learnt_told w.outcomes o t.learnt refl;
+        replies = grows w.replies (replied_by node said.replies) replies_told w.outcomes o t.replies
+            (length-map said.replies (replied_at node));
         answers = stays w.answers answers_told w.outcomes o t.answers refl;
       }
 
@@ -61,7 +63,7 @@ module _ {S : Type 0} where
   fault_tallied w node f false t = with_quiet w (Refused node f) refl refl refl t
 
   recorded_tallied : (w : WorldState S) (node : ℕ) (r : Result Response NodeFault) → IsTallied w → IsTallied (recorded w node r)
-  recorded_tallied w node (Ok told) t = told_tallied w node told t
+  recorded_tallied w node (Ok said) t = said_tallied w node said t
   recorded_tallied w node (Err f) t = fault_tallied w node f (is_stop_fault f) t
 
   submitted_tallied : (w : WorldState S) (taken : Bool) (node : ℕ) (r : Asked) → IsTallied w → IsTallied (with_submission w taken node r)
@@ -95,7 +97,7 @@ module _ {S : Type 0} where
     receives_tallied old frame new None h up t = another new _ (h.lost up) (with_quiet old Lost refl refl refl t)
     receives_tallied old frame new (Some m) h up t =
         let takes = h.taken (subst (λ (o : Option Mind). IsSome o) (sym up) refl) in
-        takes_tallied old frame.to (input.Message frame.from frame.message) takes.0 new takes.1 t
+        takes_tallied old frame.to (input.Message frame) takes.0 new takes.1 t
 
     step_tallied : (old : WorldState S) (e : Event) (new : WorldState S) → Steps storages old e new
         → IsTallied old → IsTallied new

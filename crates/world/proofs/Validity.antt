@@ -42,7 +42,7 @@ module _ {S : Type 0} where
   submitted_in w = w.submitted
 
   recorded_same : (w : WorldState S) (node : ℕ) (r : Result Response NodeFault) → (recorded w node r).submitted ≡ w.submitted
-  recorded_same w node (Ok told) = refl
+  recorded_same w node (Ok said) = refl
   recorded_same w node (Err f) = refl
 
   answered_same : (w : WorldState S) (node : ℕ) (query : Query) (r : Result (ℕ × List ℕ) NodeFault) → (answered w node query r).submitted ≡ w.submitted

@@ -16,9 +16,7 @@ use super::flags::first_set;
 use super::lists::{Answered, Learnt, Outcome, Replied, Submission};
 use super::log::MOST_DELIVERIES;
 use super::start::start_nodes;
-use node::{
-    Executed, Input, LogEntry, MOST_SENDS, MOST_WAITING, Node, NodeFault, Outputs, Text,
-};
+use node::{Executed, Input, LogEntry, MOST_SENDS, MOST_WAITING, Node, NodeFault, Outputs, Text};
 use sessions::Number;
 use stable::{Failing, MemStable, Put, Scripted, Stable};
 use std::alloc::Global;

@@ -11,7 +11,8 @@ returns-in-Ok g c =
       here = lent_at c.args.self.now.nodes.items (vec_len c.args.self.now.nodes) c.args.node c.from.result
           c.index-at.result.now (search rules) named c.requires.there c.index-at.ensures;
       result = Ok (c.in-Ok.position, c.in-Ok.text);
-      answers = rw (← c.in-Ok.is) c.query.ensures;
+      answers = rw (← c.in-Ok.is) c.query.ensures.answers;
+      meaning = rw (← c.in-Ok.is) c.query.ensures.meaning;
       leaves = c.answer.ensures;
     }
 
@@ -23,6 +24,7 @@ returns-in-Err g c =
       here = lent_at c.args.self.now.nodes.items (vec_len c.args.self.now.nodes) c.args.node c.from.result
           c.index-at.result.now (search rules) named c.requires.there c.index-at.ensures;
       result = Err c.in-Err.fault;
-      answers = rw (← c.in-Err.is) c.query.ensures;
+      answers = rw (← c.in-Err.is) c.query.ensures.answers;
+      meaning = rw (← c.in-Err.is) c.query.ensures.meaning;
       leaves = search rules;
     }

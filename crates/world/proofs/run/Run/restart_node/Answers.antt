@@ -45,7 +45,7 @@ invariant_of-self-clause-fleet g c =
     lent_fleet c.args.self.now.nodes.items c.args.self.now.frames.items (vec_len c.args.self.now.nodes) c.args.node c.from.result
     c.index_mut-at.result.now c.restart.new.self (search rules) named c.requires.there c.index_mut-at.ensures.value
     c.args.self.now.fleet
-    (λ member. restart_leaves c.args.node (vec_len c.args.self.now.nodes) c.requires.there _ _ _ c.restart.ensures.restarts member)
+    (λ member. restart_leaves c.args.node (vec_len c.args.self.now.nodes) _ _ _ c.restart.ensures.restarts member)
 
 -- the node keeps its name, down as it is
 pub invariant_of-self-in-Err-clause-fleet : goal.invariant_of-self-in-Err-clause-fleet
@@ -54,4 +54,4 @@ invariant_of-self-in-Err-clause-fleet g c =
     lent_fleet c.args.self.now.nodes.items c.args.self.now.frames.items (vec_len c.args.self.now.nodes) c.args.node c.from.result
     c.index_mut-at.result.now c.restart.new.self (search rules) named c.requires.there c.index_mut-at.ensures.value
     c.args.self.now.fleet
-    (λ member. restart_leaves c.args.node (vec_len c.args.self.now.nodes) c.requires.there _ _ _ c.restart.ensures.restarts member)
+    (λ member. restart_leaves c.args.node (vec_len c.args.self.now.nodes) _ _ _ c.restart.ensures.restarts member)

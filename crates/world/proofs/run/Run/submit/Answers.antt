@@ -7,8 +7,8 @@ pub returns-then-take-clause-submits : goal.returns-then-take-clause-submits
 returns-then-take-clause-submits g c = record {
   taken = c.take.result;
   between = run_of c.take.new.self;
-  valid = c.new-offer.ensures.valid;
-  takes = rw c.new-offer.ensures.value at (rw c.reserve.ensures.same at c.take.ensures.taken);
+  valid = rw c.in_ok-copy.ensures.cases at c.see_valid.ensures;
+  takes = rw c.reserve.ensures.same at c.take.ensures.taken;
   leaves = search rules;
 }
 
@@ -17,7 +17,7 @@ pub returns-else-take-clause-submits : goal.returns-else-take-clause-submits
 returns-else-take-clause-submits g c = record {
   taken = c.take.result;
   between = run_of c.take.new.self;
-  valid = c.new-offer.ensures.valid;
-  takes = rw c.new-offer.ensures.value at (rw c.reserve.ensures.same at c.take.ensures.taken);
+  valid = rw c.in_ok-copy.ensures.cases at c.see_valid.ensures;
+  takes = rw c.reserve.ensures.same at c.take.ensures.taken;
   leaves = search rules;
 }

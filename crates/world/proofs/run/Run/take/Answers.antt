@@ -1,7 +1,7 @@
 use Rattle.std.proofs.Common.{◌≡◌, refl, rules, subst, arith, Ok, Err, slice_get, Some, vec_len, All, IfOk}
 use Rattle.std.proofs.lemmas.Option.{slice_get_read}
-use Rattle.world.specs.Fleets.{IsBetween}
 use Rattle.node.specs.Nodes.{state_of}
+use Rattle.node.specs.Sending.{IsBetween}
 use Rattle.world.specs.Worlds.{run_of, with_response, with_outcome, outcome_of}
 use Rattle.world.proofs.FleetSteps.{lent_fleet, stepped}
 use Rattle.world.proofs.WorldLemmas.{shown_at, left_by}
@@ -19,6 +19,7 @@ returns-in-Ok-clause-taken g c =
       after = state_of c.step.new.self;
       result = Ok c.in-Ok.outputs;
       steps = rw (← c.in-Ok.is) c.step.ensures.steps;
+      meaning = rw (← c.in-Ok.is) c.step.ensures.meaning;
       taken_ = refl;
       leaves = left_by _ (run_of c.args.self.now) c.args.self.now.nodes.items c.args.node c.step.new.self
           (λ w. with_response w c.args.node c.in-Ok.outputs) (rw named at c.record.ensures.lists) refl;
@@ -36,6 +37,7 @@ returns-in-Err-clause-taken g c =
       after = state_of c.step.new.self;
       result = Err c.in-Err.fault;
       steps = rw (← c.in-Err.is) c.step.ensures.steps;
+      meaning = rw (← c.in-Err.is) c.step.ensures.meaning;
       taken_ = refl;
       leaves = left_by _ (run_of c.args.self.now) c.args.self.now.nodes.items c.args.node c.step.new.self
           (λ w. with_outcome w (outcome_of c.args.node c.in-Err.fault)) (rw named at c.fail.ensures.lists) refl;
@@ -49,13 +51,13 @@ invariant_of-self-clause-fleet g c =
     c.index_mut-at.result.now c.step.new.self (search rules) named c.requires.there c.index_mut-at.ensures.value c.args.self.now.fleet
     (λ _. (stepped c.args.self.now.nodes.items c.args.self.now.frames.items (vec_len c.args.self.now.nodes) c.args.node c.from.result
     c.index_mut-at.result.now c.step.new.self c.args.input c.step.result (search rules) named c.requires.there
-    c.index_mut-at.ensures.value c.args.self.now.fleet c.step.ensures.steps c.requires.sender).member)
+    c.index_mut-at.ensures.value c.args.self.now.fleet c.step.ensures.steps).member)
 
 -- what it sends goes between nodes of the run
 pub record-requires-clause-between : goal.record-requires-clause-between
 record-requires-clause-between g c =
     let named : c.from.result ≡ c.args.node = search rules in
-    subst (λ r. IfOk r (λ told. All (IsBetween (vec_len c.args.self.now.nodes)) told.sends)) c.in-Ok.is
+    subst (λ r. IfOk r (λ said. All (IsBetween (vec_len c.args.self.now.nodes)) said.sends)) c.in-Ok.is
     (stepped c.args.self.now.nodes.items c.args.self.now.frames.items (vec_len c.args.self.now.nodes) c.args.node c.from.result
     c.index_mut-at.result.now c.step.new.self c.args.input c.step.result (search rules) named c.requires.there
-    c.index_mut-at.ensures.value c.args.self.now.fleet c.step.ensures.steps c.requires.sender).between
+    c.index_mut-at.ensures.value c.args.self.now.fleet c.step.ensures.steps).between
