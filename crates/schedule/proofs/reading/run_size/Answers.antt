@@ -11,11 +11,13 @@ returns-in-110 c =
 -- `nodes 5`
 pub returns-in-110-2 : goal.returns-in-110-2
 returns-in-110-2 c =
-    let (text, new) = (c.args.text.now, c.new-in-110-2) in
+    let text = c.args.text.now in
+    let new = c.new-in-110-2 in
     nodes_of text 5 new.result (of_five text (search (rules, seven_bytes))) new.ensures.valid new.ensures.value
 
 -- `nodes 7`
 pub returns-in-110-3 : goal.returns-in-110-3
 returns-in-110-3 c =
-    let (text, new) = (c.args.text.now, c.new-in-110-3) in
+    let text = c.args.text.now in
+    let new = c.new-in-110-3 in
     nodes_of text 7 new.result (of_seven text (search (rules, seven_bytes))) new.ensures.valid new.ensures.value
