@@ -8,12 +8,12 @@ use Rattle.store.specs.declared.query.Query.{Query as Question}
 use Rattle.wire.specs.declared.frames.envelope.Envelope.{Envelope}
 use Rattle.world.specs.Flushing.{Delivers, none, more}
 use Rattle.world.specs.Events.{NamesNoNode}
-use Rattle.world.specs.Outputs.{Told}
+use Rattle.node.specs.Outputs.{Response}
 use Rattle.world.specs.Worlds.{WorldState, Steps, TakesAt, ReceivesAt, DeliversFrame, recorded, answered, with_submission}
 use Rattle.world.specs.declared.event.Event.{Event}
 use Rattle.world.specs.declared.event.Event.TheVariants.{Submit, Deliver, Drop, Timeout, Tick, Restart, Fault, Query}
-use Rattle.world.specs.declared.fault.NodeFault.{NodeFault}
-use Rattle.world.specs.declared.input.Input.{Input}
+use Rattle.node.specs.declared.fault.NodeFault.{NodeFault}
+use Rattle.node.specs.declared.input.Input.{Input}
 use Rattle.schedule.specs.Lines.{NumberedText}
 use Rattle.schedule.specs.Runs.{IsDone, IsRefused, Leads, RunEnds, at_a_line, at_the_last, ReplayEnds, not_read, not_begun, not_run}
 use Rattle.schedule.specs.Schedules.{Plan, SpellEach}
@@ -32,7 +32,7 @@ abbrev size : {S : Type 0} → WorldState S → ℕ
 size w = length w.nodes
 
 module _ {S : Type 0} where
-  recorded_keeps : (w : WorldState S) (node : ℕ) (result : Result Told NodeFault) → size (recorded w node result) ≡ size w
+  recorded_keeps : (w : WorldState S) (node : ℕ) (result : Result Response NodeFault) → size (recorded w node result) ≡ size w
   recorded_keeps w node (Ok told) = refl
   recorded_keeps w node (Err f) = refl
 

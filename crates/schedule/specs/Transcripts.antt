@@ -3,8 +3,8 @@ use Rattle.std.specs.Prelude.{ℕ, List, [], ◌∷◌, ◌++◌, codes, decimal
 use Rattle.sessions.specs.Outcomes.{outcome_code}
 use Rattle.sessions.specs.declared.command.Command.{Command}
 use Rattle.sessions.specs.declared.command.Command.TheVariants.{NoOp, Request}
-use Rattle.world.specs.Faults.{node_code}
-use Rattle.world.specs.declared.fault.NodeFault.{NodeFault}
+use Rattle.node.specs.Faults.{node_code}
+use Rattle.node.specs.declared.fault.NodeFault.{NodeFault}
 use Rattle.world.specs.declared.lists.Learnt.{Learnt}
 use Rattle.world.specs.declared.lists.Replied.{Replied}
 use Rattle.world.specs.declared.lists.Answered.{Answered}
