@@ -5,6 +5,7 @@ pub mod Replying
 -- what a node is the meaning of
 pub mod Meanings
 pub mod News
+pub mod LearntSlots
 pub mod Learnt
 -- a node stays the node that it is
 pub mod Members

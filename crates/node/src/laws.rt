@@ -1,6 +1,7 @@
 //! What holds of every node. Nothing runs.
 
 ghost use Rattle.std.specs.Prelude.{◌≡◌, ◌⊎◌, ◌<◌, ◌≤◌, ℕ, List, [], Some, None, All, Result, IfOk, length, slice_get};
+ghost use Rattle.synod.specs.declared.slot.TheConstants.{SLOTS};
 ghost use Rattle.sessions.specs.declared.command.Command.{Command};
 ghost use Rattle.node.specs.Composition.{IsMeaningOf, executed_from};
 ghost use Rattle.node.specs.declared.fault.NodeFault.{NodeFault};
@@ -10,6 +11,7 @@ ghost use Rattle.node.specs.Loading.{IsFresh, IsMember};
 ghost use Rattle.node.specs.Minds.{Mind, learnt_in, position};
 ghost use Rattle.node.specs.Nodes.{NodeState, NodeSteps};
 ghost use Rattle.node.specs.Outputs.{Response};
+ghost use Rattle.node.specs.Protocol.{InputFits};
 ghost use Rattle.node.specs.Sending.{IsBetween};
 ghost use Rattle.node.specs.Taking.{Takes};
 
@@ -52,4 +54,10 @@ pub fn meanings_are_of_learnt_slots()
 pub fn fresh_minds_mean_nothing()
     ensures { (id nodes : ℕ) (m : Mind) → IsFresh id nodes m
         → IsMeaningOf [] m × ((slot : ℕ) → learnt_in m slot ≡ None) }
+{}
+
+/// What a node newly learns is at a slot of the log, where what comes fits.
+pub fn learnt_slots_are_of_the_log()
+    ensures { (old new : Mind) (input : Input) (said : Response) → InputFits input → Takes old input new said
+        → (e : LogEntry) → said.learnt ≡ Some e → e.slot < SLOTS }
 {}

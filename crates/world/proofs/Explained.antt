@@ -1,24 +1,48 @@
--- What is told is explained by the list of the one command that was learnt, or by the empty list.
-use Rattle.std.proofs.Common.{◌≡◌, ℕ, zero, suc, ◌+◌, ◌≤◌, ◌⊎◌, inl, inr, List, [], ◌∷◌, ◌++◌, length, take, Some, None, Contains, slice_get, refl, sym, ap, ◌∙◌, subst, arith}
-use Rattle.std.proofs.lemmas.List.Elements.{Contains-append_left, Contains-push}
-use Rattle.std.proofs.lemmas.Option.{same_Some}
+-- One list of commands explains what is told: at each slot of the log what was learnt there, or a no-op.
+use Rattle.std.proofs.Common.{◌≡◌, ℕ, zero, suc, ◌+◌, ◌<◌, ◌≤◌, ◌⊎◌, inl, inr, List, [], ◌∷◌, length, take, Some, None, Contains}
+use Rattle.std.proofs.Common.{slice_get, refl, sym, ap, ◌∙◌, subst, arith}
+use Rattle.std.proofs.lemmas.Bool.{cases_eq}
+use Rattle.std.proofs.lemmas.List.Elements.{Contains-append_left, Contains-append_right, Contains-append_cases, Contains-push}
+use Rattle.std.proofs.lemmas.List.Elements.{Contains-push_cases}
+use Rattle.std.proofs.lemmas.Option.{same_Some, slice_get_within}
+use Rattle.synod.specs.declared.slot.TheConstants.{SLOTS}
 use Rattle.synod.proofs.Thinking.{none_in}
-use Rattle.sessions.specs.Asked.{Asked}
-use Rattle.sessions.specs.Meaning.{RepliesAt, Answers}
+use Rattle.sessions.specs.Meaning.{Answers}
 use Rattle.sessions.specs.Outcomes.{outcome_code}
 use Rattle.sessions.specs.declared.command.Command.{Command}
-use Rattle.sessions.specs.declared.command.Command.TheVariants.{Request}
+use Rattle.sessions.specs.declared.command.Command.TheVariants.{NoOp}
+use Rattle.node.specs.Composition.{IsReplyOf}
+use Rattle.world.specs.declared.lists.Submission.{Submission}
 use Rattle.world.specs.declared.lists.Learnt.{Learnt}
 use Rattle.world.specs.declared.lists.Replied.{Replied}
 use Rattle.world.specs.declared.lists.Answered.{Answered}
-use Rattle.world.specs.Explaining.{ExplainsReply, ExplainsAnswer, Explains, IsExplained, LearntAgree, LearntGrounded}
+use Rattle.world.specs.Explaining.{ExplainsReply, ExplainsAnswer, IsExplained, LearntAgree, LearntInLog, LearntGrounded}
+use Rattle.world.specs.Outputs.{executed_of}
 use Rattle.world.specs.Submissions.{IsGrounded}
-use Rattle.world.specs.Telling.{WereLearnt, TellsReply, TellsAnswer, Tells}
+use Rattle.world.specs.Telling.{WasLearnt, WereLearnt, TellsReply, TellsAnswer, Tells}
 use Rattle.world.specs.Worlds.{WorldState}
+use Rattle.world.proofs.Longer.{AgreeBelow, replies_over}
 
-first_of : (learnt : List Learnt) → (learnt ≡ []) ⊎ ((t : Learnt) × Contains learnt t)
-first_of [] = inl refl
-first_of (t ∷ ts) = inr (t, Contains-append_left (t ∷ []) ts t (Contains-push [] t))
+-- ---- a list of so many commands
+table : (ℕ → Command) → ℕ → List Command
+table f zero = []
+table f (suc n) = f zero ∷ table (λ i. f (suc i)) n
+
+table_length : (f : ℕ → Command) (n : ℕ) → length (table f n) ≡ n
+unfolding table
+table_length f zero = refl
+table_length f (suc n) = ap suc (table_length (λ i. f (suc i)) n)
+
+table_has : (f : ℕ → Command) (n i : ℕ) → i < n → slice_get (table f n) i ≡ Some (f i)
+unfolding table
+table_has f zero i h = absurd (omega (arith, h))
+table_has f (suc n) zero h = refl
+table_has f (suc n) (suc i) h = table_has (λ j. f (suc j)) n i (omega (arith, h))
+
+table_only : (f : ℕ → Command) (n i : ℕ) (c : Command) → slice_get (table f n) i ≡ Some c → f i ≡ c
+table_only f n i c e =
+    let within : i < length (table f n) = slice_get_within (table f n) i c e in
+    same_Some (f i) c (sym (table_has f n i (omega (arith, within, table_length f n))) ∙ e)
 
 -- ---- what nodes have learnt begins the list
 -- each command of the one stands at its place in the other
@@ -34,7 +58,8 @@ begins_with (c ∷ log) (d ∷ l) b =
     (omega (arith, rest.0), ap (λ (x : Command). x ∷ take (length log) l) head ∙ ap (λ (xs : List Command). c ∷ xs) rest.1)
 
 -- an answer over such a beginning is the list's at that position
-answer_of : (l log : List Command) (a : Answered) → IsBeginning log l → a.position ≡ length log → Answers log a.query a.text → ExplainsAnswer l a
+answer_of : (l log : List Command) (a : Answered) → IsBeginning log l → a.position ≡ length log → Answers log a.query a.text
+    → ExplainsAnswer l a
 answer_of l log a begins position answers =
     let first = begins_with log l begins in
     record {
@@ -43,98 +68,127 @@ answer_of l log a begins position answers =
           (sym (ap (λ n. take n l) position ∙ first.1)) answers;
     }
 
--- a reply over the whole list is the list's
-reply_of : (l before : List Command) (r : Asked) (p : Replied) → l ≡ before ++ Request r ∷ [] → p.position ≡ length before + 1
-    → p.client ≡ r.client → p.number ≡ r.number
-    → RepliesAt (before ++ Request r ∷ []) (length before) r (outcome_code p.reply) → ExplainsReply l p
-reply_of l before r p is position client number replies = record {
-  place = length before;
-  below = position;
-  request = r;
-  of_client = sym client;
-  of_number = sym number;
-  replies = subst (λ (x : List Command). RepliesAt x (length before) r (outcome_code p.reply)) (sym is) replies;
-}
+-- its first commands are those of the list
+first_agree : (log l : List Command) → IsBeginning log l → (n : ℕ) → n ≤ length log → AgreeBelow (take n log) l n
+first_agree log l b zero h i below = absurd (omega (arith, below))
+first_agree [] l b (suc n) h i below = absurd (omega (arith, h))
+first_agree (c ∷ log) l b (suc n) h zero below = sym (b zero c refl)
+first_agree (c ∷ log) [] b (suc n) h (suc i) below = absurd (let none : None ≡ Some c = b zero c refl in cc)
+first_agree (c ∷ log) (d ∷ l) b (suc n) h (suc i) below =
+    first_agree log l (λ j e f. b (suc j) e f) n (omega (arith, h)) i (omega (arith, below))
 
--- a list that is begun by a request is that request, where it has one command
-only_request : (c : Command) (before : List Command) (r : Asked) → IsBeginning (before ++ Request r ∷ []) (c ∷ [])
-    → (c ∷ [] ≡ before ++ Request r ∷ [])
-only_request c [] r begins = ap (λ (x : Command). x ∷ []) (same_Some c (Request r) (begins zero (Request r) refl))
-only_request c (d ∷ []) r begins = absurd (let h : None ≡ Some (Request r) = begins (suc zero) (Request r) refl in cc)
-only_request c (d ∷ e ∷ before) r begins = absurd (let h : None ≡ Some e = begins (suc zero) e refl in cc)
-
-module _ {S : Type 0} (w : WorldState S) (tells : Tells w) (agree : LearntAgree w.learnt) (grounded : LearntGrounded w.submitted w.learnt) where
-  -- what was learnt from the first slot on begins each list that has whatever is learnt at its slot
-  begins_so : (l : List Command) → ((u : Learnt) → Contains w.learnt u → slice_get l u.slot ≡ Some u.command)
-      → (log : List Command) → WereLearnt w.learnt log → IsBeginning log l
-  begins_so l has log known i c e =
-      let was = known i c e in
-      subst (λ n. slice_get l n ≡ Some c) was.at (has was.entry was.there ∙ ap (λ (d : Command). Some d) was.holds)
-
-  -- ---- nothing is learnt
-  module _ (none : w.learnt ≡ []) where
-    nobody : (t : Learnt) → Contains w.learnt t → ⊥
-    nobody t c = none_in t (subst (λ (l : List Learnt). Contains l t) none c)
-
-    learnt_nowhere : (u : Learnt) → Contains w.learnt u → slice_get [] u.slot ≡ Some u.command
-    learnt_nowhere u c = absurd (nobody u c)
-
-    no_reply : (p : Replied) → TellsReply w.learnt p → ExplainsReply [] p
-    no_reply p r =
-        let begins = begins_with (r.before ++ Request r.request ∷ []) [] (begins_so [] learnt_nowhere (r.before ++ Request r.request ∷ []) r.known) in
-        absurd (longer r.before (Request r.request) begins.0)
-      where
-        longer : (before : List Command) (c : Command) → length (before ++ c ∷ []) ≤ 0 → ⊥
-        longer [] c h = omega (arith, h)
-        longer (d ∷ before) c h = omega (arith, h)
-
-    explained_by_none : Explains [] w.submitted w.learnt w.replies w.answers
-    explained_by_none = record {
-      fits = omega arith;
-      grounded = λ i c e. absurd (let h : None ≡ Some c = e in cc);
-      entered = learnt_nowhere;
-      replied = λ p c. no_reply p (tells.replied p c);
-      answered = λ a c.
-          let t : TellsAnswer w.learnt a = tells.answered a c in
-          answer_of [] t.log a (begins_so [] learnt_nowhere t.log t.known) t.position t.answers;
+-- a reply over such a beginning is the list's
+reply_of : (l log : List Command) (p : Replied) → IsBeginning log l → IsReplyOf log (executed_of p) → ExplainsReply l p
+reply_of l log p begins r =
+    let within : r.place < length log = slice_get_within log r.place _ r.there in
+    record {
+      place = r.place;
+      below = let next : suc r.place ≡ r.place + 1 = omega arith in r.position_ ∙ next;
+      request = r.request;
+      of_client = r.client_;
+      of_number = r.number_;
+      replies = replies_over (take (suc r.place) log) l (suc r.place)
+          (first_agree log l begins (suc r.place) (omega (arith, within)))
+          r.place r.request (outcome_code p.reply) (omega arith) r.reply_;
     }
 
-  -- ---- a command is learnt
-  module _ (t : Learnt) (known : Contains w.learnt t) where
-    -- and no other
-    same_as : (u : Learnt) → Contains w.learnt u → t.command ≡ u.command
-    same_as u c = agree t u known c (tells.slots t known ∙ sym (tells.slots u c))
+-- ---- what was learnt at a slot
+-- some command, or none
+abbrev Looked : List Learnt → ℕ → Type 0
+Looked learnt slot = ((c : Command) × WasLearnt learnt slot c) ⊎ ((t : Learnt) → Contains learnt t → t.slot ≡ slot → ⊥)
 
-    grounded_at : (i : ℕ) (c : Command) → slice_get (t.command ∷ []) i ≡ Some c → IsGrounded w.submitted c
-    grounded_at zero c e = subst (IsGrounded w.submitted) (same_Some t.command c e) (grounded t known)
-    grounded_at (suc i) c e = absurd (let h : None ≡ Some c = e in cc)
-
-    learnt_there : (u : Learnt) → Contains w.learnt u → slice_get (t.command ∷ []) u.slot ≡ Some u.command
-    learnt_there u c =
-        subst (λ i. slice_get (t.command ∷ []) i ≡ Some u.command) (sym (tells.slots u c))
-        (ap (λ (d : Command). Some d) (same_as u c))
-
-    reply_there : (p : Replied) → TellsReply w.learnt p → ExplainsReply (t.command ∷ []) p
-    reply_there p r =
-        reply_of (t.command ∷ []) r.before r.request p
-        (only_request t.command r.before r.request
-        (begins_so (t.command ∷ []) learnt_there (r.before ++ Request r.request ∷ []) r.known))
-        r.position r.of_client r.of_number r.replies
-
-    explained_by_one : Explains (t.command ∷ []) w.submitted w.learnt w.replies w.answers
-    explained_by_one = record {
-      fits = omega arith;
-      grounded = grounded_at;
-      entered = learnt_there;
-      replied = λ p c. reply_there p (tells.replied p c);
-      answered = λ a c.
-          let told : TellsAnswer w.learnt a = tells.answered a c in
-          answer_of (t.command ∷ []) told.log a (begins_so (t.command ∷ []) learnt_there told.log told.known) told.position told.answers;
-    }
-
-  -- what is told is explained
-  pub explained : IsExplained w.submitted w.learnt w.replies w.answers
-  explained = elim (first_of w.learnt) [
-    | inl none ↦ record { log = []; explains = explained_by_none none }
-    | inr some ↦ record { log = some.0.command ∷ []; explains = explained_by_one some.0 some.1 }
+look_on : (t : Learnt) (learnt : List Learnt) (slot : ℕ) → (t.slot ≡ slot → ⊥) → Looked learnt slot → Looked (t ∷ learnt) slot
+look_on t learnt slot other (inl (c, was)) = inl (
+  c,
+  record {
+    entry = was.entry;
+    there = Contains-append_right (t ∷ []) learnt was.entry was.there;
+    at = was.at;
+    holds = was.holds;
+  },
+)
+look_on t learnt slot other (inr none) = inr (λ u there at. elim (Contains-append_cases (t ∷ []) learnt u there) [
+  | inl first ↦ elim (Contains-push_cases [] t u first) [
+    | inl nothing ↦ none_in u nothing
+    | inr same ↦ other (ap (λ (x : Learnt). x.slot) same ∙ at)
   ]
+  | inr later ↦ none u later at
+])
+
+look : (learnt : List Learnt) (slot : ℕ) → Looked learnt slot
+look [] slot = inr (λ t there at. none_in t there)
+look (t ∷ learnt) slot = elim (cases_eq t.slot slot) [
+  | inl at ↦ inl (
+    t.command,
+    record {
+      entry = t;
+      there = Contains-append_left (t ∷ []) learnt t (Contains-push [] t);
+      at = at;
+      holds = refl;
+    },
+  )
+  | inr other ↦ look_on t learnt slot other (look learnt slot)
+]
+
+-- and a no-op where there is none
+abbrev command_of : {learnt : List Learnt} {slot : ℕ} → Looked learnt slot → Command
+command_of (inl some) = some.0
+command_of (inr none) = NoOp
+
+-- ---- the list
+module _ (submitted : List Submission) (learnt : List Learnt) (agree : LearntAgree learnt)
+    (grounded : LearntGrounded submitted learnt) where
+  looked_agrees : (t : Learnt) → Contains learnt t → (k : Looked learnt t.slot) → command_of k ≡ t.command
+  looked_agrees t there (inl (c, was)) = sym was.holds ∙ agree was.entry t was.there there was.at
+  looked_agrees t there (inr none) = absurd (none t there refl)
+
+  looked_grounded : (slot : ℕ) (k : Looked learnt slot) → IsGrounded submitted (command_of k)
+  looked_grounded slot (inl (c, was)) = subst (IsGrounded submitted) was.holds (grounded was.entry was.there)
+  looked_grounded slot (inr none) = tt
+
+  command_at : ℕ → Command
+  command_at slot = command_of (look learnt slot)
+
+  module _ (n : ℕ) (in_log : (t : Learnt) → Contains learnt t → t.slot < n) where
+    whole : List Command
+    whole = table command_at n
+
+    learnt_there : (t : Learnt) → Contains learnt t → slice_get whole t.slot ≡ Some t.command
+    unfolding whole command_at
+    learnt_there t there =
+        table_has command_at n t.slot (in_log t there)
+        ∙ ap (λ (c : Command). Some c) (looked_agrees t there (look learnt t.slot))
+
+    grounded_there : (i : ℕ) (c : Command) → slice_get whole i ≡ Some c → IsGrounded submitted c
+    unfolding whole command_at
+    grounded_there i c e = subst (IsGrounded submitted) (table_only command_at n i c e) (looked_grounded i (look learnt i))
+
+    fits_there : length whole ≤ n
+    unfolding whole
+    fits_there = omega (arith, table_length command_at n)
+
+    -- what was learnt from the first slot on begins it
+    begins_so : (log : List Command) → WereLearnt learnt log → IsBeginning log whole
+    begins_so log known i c e =
+        let was = known i c e in
+        subst (λ j. slice_get whole j ≡ Some c) was.at (learnt_there was.entry was.there ∙ ap (λ (d : Command). Some d) was.holds)
+
+    reply_there : (p : Replied) → TellsReply learnt p → ExplainsReply whole p
+    reply_there p t = reply_of whole t.log p (begins_so t.log t.known) t.replies
+
+    answer_there : (a : Answered) → TellsAnswer learnt a → ExplainsAnswer whole a
+    answer_there a t = answer_of whole t.log a (begins_so t.log t.known) t.position t.answers
+
+-- what is told is explained
+pub explained : {S : Type 0} (w : WorldState S) → Tells w → LearntAgree w.learnt → LearntInLog w.learnt
+    → LearntGrounded w.submitted w.learnt → IsExplained w.submitted w.learnt w.replies w.answers
+explained w tells agree in_log grounded = record {
+  log = whole w.submitted w.learnt agree grounded SLOTS in_log;
+  explains = record {
+    fits = fits_there w.submitted w.learnt agree grounded SLOTS in_log;
+    grounded = grounded_there w.submitted w.learnt agree grounded SLOTS in_log;
+    entered = learnt_there w.submitted w.learnt agree grounded SLOTS in_log;
+    replied = λ p c. reply_there w.submitted w.learnt agree grounded SLOTS in_log p (tells.replied p c);
+    answered = λ a c. answer_there w.submitted w.learnt agree grounded SLOTS in_log a (tells.answered a c);
+  };
+}

@@ -16,8 +16,10 @@ pub mod WorldMoves
 pub mod SafetyLemmas
 -- what the lists tell, and the list that explains them
 pub mod Tellings
+pub mod Longer
 pub mod Explained
 pub mod Validity
+pub mod InLog
 pub mod OneAnswer
 pub mod TallyLemmas
 -- the start, and deliveries one after the other

@@ -6,7 +6,6 @@ use Rattle.std.proofs.lemmas.Option.{none-some}
 use Rattle.synod.specs.Records as synod_records
 use Rattle.synod.specs.Records.{VoteWrite}
 use Rattle.synod.specs.Minds as synod_minds
-use Rattle.synod.specs.Minds.{blank}
 use Rattle.synod.specs.Acts as act
 use Rattle.synod.specs.Acts.{Local, Does}
 use Rattle.synod.specs.Invariant.{AreSound}
@@ -27,12 +26,11 @@ use Rattle.node.specs.declared.fault.NodeFault.{NodeFault}
 use Rattle.node.specs.declared.fault.NodeFault.TheVariants as fault
 use Rattle.node.specs.declared.input.Input.{Input}
 use Rattle.node.specs.Faults.{is_stop_fault}
-use Rattle.world.specs.Fleets.{IsMember, ComesFrom}
-use Rattle.node.specs.Loading.{Restarts}
+use Rattle.node.specs.Loading.{IsMember, Restarts}
 use Rattle.node.specs.Minds.{Mind}
 use Rattle.node.specs.Nodes.{NodeState, NodeSteps, TakesInput, RefusesInput, StopsOnInput, StorageStops}
 use Rattle.node.specs.Outputs.{Response}
-use Rattle.world.specs.Protocol.{fleet, frame_of, input_of}
+use Rattle.node.specs.Protocol.{fleet, frame_of, input_of, InputFits, HoldsRecords, MindStands}
 use Rattle.world.specs.Reaching.{NodeStands, PutsStand, StandsAt}
 use Rattle.world.specs.Voting.{HasVote}
 use Rattle.world.proofs.ListedPuts.{GoesOn, KeepsPuts, same_goes, same_lists}
@@ -49,6 +47,24 @@ local_of = synod_runs.here
 -- a node with such records and such a mind at the beginning of a step
 abbrev begins : synod_records.Records Command → synod_minds.Mind Command → Local Command
 begins r m = record { records = r; mind = m; sent = []; learnt = []; submitted = [] }
+
+-- where a node has come to with its records and its mind, the rest aside
+begun_mind : (m : Mind) (y : Local Command) → MindStands m y → MindStands m (begins y.records y.mind)
+begun_mind m y h = record {
+  records = h.records;
+  learner = h.learner;
+  proposer = record { round = h.proposer.round; campaign = h.proposer.campaign; waiting = h.proposer.waiting };
+  position_ = h.position_;
+}
+
+begun_up : (records : Records) (o : Option Mind) (y : Local Command) → IfSome o (λ m. HoldsRecords m records × MindStands m y)
+    → IfSome o (λ m. HoldsRecords m records × MindStands m (begins y.records y.mind))
+begun_up records None y h = tt
+begun_up records (Some m) y h = (h.0, begun_mind m y h.1)
+
+begun : {S : Type 0} (contents : Script S → Records) (n : NodeState (Script S)) (y : Local Command) → NodeStands contents n y
+    → NodeStands contents n (begins y.records y.mind)
+begun contents n y h = record { records = h.records; up = begun_up (contents n.storage) n.up y h.up }
 
 here_placed : (w : synod_runs.World Command) (i : ℕ) (y : Local Command) → local_of (placed w i y) i ≡ begins y.records y.mind
 here_placed w i y =
@@ -89,7 +105,7 @@ module _ {S : Type 0} (contents : Script S → Records) (nodes : ℕ) (w : synod
       (stays_standing j (local_of w j) n s)
 
   -- the node itself stands at y, where nothing is unsure
-  pub stands_here : (n : NodeState (Script S)) → NodeStands contents n y.records y.mind → PutsStand contents n.storage y.records → n.storage.unsure ≡ None
+  pub stands_here : (n : NodeState (Script S)) → NodeStands contents n y → PutsStand contents n.storage y.records → n.storage.unsure ≡ None
       → StandsAt contents nodes i (placed w i y).past (local_of (placed w i y) i) n
   stands_here n stands puts sure =
       subst (λ (x : Local Command). StandsAt contents nodes i (placed w i y).past x n) (sym (here_placed w i y)) (record {
@@ -101,7 +117,7 @@ module _ {S : Type 0} (contents : Script S → Records) (nodes : ℕ) (w : synod
         unsent = refl;
         unlearnt = refl;
         unsubmitted = refl;
-        stands = stands;
+        stands = begun contents n y stands;
         puts = puts;
         sure = λ _. refl;
         up = λ _. sure;
@@ -139,7 +155,7 @@ record ListGoesOn {S : Type 0} (contents : Script S → Records) (old new : Node
 pub record NodeComes {S : Type 0} (contents : Script S → Records) (nodes i : ℕ) (input : Input) (w : synod_runs.World Command)
     (new : NodeState (Script S)) (result : Result Response NodeFault) : Type 0 where
   pub to : Local Command
-  pub does : Does (fleet nodes) i (input_of input) (local_of w i) to
+  pub does : Does (fleet nodes) i (input_of i nodes input) (local_of w i) to
   pub stands : StandsAt contents nodes i (placed w i to).past (local_of (placed w i to) i) new
   pub sent : to.sent ≡ map frame_of (sends_of result)
   pub learnt : to.learnt ≡ learnt_of i result
@@ -233,7 +249,7 @@ module _ {S : Type 0} {storages : Ghosts (Script S)} (laws : IsLawful storages)
     rests input new r f failed s =
         subst (λ (q : Result Response NodeFault). NodeComes storages.contents nodes i input w new q) (sym failed) (record {
           to = local_of w i;
-          does = does_nothing (fleet nodes) i (input_of input) (local_of w i);
+          does = does_nothing (fleet nodes) i (input_of i nodes input) (local_of w i);
           stands = stands_still storages.contents nodes w i new s;
           sent = refl;
           learnt = refl;
@@ -242,13 +258,13 @@ module _ {S : Type 0} {storages : Ghosts (Script S)} (laws : IsLawful storages)
 
     -- a put is unsure: what stands for the node is kept for the time when that is known
     waits : (old new : NodeState (Script S)) (input : Input) (r : Result Response NodeFault) (u : script.Write) → new.storage.unsure ≡ Some u
-        → HasCome w.past (input_of input) → StandsAt storages.contents nodes i w.past (local_of w i) old
+        → HasCome w.past (input_of i nodes input) → StandsAt storages.contents nodes i w.past (local_of w i) old
         → (m : NodeMoves storages.contents nodes i input (local_of w i) new r) → PutsStand storages.contents new.storage m.after.records → WentDown old new r
         → NodeComes storages.contents nodes i input w new r
     waits old new input r u unsure came s m stand d = rests input new r d.fault_ d.failed (record {
       listed = λ (v : Vote Command).
           subst (λ (ws : List script.Write). Contains (w.past.records i).writes (VoteWrite v) ↔ HasVote ws v) (sym d.list) (s.listed v);
-      input = input_of input;
+      input = input_of i nodes input;
       came = came;
       after = m.after;
       does = m.does;
@@ -262,7 +278,7 @@ module _ {S : Type 0} {storages : Ghosts (Script S)} (laws : IsLawful storages)
     })
 
     arrives : (old new : NodeState (Script S)) (input : Input) (r : Result Response NodeFault) (o : Option script.Write) → new.storage.unsure ≡ o
-        → HasCome w.past (input_of input) → StandsAt storages.contents nodes i w.past (local_of w i) old
+        → HasCome w.past (input_of i nodes input) → StandsAt storages.contents nodes i w.past (local_of w i) old
         → (m : NodeMoves storages.contents nodes i input (local_of w i) new r) → PutsStand storages.contents new.storage m.after.records
         → (new.storage.unsure ≡ None) ⊎ WentDown old new r → NodeComes storages.contents nodes i input w new r
     arrives old new input r None sure came s m stand d = record {
@@ -277,33 +293,33 @@ module _ {S : Type 0} {storages : Ghosts (Script S)} (laws : IsLawful storages)
     arrives old new input r (Some u) unsure came s m stand (inr d) = waits old new input r u unsure came s m stand d
 
     by_mind : (old new : NodeState (Script S)) (input : Input) (r : Result Response NodeFault) (o : Option Mind) → old.up ≡ o
-        → HasCome w.past (input_of input) → NodeSteps storages old input r new → StandsAt storages.contents nodes i w.past (local_of w i) old
-        → IsMember i nodes old → ComesFrom nodes input → storages.IsHonest new.storage → NodeComes storages.contents nodes i input w new r
-    by_mind old new input r None up came h s member sender honest =
+        → HasCome w.past (input_of i nodes input) → NodeSteps storages old input r new → StandsAt storages.contents nodes i w.past (local_of w i) old
+        → IsMember i nodes old → InputFits input → storages.IsHonest new.storage → NodeComes storages.contents nodes i input w new r
+    by_mind old new input r None up came h s member fits honest =
         rests input new r fault.Down (h.down up).0
         (subst (λ (n : NodeState (Script S)). StandsAt storages.contents nodes i w.past (local_of w i) n) (sym (h.down up).1) s)
-    by_mind old new input r (Some m) up came h s member sender honest =
+    by_mind old new input r (Some m) up came h s member fits honest =
         let x : Local Command = local_of w i in
         let sure : old.storage.unsure ≡ None = s.up (subst (λ (o : Option Mind). IsSome o) (sym up) refl) in
-        let stands : NodeStands storages.contents old x.records x.mind =
-        subst (λ (y : Local Command). NodeStands storages.contents old y.records y.mind) (s.sure sure) s.stands in
+        let stands : NodeStands storages.contents old x =
+        subst (λ (y : Local Command). NodeStands storages.contents old y) (s.sure sure) s.stands in
         let stand : PutsStand storages.contents old.storage x.records =
         subst (λ (y : Local Command). PutsStand storages.contents old.storage y.records) (s.sure sure) s.puts in
         let moves : NodeMoves storages.contents nodes i input x new r =
-        node_moves laws nodes i there few old new input r x h stands member sender honest in
+        node_moves laws nodes i there few old new input r x h stands member fits honest in
         let on : ListGoesOn storages.contents old new r = list_on old new m input r
         (subst (λ (o : Option Mind). IfSome o (λ n. IfOk r (λ told. TakesInput storages old n input told new))) up h.taken)
         (subst (λ (o : Option Mind). IfSome o (λ n. IfErr r (λ f. MatchBool (is_stop_fault f)
         (StopsOnInput storages old n input f new) (RefusesInput old n input f new)))) up h.refused) sure honest in
         arrives old new input r new.storage.unsure refl came s moves
-        (puts_go_on storages.contents (fleet nodes) i (input_of input) x moves.after old.storage new moves.does on.goes moves.stands
-        (sound_after nodes w i (input_of input) moves.after reached came moves.does) stand) on.sure
+        (puts_go_on storages.contents (fleet nodes) i (input_of i nodes input) x moves.after old.storage new moves.does on.goes moves.stands
+        (sound_after nodes w i (input_of i nodes input) moves.after reached came moves.does) stand) on.sure
 
     -- a node comes to what stands for it after an input
-    pub node_comes : (old new : NodeState (Script S)) (input : Input) (r : Result Response NodeFault) → HasCome w.past (input_of input)
+    pub node_comes : (old new : NodeState (Script S)) (input : Input) (r : Result Response NodeFault) → HasCome w.past (input_of i nodes input)
         → NodeSteps storages old input r new → StandsAt storages.contents nodes i w.past (local_of w i) old
-        → IsMember i nodes old → ComesFrom nodes input → storages.IsHonest new.storage → NodeComes storages.contents nodes i input w new r
-    node_comes old new input r came h s member sender honest = by_mind old new input r old.up refl came h s member sender honest
+        → IsMember i nodes old → InputFits input → storages.IsHonest new.storage → NodeComes storages.contents nodes i input w new r
+    node_comes old new input r came h s member fits honest = by_mind old new input r old.up refl came h s member fits honest
 
     -- ---- a restart
     restart_goes : (old new : NodeState (Script S)) (r : Result (Unit {0}) NodeFault) → Restarts storages old r new
@@ -328,7 +344,7 @@ module _ {S : Type 0} {storages : Ghosts (Script S)} (laws : IsLawful storages)
     sure_again new (Err f) settled down up = absurd (none_is_not_some new.up down up)
 
     restarted : (old new : NodeState (Script S)) (o : Option script.Write) → new.storage.unsure ≡ o → (s : StandsAt storages.contents nodes i w.past (local_of w i) old)
-        → NodeStands storages.contents new s.after.records blank → PutsStand storages.contents new.storage s.after.records
+        → NodeStands storages.contents new (act.acted i s.after act.Forgets) → PutsStand storages.contents new.storage s.after.records
         → (new.storage.unsure ≡ None) ⊎ ((new.storage.writes ≡ old.storage.writes) × (new.storage.unsure ≡ old.storage.unsure))
         → (IsSome new.up → new.storage.unsure ≡ None) → ComesQuietly storages.contents nodes i w new
     restarted old new None sure s stands stand list up =
@@ -375,8 +391,7 @@ module _ {S : Type 0} {storages : Ghosts (Script S)} (laws : IsLawful storages)
     restart_comes old new r h settled s honest =
         let y : Local Command = act.acted i s.after act.Forgets in
         let forgets : Does (fleet nodes) i s.input s.after y = does_one (fleet nodes) i s.input s.after act.Forgets tt in
-        let stands : NodeStands storages.contents new s.after.records blank =
-        restart_stands laws old new r s.after.records s.after.mind h honest s.stands in
+        let stands : NodeStands storages.contents new y = restart_stands laws old new r s.after h honest s.stands in
         let sound : AreSound y.records = sound_after nodes w i s.input y reached s.came (does_then (fleet nodes) i s.input s.does forgets) in
         restarted old new new.storage.unsure refl s stands
         (puts_go_on storages.contents (fleet nodes) i s.input s.after y old.storage new forgets (restart_goes old new r h honest) stands sound s.puts)

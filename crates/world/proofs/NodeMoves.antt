@@ -1,55 +1,52 @@
 -- Whatever a node makes of an input is a list of acts that the protocol allows.
-use Rattle.std.proofs.Common.{◌≡◌, ◌⊎◌, ℕ, ◌<◌, ◌≤◌, inl, inr, List, [], ◌++◌, All, map, Bool, true, false, Option, Some, None, IfSome, IfOk, IfErr, MatchBool, Result, Ok, Err, refl, sym, ap, subst, ◌∙◌, arith, append-nil}
-use Rattle.std.proofs.lemmas.List.Elements.{All-nil}
+use Rattle.std.proofs.Common.{◌≡◌, ◌⊎◌, ℕ, ◌<◌, ◌≤◌, inl, inr, List, [], ◌++◌, map, Bool, true, false, Option, Some, None, IfSome, IfOk, IfErr, MatchBool, Result, Ok, Err, refl, sym, ap, subst, ◌∙◌, arith, append-nil}
 use Rattle.synod.specs.History as history
 use Rattle.synod.specs.Acts.{Local, Does}
 use Rattle.synod.proofs.Doing.{does_nothing}
 use Rattle.stable.specs.Records.{Records}
 use Rattle.stable.specs.Script.{Script}
-use Rattle.stable.specs.declared.key.Key.TheVariants as key
 use Rattle.stable.specs.declared.stable.Stable.{Ghosts}
 use Rattle.stable.specs.Storages.{IsLawful}
-use Rattle.acceptor.specs.Accepting.{Accepting, Write, RecordsSay, records_after}
-use Rattle.acceptor.specs.Protocol.{RecordsStand}
+use Rattle.acceptor.specs.Accepting.{Accepting, Write, records_after}
+use Rattle.proposer.specs.Protocol.{stopping}
 use Rattle.sessions.specs.declared.command.Command.{Command}
 use Rattle.wire.specs.declared.frames.envelope.Envelope.{Envelope}
 use Rattle.node.specs.declared.fault.NodeFault.{NodeFault}
 use Rattle.node.specs.declared.fault.NodeFault.TheVariants as fault
 use Rattle.node.specs.declared.input.Input.{Input}
 use Rattle.node.specs.Faults.{is_stop_fault}
-use Rattle.world.specs.Fitting.{InputFits}
-use Rattle.world.specs.Fleets.{IsMember, IsMindOf, ComesFrom}
-use Rattle.node.specs.Minds.{Mind, refuses, Writes}
+use Rattle.node.specs.Loading.{IsMember, IsMindOf}
+use Rattle.node.specs.Minds.{Mind, refuses}
 use Rattle.node.specs.Nodes.{NodeState, NodeSteps, TakesInput, RefusesInput, StopsOnInput, StorageStops}
 use Rattle.node.specs.Outputs.{Response}
-use Rattle.world.specs.Protocol.{fleet, frame_of, input_of, learnings, submissions, IsNode, IsSeen, MayTake}
-use Rattle.world.specs.Reaching.{HoldsSame, NodeStands, SaysRound}
-use Rattle.world.specs.Sized.{IsSized}
-use Rattle.world.proofs.SayingLemmas.{SayBoth, other_records, taken_said, input_said, refusal_goes_on, after_input_acceptor, after_input_round}
-use Rattle.world.proofs.SizedLemmas.{taken_sized}
-use Rattle.world.proofs.StoppingLemmas.{MayStop, stops_at_once, input_stops}
+use Rattle.node.specs.Protocol.{fleet, frame_of, input_of, learnings, submissions, InputFits, MindStands, MayTake, MayStop, RecordsHold, HoldsRecords, accepting_after, round_after}
+use Rattle.node.specs.Taking.{Writes}
+use Rattle.node.proofs.AllowedStopping.{unwritten_allowed, written_allowed}
+use Rattle.node.proofs.AllowedTaking.{taking_allowed}
+use Rattle.node.proofs.RecordsGoOn.{written_holds, taken_holds}
+use Rattle.node.proofs.RefusalLemmas.{refusal_goes_on}
+use Rattle.world.specs.Reaching.{NodeStands}
 use Rattle.world.proofs.StorageLaws.{written_honest, written_contents, failed_honest, failed_contents}
-use Rattle.world.proofs.TakingLemmas.{taking_allowed}
 
--- what a node told: the frames, what it learnt, what was submitted to it
+-- what a node said: the frames, what it learnt, what was submitted to it
 abbrev pub sends_of : Result Response NodeFault → List Envelope
-sends_of (Ok told) = told.sends
+sends_of (Ok said) = said.sends
 sends_of (Err f) = []
 
 abbrev pub learnt_of : ℕ → Result Response NodeFault → List (history.Learning Command)
-learnt_of i (Ok told) = learnings i told.learnt
+learnt_of i (Ok said) = learnings i said.learnt
 learnt_of i (Err f) = []
 
 abbrev pub submitted_of : Input → Result Response NodeFault → List Command
-submitted_of input (Ok told) = submissions input
+submitted_of input (Ok said) = submissions input
 submitted_of input (Err f) = []
 
 -- some allowed acts lead from x to what stands for the node then, and tell this
 pub record NodeMoves {S : Type 0} (contents : Script S → Records) (nodes i : ℕ) (input : Input) (x : Local Command)
     (new : NodeState (Script S)) (result : Result Response NodeFault) : Type 0 where
   pub after : Local Command
-  pub does : Does (fleet nodes) i (input_of input) x after
-  pub stands : NodeStands contents new after.records after.mind
+  pub does : Does (fleet nodes) i (input_of i nodes input) x after
+  pub stands : NodeStands contents new after
   pub sent : after.sent ≡ x.sent ++ map frame_of (sends_of result)
   pub learnt : after.learnt ≡ x.learnt ++ learnt_of i result
   pub submitted : after.submitted ≡ x.submitted ++ submitted_of input result
@@ -58,25 +55,20 @@ abbrev failed : NodeFault → Result Response NodeFault
 failed f = Err f
 
 abbrev took : Response → Result Response NodeFault
-took told = Ok told
+took said = Ok said
 
-is_node : (i nodes : ℕ) (m : Mind) → IsMindOf i nodes m → IsNode i nodes m
-is_node i nodes m mind = record {
-  number = mind.number;
-  of_all = mind.of_all;
-  proposer = mind.proposing.number;
-  proposer_of_all = mind.proposing.of_all;
-  learner_of_all = mind.learning;
-}
+-- by other names of the same records
+pub other_records : {a b : Records} {accepting : Accepting} {round : ℕ} → b ≡ a → RecordsHold a accepting round → RecordsHold b accepting round
+other_records {a} {b} {accepting} {round} e h = subst (λ (r : Records). RecordsHold r accepting round) (sym e) h
 
 module _ {S : Type 0} {storages : Ghosts (Script S)} (laws : IsLawful storages)
     (nodes i : ℕ) (there : i < nodes) (few : nodes ≤ 7) where
   -- a node that has done nothing, with records that say the same
-  rests : (input : Input) (x : Local Command) (new : NodeState (Script S)) (f : NodeFault) → NodeStands storages.contents new x.records x.mind
+  rests : (input : Input) (x : Local Command) (new : NodeState (Script S)) (f : NodeFault) → NodeStands storages.contents new x
       → NodeMoves storages.contents nodes i input x new (Err f)
   rests input x new f stands = record {
     after = x;
-    does = does_nothing (fleet nodes) i (input_of input) x;
+    does = does_nothing (fleet nodes) i (input_of i nodes input) x;
     stands = stands;
     sent = sym (append-nil x.sent);
     learnt = sym (append-nil x.learnt);
@@ -85,70 +77,47 @@ module _ {S : Type 0} {storages : Ghosts (Script S)} (laws : IsLawful storages)
 
   -- a node that has gone down with these records
   stops : (input : Input) (x : Local Command) (new : NodeState (Script S)) (f : NodeFault) (a : Accepting) (round : ℕ) → new.up ≡ None
-      → SayBoth (storages.contents new.storage) a round → MayStop nodes i (input_of input) x a round → NodeMoves storages.contents nodes i input x new (Err f)
-  stops input x new f a round down says s = record {
-    after = s.after;
+      → RecordsHold (storages.contents new.storage) a round → MayStop nodes i (input_of i nodes input) x a round
+      → NodeMoves storages.contents nodes i input x new (Err f)
+  stops input x new f a round down holds s = record {
+    after = stopping x s.records;
     does = s.does;
     stands = record {
-      accepting = a;
-      round = round;
-      says = says.acceptor;
-      says_round = says.proposer;
-      stands = s.stands;
-      up = subst (λ (o : Option Mind). IfSome o (HoldsSame a round s.after.mind)) (sym down) tt;
+      records = record { accepting = a; round = round; holds = holds; stands = s.stands };
+      up = subst (λ (o : Option Mind). IfSome o (λ m. HoldsRecords m (storages.contents new.storage) × MindStands m (stopping x s.records))) (sym down) tt;
     };
-    sent = s.sent ∙ sym (append-nil x.sent);
-    learnt = s.learnt ∙ sym (append-nil x.learnt);
-    submitted = s.submitted ∙ sym (append-nil x.submitted);
+    sent = sym (append-nil x.sent);
+    learnt = sym (append-nil x.learnt);
+    submitted = sym (append-nil x.submitted);
   }
 
   -- ---- a node that is up
   record StandsUp (old : NodeState (Script S)) (m : Mind) (x : Local Command) : Type 0 where
-    says : SayBoth (storages.contents old.storage) m.accepting m.proposing.round
-    seen : IsSeen m x
-    sized : IsSized m
+    holds : HoldsRecords m (storages.contents old.storage)
+    mind : MindStands m x
 
-  stands_up : (old : NodeState (Script S)) (m : Mind) (x : Local Command) → old.up ≡ Some m → NodeStands storages.contents old x.records x.mind → StandsUp old m x
+  stands_up : (old : NodeState (Script S)) (m : Mind) (x : Local Command) → old.up ≡ Some m → NodeStands storages.contents old x → StandsUp old m x
   stands_up old m x up stands =
-      let holds : HoldsSame stands.accepting stands.round x.mind m = subst (λ (o : Option Mind). IfSome o (HoldsSame stands.accepting stands.round x.mind)) up stands.up in
-      let acceptor : RecordsSay (storages.contents old.storage) m.accepting = subst (λ (a : Accepting). RecordsSay (storages.contents old.storage) a) (sym holds.accepting_) stands.says in
-      let proposer : SaysRound (storages.contents old.storage key.Round) m.proposing.round =
-      subst (λ n. SaysRound (storages.contents old.storage key.Round) n) (sym holds.round_) stands.says_round in
-      let records : RecordsStand m.accepting m.proposing.round x.records =
-      subst (λ (a : Accepting). RecordsStand a m.proposing.round x.records) (sym holds.accepting_)
-      (subst (λ n. RecordsStand stands.accepting n x.records) (sym holds.round_) stands.stands) in
-      record {
-        says = record { acceptor = acceptor; proposer = proposer };
-        seen = record { records = records; mind = holds.mind };
-        sized = holds.sized;
-      }
+      let both : HoldsRecords m (storages.contents old.storage) × MindStands m x =
+      subst (λ (o : Option Mind). IfSome o (λ n. HoldsRecords n (storages.contents old.storage) × MindStands n x)) up stands.up in
+      record { holds = both.0; mind = both.1 }
 
-  takes : (old new : NodeState (Script S)) (m : Mind) (input : Input) (told : Response) (x : Local Command) → StandsUp old m x → IsMindOf i nodes m
-      → ComesFrom nodes input → InputFits input → refuses m input ≡ None → TakesInput storages old m input told new
-      → storages.IsHonest new.storage → NodeMoves storages.contents nodes i input x new (Ok told)
-  takes old new m input told x up mind sender fits none h honest =
-      let t : MayTake nodes i input x h.mind told =
-      taking_allowed nodes i m h.mind input told x few there (is_node i nodes m mind) up.sized none h.takes sender up.seen in
+  takes : (old new : NodeState (Script S)) (m : Mind) (input : Input) (said : Response) (x : Local Command) → StandsUp old m x → IsMindOf i nodes m
+      → InputFits input → refuses m input ≡ None → TakesInput storages old m input said new
+      → storages.IsHonest new.storage → NodeMoves storages.contents nodes i input x new (Ok said)
+  takes old new m input said x up mind fits none h honest =
+      let t : MayTake nodes i input x h.mind said = taking_allowed nodes i m h.mind input said x few there mind h.takes up.mind in
       let kept : storages.contents new.storage ≡ records_after (storages.contents old.storage) h.made.write =
       written_contents laws old.storage new.storage h.made.write h.made.leaves honest in
-      let says : SayBoth (storages.contents new.storage) h.mind.accepting h.mind.proposing.round =
-      other_records kept (taken_said m input h.mind told (storages.contents old.storage) h.made.write h.takes h.made.made fits none up.says) in
-      let holds : HoldsSame h.mind.accepting h.mind.proposing.round t.after.mind h.mind = record {
-        accepting_ = refl;
-        round_ = refl;
-        sized = taken_sized m input h.mind told h.takes up.sized;
-        mind = t.seen.mind;
-      } in
+      let holds : HoldsRecords h.mind (storages.contents new.storage) =
+      other_records kept (taken_holds m input h.mind said (storages.contents old.storage) h.made.write none h.takes h.made.made fits up.holds) in
       record {
         after = t.after;
         does = t.does;
         stands = record {
-          accepting = h.mind.accepting;
-          round = h.mind.proposing.round;
-          says = says.acceptor;
-          says_round = says.proposer;
-          stands = t.seen.records;
-          up = subst (λ (n : NodeState (Script S)). IfSome n.up (HoldsSame h.mind.accepting h.mind.proposing.round t.after.mind)) (sym h.leaves) holds;
+          records = record { accepting = h.mind.accepting; round = h.mind.proposing.round; holds = holds; stands = t.stands.records };
+          up = subst (λ (n : NodeState (Script S)). IfSome n.up (λ k. HoldsRecords k (storages.contents new.storage) × MindStands k t.after))
+              (sym h.leaves) (holds, t.stands);
         };
         sent = t.sent;
         learnt = t.learnt;
@@ -156,40 +125,40 @@ module _ {S : Type 0} {storages : Ghosts (Script S)} (laws : IsLawful storages)
       }
 
   -- the storage as it was, or with the write
+  stops_as_it_was : (old new : NodeState (Script S)) (m : Mind) (input : Input) (f : NodeFault) (x : Local Command) → StandsUp old m x
+      → IsMindOf i nodes m → new.up ≡ None → storages.contents new.storage ≡ storages.contents old.storage
+      → NodeMoves storages.contents nodes i input x new (Err f)
+  stops_as_it_was old new m input f x up mind down same =
+      stops input x new f m.accepting m.proposing.round down (other_records same up.holds)
+      (unwritten_allowed nodes i m (input_of i nodes input) x mind up.mind)
+
   stops_with : (old new : NodeState (Script S)) (m : Mind) (input : Input) (f : NodeFault) (w : Write) (x : Local Command) → StandsUp old m x
-      → InputFits input → refuses m input ≡ None → Writes m input w → new.up ≡ None
+      → IsMindOf i nodes m → InputFits input → refuses m input ≡ None → Writes m input w → new.up ≡ None
       → (storages.contents new.storage ≡ storages.contents old.storage) ⊎ (storages.contents new.storage ≡ records_after (storages.contents old.storage) w)
       → NodeMoves storages.contents nodes i input x new (Err f)
-  stops_with old new m input f w x up fits none made down (inl same) =
-      stops input x new f m.accepting m.proposing.round down (other_records same up.says)
-      (stops_at_once nodes i x (input_of input) m.accepting m.proposing.round up.seen.records)
-  stops_with old new m input f w x up fits none made down (inr written) =
-      stops input x new f (after_input_acceptor m input) (after_input_round m input) down
-      (other_records written (input_said m input (storages.contents old.storage) w made fits none up.says))
-      (input_stops nodes i x m input up.seen (omega (arith, there, few)))
-
-  stops_as_it_was : (old new : NodeState (Script S)) (m : Mind) (input : Input) (f : NodeFault) (x : Local Command) → StandsUp old m x → new.up ≡ None
-      → storages.contents new.storage ≡ storages.contents old.storage → NodeMoves storages.contents nodes i input x new (Err f)
-  stops_as_it_was old new m input f x up down same =
-      stops input x new f m.accepting m.proposing.round down (other_records same up.says)
-      (stops_at_once nodes i x (input_of input) m.accepting m.proposing.round up.seen.records)
+  stops_with old new m input f w x up mind fits none made down (inl same) = stops_as_it_was old new m input f x up mind down same
+  stops_with old new m input f w x up mind fits none made down (inr written) =
+      stops input x new f (accepting_after m input) (round_after m input) down
+      (other_records written (written_holds m input (storages.contents old.storage) w none made fits up.holds))
+      (written_allowed nodes i m input x (omega (arith, there, few)) mind up.mind)
 
   stops_by : (old new : NodeState (Script S)) (m : Mind) (input : Input) (f : NodeFault) (x : Local Command) → StandsUp old m x
-      → InputFits input → refuses m input ≡ None → StorageStops storages old.storage m input f new.storage → new.up ≡ None → storages.IsHonest new.storage
-      → NodeMoves storages.contents nodes i input x new (Err f)
-  stops_by old new m input fault.Device x up fits none h down honest =
-      stops_with old new m input fault.Device h.write x up fits none h.made down (failed_contents laws old.storage new.storage h.write h.leaves honest)
-  stops_by old new m input fault.Memory x up fits none (inl h) down honest =
-      stops_as_it_was old new m input fault.Memory x up down (laws.reads_contents old.storage new.storage h honest)
-  stops_by old new m input fault.Memory x up fits none (inr h) down honest =
-      stops_with old new m input fault.Memory h.write x up fits none h.made down
+      → IsMindOf i nodes m → InputFits input → refuses m input ≡ None → StorageStops storages old.storage m input f new.storage → new.up ≡ None
+      → storages.IsHonest new.storage → NodeMoves storages.contents nodes i input x new (Err f)
+  stops_by old new m input fault.Device x up mind fits none h down honest =
+      stops_with old new m input fault.Device h.write x up mind fits none h.made down
+      (failed_contents laws old.storage new.storage h.write h.leaves honest)
+  stops_by old new m input fault.Memory x up mind fits none (inl h) down honest =
+      stops_as_it_was old new m input fault.Memory x up mind down (laws.reads_contents old.storage new.storage h honest)
+  stops_by old new m input fault.Memory x up mind fits none (inr h) down honest =
+      stops_with old new m input fault.Memory h.write x up mind fits none h.made down
       (inr (written_contents laws old.storage new.storage h.write h.leaves honest))
-  stops_by old new m input fault.Down x up fits none h down honest = absurd h
-  stops_by old new m input fault.LogFull x up fits none h down honest = absurd h
-  stops_by old new m input fault.RoundsUsedUp x up fits none h down honest = absurd h
-  stops_by old new m input fault.QueueFull x up fits none h down honest = absurd h
-  stops_by old new m input fault.TooLong x up fits none h down honest = absurd h
-  stops_by old new m input fault.Damaged x up fits none h down honest = absurd h
+  stops_by old new m input fault.Down x up mind fits none h down honest = absurd h
+  stops_by old new m input fault.LogFull x up mind fits none h down honest = absurd h
+  stops_by old new m input fault.RoundsUsedUp x up mind fits none h down honest = absurd h
+  stops_by old new m input fault.QueueFull x up mind fits none h down honest = absurd h
+  stops_by old new m input fault.TooLong x up mind fits none h down honest = absurd h
+  stops_by old new m input fault.Damaged x up mind fits none h down honest = absurd h
 
   -- what is to be refused doesn't stop the node
   not_refused : (m : Mind) (input : Input) (f : NodeFault) (o : Option NodeFault) → refuses m input ≡ o → is_stop_fault f ≡ true
@@ -200,48 +169,49 @@ module _ {S : Type 0} {storages : Ghosts (Script S)} (laws : IsLawful storages)
       let goes_on : is_stop_fault f ≡ false = ap is_stop_fault same ∙ refusal_goes_on m input g e in
       absurd (let bad : true ≡ false = sym stop ∙ goes_on in cc)
 
-  taken_not_refused : (m : Mind) (input : Input) (told : Response) (o : Option NodeFault) → refuses m input ≡ o
-      → IfSome o (λ g. took told ≡ Err g) → refuses m input ≡ None
-  taken_not_refused m input told None e h = e
-  taken_not_refused m input told (Some g) e h = absurd (cc)
+  taken_not_refused : (m : Mind) (input : Input) (said : Response) (o : Option NodeFault) → refuses m input ≡ o
+      → IfSome o (λ g. took said ≡ Err g) → refuses m input ≡ None
+  taken_not_refused m input said None e h = e
+  taken_not_refused m input said (Some g) e h = absurd (cc)
 
   refused : (old new : NodeState (Script S)) (m : Mind) (input : Input) (f : NodeFault) (x : Local Command) (b : Bool) → is_stop_fault f ≡ b
-      → NodeStands storages.contents old x.records x.mind → StandsUp old m x → InputFits input
+      → NodeStands storages.contents old x → StandsUp old m x → IsMindOf i nodes m → InputFits input
       → IfSome (refuses m input) (λ g. failed f ≡ Err g)
       → MatchBool b (StopsOnInput storages old m input f new) (RefusesInput old m input f new) → storages.IsHonest new.storage
       → NodeMoves storages.contents nodes i input x new (Err f)
-  refused old new m input f x true e stands up fits none h honest =
-      stops_by old new m input f x up fits (not_refused m input f (refuses m input) refl e none) h.storage (ap (λ (n : NodeState (Script S)). n.up) h.leaves) honest
-  refused old new m input f x false e stands up fits none h honest =
-      rests input x new f (subst (λ (n : NodeState (Script S)). NodeStands storages.contents n x.records x.mind) (sym h.leaves) stands)
+  refused old new m input f x true e stands up mind fits none h honest =
+      stops_by old new m input f x up mind fits (not_refused m input f (refuses m input) refl e none) h.storage
+      (ap (λ (n : NodeState (Script S)). n.up) h.leaves) honest
+  refused old new m input f x false e stands up mind fits none h honest =
+      rests input x new f (subst (λ (n : NodeState (Script S)). NodeStands storages.contents n x) (sym h.leaves) stands)
 
   by_result : (old new : NodeState (Script S)) (m : Mind) (input : Input) (r : Result Response NodeFault) (x : Local Command)
-      → NodeStands storages.contents old x.records x.mind → StandsUp old m x → IsMindOf i nodes m → ComesFrom nodes input → InputFits input
-      → IfOk r (λ told. TakesInput storages old m input told new)
+      → NodeStands storages.contents old x → StandsUp old m x → IsMindOf i nodes m → InputFits input
+      → IfOk r (λ said. TakesInput storages old m input said new)
       → IfErr r (λ f. MatchBool (is_stop_fault f) (StopsOnInput storages old m input f new) (RefusesInput old m input f new))
       → IfSome (refuses m input) (λ g. r ≡ Err g) → storages.IsHonest new.storage → NodeMoves storages.contents nodes i input x new r
-  by_result old new m input (Ok told) x stands up mind sender fits taken refused_ none honest =
-      takes old new m input told x up mind sender fits (taken_not_refused m input told (refuses m input) refl none) taken honest
-  by_result old new m input (Err f) x stands up mind sender fits taken refused_ none honest =
-      refused old new m input f x (is_stop_fault f) refl stands up fits none refused_ honest
+  by_result old new m input (Ok said) x stands up mind fits taken refused_ none honest =
+      takes old new m input said x up mind fits (taken_not_refused m input said (refuses m input) refl none) taken honest
+  by_result old new m input (Err f) x stands up mind fits taken refused_ none honest =
+      refused old new m input f x (is_stop_fault f) refl stands up mind fits none refused_ honest
 
   by_mind : (old new : NodeState (Script S)) (input : Input) (r : Result Response NodeFault) (x : Local Command) (o : Option Mind) → old.up ≡ o
-      → NodeSteps storages old input r new → NodeStands storages.contents old x.records x.mind → IsMember i nodes old → ComesFrom nodes input
+      → NodeSteps storages old input r new → NodeStands storages.contents old x → IsMember i nodes old → InputFits input
       → storages.IsHonest new.storage → NodeMoves storages.contents nodes i input x new r
-  by_mind old new input r x None up h stands member sender honest =
+  by_mind old new input r x None up h stands member fits honest =
       subst (λ (y : Result Response NodeFault). NodeMoves storages.contents nodes i input x new y) (sym (h.down up).0)
-      (rests input x new fault.Down (subst (λ (n : NodeState (Script S)). NodeStands storages.contents n x.records x.mind) (sym (h.down up).1) stands))
-  by_mind old new input r x (Some m) up h stands member sender honest =
-      by_result old new m input r x stands (stands_up old m x up stands) (member.up m up) sender h.fits
-      (subst (λ (o : Option Mind). IfSome o (λ n. IfOk r (λ told. TakesInput storages old n input told new))) up h.taken)
+      (rests input x new fault.Down (subst (λ (n : NodeState (Script S)). NodeStands storages.contents n x) (sym (h.down up).1) stands))
+  by_mind old new input r x (Some m) up h stands member fits honest =
+      by_result old new m input r x stands (stands_up old m x up stands) (member.up m up) fits
+      (subst (λ (o : Option Mind). IfSome o (λ n. IfOk r (λ said. TakesInput storages old n input said new))) up h.taken)
       (subst (λ (o : Option Mind). IfSome o (λ n. IfErr r (λ f. MatchBool (is_stop_fault f)
       (StopsOnInput storages old n input f new) (RefusesInput old n input f new)))) up h.refused)
       (subst (λ (o : Option Mind). IfSome o (λ n. IfSome (refuses n input) (λ g. r ≡ Err g))) up h.refuses_) honest
 
   pub node_moves : (old new : NodeState (Script S)) (input : Input) (r : Result Response NodeFault) (x : Local Command)
-      → NodeSteps storages old input r new → NodeStands storages.contents old x.records x.mind → IsMember i nodes old → ComesFrom nodes input
+      → NodeSteps storages old input r new → NodeStands storages.contents old x → IsMember i nodes old → InputFits input
       → storages.IsHonest new.storage → NodeMoves storages.contents nodes i input x new r
-  node_moves old new input r x h stands member sender honest = by_mind old new input r x old.up refl h stands member sender honest
+  node_moves old new input r x h stands member fits honest = by_mind old new input r x old.up refl h stands member fits honest
 
   -- ---- a storage that is honest afterwards was so before
   honest_stopped : (old new : NodeState (Script S)) (m : Mind) (input : Input) (f : NodeFault)

@@ -5,7 +5,6 @@ use Rattle.std.proofs.lemmas.List.{length-map}
 use Rattle.std.proofs.lemmas.List.Elements.{All-nil}
 use Rattle.std.proofs.lemmas.Option.{slice_get_read, slice_get-get_or, slice_get-map, slice_get_within, get_or_from_slice_get, none-some}
 use Rattle.synod.specs.Records.{no_records as nothing_written}
-use Rattle.synod.specs.Minds.{blank}
 use Rattle.synod.specs.History.{Learning}
 use Rattle.synod.specs.Chosen.{Chosen}
 use Rattle.synod.specs.Majorities.{IsMajority, counted}
@@ -20,7 +19,6 @@ use Rattle.stable.specs.Records.{Records, no_records}
 use Rattle.stable.specs.declared.stable.Stable.{Ghosts}
 use Rattle.stable.specs.Script.{Script, Write}
 use Rattle.acceptor.specs.Accepting.{Accepting}
-use Rattle.acceptor.specs.Protocol.{RecordsStand}
 use Rattle.acceptor.proofs.RecordLemmas.{RecordsSay-nothing}
 use Rattle.sessions.specs.declared.command.Command.{Command}
 use Rattle.sessions.specs.declared.command.Command.TheVariants.{NoOp, Request}
@@ -28,8 +26,9 @@ use Rattle.wire.specs.declared.frames.envelope.Envelope.{Envelope}
 use Rattle.world.specs.declared.lists.Submission.{Submission}
 use Rattle.world.specs.declared.lists.Learnt.{Learnt}
 use Rattle.world.specs.Explaining.{LearntAgree, LearntGrounded}
-use Rattle.world.specs.Flushing.{IsFresh, IsStart, IsStarted}
+use Rattle.world.specs.Flushing.{IsUnused, IsStart, IsStarted}
 use Rattle.node.specs.Loading.{IsLoaded}
+use Rattle.node.specs.Protocol.{RecordsAgree}
 use Rattle.world.specs.Protocol.{fleet, frame_of, learning_of}
 use Rattle.world.specs.Reaching.{NodeStands, TookEffect, StandsAt, IsAllowed, AreHonest}
 use Rattle.world.specs.Safety.{HasAgreed, writes_of}
@@ -38,7 +37,6 @@ use Rattle.world.specs.Submissions.{asked_of, command_of, IsGrounded}
 use Rattle.world.specs.Voting.{vote_put, HasVote, IsChosen, HasChosen}
 use Rattle.world.specs.Worlds.{WorldState, submission_of}
 use Rattle.world.proofs.RestartLemmas.{up_again}
-use Rattle.world.proofs.SayingLemmas.{SayBoth}
 use Rattle.world.proofs.VotesStand.{each_held}
 
 -- an element of a list that is told of one by one
@@ -163,29 +161,34 @@ module _ {S : Type 0} {contents : Script S → Records} where
   }
 
 -- ---- the start
+nothing_agrees : (records : Records) → records ≡ no_records → RecordsAgree records nothing_written
+nothing_agrees records e = subst (λ (c : Records). RecordsAgree c nothing_written) (sym e) (record {
+  accepting = nothing_held;
+  round = zero;
+  holds = record { acceptor = RecordsSay-nothing; proposer = refl };
+  stands = record { promise = refl; vote = λ s. refl; round_ = refl; floor_ = refl };
+})
+
 module _ {S : Type 0} {storages : Ghosts (Script S)} where
   started_stands : (i count : ℕ) (n : NodeState (Script S)) → IsStarted storages i count n → storages.IsHonest n.storage
-      → NodeStands storages.contents n nothing_written blank
+      → NodeStands storages.contents n (synod_runs.here synod_runs.start i)
   started_stands i count n h honest =
-      let empty : storages.contents n.storage ≡ no_records = h.fresh.empty honest in
-      let says : SayBoth (storages.contents n.storage) nothing_held zero =
-      subst (λ (c : Records). SayBoth c nothing_held zero) (sym empty) (record { acceptor = RecordsSay-nothing; proposer = refl }) in
-      let stands : RecordsStand nothing_held zero nothing_written = record { promise = refl; vote = λ s. refl; round_ = refl; floor_ = refl } in
+      let empty : storages.contents n.storage ≡ no_records = h.unused.empty honest in
       let loads : IfSome n.up (IsLoaded (storages.contents n.storage) n.id n.nodes) =
       subst (λ (c : Records). IfSome n.up (IsLoaded c n.id n.nodes)) (sym empty)
-      (subst (λ k. IfSome n.up (IsLoaded no_records k n.nodes)) (sym h.number)
-      (subst (λ k. IfSome n.up (IsLoaded no_records i k)) (sym h.of_all) (h.up honest))) in
-      up_again n n nothing_written nothing_held zero n.up refl refl says stands loads
+      (subst (λ k. IfSome n.up (IsLoaded no_records k n.nodes)) (sym h.member.number)
+      (subst (λ k. IfSome n.up (IsLoaded no_records i k)) (sym h.member.of_all) (h.up honest))) in
+      up_again n n (synod_runs.here synod_runs.start i) n.up refl refl (nothing_agrees (storages.contents n.storage) empty) refl loads
 
   -- no put was made, and no vote cast
-  none_put : (s : Script S) (write : Write) → IsFresh storages s → TookEffect storages.contents s write → ⊥
+  none_put : (s : Script S) (write : Write) → IsUnused storages s → TookEffect storages.contents s write → ⊥
   none_put s write fresh (inl c) = none_in write (subst (λ (ws : List Write). Contains ws write) fresh.no_puts c)
   none_put s write fresh (inr u) = none-some write (sym fresh.sure ∙ u.0)
 
   stands_at_start : (i count : ℕ) (n : NodeState (Script S)) → IsStarted storages i count n → storages.IsHonest n.storage → (nodes : ℕ)
       → StandsAt storages.contents nodes i synod_runs.start.past (synod_runs.here synod_runs.start i) n
   stands_at_start i count n h honest nodes = record {
-    listed = λ v. (λ c. absurd (none_in _ c), λ vote. absurd (none_put n.storage (vote_put v) h.fresh (inl vote.written)));
+    listed = λ v. (λ c. absurd (none_in _ c), λ vote. absurd (none_put n.storage (vote_put v) h.unused (inl vote.written)));
     input = act.Nothing;
     came = tt;
     after = synod_runs.here synod_runs.start i;
@@ -196,13 +199,13 @@ module _ {S : Type 0} {storages : Ghosts (Script S)} where
     stands = started_stands i count n h honest;
     puts = record {
       held = each_held storages.contents n.storage
-          (λ write shows. absurd (none-some write.1 (ap (λ (c : Records). c write.0) (sym (h.fresh.empty honest)) ∙ shows)));
+          (λ write shows. absurd (none-some write.1 (ap (λ (c : Records). c write.0) (sym (h.unused.empty honest)) ∙ shows)));
       fit = λ v c. absurd (none_in _ c);
       put = λ v c. absurd (none_in _ c);
-      cast = λ v fits t. absurd (none_put n.storage (vote_put v) h.fresh t);
+      cast = λ v fits t. absurd (none_put n.storage (vote_put v) h.unused t);
     };
     sure = λ _. refl;
-    up = λ _. h.fresh.sure;
+    up = λ _. h.unused.sure;
   }
 
   pub start_allowed : (count : ℕ) (w : WorldState S) → IsStart storages count w → AreHonest storages.IsHonest w.nodes

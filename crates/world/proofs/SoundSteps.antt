@@ -1,19 +1,16 @@
 -- A sound world stays sound, and what is sound is safe.
 use Rattle.std.proofs.Common.{◌≡◌, ℕ, List, [], Option, Some, None, IfSome, IsSome, refl, sym, ap, subst, ◌∙◌}
-use Rattle.stable.specs.Records.{Records, no_records}
+use Rattle.stable.specs.Records.{Records}
 use Rattle.stable.specs.Script.{Script}
 use Rattle.stable.specs.declared.scripted.Failing.{Failing}
 use Rattle.stable.specs.declared.stable.Stable.{Ghosts}
 use Rattle.stable.specs.Storages.{IsLawful}
 use Rattle.sessions.specs.Asked.{Asked}
-use Rattle.sessions.specs.Standing.{StandsFor}
 use Rattle.world.specs.declared.event.Event.{Event}
 use Rattle.world.specs.declared.event.Event.TheVariants as event
 use Rattle.node.specs.declared.input.Input.TheVariants as input
 use Rattle.world.specs.Fleets.{IsFleet}
-use Rattle.world.specs.Flushing.{IsStart, IsStarted, Delivers}
-use Rattle.world.specs.Learning.{Learning}
-use Rattle.node.specs.Loading.{IsLoaded}
+use Rattle.world.specs.Flushing.{IsStart, Delivers}
 use Rattle.node.specs.Minds.{Mind}
 use Rattle.node.specs.Nodes.{NodeState}
 use Rattle.world.specs.Reaching.{AreHonest}
@@ -21,6 +18,7 @@ use Rattle.world.specs.Safety.{HasAgreed, IsSafe, IsSound, IsSoundIfHonest}
 use Rattle.world.specs.Worlds.{WorldState, Steps, ReceivesAt, without_wait}
 use Rattle.world.proofs.Explained.{explained}
 use Rattle.world.proofs.FleetSteps.{step_fleet}
+use Rattle.world.proofs.InLog.{start_in_log, step_in_log}
 use Rattle.world.proofs.ListedPuts.{KeepsPuts}
 use Rattle.world.proofs.RestartLemmas.{restart_honest}
 use Rattle.world.proofs.SafetyLemmas.{allowed_agrees, has_chosen, learnt_agree, learnt_grounded, start_allowed}
@@ -35,7 +33,7 @@ sound_is_safe w sound =
     record {
       agreed = agreed;
       chosen = has_chosen w agreed;
-      explained = explained w sound.tells (learnt_agree w agreed) (learnt_grounded w agreed);
+      explained = explained w sound.tells (learnt_agree w agreed) sound.in_log (learnt_grounded w agreed);
       valid = sound.valid;
     }
 
@@ -44,21 +42,13 @@ pub safe_if_honest : {S : Type 0} {contents : Script S → Records} {IsHonest : 
 safe_if_honest w h honest = sound_is_safe w (h.sound honest)
 
 -- ---- the start
--- a node that has just started has learnt and executed nothing
-unlearnt_yet : {S : Type 0} (storages : Ghosts (Script S)) (i count : ℕ) (n : NodeState (Script S)) (m : Mind) → IsStarted storages i count n
-    → storages.IsHonest n.storage → n.up ≡ Some m → (m.learning.learnt ≡ None) × StandsFor m.machine []
-unlearnt_yet storages i count n m h honest up =
-    let loads : IsLoaded no_records i count m = subst (λ (o : Option Mind). IfSome o (IsLoaded no_records i count)) up (h.up honest) in
-    (ap (λ (l : Learning). l.learnt) loads.learning, loads.machine)
-
 pub start_sound : {S : Type 0} (storages : Ghosts (Script S)) (count : ℕ) (w : WorldState S) → IsStart storages count w
     → IsSoundIfHonest storages.contents storages.IsHonest w
 start_sound storages count w start = record {
   sound = λ honest. record {
     allowed = start_allowed count w start honest;
-    tells = start_tells w (ap (λ (x : WorldState _). x.learnt) start.nothing) (ap (λ (x : WorldState _). x.replies) start.nothing)
-        (ap (λ (x : WorldState _). x.answers) start.nothing)
-        (λ i n m e up. unlearnt_yet storages i count n m (start.nodes.each i n e) (honest i n e) up);
+    tells = start_tells storages count w start;
+    in_log = start_in_log w.learnt (ap (λ (x : WorldState _). x.learnt) start.nothing);
     valid = start_valid w (ap (λ (x : WorldState _). x.submitted) start.nothing);
   };
 }
@@ -79,7 +69,7 @@ module _ {S : Type 0} {storages : Ghosts (Script S)} (laws : IsLawful storages)
   received_honest old frame new None h up fleet honest = same_nodes old new (ap (λ (w : WorldState S). w.nodes) (h.lost up)) honest
   received_honest old frame new (Some m) h up fleet honest =
       let takes = h.taken (subst (λ (o : Option Mind). IsSome o) (sym up) refl) in
-      honest_took laws armed_honest armed_contents lists old frame.to (input.Message frame.from frame.message) takes.0 new takes.1 fleet honest
+      honest_took laws armed_honest armed_contents lists old frame.to (input.Message frame) takes.0 new takes.1 fleet honest
 
   step_honest : (old : WorldState S) (e : Event) (new : WorldState S) → Steps storages old e new
       → IsFleet old.nodes old.frames → Honest new → Honest old
@@ -87,7 +77,7 @@ module _ {S : Type 0} {storages : Ghosts (Script S)} (laws : IsLawful storages)
       let r : Asked = record { client = client; number = number; op = op } in
       let then : Honest h.between = same_nodes h.between new
       (ap (λ (w : WorldState S). w.nodes) h.leaves ∙ submission_nodes laws armed_honest armed_contents lists h.between h.taken node r) honest in
-      honest_took laws armed_honest armed_contents lists old node (input.Submit r) h.taken h.between h.takes fleet then
+      honest_took laws armed_honest armed_contents lists old node (input.Submit client number op) h.taken h.between h.takes fleet then
   step_honest old (event.Deliver k) new h fleet honest =
       received_honest (without_wait old k) h.frame new h.receives.receiver.up h.receives refl fleet honest
   step_honest old (event.Drop k) new h fleet honest = same_nodes old new (ap (λ (w : WorldState S). w.nodes) h) honest
@@ -108,7 +98,8 @@ module _ {S : Type 0} {storages : Ghosts (Script S)} (laws : IsLawful storages)
   step_sound old e new h fleet before = record {
     sound = λ honest. record {
       allowed = step_allowed laws armed_honest armed_contents lists old e new h fleet (λ was. (before.sound was).allowed) honest;
-      tells = steps_tell storages old new e h honest (before.sound (step_honest old e new h fleet honest)).tells;
+      tells = steps_tell storages old new e h (before.sound (step_honest old e new h fleet honest)).tells;
+      in_log = step_in_log storages old e new h (before.sound (step_honest old e new h fleet honest)).in_log;
       valid = step_valid storages old e new h (before.sound (step_honest old e new h fleet honest)).valid;
     };
   }

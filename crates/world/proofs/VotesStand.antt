@@ -39,32 +39,35 @@ module _ {S : Type 0} (contents : Script S → Records) where
   each_held s shown key = if_some (contents s key) (λ bytes here. shown (key, bytes) here)
 
   -- what a node's records hold at a vote's slot
-  vote_shows : (n : NodeState (Script S)) (y : Local Command) → (stands : NodeStands contents n y.records y.mind) → (v : Vote Command)
+  vote_shows : (n : NodeState (Script S)) (y : Local Command) → (stands : NodeStands contents n y) → (v : Vote Command)
       → y.records.vote v.slot ≡ Some v → Shows (contents n.storage) (vote_put v)
-  vote_shows n y stands v e = stands.says.vote_record v.slot ∙ ap (option_map vote_bytes) (sym (stands.stands.vote v.slot) ∙ e)
+  vote_shows n y stands v e =
+      stands.records.holds.acceptor.vote_record v.slot ∙ ap (option_map vote_bytes) (sym (stands.records.stands.vote v.slot) ∙ e)
 
-  vote_fits : (n : NodeState (Script S)) (y : Local Command) → (stands : NodeStands contents n y.records y.mind) → (v : Vote Command)
+  vote_fits : (n : NodeState (Script S)) (y : Local Command) → (stands : NodeStands contents n y) → (v : Vote Command)
       → y.records.vote v.slot ≡ Some v → VoteFits v
   vote_fits n y stands v e =
-      subst (λ (o : Option (Vote Command)). IfSome o VoteFits) (sym (stands.stands.vote v.slot) ∙ e) (stands.says.votes_fit v.slot)
+      subst (λ (o : Option (Vote Command)). IfSome o VoteFits) (sym (stands.records.stands.vote v.slot) ∙ e)
+      (stands.records.holds.acceptor.votes_fit v.slot)
 
-  vote_stands : (n : NodeState (Script S)) (y : Local Command) → (stands : NodeStands contents n y.records y.mind) → (v : Vote Command) → VoteFits v
+  vote_stands : (n : NodeState (Script S)) (y : Local Command) → (stands : NodeStands contents n y) → (v : Vote Command) → VoteFits v
       → Shows (contents n.storage) (vote_put v) → y.records.vote v.slot ≡ Some v
   vote_stands n y stands v fits shows =
-      stands.stands.vote v.slot ∙ one_spelled (stands.accepting.vote v.slot) v (stands.says.at_its_slot v.slot) (stands.says.votes_fit v.slot) fits
-      (sym (stands.says.vote_record v.slot) ∙ shows)
+      let says = stands.records.holds.acceptor in
+      stands.records.stands.vote v.slot
+      ∙ one_spelled (stands.records.accepting.vote v.slot) v (says.at_its_slot v.slot) (says.votes_fit v.slot) fits (sym (says.vote_record v.slot) ∙ shows)
 
   -- what acts of a node make of its votes, and what became of its storage
   pub puts_go_on : (f : Fleet Command) (i : ℕ) (input : act.Input Command) (x y : Local Command) (a : Script S) (n : NodeState (Script S))
-      → Does f i input x y → GoesOn contents a n.storage → NodeStands contents n y.records y.mind → AreSound y.records
+      → Does f i input x y → GoesOn contents a n.storage → NodeStands contents n y → AreSound y.records
       → PutsStand contents a x.records → PutsStand contents n.storage y.records
   puts_go_on f i input x y a n does goes stands sound puts = record {
     held = each_held n.storage (goes.shown (held_shown a puts.held));
-    fit = λ v c. elim (does_casts f i input x y does (stands.stands.floor_ ∙ stands.says.floor) v c) [
+    fit = λ v c. elim (does_casts f i input x y does (stands.records.stands.floor_ ∙ stands.records.holds.acceptor.floor) v c) [
       | inl old ↦ puts.fit v old
       | inr now ↦ vote_fits n y stands v now
     ];
-    put = λ v c. elim (does_casts f i input x y does (stands.stands.floor_ ∙ stands.says.floor) v c) [
+    put = λ v c. elim (does_casts f i input x y does (stands.records.stands.floor_ ∙ stands.records.holds.acceptor.floor) v c) [
       | inl old ↦ goes.kept (vote_put v) (puts.put v old)
       | inr now ↦ goes.shown (held_shown a puts.held) (vote_put v) (vote_shows n y stands v now)
     ];

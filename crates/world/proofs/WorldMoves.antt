@@ -1,11 +1,9 @@
 -- Each step of the world is moves that the protocol allows.
-use Rattle.std.proofs.Common.{◌≡◌, ℕ, zero, suc, ◌<◌, ◌≤◌, inl, inr, List, [], ◌∷◌, ◌++◌, map, length, slice_get, slice_set, Bool, true, false, Option, Some, None, IsSome, Contains, Result, Ok, Err, is_ok, option_map, refl, sym, ap, subst, ◌∙◌, append-nil}
+use Rattle.std.proofs.Common.{◌≡◌, ℕ, zero, suc, ◌<◌, ◌≤◌, inl, inr, List, [], ◌∷◌, ◌++◌, map, length, slice_get, slice_set, Bool, true, false, Option, Some, None, IfSome, IsSome, Contains, Result, Ok, Err, is_ok, option_map, refl, sym, ap, subst, ◌∙◌, append-nil}
 use Rattle.std.proofs.lemmas.Bool.{cases_eq}
 use Rattle.std.proofs.lemmas.List.Elements.{All-nil}
 use Rattle.std.proofs.lemmas.Option.{same_Some, slice_get-map, slice_get_within, get_or_from_slice_get}
 use Rattle.synod.specs.Messages.{Frame}
-use Rattle.synod.specs.Records as synod_records
-use Rattle.synod.specs.Minds as synod_minds
 use Rattle.synod.specs.Acts as act
 use Rattle.synod.specs.Acts.{Local}
 use Rattle.synod.specs.Runs as synod_runs
@@ -13,8 +11,6 @@ use Rattle.synod.specs.Runs.{HasCome, placed}
 use Rattle.synod.proofs.Doing.{does_nothing}
 use Rattle.stable.specs.Records.{Records}
 use Rattle.stable.specs.Script.{Script}
-use Rattle.stable.specs.declared.key.Key.TheVariants as key
-use Rattle.acceptor.specs.Accepting.{RecordsSay}
 use Rattle.stable.specs.declared.scripted.Failing.{Failing}
 use Rattle.stable.specs.declared.stable.Stable.{Ghosts}
 use Rattle.stable.specs.Storages.{IsLawful}
@@ -30,12 +26,15 @@ use Rattle.node.specs.declared.input.Input.TheVariants as input
 use Rattle.world.specs.declared.lists.Submission.{Submission}
 use Rattle.world.specs.declared.lists.Learnt.{Learnt}
 use Rattle.node.specs.declared.outputs.LogEntry.{LogEntry}
-use Rattle.world.specs.Fleets.{IsFleet, IsBetween, ComesFrom}
-use Rattle.node.specs.Minds.{Mind}
+use Rattle.world.specs.Fleets.{IsFleet}
+use Rattle.node.specs.Minds.{Mind, asked}
 use Rattle.node.specs.Nodes.{NodeState}
 use Rattle.node.specs.Outputs.{Response}
-use Rattle.world.specs.Protocol.{learnings, fleet, frame_of, input_of, learning_of, command_of}
-use Rattle.world.specs.Reaching.{SaysRound, NodeStands, StandsAt, IsAllowed, AreHonest}
+use Rattle.wire.specs.FrameSpelling.{Fits}
+use Rattle.node.specs.Inputs.{concerns}
+use Rattle.node.specs.Protocol.{learnings, input_of, coming, InputFits, RecordsAgree, HoldsRecords, MindStands}
+use Rattle.world.specs.Protocol.{fleet, frame_of, learning_of, command_of}
+use Rattle.world.specs.Reaching.{NodeStands, StandsAt, IsAllowed, AreHonest}
 use Rattle.world.specs.Worlds.{WorldState, submission_of, quiet, TakesAt, ReceivesAt, ArmsAt, RestartsAt, Steps, with_node, recorded, with_submission, answered, without_wait, learnt_by}
 use Rattle.world.proofs.FleetSteps.{frame_at}
 use Rattle.world.proofs.ListedPuts.{KeepsPuts, same_lists as same_puts}
@@ -64,9 +63,9 @@ news_of node (Ok told) = learnt_by node told.learnt
 news_of node (Err f) = []
 
 abbrev taken_of : ℕ → Input → Bool → List Submission
-taken_of node (input.Submit r) true = submission_of node r ∷ []
-taken_of node (input.Submit r) false = []
-taken_of node (input.Message from message) b = []
+taken_of node (input.Submit client number op) true = submission_of node (asked client number op) ∷ []
+taken_of node (input.Submit client number op) false = []
+taken_of node (input.Message e) b = []
 taken_of node input.Timeout b = []
 taken_of node input.Tick b = []
 
@@ -79,10 +78,10 @@ news_listed node (Ok told) = by_option told.learnt
 news_listed node (Err f) = refl
 
 taken_listed : (node : ℕ) (i : Input) (r : Result Response NodeFault) → submitted_of i r ≡ map command_of (taken_of node i (is_ok r))
-taken_listed node (input.Submit r) (Ok told) = refl
-taken_listed node (input.Submit r) (Err f) = refl
-taken_listed node (input.Message from message) (Ok told) = refl
-taken_listed node (input.Message from message) (Err f) = refl
+taken_listed node (input.Submit client number op) (Ok told) = refl
+taken_listed node (input.Submit client number op) (Err f) = refl
+taken_listed node (input.Message e) (Ok told) = refl
+taken_listed node (input.Message e) (Err f) = refl
 taken_listed node input.Timeout (Ok told) = refl
 taken_listed node input.Timeout (Err f) = refl
 taken_listed node input.Tick (Ok told) = refl
@@ -157,15 +156,15 @@ module _ {S : Type 0} {storages : Ghosts (Script S)} (laws : IsLawful storages)
       (subst (λ (x : Nodes). AreHonest storages.IsHonest x) nodes honest)
 
   takes_allowed : (old : WorldState S) (node : ℕ) (i : Input) (taken : Bool) (new : WorldState S) → TakesAt storages old node i taken new
-      → IsFleet old.nodes old.frames → ComesFrom (length old.nodes) i → (a : WorldAllowed old) → HasCome a.state.past (input_of i)
+      → IsFleet old.nodes old.frames → InputFits i → (a : WorldAllowed old) → HasCome a.state.past (input_of node (length old.nodes) i)
       → WorldHonest new → TakesAllowed old node i taken new
-  takes_allowed old node i taken new h fleet_ sender a came honest =
+  takes_allowed old node i taken new h fleet_ fits a came honest =
       let nodes : new.nodes ≡ slice_set old.nodes node h.after = ap (λ (w : WorldState S). w.nodes) h.leaves ∙ recorded_nodes (with_node old node h.after) node h.result in
       let there : node < length old.nodes = slice_get_within old.nodes node h.before h.here in
       let own : storages.IsHonest h.after.storage = honest node h.after (ap (λ (x : Nodes). slice_get x node) nodes ∙ set_there old.nodes node h.after h.before h.here) in
       let m : NodeComes storages.contents (length old.nodes) node i a.state h.after h.result =
       node_comes laws list_laws (length old.nodes) node there fleet_.few a.state a.reached h.before h.after i h.result came h.steps
-      (a.stands.node node h.before h.here) (fleet_.members node h.before h.here) sender own in
+      (a.stands.node node h.before h.here) (fleet_.members node h.before h.here) fits own in
       let asks : m.to.submitted ≡ map command_of (taken_of node i taken) =
       m.submitted ∙ taken_listed node i h.result ∙ ap (λ b. map command_of (taken_of node i b)) (sym h.taken_) in
       record {
@@ -174,7 +173,7 @@ module _ {S : Type 0} {storages : Ghosts (Script S)} (laws : IsLawful storages)
             (ap (λ (w : WorldState S). w.frames) h.leaves ∙ recorded_frames (with_node old node h.after) node h.result)
             (ap (λ (w : WorldState S). w.learnt) h.leaves ∙ recorded_learnt (with_node old node h.after) node h.result) refl
             (moved old.nodes old.frames (sends_of h.result) old.learnt (news_of node h.result) old.submitted (taken_of node i taken) a node h.after
-            (input_of i) m.to came m.does m.stands m.sent (m.learnt ∙ news_listed node h.result) asks);
+            (input_of node (length old.nodes) i) m.to came m.does m.stands m.sent (m.learnt ∙ news_listed node h.result) asks);
         submitted = ap (λ (w : WorldState S). w.submitted) h.leaves ∙ recorded_submitted (with_node old node h.after) node h.result;
       }
 
@@ -187,14 +186,14 @@ module _ {S : Type 0} {storages : Ghosts (Script S)} (laws : IsLawful storages)
 
   -- ---- a request
   submits_allowed : (old between new : WorldState S) (node : ℕ) (r : Asked) (taken : Bool) → new ≡ with_submission between taken node r
-      → TakesAllowed old node (input.Submit r) taken between → WorldAllowed new
+      → TakesAllowed old node (input.Submit r.client r.number r.op) taken between → WorldAllowed new
   submits_allowed old between new node r true e t =
       named between.nodes new.nodes between.frames new.frames between.learnt new.learnt (old.submitted ++ submission_of node r ∷ []) new.submitted
       (ap (λ (w : WorldState S). w.nodes) e) (ap (λ (w : WorldState S). w.frames) e) (ap (λ (w : WorldState S). w.learnt) e)
       (ap (λ (w : WorldState S). w.submitted) e ∙ ap (λ l. l ++ submission_of node r ∷ []) t.submitted) t.lists
   submits_allowed old between new node r false e t =
       same_lists between new (ap (λ (w : WorldState S). w.nodes) e) (ap (λ (w : WorldState S). w.frames) e) (ap (λ (w : WorldState S). w.learnt) e)
-      (ap (λ (w : WorldState S). w.submitted) e) (takes_quietly old node (input.Submit r) false between refl t)
+      (ap (λ (w : WorldState S). w.submitted) e) (takes_quietly old node (input.Submit r.client r.number r.op) false between refl t)
 
   pub submission_nodes : (between : WorldState S) (taken : Bool) (node : ℕ) (r : Asked) → (with_submission between taken node r).nodes ≡ between.nodes
   submission_nodes between true node r = refl
@@ -202,8 +201,9 @@ module _ {S : Type 0} {storages : Ghosts (Script S)} (laws : IsLawful storages)
 
   -- ---- a frame
   was_sent : (old : WorldState S) (a : WorldAllowed old) (k : ℕ) (frame : Envelope) → slice_get old.frames k ≡ Some frame
-      → HasCome a.state.past (input_of (input.Message frame.from frame.message))
-  was_sent old a k frame sent =
+      → (b : Bool) → HasCome a.state.past (coming frame b)
+  was_sent old a k frame sent false = tt
+  was_sent old a k frame sent true =
       (frame.to, subst (λ (l : List (Frame Command)). Contains l (frame_of frame)) (sym a.stands.frames_) (in_map old.frames k frame sent))
     where
       in_map : (frames : List Envelope) (k : ℕ) (frame : Envelope) → slice_get frames k ≡ Some frame → Contains (map frame_of frames) (frame_of frame)
@@ -214,27 +214,27 @@ module _ {S : Type 0} {storages : Ghosts (Script S)} (laws : IsLawful storages)
           (k, within, get_or_from_slice_get (map frame_of frames) k (frame_of frame) (frame_of frame) mapped)
 
   receives_allowed : (old : WorldState S) (k : ℕ) (frame : Envelope) (new : WorldState S) (o : Option Mind) → slice_get old.frames k ≡ Some frame
-      → (h : ReceivesAt storages old frame new) → h.receiver.up ≡ o → IsFleet old.nodes old.frames
+      → Fits 7 frame → (h : ReceivesAt storages old frame new) → h.receiver.up ≡ o → IsFleet old.nodes old.frames
       → (WorldHonest old → WorldAllowed old) → WorldHonest new → WorldAllowed new
-  receives_allowed old k frame new None sent h up fleet_ before honest =
+  receives_allowed old k frame new None sent fits h up fleet_ before honest =
       let lost = h.lost up in
       let nodes : new.nodes ≡ old.nodes = ap (λ (w : WorldState S). w.nodes) lost in
       same_lists old new nodes (ap (λ (w : WorldState S). w.frames) lost) (ap (λ (w : WorldState S). w.learnt) lost) (ap (λ (w : WorldState S). w.submitted) lost)
       (before (subst (λ (x : Nodes). AreHonest storages.IsHonest x) nodes honest))
-  receives_allowed old k frame new (Some m) sent h up fleet_ before honest =
+  receives_allowed old k frame new (Some m) sent fits h up fleet_ before honest =
       let takes = h.taken (subst (λ (o : Option Mind). IsSome o) (sym up) refl) in
-      let i : Input = input.Message frame.from frame.message in
+      let i : Input = input.Message frame in
       let a : WorldAllowed old = before (honest_took old frame.to i takes.0 new takes.1 fleet_ honest) in
-      let between : IsBetween (length old.nodes) frame = frame_at old.nodes old.frames k frame fleet_ sent in
       takes_quietly old frame.to i takes.0 new refl
-      (takes_allowed old frame.to i takes.0 new takes.1 fleet_ between.from a (was_sent old a k frame sent) honest)
+      (takes_allowed old frame.to i takes.0 new takes.1 fleet_ fits.message a
+      (was_sent old a k frame sent (concerns frame.to (length old.nodes) frame)) honest)
 
   takes_step : (old : WorldState S) (node : ℕ) (i : Input) (taken : Bool) (new : WorldState S) → taken_of node i taken ≡ [] → TakesAt storages old node i taken new
-      → IsFleet old.nodes old.frames → ComesFrom (length old.nodes) i → ((a : WorldAllowed old) → HasCome a.state.past (input_of i))
+      → IsFleet old.nodes old.frames → InputFits i → ((a : WorldAllowed old) → HasCome a.state.past (input_of node (length old.nodes) i))
       → (WorldHonest old → WorldAllowed old) → WorldHonest new → WorldAllowed new
-  takes_step old node i taken new none h fleet_ sender came before honest =
+  takes_step old node i taken new none h fleet_ fits came before honest =
       let a : WorldAllowed old = before (honest_took old node i taken new h fleet_ honest) in
-      takes_quietly old node i taken new none (takes_allowed old node i taken new h fleet_ sender a (came a) honest)
+      takes_quietly old node i taken new none (takes_allowed old node i taken new h fleet_ fits a (came a) honest)
 
   -- ---- a node is changed, and nothing is told
   changed : (old new : WorldState S) (node : ℕ) (after : NodeState (Script S)) (acts : act.Input Command) (y : Local Command) → new.nodes ≡ slice_set old.nodes node after
@@ -262,16 +262,11 @@ module _ {S : Type 0} {storages : Ghosts (Script S)} (laws : IsLawful storages)
       (ap (λ (w : WorldState S). w.learnt) h.leaves) (ap (λ (w : WorldState S). w.submitted) h.leaves) a q.came q.does q.stands q.unsent q.unlearnt
       q.unsubmitted
 
-  armed_stands : (n : NodeState (Script S)) (f : Failing) (r : synod_records.Records Command) (s : synod_minds.Mind Command)
-      → NodeStands storages.contents n r s → NodeStands storages.contents (record n { storage = record n.storage { armed = Some f } }) r s
-  armed_stands n f r s stands = record {
-    accepting = stands.accepting;
-    round = stands.round;
-    says = subst (λ (c : Records). RecordsSay c stands.accepting) (sym (armed_contents n.storage f)) stands.says;
-    says_round = subst (λ (c : Records). SaysRound (c key.Round) stands.round)
-        (sym (armed_contents n.storage f)) stands.says_round;
-    stands = stands.stands;
-    up = stands.up;
+  armed_stands : (n : NodeState (Script S)) (f : Failing) (x : Local Command)
+      → NodeStands storages.contents n x → NodeStands storages.contents (record n { storage = record n.storage { armed = Some f } }) x
+  armed_stands n f x stands = record {
+    records = subst (λ (c : Records). RecordsAgree c x.records) (sym (armed_contents n.storage f)) stands.records;
+    up = subst (λ (c : Records). IfSome n.up (λ m. HoldsRecords m c × MindStands m x)) (sym (armed_contents n.storage f)) stands.up;
   }
 
   armed_at : (nodes i : ℕ) (w : synod_runs.World Command) (n : NodeState (Script S)) (f : Failing) → StandsAt storages.contents nodes i w.past (local_of w i) n
@@ -285,7 +280,7 @@ module _ {S : Type 0} {storages : Ghosts (Script S)} (laws : IsLawful storages)
     unsent = s.unsent;
     unlearnt = s.unlearnt;
     unsubmitted = s.unsubmitted;
-    stands = armed_stands n f s.after.records s.after.mind s.stands;
+    stands = armed_stands n f s.after s.stands;
     puts = puts_same storages.contents n.storage (record n.storage { armed = Some f }) s.after.records
         (same_puts storages.contents n.storage (record n.storage { armed = Some f }) (armed_contents n.storage f) refl refl) s.puts;
     sure = s.sure;
@@ -320,13 +315,13 @@ module _ {S : Type 0} {storages : Ghosts (Script S)} (laws : IsLawful storages)
       → IsFleet old.nodes old.frames → (WorldHonest old → WorldAllowed old) → WorldHonest new → WorldAllowed new
   step_allowed old (event.Submit node client number op) new h fleet_ before honest =
       let r : Asked = record { client = client; number = number; op = op } in
-      let i : Input = input.Submit r in
+      let i : Input = input.Submit client number op in
       let nodes : new.nodes ≡ h.between.nodes = ap (λ (w : WorldState S). w.nodes) h.leaves ∙ submission_nodes h.between h.taken node r in
       let then : WorldHonest h.between = subst (λ (x : Nodes). AreHonest storages.IsHonest x) nodes honest in
       let a : WorldAllowed old = before (honest_took old node i h.taken h.between h.takes fleet_ then) in
       submits_allowed old h.between new node r h.taken h.leaves (takes_allowed old node i h.taken h.between h.takes fleet_ tt a tt then)
   step_allowed old (event.Deliver k) new h fleet_ before honest =
-      receives_allowed (without_wait old k) k h.frame new h.receives.receiver.up h.sent h.receives refl fleet_ before honest
+      receives_allowed (without_wait old k) k h.frame new h.receives.receiver.up h.sent h.fits h.receives refl fleet_ before honest
   step_allowed old (event.Drop k) new h fleet_ before honest =
       same_world (quiet (without_wait old k)) new h
       (before (subst (λ (x : Nodes). AreHonest storages.IsHonest x) (ap (λ (w : WorldState S). w.nodes) h) honest))

@@ -8,7 +8,7 @@ use Rattle.synod.specs.Runs as synod_runs
 use Rattle.synod.specs.Runs.{IsReached}
 use Rattle.synod.specs.declared.vote.Vote.{Vote}
 use Rattle.sessions.specs.declared.command.Command.{Command}
-use Rattle.world.specs.Explaining.{IsExplained}
+use Rattle.world.specs.Explaining.{IsExplained, LearntInLog}
 use Rattle.world.specs.Protocol.{fleet, frame_of, learning_of, command_of}
 use Rattle.world.specs.Reaching.{IsAllowed, AreHonest}
 use Rattle.node.specs.States.{NodeState}
@@ -43,10 +43,12 @@ pub record IsSafe {S : Type 0} (w : WorldState S) : Type 0 where
   pub valid : BringValid w.submitted
 
 -- ---- what is kept from call to call
--- moves that the protocol allows lead there, the lists tell what the nodes know, and what was submitted is valid
+-- moves that the protocol allows lead there, the lists tell what the nodes know, whatever was learnt was learnt at a slot of the log,
+-- and what was submitted is valid
 pub record IsSound {S : Type 0} (contents : Script S → Records) (w : WorldState S) : Type 0 where
   pub allowed : IsAllowed contents w.nodes w.frames w.learnt w.submitted
   pub tells : Tells w
+  pub in_log : LearntInLog w.learnt
   pub valid : BringValid w.submitted
 
 -- of a scripted storage, by what holds of the storage inside

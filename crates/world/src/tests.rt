@@ -129,26 +129,55 @@ fn is_refused(
     Ok(())
 }
 
-// What a node says of one instant too many: nothing before that but that the log is full.
+// What a node says of one instant too many, whether the request waits already or not.
 #[test]
 fn a_long_sequence_is_refused(rt: HostRuntime) -> Result<(), Fail> {
     let alloc = rt.alloc();
     let mut world = three_nodes(alloc)?;
-    // Nothing waits; the same request waits; another waits, for which a second could not.
     is_refused(&rt, alloc, &mut world, 1, NodeFault::TooLong)?;
     world.step(alloc, request(0, 1)?)?;
     is_refused(&rt, alloc, &mut world, 1, NodeFault::TooLong)?;
-    world.step(alloc, request(0, 2)?)?;
-    is_refused(&rt, alloc, &mut world, 2, NodeFault::TooLong)?;
-    decide(alloc, &mut world)?;
-    is_refused(&rt, alloc, &mut world, 2, NodeFault::LogFull)?;
-    assert!(rt;
-        world
-            .outcomes()
-            .contains(&Outcome::Refused(node(0)?, NodeFault::QueueFull))
-    );
     assert_eq!(rt; NodeFault::TooLong.code(), 45);
     assert_eq!(rt; world.submitted().len(), 1);
+    Ok(())
+}
+
+// Sixty-four requests wait at a node, and no more; the first of them waits once.
+#[test]
+fn sixty_four_requests_wait(rt: HostRuntime) -> Result<(), Fail> {
+    let alloc = rt.alloc();
+    let mut world = three_nodes(alloc)?;
+    for number in 1..=64 {
+        world.step(alloc, request(0, number)?)?;
+    }
+    world.step(alloc, request(0, 1)?)?;
+    world.step(alloc, request(0, 65)?)?;
+    let outcome = world.outcomes().last().ok_or("an outcome")?;
+    assert_eq!(rt; *outcome, Outcome::Refused(node(0)?, NodeFault::QueueFull));
+    assert_eq!(rt; world.submitted().len(), 65);
+    // All of them are decided, and each has its reply.
+    decide(alloc, &mut world)?;
+    assert_eq!(rt; world.replies().len(), 64);
+    Ok(())
+}
+
+// Five nodes, of which two are never heard of, learn what is asked for.
+#[test]
+fn three_of_five_decide(rt: HostRuntime) -> Result<(), Fail> {
+    let alloc = rt.alloc();
+    let mut world = World::new(alloc, Nodes::new(5).ok_or("nodes")?)?;
+    world.step(alloc, request(0, 1)?)?;
+    world.step(alloc, Event::Timeout(node(0)?))?;
+    let mut frame = 0;
+    while frame < world.frames().len() {
+        let to = world.frames()[frame].open(alloc)?.to.value();
+        if to < 3 {
+            world.step(alloc, Event::Deliver(frame as u64))?;
+        }
+        frame += 1;
+    }
+    assert_eq!(rt; world.learnt().len(), 3);
+    assert_eq!(rt; world.replies().len(), 1);
     Ok(())
 }
 

@@ -2,4 +2,4 @@ use Rattle.world.proofs.Explained.{explained}
 use Rattle.world.proofs.explaining.tellings_are_explained.Goals as goal
 
 pub returns : goal.returns
-returns g c w tells agree grounded = explained w tells agree grounded
+returns g c = explained
