@@ -400,6 +400,7 @@ fn majorities_lead(rt: HostRuntime) -> Result<(), Fail> {
         for from in 0..needed {
             let early = made(rt.alloc(), &mut node, Call::Propose)?;
             assert!(rt; early.is_empty(), "{from} of {nodes}");
+            assert_eq!(rt; node.proposer.open(), 0, "{from} of {nodes}");
             let _ = made(
                 rt.alloc(),
                 &mut node,
@@ -408,6 +409,7 @@ fn majorities_lead(rt: HostRuntime) -> Result<(), Fail> {
         }
         let sends = made(rt.alloc(), &mut node, Call::Propose)?;
         assert_eq!(rt; sends.len(), 1, "{needed} of {nodes}");
+        assert_eq!(rt; node.proposer.open(), 1, "{needed} of {nodes}");
     }
     Ok(())
 }
@@ -422,6 +424,7 @@ fn sixty_four_requests_wait(rt: HostRuntime) -> Result<(), Fail> {
             "at {number}"
         );
     }
+    assert_eq!(rt; node.proposer.waiting(), 64);
     assert_eq!(rt;
         node.proposer.submit(request(7, 65)?),
         Err(SubmitFault::QueueFull)

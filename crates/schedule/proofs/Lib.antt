@@ -2,6 +2,7 @@ pub mod Coordinates
 pub mod Cuts
 pub mod Decimals
 pub mod Faults
+pub mod FirstLines
 pub mod NoSchedule
 pub mod NodeCount
 pub mod One

@@ -1,12 +1,13 @@
 -- Bytes with a faulty line spell no schedule.
-use Rattle.std.proofs.Common.{◌≡◌, ℕ, true, nat_le, ◌&&◌, List, [], ◌∷◌, ◌++◌, codes, refl, sym, ◌∙◌, ap, subst, arith}
-use Rattle.std.specs.List.{All}
+use Rattle.std.proofs.Common.{◌≡◌, ℕ, true, nat_le, ◌&&◌, List, [], ◌∷◌, ◌++◌, codes, refl, sym, ◌∙◌, ap, subst, inl, inr, arith}
+use Rattle.std.specs.List.{All, list_all}
 use Rattle.std.proofs.lemmas.List.Sums.{AllPass-from_list_all}
 use Rattle.std.proofs.lemmas.Bool.Decides.{nat_tests}
 use Rattle.schedule.specs.Lines.{NumberedText}
 use Rattle.schedule.specs.Schedules.{Plan, SpellEach, IsScheduleOf, IsFirstFault, no_line, first_line, later_line, IsRefusal, IsNoSchedule}
 use Rattle.schedule.specs.Spelling.{Spells}
-use Rattle.schedule.specs.Table.{HasFirstFault, IsPrintable, line_of}
+use Rattle.schedule.specs.Table.{HasFirstFault, HasItsWords, IsNodesLine, IsPrintable, line_of, places}
+use Rattle.schedule.specs.Words.{words_of}
 use Rattle.schedule.specs.declared.action.Action.{Action}
 use Rattle.schedule.specs.declared.keyword.Keyword.TheVariants.{Nodes}
 use Rattle.schedule.specs.declared.fault.ParseFault.{ParseFault}
@@ -15,6 +16,7 @@ use Rattle.schedule.specs.declared.fault.ScheduleFault.{ScheduleFault}
 use Rattle.schedule.specs.declared.fault.ScheduleFault.TheVariants.{NotPrintable, UnknownWord, NodesLine, WordCount, WordForm, Document}
 use Rattle.schedule.specs.declared.plan.ScheduleLine.{ScheduleLine}
 use Rattle.schedule.proofs.Faults.{prints_throughout}
+use Rattle.schedule.proofs.FirstLines.{IsRightText, one_size, right_text}
 use Rattle.schedule.proofs.Spelled.{spelled_faultless}
 
 -- two lists have one first and one rest
@@ -28,17 +30,27 @@ tails x y xs ys e = cc
 test_prints : (byte : ℕ) → (nat_le 0x20 byte && nat_le byte 0x7E) ≡ true → IsPrintable byte
 test_prints byte h = grind (arith, nat_tests)
 
-nodes_line_prints : All IsPrintable (codes "nodes 3")
-nodes_line_prints k d h =
-    test_prints _ (AllPass-from_list_all (λ byte. nat_le 0x20 byte && nat_le byte 0x7E) (codes "nodes 3") refl k d h)
+all_print : (text : List ℕ) → list_all (λ byte. nat_le 0x20 byte && nat_le byte 0x7E) text ≡ true → All IsPrintable text
+all_print text passes k d h =
+    test_prints _ (AllPass-from_list_all (λ byte. nat_le 0x20 byte && nat_le byte 0x7E) text passes k d h)
 
-pub right_faultless : (fault : ScheduleFault) → ¬ (HasFirstFault (codes "nodes 3") fault)
-right_faultless NotPrintable h = prints_throughout (codes "nodes 3") nodes_line_prints h
-right_faultless UnknownWord h = h (line_of Nodes) (refl, tt)
-right_faultless NodesLine h = h 3 (record { spelled = refl; three = refl })
-right_faultless WordCount h = h
-right_faultless WordForm h = h
-right_faultless Document h = h
+right_prints : (text : List ℕ) → IsRightText text → All IsPrintable text
+right_prints text (inl three) = rw three (all_print (codes "nodes 3") refl)
+right_prints text (inr (inl five)) = rw five (all_print (codes "nodes 5") refl)
+right_prints text (inr (inr seven)) = rw seven (all_print (codes "nodes 7") refl)
+
+right_known : (text : List ℕ) → IsRightText text → HasItsWords (places (line_of Nodes)) (words_of text)
+right_known text (inl three) = rw three (refl, tt)
+right_known text (inr (inl five)) = rw five (refl, tt)
+right_known text (inr (inr seven)) = rw seven (refl, tt)
+
+pub right_faultless : (text : List ℕ) (n : ℕ) → IsNodesLine text n → (fault : ScheduleFault) → ¬ (HasFirstFault text fault)
+right_faultless text n line NotPrintable h = prints_throughout text (right_prints text (right_text text n line)) h
+right_faultless text n line UnknownWord h = h (line_of Nodes) (right_known text (right_text text n line))
+right_faultless text n line NodesLine h = h n line
+right_faultless text n line WordCount h = h
+right_faultless text n line WordForm h = h
+right_faultless text n line Document h = h
 
 -- a line among spelled ones spells an action
 spelled_at : (n : ℕ) (before after : List NumberedText) (line : NumberedText) (read : List ScheduleLine)
@@ -53,11 +65,13 @@ pub faulty_is_none : (bytes : List ℕ) (number : ℕ) (fault : ScheduleFault) (
 faulty_is_none bytes number fault plan (no_line none is_one is_nodes) s = let e = sym none ∙ s.lines in cc
 faulty_is_none bytes number fault plan (first_line first others lines at lowest) s =
     let same : first ≡ s.first = heads _ _ _ _ (sym lines ∙ s.lines) in
-    let text : first.text ≡ codes "nodes 3" = ap (λ (l : NumberedText). l.text) same ∙ s.nodes_line.spelled in
-    right_faultless fault (subst (λ (t : List ℕ). HasFirstFault t fault) text lowest.is_there)
+    let text : first.text ≡ s.first.text = ap (λ (l : NumberedText). l.text) same in
+    right_faultless s.first.text plan.nodes s.nodes_line fault
+    (subst (λ (t : List ℕ). HasFirstFault t fault) text lowest.is_there)
 faulty_is_none bytes number fault plan (later_line n line reached at lowest) s =
     let others : s.others ≡ reached.others = tails _ _ _ _ (sym s.lines ∙ reached.lines) in
-    let size : plan.nodes ≡ n = s.nodes_line.three ∙ sym reached.nodes_line.three in
+    let first : s.first ≡ reached.first = heads _ _ _ _ (sym s.lines ∙ reached.lines) in
+    let size : plan.nodes ≡ n = one_size s.first reached.first plan.nodes n first s.nodes_line reached.nodes_line in
     let each : SpellEach n reached.others plan.lines =
     subst (λ (m : ℕ). SpellEach m reached.others plan.lines) size
     (subst (λ (ts : List NumberedText). SpellEach plan.nodes ts plan.lines) others s.spelled) in

@@ -4,6 +4,7 @@ use Rattle.schedule.specs.Lines.{NumberedText}
 use Rattle.schedule.specs.Schedules.{Plan, SpellEach, IsScheduleOf}
 use Rattle.schedule.specs.Words.{words_of}
 use Rattle.schedule.specs.declared.plan.ScheduleLine.{ScheduleLine}
+use Rattle.schedule.proofs.FirstLines.{one_size, small_size}
 use Rattle.schedule.proofs.NoSchedule.{heads, tails}
 use Rattle.schedule.proofs.OneAction.{one_action}
 
@@ -29,11 +30,11 @@ one_plan a b first nodes lines = λ i. record { first = first i; nodes = nodes i
 pub one_schedule : (bytes : List ℕ) (a b : Plan) → IsScheduleOf bytes a → IsScheduleOf bytes b → a ≡ b
 one_schedule bytes a b sa sb =
     let others : sb.others ≡ sa.others = tails _ _ _ _ (sym sb.lines ∙ sa.lines) in
-    let size : b.nodes ≡ a.nodes = sb.nodes_line.three ∙ sym sa.nodes_line.three in
+    let first : sb.first ≡ sa.first = heads _ _ _ _ (sym sb.lines ∙ sa.lines) in
+    let size : b.nodes ≡ a.nodes = one_size sb.first sa.first b.nodes a.nodes first sb.nodes_line sa.nodes_line in
     let each : SpellEach a.nodes sa.others b.lines =
     subst (λ (m : ℕ). SpellEach m sa.others b.lines) size
     (subst (λ (ts : List NumberedText). SpellEach b.nodes ts b.lines) others sb.spelled) in
-    let small : a.nodes ≤ 2 ^ 64 = omega (arith, sa.nodes_line.three) in
-    let first : sb.first ≡ sa.first = heads _ _ _ _ (sym sb.lines ∙ sa.lines) in
+    let small : a.nodes ≤ 2 ^ 64 = omega (arith, small_size a.nodes sa.nodes_line.size) in
     let number : a.first ≡ b.first = sa.first_number ∙ sym (ap (λ (l : NumberedText). l.number) first) ∙ sym sb.first_number in
     one_plan a b number (sym size) (one_list a.nodes sa.others a.lines b.lines small sa.spelled each)

@@ -1,5 +1,5 @@
 -- The first fault of a file is one.
-use Rattle.std.proofs.Common.{◌≡◌, ℕ, cond, nat_eq, suc, List, [], ◌∷◌, ◌++◌, codes, refl, sym, ◌∙◌, ap, subst, arith}
+use Rattle.std.proofs.Common.{◌≡◌, ℕ, cond, nat_eq, suc, List, [], ◌∷◌, ◌++◌, refl, sym, ◌∙◌, ap, subst, arith}
 use Rattle.std.specs.List.{All}
 use Rattle.schedule.specs.Codes.{code_of, IsLowest}
 use Rattle.schedule.specs.Lines.{NumberedText, lines_of}
@@ -7,6 +7,7 @@ use Rattle.schedule.specs.Schedules.{IsFaultless, IsReached, IsFirstFault, no_li
 use Rattle.schedule.specs.Table.{HasFault, HasFirstFault}
 use Rattle.schedule.specs.declared.fault.ScheduleFault.{ScheduleFault}
 use Rattle.schedule.specs.declared.fault.ScheduleFault.TheVariants.{NotPrintable, UnknownWord, NodesLine, WordCount, WordForm, Document}
+use Rattle.schedule.proofs.FirstLines.{one_size}
 use Rattle.schedule.proofs.NoSchedule.{heads, tails, right_faultless}
 
 -- no two faults have one number
@@ -56,8 +57,8 @@ not_in_first : (bytes : List ℕ) (n : ℕ) (line first : NumberedText) (others 
     → IsReached bytes n line → lines_of bytes ≡ first ∷ others → ¬ (HasFirstFault first.text fault)
 not_in_first bytes n line first others fault reached lines has =
     let same : first ≡ reached.first = heads _ _ _ _ (sym lines ∙ reached.lines) in
-    let text : first.text ≡ codes "nodes 3" = ap (λ (l : NumberedText). l.text) same ∙ reached.nodes_line.spelled in
-    right_faultless fault (subst (λ (t : List ℕ). HasFirstFault t fault) text has)
+    let text : first.text ≡ reached.first.text = ap (λ (l : NumberedText). l.text) same in
+    right_faultless reached.first.text n reached.nodes_line fault (subst (λ (t : List ℕ). HasFirstFault t fault) text has)
 
 none_in_lines : (bytes : List ℕ) (first : NumberedText) (others : List NumberedText) → lines_of bytes ≡ []
     → lines_of bytes ≡ first ∷ others → ⊥
@@ -67,7 +68,8 @@ in_later : (bytes : List ℕ) (m n j k : ℕ) (x y : NumberedText) (f g : Schedu
     → j ≡ x.number → k ≡ y.number
     → IsLowest (HasFault m x.text) f → IsLowest (HasFault n y.text) g → (j ≡ k) × (f ≡ g)
 in_later bytes m n j k x y f g rx ry ex ey lx ly =
-    let size : n ≡ m = ry.nodes_line.three ∙ sym rx.nodes_line.three in
+    let first : ry.first ≡ rx.first = heads _ _ _ _ (sym ry.lines ∙ rx.lines) in
+    let size : n ≡ m = one_size ry.first rx.first n m first ry.nodes_line rx.nodes_line in
     let others : rx.others ≡ ry.others = tails _ _ _ _ (sym rx.lines ∙ ry.lines) in
     let parts = sym rx.next.parts ∙ others ∙ ry.next.parts in
     let ly' : IsLowest (HasFault m y.text) g = subst (λ (q : ℕ). IsLowest (HasFault q y.text) g) size ly in

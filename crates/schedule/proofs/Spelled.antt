@@ -243,38 +243,35 @@ line_result n line unread (Ok action) gives becomes = line_spells n line.text un
 line_result n line unread (Err fault) gives not = line_refused n line unread fault gives not
 
 -- ---- first lines
-no_nodes_line : (text : List ℕ) → text ≢ codes "nodes 3" → HasFirstFault text NodesLine
-no_nodes_line text other n line = other line.spelled
-
 -- a first line that would do as a later one
-pub given_first : (n : ℕ) (text : List ℕ) (unread : Unread) → text ≢ codes "nodes 3" → Gives n text unread
+pub given_first : (n : ℕ) (text : List ℕ) (unread : Unread) → HasFirstFault text NodesLine → Gives n text unread
     → IsLowest (HasFirstFault text) NodesLine
-given_first n text unread other gives =
+given_first n text unread wrong gives =
     let row = row_given n (words_of text) unread gives.words in
     record {
-      is_there = no_nodes_line text other;
+      is_there = wrong;
       lowest = from_three (HasFirstFault text) (row_faultless n text gives.prints row NotPrintable (λ e. cc))
           (row_faultless n text gives.prints row UnknownWord (λ e. cc));
     }
 
 -- a first line whose lowest fault as a later one is above the second
-beyond_two : (n : ℕ) (text : List ℕ) (fault : ScheduleFault) → text ≢ codes "nodes 3" → IsLowest (HasFault n text) fault
+beyond_two : (n : ℕ) (text : List ℕ) (fault : ScheduleFault) → HasFirstFault text NodesLine → IsLowest (HasFault n text) fault
     → 3 ≤ code_of fault → IsLowest (HasFirstFault text) NodesLine
-beyond_two n text fault other l above = record {
-  is_there = no_nodes_line text other;
+beyond_two n text fault wrong l above = record {
+  is_there = wrong;
   lowest = from_three (HasFirstFault text) (λ h. absurd (omega (arith, above, l.lowest NotPrintable h)))
       (λ h. absurd (omega (arith, above, l.lowest UnknownWord h)));
 }
 
 -- a first line that would not
-pub faulty_first : (n : ℕ) (text : List ℕ) (fault : ScheduleFault) → text ≢ codes "nodes 3" → IsLowest (HasFault n text) fault
+pub faulty_first : (n : ℕ) (text : List ℕ) (fault : ScheduleFault) → HasFirstFault text NodesLine → IsLowest (HasFault n text) fault
     → IsLowest (HasFirstFault text) (in_first_line fault)
-faulty_first n text NotPrintable other l = lowest_unprintable (HasFirstFault text) l.is_there
-faulty_first n text UnknownWord other l = record {
+faulty_first n text NotPrintable wrong l = lowest_unprintable (HasFirstFault text) l.is_there
+faulty_first n text UnknownWord wrong l = record {
   is_there = l.is_there;
   lowest = from_two (HasFirstFault text) (λ h. absurd (omega (arith, l.lowest NotPrintable h)));
 }
-faulty_first n text NodesLine other l = beyond_two n text NodesLine other l (omega arith)
-faulty_first n text WordCount other l = beyond_two n text WordCount other l (omega arith)
-faulty_first n text WordForm other l = beyond_two n text WordForm other l (omega arith)
-faulty_first n text Document other l = beyond_two n text Document other l (omega arith)
+faulty_first n text NodesLine wrong l = beyond_two n text NodesLine wrong l (omega arith)
+faulty_first n text WordCount wrong l = beyond_two n text WordCount wrong l (omega arith)
+faulty_first n text WordForm wrong l = beyond_two n text WordForm wrong l (omega arith)
+faulty_first n text Document wrong l = beyond_two n text Document wrong l (omega arith)

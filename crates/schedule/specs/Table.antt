@@ -1,5 +1,5 @@
 -- The lines of a schedule: which words each has, and what is wrong with other lines.
-use Rattle.std.specs.Prelude.{◌≡◌, ℕ, ℤ, ◌+◌, ◌≤◌, ◌^◌, ◌⊎◌, List, [], ◌∷◌, length, take, drop, codes, Any}
+use Rattle.std.specs.Prelude.{◌≡◌, ℕ, ℤ, ◌+◌, ◌≤◌, ◌^◌, ◌⊎◌, List, [], ◌∷◌, ◌++◌, length, take, drop, codes, decimal, Any}
 use Rattle.mfjson.specs.Datetime.{ReadsAs}
 use Rattle.mfjson.specs.Document.{IsDocumentOf}
 use Rattle.mfjson.specs.declared.feature.Feature.{Feature}
@@ -96,6 +96,10 @@ HasItsCount (submit_of Put) words = count (places (submit_of Put)) ≤ length wo
 HasItsCount row words = length words ≡ count (places row)
 
 -- ---- which words
+-- how many nodes a run has
+abbrev pub IsRunSize : ℕ → Type 0
+IsRunSize n = (n ≡ 3) ⊎ (n ≡ 5) ⊎ (n ≡ 7)
+
 -- n nodes are there; frames have the numbers of a u64
 abbrev pub IsNode : ℕ → List ℕ → ℕ → Type 0
 IsNode n = Writes 0 n
@@ -112,7 +116,7 @@ IsFrameNumber = Writes 0 (2 ^ 64)
 -- the words are what the place wants, in a run of n nodes
 abbrev pub IsOfForm : ℕ → Place → List (List ℕ) → Type 0
 IsOfForm n (the_word wanted) (word ∷ []) = word ≡ wanted
-IsOfForm n a_run_size (word ∷ []) = word ≡ codes "3"
+IsOfForm n a_run_size (word ∷ []) = (size : ℕ) × IsRunSize size × (word ≡ decimal size)
 IsOfForm n a_node (word ∷ []) = (node : ℕ) × IsNode n word node
 IsOfForm n a_client (word ∷ []) = (client : ℕ) × IsClient word client
 IsOfForm n a_request_number (word ∷ []) = (number : ℕ) × IsRequestNumber word number
@@ -183,10 +187,10 @@ HasFault n text WordCount = HasOtherCount (words_of text)
 HasFault n text WordForm = HasWrongWord n (words_of text)
 HasFault n text Document = HasWrongDocument (words_of text)
 
--- the first line of a run of n nodes; three is the one size yet
+-- the first line of a run of n nodes is `nodes` and the number of nodes in decimal, which is 3, 5 or 7
 pub record IsNodesLine (text : List ℕ) (n : ℕ) : Type 0 where
-  pub spelled : text ≡ codes "nodes 3"
-  pub three : n ≡ 3
+  pub size : IsRunSize n
+  pub spelled : text ≡ codes "nodes " ++ decimal n
 
 -- what is wrong with the first line; whatever else is, comes with the third and is never the lowest
 abbrev pub HasFirstFault : List ℕ → ScheduleFault → Type 0

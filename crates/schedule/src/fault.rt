@@ -10,7 +10,7 @@ pub enum ScheduleFault {
     NotPrintable,
     /// No line begins so: the first word, or the one that says what is submitted or asked.
     UnknownWord,
-    /// The first line that is not empty isn't `nodes 3`, or a later one begins with `nodes`.
+    /// The first line that is not empty isn't `nodes` with 3, 5 or 7, or a later one begins with `nodes`.
     NodesLine,
     /// There are too few or too many words.
     WordCount,

@@ -1,6 +1,6 @@
 //! What one line spells, but for its document.
 
-ghost use Rattle.std.specs.Prelude.{◌≡◌, ◌∷◌, All, MatchBool, MatchResult};
+ghost use Rattle.std.specs.Prelude.{◌≡◌, ◌∷◌, ℕ, All, MatchBool, MatchOption, MatchResult};
 ghost use Rattle.schedule.specs.Codes.{IsLowest};
 ghost use Rattle.schedule.specs.Keywords.{text_of};
 ghost use Rattle.schedule.specs.Rows.{IsWordsFault, in_first_line};
@@ -23,11 +23,11 @@ use world::Event;
 pub(crate) fn nodes_line(text: &[u8]) -> Result<Nodes, ScheduleFault>
     ensures { MatchResult result (IsNodesLine text.now) (IsLowest (HasFirstFault text.now)) }
 {
-    let three = three_nodes();
-    if text == b"nodes 3".as_slice() {
-        return Ok(three);
+    if let Some(nodes) = run_size(text) {
+        return Ok(nodes);
     }
-    let Err(fault) = later_line(three, text) else {
+    // What is told of it is the same in every run.
+    let Err(fault) = later_line(smallest_run(), text) else {
         return Err(ScheduleFault::NodesLine);
     };
     Err(in_first_line(fault))
@@ -44,8 +44,21 @@ fn in_first_line(fault: ScheduleFault) -> ScheduleFault
     }
 }
 
-/// The one size of a run yet.
-fn three_nodes() -> Nodes
+/// The nodes of a run of which this is the first line, or None where it is no right one.
+#[tactic(auto, using(crate::proofs::FirstLines::right_text))]
+fn run_size(text: &[u8]) -> Option<Nodes>
+    ensures { MatchOption result ((n : ℕ) → ¬ IsNodesLine text.now n) (IsNodesLine text.now) }
+{
+    match text {
+        b"nodes 3" => Nodes::new(3),
+        b"nodes 5" => Nodes::new(5),
+        b"nodes 7" => Nodes::new(7),
+        _ => None,
+    }
+}
+
+/// The nodes of the smallest run.
+fn smallest_run() -> Nodes
     ensures { result ≡ 3 }
 {
     match Nodes::new(3) {

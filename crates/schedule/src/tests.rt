@@ -132,13 +132,18 @@ const LATER: [(&[u8], u8); 92] = [
 ];
 
 // a file, the first faulty line, and the fault that is told of it
-const FILES: [(&[u8], u64, u8); 26] = [
+const FILES: [(&[u8], u64, u8); 33] = [
     (b"", 1, 3),
     (b"\n\n", 1, 3),
     (b"nodes 4", 1, 3),
-    (b"nodes 5\n", 1, 3),
+    (b"nodes 1", 1, 3),
+    (b"nodes 8\n", 1, 3),
     (b"nodes 03", 1, 3),
+    (b"nodes 05", 1, 3),
+    (b"nodes 57", 1, 3),
     (b"nodes 3 ", 1, 3),
+    (b"nodes 5 ", 1, 3),
+    (b"nodes  7", 1, 3),
     (b"nodes ", 1, 3),
     (b"nodes", 1, 3),
     (b"flush", 1, 3),
@@ -152,13 +157,15 @@ const FILES: [(&[u8], u64, u8); 26] = [
     (b"query 0 foo", 1, 2),
     (b"submit 0 7 1 put {}", 1, 3),
     (b"submit 0 7 1 putt {}", 1, 2),
-    (b"nodes 7", 1, 3),
     (b"round 1", 1, 2),
     (b"nodes 3\nflush\nsubmit 0 7 1 put {}\nfoo", 3, 6),
     (b"nodes 3\nflush\n\nnodes 3\nfoo\n", 4, 3),
     (b"nodes 3\n\n\ntick 3", 4, 5),
     (b"nodes 3\nflush\n \n", 3, 2),
     (b"nodes 3\nflush\ntick\n\t\n", 3, 4),
+    (b"nodes 5\ntimeout 4\ntick 5", 3, 5),
+    (b"nodes 7\nrestart 6\nquery 7 count", 3, 5),
+    (b"nodes 5\nnodes 7", 2, 3),
 ];
 
 fn refusal(alloc: Global, bytes: &[u8]) -> Option<(u64, u8)> {
@@ -442,20 +449,46 @@ fn numbers_of_causes(rt: HostRuntime) -> Result<(), Fail> {
 }
 
 // a file, and its transcript
-const TOLD: [(&[u8], &[u8]); 2] = [
+const TOLD: [(&[u8], &[u8]); 4] = [
     (b"nodes 3", b""),
     (
         b"nodes 3\nsubmit 0 7 1 remove bus-7\ntimeout 0\nflush\n",
         b"learn 0 0 7:1\nreply 0 7:1 21\nlearn 1 0 7:1\nlearn 2 0 7:1\n",
     ),
+    // Three of five nodes promise.
+    (
+        b"nodes 5\nsubmit 0 7 1 remove bus-7\ntimeout 0\ndrop 3\ndrop 4\nflush\nquery 4 count\n",
+        b"learn 0 0 7:1\nreply 0 7:1 21\nlearn 1 0 7:1\nlearn 2 0 7:1\nlearn 3 0 7:1\n\
+learn 4 0 7:1\nanswer 4 1 count 0\n",
+    ),
+    // Four of seven.
+    (
+        b"nodes 7\nsubmit 6 7 1 remove bus-7\ntimeout 6\ndrop 0\ndrop 1\ndrop 2\nflush\nquery 0 count\n",
+        b"learn 0 0 7:1\nlearn 1 0 7:1\nlearn 2 0 7:1\nlearn 3 0 7:1\nlearn 4 0 7:1\n\
+learn 5 0 7:1\nlearn 6 0 7:1\nreply 6 7:1 21\nanswer 0 1 count 0\n",
+    ),
 ];
 
 // a file that has none, the line that is told, and the number of the cause
-const ENDED: [(&[u8], u64, u8); 4] = [
+const ENDED: [(&[u8], u64, u8); 6] = [
     (b"nodes 4", 1, 3),
     (b"nodes 3\ndeliver 0\ntick 3", 3, 5),
     (b"\nnodes 3\n\ndeliver 0", 4, 51),
     (b"nodes 3\ntimeout 0\ndrop 2\ndrop 3\nflush", 4, 51),
+    // Two of five nodes promise, by the frames 5 and 6, and one of them again: nothing is proposed.
+    (
+        b"nodes 5\nsubmit 0 7 1 remove bus-7\ntimeout 0\ndrop 2\ndrop 3\ndrop 4\nflush\n\
+deliver 6\ndeliver 7",
+        9,
+        51,
+    ),
+    // Three of seven, by the frames 7 to 9.
+    (
+        b"nodes 7\nsubmit 0 7 1 remove bus-7\ntimeout 0\ndrop 3\ndrop 4\ndrop 5\ndrop 6\nflush\n\
+deliver 9\ndeliver 10",
+        10,
+        51,
+    ),
 ];
 
 #[test]

@@ -151,6 +151,7 @@ fn damaged_records_keep_a_node_down(rt: HostRuntime) -> Result<(), Fail> {
         let mut member = Node::start(alloc, storage, node(0)?, nodes);
         assert!(rt; !member.is_up(), "at {key:?}");
         assert_eq!(rt; member.position(), 0, "at {key:?}");
+        assert_eq!(rt; member.waiting(), 0, "at {key:?}");
         assert_eq!(rt;
             member.restart(alloc),
             Err(NodeFault::Damaged),
