@@ -3,7 +3,7 @@ use Rattle.std.proofs.Common.{◌≡◌, ℕ, zero, suc, ◌<◌, ◌⊎◌, inl
 use Rattle.std.proofs.Math.ListN.{get_or, length-set}
 use Rattle.std.proofs.lemmas.List.{length-map}
 use Rattle.std.proofs.lemmas.List.Elements.{All-append}
-use Rattle.std.proofs.lemmas.Option.{same_Some, slice_get_within, get_or_from_slice_get}
+use Rattle.std.proofs.lemmas.Option.{same_Some, slice_get_within}
 use Rattle.stable.specs.Script.{Script}
 use Rattle.stable.specs.declared.scripted.Failing.{Failing}
 use Rattle.stable.specs.declared.stable.Stable.{Ghosts}
@@ -59,13 +59,6 @@ module _ {S : Type 0} where
     members = fleet.members;
     between = All-append (IsBetween (length nodes)) frames sends fleet.between between;
   }
-
-  -- a frame that was sent goes between nodes of the run
-  pub frame_at : (nodes : List (NodeState S)) (frames : List Envelope) (k : ℕ) (frame : Envelope) → IsFleet nodes frames
-      → slice_get frames k ≡ Some frame → IsBetween (length nodes) frame
-  frame_at nodes frames k frame fleet sent =
-      subst (λ (e : Envelope). IsBetween (length nodes) e) (get_or_from_slice_get frames k frame frame sent)
-      (fleet.between k frame (slice_get_within frames k frame sent))
 
 module _ {S : Type 0} where
   -- a node whose next put fails

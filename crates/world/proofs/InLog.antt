@@ -1,5 +1,5 @@
 -- Whatever was learnt was learnt at a slot of the log.
-use Rattle.std.proofs.Common.{◌≡◌, ◌<◌, ℕ, inl, inr, List, [], ◌∷◌, ◌++◌, Bool, true, false, Option, Some, None, IsSome, IfSome, IfOk, Contains, Result, Ok, Err, refl, sym, ap, ◌∙◌, subst}
+use Rattle.std.proofs.Common.{◌≡◌, ◌<◌, ℕ, inl, inr, List, [], ◌++◌, Bool, true, false, Option, Some, None, IsSome, IfSome, IfOk, Contains, Result, Ok, Err, refl, sym, ap, ◌∙◌, subst}
 use Rattle.std.proofs.lemmas.List.Elements.{Contains-append_cases, Contains-push_cases}
 use Rattle.stable.specs.Script.{Script}
 use Rattle.stable.specs.declared.stable.Stable.{Ghosts}
@@ -10,7 +10,6 @@ use Rattle.wire.specs.FrameSpelling.{Fits}
 use Rattle.sessions.specs.Asked.{Asked}
 use Rattle.wire.specs.declared.frames.envelope.Envelope.{Envelope}
 use Rattle.node.specs.declared.fault.NodeFault.{NodeFault}
-use Rattle.node.specs.declared.fault.NodeFault.TheVariants as fault
 use Rattle.node.specs.declared.input.Input.{Input}
 use Rattle.node.specs.declared.input.Input.TheVariants as input
 use Rattle.node.specs.declared.outputs.LogEntry.{LogEntry}

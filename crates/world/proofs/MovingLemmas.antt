@@ -1,9 +1,8 @@
 -- A node's acts lead the protocol's world on, and the world stands for it.
-use Rattle.std.proofs.Common.{◌≡◌, ℕ, zero, suc, List, [], ◌∷◌, ◌++◌, All, map, length, slice_get, slice_set, Some, inl, inr, refl, sym, ap, ◌∙◌, subst}
+use Rattle.std.proofs.Common.{◌≡◌, ℕ, zero, suc, List, [], ◌∷◌, ◌++◌, map, length, slice_get, slice_set, Some, inl, inr, refl, sym, ap, ◌∙◌, subst}
 use Rattle.std.proofs.Math.ListN.{length-set}
 use Rattle.std.proofs.lemmas.Bool.{cases_eq}
 use Rattle.std.proofs.lemmas.List.{map-append}
-use Rattle.std.proofs.lemmas.List.Elements.{All-append}
 use Rattle.std.proofs.lemmas.Option.{same_Some}
 use Rattle.synod.specs.Acts as act
 use Rattle.synod.specs.Acts.{Local, Does}

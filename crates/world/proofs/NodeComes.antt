@@ -1,7 +1,7 @@
 -- Where a node comes to in the protocol, and what its list of writes tells there.
-use Rattle.std.proofs.Common.{◌≡◌, ◌⊎◌, ℕ, ◌<◌, ◌≤◌, inl, inr, List, [], All, map, Bool, true, false, Option, Some, None, IfSome, IsSome, IfOk, IfErr, OnOk, OnErr, Contains, MatchBool, Result, Ok, Err, refl, sym, ap, subst, ◌∙◌}
+use Rattle.std.proofs.Common.{◌≡◌, ◌⊎◌, ℕ, ◌<◌, ◌≤◌, inl, inr, List, [], map, Bool, true, false, Option, Some, None, IfSome, IsSome, IfOk, IfErr, OnOk, OnErr, Contains, MatchBool, Result, Ok, Err, refl, sym, ap, subst, ◌∙◌}
 use Rattle.std.specs.Prelude.{◌↔◌}
-use Rattle.std.proofs.lemmas.List.Elements.{All-nil, Contains-append_left}
+use Rattle.std.proofs.lemmas.List.Elements.{Contains-append_left}
 use Rattle.std.proofs.lemmas.Option.{none-some}
 use Rattle.synod.specs.Records as synod_records
 use Rattle.synod.specs.Records.{VoteWrite}

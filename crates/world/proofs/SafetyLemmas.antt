@@ -1,8 +1,7 @@
 -- What is allowed is safe.
-use Rattle.std.proofs.Common.{◌≡◌, ◌⊎◌, ℕ, zero, suc, ◌<◌, inl, inr, List, [], ◌∷◌, All, map, length, slice_get, Bool, Option, Some, None, IfSome, Contains, option_map, refl, sym, ap, subst, ◌∙◌, arith}
+use Rattle.std.proofs.Common.{◌≡◌, ◌⊎◌, ℕ, zero, suc, ◌<◌, inl, inr, List, [], ◌∷◌, map, length, slice_get, Bool, Option, Some, None, IfSome, Contains, option_map, refl, sym, ap, subst, ◌∙◌, arith}
 use Rattle.std.proofs.Math.ListN.{get_or}
 use Rattle.std.proofs.lemmas.List.{length-map}
-use Rattle.std.proofs.lemmas.List.Elements.{All-nil}
 use Rattle.std.proofs.lemmas.Option.{slice_get_read, slice_get-get_or, slice_get-map, slice_get_within, get_or_from_slice_get, none-some}
 use Rattle.synod.specs.Records.{no_records as nothing_written}
 use Rattle.synod.specs.History.{Learning}
@@ -22,7 +21,6 @@ use Rattle.acceptor.specs.Accepting.{Accepting}
 use Rattle.acceptor.proofs.RecordLemmas.{RecordsSay-nothing}
 use Rattle.sessions.specs.declared.command.Command.{Command}
 use Rattle.sessions.specs.declared.command.Command.TheVariants.{NoOp, Request}
-use Rattle.wire.specs.declared.frames.envelope.Envelope.{Envelope}
 use Rattle.world.specs.declared.lists.Submission.{Submission}
 use Rattle.world.specs.declared.lists.Learnt.{Learnt}
 use Rattle.world.specs.Explaining.{LearntAgree, LearntGrounded}

@@ -1,7 +1,6 @@
 -- Each step of the world is moves that the protocol allows.
 use Rattle.std.proofs.Common.{◌≡◌, ℕ, zero, suc, ◌<◌, ◌≤◌, inl, inr, List, [], ◌∷◌, ◌++◌, map, length, slice_get, slice_set, Bool, true, false, Option, Some, None, IfSome, IsSome, Contains, Result, Ok, Err, is_ok, option_map, refl, sym, ap, subst, ◌∙◌, append-nil}
 use Rattle.std.proofs.lemmas.Bool.{cases_eq}
-use Rattle.std.proofs.lemmas.List.Elements.{All-nil}
 use Rattle.std.proofs.lemmas.Option.{same_Some, slice_get-map, slice_get_within, get_or_from_slice_get}
 use Rattle.synod.specs.Messages.{Frame}
 use Rattle.synod.specs.Acts as act
@@ -36,7 +35,6 @@ use Rattle.node.specs.Protocol.{learnings, input_of, coming, InputFits, RecordsA
 use Rattle.world.specs.Protocol.{fleet, frame_of, learning_of, command_of}
 use Rattle.world.specs.Reaching.{NodeStands, StandsAt, IsAllowed, AreHonest}
 use Rattle.world.specs.Worlds.{WorldState, submission_of, quiet, TakesAt, ReceivesAt, ArmsAt, RestartsAt, Steps, with_node, recorded, with_submission, answered, without_wait, learnt_by}
-use Rattle.world.proofs.FleetSteps.{frame_at}
 use Rattle.world.proofs.ListedPuts.{KeepsPuts, same_lists as same_puts}
 use Rattle.world.proofs.MovingLemmas.{moved}
 use Rattle.world.proofs.NodeComes.{local_of, stands_still, NodeComes, node_comes, ComesQuietly, restart_comes}
