@@ -26,9 +26,17 @@ import tempfile
 
 HERE = os.path.dirname(os.path.abspath(__file__))
 ENDS = ("right", "stopped", "refused", "began down", "no frame", "no memory")
-AFTERWARDS = ["restart %d" % n for n in range(3)] + ["tick %d" % n for n in range(3)] + ["flush"] + [
-    "query %d count" % n for n in range(3)
-]
+
+
+def nodes_of(lines):
+    """How many nodes a schedule has, as its first line says."""
+    return int(lines[0].split()[1])
+
+
+def afterwards(lines):
+    """A restart and a tick of each node, a flush, and a query of each."""
+    nodes = range(nodes_of(lines))
+    return ["restart %d" % n for n in nodes] + ["tick %d" % n for n in nodes] + ["flush"] + ["query %d count" % n for n in nodes]
 
 
 class Runs:
@@ -60,6 +68,7 @@ class Runs:
 
 
 NOTHING = ("count 0", "absent", "within 0")
+CODES = ("0", "21", "22", "23", "24", "31", "32")
 
 
 def answers(transcript):
@@ -67,30 +76,33 @@ def answers(transcript):
     return {told.split(" ", 3)[3] for told in transcript if told.startswith("answer ")}
 
 
+def submissions(lines):
+    """Each request that clients ask for, as a transcript names it, with the nodes that are asked."""
+    asked = {}
+    for line in lines:
+        if line.startswith("submit "):
+            _, node, client, number, _ = line.split(" ", 4)
+            asked.setdefault("%s:%s" % (client, number), set()).add(node)
+    return asked
+
+
 def is_explained(lines, transcript, texts):
-    """Whether one log of one slot explains what nodes learnt, replied and answered. Where a feature was put, an answer has
-    one of these texts, which a run with ample memory gave."""
-    asked = {"%s:%s" % tuple(line.split()[2:4]): (line.split()[1], line.split()[4]) for line in lines if line.startswith("submit ")}
-    chosen, learnt = None, set()
+    """Whether one log may explain what nodes learnt, replied and answered: a slot has one command, a no-op or a request; a reply is of
+    a request that its node was asked for and has learnt; an answer speaks of slots that are all learnt, and has one of these texts,
+    which a run with ample memory gave, or that of a database without features."""
+    asked, log, learnt = submissions(lines), {}, set()
     for told in transcript:
         word, node, *rest = told.split()
         if word == "learn":
-            slot, command = rest
-            if slot != "0" or (command != "noop" and command not in asked) or chosen not in (None, command):
+            slot, command = int(rest[0]), rest[1]
+            if (command != "noop" and command not in asked) or log.setdefault(slot, command) != command:
                 return False
-            chosen = command
-            learnt.add(node)
+            learnt.add((node, command))
         elif word == "reply":
-            # A first put is done. No feature is there to be extended or removed.
-            if node not in learnt or chosen not in asked or asked[chosen][0] != node:
-                return False
-            if rest != [chosen, "0" if asked[chosen][1] == "put" else "21"]:
+            if (node, rest[0]) not in learnt or node not in asked[rest[0]] or rest[1] not in CODES:
                 return False
         elif word == "answer":
-            if rest[0] not in "01" or (rest[0] == "1" and node not in learnt):
-                return False
-            is_put = rest[0] == "1" and asked.get(chosen, ("", ""))[1] == "put"
-            if " ".join(rest[1:]) not in (texts if is_put else NOTHING):
+            if any(slot not in log for slot in range(int(rest[0]))) or " ".join(rest[1:]) not in texts | set(NOTHING):
                 return False
     return True
 
@@ -116,7 +128,7 @@ class Job:
         self.status, self.right, self.error, _ = runs.run(lines, words)
         # A node whose first write fails is down, and nothing else has happened.
         self.down = []
-        for node in range(3):
+        for node in range(nodes_of(lines)):
             fails = ["fault %d old" % node, "timeout %d" % node]
             status, told, _, _ = runs.run(lines[:1] + fails + lines[1:], words)
             self.down.append((status, told[1:]))
@@ -220,7 +232,7 @@ def main():
             for title, tried, words in (
                 (name, lines, []),
                 (name, lines, ["replay", "FILE"]),
-                (name + " +", lines + AFTERWARDS, []),
+                (name + " +", lines + afterwards(lines), []),
             ):
                 failed |= tell(title, words, *try_each(runs, title, tried, words))
         for name, path in named("*.json"):

@@ -51,7 +51,7 @@ def datetime(second):
 
 
 def fleet(points):
-    """A run in which a feature of so many points is put, learnt by all, extended in vain, and asked for."""
+    """A run in which a feature of so many points is put, learnt by all, extended at a node that doesn't lead, and asked for."""
     day = "%s %s" % (datetime(0), datetime(points - 1))
     area = "0 0 1000 1000"
     document = json.dumps({
@@ -66,7 +66,7 @@ def fleet(points):
     })
     lines = ["nodes 3", "submit 0 7 1 put " + document, "timeout 0", "flush"]
     for node in range(3):
-        # The log is full by then: the node refuses it.
+        # It waits at the node, unless that one leads.
         lines.append("submit %d 8 1 append bus-7 %s 1 1" % (node, datetime(points)))
         questions = [
             "at bus-7 " + datetime(points // 2), "cut bus-7 " + day, "ever bus-7 %s %s" % (day, area),
