@@ -29,11 +29,13 @@ module _ (k : Campaigning) (waiting : List Asked) (learnt_to : ℕ) (learnt : �
   told_along a number f =
       ap (λ (x : Bool). if x then Some f
       else if nat_le MOST_OPEN (length f.proposals) then None
-      else proposing k.ballot number f (choice k waiting learnt_to number f.proposals)) (absorbs a (list_any (is_at number) f.proposals))
+      else proposing k.ballot number f (choice k waiting learnt_to number f.proposals))
+      (absorbs a (list_any (is_at number) f.proposals))
 
   -- a step of the campaign as it is by now is a step of the campaign as it was
   same_step : (now : Campaigning) (proposals : List Proposal) (slot number : ℕ) (l b c : Bool) (f g : Filling)
-      → now ≡ record k { proposals = proposals } → slot ≡ number → l ≡ (list_any (is_at number) f.proposals || is_some (learnt number)) → b ≡ c
+      → now ≡ record k { proposals = proposals } → slot ≡ number → l ≡ (list_any (is_at number) f.proposals || is_some (learnt number))
+      → b ≡ c
       → IsStep (stepped now waiting learnt_to l slot f) b f g
       → IsStep (stepped k waiting learnt_to (is_some (learnt number)) number f) c f g
   same_step now proposals slot number l b c f g same at known goes h =
@@ -52,14 +54,16 @@ module _ (k : Campaigning) (waiting : List Asked) (learnt_to : ℕ) (learnt : �
       (let e : limit - number ≡ suc (limit - (number + 1)) = omega arith in e)
 
   pub goes_on : (now : Campaigning) (proposals : List Proposal) (slot number limit : ℕ) (l b : Bool) (f g : Filling)
-      → now ≡ record k { proposals = proposals } → slot ≡ number → l ≡ (list_any (is_at number) f.proposals || is_some (learnt number)) → b ≡ true → number < limit
+      → now ≡ record k { proposals = proposals } → slot ≡ number → l ≡ (list_any (is_at number) f.proposals || is_some (learnt number))
+      → b ≡ true → number < limit
       → IsStep (stepped now waiting learnt_to l slot f) b f g
       → filled k waiting learnt_to learnt (limit - (number + 1)) (number + 1) g ≡ filled k waiting learnt_to learnt (limit - number) number f
   goes_on now proposals slot number limit l b f g same at known goes below h =
       goes_case _ f g _ (same_step now proposals slot number l b true f g same at known goes h) ∙ sym (one_more limit number f below)
 
   pub stops : (now : Campaigning) (proposals : List Proposal) (slot number limit : ℕ) (l b : Bool) (f g : Filling)
-      → now ≡ record k { proposals = proposals } → slot ≡ number → l ≡ (list_any (is_at number) f.proposals || is_some (learnt number)) → b ≡ false → number < limit
+      → now ≡ record k { proposals = proposals } → slot ≡ number → l ≡ (list_any (is_at number) f.proposals || is_some (learnt number))
+      → b ≡ false → number < limit
       → IsStep (stepped now waiting learnt_to l slot f) b f g
       → g ≡ filled k waiting learnt_to learnt (limit - number) number f
   stops now proposals slot number limit l b f g same at known goes below h =

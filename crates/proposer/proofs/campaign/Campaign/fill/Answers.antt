@@ -15,7 +15,8 @@ returns-then-not-goes_on-clause-filled c =
     let ends : c.in_ok-goes_on.goes_on ≡ false = search rules in
     stops c.args.self.now c.args.waiting.now c.args.learnt_to learnt c.loop-number.self c.loop-number.self.proposals
     c.unwrap-slot.result c.loop-number.number c.window_limit-limit.result c.is_settled-settled.result c.in_ok-goes_on.goes_on f g
-    c.loop-number.invariant.only at (c.is_settled-settled.ensures ∙ ap (λ s. list_any (is_at s) f.proposals || is_some (learnt s)) at) ends c.loop-number-test.true
+    c.loop-number.invariant.only at
+    (c.is_settled-settled.ensures ∙ ap (λ s. list_any (is_at s) f.proposals || is_some (learnt s)) at) ends c.loop-number-test.true
     c.in_ok-goes_on.ensures.steps
     ∙ c.loop-number.invariant.rest
 
@@ -30,7 +31,8 @@ loop-number-preserved c =
       only = c.in_ok-goes_on.ensures.only ∙ ap (λ (k : Campaigning). record k { proposals = c.step.new.self.proposals }) c.loop-number.invariant.only;
       rest = goes_on c.args.self.now c.args.waiting.now c.args.learnt_to learnt c.loop-number.self c.loop-number.self.proposals
           c.unwrap-slot.result c.loop-number.number c.window_limit-limit.result c.is_settled-settled.result c.in_ok-goes_on.goes_on f g
-          c.loop-number.invariant.only at (c.is_settled-settled.ensures ∙ ap (λ s. list_any (is_at s) f.proposals || is_some (learnt s)) at) going c.loop-number-test.true
+          c.loop-number.invariant.only at
+          (c.is_settled-settled.ensures ∙ ap (λ s. list_any (is_at s) f.proposals || is_some (learnt s)) at) going c.loop-number-test.true
           c.in_ok-goes_on.ensures.steps
           ∙ c.loop-number.invariant.rest;
     }
