@@ -20,8 +20,8 @@ pub use allowed::{
 pub use fault::NodeFault;
 pub use input::Input;
 pub use laws::{
-    frames_go_between, fresh_minds_mean_nothing, learnt_is_told, learnt_slots_are_of_the_log, meanings_are_as_long_as_positions,
-    meanings_are_of_learnt_slots, members_stay,
+    frames_go_between, fresh_minds_mean_nothing, learnt_is_told, learnt_slots_are_of_the_log,
+    meanings_are_as_long_as_positions, meanings_are_of_learnt_slots, members_stay,
 };
 pub use node::Node;
 pub use outputs::{Executed, LogEntry, MOST_SENDS, Outputs, Text};

@@ -6,7 +6,7 @@ use std::process::Abort;
 use std::test::Fail;
 use store::{Op, Query};
 use tpoint::{Id, Instant, Interp, Point, Seq};
-use wire::{NodeId, Nodes};
+use wire::{Message, NodeId, Nodes};
 
 fn node(value: u8) -> Result<NodeId, Fail> {
     Ok(NodeId::new(value).ok_or("a node")?)
@@ -161,23 +161,143 @@ fn sixty_four_requests_wait(rt: HostRuntime) -> Result<(), Fail> {
     Ok(())
 }
 
-// Five nodes, of which two are never heard of, learn what is asked for.
-#[test]
-fn three_of_five_decide(rt: HostRuntime) -> Result<(), Fail> {
-    let alloc = rt.alloc();
-    let mut world = World::new(alloc, Nodes::new(5).ok_or("nodes")?)?;
-    world.step(alloc, request(0, 1)?)?;
-    world.step(alloc, Event::Timeout(node(0)?))?;
-    let mut frame = 0;
-    while frame < world.frames().len() {
-        let to = world.frames()[frame].open(alloc)?.to.value();
-        if to < 3 {
-            world.step(alloc, Event::Deliver(frame as u64))?;
-        }
-        frame += 1;
+// Delivers the frames from one number on, and what comes of them, to the nodes below this one; those to any other are lost. The
+// number after the last frame.
+fn deliver_among(
+    alloc: Global,
+    world: &mut World<MemStable>,
+    from: u64,
+    nodes: u8,
+) -> Result<u64, Fail> {
+    for frame in from..u64::MAX {
+        let Some(sent) = world.frames().get(frame as usize) else {
+            return Ok(frame);
+        };
+        let event = if sent.open(alloc)?.to.value() < nodes {
+            Event::Deliver(frame)
+        } else {
+            Event::Drop(frame)
+        };
+        world.step(alloc, event)?;
     }
-    assert_eq!(rt; world.learnt().len(), 3);
-    assert_eq!(rt; world.replies().len(), 1);
+    Ok(u64::MAX)
+}
+
+// Three of five nodes learn what is asked for, and so do four of seven, where nobody hears of the others.
+#[test]
+fn majorities_decide(rt: HostRuntime) -> Result<(), Fail> {
+    let alloc = rt.alloc();
+    for (nodes, most, too_few) in [(5, 3, 2), (7, 4, 3)] {
+        let mut world = World::new(alloc, Nodes::new(nodes).ok_or("nodes")?)?;
+        world.step(alloc, request(0, 1)?)?;
+        world.step(alloc, Event::Timeout(node(0)?))?;
+        let _frames = deliver_among(alloc, &mut world, 0, most)?;
+        assert_eq!(rt; world.learnt().len(), usize::from(most));
+        assert_eq!(rt; world.replies().len(), 1);
+        let mut fewer = World::new(alloc, Nodes::new(nodes).ok_or("nodes")?)?;
+        fewer.step(alloc, request(0, 1)?)?;
+        fewer.step(alloc, Event::Timeout(node(0)?))?;
+        let _frames = deliver_among(alloc, &mut fewer, 0, too_few)?;
+        assert_eq!(rt; fewer.learnt().len(), 0);
+    }
+    Ok(())
+}
+
+// Whether the frames from one number on are accepts for a slot, one for each of three nodes.
+fn are_accepts(
+    rt: &impl Abort,
+    alloc: Global,
+    world: &World<MemStable>,
+    from: usize,
+    slot: u32,
+) -> Result<(), Fail> {
+    for (to, frame) in (0..3u8).zip(world.frames().iter().skip(from)) {
+        let envelope = frame.open(alloc)?;
+        assert_eq!(rt; envelope.to.value(), to);
+        match envelope.message {
+            Message::Accept(vote) => assert_eq!(rt; vote.slot.value(), slot),
+            _ => return Err("another message".into()),
+        }
+    }
+    Ok(())
+}
+
+// A leader opens as many proposals as requests wait, slots ascending.
+#[test]
+fn two_requests_are_proposed_at_once(rt: HostRuntime) -> Result<(), Fail> {
+    let alloc = rt.alloc();
+    let mut world = three_nodes(alloc)?;
+    world.step(alloc, request(0, 1)?)?;
+    world.step(alloc, request(0, 2)?)?;
+    world.step(alloc, Event::Timeout(node(0)?))?;
+    for frame in [0, 1, 3, 4] {
+        world.step(alloc, Event::Deliver(frame))?;
+    }
+    assert_eq!(rt; world.frames().len(), 11);
+    are_accepts(&rt, alloc, &world, 5, 0)?;
+    are_accepts(&rt, alloc, &world, 8, 1)?;
+    Ok(())
+}
+
+// How many of the frames from one number on are prepares.
+fn prepares(alloc: Global, world: &World<MemStable>, from: usize) -> Result<usize, Fail> {
+    let mut count: usize = 0;
+    for frame in world.frames().iter().skip(from) {
+        if let Message::Prepare { .. } = frame.open(alloc)?.message {
+            count = count.saturating_add(1);
+        }
+    }
+    Ok(count)
+}
+
+// A node that has restarted leads again after one campaign, and proposes without another.
+#[test]
+fn no_campaign_follows_a_campaign(rt: HostRuntime) -> Result<(), Fail> {
+    let alloc = rt.alloc();
+    let mut world = three_nodes(alloc)?;
+    world.step(alloc, request(0, 1)?)?;
+    decide(alloc, &mut world)?;
+    world.step(alloc, request(0, 2)?)?;
+    let _delivered = world.flush(alloc)?;
+    world.step(alloc, Event::Restart(node(0)?))?;
+    world.step(alloc, Event::Tick(node(0)?))?;
+    let _delivered = world.flush(alloc)?;
+    let before = world.frames().len();
+    world.step(alloc, request(0, 1)?)?;
+    decide(alloc, &mut world)?;
+    world.step(alloc, request(0, 3)?)?;
+    let _delivered = world.flush(alloc)?;
+    assert_eq!(rt; prepares(alloc, &world, before)?, 3);
+    assert_eq!(rt; world.replies().len(), 4);
+    Ok(())
+}
+
+// A node that heard of nothing for a thousand slots learns them all from another, slot by slot. The first is the no-op with which a
+// campaign begins that finds nothing waiting.
+#[test]
+fn a_thousand_slots_are_caught_up_with(rt: HostRuntime) -> Result<(), Fail> {
+    let alloc = rt.alloc();
+    let mut world = three_nodes(alloc)?;
+    world.step(alloc, Event::Timeout(node(0)?))?;
+    let mut next = deliver_among(alloc, &mut world, 0, 2)?;
+    for number in 1..=1000 {
+        world.step(alloc, request(0, number)?)?;
+        next = deliver_among(alloc, &mut world, next, 2)?;
+    }
+    world.step(alloc, Event::Query(node(2)?, Query::Count))?;
+    let before = world.frames().len();
+    world.step(alloc, Event::Tick(node(2)?))?;
+    let _delivered = world.flush(alloc)?;
+    world.step(alloc, Event::Query(node(2)?, Query::Count))?;
+    let answers = world.answers();
+    assert_eq!(rt; answers.len(), 2);
+    assert_eq!(rt; (answers[0].position, answers[1].position), (0, 1001));
+    for frame in world.frames().iter().skip(before) {
+        match frame.open(alloc)?.message {
+            Message::Ask { .. } | Message::Decided { .. } => {}
+            _ => return Err("another message".into()),
+        }
+    }
     Ok(())
 }
 

@@ -5,7 +5,9 @@ use super::fleet::Step::{Count, Flush, Hear, Look, Put, Restart, Submit, Tick, T
 use super::letters::Said::{Decided, Nack};
 use super::{Row, rows_follow, rows_hold};
 use crate::NodeFault;
+use std::alloc::Global;
 use std::test::Fail;
+use synod::SLOTS;
 
 // Each fault with its number, whether the node goes down with it, and its text.
 const FAULTS: [(NodeFault, u8, bool, &str); 8] = [
@@ -118,6 +120,31 @@ const LAST_ROUND: [Row; 7] = [
     ),
     (Look(0), "0 up 0 round"),
 ];
+
+// Once every slot is learnt nothing more is taken, and nobody is asked for more.
+const FULL_LOG: [Row; 5] = [
+    (Look(0), "0 up 65536"),
+    (Submit(0, 7, 1), "refuse 0 42"),
+    (Put(0, 7, 1, 513), "refuse 0 42"),
+    (Timeout(0), "refuse 0 42"),
+    (Tick(0), ""),
+];
+
+// Node 0 is told what is decided at each of so many slots.
+fn decide(alloc: Global, fleet: &mut Fleet, slots: u32) -> Result<(), Fail> {
+    for at in 0..slots {
+        let _told = fleet.take(alloc, Hear(0, 1, Decided(at, (0, 0))))?;
+    }
+    Ok(())
+}
+
+#[test]
+fn the_log_fills(rt: HostRuntime) -> Result<(), Fail> {
+    let alloc = rt.alloc();
+    let mut fleet = Fleet::new(alloc, 3)?;
+    decide(alloc, &mut fleet, SLOTS)?;
+    rows_follow(&rt, alloc, &mut fleet, &FULL_LOG)
+}
 
 // A restart forgets a refusal, and not the round.
 const REFUSED_ROUND: [Row; 5] = [
