@@ -1,9 +1,11 @@
 -- A window that is filled slot by slot.
-use Rattle.std.proofs.Common.{◌≡◌, ℕ, suc, ◌+◌, ◌-◌, ◌<◌, List, Bool, true, false, Option, Some, None, is_some, sym, ap, ◌∙◌, subst, arith}
+use Rattle.std.proofs.Common.{◌≡◌, ℕ, suc, ◌+◌, ◌-◌, ◌<◌, List, Bool, true, false, Option, Some, None, is_some, ◌||◌, if◌then◌else◌, nat_le, length, refl, sym, ap, ◌∙◌, subst, arith}
+use Rattle.std.specs.List.{list_any}
 use Rattle.sessions.specs.Asked.{Asked}
 use Rattle.sessions.specs.declared.command.Command.{Command}
 use Rattle.proposer.specs.declared.window.Proposal.{Proposal}
-use Rattle.proposer.specs.Campaigning.{Campaigning, Filling, stepped, IsStep, going_on, filled}
+use Rattle.proposer.specs.declared.window.TheConstants.{MOST_OPEN}
+use Rattle.proposer.specs.Campaigning.{Campaigning, Filling, stepped, IsStep, going_on, filled, is_at, proposing, choice}
 
 goes_case : (o : Option Filling) (f g : Filling) (rest : Filling → Filling) → IsStep o true f g → rest g ≡ going_on o f rest
 goes_case None f g rest h = absurd (cc (h.0))
@@ -13,17 +15,35 @@ stops_case : (o : Option Filling) (f g : Filling) (rest : Filling → Filling) �
 stops_case None f g rest h = h.1
 stops_case (Some x) f g rest h = absurd (cc (h.0))
 
+-- to say twice that a proposal is open says no more than once
+absorbs : (a h : Bool) → ((h || a) || h) ≡ (a || h)
+absorbs true true = refl
+absorbs true false = refl
+absorbs false true = refl
+absorbs false false = refl
+
 module _ (k : Campaigning) (waiting : List Asked) (learnt_to : ℕ) (learnt : ℕ → Option Command) where
+  -- whether the slot's proposal is open may be told along with whether the slot is learnt
+  told_along : (a : Bool) (number : ℕ) (f : Filling)
+      → stepped k waiting learnt_to (list_any (is_at number) f.proposals || a) number f ≡ stepped k waiting learnt_to a number f
+  told_along a number f =
+      ap (λ (x : Bool). if x then Some f
+      else if nat_le MOST_OPEN (length f.proposals) then None
+      else proposing k.ballot number f (choice k waiting learnt_to number f.proposals))
+      (absorbs a (list_any (is_at number) f.proposals))
+
   -- a step of the campaign as it is by now is a step of the campaign as it was
   same_step : (now : Campaigning) (proposals : List Proposal) (slot number : ℕ) (l b c : Bool) (f g : Filling)
-      → now ≡ record k { proposals = proposals } → slot ≡ number → l ≡ is_some (learnt number) → b ≡ c
+      → now ≡ record k { proposals = proposals } → slot ≡ number → l ≡ (list_any (is_at number) f.proposals || is_some (learnt number))
+      → b ≡ c
       → IsStep (stepped now waiting learnt_to l slot f) b f g
       → IsStep (stepped k waiting learnt_to (is_some (learnt number)) number f) c f g
   same_step now proposals slot number l b c f g same at known goes h =
       let one = subst (λ (n : Campaigning). IsStep (stepped n waiting learnt_to l slot f) b f g) same h in
       let two = subst (λ (s : ℕ). IsStep (stepped k waiting learnt_to l s f) b f g) at one in
       let three = subst (λ (x : Bool). IsStep (stepped k waiting learnt_to x number f) b f g) known two in
-      subst (λ (x : Bool). IsStep (stepped k waiting learnt_to (is_some (learnt number)) number f) x f g) goes three
+      let four = subst (λ (o : Option Filling). IsStep o b f g) (told_along (is_some (learnt number)) number f) three in
+      subst (λ (x : Bool). IsStep (stepped k waiting learnt_to (is_some (learnt number)) number f) x f g) goes four
 
   one_more : (limit number : ℕ) (f : Filling) → number < limit
       → filled k waiting learnt_to learnt (limit - number) number f
@@ -34,14 +54,16 @@ module _ (k : Campaigning) (waiting : List Asked) (learnt_to : ℕ) (learnt : �
       (let e : limit - number ≡ suc (limit - (number + 1)) = omega arith in e)
 
   pub goes_on : (now : Campaigning) (proposals : List Proposal) (slot number limit : ℕ) (l b : Bool) (f g : Filling)
-      → now ≡ record k { proposals = proposals } → slot ≡ number → l ≡ is_some (learnt number) → b ≡ true → number < limit
+      → now ≡ record k { proposals = proposals } → slot ≡ number → l ≡ (list_any (is_at number) f.proposals || is_some (learnt number))
+      → b ≡ true → number < limit
       → IsStep (stepped now waiting learnt_to l slot f) b f g
       → filled k waiting learnt_to learnt (limit - (number + 1)) (number + 1) g ≡ filled k waiting learnt_to learnt (limit - number) number f
   goes_on now proposals slot number limit l b f g same at known goes below h =
       goes_case _ f g _ (same_step now proposals slot number l b true f g same at known goes h) ∙ sym (one_more limit number f below)
 
   pub stops : (now : Campaigning) (proposals : List Proposal) (slot number limit : ℕ) (l b : Bool) (f g : Filling)
-      → now ≡ record k { proposals = proposals } → slot ≡ number → l ≡ is_some (learnt number) → b ≡ false → number < limit
+      → now ≡ record k { proposals = proposals } → slot ≡ number → l ≡ (list_any (is_at number) f.proposals || is_some (learnt number))
+      → b ≡ false → number < limit
       → IsStep (stepped now waiting learnt_to l slot f) b f g
       → g ≡ filled k waiting learnt_to learnt (limit - number) number f
   stops now proposals slot number limit l b f g same at known goes below h =

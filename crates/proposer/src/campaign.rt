@@ -1,7 +1,8 @@
 //! A proposer's attempt to lead under one ballot.
 
 ghost use Rattle.std.specs.Prelude.{◌≡◌, ◌≤◌, ◌++◌, ◌∷◌, [], ◌||◌, min, true, false, IsTrue, ◌↔◌, Some, None, IfOk, OnOk, OnErr, MatchOption, filter, length, nat_le, map, ◌+◌, is_some};
-ghost use Rattle.proposer.specs.Campaigning.{begun, counts, after_promise, up_to, is_most, closed, closed_below, choice, window_limit, window_filled, stepped, IsStep, sends_again, accept, prepare};
+ghost use Rattle.std.specs.List.{list_any};
+ghost use Rattle.proposer.specs.Campaigning.{is_at, begun, counts, after_promise, up_to, is_most, closed, closed_below, choice, window_limit, window_filled, stepped, IsStep, sends_again, accept, prepare};
 ghost use Rattle.learner.specs.Learning.{learnt_at};
 ghost use Rattle.learner.specs.State.{learning_of};
 
@@ -179,13 +180,23 @@ impl Campaign {
         let mut sends = Vec::new(alloc);
         for number in position..limit {
             let slot = Slot::new(number).unwrap();
-            let learnt = is_learnt(learner, slot);
-            let goes_on = self.step(waiting, learnt_to, learnt, slot, &mut sends)?;
+            let settled = self.is_settled(learner, slot);
+            let goes_on = self.step(waiting, learnt_to, settled, slot, &mut sends)?;
             if !goes_on {
                 return Ok(sends);
             }
         }
         Ok(sends)
+    }
+
+    /// Whether a proposal for the slot is open, or the slot is learnt. The open proposals are few, so they are looked at first.
+    fn is_settled(&self, learner: &Learner, slot: Slot) -> bool
+        ensures { result ≡ list_any (is_at slot) self.now.proposals || is_some (learnt_at (learning_of learner.now) slot) }
+    {
+        if self.window.has(slot) {
+            return true;
+        }
+        is_learnt(learner, slot)
     }
 
     /// Opens a proposal for a slot, unless it is learnt or has one, where there is a command to propose and a place for it.

@@ -1,7 +1,8 @@
-use Rattle.std.proofs.Common.{rules, ◌≡◌, ◌∙◌, true, false, is_some, ap}
+use Rattle.std.proofs.Common.{rules, ◌≡◌, ◌∙◌, true, false, is_some, ◌||◌, ap}
+use Rattle.std.specs.List.{list_any}
 use Rattle.learner.specs.Learning.{learnt_at}
 use Rattle.learner.specs.State.{learning_of}
-use Rattle.proposer.specs.Campaigning.{Campaigning, Filling}
+use Rattle.proposer.specs.Campaigning.{Campaigning, Filling, is_at}
 use Rattle.proposer.proofs.Windows.{goes_on, stops}
 use Rattle.proposer.proofs.campaign.Campaign.fill.Goals as goal
 
@@ -13,8 +14,9 @@ returns-then-not-goes_on-clause-filled c =
     let at : c.unwrap-slot.result ≡ c.loop-number.number = search rules in
     let ends : c.in_ok-goes_on.goes_on ≡ false = search rules in
     stops c.args.self.now c.args.waiting.now c.args.learnt_to learnt c.loop-number.self c.loop-number.self.proposals
-    c.unwrap-slot.result c.loop-number.number c.window_limit-limit.result c.is_learnt-learnt.result c.in_ok-goes_on.goes_on f g
-    c.loop-number.invariant.only at (c.is_learnt-learnt.ensures ∙ ap (λ s. is_some (learnt s)) at) ends c.loop-number-test.true
+    c.unwrap-slot.result c.loop-number.number c.window_limit-limit.result c.is_settled-settled.result c.in_ok-goes_on.goes_on f g
+    c.loop-number.invariant.only at
+    (c.is_settled-settled.ensures ∙ ap (λ s. list_any (is_at s) f.proposals || is_some (learnt s)) at) ends c.loop-number-test.true
     c.in_ok-goes_on.ensures.steps
     ∙ c.loop-number.invariant.rest
 
@@ -28,8 +30,9 @@ loop-number-preserved c =
     record {
       only = c.in_ok-goes_on.ensures.only ∙ ap (λ (k : Campaigning). record k { proposals = c.step.new.self.proposals }) c.loop-number.invariant.only;
       rest = goes_on c.args.self.now c.args.waiting.now c.args.learnt_to learnt c.loop-number.self c.loop-number.self.proposals
-          c.unwrap-slot.result c.loop-number.number c.window_limit-limit.result c.is_learnt-learnt.result c.in_ok-goes_on.goes_on f g
-          c.loop-number.invariant.only at (c.is_learnt-learnt.ensures ∙ ap (λ s. is_some (learnt s)) at) going c.loop-number-test.true
+          c.unwrap-slot.result c.loop-number.number c.window_limit-limit.result c.is_settled-settled.result c.in_ok-goes_on.goes_on f g
+          c.loop-number.invariant.only at
+          (c.is_settled-settled.ensures ∙ ap (λ s. list_any (is_at s) f.proposals || is_some (learnt s)) at) going c.loop-number-test.true
           c.in_ok-goes_on.ensures.steps
           ∙ c.loop-number.invariant.rest;
     }
