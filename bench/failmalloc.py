@@ -67,7 +67,8 @@ class Runs:
         return done.returncode, done.stdout, done.stderr, met
 
 
-NOTHING = ("count 0", "absent", "within 0")
+# What a database answers that has less than the right run's: no feature, or one that doesn't reach so far yet.
+LESS = ("count 0", "absent", "within 0", "at none")
 CODES = ("0", "21", "22", "23", "24", "31", "32")
 
 
@@ -89,7 +90,7 @@ def submissions(lines):
 def is_explained(lines, transcript, texts):
     """Whether one log may explain what nodes learnt, replied and answered: a slot has one command, a no-op or a request; a reply is of
     a request that its node was asked for and has learnt; an answer speaks of slots that are all learnt, and has one of these texts,
-    which a run with ample memory gave, or that of a database without features."""
+    which a run with ample memory gave, or that of a database that has less."""
     asked, log, learnt = submissions(lines), {}, set()
     for told in transcript:
         word, node, *rest = told.split()
@@ -102,7 +103,7 @@ def is_explained(lines, transcript, texts):
             if (node, rest[0]) not in learnt or node not in asked[rest[0]] or rest[1] not in CODES:
                 return False
         elif word == "answer":
-            if any(slot not in log for slot in range(int(rest[0]))) or " ".join(rest[1:]) not in texts | set(NOTHING):
+            if any(slot not in log for slot in range(int(rest[0]))) or " ".join(rest[1:]) not in texts | set(LESS):
                 return False
     return True
 
