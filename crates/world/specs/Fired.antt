@@ -1,4 +1,4 @@
--- How many armed faults have come, and what is left to ask of the storages inside.
+-- How many armed faults have come at each node, and that they can be counted.
 use Rattle.std.specs.Prelude.{◌≡◌, ℕ, ◌<◌, ◌≤◌, ◌^◌, List, length, slice_get, Option, Some, IsSome, unwrap_or}
 use Rattle.stable.specs.Script.{Script}
 use Rattle.world.specs.Reaching.{AreHonest}

@@ -1,4 +1,4 @@
--- The nodes of a run by name, and frames between them.
+-- The nodes of a run by number, and frames between them.
 use Rattle.std.specs.Prelude.{◌≡◌, ℕ, ◌≤◌, List, All, length, slice_get, Some}
 use Rattle.synod.specs.declared.ballot.TheConstants.{MOST_NODES}
 use Rattle.wire.specs.declared.frames.envelope.Envelope.{Envelope}

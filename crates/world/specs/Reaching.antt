@@ -1,4 +1,4 @@
--- A world whose storages are honest is one to which moves lead that the protocol allows.
+-- The protocol's moves lead to every world whose storages are honest.
 use Rattle.std.specs.Prelude.{◌≡◌, ◌↔◌, ◌⊎◌, ℕ, List, [], map, length, slice_get, Some, None, IfSome, IsSome, Contains}
 use Rattle.synod.specs.Records as synod_records
 use Rattle.synod.specs.Records.{VoteWrite}

@@ -11,6 +11,6 @@ pub record IsSafeOver {S : Type 0} (storages : Ghosts (Script S)) (w : WorldStat
   pub honest : AreHonest storages.IsHonest w.nodes
   pub safe : ∥ IsSafe w ∥₁
 
--- so it is as long as every storage inside is honest
+-- where every storage inside is honest, so is each scripted one, and the world is safe
 abbrev pub StaysSafe : {S : Type 0} → Ghosts (Script S) → (S → Type 0) → WorldState S → Type 0
 StaysSafe storages IsHonest w = AreHonestInside IsHonest w.nodes → IsSafeOver storages w

@@ -20,7 +20,7 @@ pub enum Event {
     },
     /// The frame of this number comes to its receiver. It may have come before.
     Deliver(u64),
-    /// The frame of this number is lost: it waits no more.
+    /// The frame of this number waits no more. It may still come.
     Drop(u64),
     /// A node's patience ends: it starts a campaign.
     Timeout(NodeId),

@@ -6,7 +6,7 @@ ghost use Rattle.world.specs.declared.fault.WorldFault.TheVariants as world_faul
 
 use std::alloc::{AllocError, AllocFailed};
 
-/// Why a world makes no step. It is as it was.
+/// Why a world does not do what it is asked. A step leaves it as it was; what a flush has delivered stays delivered.
 #[derive(Clone, Copy, Debug, PartialEq, Eq)]
 pub enum WorldFault {
     /// No frame of this number was sent.

@@ -35,7 +35,8 @@ impl World<MemStable> {
     ghost use Rattle.world.specs.Flushing.{IsStart};
     ghost use Rattle.world.specs.Staying.{IsSafeOver};
 
-    /// A world of so many nodes over empty records in memory. `Memory` is its only fault.
+    /// A world of so many nodes over empty records in memory. A node whose own start is refused memory begins down. `Memory` is its
+    /// only fault.
     pub fn new(alloc: Global, count: Nodes) -> Result<World<MemStable>, WorldFault>
         ensures start { IfOk result (λ w. IsStart (⟦<Scripted<MemStable> as Stable>⟧) count (world_of w)) }
         ensures faults { IfErr result (λ f. f ≡ WorldFault.Memory) }
@@ -124,7 +125,8 @@ impl<S: Stable> World<S> {
         self.run.step(alloc, event)
     }
 
-    /// Delivers the lowest waiting frame until none waits: how many. What was delivered before a fault stays so.
+    /// Delivers the lowest waiting frame until none waits: how many. `FlushLimit` where 10,000 were delivered and one still waits. What
+    /// was delivered before a fault stays so.
     pub fn flush(&mut self, alloc: Global) -> Result<u32, WorldFault>
         ensures delivers { IfOk result (λ n. Delivers (⟦<Scripted<S> as Stable>⟧)
             (world_of self.old) n (world_of self.new)) }
