@@ -15,6 +15,7 @@ mod tests;
 mod world;
 
 pub use event::Event;
+pub use explaining::{a_start_tells, steps_tell, tellings_are_explained};
 pub use fault::WorldFault;
 pub use laws::{answers_are_one, lists_are_as_told};
 pub use lists::{Answered, Learnt, Outcome, Replied, Submission};

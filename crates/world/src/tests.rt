@@ -318,4 +318,7 @@ fn events_are_copied(rt: HostRuntime) -> Result<(), Fail> {
 fn laws_run_nothing() {
     lists_are_as_told::<MemStable>();
     answers_are_one::<MemStable>();
+    a_start_tells::<MemStable>();
+    steps_tell::<MemStable>();
+    tellings_are_explained::<MemStable>();
 }
