@@ -1,2 +1,3 @@
 pub mod PlaceLemmas
 pub mod EditLemmas
+pub mod SignLemmas

@@ -1,7 +1,7 @@
-use Rattle.std.proofs.Common.{true, Some, None, IsTrue, is_some, ◌≡◌, ◌∙◌, sym, ap, subst, rules}
+use Rattle.std.proofs.Common.{◌∙◌, sym, ap, subst, rules}
 use Rattle.std.specs.List.{insert}
 use Rattle.timeindex.specs.declared.entry.Entry.{Entry}
-use Rattle.timeindex.specs.Entries.{id_of, is_known, IsSet}
+use Rattle.timeindex.specs.Entries.{id_of}
 use Rattle.timeindex.specs.Ascending.{IsAscending, IsGap}
 use Rattle.timeindex.proofs.PlaceLemmas.{element_of-gap}
 use Rattle.timeindex.proofs.EditLemmas.{set-at, insert-gap, with_element_ascending}

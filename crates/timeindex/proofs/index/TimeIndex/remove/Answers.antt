@@ -1,4 +1,4 @@
-use Rattle.std.proofs.Common.{◌∙◌, sym, ap, is_some, slice_index_or}
+use Rattle.std.proofs.Common.{◌∙◌, sym, ap, is_some}
 use Rattle.std.specs.List.{remove}
 use Rattle.timeindex.specs.Entries.{id_of}
 use Rattle.timeindex.proofs.PlaceLemmas.{element_of-at, element_of-gap, without-gap}
