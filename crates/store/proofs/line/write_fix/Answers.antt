@@ -1,0 +1,28 @@
+use Rattle.std.proofs.Common.{◌≡◌, ℕ, List, [], ◌∷◌, ◌++◌, codes, decimal, Some, ap, ◌∙◌, arith, append-nil}
+use Rattle.std.proofs.lemmas.Fmt.{length-decimal-le}
+use Rattle.std.proofs.lemmas.List.{drop_all}
+use Rattle.tpoint.specs.declared.frac.Frac.{Frac}
+use Rattle.store.specs.Answers.{fix_text, value_text}
+use Rattle.store.proofs.line.write_fix.Goals as goal
+
+-- the bar, the instant, a blank and the position are the text of a listed instant
+fix_spelled : (fix : ℕ × Frac × Frac) (n : ℕ) (all timed blank place end : List ℕ) → all ≡ codes " | " ++ timed →
+    timed ≡ decimal n ++ blank → blank ≡ 32 ∷ place → place ≡ value_text (Some (fix.1, fix.2)) ++ end → end ≡ [] →
+    n ≡ fix.0 → all ≡ fix_text fix
+fix_spelled fix n all timed blank place end a b c d e f =
+    a ∙ ap (λ s. codes " | " ++ s) (b ∙ ap (λ s. decimal n ++ s) (c ∙ ap (λ s. 32 ∷ s)
+    (d ∙ ap (λ s. value_text (Some (fix.1, fix.2)) ++ s) e ∙ append-nil _)))
+    ∙ ap (λ m. codes " | " ++ decimal m ++ codes " " ++ value_text (Some (fix.1, fix.2))) f
+
+pub write_digits-start-requires : goal.write_digits-start-requires
+write_digits-start-requires c =
+    (omega (arith, length-decimal-le 20 c.milliseconds.result (omega arith) (omega arith) (omega arith)), omega arith)
+
+pub write_text-requires-clause-room : goal.write_text-requires-clause-room
+write_text-requires-clause-room c =
+    omega (arith, length-decimal-le 20 c.milliseconds.result (omega arith) (omega arith) (omega arith))
+
+pub returns-clause-written : goal.returns-clause-written
+returns-clause-written c =
+    fix_spelled c.args.fix.now _ _ _ _ _ _ c.write_text.ensures.written c.write_digits-start.ensures.written
+    c.write_byte-start.ensures.written c.write_place-start.ensures.written (drop_all 147 c.args.line.now (omega arith)) c.milliseconds.ensures
