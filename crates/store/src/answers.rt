@@ -127,10 +127,7 @@ pub(crate) fn document_text(alloc: Global, found: Option<&Feature>) -> Result<Ve
     let Some(feature) = found else {
         return absent(alloc);
     };
-    let document = mfjson::write(alloc, feature)?;
-    let mut text = Vec::from_slice(alloc, b"get ")?;
-    text.extend_from_slice(&document)?;
-    Ok(text)
+    mfjson::write_after(alloc, b"get ", feature)
 }
 
 /// How many features there are.
