@@ -6,10 +6,10 @@ pub mod SecondTexts
 pub mod OneText
 pub mod PairLemmas
 pub mod AsciiTexts
-pub mod Canonical
+pub mod Pieces
+pub mod ReadBack
 pub mod Standing
 pub mod OneFeature
-pub mod Results
 pub mod Counts
 pub mod FirstFaults
 pub mod Lists

@@ -1,7 +1,7 @@
 -- The canonical document stands for its feature.
 use Rattle.std.proofs.Common.{◌≡◌, ℕ, ℤ, pos, negsuc, ◌<◌, ◌≤◌, suc, List, [], ◌∷◌, refl, inl, arith, Some}
 use Rattle.std.proofs.lemmas.Int.{ints}
-use Rattle.serde_json.specs.Data.{Data, depth, items_depth}
+use Rattle.serde_json.specs.Data.{Data}
 use Rattle.serde_json.specs.View.{items_of}
 use Rattle.serde_json.specs.Find.{as_i64, of_integer}
 use Rattle.tpoint.specs.declared.point.Point.{Point}
@@ -64,22 +64,3 @@ canonical_stands f times places when where_to id valid =
       id_is = id;
       seq_is = valid;
     }
-
--- ---- it is not deep
-times_flat : (ds : List Data) (ps : List Point) → Pairwise WritesWhen ds ps → items_depth (items_of ds) ≤ 1
-times_flat [] ps w = omega arith
-times_flat (d ∷ ds) [] w = absurd w
-times_flat (d ∷ ds) (p ∷ ps) w = rw w.0.is_text (let more = times_flat ds ps w.1 in omega arith)
-
-places_flat : (ds : List Data) (ps : List Point) → Pairwise WritesWhere ds ps → items_depth (items_of ds) ≤ 1
-places_flat [] ps w = omega arith
-places_flat (d ∷ ds) [] w = absurd w
-places_flat (d ∷ ds) (p ∷ ps) w = rw w.0 (let more = places_flat ds ps w.1 in omega arith)
-
-pub canonical_flat : (id interpolation : List ℕ) (times places : List Data) (ps : List Point) →
-    Pairwise WritesWhen times ps → Pairwise WritesWhere places ps →
-    depth (canonical id interpolation times places) ≤ 127
-canonical_flat id interpolation times places ps t p =
-    let a = times_flat times ps t in
-    let b = places_flat places ps p in
-    omega arith

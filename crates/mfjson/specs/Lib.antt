@@ -3,5 +3,6 @@ pub mod Datetime
 pub mod Pairs
 pub mod Same
 pub mod Document
+pub mod Texts
 pub mod Faults
 pub mod Outline

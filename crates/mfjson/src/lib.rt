@@ -21,4 +21,4 @@ pub use fault::MfFault;
 pub use feature::Feature;
 pub use laws::a_document_is_of_one_feature;
 pub use reading::read;
-pub use writing::write;
+pub use writing::{write, write_after};

@@ -164,7 +164,7 @@ fn instants_of(alloc: Global, datetimes: &[Value]) -> Result<Vec<Instant>, MfFau
         (λ fault. fault ≢ MfFault.Memory → (i : ℕ) × (fault ≡ MfFault.Datetime i)
         × FailsFirst IsInstantText (map view datetimes.now) i) }
 {
-    let mut instants = Vec::new(alloc);
+    let mut instants = Vec::with_capacity(alloc, datetimes.len())?;
     for (i, datetime) in datetimes.iter().enumerate() {
         let Some(instant) = instant_of(datetime) else {
             return Err(MfFault::Datetime(i));
@@ -188,7 +188,7 @@ fn places_of(alloc: Global, coordinates: &[Value]) -> Result<Vec<(i64, i64)>, Mf
         (λ fault. fault ≢ MfFault.Memory → (i : ℕ) × (fault ≡ MfFault.Coordinates i)
         × FailsFirst IsPlace (map view coordinates.now) i) }
 {
-    let mut places = Vec::new(alloc);
+    let mut places = Vec::with_capacity(alloc, coordinates.len())?;
     for (i, pair) in coordinates.iter().enumerate() {
         let Some(place) = place_of(pair) else {
             return Err(MfFault::Coordinates(i));

@@ -5,16 +5,21 @@ ghost use Rattle.std.specs.List.{flat_map};
 ghost use Rattle.std.specs.Option.{option_copied};
 ghost use Rattle.predicates.specs.Predicates.{IsEver};
 ghost use Rattle.store.specs.Answers.{OfKnown, SaysValue, SaysCut, SaysEver, SaysAlways, SaysDocument, SaysWithin};
-ghost use Rattle.store.specs.Answers.{AreIdsOf, fix_text, part_text, id_text, tri_text};
+ghost use Rattle.store.specs.Answers.{AreIdsOf, value_text, fix_text, part_text, id_text, tri_text};
 ghost use Rattle.store.specs.Indexed.{IsKept};
 
+use crate::line::{LONGEST_FIX, write_fix, write_place};
+use itoa::Buffer;
 use mfjson::Feature;
 use predicates::{Tri, always, ever};
 use restrict::cut;
+use spelling::write_text;
 use std::alloc::{AllocError, Global};
-use std::io::Write;
 use timeindex::TimeIndex;
 use tpoint::{Frac, Id, Instant, Interp, Period, Rect};
+
+/// The bytes for which room is made for each listed instant of a cut. Most take fewer; where they take more, the text grows.
+const USUAL_FIX: usize = 40;
 
 /// Where the feature is at an instant.
 pub(crate) fn at_text(
@@ -29,9 +34,19 @@ pub(crate) fn at_text(
         return absent(alloc);
     };
     match feature.seq.value_at(t).value {
-        Some((x, y)) => Ok(format!(in alloc; "at {x} {y}")?.into_bytes()),
+        Some((x, y)) => place_text(alloc, x, y),
         None => Vec::from_slice(alloc, b"at none"),
     }
+}
+
+/// A position, as it is told of an instant.
+fn place_text(alloc: Global, x: Frac, y: Frac) -> Result<Vec<u8>, AllocError>
+    ensures { IfOk result (λ text. text.items ≡ codes "at " ++ value_text (Some (x, y))) }
+{
+    let mut line = [0; LONGEST_FIX];
+    let start = write_place(x, y, &mut line, LONGEST_FIX);
+    let start = write_text(b"at ", &mut line, start);
+    Vec::from_slice(alloc, &line[start..])
 }
 
 /// What the feature does in a period.
@@ -66,7 +81,7 @@ pub(crate) fn ever_text(
         return absent(alloc);
     };
     let answer = tri_text(ever(&feature.seq, period, area));
-    Ok(format!(in alloc; "ever {answer}")?.into_bytes())
+    joined(alloc, b"ever ", answer.as_bytes())
 }
 
 /// Whether the feature is always in a rectangle.
@@ -83,7 +98,7 @@ pub(crate) fn always_text(
         return absent(alloc);
     };
     let answer = tri_text(always(&feature.seq, period, area));
-    Ok(format!(in alloc; "always {answer}")?.into_bytes())
+    joined(alloc, b"always ", answer.as_bytes())
 }
 
 /// Which features are ever in a rectangle.
@@ -112,17 +127,14 @@ pub(crate) fn document_text(alloc: Global, found: Option<&Feature>) -> Result<Ve
     let Some(feature) = found else {
         return absent(alloc);
     };
-    let document = mfjson::write(alloc, feature)?;
-    let mut text = Vec::from_slice(alloc, b"get ")?;
-    text.extend_from_slice(&document)?;
-    Ok(text)
+    mfjson::write_after(alloc, b"get ", feature)
 }
 
 /// How many features there are.
 pub(crate) fn count_text(alloc: Global, count: usize) -> Result<Vec<u8>, AllocError>
     ensures { IfOk result (λ text. text.items ≡ codes "count " ++ decimal count) }
 {
-    Ok(format!(in alloc; "count {count}")?.into_bytes())
+    joined(alloc, b"count ", Buffer::new().format(count).as_bytes())
 }
 
 /// What is said of an id that no feature has.
@@ -130,6 +142,16 @@ fn absent(alloc: Global) -> Result<Vec<u8>, AllocError>
     ensures { IfOk result (λ text. text.items ≡ codes "absent") }
 {
     Vec::from_slice(alloc, b"absent")
+}
+
+/// A text of two parts.
+fn joined(alloc: Global, first: &[u8], last: &[u8]) -> Result<Vec<u8>, AllocError>
+    ensures { IfOk result (λ text. text.items ≡ first.now ++ last.now) }
+{
+    let mut text = Vec::with_capacity(alloc, first.len() + last.len())?;
+    text.extend_from_slice(first)?;
+    text.extend_from_slice(last)?;
+    Ok(text)
 }
 
 fn tri_text(answer: Tri) -> &'static str
@@ -150,9 +172,12 @@ fn part_text(
 ) -> Result<Vec<u8>, AllocError>
     ensures { IfOk result (λ text. text.items ≡ part_text interp fixes.now) }
 {
-    let interp = interp.name();
     let count = fixes.len();
-    let mut text = format!(in alloc; "cut {interp} {count}")?.into_bytes();
+    let mut text = Vec::with_capacity(alloc, count.saturating_add(1).saturating_mul(USUAL_FIX))?;
+    text.extend_from_slice(b"cut ")?;
+    text.extend_from_slice(interp.name().as_bytes())?;
+    text.push(b' ')?;
+    text.extend_from_slice(Buffer::new().format(count).as_bytes())?;
     push_fixes(&mut text, fixes)?;
     Ok(text)
 }
@@ -161,22 +186,23 @@ fn part_text(
 fn push_fixes(text: &mut Vec<u8>, fixes: &[(Instant, Frac, Frac)]) -> Result<(), AllocError>
     ensures { OnOk result (text.new.items ≡ text.old.items ++ flat_map fix_text fixes.now) }
 {
+    let mut line = [0; LONGEST_FIX];
     for fix in fixes {
-        push_fix(text, fix)?;
+        push_fix(text, fix, &mut line)?;
     }
     Ok(())
 }
 
-fn push_fix(text: &mut Vec<u8>, fix: &(Instant, Frac, Frac)) -> Result<(), AllocError>
+/// Adds a listed instant. It is written into the line first, and moved at once.
+fn push_fix(
+    text: &mut Vec<u8>,
+    fix: &(Instant, Frac, Frac),
+    line: &mut [u8; LONGEST_FIX],
+) -> Result<(), AllocError>
     ensures { OnOk result (text.new.items ≡ text.old.items ++ fix_text fix.now) }
 {
-    let (t, x, y) = *fix;
-    let ms = t.ms();
-    match write!(text, " | {ms} {x} {y}") {
-        Ok(()) => Ok(()),
-        // A vector refuses a write for memory alone.
-        Err(_) => Err(AllocError),
-    }
+    let start = write_fix(fix, line);
+    text.extend_from_slice(&line[start..])
 }
 
 /// The ids of the features that are ever in a rectangle, in the features' order. Only those are

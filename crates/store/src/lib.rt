@@ -12,6 +12,7 @@
 mod answers;
 mod db;
 mod laws;
+mod line;
 mod op;
 mod query;
 mod reply;
