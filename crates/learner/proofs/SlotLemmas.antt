@@ -7,6 +7,7 @@ use Rattle.std.specs.declared.alloc.AllocError.{AllocError}
 use Rattle.std.proofs.lemmas.Grind.{common_steps}
 use Rattle.std.proofs.lemmas.Bool.Decides.{nat_tests, eqb_tells}
 use Rattle.synod.specs.Records.{put}
+use Rattle.synod.specs.declared.ballot.Ballot.{Ballot}
 use Rattle.synod.specs.declared.vote.Vote.{Vote}
 use Rattle.sessions.specs.declared.command.Command.{Command}
 use Rattle.learner.specs.Learning.{Heard}
@@ -45,6 +46,17 @@ read_opened (Some p) none e = record { learnt = refl; heard = refl }
 pub opened : (o found : Option Place) (none : Tallies) (p : Place) → found ≡ o → none.tallies.items ≡ [] → p ≡ unwrap_or found (Told none)
     → IsReadAlike o p
 opened o found none p same e is = subst (λ x. IsReadAlike x p) same (subst (IsReadAlike found) (sym is) (read_opened found none e))
+
+-- where a growth is refused at a place, what is said of what was read of it is so of what was read of the slot
+module _ (o : Option Place) (p : Place) (alike : IsReadAlike o p) where
+  pub unlearnt_before : (r : Result Bool AllocError) → OnErr r (place_learnt (Some p) ≡ None) → OnErr r (place_learnt o ≡ None)
+  unlearnt_before (Ok learns) none = tt
+  unlearnt_before (Err e) none = sym alike.learnt ∙ none
+
+  pub unheard_before : (b : Ballot) (a : ℕ) (r : Result Bool AllocError) → OnErr r (place_heard (Some p) b a ≡ None)
+      → OnErr r (place_heard o b a ≡ None)
+  unheard_before b a (Ok learns) none = tt
+  unheard_before b a (Err e) none = ap (λ (heard : Heard). heard b a) (sym alike.heard) ∙ none
 
 -- a function that is given at a place what it has there
 pub put_same : {A : Type 0} (f : ℕ → A) (i : ℕ) (x : A) → x ≡ f i → put f i x ≡ f

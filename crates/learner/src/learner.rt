@@ -29,7 +29,7 @@ pub struct Learner {
 }
 
 impl Learner {
-    ghost use Rattle.learner.specs.Learning.{unlearnt, learnt_at, prefix, HearsVote, HearsDecided};
+    ghost use Rattle.learner.specs.Learning.{unlearnt, learnt_at, prefix, IsOpen, Counts, HearsVote, HearsDecided};
     ghost use Rattle.learner.specs.State.{learning_of};
 
     /// Nothing is heard or learnt yet.
@@ -72,6 +72,9 @@ impl Learner {
     ) -> Result<Option<Learned>, AllocError>
         ensures hears { IfOk result (λ learned.
             HearsVote (learning_of self.old) from vote learned (learning_of self.new)) }
+
+        // Only news that counts can be refused memory.
+        ensures counts { OnErr result (Counts (learning_of self.old) from vote) }
         ensures unchanged { OnErr result (learning_of self.new ≡ learning_of self.old) }
     {
         let slot = vote.slot;
@@ -97,6 +100,9 @@ impl Learner {
     ) -> Result<Option<Learned>, AllocError>
         ensures hears { IfOk result (λ learned.
             HearsDecided (learning_of self.old) slot command learned (learning_of self.new)) }
+
+        // Only a slot that is newly learnt can be refused memory.
+        ensures unlearnt { OnErr result (IsOpen (learning_of self.old) slot) }
         ensures unchanged { OnErr result (learning_of self.new ≡ learning_of self.old) }
     {
         if slot.value() < self.prefix || self.slots.learnt(slot).is_some() {

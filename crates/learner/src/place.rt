@@ -1,6 +1,6 @@
 //! What is known of one slot.
 
-ghost use Rattle.std.specs.Prelude.{◌≡◌, IfOk, OnErr, Some};
+ghost use Rattle.std.specs.Prelude.{◌≡◌, IfOk, OnErr, Some, None};
 ghost use Rattle.std.specs.Option.{option_copied};
 ghost use Rattle.learner.specs.Places.{place_learnt, place_heard, PlaceHears};
 
@@ -39,6 +39,8 @@ impl Place {
     ) -> Result<bool, AllocError>
         ensures hears { IfOk result (λ learns.
             PlaceHears nodes (Some self.old) from ballot command learns (Some self.new)) }
+        ensures unlearnt { OnErr result (place_learnt (Some self.old) ≡ None) }
+        ensures once { OnErr result (place_heard (Some self.old) ballot from ≡ None) }
         ensures learnt { OnErr result
             (place_learnt (Some self.new) ≡ place_learnt (Some self.old)) }
         ensures heard { OnErr result

@@ -67,6 +67,8 @@ impl Slots {
         ensures hears { IfOk result (λ learns.
             SlotHears nodes (learnt_of self.old) (heard_of self.old) from vote
             learns (learnt_of self.new) (heard_of self.new)) }
+        ensures unlearnt { OnErr result (learnt_of self.old vote.slot ≡ None) }
+        ensures once { OnErr result (heard_of self.old vote.slot vote.ballot from ≡ None) }
         ensures learnt { OnErr result (learnt_of self.new ≡ learnt_of self.old) }
         ensures heard { OnErr result (heard_of self.new ≡ heard_of self.old) }
     {

@@ -1,7 +1,7 @@
 use Rattle.std.proofs.Common.{rules}
 use Rattle.std.specs.BTreeMap.{get}
 use Rattle.std.specs.Ordering.{nat_cmp}
-use Rattle.learner.proofs.SlotLemmas.{IsReadAlike, opened, hears_there, learnt_stays, heard_stays}
+use Rattle.learner.proofs.SlotLemmas.{IsReadAlike, opened, hears_there, learnt_stays, heard_stays, unlearnt_before, unheard_before}
 use Rattle.learner.proofs.slots.Slots.hear.Goals as goal
 
 -- the entry's value is what was known of the slot
@@ -25,3 +25,9 @@ returns-clause-heard c =
     heard_stays c.args.nodes c.args.from c.args.vote c.args.self.now
     (record { by_slot = c.self-3-1.given.0 }) _ c.or_insert-place.result.now c.hear.new.self
     (c.self-3-1.given.1 (search rules)) (c.in_ok-self.ensures.update.0 c.hear.new.self) (alike c) c.hear.result c.hear.ensures.heard
+
+pub returns-clause-unlearnt : goal.returns-clause-unlearnt
+returns-clause-unlearnt c = unlearnt_before _ c.or_insert-place.result.now (alike c) c.hear.result c.hear.ensures.unlearnt
+
+pub returns-clause-once : goal.returns-clause-once
+returns-clause-once c = unheard_before _ c.or_insert-place.result.now (alike c) c.args.vote.ballot c.args.from c.hear.result c.hear.ensures.once
