@@ -1,6 +1,7 @@
 //! To bring a fraction to lowest terms.
 
-ghost use Rattle.std.specs.Prelude.{◌≡◌, ℕ, ◌*◌, ◌^◌, ◌<◌, ◌≤◌, ℤ, pos, ◌*ℤ◌, ◌≤ℤ◌, unsigned_abs};
+ghost use Rattle.std.specs.Prelude.{◌≡◌, ℕ, ◌*◌, ◌/◌, ◌%◌, ◌^◌, ◌<◌, ◌≤◌, IfSome};
+ghost use Rattle.std.specs.Prelude.{ℤ, pos, ◌*ℤ◌, ◌≤ℤ◌, unsigned_abs};
 ghost use Rattle.std.specs.Int.{IsGcd};
 ghost use Rattle.tpoint.specs.Signs.{with_sign};
 
@@ -12,14 +13,45 @@ fn gcd(a: u128, b: u64) -> u64
     ensures { IsGcd a b result }
 {
     let mut x = b;
-    // One long division: what it leaves, and all that follows, has 64 bits.
-    let mut y = (a % b as u128) as u64;
+    // What the first division leaves, and all that follows, has 64 bits.
+    let mut y = remainder(a, b);
     while y != 0 {
         let rest = x % y;
         x = y;
         y = rest;
     }
     x
+}
+
+/// The number in 64 bits, or None where it has more.
+fn short(a: u128) -> Option<u64>
+    ensures { IfSome result (λ s. s ≡ a) }
+{
+    u64::try_from(a).ok()
+}
+
+/// What a division leaves. Nearly all numbers fit 64 bits, where a division costs a small part of a
+/// long one.
+fn remainder(a: u128, b: u64) -> u64
+    requires { 1 ≤ b }
+    ensures { result ≡ a % b }
+{
+    match short(a) {
+        Some(a) => a % b,
+        None => (a % u128::from(b)) as u64,
+    }
+}
+
+/// How often one number goes into another, by the same two ways.
+fn quotient(a: u128, b: u64) -> u128
+    requires { 1 ≤ b }
+    ensures value { result ≡ a / b }
+    ensures smaller { result ≤ a }
+{
+    match short(a) {
+        Some(a) => u128::from(a / b),
+        None => a / u128::from(b),
+    }
 }
 
 /// A number with the sign of another.
@@ -44,7 +76,7 @@ pub fn reduce(num: i128, den: i64) -> Frac
     let below = den.unsigned_abs();
     let divisor = gcd(size, below);
     Frac {
-        num: with_sign_of(size / divisor as u128, num),
+        num: with_sign_of(quotient(size, divisor), num),
         den: (below / divisor) as i64,
     }
 }

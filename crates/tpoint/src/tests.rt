@@ -63,6 +63,38 @@ fn values(rt: HostRuntime) -> Result<(), Fail> {
     Ok(())
 }
 
+/// Upper numbers of 64 bits and of more, with a common divisor and without.
+#[test]
+fn long_numbers(rt: HostRuntime) -> Result<(), Fail> {
+    const HALF: i64 = 2_147_483_648;
+    let mut listed = Vec::with_capacity(rt.alloc(), 2)?;
+    for (ms, less) in [(0, 0), (4 * HALF, 1)] {
+        let t = Instant::new(ms).ok_or("instant")?;
+        listed.push(Point {
+            t,
+            x: HALF - less,
+            y: -HALF - less,
+        })?;
+    }
+    let seq = Seq::new(Interp::Linear, listed)?;
+    let rows = [
+        (0, "2147483648 -2147483648"),
+        (
+            1,
+            "18446744073709551615/8589934592 -18446744073709551617/8589934592",
+        ),
+        (
+            2,
+            "9223372036854775807/4294967296 -9223372036854775809/4294967296",
+        ),
+    ];
+    for (ms, want) in rows {
+        let found = seq.value_at(Instant::new(ms).ok_or("instant")?);
+        assert_eq!(rt; text(rt.alloc(), found.value)?.as_str(), want, "{ms}");
+    }
+    Ok(())
+}
+
 /// A full sequence is looked at eleven times at most, and a list is never asked outside its length.
 #[test]
 fn probes(rt: HostRuntime) -> Result<(), Fail> {
