@@ -1,14 +1,13 @@
 -- The lists of a document, written piece by piece.
-use Rattle.std.proofs.Common.{◌≡◌, ℕ, ℤ, pos, negsuc, ◌+◌, ◌<◌, List, [], ◌∷◌, ◌++◌, length, take, get_or, false, true, refl, ap, sym, ◌∙◌, append_assoc, append-nil}
+use Rattle.std.proofs.Common.{◌≡◌, ℕ, ℤ, pos, negsuc, ◌+◌, ◌<◌, List, [], ◌∷◌, ◌++◌, length, take, get_or, true, refl, ap, sym, ◌∙◌, append_assoc, append-nil}
 use Rattle.std.specs.Prelude.{flat_map}
 use Rattle.std.specs.Fmt.{signed_decimal}
 use Rattle.std.proofs.lemmas.List.{take_more, flat_map_more}
-use Rattle.serde_json.specs.Data.{Data, array, string}
+use Rattle.serde_json.specs.Data.{Data}
 use Rattle.serde_json.specs.View.{items_of}
 use Rattle.serde_json.specs.Find.{of_integer}
 use Rattle.serde_json.specs.Written.{compact_text, items_text, number_text}
 use Rattle.tpoint.specs.declared.point.Point.{Point}
-use Rattle.mfjson.specs.Pairs.{Pairwise}
 use Rattle.mfjson.specs.Document.{position}
 use Rattle.mfjson.specs.Texts.{Continues, Lists, after_comma, position_text}
 use Rattle.mfjson.proofs.PairLemmas.{pairwise_push}

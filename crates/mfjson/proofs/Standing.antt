@@ -1,8 +1,7 @@
 -- The canonical document stands for its feature.
-use Rattle.std.proofs.Common.{◌≡◌, ℕ, ℤ, pos, negsuc, ◌<◌, ◌≤◌, suc, List, [], ◌∷◌, refl, inl, arith, Some}
+use Rattle.std.proofs.Common.{◌≡◌, ℕ, ℤ, pos, negsuc, ◌<◌, suc, List, [], ◌∷◌, refl, inl, arith, Some}
 use Rattle.std.proofs.lemmas.Int.{ints}
 use Rattle.serde_json.specs.Data.{Data}
-use Rattle.serde_json.specs.View.{items_of}
 use Rattle.serde_json.specs.Find.{as_i64, of_integer}
 use Rattle.tpoint.specs.declared.point.Point.{Point}
 use Rattle.tpoint.specs.Ids.{IsId}

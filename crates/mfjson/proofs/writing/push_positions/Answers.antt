@@ -1,4 +1,4 @@
-use Rattle.std.proofs.Common.{◌∷◌, ◌++◌, refl, ap, sym, subst, ◌∙◌, arith}
+use Rattle.std.proofs.Common.{◌∷◌, ◌++◌, refl, ap, subst, ◌∙◌, arith}
 use Rattle.mfjson.specs.Document.{WritesWhere, position}
 use Rattle.mfjson.proofs.Pieces.{none_yet, one_more, position_spelled}
 use Rattle.mfjson.proofs.writing.push_positions.Goals as goal
