@@ -36,7 +36,7 @@ IsSound-prop s a b = λ i. record {
   autocommit = Bool-set s.in_transaction false a.autocommit b.autocommit i;
   committed_schema = Schema-set s.committed.schema record_schema a.committed_schema b.committed_schema i;
   committed = rows_set (s.committed.trees 0) (s.now.trees 0) a.committed b.committed i;
-  listed = ¬_prop (s.committed.trees catalog_tree ≡ []) a.listed b.listed i;
+  listed = ¬_prop a.listed b.listed i;
   own_keys = IsAscending-prop AreApart (λ x y. Π_prop (λ k. Π_prop (λ h. Bool-set (has_key k y) false))) (s.now.trees 0) a.own_keys b.own_keys i;
   numbered = AllByRecursion-prop (λ r. is_int (rowid r) ≡ true) (λ r. Bool-set (is_int (rowid r)) true) (s.now.trees 0) a.numbered b.numbered i;
 }

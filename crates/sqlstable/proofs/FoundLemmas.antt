@@ -1,5 +1,5 @@
 -- What the list of keys shows of a table that was found.
-use Rattle.std.proofs.Common.{◌≡◌, inl, inr, ℕ, List, [], ◌∷◌, ◌++◌, codes, arith, Bool, true, false, not, refl, sym, ap, subst, ◌∙◌, true≢false}
+use Rattle.std.proofs.Common.{◌≡◌, inl, inr, ℕ, List, [], ◌∷◌, ◌++◌, codes, arith, Bool, true, false, not, Ok, Err, Result, IfOk, OnOk, refl, sym, ap, subst, ◌∙◌, true≢false}
 use Rattle.std.specs.List.{AllByRecursion}
 use Rattle.std.specs.Ordering.{is_lt}
 use Rattle.std.specs.declared.cmp.Ordering.{Ordering}
@@ -15,12 +15,12 @@ use Rattle.sqlite_trees.proofs.ListLemmas.{all_weaker, ascending_weaker}
 use Rattle.sqlite_rules.proofs.ListLemmas.{all_has, all_from}
 use Rattle.sqlstable.specs.Rows.{is_bytes, Differ, HasOwnKeys, AreNumbered}
 use Rattle.sqlstable.specs.Lists.{rises, RisesTo, AreSoundRows, ListsKeys, key_row}
-use Rattle.sqlstable.specs.States.{IsSound, table}
+use Rattle.sqlstable.specs.States.{IsSound, IsUsable, table}
 use Rattle.sqlite.specs.State.{State}
 use Rattle.sqlite.specs.Effect.{Database}
 use Rattle.std.proofs.lemmas.Fmt.{decimal_digit}
 use Rattle.sqlite_schema.specs.declared.schema.Schema.{Schema}
-use Rattle.sqlstable.specs.Table.{listed_schema, record_schema, record_index, record_table}
+use Rattle.sqlstable.specs.Table.{no_schema, listed_schema, record_schema, record_index, record_table}
 use Rattle.std.proofs.Math.Logic.{∥∥₁_elim, ∥∥₁_map}
 use Rattle.sqlite_wal.specs.Recovery.{Image}
 use Rattle.sqlite_trees.specs.Tree.{Trees}
@@ -31,7 +31,7 @@ use Rattle.sqlite.specs.Effect.{IsDatabase}
 use Rattle.sqlite.specs.Files.{HoldsDatabase}
 use Rattle.sqlite.specs.Closing.{HoldsAlone}
 use Rattle.sqlstable.specs.Files.{FindsTable, AreThoseHeld, HoldRowsAlone}
-use Rattle.sqlstable.proofs.Listed.{lists_something}
+use Rattle.sqlstable.proofs.Listed.{lists_something, lists_nothing}
 use Rattle.sqlstable.proofs.Rows.{blob_is}
 
 less : (o : Ordering) → is_lt o ≡ true → o ≡ Less
@@ -132,3 +132,22 @@ closed_holds image last sound holds = record {
   both = ∥∥₁_map holds.both (λ there. (last.committed.trees, there, sound.listed, sound.committed));
   alone = ∥∥₁_map holds.alone (λ there. (last.committed.trees, there, sound.listed, sound.committed));
 }
+
+-- the table was made where nothing was there
+pub blank_found : {X E : Type 0} (before after : State) (r : Result X E) → before.now.schema ≡ no_schema → IsLive before → OnOk r (IsUsable before)
+    → OnOk r (table after ≡ []) → OnOk r (FindsTable before (table after))
+blank_found before after (Ok x) blank live usable empty = record {
+  was_clean = usable.0;
+  found = inl (lists_nothing before.now blank (live usable.1).0, empty);
+}
+blank_found before after (Err e) blank live usable empty = tt
+
+-- ---- answers that are Ok
+
+pub if_ok : {X E : Type 0} {P Q : X → Type 0} (r : Result X E) → IfOk r P → ((x : X) → P x → Q x) → IfOk r Q
+if_ok (Ok x) p then = then x p
+if_ok (Err e) p then = tt
+
+pub if_both : {X E : Type 0} {P R Q : X → Type 0} (r : Result X E) → IfOk r P → IfOk r R → ((x : X) → P x → R x → Q x) → IfOk r Q
+if_both (Ok x) p q then = then x p q
+if_both (Err e) p q then = tt

@@ -2,8 +2,6 @@
 
 ghost use Rattle.std.specs.Prelude.{◌≡◌, [], IfOk, OnOk, IsErrOf};
 ghost use Rattle.sqlite.specs.Held.{state};
-ghost use Rattle.sqlite.specs.State.{HasCleanDisk};
-ghost use Rattle.sqlite_trees.specs.Objects.{catalog_tree};
 ghost use Rattle.sqlstable.specs.States.{IsSound, IsUsable, table};
 ghost use Rattle.sqlstable.specs.Files.{FindsTable};
 ghost use Rattle.sqlstable.specs.Storage.{IsSqlHonest, rows_of};
@@ -110,8 +108,8 @@ fn begin<S: Alter>(connection: &mut Connection<S>) -> Result<(), StableFault>
         → OnOk result (IsSound (state S.Store connection.new)) }
     ensures empty { IsUsable (state S.Store connection.new)
         → OnOk result (table (state S.Store connection.new) ≡ []) }
-    ensures clean { OnOk result (HasCleanDisk (state S.Store connection.new)
-        → HasCleanDisk (state S.Store connection.old)) }
+    ensures was_usable { IsUsable (state S.Store connection.new)
+        → OnOk result (IsUsable (state S.Store connection.old)) }
     ensures not_damaged { ¬ IsErrOf result StableFault.Damaged }
 {
     if !connection.is_autocommit() {

@@ -17,8 +17,8 @@ use sqlite::{Alter, Connection, Error, Row, params};
 pub fn create<S: Alter>(connection: &mut Connection<S>) -> Result<usize, Error>
     requires blank { connection.old.schema ≡ no_schema }
     requires autocommit { connection.old.in_transaction ≡ false }
-    ensures clean { HasCleanDisk (state S.Store connection.new)
-        → HasCleanDisk (state S.Store connection.old) }
+    ensures was_usable { IsUsable (state S.Store connection.new)
+        → IsUsable (state S.Store connection.old) }
     ensures made { HasCleanDisk (state S.Store connection.new)
         → OnOk result (IsSound (state S.Store connection.new)
         × (table (state S.Store connection.new) ≡ [])) }
@@ -92,8 +92,8 @@ fn run_making<S: Alter>(connection: &mut Connection<S>, sql: &str) -> Result<usi
     requires making { IsMaking sql.now }
     requires blank { connection.old.schema ≡ no_schema }
     requires autocommit { connection.old.in_transaction ≡ false }
-    ensures clean { HasCleanDisk (state S.Store connection.new)
-        → HasCleanDisk (state S.Store connection.old) }
+    ensures was_usable { IsUsable (state S.Store connection.new)
+        → IsUsable (state S.Store connection.old) }
     ensures made { HasCleanDisk (state S.Store connection.new)
         → OnOk result (IsSound (state S.Store connection.new)
         × (table (state S.Store connection.new) ≡ [])) }
