@@ -8,7 +8,9 @@ use stable::Key;
 use synod::Slot;
 
 const PROMISE: u8 = 0x50;
+
 const ROUND: u8 = 0x52;
+
 const VOTE: u8 = 0x56;
 
 /// The most bytes that a key is spelled by.

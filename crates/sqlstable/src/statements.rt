@@ -54,10 +54,7 @@ pub fn write<S: Alter>(
 }
 
 /// The bytes that the key holds, or None where no row has it.
-pub fn read<S: Alter>(
-    connection: &mut Connection<S>,
-    key: &[u8],
-) -> Result<Option<Vec<u8>>, Error>
+pub fn read<S: Alter>(connection: &mut Connection<S>, key: &[u8]) -> Result<Option<Vec<u8>>, Error>
     ensures follows { Follows (state S.Store connection.old) (state S.Store connection.new) }
     ensures same { IsUsable (state S.Store connection.new)
         → IsSound (state S.Store connection.old)

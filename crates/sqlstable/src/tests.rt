@@ -200,6 +200,7 @@ fn another_table_is_refused(rt: HostRuntime) {
 }
 
 const FOLDER: &str = "sqlstable_test";
+
 const PATH: &str = "sqlstable_test/node0.db";
 
 #[test]
