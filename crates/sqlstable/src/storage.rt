@@ -104,7 +104,7 @@ impl<S: Alter> Stable for SqlStable<S> {
         let (spelled, length) = spelling(key);
         match write(&mut self.connection, &spelled[..length], bytes) {
             Ok(_) => Ok(()),
-            Err(error) => Err(self.blame(&error)),
+            Err(refusal) => Err(self.blame(&refusal)),
         }
     }
 
