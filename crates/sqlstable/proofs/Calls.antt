@@ -1,0 +1,124 @@
+-- What the calls of the storage come to.
+use Rattle.std.proofs.Common.{◌≡◌, ◌≢◌, ℕ, ◌<◌, arith, Bool, true, false, List, [], Option, IsSome, unwrap_or, Ok, Err, Result, IfOk, OnOk, Contains, ◌↔◌, length, IsTrue, refl, sym, ap, subst, ◌∙◌}
+use Rattle.std.proofs.Math.Logic.{∥∥₁_elim}
+use base.Stored.{Coded-set}
+use mathlib.Core.Bool.{Bool-set}
+use mathlib.Core.HLevel.{Π_prop, ¬_prop}
+use Rattle.sqlite_trees.specs.Objects.{catalog_tree}
+use Rattle.sqlite_value.specs.Order.{Row}
+use Rattle.sqlite_trees.specs.View.{is_int}
+use Rattle.sqlite_trees.specs.Tree.{rowid}
+use Rattle.sqlite_trees.specs.Props.{rows_set, AllByRecursion-prop, IsAscending-prop}
+use Rattle.sqlite_trees.specs.declared.store.Store.{Ghosts}
+use Rattle.sqlite_schema.specs.declared.schema.Schema.{Schema}
+use Rattle.sqlite_schema.specs.contracts.schema.Schema as schema_row
+use Rattle.sqlite.specs.State.{State}
+use Rattle.sqlite.specs.Held.{Held, state}
+use Rattle.sqlite_rules.specs.Lists.{Has}
+use Rattle.stable.specs.declared.fault.StableFault.{StableFault}
+use Rattle.stable.specs.Records.{IsAscending}
+use Rattle.stable.specs.declared.key.Key.{Key}
+use Rattle.sqlstable.specs.Table.{record_schema}
+use Rattle.sqlstable.specs.Rows.{has_key, value_at, AreApart, HasOwnKeys, PutsRow}
+use Rattle.sqlstable.specs.Lists.{ListsKeys}
+use Rattle.sqlstable.specs.States.{IsSound, IsSettled, IsUsable, Follows, table}
+use Rattle.sqlstable.specs.Keys.{spelled, is_valid, records_in, HasStray, AreKeysOf, TellsNone}
+use Rattle.sqlstable.specs.Storage.{Reads, ReadFails, Puts}
+use Rattle.sqlstable.specs.declared.storage.SqlStable.{SqlStable}
+use Rattle.sqlstable.proofs.Keys.{puts_records, puts_stray, keys_tell, keys_ascend, stray_row, no_stray_row}
+
+Schema-set : IsSet Schema
+Schema-set = Coded-set schema_row.the_row.coded
+
+IsSound-prop : (s : State) → IsProp (IsSound s)
+IsSound-prop s a b = λ i. record {
+  schema = Schema-set s.now.schema record_schema a.schema b.schema i;
+  autocommit = Bool-set s.in_transaction false a.autocommit b.autocommit i;
+  committed_schema = Schema-set s.committed.schema record_schema a.committed_schema b.committed_schema i;
+  committed = rows_set (s.committed.trees 0) (s.now.trees 0) a.committed b.committed i;
+  listed = ¬_prop a.listed b.listed i;
+  own_keys = IsAscending-prop AreApart (λ x y. Π_prop (λ k. Π_prop (λ h. Bool-set (has_key k y) false))) (s.now.trees 0) a.own_keys b.own_keys i;
+  numbered = AllByRecursion-prop (λ r. is_int (rowid r) ≡ true) (λ r. Bool-set (is_int (rowid r)) true) (s.now.trees 0) a.numbered b.numbered i;
+}
+
+IsSettled-prop : (s : State) → IsProp (IsSettled s)
+IsSettled-prop s = Π_prop (λ clean. Π_prop (λ now. IsSound-prop s))
+
+pub settled_is : (s : State) → ∥ IsSettled s ∥₁ → IsSettled s
+settled_is s h = ∥∥₁_elim h (IsSettled-prop s) (λ x. x)
+
+module _ {S : Type 0} (g : Ghosts S) (a : SqlStable S g) (now : Held S) where
+  abbrev old : State
+  old = state g a.connection
+
+  abbrev new : State
+  new = state g now
+
+  pub sound_before : Follows old new → IsUsable new → IsSound old
+  sound_before f usable = settled_is old a.settled (f.clean usable.0) (f.was_open usable.0 usable.1)
+
+  pub usable_before : Follows old new → IsUsable new → IsUsable old
+  usable_before f usable = (f.clean usable.0, f.was_open usable.0 usable.1)
+
+  -- a call that read
+  pub read_made : (b : SqlStable S g) → Follows old new → (IsUsable new → IsSound old → table new ≡ table old) → b.connection ≡ now
+      → b.failures ≡ a.failures → Reads g a b
+  read_made b f same is counts = record {
+    honest = λ h. record { usable = usable_before f (subst (λ c. IsUsable (state g c)) is h.usable); counts = subst IsSome counts h.counts };
+    rows = λ h. let usable = subst (λ c. IsUsable (state g c)) is h.usable in ap (λ c. table (state g c)) is ∙ same usable (sound_before f usable);
+    failures = λ h. let e = ap (λ (n : Option ℕ). unwrap_or n 0) counts in omega (arith, e);
+  }
+
+  -- a call on which the device failed
+  pub read_failed : (b : SqlStable S g) → Follows old new → (IsUsable new → IsSound old → table new ≡ table old) → b.connection ≡ now
+      → (IsSome b.failures → IsSome a.failures × (unwrap_or a.failures 0 < unwrap_or b.failures 0)) → ReadFails g a b
+  read_failed b f same is counts = record {
+    honest = λ h. record { usable = usable_before f (subst (λ c. IsUsable (state g c)) is h.usable); counts = (counts h.counts).0 };
+    rows = λ h. let usable = subst (λ c. IsUsable (state g c)) is h.usable in ap (λ c. table (state g c)) is ∙ same usable (sound_before f usable);
+    failures = λ h. (counts h.counts).1;
+  }
+
+  pub put_made : (key : Key) (bytes : List ℕ) (b : SqlStable S g) → is_valid key ≡ true → Follows old new
+      → (IsUsable new → IsSound old → PutsRow (spelled key) bytes (table old) (table new)) → b.connection ≡ now
+      → b.failures ≡ a.failures → Puts g a key bytes b
+  put_made key bytes b valid f made is counts = record {
+    honest = λ h. record { usable = usable_before f (subst (λ c. IsUsable (state g c)) is h.usable); counts = subst IsSome counts h.counts };
+    records = λ h. let usable = subst (λ c. IsUsable (state g c)) is h.usable in
+        ap (λ c. records_in (table (state g c))) is ∙ puts_records key bytes (table old) (table new) valid (made usable (sound_before f usable));
+    stray = λ h. let usable = subst (λ c. IsUsable (state g c)) is h.usable in
+        let both = puts_stray key bytes (table old) (table new) valid (made usable (sound_before f usable)) in
+        (λ s. both.0 (subst (λ c. HasStray (table (state g c))) is s), λ s. subst (λ c. HasStray (table (state g c))) (sym is) (both.1 s));
+    failures = λ h. let e = ap (λ (n : Option ℕ). unwrap_or n 0) counts in omega (arith, e);
+  }
+
+-- what a key has among the records
+pub record_of : (key : Key) (rows : List Row) (o : Option (List ℕ)) → is_valid key ≡ true → o ≡ value_at (spelled key) rows
+    → o ≡ records_in rows key
+record_of key rows o valid e = rw valid e
+
+pub on_ok : {X E : Type 0} {P : Type 0} (r : Result X E) → P → OnOk r P
+on_ok (Ok x) h = h
+on_ok (Err e) h = tt
+
+module _ {X : Type 0} (keys_of : X → List Key) (rows_before rows slice : List Row) (same : slice ≡ rows) (own : HasOwnKeys rows_before) where
+  pub if_told : (r : Result X StableFault) → IfOk r (λ x. AreKeysOf slice (keys_of x)) → ListsKeys rows_before rows
+      → IfOk r (λ x. (k : Key) → Contains (keys_of x) k ↔ IsSome (records_in rows_before k))
+  if_told (Ok x) told l = keys_tell rows_before rows (keys_of x) own l (subst (λ rs. AreKeysOf rs (keys_of x)) same told)
+  if_told (Err e) told l = tt
+
+  pub if_ascending : (r : Result X StableFault) → IfOk r (λ x. AreKeysOf slice (keys_of x)) → ListsKeys rows_before rows
+      → IfOk r (λ x. IsAscending (keys_of x))
+  if_ascending (Ok x) told l = keys_ascend rows_before rows (keys_of x) own l (subst (λ rs. AreKeysOf rs (keys_of x)) same told)
+  if_ascending (Err e) told l = tt
+
+pub if_no_stray : {X : Type 0} (keys_of : X → List Key) (rows_before rows slice : List Row) → slice ≡ rows → (r : Result X StableFault)
+    → IfOk r (λ x. AreKeysOf slice (keys_of x)) → ListsKeys rows_before rows → OnOk r (¬ HasStray rows_before)
+if_no_stray keys_of rows_before rows slice same (Ok x) told l = no_stray_row rows_before rows (keys_of x) l (subst (λ rs. AreKeysOf rs (keys_of x)) same told)
+if_no_stray keys_of rows_before rows slice same (Err e) told l = tt
+
+pub stray_told : (rows_before rows slice : List Row) → slice ≡ rows → ListsKeys rows_before rows
+    → (row : Row) × Has slice row × (0 < length row → TellsNone row) → HasStray rows_before
+stray_told rows_before rows slice same l (row, h, none) =
+    let there = subst (λ rs. Has rs row) same h in
+    let from = l.from row there in
+    stray_row rows_before rows row l there (none (subst (λ r. 0 < length r) (sym from.2) (omega arith)))

@@ -1,0 +1,11 @@
+pub mod Listed
+pub mod Rows
+pub mod Puts
+pub mod Sets
+pub mod Kept
+pub mod OnePut
+pub mod Selects
+pub mod Steps
+pub mod Keys
+pub mod Calls
+pub mod FoundLemmas

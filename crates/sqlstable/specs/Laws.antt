@@ -1,0 +1,65 @@
+-- The laws of a storage over the table.
+use Rattle.std.proofs.Common.{ap, ◌∙◌, subst, sym, arith, refl, inl, ◌≡◌, ◌↔◌, List}
+use Rattle.sqlite_value.specs.Order.{Row}
+use Rattle.sqlite_trees.specs.declared.store.Store.{Ghosts}
+use Rattle.stable.specs.Records.{with_record}
+use Rattle.stable.specs.Storages.{IsLawful}
+use Rattle.sqlstable.specs.Keys.{records_in, HasStray}
+use Rattle.sqlstable.specs.Storage.{in_table, Reads, ReadFails, Puts}
+
+same_strays : {a b : List Row} → b ≡ a → HasStray b ↔ HasStray a
+same_strays e = (subst HasStray e, subst HasStray (sym e))
+
+through : {A B C : Type 0} → A ↔ B → B ↔ C → A ↔ C
+through f g = (λ a. g.0 (f.0 a), λ c. f.1 (g.1 c))
+
+module _ {S : Type 0} (g : Ghosts S) where
+  pub table_laws : IsLawful (in_table g)
+  table_laws = record {
+    reads_honest = λ a b r h. r.honest h;
+    reads_contents = λ a b r h. ap records_in (r.rows h);
+    reads_failures = λ a b r h. r.failures h;
+    reads_stray = λ a b r h. same_strays (r.rows h);
+    reads_settled = λ a b r s. tt;
+    read_fails_honest = λ a b f h. f.honest h;
+    read_fails_contents = λ a b f h. ap records_in (f.rows h);
+    read_fails_failures = λ a b f h. f.failures h;
+    read_fails_stray = λ a b f h. same_strays (f.rows h);
+    puts_honest = λ a b key bytes p h. p.honest h;
+    puts_contents = λ a b key bytes p h. p.records h;
+    puts_failures = λ a b key bytes p h. p.failures h;
+    puts_stray = λ a b key bytes p h. p.stray h;
+    puts_settled = λ a b key bytes p. tt;
+    fails_honest = λ a b key bytes f h. f.honest h;
+    fails_contents = λ a b key bytes f h. inl (ap records_in (f.rows h));
+    fails_failures = λ a b key bytes f h. f.failures h;
+    fails_stray = λ a b key bytes f h. same_strays (f.rows h);
+    reads_none = λ a. record { honest = λ h. h; rows = λ h. refl; failures = λ h. omega arith };
+    reads_reads = λ a b c r s. record {
+      honest = λ h. r.honest (s.honest h);
+      rows = λ h. s.rows h ∙ r.rows (s.honest h);
+      failures = λ h. let m = r.failures (s.honest h) in let n = s.failures h in omega (arith, m, n);
+    };
+    reads_read_fails = λ a b c r f. record {
+      honest = λ h. r.honest (f.honest h);
+      rows = λ h. f.rows h ∙ r.rows (f.honest h);
+      failures = λ h. let m = r.failures (f.honest h) in let n = f.failures h in omega (arith, m, n);
+    };
+    reads_puts = λ a b c key bytes r p. record {
+      honest = λ h. r.honest (p.honest h);
+      records = λ h. p.records h ∙ ap (λ rows. with_record (records_in rows) key bytes) (r.rows (p.honest h));
+      stray = λ h. through (p.stray h) (same_strays (r.rows (p.honest h)));
+      failures = λ h. let m = r.failures (p.honest h) in let n = p.failures h in omega (arith, m, n);
+    };
+    reads_fails = λ a b c key bytes r f. record {
+      honest = λ h. r.honest (f.honest h);
+      rows = λ h. f.rows h ∙ r.rows (f.honest h);
+      failures = λ h. let m = r.failures (f.honest h) in let n = f.failures h in omega (arith, m, n);
+    };
+    puts_reads = λ a b c key bytes p r. record {
+      honest = λ h. p.honest (r.honest h);
+      records = λ h. ap records_in (r.rows h) ∙ p.records (r.honest h);
+      stray = λ h. through (same_strays (r.rows h)) (p.stray (r.honest h));
+      failures = λ h. let m = p.failures (r.honest h) in let n = r.failures h in omega (arith, m, n);
+    };
+  }

@@ -1,0 +1,9 @@
+pub mod Table
+pub mod Texts
+pub mod Rows
+pub mod Keys
+pub mod States
+pub mod Lists
+pub mod Files
+pub mod Storage
+pub mod Laws

@@ -1,0 +1,39 @@
+-- What a connection keeps of the table between calls.
+use Rattle.std.specs.Prelude.{◌≡◌, ◌≢◌, ◌⊎◌, false, IsTrue, List, []}
+use Rattle.sqlite_value.specs.Order.{Row}
+use Rattle.sqlite_trees.specs.Objects.{catalog_tree}
+use Rattle.sqlite.specs.State.{State, HasCleanDisk, IsUnchanged, IsRolledBack}
+use Rattle.sqlstable.specs.Table.{record_schema}
+use Rattle.sqlstable.specs.Rows.{HasOwnKeys, AreNumbered}
+
+-- the rows of the table
+abbrev pub table : State → List Row
+table s = s.now.trees 0
+
+-- the disk has returned so far what was written, and no fault has shut the connection
+abbrev pub IsUsable : State → Type 0
+IsUsable s = HasCleanDisk s × IsTrue s.is_open
+
+-- nothing changed, or what wasn't committed is undone
+abbrev pub Leaves : State → State → Type 0
+Leaves old new = IsUnchanged old new ⊎ IsRolledBack old new
+
+-- the table is there and nothing else, its keys differ, its rows have numbers, and all is committed
+pub record IsSound (s : State) : Type 0 where
+  pub schema : s.now.schema ≡ record_schema
+  pub autocommit : s.in_transaction ≡ false
+  pub committed_schema : s.committed.schema ≡ record_schema
+  pub committed : s.committed.trees 0 ≡ s.now.trees 0
+  pub listed : s.committed.trees catalog_tree ≢ []
+  pub own_keys : HasOwnKeys (s.now.trees 0)
+  pub numbered : AreNumbered (s.now.trees 0)
+
+-- sound, or of no use any more
+abbrev pub IsSettled : State → Type 0
+IsSettled s = HasCleanDisk s → IsTrue s.is_open → IsSound s
+
+-- no call makes a disk honest again, or opens a connection again, or spoils the table
+pub record Follows (old new : State) : Type 0 where
+  pub clean : HasCleanDisk new → HasCleanDisk old
+  pub was_open : HasCleanDisk new → IsTrue new.is_open → IsTrue old.is_open
+  pub settled : IsSettled old → IsSettled new

@@ -1,0 +1,58 @@
+-- A storage over the table, and what its calls make of it.
+use Rattle.std.specs.Prelude.{◌≡◌, ◌↔◌, ℕ, ◌<◌, ◌≤◌, IsSome, unwrap_or, List}
+use Rattle.sqlite_value.specs.Order.{Row}
+use Rattle.sqlite_trees.specs.declared.store.Store.{Ghosts}
+use Rattle.sqlite.specs.Held.{state}
+use Rattle.stable.specs.Records.{with_record}
+use Rattle.stable.specs.declared.key.Key.{Key}
+use Rattle.stable.specs.declared.stable.Stable as stable
+use Rattle.sqlstable.specs.States.{IsUsable, table}
+use Rattle.sqlstable.specs.Keys.{records_in, HasStray}
+use Rattle.sqlstable.specs.declared.storage.SqlStable.{SqlStable}
+
+module _ {S : Type 0} (g : Ghosts S) where
+  -- the rows of its table
+  abbrev pub rows_of : SqlStable S g → List Row
+  rows_of s = table (state g s.connection)
+
+  -- how often the device has failed
+  abbrev pub failures_of : SqlStable S g → ℕ
+  failures_of s = unwrap_or s.failures 0
+
+  -- the disk has returned so far what was written, no fault has shut the connection, and the failures can be counted
+  pub record IsSqlHonest (s : SqlStable S g) : Type 0 where
+    pub usable : IsUsable (state g s.connection)
+    pub counts : IsSome s.failures
+
+  -- calls that write nothing
+  pub record Reads (a b : SqlStable S g) : Type 0 where
+    pub honest : IsSqlHonest b → IsSqlHonest a
+    pub rows : IsSqlHonest b → rows_of b ≡ rows_of a
+    pub failures : IsSqlHonest b → failures_of a ≤ failures_of b
+
+  -- the last of them answers Device
+  pub record ReadFails (a b : SqlStable S g) : Type 0 where
+    pub honest : IsSqlHonest b → IsSqlHonest a
+    pub rows : IsSqlHonest b → rows_of b ≡ rows_of a
+    pub failures : IsSqlHonest b → failures_of a < failures_of b
+
+  -- calls of which one put these bytes
+  pub record Puts (a : SqlStable S g) (key : Key) (bytes : List ℕ) (b : SqlStable S g) : Type 0 where
+    pub honest : IsSqlHonest b → IsSqlHonest a
+    pub records : IsSqlHonest b → records_in (rows_of b) ≡ with_record (records_in (rows_of a)) key bytes
+    pub stray : IsSqlHonest b → HasStray (rows_of b) ↔ HasStray (rows_of a)
+    pub failures : IsSqlHonest b → failures_of a ≤ failures_of b
+
+  -- what it is as a storage: a put that fails leaves the old records
+  abbrev pub in_table : stable.Ghosts (SqlStable S g)
+  in_table = record {
+    contents = λ s. records_in (rows_of s);
+    failures = failures_of;
+    IsHonest = IsSqlHonest;
+    HasStrayKey = λ s. HasStray (rows_of s);
+    IsSettled = λ _. Unit {0};
+    reads = Reads;
+    puts = Puts;
+    read_fails = ReadFails;
+    fails = λ a key bytes b. ReadFails a b;
+  }

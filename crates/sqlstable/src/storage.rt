@@ -1,0 +1,132 @@
+//! The storage over a connection.
+
+ghost use Rattle.sqlite.specs.Held.{state};
+ghost use Rattle.sqlstable.specs.States.{IsSettled};
+
+use crate::fault::fault_of;
+use crate::listing::keys_in;
+use crate::spelling::spelling;
+use crate::statements::{list, read, write};
+use sqlite::{Alter, Connection, Error, MemStore};
+use stable::{Key, Stable, StableFault};
+use std::alloc::Global;
+
+/// Records in a table of a database.
+///
+/// Want of memory is `Memory`. Any other refusal of the database is `Device` and is counted; it leaves the old records.
+/// Where a failure shuts the connection, or the disk has returned something else than was written, or the failures can't
+/// be counted in a u64 any more, the storage isn't honest from then on.
+#[derive(Drop)]
+pub struct SqlStable<S: Alter> {
+    connection: Connection<S>,
+    // How often it has failed; None once that can't be counted.
+    failures: Option<u64>,
+    ghost settled: { ∥ IsSettled (state S.Store connection) ∥₁ },
+}
+
+impl<S: Alter> SqlStable<S> {
+    ghost use Rattle.std.specs.Prelude.{◌≡◌, ◌≢◌, ◌<◌, Some, IsSome, unwrap_or};
+
+    // A connection whose table is settled, with no failure yet.
+    pub(crate) fn holding(connection: Connection<S>) -> SqlStable<S>
+        requires { ∥ IsSettled (state S.Store connection) ∥₁ }
+        ensures connection { result.connection ≡ connection }
+        ensures unfailed { result.failures ≡ Some 0 }
+    {
+        SqlStable {
+            connection,
+            failures: Some(0),
+        }
+    }
+
+    // The connection, whose table is settled.
+    pub(crate) fn into_connection(self) -> Connection<S>
+        ensures connection { result ≡ self.connection }
+        ensures settled { ∥ IsSettled (state S.Store result) ∥₁ }
+    {
+        self.connection
+    }
+
+    // The fault that an error is, which is counted where it isn't want of memory.
+    fn blame(&mut self, error: &Error) -> StableFault
+        ensures same { self.new.connection ≡ self.old.connection }
+        ensures memory { result ≡ StableFault.Memory → self.new.failures ≡ self.old.failures }
+        ensures device { result ≡ StableFault.Device → IsSome self.new.failures
+            → IsSome self.old.failures
+            × (unwrap_or self.old.failures 0 < unwrap_or self.new.failures 0) }
+        ensures not_damaged { result ≢ StableFault.Damaged }
+    {
+        let fault = fault_of(error);
+        if let StableFault::Device = fault {
+            self.failures = match self.failures {
+                Some(count) => count.checked_add(1),
+                None => None,
+            };
+        }
+        fault
+    }
+}
+
+impl<S: Alter> Stable for SqlStable<S> {
+    ghost use Rattle.std.specs.Prelude.{◌≡◌, ℕ, ◌↔◌, List, IfOk, OnOk, IsErrOf};
+    ghost use Rattle.sqlstable.specs.Keys.{HasStray, records_in};
+    ghost use Rattle.sqlstable.specs.Storage.{IsSqlHonest, Puts, ReadFails, Reads};
+    ghost use Rattle.sqlstable.specs.Storage.{failures_of, rows_of};
+    ghost use Rattle.sqlstable.specs.Laws.{table_laws};
+
+    ghost contents = { λ s. records_in (rows_of S.Store s) };
+
+    ghost failures = { failures_of S.Store };
+
+    ghost IsHonest = { IsSqlHonest S.Store };
+
+    ghost HasStrayKey = { λ s. HasStray (rows_of S.Store s) };
+
+    ghost IsSettled = { λ _. Unit {0} };
+
+    ghost reads = { Reads S.Store };
+
+    ghost puts = { Puts S.Store };
+
+    ghost read_fails = { ReadFails S.Store };
+
+    ghost fails = { λ a _ _ b. ReadFails S.Store a b };
+
+    fn get(&mut self, alloc: Global, key: Key) -> Result<Option<Vec<u8>>, StableFault> {
+        let (spelled, length) = spelling(key);
+        match read(&mut self.connection, &spelled[..length]) {
+            Ok(found) => Ok(found),
+            Err(error) => Err(self.blame(&error)),
+        }
+    }
+
+    fn put(&mut self, alloc: Global, key: Key, bytes: &[u8]) -> Result<(), StableFault> {
+        let (spelled, length) = spelling(key);
+        match write(&mut self.connection, &spelled[..length], bytes) {
+            Ok(_) => Ok(()),
+            Err(refusal) => Err(self.blame(&refusal)),
+        }
+    }
+
+    fn keys(&mut self, alloc: Global) -> Result<Vec<Key>, StableFault> {
+        match list(&mut self.connection) {
+            Ok(rows) => keys_in(alloc, rows.as_slice()),
+            Err(error) => Err(self.blame(&error)),
+        }
+    }
+
+    ghost laws = { table_laws _ };
+}
+
+impl SqlStable<MemStore> {
+    ghost use Rattle.std.specs.Prelude.{◌↔◌, IsTrue};
+    ghost use Rattle.sqlite.specs.Steps.{over_memory};
+    ghost use Rattle.sqlstable.specs.Storage.{IsSqlHonest};
+
+    /// Whether the failures can be counted: in memory it is honest as long as that is so.
+    pub fn can_count(&self) -> bool
+        ensures honest { IsTrue result ↔ IsSqlHonest over_memory self.now }
+    {
+        self.failures.is_some()
+    }
+}
