@@ -178,7 +178,7 @@ impl Acceptor {
         if let Some(promised) = self.refusing(ballot) {
             return Ok(Answer::Nack(refusal(ballot, promised)));
         }
-        let promise = self.votes.promise(ballot, first)?;
+        let promise = self.votes.promise(alloc, ballot, first)?;
         if self.promise != Some(ballot) {
             storage.put(alloc, Key::Promise, &ballot_record(ballot))?;
         }

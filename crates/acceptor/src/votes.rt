@@ -43,11 +43,16 @@ impl Votes {
 
     /// The promise of a ballot, which tells the votes from a slot on: four at most, and none behind the fourth is passed
     /// over. It takes one look-up and at most five steps from there, however many votes are held.
-    pub(super) fn promise(&self, ballot: Ballot, first: Slot) -> Result<Promise, AllocError>
+    pub(super) fn promise(
+        &self,
+        alloc: Global,
+        ballot: Ballot,
+        first: Slot,
+    ) -> Result<Promise, AllocError>
         requires { AreUpTo (Some ballot) self.now }
         ensures { IfOk result (λ p. IsPromiseFrom (λ s. vote_held self.now s) ballot first p) }
     {
-        let mut entries = Entries::new();
+        let mut entries = Entries::new(alloc);
         for (slot, cast) in self.by_slot.range(first..) {
             if entries.len() == MOST_ENTRIES {
                 return Ok(Promise::new(ballot, first, slot.before().unwrap(), entries).unwrap());
@@ -56,7 +61,7 @@ impl Votes {
                 slot: *slot,
                 ballot: cast.ballot,
                 command: cast.command.clone()?,
-            }));
+            }))?;
         }
         Ok(Promise::new(ballot, first, Slot::last(), entries).unwrap())
     }

@@ -107,14 +107,14 @@ fn campaign(
     ensures { OnOk result (Campaigns proposer.old (learning_of learner.now) proposer.new) }
 {
     let _ = proposer.timeout(alloc, storage, learner)?;
-    proposer.on_promise(NodeId::new(0).unwrap(), promise())?;
-    proposer.on_promise(NodeId::new(1).unwrap(), promise())?;
+    proposer.on_promise(NodeId::new(0).unwrap(), promise(alloc))?;
+    proposer.on_promise(NodeId::new(1).unwrap(), promise(alloc))?;
     Ok(())
 }
 
 /// A promise of the first ballot that tells of no votes.
-fn promise() -> Promise
+fn promise(alloc: Global) -> Promise
     ensures { result ≡ first_promise }
 {
-    Promise::new(first_ballot(), Slot::first(), Slot::last(), Entries::new()).unwrap()
+    Promise::new(first_ballot(), Slot::first(), Slot::last(), Entries::new(alloc)).unwrap()
 }

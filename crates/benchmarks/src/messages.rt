@@ -11,7 +11,6 @@ use crate::fleet::{name, put};
 use crate::operations::next_point;
 use crate::scene::Scene;
 use crate::task::Sent;
-use arrayvec::ArrayVec;
 use sessions::{Command, MOST_PUT_POINTS, Number, Request};
 use std::alloc::{AllocError, Global};
 use store::Op;
@@ -29,7 +28,7 @@ pub fn envelope(alloc: Global, sent: Sent) -> Result<Envelope, Fault>
     Ok(Envelope {
         from: NodeId::new(0).unwrap(),
         to: NodeId::new(1).unwrap(),
-        message: message(&scene, sent)?,
+        message: message(alloc, &scene, sent)?,
     })
 }
 
@@ -75,7 +74,7 @@ fn last_slot(message: &Message) -> u32
     }
 }
 
-fn message(scene: &Scene, sent: Sent) -> Result<Message, Fault>
+fn message(alloc: Global, scene: &Scene, sent: Sent) -> Result<Message, Fault>
     ensures { IfOk result (λ message. message ≡ message_of sent scene.now) }
 {
     match sent {
@@ -83,29 +82,29 @@ fn message(scene: &Scene, sent: Sent) -> Result<Message, Fault>
             ballot: first_ballot(),
             first: Slot::first(),
         }),
-        Sent::Promise => Ok(Message::Promise(promise(scene)?)),
+        Sent::Promise => Ok(Message::Promise(promise(alloc, scene)?)),
         Sent::AcceptPut => Ok(Message::Accept(vote(Slot::first(), put(scene, 0)?)?)),
         Sent::AcceptedAppend => Ok(Message::Accepted(vote(Slot::first(), append(scene))?)),
     }
 }
 
 /// The promise of the first slots, with as many votes as it may tell.
-fn promise(scene: &Scene) -> Result<Promise, Fault>
+fn promise(alloc: Global, scene: &Scene) -> Result<Promise, Fault>
     ensures { IfOk result (λ promise. promise ≡ promise_of scene.now) }
 {
-    let entries = entries(scene)?;
+    let entries = entries(alloc, scene)?;
     let last = Slot::new(MOST_ENTRIES as u32 - 1).unwrap();
     Ok(Promise::new(first_ballot(), Slot::first(), last, entries).unwrap())
 }
 
 /// As many votes for a put as a promise may tell, at the first slots.
-fn entries(scene: &Scene) -> Result<Entries, Fault>
+fn entries(alloc: Global, scene: &Scene) -> Result<Entries, Fault>
     ensures { IfOk result (λ entries. entries.items ≡ votes scene.now MOST_ENTRIES) }
 {
-    let mut entries = ArrayVec::new();
+    let mut entries = Entries::new(alloc);
     for number in 0..MOST_ENTRIES as u32 {
         let slot = Slot::new(number).unwrap();
-        entries.push(Entry::new(vote(slot, put(scene, 0)?)?));
+        entries.push(Entry::new(vote(slot, put(scene, 0)?)?))?;
     }
     Ok(entries)
 }

@@ -25,6 +25,18 @@ pub fn send(
     Ok(())
 }
 
+/// The frame of a message to its sender. A message to several nodes is spelled once, and its frame copied for each.
+fn framed(alloc: Global, from: NodeId, message: Message) -> Result<Frame, AllocError>
+    ensures { IfOk result (λ frame. frame ≡ record { from = from; to = from; message = message }) }
+{
+    let envelope = Envelope {
+        from,
+        to: from,
+        message,
+    };
+    Frame::of(alloc, &envelope)
+}
+
 /// A message from one node to every node, itself included, in order of their numbers.
 pub fn send_to_all(
     alloc: Global,
@@ -35,14 +47,9 @@ pub fn send_to_all(
 ) -> Result<(), AllocError>
     ensures { OnOk result (sends.new.items ≡ sends.old.items ++ to_all from nodes message) }
 {
-    let mut envelope = Envelope {
-        from,
-        to: from,
-        message,
-    };
+    let frame = framed(alloc, from, message)?;
     for value in 0..nodes.count() {
-        envelope.to = nodes.node(value);
-        sends.push(Frame::of(alloc, &envelope)?)?;
+        sends.push(frame.to_node(alloc, nodes.node(value))?)?;
     }
     Ok(())
 }
@@ -59,15 +66,11 @@ pub fn send_to_others(
     ensures { OnOk result (sends.new.items
         ≡ sends.old.items ++ filter (λ e. not (has_node set.now e.to)) (to_all from nodes message)) }
 {
-    let mut envelope = Envelope {
-        from,
-        to: from,
-        message,
-    };
+    let frame = framed(alloc, from, message)?;
     for value in 0..nodes.count() {
-        envelope.to = nodes.node(value);
-        if !set.contains(envelope.to) {
-            sends.push(Frame::of(alloc, &envelope)?)?;
+        let to = nodes.node(value);
+        if !set.contains(to) {
+            sends.push(frame.to_node(alloc, to)?)?;
         }
     }
     Ok(())

@@ -1,5 +1,5 @@
 -- A window that is filled slot by slot.
-use Rattle.std.proofs.Common.{◌≡◌, ℕ, suc, ◌+◌, ◌-◌, ◌<◌, List, Bool, true, false, Option, Some, None, is_some, ◌||◌, if◌then◌else◌, nat_le, length, refl, sym, ap, ◌∙◌, subst, arith}
+use Rattle.std.proofs.Common.{◌≡◌, ℕ, zero, suc, ◌+◌, ◌-◌, ◌<◌, List, Bool, true, false, Option, Some, None, is_some, ◌||◌, if◌then◌else◌, nat_le, length, refl, sym, ap, ◌∙◌, subst, arith}
 use Rattle.std.specs.List.{list_any}
 use Rattle.sessions.specs.Asked.{Asked}
 use Rattle.sessions.specs.declared.command.Command.{Command}
@@ -68,3 +68,19 @@ module _ (k : Campaigning) (waiting : List Asked) (learnt_to : ℕ) (learnt : �
       → g ≡ filled k waiting learnt_to learnt (limit - number) number f
   stops now proposals slot number limit l b f g same at known goes below h =
       stops_case _ f g _ (same_step now proposals slot number l b false f g same at known goes h) ∙ sym (one_more limit number f below)
+
+  -- a window whose places are all taken: a slot is passed over, or the filling stops
+  passes : (settled : Bool) (number : ℕ) (f : Filling) (rest : Filling → Filling) → nat_le MOST_OPEN (length f.proposals) ≡ true
+      → rest f ≡ f
+      → going_on (if settled then Some f else if nat_le MOST_OPEN (length f.proposals) then None
+      else proposing k.ballot number f (choice k waiting learnt_to number f.proposals)) f rest ≡ f
+  passes true number f rest full same = same
+  passes false number f rest full same = rw full refl
+
+  -- such a window stays as it is
+  pub full_stays : (n number : ℕ) (f : Filling) → nat_le MOST_OPEN (length f.proposals) ≡ true
+      → filled k waiting learnt_to learnt n number f ≡ f
+  full_stays zero number f full = refl
+  full_stays (suc n) number f full =
+      passes (is_some (learnt number) || list_any (is_at number) f.proposals) number f
+      (λ g. filled k waiting learnt_to learnt n (number + 1) g) full (full_stays n (number + 1) f full)

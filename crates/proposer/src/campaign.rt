@@ -178,6 +178,10 @@ impl Campaign {
         let position = learner.prefix();
         let limit = self.window_limit(position);
         let mut sends = Vec::new(alloc);
+        // Where all places are taken nothing is opened, whatever is learnt.
+        if self.window.is_full() {
+            return Ok(sends);
+        }
         for number in position..limit {
             let slot = Slot::new(number).unwrap();
             let settled = self.is_settled(learner, slot);

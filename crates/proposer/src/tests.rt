@@ -235,17 +235,21 @@ fn slot(value: u32) -> Result<Slot, Fail> {
 }
 
 /// The promise that tells these votes.
-fn promise(round: u64, first: u32, last: u32, told: &[Told]) -> Result<Promise, Fail> {
-    let mut entries = Entries::new();
+fn promise(
+    alloc: Global,
+    round: u64,
+    first: u32,
+    last: u32,
+    told: &[Told],
+) -> Result<Promise, Fail> {
+    let mut entries = Entries::new(alloc);
     for (at, under, client, number) in told {
         let vote = Vote {
             slot: slot(*at)?,
             ballot: ballot(*under)?,
             command: Command::Request(request(*client, *number)?),
         };
-        if entries.try_push(Entry::new(vote)).is_err() {
-            return Err("entries".into());
-        }
+        entries.push(Entry::new(vote))?;
     }
     let promise = Promise::new(ballot(round)?, slot(first)?, slot(last)?, entries).ok_or(
         "promise",
@@ -298,7 +302,7 @@ fn made(alloc: Global, node: &mut Fixture, call: Call) -> Result<Vec<Outgoing>, 
         Call::Promise(from, round, first, last, told) => {
             let from = NodeId::new(from).ok_or("node")?;
             node.proposer
-                .on_promise(from, promise(round, first, last, told)?)?;
+                .on_promise(from, promise(alloc, round, first, last, told)?)?;
         }
         Call::Nack(refused, promised) => {
             let nack = Nack::new(ballot(refused)?, ballot(promised)?).ok_or("nack")?;

@@ -1,5 +1,5 @@
 -- A frame's bytes show the envelope that they spell, and no other.
-use Rattle.std.proofs.Common.{◌≡◌, ℕ, List, Result, Ok, sym, ap, subst}
+use Rattle.std.proofs.Common.{◌≡◌, ℕ, ◌<◌, List, Result, Ok, slice_set, sym, ap, subst}
 use Rattle.wire.specs.FrameReading.{frame_in}
 use Rattle.wire.specs.FrameSpelling.{IsFrame}
 use Rattle.wire.specs.declared.frames.envelope.Envelope.{Envelope}
@@ -15,3 +15,11 @@ shows bytes e frame =
 
 pub is_of_what_it_shows : (bytes : List ℕ) (e : Envelope) → IsFrame 7 bytes e → IsFrame 7 bytes (envelope_in bytes)
 is_of_what_it_shows bytes e frame = subst (λ (x : Envelope). IsFrame 7 bytes x) (sym (shows bytes e frame)) frame
+
+-- the byte at 5 names the receiver
+pub goes_to : (bytes : List ℕ) (e : Envelope) (to : ℕ) → to < 7 → IsFrame 7 bytes e →
+    IsFrame 7 (slice_set bytes 5 to) (record { from = e.from; to = to; message = e.message })
+goes_to bytes e to of_run frame = record {
+  fits = record { from = frame.fits.from; to = of_run; message = frame.fits.message };
+  spelled = ap (λ (l : List ℕ). slice_set l 5 to) frame.spelled;
+}

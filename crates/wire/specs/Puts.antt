@@ -1,5 +1,5 @@
--- What brings a sequence: memory is taken for its points, and for nothing else that is read.
-use Rattle.std.specs.Prelude.{◌⊎◌, ⊤, List, [], ◌∷◌}
+-- What is read into memory that is asked for: the points of a sequence, and the votes that a promise tells.
+use Rattle.std.specs.Prelude.{⊤, List, [], ◌∷◌}
 use Rattle.synod.specs.declared.vote.Vote.{Vote}
 use Rattle.store.specs.declared.op.Op.{Op}
 use Rattle.store.specs.declared.op.Op.TheVariants.{Put, Append, Remove}
@@ -17,15 +17,16 @@ abbrev pub CommandPuts : Command → Type 0
 CommandPuts NoOp = ⊥
 CommandPuts (Request r) = IsPut r.op
 
-abbrev pub SomePuts : List (Vote Command) → Type 0
-SomePuts [] = ⊥
-SomePuts (v ∷ vs) = CommandPuts v.command ⊎ SomePuts vs
+-- at least one vote is told
+abbrev pub SomeTold : List (Vote Command) → Type 0
+SomeTold [] = ⊥
+SomeTold (v ∷ vs) = ⊤
 
-abbrev pub MessagePuts : Message → Type 0
-MessagePuts (Prepare ballot first) = ⊥
-MessagePuts (Promise p) = SomePuts p.entries
-MessagePuts (Nack n) = ⊥
-MessagePuts (Accept v) = CommandPuts v.command
-MessagePuts (Accepted v) = CommandPuts v.command
-MessagePuts (Ask slot) = ⊥
-MessagePuts (Decided slot command) = CommandPuts command
+abbrev pub TakesMemory : Message → Type 0
+TakesMemory (Prepare ballot first) = ⊥
+TakesMemory (Promise p) = SomeTold p.entries
+TakesMemory (Nack n) = ⊥
+TakesMemory (Accept v) = CommandPuts v.command
+TakesMemory (Accepted v) = CommandPuts v.command
+TakesMemory (Ask slot) = ⊥
+TakesMemory (Decided slot command) = CommandPuts command

@@ -17,7 +17,6 @@ pub use node_set::NodeSet;
 pub use nodes::{NodeId, Nodes};
 
 // What the values above are made of.
-pub use arrayvec::ArrayVec;
 pub use sessions::{Command, MOST_PUT_POINTS, Number, Request, TooLong};
 pub use store::{Addition, Op};
 pub use synod::{Ballot, MOST_NODES, SLOTS, Slot, Vote};

@@ -84,10 +84,10 @@ impl Fleet {
             Step::Timeout(to) => self.give(alloc, to, Input::Timeout),
             Step::Tick(to) => self.give(alloc, to, Input::Tick),
             Step::Hear(to, from, said) => {
-                self.give(alloc, to, Input::Message(envelope(from, to, said)?))
+                self.give(alloc, to, Input::Message(envelope(alloc, from, to, said)?))
             }
             Step::Overhear(to, from, said) => {
-                self.give(alloc, to, Input::Message(envelope(from, from, said)?))
+                self.give(alloc, to, Input::Message(envelope(alloc, from, from, said)?))
             }
             Step::Deliver(at) => self.deliver(alloc, at),
             Step::Flush => self.flush(alloc),

@@ -1,6 +1,7 @@
 //! Messages that are written by hand, and not by a node.
 
 use sessions::{Command, Number, Request};
+use std::alloc::Global;
 use std::test::Fail;
 use store::Op;
 use synod::{Ballot, Slot, Vote};
@@ -75,17 +76,16 @@ fn vote(under: Under, at: u32, asked: Asked) -> Result<Vote<Command>, Fail> {
 }
 
 fn promise(
+    alloc: Global,
     under: Under,
     first: u32,
     last: u32,
     told: &[(u32, Under, Asked)],
 ) -> Result<Promise, Fail> {
-    let mut entries = Entries::new();
+    let mut entries = Entries::new(alloc);
     for (at, voted_under, asked) in told {
         let entry = Entry::new(vote(*voted_under, *at, *asked)?);
-        if entries.try_push(entry).is_err() {
-            return Err("entries".into());
-        }
+        entries.push(entry)?;
     }
     let promise = Promise::new(ballot(under)?, slot(first)?, slot(last)?, entries).ok_or(
         "promise",
@@ -93,14 +93,14 @@ fn promise(
     Ok(promise)
 }
 
-fn message(said: Said) -> Result<Message, Fail> {
+fn message(alloc: Global, said: Said) -> Result<Message, Fail> {
     match said {
         Said::Prepare(under, first) => Ok(Message::Prepare {
             ballot: ballot(under)?,
             first: slot(first)?,
         }),
         Said::Promise(under, first, last, told) => {
-            Ok(Message::Promise(promise(under, first, last, told)?))
+            Ok(Message::Promise(promise(alloc, under, first, last, told)?))
         }
         Said::Nack(refused, promised) => {
             let nack = Nack::new(ballot(refused)?, ballot(promised)?).ok_or("nack")?;
@@ -117,10 +117,10 @@ fn message(said: Said) -> Result<Message, Fail> {
 }
 
 /// What one node says to another.
-pub fn envelope(from: u8, to: u8, said: Said) -> Result<Envelope, Fail> {
+pub fn envelope(alloc: Global, from: u8, to: u8, said: Said) -> Result<Envelope, Fail> {
     Ok(Envelope {
         from: node(from)?,
         to: node(to)?,
-        message: message(said)?,
+        message: message(alloc, said)?,
     })
 }

@@ -2,7 +2,7 @@
 
 ghost use Rattle.std.specs.Prelude.{ℕ, List, [], ◌++◌, ◌≡◌, ◌≤◌, ◌<◌, Ok, IsOk, IfOk, IsErrOf};
 ghost use Rattle.synod.specs.Ballots.{rank};
-ghost use Rattle.wire.specs.Puts.{CommandPuts, MessagePuts};
+ghost use Rattle.wire.specs.Puts.{CommandPuts, TakesMemory};
 ghost use Rattle.wire.specs.Reading.{Gives, Tells, MayWant};
 ghost use Rattle.wire.specs.FrameReading.{version_at, kind_at, node_at, ends_at, Head, head_at};
 ghost use Rattle.wire.specs.FrameReading.{ballot_above, nack_at, vote_at, prepare_at, decided_at};
@@ -32,8 +32,8 @@ pub fn decode(alloc: Global, bytes: &[u8], nodes: Nodes) -> Result<Envelope, Wir
     ensures only { (e : Envelope) → IsFrame nodes bytes.now e → Gives (λ x. x) result (Ok e) }
     // Which fault it is.
     ensures exact { Gives (λ x. x) result (frame_in nodes bytes.now) }
-    // Memory is taken for the points of a sequence alone.
-    ensures in_place { (e : Envelope) → IsFrame nodes bytes.now e → ¬ MessagePuts e.message → IsOk result }
+    // Memory is taken for the points of a sequence and for the votes that a promise tells, and for nothing else.
+    ensures in_place { (e : Envelope) → IsFrame nodes bytes.now e → ¬ TakesMemory e.message → IsOk result }
 {
     let _count = nodes.count();
     read_frame(alloc, bytes, nodes)
@@ -42,7 +42,7 @@ pub fn decode(alloc: Global, bytes: &[u8], nodes: Nodes) -> Result<Envelope, Wir
 #[tactic(auto, unfolding(crate::specs::FrameReading::frame_in))]
 fn read_frame(alloc: Global, bytes: &[u8], nodes: Nodes) -> Result<Envelope, WireFault>
     ensures read { Gives (λ x. x) result (frame_in nodes bytes.now) }
-    ensures memory { IsErrOf result WireFault.Memory → MayWant (λ e. MessagePuts e.message) (frame_in nodes bytes.now) }
+    ensures memory { IsErrOf result WireFault.Memory → MayWant (λ e. TakesMemory e.message) (frame_in nodes bytes.now) }
 {
     if bytes.len() > LONGEST_FRAME {
         return Err(WireFault::Long);
@@ -59,7 +59,7 @@ fn read_frame(alloc: Global, bytes: &[u8], nodes: Nodes) -> Result<Envelope, Wir
 #[tactic(auto, unfolding(crate::specs::FrameReading::envelope_at))]
 fn read_envelope(alloc: Global, input: &mut Input, nodes: Nodes) -> Result<Envelope, WireFault>
     ensures read { Gives (λ x. (x, input.new)) result (envelope_at nodes input.old) }
-    ensures memory { IsErrOf result WireFault.Memory → MayWant (λ x. MessagePuts x.0.message) (envelope_at nodes input.old) }
+    ensures memory { IsErrOf result WireFault.Memory → MayWant (λ x. TakesMemory x.0.message) (envelope_at nodes input.old) }
 {
     let head = read_head(input, nodes)?;
     let message = read_message(alloc, head.kind, input, nodes)?;
@@ -144,7 +144,7 @@ fn read_message(
     nodes: Nodes,
 ) -> Result<Message, WireFault>
     ensures read { Gives (λ x. (x, input.new)) result (message_at kind nodes input.old) }
-    ensures memory { IsErrOf result WireFault.Memory → MayWant (λ x. MessagePuts x.0) (message_at kind nodes input.old) }
+    ensures memory { IsErrOf result WireFault.Memory → MayWant (λ x. TakesMemory x.0) (message_at kind nodes input.old) }
 {
     match kind {
         Kind::Prepare => read_prepare(input, nodes),
@@ -209,7 +209,7 @@ fn read_vote(alloc: Global, input: &mut Input, nodes: Nodes) -> Result<Vote<Comm
 #[tactic(auto, unfolding(crate::specs::FrameReading::decided_at))]
 fn read_decided(alloc: Global, input: &mut Input) -> Result<Message, WireFault>
     ensures read { Gives (λ x. (x, input.new)) result (decided_at input.old) }
-    ensures memory { IsErrOf result WireFault.Memory → MayWant (λ x. MessagePuts x.0) (decided_at input.old) }
+    ensures memory { IsErrOf result WireFault.Memory → MayWant (λ x. TakesMemory x.0) (decided_at input.old) }
 {
     let slot = read_slot(input)?;
     let command = read_command(alloc, input)?;

@@ -5,7 +5,7 @@ ghost use Rattle.std.specs.Prelude.{◌≡◌};
 use sessions::Command;
 use std::alloc::AllocError;
 use std::marker::Model;
-use synod::{Ballot, Slot, Vote};
+use synod::Vote;
 
 /// A vote that a promise tells.
 #[derive(Debug, Drop, PartialEq, Eq)]
@@ -54,18 +54,5 @@ impl Clone for Entry {
         Ok(Entry {
             vote: self.vote.clone()?,
         })
-    }
-}
-
-/// What fills the places of a list of entries in which none stands: the first ballot's no-op at the first slot.
-impl Default for Entry {
-    fn default() -> Entry {
-        Entry {
-            vote: Vote {
-                slot: Slot::first(),
-                ballot: Ballot { round: 1, node: 0 },
-                command: Command::NoOp,
-            },
-        }
     }
 }

@@ -6,10 +6,13 @@ ghost use Rattle.wire.specs.FrameSpelling.{IsFrame, Fits};
 use super::decoding::decode;
 use super::encoding::encode;
 use super::envelope::Envelope;
-use crate::Nodes;
+use crate::{NodeId, Nodes};
 use std::alloc::{AllocError, Global};
 use std::marker::Model;
 use synod::MOST_NODES;
+
+/// Where a frame names its receiver: behind how it begins, the version, the kind and the sender.
+const RECEIVER: usize = 5;
 
 /// The bytes of an envelope, which spell it among the nodes of the largest run. Contracts see the envelope.
 #[derive(Debug, Drop)]
@@ -35,6 +38,16 @@ impl Frame {
         ensures { IfOk result (λ frame. frame ≡ envelope.now) }
     {
         let bytes = encode(alloc, envelope)?;
+        Ok(Frame { bytes })
+    }
+
+    /// The frame that carries the same message from the same node to another.
+    pub fn to_node(&self, alloc: Global, to: NodeId) -> Result<Frame, AllocError>
+        ensures { IfOk result (λ frame. frame ≡ record self.now { to = to }) }
+    {
+        let mut bytes = Vec::with_capacity(alloc, self.bytes.len())?;
+        bytes.extend_from_slice(self.bytes.as_slice())?;
+        bytes[RECEIVER] = to.value();
         Ok(Frame { bytes })
     }
 

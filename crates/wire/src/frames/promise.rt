@@ -6,7 +6,6 @@ ghost use Rattle.wire.specs.Promises.{IsPromise, AreTold};
 ghost use Rattle.wire.specs.Same.{same_promised, same_promised_equiv};
 
 use super::entry::Entry;
-use arrayvec::ArrayVec;
 use std::alloc::AllocError;
 use std::marker::Model;
 use synod::{Ballot, Slot};
@@ -14,8 +13,9 @@ use synod::{Ballot, Slot};
 /// A promise tells at most this many votes, so that it fits into a frame.
 pub const MOST_ENTRIES: usize = 4;
 
-/// The votes that a promise tells. They lie in place.
-pub type Entries = ArrayVec<Entry, MOST_ENTRIES>;
+/// The votes that a promise tells. They lie apart, and no vote takes no memory: a message is handed on from call to call, so it
+/// has to be small.
+pub type Entries = Vec<Entry>;
 
 /// The ballot is promised, and these are the sender's votes at the slots from the first to the last.
 ///
@@ -39,8 +39,8 @@ impl Model for Promise {
 }
 
 impl Promise {
-    /// The promise that says this, or None where none may: the last slot is before the first, or an entry's slot is
-    /// not after the one before it, or is outside the two, or its ballot is above the promise's.
+    /// The promise that says this, or None where none may: the last slot is before the first, or the entries are too many,
+    /// or an entry's slot is not after the one before it, or is outside the two, or its ballot is above the promise's.
     pub fn new(ballot: Ballot, first: Slot, last: Slot, entries: Entries) -> Option<Promise>
         ensures valid { IsSome result
             ↔ IsPromise (record { ballot = ballot; first = first; last = last; entries = entries.items }) }
@@ -48,7 +48,7 @@ impl Promise {
             (λ p. p ≡ record { ballot = ballot; first = first; last = last; entries = entries.items }) }
     {
         let told = are_told(ballot, first.value(), last.value(), &entries);
-        if last < first || !told {
+        if last < first || entries.len() > MOST_ENTRIES || !told {
             return None;
         }
         Some(Promise {
@@ -119,7 +119,7 @@ impl Clone for Promise {
             ballot: self.ballot,
             first: self.first,
             last: self.last,
-            entries: copied(&self.entries)?,
+            entries: self.entries.clone()?,
         })
     }
 }
@@ -156,15 +156,4 @@ fn are_told(ballot: Ballot, from: u32, last: u32, entries: &[Entry]) -> bool
             from <= slot && slot <= last && vote.ballot <= ballot && others
         }
     }
-}
-
-/// Copies of the entries.
-fn copied(entries: &Entries) -> Result<Entries, AllocError>
-    ensures { IfOk result (λ copy. copy.items ≡ entries.now.items) }
-{
-    let mut copies = ArrayVec::new();
-    for entry in entries.as_slice() {
-        copies.push(entry.clone()?);
-    }
-    Ok(copies)
 }

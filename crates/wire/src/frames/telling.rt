@@ -2,7 +2,7 @@
 
 ghost use Rattle.std.specs.Prelude.{◌≡◌, ◌+◌, ◌≤◌, length, IfOk, IsErrOf};
 ghost use Rattle.wire.specs.Promises.{AreTold};
-ghost use Rattle.wire.specs.Puts.{CommandPuts, SomePuts};
+ghost use Rattle.wire.specs.Puts.{CommandPuts, SomeTold};
 ghost use Rattle.wire.specs.Reading.{Gives, Tells, MayWant};
 ghost use Rattle.wire.specs.FrameReading.{range_at, few_at, slot_within, ballot_up_to, entry_at, entries_at};
 ghost use Rattle.wire.specs.FrameReading.{told_at, promise_at};
@@ -13,7 +13,6 @@ use super::input::Input;
 use super::promise::{Entries, MOST_ENTRIES, Promise};
 use super::reading::{read_ballot, read_command, read_slot};
 use crate::Nodes;
-use arrayvec::ArrayVec;
 use sessions::Command;
 use std::alloc::Global;
 use synod::{Ballot, Slot, Vote};
@@ -26,7 +25,7 @@ pub(super) fn read_promise(
     nodes: Nodes,
 ) -> Result<Promise, WireFault>
     ensures read { Gives (λ x. (x, input.new)) result (promise_at nodes input.old) }
-    ensures memory { IsErrOf result WireFault.Memory → MayWant (λ x. SomePuts x.0.entries) (promise_at nodes input.old) }
+    ensures memory { IsErrOf result WireFault.Memory → MayWant (λ x. SomeTold x.0.entries) (promise_at nodes input.old) }
 {
     let ballot = read_ballot(input, nodes)?;
     let (first, last) = read_range(input)?;
@@ -62,7 +61,7 @@ fn read_told(
     ensures told { IfOk result (λ entries. AreTold ballot first last entries.items) }
     ensures read { Gives (λ x. (x.items, input.new)) result (told_at nodes ballot (first, last) input.old) }
     ensures memory { IsErrOf result WireFault.Memory
-        → MayWant (λ x. SomePuts x.0) (told_at nodes ballot (first, last) input.old) }
+        → MayWant (λ x. SomeTold x.0) (told_at nodes ballot (first, last) input.old) }
 {
     let count = read_few(input)?;
     read_entries(alloc, input, nodes, ballot, first, last, count)
@@ -81,7 +80,7 @@ fn read_few(input: &mut Input) -> Result<u8, WireFault>
     Ok(count)
 }
 
-/// So many entries, slots ascending.
+/// So many entries, slots ascending. Memory for them is asked once, and not where there are none.
 fn read_entries(
     alloc: Global,
     input: &mut Input,
@@ -94,14 +93,14 @@ fn read_entries(
     requires { count ≤ MOST_ENTRIES }
     ensures read { Gives (λ x. (x.items, input.new)) result (entries_at nodes ballot last count first input.old) }
     ensures memory { IsErrOf result WireFault.Memory
-        → MayWant (λ x. SomePuts x.0) (entries_at nodes ballot last count first input.old) }
+        → MayWant (λ x. SomeTold x.0) (entries_at nodes ballot last count first input.old) }
 {
-    let mut entries = ArrayVec::new();
+    let mut entries = Vec::with_capacity(alloc, usize::from(count))?;
     let mut from = first.value();
     for _ in 0..count {
         let vote = read_entry(alloc, input, nodes, ballot, from, last)?;
         from = after(vote.slot);
-        entries.push(Entry::new(vote));
+        entries.push(Entry::new(vote))?;
     }
     Ok(entries)
 }

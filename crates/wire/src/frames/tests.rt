@@ -3,7 +3,6 @@
 
 use super::{Entry, Envelope, LONGEST_FRAME, Message, Nack, Promise, WireFault, decode, encode};
 use crate::{NodeId, Nodes};
-use arrayvec::ArrayVec;
 use sessions::{Command, MOST_PUT_POINTS, Number, Request};
 use std::alloc::Global;
 use std::test::Fail;
@@ -190,14 +189,14 @@ fn largest(alloc: Global) -> Result<Command, Fail> {
 #[test]
 fn largest_frames(rt: HostRuntime) -> Result<(), Fail> {
     let ballot = Ballot::new(1, 0).ok_or("ballot")?;
-    let mut entries = ArrayVec::new();
+    let mut entries = Vec::new(rt.alloc());
     for slot in 0..4 {
         let vote = Vote {
             slot: Slot::new(slot).ok_or("slot")?,
             ballot,
             command: largest(rt.alloc())?,
         };
-        let _ = entries.try_push(Entry::new(vote));
+        entries.push(Entry::new(vote))?;
     }
     let last = Slot::new(3).ok_or("slot")?;
     let promise = Promise::new(ballot, Slot::first(), last, entries).ok_or("promise")?;
@@ -239,7 +238,7 @@ fn refusals_and_promises(rt: HostRuntime) -> Result<(), Fail> {
     assert_eq!(rt; nack.promised(), high);
     let first = Slot::first();
     let last = Slot::new(1).ok_or("slot")?;
-    assert!(rt; Promise::new(low, last, first, ArrayVec::new()).is_none());
+    assert!(rt; Promise::new(low, last, first, Vec::new(rt.alloc())).is_none());
     Ok(())
 }
 

@@ -6,8 +6,8 @@ use Rattle.benchmarks.proofs.messages.entries.Goals as goal
 
 pub loop-number-init : goal.loop-number-init
 loop-number-init c = record {
-  votes = c.new-entries.ensures ∙ votes_none c.args.scene.now;
-  size = rw c.new-entries.ensures refl;
+  votes = c.new-entries.ensures.items ∙ votes_none c.args.scene.now;
+  size = rw c.new-entries.ensures.items refl;
 }
 
 pub loop-number-preserved : goal.loop-number-preserved
@@ -20,7 +20,7 @@ loop-number-preserved c =
     c.new-in-loop-number.ensures ∙ c.in_ok-vote.ensures ∙ ap (λ (n : ℕ). vote_of n c.in_ok-put.field-0) slot
     ∙ ap (λ op. vote_of k op) c.in_ok-put.ensures in
     record {
-      votes = c.push.ensures.items ∙ ap (λ v. c.loop-number.entries.items ++ v ∷ []) entry
+      votes = c.in_ok-push.ensures.items ∙ ap (λ v. c.loop-number.entries.items ++ v ∷ []) entry
           ∙ ap (λ vs. vs ++ vote_of k put ∷ []) c.loop-number.invariant.votes ∙ votes_more s k;
-      size = omega (arith, c.push.ensures.len, c.loop-number.invariant.size);
+      size = omega (arith, c.in_ok-push.ensures.len, c.loop-number.invariant.size);
     }

@@ -9,7 +9,7 @@ use Rattle.acceptor.proofs.RangeLemmas.{vote_in, none_in_log, one_more_in_log, n
 use Rattle.acceptor.proofs.votes.Votes.promise.Goals as goal
 
 pub loop-slot-init : goal.loop-slot-init
-loop-slot-init c = (search rules, search rules, subst (λ (l : List (Vote Command)). (v : Vote Command) → Contains l v → v.slot < 65536) (sym c.new-entries.ensures) none_in_log)
+loop-slot-init c = (search rules, search rules, subst (λ (l : List (Vote Command)). (v : Vote Command) → Contains l v → v.slot < 65536) (sym c.new-entries.ensures.items) none_in_log)
 
 pub loop-slot-preserved : goal.loop-slot-preserved
 loop-slot-preserved c =
@@ -17,9 +17,9 @@ loop-slot-preserved c =
     let entry : c.new-in-loop-slot.result ≡ vote_in e = search rules in
     let steps : c.loop-slot.slot-iterator ≡ e ∷ c.next.new.self = search rules in
     let bound : c.in-Some.slot.now < 65536 = search rules in (
-      next_taken c.loop-slot.entries.items _ _ e _ _ _ c.push.ensures.items entry steps c.loop-slot.invariant.0,
+      next_taken c.loop-slot.entries.items _ _ e _ _ _ c.in_ok-push.ensures.items entry steps c.loop-slot.invariant.0,
       search rules,
-      one_more_in_log c.loop-slot.entries.items _ _ c.push.ensures.items c.loop-slot.invariant.2 (subst (λ (v : Vote Command). v.slot < 65536) (sym entry) bound),
+      one_more_in_log c.loop-slot.entries.items _ _ c.in_ok-push.ensures.items c.loop-slot.invariant.2 (subst (λ (v : Vote Command). v.slot < 65536) (sym entry) bound),
     )
 
 -- the fifth vote has others before it

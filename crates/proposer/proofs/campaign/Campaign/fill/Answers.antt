@@ -1,10 +1,21 @@
-use Rattle.std.proofs.Common.{rules, ◌≡◌, ◌∙◌, true, false, is_some, ◌||◌, ap}
+use Rattle.std.proofs.Common.{rules, ◌≡◌, ◌-◌, ◌∙◌, true, false, is_some, ◌||◌, ap, sym, nat_le, length, []}
 use Rattle.std.specs.List.{list_any}
-use Rattle.learner.specs.Learning.{learnt_at}
+use Rattle.learner.specs.Learning.{learnt_at, prefix}
 use Rattle.learner.specs.State.{learning_of}
-use Rattle.proposer.specs.Campaigning.{Campaigning, Filling, is_at}
-use Rattle.proposer.proofs.Windows.{goes_on, stops}
+use Rattle.proposer.specs.Campaigning.{Campaigning, Filling, is_at, window_limit}
+use Rattle.proposer.specs.declared.window.TheConstants.{MOST_OPEN}
+use Rattle.proposer.proofs.Windows.{full_stays, goes_on, stops}
 use Rattle.proposer.proofs.campaign.Campaign.fill.Goals as goal
+
+-- nothing is opened where all places are taken
+pub returns-then-is_full-clause-filled : goal.returns-then-is_full-clause-filled
+returns-then-is_full-clause-filled c =
+    let k = c.args.self.now in
+    let l = learning_of c.args.learner.now in
+    let f : Filling = record { proposals = k.proposals; sent = [] } in
+    let full : nat_le MOST_OPEN (length k.proposals) ≡ true = search rules in
+    ap (λ sent'. record { proposals = k.proposals; sent = sent' }) c.new-sends.ensures.items
+    ∙ sym (full_stays k c.args.waiting.now c.args.learnt_to (learnt_at l) (window_limit (prefix l) k.end - prefix l) (prefix l) f full)
 
 pub returns-then-not-goes_on-clause-filled : goal.returns-then-not-goes_on-clause-filled
 returns-then-not-goes_on-clause-filled c =

@@ -1,4 +1,4 @@
-use Rattle.std.proofs.Common.{rules}
+use Rattle.std.proofs.Common.{rules, arith}
 use Rattle.std.proofs.lemmas.Result.{err_from_is_err_and}
 use Rattle.wire.specs.FrameReading.{entries_at}
 use Rattle.wire.proofs.EntryLemmas.{entries_go_on, entries_end, entries_done}
@@ -8,25 +8,35 @@ use Rattle.wire.proofs.frames.telling.read_entries.Goals as goal
 -- an entry could not be read
 pub returns-in_err-vote-clause-read : goal.returns-in_err-vote-clause-read
 returns-in_err-vote-clause-read c =
-    let p = err_from_is_err_and c.from_residual.result c.from_residual.ensures.1 in
+    let p = err_from_is_err_and c.from_residual-in_err-vote.result c.from_residual-in_err-vote.ensures.1 in
     rw (p.1, p.2) (entries_end c.args.nodes c.args.ballot c.args.last c.in_err-vote.field-0.0 c.loop.entries.items c.args.count c.loop.counter c.loop.from c.loop.input (entries_at c.args.nodes c.args.ballot c.args.last c.args.count c.args.first c.args.input.now) c.loop-test.true c.in_err-vote.ensures.read c.loop.invariant.so_far)
 
 pub returns-in_err-vote-clause-memory : goal.returns-in_err-vote-clause-memory
 returns-in_err-vote-clause-memory c = λ wanted.
-    entries_want c.args.nodes c.args.ballot c.args.last c.loop.entries.items c.args.count c.loop.counter c.loop.from c.loop.input
-    (entries_at c.args.nodes c.args.ballot c.args.last c.args.count c.args.first c.args.input.now) c.loop-test.true
-    (c.in_err-vote.ensures.memory (search rules)) c.loop.invariant.so_far
+    entries_want c.args.nodes c.args.ballot c.args.last c.args.count c.args.first c.args.input.now
+    (λ none. omega (arith, none, c.loop-test.true))
+
+-- no room for the entries
+pub returns-in_err-entries-clause-memory : goal.returns-in_err-entries-clause-memory
+returns-in_err-entries-clause-memory c = λ wanted.
+    entries_want c.args.nodes c.args.ballot c.args.last c.args.count c.args.first c.args.input.now
+    (λ none. let ok = c.with_capacity.ensures.succeeds (search (rules, none)) in search rules)
+
+pub returns-in_err-push-clause-memory : goal.returns-in_err-push-clause-memory
+returns-in_err-push-clause-memory c = λ wanted.
+    entries_want c.args.nodes c.args.ballot c.args.last c.args.count c.args.first c.args.input.now
+    (λ none. omega (arith, none, c.loop-test.true))
 
 -- one entry more
 pub loop-preserved : goal.loop-preserved
 loop-preserved c = record {
   so_far =
-      rw (c.push.ensures.items, c.new.ensures, c.after-from.ensures)
+      rw (c.in_ok-push.ensures.items, c.new.ensures, c.after-from.ensures)
       (entries_go_on c.args.nodes c.args.ballot c.args.last c.loop.entries.items c.args.count c.loop.counter c.loop.from
       c.loop.input c.in_ok-vote.vote c.read_entry.new.input
       (entries_at c.args.nodes c.args.ballot c.args.last c.args.count c.args.first c.args.input.now) c.loop-test.true
       c.in_ok-vote.ensures.read c.loop.invariant.so_far);
-  counted = search (rules, c.push.ensures.len, c.loop.invariant.counted);
+  counted = search (rules, c.in_ok-push.ensures.len, c.loop.invariant.counted);
 }
 
 -- all of them
