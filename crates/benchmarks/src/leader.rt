@@ -116,5 +116,11 @@ fn campaign(
 fn promise(alloc: Global) -> Promise
     ensures { result ≡ first_promise }
 {
-    Promise::new(first_ballot(), Slot::first(), Slot::last(), Entries::new(alloc)).unwrap()
+    Promise::new(
+        first_ballot(),
+        Slot::first(),
+        Slot::last(),
+        Entries::new(alloc),
+    )
+    .unwrap()
 }

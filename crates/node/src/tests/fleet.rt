@@ -87,7 +87,11 @@ impl Fleet {
                 self.give(alloc, to, Input::Message(envelope(alloc, from, to, said)?))
             }
             Step::Overhear(to, from, said) => {
-                self.give(alloc, to, Input::Message(envelope(alloc, from, from, said)?))
+                self.give(
+                    alloc,
+                    to,
+                    Input::Message(envelope(alloc, from, from, said)?),
+                )
             }
             Step::Deliver(at) => self.deliver(alloc, at),
             Step::Flush => self.flush(alloc),
