@@ -8,7 +8,7 @@ ghost use Rattle.mfjson.specs.Document.{IsCanonical, IsDocumentOf, IsDocumentOfN
 ghost use Rattle.mfjson.specs.Texts.{Continues, Lists, IsWrittenAfter, position_text};
 
 use crate::{Feature, datetime_text};
-use spelling::{LONGEST_WHOLE, write_byte, write_text, write_whole};
+use backward::{LONGEST_WHOLE, write_byte, write_text, write_whole};
 use std::alloc::{AllocError, Global};
 use tpoint::{Instant, Point};
 

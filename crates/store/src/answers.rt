@@ -9,11 +9,11 @@ ghost use Rattle.store.specs.Answers.{AreIdsOf, value_text, fix_text, part_text,
 ghost use Rattle.store.specs.Indexed.{IsKept};
 
 use crate::line::{LONGEST_FIX, write_fix, write_place};
+use backward::write_text;
 use itoa::Buffer;
 use mfjson::Feature;
 use predicates::{Tri, always, ever};
 use restrict::cut;
-use spelling::write_text;
 use std::alloc::{AllocError, Global};
 use timeindex::TimeIndex;
 use tpoint::{Frac, Id, Instant, Interp, Period, Rect};
