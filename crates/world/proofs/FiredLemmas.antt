@@ -28,8 +28,11 @@ use Rattle.node.specs.Nodes.{NodeState, NodeSteps, TakesInput, RefusesInput, Sto
 use Rattle.node.specs.Outputs.{Response}
 use Rattle.world.specs.Reaching.{AreHonest}
 use Rattle.world.specs.Safety.{honest_inside}
-use Rattle.world.specs.Worlds.{WorldState, run_of, TakesAt, ReceivesAt, DeliversFrame, Steps, recorded, with_node, with_submission, answered, without_wait}
+use Rattle.world.specs.Worlds.{WorldState, run_of, TakesAt, ReceivesAt, DeliversFrame, Steps, recorded, with_node, with_outcome, with_submission, answered, without_wait}
+use Rattle.world.specs.Rounds.{RoundEnds, IsPartOfRound}
+use Rattle.world.specs.declared.round_end.RoundEnd.{RoundEnd}
 use Rattle.world.proofs.FleetSteps.{set_at}
+use Rattle.world.proofs.RoundLemmas.{call_keeps}
 
 -- ---- one call of a storage
 -- no armed fault came, or one
@@ -136,6 +139,10 @@ module _ {S : Type 0} where
       → ((answered w node query r).nodes ≡ w.nodes) × (outcome_count (answered w node query r) ≡ outcome_count w + 1)
   answered_same w node query (Ok told) = (refl, length-append w.outcomes (_ ∷ []))
   answered_same w node query (Err f) = (refl, length-append w.outcomes (_ ∷ []))
+
+  -- an outcome more is told
+  pub told_few : (w : WorldState S) (o : Outcome) → HasFewFaults w → HasFewFaults (with_outcome w o)
+  told_few w o few = kept w (with_outcome w o) (changed_none w (with_outcome w o) refl (length-append w.outcomes (o ∷ []))) few
 
 abbrev failed_with : NodeFault → Result (Unit {0}) NodeFault
 failed_with f = Err f
@@ -263,6 +270,16 @@ module _ {S : Type 0} (storages : Ghosts S) where
   step_keeps_few old new e (Ok x) steps same few =
       step_few (script_counts storages) old new e steps few
   step_keeps_few old new e (Err f) steps same few = subst (λ (w : WorldState S). HasFewFaults w) (sym same) few
+
+  -- a round, whatever comes of it
+  pub round_keeps_few : (old new : WorldState S) (node : ℕ) (members : List ℕ) (result : Result RoundEnd WorldFault)
+      → IfOk result (λ end. RoundEnds (scripted storages) old node members end new)
+      → (IsErrOf result world_fault.NoSuchNode → new ≡ old)
+      → (IsErrOf result world_fault.Memory → IsPartOfRound (scripted storages) old node members new)
+      → IfErr result (λ f. (f ≡ world_fault.NoSuchNode) ⊎ (f ≡ world_fault.Memory)) → HasFewFaults old → HasFewFaults new
+  round_keeps_few old new node members result ends unchanged part faults few =
+      call_keeps (scripted storages) (λ w. HasFewFaults w) (λ w e x steps. step_few (script_counts storages) w x e steps) told_few
+      old node members few new result ends unchanged part faults
 
   -- a flush, to its end or to a fault
   abbrev Delivered : WorldState S → ℕ → WorldState S → Type 0

@@ -22,9 +22,12 @@ pub mod Validity
 pub mod InLog
 pub mod OneAnswer
 pub mod TallyLemmas
--- the start, and deliveries one after the other
+-- the start, deliveries one after the other, and rounds
 pub mod StartLemmas
 pub mod FlushLemmas
+pub mod RoundMembers
+pub mod RoundBeginnings
+pub mod RoundLemmas
 pub mod FiredLemmas
 -- all of it, for the public calls
 pub mod SoundSteps

@@ -1,5 +1,5 @@
 -- A sound world stays sound, and what is sound is safe.
-use Rattle.std.proofs.Common.{◌≡◌, ℕ, List, Option, Some, None, IsSome, refl, sym, ap, subst, ◌∙◌}
+use Rattle.std.proofs.Common.{◌≡◌, ◌⊎◌, ℕ, List, Option, Some, None, IsSome, Result, IfOk, IfErr, IsErrOf, refl, sym, ap, subst, ◌∙◌}
 use Rattle.stable.specs.Records.{Records}
 use Rattle.stable.specs.Script.{Script}
 use Rattle.stable.specs.declared.scripted.Failing.{Failing}
@@ -15,7 +15,13 @@ use Rattle.node.specs.Minds.{Mind}
 use Rattle.node.specs.Nodes.{NodeState}
 use Rattle.world.specs.Reaching.{AreHonest}
 use Rattle.world.specs.Safety.{HasAgreed, IsSafe, IsSound, IsSoundIfHonest}
-use Rattle.world.specs.Worlds.{WorldState, Steps, ReceivesAt, without_wait}
+use Rattle.world.specs.Worlds.{WorldState, Steps, ReceivesAt, with_outcome, without_wait}
+use Rattle.world.specs.declared.fault.WorldFault.{WorldFault}
+use Rattle.world.specs.declared.fault.WorldFault.TheVariants as fault
+use Rattle.world.specs.declared.lists.Outcome.{Outcome}
+use Rattle.world.specs.declared.round_end.RoundEnd.{RoundEnd}
+use Rattle.world.specs.Rounds.{RoundEnds, IsPartOfRound}
+use Rattle.world.proofs.RoundLemmas.{call_keeps}
 use Rattle.world.proofs.Explained.{explained}
 use Rattle.world.proofs.FleetSteps.{step_fleet}
 use Rattle.world.proofs.InLog.{start_in_log, step_in_log}
@@ -104,11 +110,41 @@ module _ {S : Type 0} {storages : Ghosts (Script S)} (laws : IsLawful storages)
     };
   }
 
-  -- ---- deliveries one after the other
   record Kept (w : WorldState S) : Type 0 where
     fleet : IsFleet w.nodes w.frames
     sound : IsSoundIfHonest storages.contents storages.IsHonest w
 
+  -- ---- an outcome more is told
+  pub told_sound : (w : WorldState S) (o : Outcome) → IsSoundIfHonest storages.contents storages.IsHonest w
+      → IsSoundIfHonest storages.contents storages.IsHonest (with_outcome w o)
+  told_sound w o h = record {
+    sound = λ honest.
+        let was = h.sound honest in
+        record { allowed = was.allowed; tells = was.tells; in_log = was.in_log; valid = was.valid };
+  }
+
+  -- ---- a round, whatever comes of it
+  step_keeps : (old : WorldState S) (e : Event) (new : WorldState S) → Steps storages old e new → Kept old → Kept new
+  step_keeps old e new h kept = record {
+    fleet = step_fleet storages old e new h kept.fleet;
+    sound = step_sound old e new h kept.fleet kept.sound;
+  }
+
+  told_keeps : (w : WorldState S) (o : Outcome) → Kept w → Kept (with_outcome w o)
+  told_keeps w o kept = record { fleet = kept.fleet; sound = told_sound w o kept.sound }
+
+  pub round_sound : (old new : WorldState S) (node : ℕ) (members : List ℕ) (result : Result RoundEnd WorldFault)
+      → IfOk result (λ end. RoundEnds storages old node members end new)
+      → (IsErrOf result fault.NoSuchNode → new ≡ old)
+      → (IsErrOf result fault.Memory → IsPartOfRound storages old node members new)
+      → IfErr result (λ f. (f ≡ fault.NoSuchNode) ⊎ (f ≡ fault.Memory))
+      → IsFleet old.nodes old.frames → IsSoundIfHonest storages.contents storages.IsHonest old
+      → IsSoundIfHonest storages.contents storages.IsHonest new
+  round_sound old new node members result ends unchanged part faults fleet sound =
+      (call_keeps storages (λ w. Kept w) step_keeps told_keeps old node members (record { fleet = fleet; sound = sound })
+      new result ends unchanged part faults).sound
+
+  -- ---- deliveries one after the other
   delivers_kept : (old : WorldState S) (n : ℕ) (new : WorldState S) → Delivers storages old n new → Kept old → Kept new
   delivers_kept old _ new Delivers.none kept = kept
   delivers_kept old _ new (Delivers.more n k between new_ before lowest delivers) kept =

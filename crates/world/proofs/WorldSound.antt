@@ -1,5 +1,5 @@
 -- The world's calls keep it sound.
-use Rattle.std.proofs.Common.{◌≡◌, ◌⊎◌, ℕ, inl, inr, Result, Ok, Err, OnOk, OnErr, IfOk, IfErr, IsErrOf, refl, sym, ap, subst}
+use Rattle.std.proofs.Common.{◌≡◌, ◌⊎◌, ℕ, List, inl, inr, Result, Ok, Err, OnOk, OnErr, IfOk, IfErr, IsErrOf, refl, sym, ap, subst}
 use mathlib.Core.Logic.{∥∥₁_map}
 use Rattle.stable.specs.Records.{Records}
 use Rattle.stable.specs.Script.{Script}
@@ -20,7 +20,9 @@ use Rattle.world.specs.Staying.{StaysSafe}
 use Rattle.world.specs.Worlds.{WorldState, run_of, Steps}
 use Rattle.world.proofs.FiredLemmas.{honest_outside}
 use Rattle.world.proofs.ListedPuts.{script_puts}
-use Rattle.world.proofs.SoundSteps.{start_sound, safe_if_honest, step_sound, delivers_sound}
+use Rattle.world.specs.Rounds.{RoundEnds, IsPartOfRound}
+use Rattle.world.specs.declared.round_end.RoundEnd.{RoundEnd}
+use Rattle.world.proofs.SoundSteps.{start_sound, safe_if_honest, step_sound, delivers_sound, round_sound}
 
 abbrev failed : WorldFault → Result ℕ WorldFault
 failed f = Err f
@@ -87,3 +89,14 @@ module _ {S : Type 0} (storages : Ghosts S) (laws : IsLawful storages) where
       → (IsErrOf result fault.Memory → DeliversSome (scripted storages) old MOST_DELIVERIES new)
       → IfErr result (λ f. (f ≡ fault.FlushLimit) ⊎ (f ≡ fault.Memory)) → IsFleet old.nodes old.frames → ∥ Sound old ∥₁ → ∥ Sound new ∥₁
   flush_kept old new result done limit memory faults fleet sound = ∥∥₁_map sound (flushed old new result done limit memory faults fleet)
+
+  -- a round, whatever comes of it
+  pub round_kept : (old new : WorldState S) (node : ℕ) (members : List ℕ) (result : Result RoundEnd WorldFault)
+      → IfOk result (λ end. RoundEnds (scripted storages) old node members end new)
+      → (IsErrOf result fault.NoSuchNode → new ≡ old)
+      → (IsErrOf result fault.Memory → IsPartOfRound (scripted storages) old node members new)
+      → IfErr result (λ f. (f ≡ fault.NoSuchNode) ⊎ (f ≡ fault.Memory))
+      → IsFleet old.nodes old.frames → ∥ Sound old ∥₁ → ∥ Sound new ∥₁
+  round_kept old new node members result ends unchanged part faults fleet sound =
+      ∥∥₁_map sound (round_sound (scripted_laws laws) (λ s f h. h) (λ s f. refl) (script_puts storages laws)
+      old new node members result ends unchanged part faults fleet)

@@ -7,6 +7,7 @@ pub mod Flushing
 pub mod Outputs
 pub mod Protocol
 pub mod Reaching
+pub mod Rounds
 pub mod Safety
 pub mod Seen
 pub mod Staying

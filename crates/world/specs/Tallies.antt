@@ -4,7 +4,7 @@ use Rattle.stable.specs.Script.{Script}
 use Rattle.stable.specs.declared.stable.Stable.{Ghosts}
 use Rattle.world.specs.declared.event.Event.{Event}
 use Rattle.world.specs.declared.lists.Outcome.{Outcome}
-use Rattle.world.specs.declared.lists.Outcome.TheVariants.{Done, Answered, Lost, Refused, Stopped}
+use Rattle.world.specs.declared.lists.Outcome.TheVariants.{Done, Answered, Lost, Refused, Stopped, Round}
 use Rattle.world.specs.Flushing.{IsStart}
 use Rattle.world.specs.Worlds.{WorldState, Steps}
 
@@ -15,6 +15,7 @@ learnt_told Answered = 0
 learnt_told Lost = 0
 learnt_told (Refused node f) = 0
 learnt_told (Stopped node f) = 0
+learnt_told (Round node end) = 0
 
 -- how many requests that waited have their reply
 abbrev pub replies_told : Outcome → ℕ
@@ -23,6 +24,7 @@ replies_told Answered = 0
 replies_told Lost = 0
 replies_told (Refused node f) = 0
 replies_told (Stopped node f) = 0
+replies_told (Round node end) = 0
 
 -- how many queries were answered
 abbrev pub answers_told : Outcome → ℕ
@@ -31,6 +33,7 @@ answers_told Answered = 1
 answers_told Lost = 0
 answers_told (Refused node f) = 0
 answers_told (Stopped node f) = 0
+answers_told (Round node end) = 0
 
 -- as many entries as the outcomes tell of
 pub record IsTallied {S : Type 0} (w : WorldState S) : Type 0 where

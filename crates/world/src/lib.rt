@@ -8,6 +8,8 @@ mod flags;
 mod laws;
 mod lists;
 mod log;
+mod round_end;
+mod rounds;
 mod run;
 mod start;
 #[cfg(test)]
@@ -21,4 +23,5 @@ pub use laws::{answers_are_one, lists_are_as_told};
 pub use lists::{Answered, Learnt, Outcome, Replied, Submission};
 pub use log::MOST_DELIVERIES;
 pub use node::{NodeFault, Text};
+pub use round_end::RoundEnd;
 pub use world::World;

@@ -1,5 +1,6 @@
 //! What a world remembers of its run.
 
+use super::round_end::RoundEnd;
 use node::{NodeFault, Text};
 use sessions::{Command, Number};
 use store::{Op, Query};
@@ -55,4 +56,6 @@ pub enum Outcome {
     Refused(NodeId, NodeFault),
     /// The node went down.
     Stopped(NodeId, NodeFault),
+    /// A round of the node by hand is over. Its steps have their outcomes before it.
+    Round(NodeId, RoundEnd),
 }

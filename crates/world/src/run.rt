@@ -2,7 +2,10 @@
 
 ghost use Rattle.std.specs.Prelude.{◌≡◌, ◌≤◌, ◌<◌, ◌+◌, ◌++◌, ◌∷◌, [], ◌↔◌, ℕ, true, length, vec_len, vec_capacity, Some, None, IsNone, OnOk, OnErr, IsOk, IsErrOf, ◌⊎◌, Bool, IfOk, IfErr, IfSome, IsTrue, is_ok, slice_get, MatchBool, MatchOption, All, map};
 ghost use Rattle.store.specs.Operations.{IsSound};
+ghost use Rattle.node.specs.Faults.{is_stop_fault};
 ghost use Rattle.node.specs.Nodes.{state_of};
+ghost use Rattle.node.specs.declared.input.Input.TheVariants as input;
+ghost use Rattle.world.specs.declared.lists.Outcome.TheVariants as outcome;
 ghost use Rattle.node.specs.Outputs.{IsFew};
 ghost use Rattle.node.specs.Sending.{IsBetween};
 ghost use Rattle.world.specs.Fleets.{IsFleet};
@@ -15,12 +18,14 @@ use super::fault::WorldFault;
 use super::flags::first_set;
 use super::lists::{Answered, Learnt, Outcome, Replied, Submission};
 use super::log::MOST_DELIVERIES;
+use super::round_end::RoundEnd;
 use super::start::start_nodes;
 use node::{Executed, Input, LogEntry, MOST_SENDS, MOST_WAITING, Node, NodeFault, Outputs, Text};
 use sessions::Number;
 use stable::{Failing, MemStable, Put, Scripted, Stable};
 use std::alloc::Global;
 use store::{Op, Query};
+use synod::Slot;
 use wire::{Envelope, Frame, NodeId, Nodes};
 
 /// All nodes of a run, over storages of one kind.
@@ -70,6 +75,7 @@ impl<S: Stable> Run<S> {
     ghost use Rattle.world.specs.Worlds.{run_of, with_response, with_outcome, outcome_of, TakesAt, SubmitsAt, ArmsAt, AsksAt, ReceivesAt, DeliversFrame, RestartsAt, Steps, with_answer, quiet, without_wait, HasRoom};
     ghost use Rattle.world.specs.Events.{NamesNoFrame, NamesNoNode};
     ghost use Rattle.world.specs.Flushing.{Delivers, DeliversSome};
+    ghost use Rattle.world.specs.Rounds.{is_up, IsAt, RefusesToBegin, FailsToBegin};
 
     /// The requests that nodes took.
     pub fn submitted(&self) -> &[Submission]
@@ -121,6 +127,69 @@ impl<S: Stable> Run<S> {
     {
         let at = self.nodes.get(usize::from(node.value()))?;
         Some(at.writes())
+    }
+
+    /// How many nodes there are.
+    pub fn count(&self) -> u8
+        ensures { result ≡ length (run_of self.now).nodes }
+    {
+        self.nodes.len() as u8
+    }
+
+    /// Whether the node is there, and up.
+    pub fn is_up(&self, node: NodeId) -> bool
+        ensures { result ≡ is_up (run_of self.now) node }
+    {
+        match self.nodes.get(usize::from(node.value())) {
+            Some(at) => at.is_up(),
+            None => false,
+        }
+    }
+
+    /// The slot at which a node stands that is up; None where its log is full, so that it begins no campaign.
+    pub fn slot_of(&self, node: NodeId) -> Option<Slot>
+        requires there { node < vec_len self.now.nodes }
+        requires up { is_up (run_of self.now) node ≡ true }
+        ensures { MatchOption result (RefusesToBegin (run_of self.now) node NodeFault.LogFull) (IsAt (run_of self.now) node) }
+    {
+        let at = &self.nodes[usize::from(node.value())];
+        Slot::new(at.position())
+    }
+
+    /// A node that is up begins a campaign, or goes down on it. Where it refuses nothing happens.
+    pub fn begin(&mut self, alloc: Global, node: NodeId) -> Result<(), NodeFault>
+        requires there { node < vec_len self.old.nodes }
+        requires room { HasRoom self.old }
+        requires up { is_up (run_of self.old) node ≡ true }
+        ensures begins { OnOk result (TakesAt (⟦<Scripted<S> as Stable>⟧) (run_of self.old) node input.Timeout true (run_of self.new)) }
+        ensures fails { IfErr result (λ f. MatchBool (is_stop_fault f)
+            (FailsToBegin (⟦<Scripted<S> as Stable>⟧) (run_of self.old) node (run_of self.new))
+            (RefusesToBegin (run_of self.old) node f × (run_of self.new ≡ run_of self.old))) }
+    {
+        let at = &mut self.nodes[usize::from(node.value())];
+        match at.step(alloc, Input::Timeout) {
+            Ok(begun) => {
+                self.record(node, begun);
+                Ok(())
+            }
+            Err(fault) => {
+                if fault.is_stop() {
+                    self.fail(node, fault);
+                }
+                Err(fault)
+            }
+        }
+    }
+
+    /// The end of a round is told.
+    pub fn tell_end(&mut self, node: NodeId, end: &RoundEnd) -> Result<(), WorldFault>
+        ensures told { OnOk result (run_of self.new ≡ with_outcome (run_of self.old) (outcome.Round node end.now)) }
+        ensures err { OnErr result (run_of self.new ≡ run_of self.old) }
+        ensures memory { IfErr result (λ f. f ≡ WorldFault.Memory) }
+    {
+        self.outcomes.try_reserve(1)?;
+        let _ = self.outcomes.push(Outcome::Round(node, *end));
+        Ok(())
     }
 
     /// One atomic step. After a fault the world is as it was.
@@ -238,8 +307,8 @@ impl<S: Stable> Run<S> {
         Ok(())
     }
 
-    // A frame comes to its receiver.
-    fn deliver(&mut self, alloc: Global, frame: u64) -> Result<(), WorldFault>
+    /// A frame comes to its receiver.
+    pub fn deliver(&mut self, alloc: Global, frame: u64) -> Result<(), WorldFault>
         ensures delivers { OnOk result (DeliversFrame (⟦<Scripted<S> as Stable>⟧)
             (run_of self.old) frame (run_of self.new)) }
         ensures err { OnErr result (run_of self.new ≡ run_of self.old) }
@@ -394,8 +463,8 @@ impl<S: Stable> Run<S> {
         }
     }
 
-    // Whether the run has the node.
-    fn find(&self, node: NodeId) -> Result<(), WorldFault>
+    /// Whether the run has the node.
+    pub fn find(&self, node: NodeId) -> Result<(), WorldFault>
         ensures found { OnOk result (node < vec_len self.now.nodes) }
         ensures no_node { IfErr result (λ f. (f ≡ WorldFault.NoSuchNode) × (vec_len self.now.nodes ≤ node)) }
     {
@@ -442,8 +511,8 @@ impl<S: Stable> Run<S> {
         }
     }
 
-    // Room for all that one step may add, so that nothing is refused once a node has made it.
-    fn reserve(&mut self) -> Result<(), WorldFault>
+    /// Room for all that one step may add, so that nothing is refused once a node has made it.
+    pub fn reserve(&mut self) -> Result<(), WorldFault>
         ensures same { run_of self.new ≡ run_of self.old }
         ensures room { OnOk result (HasRoom self.new) }
         ensures memory { IfErr result (λ fault. fault ≡ WorldFault.Memory) }

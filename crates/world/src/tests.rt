@@ -1,10 +1,11 @@
 use super::*;
 use sessions::{MOST_PUT_POINTS, Number};
-use stable::MemStable;
+use stable::{Failing, MemStable};
 use std::alloc::Global;
 use std::process::Abort;
 use std::test::Fail;
 use store::{Op, Query};
+use synod::Slot;
 use tpoint::{Id, Instant, Interp, Point, Seq};
 use wire::{Message, NodeId, Nodes};
 
@@ -321,4 +322,37 @@ fn laws_run_nothing() {
     a_start_tells::<MemStable>();
     steps_tell::<MemStable>();
     tellings_are_explained::<MemStable>();
+}
+
+// A round by hand comes to each of its ends but a refusal, on three nodes.
+#[test]
+fn rounds_by_hand(rt: HostRuntime) -> Result<(), Fail> {
+    let alloc = rt.alloc();
+    let mut world = three_nodes(alloc)?;
+    let (first, second, third) = (node(0)?, node(1)?, node(2)?);
+    let decided = RoundEnd::Decided(Slot::first());
+    assert_eq!(rt; world.round(alloc, third, &[first, third]), Ok(decided));
+    let low = world.round(alloc, first, &[first, second])?;
+    assert!(rt; matches!(&low, RoundEnd::TooLow(_)), "{low:?}");
+    assert_eq!(rt; world.round(alloc, first, &[first, second]), Ok(decided));
+    assert_eq!(rt; world.learnt().len(), 2);
+    assert_eq!(rt;
+        world.round(alloc, first, &[first, first]),
+        Ok(RoundEnd::NotAQuorum)
+    );
+    assert_eq!(rt;
+        world.round(alloc, first, &[first, node(3)?]),
+        Err(WorldFault::NoSuchNode)
+    );
+    world.step(alloc, Event::Fault(second, Failing::Old))?;
+    assert_eq!(rt;
+        world.round(alloc, first, &[second, first]),
+        Ok(RoundEnd::Stopped(second))
+    );
+    assert_eq!(rt;
+        world.round(alloc, first, &[second, first]),
+        Ok(RoundEnd::Down(second))
+    );
+    assert_eq!(rt; world.learnt().len(), 2);
+    Ok(())
 }

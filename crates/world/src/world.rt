@@ -10,6 +10,7 @@ use super::event::Event;
 use super::fault::WorldFault;
 use super::lists::{Answered, Learnt, Outcome, Replied, Submission};
 use super::log::MOST_DELIVERIES;
+use super::round_end::RoundEnd;
 use super::run::Run;
 use stable::{MemStable, Put, Scripted, Stable};
 use std::alloc::Global;
@@ -52,6 +53,7 @@ impl<S: Stable> World<S> {
     ghost use Rattle.world.specs.Worlds.{Steps};
     ghost use Rattle.world.specs.Events.{NamesNoFrame, NamesNoNode};
     ghost use Rattle.world.specs.Flushing.{Delivers, DeliversSome};
+    ghost use Rattle.world.specs.Rounds.{NamesNoMember, RoundEnds, IsPartOfRound};
     ghost use Rattle.world.specs.Staying.{StaysSafe};
 
     /// The requests that nodes took.
@@ -145,5 +147,32 @@ impl<S: Stable> World<S> {
         ensures safe { StaysSafe (⟦<Scripted<S> as Stable>⟧) S.IsHonest (world_of self.new) }
     {
         self.run.flush(alloc)
+    }
+
+    /// A round of a node by hand, among these members alone: its campaign begins, and what is sent in each phase comes to the members or
+    /// to the node, in order of sending, before anything else. How it ended; the outcomes tell it, behind those of its steps.
+    ///
+    /// `NoSuchNode` where the node or a member is none of the run, and then nothing is done. What was done when memory was wanting stays.
+    pub fn round(
+        &mut self,
+        alloc: Global,
+        node: NodeId,
+        members: &[NodeId],
+    ) -> Result<RoundEnd, WorldFault>
+        ensures ends { IfOk result (λ end. RoundEnds (⟦<Scripted<S> as Stable>⟧)
+            (world_of self.old) node members.now end (world_of self.new)) }
+
+        // Each fault.
+        ensures no_node { IsErrOf result WorldFault.NoSuchNode
+            ↔ NamesNoMember (length (world_of self.old).nodes) node members.now }
+        ensures unchanged { IsErrOf result WorldFault.NoSuchNode → world_of self.new ≡ world_of self.old }
+        ensures memory { IsErrOf result WorldFault.Memory → IsPartOfRound (⟦<Scripted<S> as Stable>⟧)
+            (world_of self.old) node members.now (world_of self.new) }
+        ensures faults { IfErr result (λ f. (f ≡ WorldFault.NoSuchNode) ⊎ (f ≡ WorldFault.Memory)) }
+
+        // Whatever came of it.
+        ensures safe { StaysSafe (⟦<Scripted<S> as Stable>⟧) S.IsHonest (world_of self.new) }
+    {
+        self.run.round(alloc, node, members)
     }
 }

@@ -58,6 +58,19 @@ impl Frame {
         self.bytes.as_slice()
     }
 
+    /// The node to which it goes, which is read at its place.
+    pub fn receiver(&self) -> NodeId
+        ensures { result ≡ self.now.to }
+    {
+        match self.bytes() {
+            [_, _, _, _, _, to, ..] => match NodeId::new(*to) {
+                Some(node) => node,
+                None => unreachable!(),
+            },
+            _ => unreachable!(),
+        }
+    }
+
     /// The envelope, decoded from the bytes.
     pub fn open(&self, alloc: Global) -> Result<Envelope, AllocError>
         ensures envelope { IfOk result (λ envelope. envelope ≡ self.now) }

@@ -1,0 +1,15 @@
+use Rattle.std.proofs.Common.{rules, arith}
+use Rattle.world.specs.Worlds.{run_of}
+use Rattle.world.proofs.RoundMembers.{next_up}
+use Rattle.world.proofs.run.Run.lowest_down.Goals.{in-Some+else-is_among, else-is_among-via-then-is_among+else-not-is_up, else-is_among-via-else-is_among, in_default}
+use Rattle.world.proofs.run.Run.lowest_down.Goals as goal
+
+pub loop-number-preserved : goal.loop-number-preserved
+loop-number-preserved g c =
+    next_up (run_of c.args.self.now) c.args.members.now c.loop-number.number c.loop-number.invariant (elim c.match-new.branch [
+      | in-Some+else-is_among w ↦ elim w.else-is_among.branch [
+        | else-is_among-via-then-is_among+else-not-is_up x ↦ λ among. search rules
+        | else-is_among-via-else-is_among x ↦ λ among. search rules
+      ]
+      | in_default w ↦ λ among. search (rules, arith)
+    ])

@@ -1,0 +1,7 @@
+use Rattle.std.proofs.Common.{◌≡◌, ℕ, ◌<◌, true, Contains}
+use Rattle.world.specs.Rounds.{is_up}
+use Rattle.world.specs.Worlds.{run_of}
+use Rattle.world.proofs.run.Run.lowest_down.Given as goal
+
+abbrev pub invariant-loop-number : goal.invariant-loop-number
+invariant-loop-number g l = (m : ℕ) → m < l.number → Contains l.members m → is_up (run_of l.self) m ≡ true

@@ -1,0 +1,11 @@
+use Rattle.std.proofs.Common.{subst, sym}
+use Rattle.stable.specs.Storages.{scripted}
+use Rattle.world.specs.Rounds.{IsPartOfRound, untold}
+use Rattle.world.specs.Worlds.{run_of}
+use Rattle.world.proofs.run.Run.round.Goals as goal
+
+-- the round is over, and its end is not told
+pub returns-in_err-tell_end-clause-memory : goal.returns-in_err-tell_end-clause-memory
+returns-in_err-tell_end-clause-memory g c = λ _.
+    subst (λ w. IsPartOfRound (scripted g.S.Stable) (run_of c.args.self.now) c.args.node c.args.members.now w)
+    (sym c.in_err-tell_end.ensures.err) (untold c.in_ok-end.end c.in_ok-end.ensures.ends)

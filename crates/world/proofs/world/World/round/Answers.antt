@@ -1,0 +1,20 @@
+use Rattle.std.proofs.Common.{rules}
+use Rattle.world.specs.Worlds.{run_of}
+use Rattle.world.proofs.FiredLemmas.{round_keeps_few}
+use Rattle.world.proofs.WorldSound.{round_kept, stays_safe}
+use Rattle.world.proofs.world.World.round.Goals as goal
+
+-- the run behind it was left as its contract says
+pub invariant_of-self : goal.invariant_of-self
+invariant_of-self g c =
+    let old = run_of c.args.self.now.run in
+    let new = run_of c.round.new.self in
+    record {
+      sound = round_kept g.S.Stable g.met.S.Stable.laws old new c.args.node c.args.members.now c.round.result c.round.ensures.ends
+          c.round.ensures.unchanged c.round.ensures.memory c.round.ensures.faults c.args.self.now.run.fleet c.args.self.now.sound;
+      few_faults = round_keeps_few g.S.Stable old new c.args.node c.args.members.now c.round.result c.round.ensures.ends
+          c.round.ensures.unchanged c.round.ensures.memory c.round.ensures.faults c.args.self.now.few_faults;
+    }
+
+pub returns-clause-safe : goal.returns-clause-safe
+returns-clause-safe g c = stays_safe g.S.Stable c.round.new.self (search rules) (search rules)
