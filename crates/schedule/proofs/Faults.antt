@@ -1,14 +1,14 @@
 -- Which fault of a line is its lowest.
-use Rattle.std.proofs.Common.{◌≡◌, ◌≢◌, ℕ, ◌≤◌, List, [], ◌∷◌, length, get_or, take, drop, Option, Some, None, cond, codes, refl, sym, ◌∙◌, ap, subst, lit≤, inl, inr, arith}
+use Rattle.std.proofs.Common.{◌≡◌, ◌≢◌, ℕ, ◌≤◌, List, [], ◌∷◌, length, get_or, drop, Option, Some, None, cond, codes, refl, sym, ◌∙◌, ap, subst, lit≤, inl, inr, arith}
 use Rattle.std.specs.List.{All}
 use Rattle.std.specs.Str.{bytes_eq}
 use Rattle.schedule.specs.Codes.{code_of, IsLowest}
 use Rattle.schedule.specs.Keywords.{text_of, operation_text, question_text}
 use Rattle.schedule.specs.Rows.{IsWordsFault}
-use Rattle.schedule.specs.Table.{Place, the_word, a_run_size, a_node, a_client, a_request_number, a_frame_number, a_failing, an_id, a_datetime, a_coordinate, a_period, a_rectangle, a_document, Row, line_of, submit_of, query_of, IsOfForm, HasItsWords, HasItsCount, HasMisfit, HasFault, HasOtherCount, IsNotPrintable, IsPrintable, places, width}
+use Rattle.schedule.specs.Table.{Place, the_word, a_run_size, a_node, a_client, a_request_number, a_frame_number, a_failing, an_id, a_datetime, a_coordinate, a_period, a_rectangle, a_document, some_nodes, Row, line_of, submit_of, query_of, IsOfForm, HasItsWords, HasItsCount, HasMisfit, HasFault, HasOtherCount, IsNotPrintable, IsPrintable, places, width, words_at}
 use Rattle.schedule.specs.Words.{words_of}
 use Rattle.schedule.specs.declared.keyword.Keyword.{Keyword}
-use Rattle.schedule.specs.declared.keyword.Keyword.TheVariants.{Nodes, Deliver, Drop, Flush, Timeout, Tick, Restart, Fault}
+use Rattle.schedule.specs.declared.keyword.Keyword.TheVariants.{Nodes, Deliver, Drop, Flush, Timeout, Tick, Restart, Fault, Round}
 use Rattle.schedule.specs.declared.keyword.Operation.{Operation}
 use Rattle.schedule.specs.declared.keyword.Operation.TheVariants.{Put, Append, Remove}
 use Rattle.schedule.specs.declared.keyword.Question.{Question}
@@ -23,7 +23,8 @@ read_back w =
     cond (bytes_eq w (codes "nodes")) (Some Nodes) (cond (bytes_eq w (codes "deliver")) (Some Deliver)
     (cond (bytes_eq w (codes "drop")) (Some Drop) (cond (bytes_eq w (codes "flush")) (Some Flush)
     (cond (bytes_eq w (codes "timeout")) (Some Timeout) (cond (bytes_eq w (codes "tick")) (Some Tick)
-    (cond (bytes_eq w (codes "restart")) (Some Restart) (cond (bytes_eq w (codes "fault")) (Some Fault) None)))))))
+    (cond (bytes_eq w (codes "restart")) (Some Restart) (cond (bytes_eq w (codes "fault")) (Some Fault)
+    (cond (bytes_eq w (codes "round")) (Some Round) None))))))))
 
 reads_back : (keyword : Keyword) → read_back (text_of keyword) ≡ Some keyword
 reads_back Nodes = refl
@@ -34,6 +35,7 @@ reads_back Timeout = refl
 reads_back Tick = refl
 reads_back Restart = refl
 reads_back Fault = refl
+reads_back Round = refl
 
 pub text_of-injective : (a b : Keyword) → text_of a ≡ text_of b → a ≡ b
 text_of-injective a b same = let e = sym (reads_back a) ∙ ap read_back same ∙ reads_back b in cc
@@ -100,6 +102,17 @@ pub other_is_no_nodes : (keyword : Keyword) (words others : List (List ℕ)) →
     → text_of keyword ∷ words ≢ codes "nodes" ∷ others
 other_is_no_nodes keyword words others other same = other (text_of-injective keyword Nodes (heads _ _ _ _ same))
 
+keyword_is_long : (keyword : Keyword) (words : List (List ℕ)) → HasItsCount (line_of keyword) words → 1 ≤ length words
+keyword_is_long Nodes words h = omega (arith, h)
+keyword_is_long Deliver words h = omega (arith, h)
+keyword_is_long Drop words h = omega (arith, h)
+keyword_is_long Flush words h = omega (arith, h)
+keyword_is_long Timeout words h = omega (arith, h)
+keyword_is_long Tick words h = omega (arith, h)
+keyword_is_long Restart words h = omega (arith, h)
+keyword_is_long Fault words h = omega (arith, h)
+keyword_is_long Round words h = omega (arith, h)
+
 submit_is_long : (operation : Operation) (words : List (List ℕ)) → HasItsCount (submit_of operation) words → 5 ≤ length words
 submit_is_long Put words h = omega (arith, h)
 submit_is_long Append words h = omega (arith, h)
@@ -135,7 +148,7 @@ one_question (w ∷ x ∷ o ∷ words) a b long p q =
 -- words with all words of a row begin as no other row
 pub one_row : (words : List (List ℕ)) (a b : Row) → HasItsCount a words → HasItsWords (places a) words
     → HasItsWords (places b) words → a ≡ b
-one_row [] (line_of k) b count p q = absurd (omega (arith, count))
+one_row [] (line_of k) b count p q = absurd (omega (arith, keyword_is_long k [] count))
 one_row [] (submit_of o) b count p q = absurd (omega (arith, submit_is_long o [] count))
 one_row [] (query_of o) b count p q = absurd (omega (arith, query_is_long o [] count))
 one_row (w ∷ words) (line_of k) (line_of l) count p q = ap line_of (text_of-injective k l (sym p.0 ∙ q.0))
@@ -251,7 +264,7 @@ words_fault_lowest n text Document prints at = absurd at
 -- the words at each place are what it wants
 abbrev pub AllFit : ℕ → List Place → List (List ℕ) → Type 0
 AllFit n [] words = Unit {0}
-AllFit n (place ∷ others) words = IsOfForm n place (take (width place) words) × AllFit n others (drop (width place) words)
+AllFit n (place ∷ others) words = IsOfForm n place (words_at place words) × AllFit n others (drop (width place) words)
 
 -- the words are those of a row
 pub record IsRowOf (n : ℕ) (words : List (List ℕ)) : Type 0 where
@@ -276,6 +289,7 @@ fit_its_words n (a_coordinate ∷ others) words f = fit_its_words n others (drop
 fit_its_words n (a_period ∷ others) words f = fit_its_words n others (drop 2 words) f.1
 fit_its_words n (a_rectangle ∷ others) words f = fit_its_words n others (drop 4 words) f.1
 fit_its_words n (a_document ∷ others) words f = fit_its_words n others (drop 1 words) f.1
+fit_its_words n (some_nodes ∷ others) words f = fit_its_words n others (drop 1 words) f.1
 
 fit_throughout : (n : ℕ) (at : List Place) (words : List (List ℕ)) → AllFit n at words → ¬ (HasMisfit n at words)
 fit_throughout n [] words f m = m

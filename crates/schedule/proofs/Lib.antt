@@ -3,6 +3,7 @@ pub mod Cuts
 pub mod Decimals
 pub mod Faults
 pub mod FirstLines
+pub mod Naming
 pub mod NoSchedule
 pub mod NodeCount
 pub mod One

@@ -1,6 +1,8 @@
 -- A run has as many nodes in the end as at its start, so no line of it names a node that it lacks.
-use Rattle.std.proofs.Common.{◌≡◌, ◌≢◌, ℕ, List, [], ◌∷◌, ◌++◌, length, Bool, true, false, None, Some, Result, Ok, Err, IfErr, IsSome, refl, sym, ap, ◌∙◌, subst, arith, rules}
+use Rattle.std.proofs.Common.{◌≡◌, ◌≢◌, ℕ, ◌<◌, List, [], ◌∷◌, ◌++◌, length, Bool, true, false, None, Some, Result, Ok, Err, IfErr, IsSome, inl, inr, refl, sym, ap, ◌∙◌, subst, arith, rules}
+use Rattle.std.specs.List.{All}
 use Rattle.std.proofs.lemmas.List.{length-set}
+use Rattle.std.proofs.lemmas.List.Elements.{All-cons, All-nil}
 use Rattle.stable.specs.Script.{Script}
 use Rattle.stable.specs.declared.stable.Stable.{Ghosts}
 use Rattle.sessions.specs.Asked.{Asked}
@@ -9,6 +11,9 @@ use Rattle.wire.specs.declared.frames.envelope.Envelope.{Envelope}
 use Rattle.world.specs.Flushing.{Delivers, none, more}
 use Rattle.world.specs.Events.{NamesNoNode}
 use Rattle.node.specs.Outputs.{Response}
+use Rattle.world.specs.Rounds.{DeliversTo, nothing, elsewhere, there, Phase, ComesThrough, begins, asks, answers, votes, hears, GoesDown, at_once, on_the_way, EndsIn, RoundEnds, NamesNoMember}
+use Rattle.world.specs.declared.round_end.RoundEnd.{RoundEnd}
+use Rattle.world.specs.declared.round_end.RoundEnd.TheVariants.{NotAQuorum, Down, Refused, Stopped, TooLow, Decided}
 use Rattle.world.specs.Worlds.{WorldState, Steps, TakesAt, ReceivesAt, DeliversFrame, recorded, answered, with_submission}
 use Rattle.world.specs.declared.event.Event.{Event}
 use Rattle.world.specs.declared.event.Event.TheVariants.{Submit, Deliver, Drop, Timeout, Tick, Restart, Fault, Query}
@@ -17,10 +22,11 @@ use Rattle.node.specs.declared.input.Input.{Input}
 use Rattle.schedule.specs.Lines.{NumberedText}
 use Rattle.schedule.specs.Runs.{IsDone, IsRefused, Leads, RunEnds, at_a_line, at_the_last, ReplayEnds, not_read, not_begun, not_run}
 use Rattle.schedule.specs.Schedules.{Plan, SpellEach}
-use Rattle.schedule.specs.Spelling.{Spells, WordsSpell}
+use Rattle.schedule.specs.Spelling.{Spells, SpellsRound, WordsSpell}
+use Rattle.schedule.specs.Table.{NameEach}
 use Rattle.schedule.specs.Words.{words_of}
 use Rattle.schedule.specs.declared.action.Action.{Action}
-use Rattle.schedule.specs.declared.action.Action.TheVariants.{Step, Flush}
+use Rattle.schedule.specs.declared.action.Action.TheVariants.{Step, Flush, Round}
 use Rattle.schedule.specs.declared.fault.ParseFault.TheVariants.{Line, Memory}
 use Rattle.schedule.specs.declared.plan.ScheduleLine.{ScheduleLine}
 use Rattle.schedule.specs.declared.replay_fault.ReplayCause.{ReplayCause}
@@ -68,6 +74,48 @@ module _ {S : Type 0} (storages : Ghosts (Script S)) where
   flush_keeps old n new (more m k between last before lowest delivers) =
       delivers_keep between k last delivers ∙ flush_keeps old m between before
 
+  -- a round by hand
+  deliveries_keep : (receivers : List ℕ) (old : WorldState S) (first k : ℕ) (new : WorldState S)
+      → DeliversTo storages receivers old first k new → size new ≡ size old
+  deliveries_keep receivers old first k new nothing = refl
+  deliveries_keep receivers old first k new (elsewhere j e w before sent other) =
+      deliveries_keep receivers old first j w before
+  deliveries_keep receivers old first k new (there j e between w before sent to delivers up) =
+      delivers_keep between j w delivers ∙ deliveries_keep receivers old first j between before
+
+  phases_keep : (old : WorldState S) (node : ℕ) (members : List ℕ) (phase : Phase) (first : ℕ) (new : WorldState S)
+      → ComesThrough storages old node members phase first new → size new ≡ size old
+  phases_keep old node members phase first new (begins w takes) = takes_keep old node _ true w takes
+  phases_keep old node members phase first new (asks f between w before come) =
+      deliveries_keep _ between f _ w come ∙ phases_keep old node members _ f between before
+  phases_keep old node members phase first new (answers f between w before none_refuses come) =
+      deliveries_keep _ between f _ w come ∙ phases_keep old node members _ f between before
+  phases_keep old node members phase first new (votes f between w before come) =
+      deliveries_keep _ between f _ w come ∙ phases_keep old node members _ f between before
+  phases_keep old node members phase first new (hears f between w before come) =
+      deliveries_keep _ between f _ w come ∙ phases_keep old node members _ f between before
+
+  stops_keep : (old : WorldState S) (node : ℕ) (members : List ℕ) (m : ℕ) (new : WorldState S)
+      → GoesDown storages old node members m new → size new ≡ size old
+  stops_keep old node members m new (at_once fails is) = takes_keep old node _ false new fails.takes
+  stops_keep old node members m new (on_the_way phase f between before on) =
+      delivers_keep on.between on.frame new on.delivers ∙ deliveries_keep _ between f on.frame on.between on.before
+      ∙ phases_keep old node members phase f between before
+
+  ends_keep : (old : WorldState S) (node : ℕ) (members : List ℕ) (end : RoundEnd) (new : WorldState S)
+      → EndsIn storages old node members end new → size new ≡ size old
+  ends_keep old node members NotAQuorum new e = ap size e.1
+  ends_keep old node members (Down m) new e = ap size e.2
+  ends_keep old node members (Refused f) new e = ap size e.1.1
+  ends_keep old node members (Stopped m) new e = stops_keep old node members m new e.1
+  ends_keep old node members (TooLow promised) new e =
+      deliveries_keep _ e.1.between e.1.first _ new e.1.delivers ∙ phases_keep old node members _ e.1.first e.1.between e.1.comes
+  ends_keep old node members (Decided slot) new e = phases_keep old node members _ e.1.first new e.1.comes
+
+  round_keeps : (old : WorldState S) (node : ℕ) (members : List ℕ) (end : RoundEnd) (new : WorldState S)
+      → RoundEnds storages old node members end new → size new ≡ size old
+  round_keeps old node members end new r = ap size r.leaves ∙ ends_keep old node members end r.reached r.ends
+
   step_keeps : (old : WorldState S) (event : Event) (new : WorldState S)
       → Steps storages old event new
       → size new ≡ size old
@@ -84,6 +132,7 @@ module _ {S : Type 0} (storages : Ghosts (Script S)) where
   done_keeps : (action : Action) (old new : WorldState S) → IsDone storages action old new → size new ≡ size old
   done_keeps (Step event) old new done = step_keeps old event new done.1
   done_keeps Flush old new done = flush_keeps old done.0 new done.2
+  done_keeps (Round node members) old new done = round_keeps old node members done.0 new done.1
 
   led_keeps : (lines : List ScheduleLine) (old new : WorldState S) → Leads storages lines old new → size new ≡ size old
   led_keeps [] old new led = ap size led
@@ -102,6 +151,20 @@ named_below w n words (Restart node) same spells lacks = absurd (omega (arith, s
 named_below w n words (Fault node failing) same spells lacks = absurd (omega (arith, spells.2.2.below))
 named_below w n words (Query node query) same spells lacks = absurd (omega (arith, spells.1.to_node.below))
 
+-- no more does a round that words spell
+all_below : (n : ℕ) (words : List (List ℕ)) (nodes : List ℕ) → NameEach n words nodes → All (λ m. m < n) nodes
+all_below n [] [] named = All-nil (λ m. m < n)
+all_below n [] (x ∷ xs) named = absurd named
+all_below n (word ∷ words) [] named = absurd named
+all_below n (word ∷ words) (x ∷ xs) named = All-cons (λ m. m < n) x xs named.0.below (all_below n words xs named.1)
+
+members_below : (n nodes : ℕ) (words : List (List ℕ)) (node : ℕ) (members : List ℕ) → nodes ≡ n
+    → SpellsRound n words node members → ¬ (NamesNoMember nodes node members)
+members_below n nodes words node members same s (inl leader) = absurd (omega (arith, s.leader.below))
+members_below n nodes words node members same s (inr (k, m, within, here, beyond)) =
+    let below : m < n = subst (λ (i : ℕ). i < n) here (all_below n s.others members s.named k m within) in
+    absurd (omega arith)
+
 -- a line that was read spells what it asks for
 line_spelled : (n : ℕ) (texts : List NumberedText) (before after : List ScheduleLine) (line : ScheduleLine)
     → SpellEach n texts (before ++ line ∷ after) → (text : NumberedText) × Spells n text.text line.action
@@ -116,6 +179,8 @@ module _ {S : Type 0} (storages : Ghosts (Script S)) where
       → WordsSpell n words action → ¬ (IsRefused storages action w NoSuchNode new)
   refused_otherwise w new n words (Step event) same spells refused = named_below w n words event same spells refused.0
   refused_otherwise w new n words Flush same spells refused = refused
+  refused_otherwise w new n words (Round node members) same spells refused =
+      members_below n (size w) spells.0 node members same spells.2 refused.0
 
   ends_otherwise : (plan : Plan) (texts : List NumberedText) (start end : WorldState S) (fault : ReplayFault)
       → SpellEach plan.nodes texts plan.lines → size start ≡ plan.nodes → RunEnds storages plan start fault end

@@ -20,11 +20,11 @@ use Rattle.stable.specs.declared.scripted.Failing.TheVariants.{Old, New}
 use Rattle.world.specs.declared.event.Event.TheVariants as event
 use Rattle.schedule.specs.Extents.{IsPeriod, IsRect}
 use Rattle.schedule.specs.Numbers.{Writes, IsCoordinate}
-use Rattle.schedule.specs.Spelling.{WordsSpell, SpellsOp, SpellsAddition, SpellsInstant, SpellsPeriod, SpellsVisit, SpellsQuery, OfFeature, BeginsWith, IsOneWord, ArmsNode, Submits, Asks, operation_of, question_of, failing_text}
-use Rattle.schedule.specs.Table.{Row, line_of, submit_of, query_of}
+use Rattle.schedule.specs.Spelling.{WordsSpell, SpellsOp, SpellsAddition, SpellsInstant, SpellsPeriod, SpellsVisit, SpellsQuery, OfFeature, BeginsWith, IsOneWord, ArmsNode, SpellsRound, Submits, Asks, operation_of, question_of, failing_text}
+use Rattle.schedule.specs.Table.{Row, line_of, submit_of, query_of, NameEach}
 use Rattle.schedule.specs.Words.{blank, words_of}
 use Rattle.schedule.specs.declared.action.Action.{Action}
-use Rattle.schedule.specs.declared.action.Action.TheVariants.{Step, Flush}
+use Rattle.schedule.specs.declared.action.Action.TheVariants.{Step, Flush, Round}
 use Rattle.schedule.specs.declared.keyword.Keyword.TheVariants as keyword
 use Rattle.schedule.specs.declared.keyword.Operation.{Operation}
 use Rattle.schedule.specs.declared.keyword.Operation.TheVariants as operation
@@ -219,6 +219,8 @@ ActionOf n (line_of keyword.Deliver) words action =
 ActionOf n (line_of keyword.Drop) words action =
     (frame : ℕ) × (action ≡ Step (event.Drop frame)) × WordsSpell n words (Step (event.Drop frame))
 ActionOf n (line_of keyword.Flush) words action = action ≡ Flush
+ActionOf n (line_of keyword.Round) words action =
+    (node : ℕ) × (members : List ℕ) × (action ≡ Round node members) × WordsSpell n words (Round node members)
 ActionOf n (line_of keyword.Timeout) words action =
     (node : ℕ) × (action ≡ Step (event.Timeout node)) × WordsSpell n words (Step (event.Timeout node))
 ActionOf n (line_of keyword.Tick) words action =
@@ -246,6 +248,7 @@ as_row n words (Step (event.Submit node client number asked)) (others, submits, 
 as_row n words (Step (event.Deliver frame)) s = (frame, refl, s)
 as_row n words (Step (event.Drop frame)) s = (frame, refl, s)
 as_row n words Flush s = refl
+as_row n words (Round node members) s = (node, members, refl, s)
 as_row n words (Step (event.Timeout node)) s = (node, refl, s)
 as_row n words (Step (event.Tick node)) s = (node, refl, s)
 as_row n words (Step (event.Restart node)) s = (node, refl, s)
@@ -285,6 +288,31 @@ one_arming n first words node other f g small (xs, ex, (v, ev, a)) (ys, ey, (w, 
     let same : v ≡ w = cc in
     let texts : failing_text f ≡ failing_text g = cc in
     (one_number 0 n v w node other small same a b, failing_text-injective f g texts)
+
+-- words name one list of nodes
+one_naming : (n : ℕ) (words : List (List ℕ)) (a b : List ℕ) → n ≤ 2 ^ 64 → NameEach n words a → NameEach n words b → a ≡ b
+one_naming n [] [] [] small p q = refl
+one_naming n [] [] (y ∷ ys) small p q = absurd q
+one_naming n [] (x ∷ xs) b small p q = absurd p
+one_naming n (word ∷ words) [] b small p q = absurd p
+one_naming n (word ∷ words) (x ∷ xs) [] small p q = absurd q
+one_naming n (word ∷ words) (x ∷ xs) (y ∷ ys) small p q =
+    let first : x ≡ y = one_number 0 n word word x y small refl p.0 q.0 in
+    let rest : xs ≡ ys = one_naming n words xs ys small p.1 q.1 in
+    cc
+
+one_round : (n : ℕ) (first : List ℕ) (words : List (List ℕ)) (node other : ℕ) (a b : List ℕ) → n ≤ 2 ^ 64
+    → BeginsWith first words (λ others. SpellsRound n others node a)
+    → BeginsWith first words (λ others. SpellsRound n others other b) → (node ≡ other) × (a ≡ b)
+one_round n first words node other a b small (xs, ex, s) (ys, ey, r) =
+    let all : first ∷ s.node_word ∷ s.others ≡ first ∷ r.node_word ∷ r.others = (
+    sym (ex ∙ ap (λ (ws : List (List ℕ)). first ∷ ws) s.words_are) ∙ ey ∙ ap (λ (ws : List (List ℕ)). first ∷ ws) r.words_are
+    ) in
+    let same : s.node_word ≡ r.node_word = cc in
+    let others : s.others ≡ r.others = cc in (
+      one_number 0 n s.node_word r.node_word node other small same s.leader r.leader,
+      one_naming n r.others a b small (subst (λ (ws : List (List ℕ)). NameEach n ws a) others s.named) r.named,
+    )
 
 one_submission : (n : ℕ) (which : Operation) (words : List (List ℕ)) (a b : Action) → n ≤ 2 ^ 64 → Submission n which words a
     → Submission n which words b → a ≡ b
@@ -327,6 +355,9 @@ action_of_one n (line_of keyword.Drop) words a b small (j, ea, sa) (k, eb, sb) =
     let one : j ≡ k = one_numbered 0 (2 ^ 64) _ words j k (omega arith) sa sb in
     ea ∙ ap (λ (m : ℕ). Step (event.Drop m)) one ∙ sym eb
 action_of_one n (line_of keyword.Flush) words a b small ea eb = ea ∙ sym eb
+action_of_one n (line_of keyword.Round) words a b small (j, f, ea, sa) (k, g, eb, sb) =
+    let one : (j ≡ k) × (f ≡ g) = one_round n _ words j k f g small sa sb in
+    ea ∙ (λ i. Round (one.0 i) (one.1 i)) ∙ sym eb
 action_of_one n (line_of keyword.Timeout) words a b small (j, ea, sa) (k, eb, sb) =
     let one : j ≡ k = one_numbered 0 n _ words j k small sa sb in
     ea ∙ ap (λ (m : ℕ). Step (event.Timeout m)) one ∙ sym eb

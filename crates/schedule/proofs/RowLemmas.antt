@@ -13,12 +13,12 @@ use Rattle.schedule.specs.declared.submits.Asker.{Asker}
 use Rattle.schedule.specs.declared.submits.AskerWords.{AskerWords}
 use Rattle.schedule.specs.declared.action.Action.TheVariants.{Step}
 use Rattle.world.specs.declared.event.Event.TheVariants as event
-use Rattle.schedule.specs.Table.{line_of, submit_of, query_of, count, IsNode, HasItsWords, HasItsCount, HasMisfit, HasUnknownWord, keyword_places, operation_places, question_places}
+use Rattle.schedule.specs.Table.{line_of, submit_of, query_of, count, IsNode, NameEach, HasItsWords, HasItsCount, HasMisfit, HasUnknownWord, keyword_places, operation_places, question_places}
 use Rattle.schedule.specs.Unread.{WordsGive}
 use Rattle.schedule.specs.declared.unread.Unread.{Unread}
 use Rattle.schedule.specs.Words.{blank, words_of}
 use Rattle.schedule.specs.declared.keyword.Keyword.{Keyword}
-use Rattle.schedule.specs.declared.keyword.Keyword.TheVariants.{Nodes, Deliver, Drop, Flush, Timeout, Tick, Restart, Fault}
+use Rattle.schedule.specs.declared.keyword.Keyword.TheVariants.{Nodes, Deliver, Drop, Flush, Timeout, Tick, Restart, Fault, Round}
 use Rattle.schedule.specs.declared.keyword.Operation.{Operation}
 use Rattle.schedule.specs.declared.keyword.Operation.TheVariants.{Put, Append, Remove}
 use Rattle.schedule.specs.declared.keyword.Question.{Question}
@@ -52,6 +52,7 @@ keyword_words Timeout words = tt
 keyword_words Tick words = tt
 keyword_words Restart words = tt
 keyword_words Fault words = tt
+keyword_words Round words = tt
 
 -- a submission has its count where the words of its operation have theirs
 operation_count : (operation : Operation) (a b c : List ℕ) (words : List (List ℕ)) → operation ≢ Put
@@ -65,6 +66,31 @@ operation_count_back : (operation : Operation) (a b c : List ℕ) (words : List 
 operation_count_back Put a b c words other same = absurd (other refl)
 operation_count_back Append a b c words other same = omega (arith, same)
 operation_count_back Remove a b c words other same = omega (arith, same)
+
+-- a line has its count where the words after its keyword have theirs
+keyword_count : (keyword : Keyword) (words : List (List ℕ)) → keyword ≢ Round
+    → (length words ≡ count (keyword_places keyword)) → HasItsCount (line_of keyword) (text_of keyword ∷ words)
+keyword_count Nodes words other same = omega (arith, same)
+keyword_count Deliver words other same = omega (arith, same)
+keyword_count Drop words other same = omega (arith, same)
+keyword_count Flush words other same = omega (arith, same)
+keyword_count Timeout words other same = omega (arith, same)
+keyword_count Tick words other same = omega (arith, same)
+keyword_count Restart words other same = omega (arith, same)
+keyword_count Fault words other same = omega (arith, same)
+keyword_count Round words other same = absurd (other refl)
+
+keyword_count_back : (keyword : Keyword) (words : List (List ℕ)) → keyword ≢ Round
+    → HasItsCount (line_of keyword) (text_of keyword ∷ words) → (length words ≡ count (keyword_places keyword))
+keyword_count_back Nodes words other same = omega (arith, same)
+keyword_count_back Deliver words other same = omega (arith, same)
+keyword_count_back Drop words other same = omega (arith, same)
+keyword_count_back Flush words other same = omega (arith, same)
+keyword_count_back Timeout words other same = omega (arith, same)
+keyword_count_back Tick words other same = omega (arith, same)
+keyword_count_back Restart words other same = omega (arith, same)
+keyword_count_back Fault words other same = omega (arith, same)
+keyword_count_back Round words other same = absurd (other refl)
 
 question_count : (question : Question) (a : List ℕ) (words : List (List ℕ)) → (length words ≡ count (question_places question))
     → HasItsCount (query_of question) (codes "query" ∷ a ∷ question_text question ∷ words)
@@ -231,29 +257,62 @@ submit_result n operation asking word all words (Err fault) same is wrong =
     rw (same, is) (submit_fault n operation _ fault wrong)
 
 -- the words after a keyword
-pub keyword_fault : (n : ℕ) (keyword : Keyword) (words : List (List ℕ)) (fault : ScheduleFault) → keyword ≢ Nodes
+pub keyword_fault : (n : ℕ) (keyword : Keyword) (words : List (List ℕ)) (fault : ScheduleFault) → keyword ≢ Nodes → keyword ≢ Round
     → IsFaultAt n (keyword_places keyword) words fault → IsWordsFault n (text_of keyword ∷ words) fault
-keyword_fault n keyword words NotPrintable other at = absurd at
-keyword_fault n keyword words UnknownWord other at = absurd at
-keyword_fault n keyword words NodesLine other at = absurd at
-keyword_fault n keyword words WordCount other at = (
+keyword_fault n keyword words NotPrintable other counted at = absurd at
+keyword_fault n keyword words UnknownWord other counted at = absurd at
+keyword_fault n keyword words NodesLine other counted at = absurd at
+keyword_fault n keyword words WordCount other counted at = (
   record {
     row = line_of keyword;
     its_words = (refl, keyword_words keyword words);
-    other_count = λ same. at (omega (arith, same));
+    other_count = λ same. at (keyword_count_back keyword words counted same);
   },
   λ others. other_is_no_nodes keyword words others other,
 )
-keyword_fault n keyword words WordForm other at = (
+keyword_fault n keyword words WordForm other counted at = (
   record {
     row = line_of keyword;
     its_words = (refl, keyword_words keyword words);
-    its_count = omega (arith, at.0);
+    its_count = keyword_count keyword words counted at.0;
     misfit = inr at.1;
   },
   λ others. other_is_no_nodes keyword words others other,
 )
-keyword_fault n keyword words Document other at = absurd at
+keyword_fault n keyword words Document other counted at = absurd at
+
+-- a round's line with fewer words than it wants
+pub short_round : (n : ℕ) (words : List (List ℕ)) → length words < 2 → IsWordsFault n (text_of Round ∷ words) WordCount
+short_round n words short = (
+  record { row = line_of Round; its_words = (refl, keyword_words Round words); other_count = λ enough. omega (arith, short, enough) },
+  λ others. other_is_no_nodes Round words others (λ e. cc),
+)
+
+-- the word of a round's leader names no node
+pub leader_fault : (n : ℕ) (word list : List ℕ) → ((node : ℕ) → ¬ (IsNode n word node))
+    → IsWordsFault n (text_of Round ∷ word ∷ words_of list) WordForm
+leader_fault n word list none = (
+  record {
+    row = line_of Round;
+    its_words = (refl, keyword_words Round (word ∷ words_of list));
+    its_count = omega (arith, document_is_there list);
+    misfit = inr (inl (λ is. none is.0 is.1));
+  },
+  λ others. other_is_no_nodes Round _ others (λ e. cc),
+)
+
+-- the words of its members don't name nodes
+pub members_fault : (n : ℕ) (word list : List ℕ) → ((nodes : List ℕ) → ¬ (NameEach n (words_of list) nodes))
+    → IsWordsFault n (text_of Round ∷ word ∷ words_of list) WordForm
+members_fault n word list none = (
+  record {
+    row = line_of Round;
+    its_words = (refl, keyword_words Round (word ∷ words_of list));
+    its_count = omega (arith, document_is_there list);
+    misfit = inr (inr (inl (λ is. none is.0 is.1)));
+  },
+  λ others. other_is_no_nodes Round _ others (λ e. cc),
+)
 
 -- ---- lines that end too early
 pub no_words : (n : ℕ) → IsWordsFault n [] WordCount

@@ -7,14 +7,17 @@ use Rattle.world.specs.Flushing.{Delivers, DeliversSome, IsStart}
 use Rattle.world.specs.declared.fault.WorldFault.{WorldFault}
 use Rattle.world.specs.declared.fault.WorldFault.TheVariants as world_fault
 use Rattle.world.specs.declared.log.TheConstants.{MOST_DELIVERIES}
+use Rattle.world.specs.declared.round_end.RoundEnd.{RoundEnd}
+use Rattle.world.specs.Rounds.{IsPartOfRound, NamesNoMember, RoundEnds}
 use Rattle.world.specs.Waiting.{OneWaits}
 use Rattle.world.specs.Staying.{StaysSafe}
 use Rattle.world.specs.Worlds.{WorldState}
 use Rattle.schedule.specs.Causes.{cause_of}
-use Rattle.schedule.specs.declared.action.Action.TheVariants.{Flush}
+use Rattle.schedule.specs.declared.action.Action.TheVariants.{Flush, Round}
 use Rattle.schedule.specs.Runs.{IsDone, IsRefused, IsStopped, Leads, EndsAt, RunsTo, RunFails, at_a_line, at_the_last, IsReplay, ReplayEnds, not_run, told_of}
 use Rattle.schedule.specs.Schedules.{Plan, IsScheduleOf, last_number}
 use Rattle.schedule.specs.declared.plan.ScheduleLine.{ScheduleLine}
+use Rattle.schedule.specs.declared.replay_fault.ReplayCause.{ReplayCause}
 use Rattle.schedule.specs.declared.replay_fault.ReplayFault.{ReplayFault}
 use Rattle.schedule.specs.declared.replay_fault.ReplayCause.TheVariants.{Memory}
 
@@ -24,6 +27,9 @@ nothing_left (x ∷ xs) h = absurd (omega arith)
 
 abbrev failed : WorldFault → Result ℕ WorldFault
 failed fault = Err fault
+
+abbrev broken_off : WorldFault → Result RoundEnd WorldFault
+broken_off fault = Err fault
 
 module _ {S : Type 0} (storages : Ghosts (Script S)) where
   -- what a flush that fails is refused for
@@ -38,6 +44,35 @@ module _ {S : Type 0} (storages : Ghosts (Script S)) where
   flush_refused old new fault limit memory waits (inr e) =
       subst (λ (f : WorldFault). IsRefused storages Flush old (cause_of f) new) (sym e)
       (record { delivers = memory (ap failed e); one_waits = waits })
+
+  -- a round of the members that it was handed
+  pub round_done : (old new : WorldState S) (node : ℕ) (handed members : List ℕ) (end : RoundEnd) → handed ≡ members
+      → RoundEnds storages old node handed end new → IsDone storages (Round node members) old new
+  round_done old new node handed members end same ends =
+      (end, subst (λ (ms : List ℕ). RoundEnds storages old node ms end new) same ends)
+
+  -- what it is refused for
+  pub round_refused : (old new : WorldState S) (node : ℕ) (handed members : List ℕ) (fault : WorldFault) → handed ≡ members
+      → (IsErrOf (broken_off fault) world_fault.NoSuchNode → NamesNoMember (length old.nodes) node handed)
+      → (IsErrOf (broken_off fault) world_fault.NoSuchNode → new ≡ old)
+      → (IsErrOf (broken_off fault) world_fault.Memory → IsPartOfRound storages old node handed new)
+      → (fault ≡ world_fault.NoSuchNode) ⊎ (fault ≡ world_fault.Memory)
+      → IsRefused storages (Round node members) old (cause_of fault) new
+  round_refused old new node handed members fault same no_node unchanged memory (inl e) =
+      subst (λ (f : WorldFault). IsRefused storages (Round node members) old (cause_of f) new) (sym e)
+      (subst (λ (ms : List ℕ). NamesNoMember (length old.nodes) node ms) same (no_node (ap broken_off e)), unchanged (ap broken_off e))
+  round_refused old new node handed members fault same no_node unchanged memory (inr e) =
+      subst (λ (f : WorldFault). IsRefused storages (Round node members) old (cause_of f) new) (sym e)
+      (subst (λ (ms : List ℕ). IsPartOfRound storages old node ms new) same (memory (ap broken_off e)))
+
+  -- a line is stopped for the cause that the world's fault is
+  pub stopped : (line : ScheduleLine) (old new : WorldState S) (fault : WorldFault) (cause : ReplayCause) → cause ≡ cause_of fault
+      → IsRefused storages line.action old (cause_of fault) new
+      → IsStopped storages line old (record { line = line.number; cause = cause }) new
+  stopped line old new fault cause same refused = record {
+    number = refl;
+    refused = subst (λ (why : ReplayCause). IsRefused storages line.action old why new) (sym same) refused;
+  }
 
   -- one line more
   pub led_on : (lines : List ScheduleLine) (line : ScheduleLine) (old between new : WorldState S)

@@ -18,12 +18,12 @@ use Rattle.schedule.specs.Keywords.{text_of, operation_text}
 use Rattle.schedule.specs.Lines.{NumberedText}
 use Rattle.schedule.specs.Reading.{IsLineRefusal}
 use Rattle.schedule.specs.Rows.{IsWordsFault, in_first_line}
-use Rattle.schedule.specs.Spelling.{Spells, SpellsOp, SpellsQuery, Submits, WordsSpell, failing_text, operation_of, question_of}
-use Rattle.schedule.specs.Table.{a_failing, line_of, submit_of, query_of, IsOfForm, HasItsCount, HasFault, HasFirstFault, HasWrongDocument, IsPrintable, keyword_places, operation_places, question_places}
-use Rattle.schedule.specs.Unread.{Becomes, Gives, IsNotRead, WordsGive}
+use Rattle.schedule.specs.Spelling.{Spells, SpellsOp, SpellsQuery, SpellsRound, Submits, WordsSpell, failing_text, operation_of, question_of}
+use Rattle.schedule.specs.Table.{a_failing, line_of, submit_of, query_of, IsOfForm, HasItsCount, HasFault, HasFirstFault, HasUnknownWord, HasWrongDocument, IsPrintable, keyword_places, operation_places, question_places}
+use Rattle.schedule.specs.Unread.{Becomes, Gives, IsNotRead, Puts, WordsGive}
 use Rattle.schedule.specs.Words.{blank, words_of}
 use Rattle.schedule.specs.declared.action.Action.{Action}
-use Rattle.schedule.specs.declared.action.Action.TheVariants.{Step, Flush}
+use Rattle.schedule.specs.declared.action.Action.TheVariants.{Step, Flush, Round}
 use Rattle.schedule.specs.declared.fault.ParseFault.{ParseFault}
 use Rattle.schedule.specs.declared.fault.ParseFault.TheVariants.{Line, Memory}
 use Rattle.schedule.specs.declared.fault.ScheduleFault.{ScheduleFault}
@@ -33,9 +33,10 @@ use Rattle.schedule.specs.declared.keyword.Keyword.TheVariants as keyword
 use Rattle.schedule.specs.declared.keyword.Operation.{Operation}
 use Rattle.schedule.specs.declared.keyword.Operation.TheVariants as operation
 use Rattle.schedule.specs.declared.unread.Unread.{Unread}
-use Rattle.schedule.specs.declared.unread.Unread.TheVariants.{Whole, Put}
-use Rattle.schedule.proofs.Faults.{AllFit, IsRowOf, document_lowest, from_two, from_three, lowest_unprintable, not_submit, operation_text-injective, other_is_no_nodes, query_is_no_nodes, row_faultless, submit_is_no_nodes, submit_is_no_query, words_fault_lowest}
-use Rattle.schedule.proofs.RowLemmas.{op_count, put_count, query_count}
+use Rattle.schedule.specs.declared.unread.Unread.TheVariants as given
+use Rattle.schedule.specs.declared.unread.Putting.{Putting}
+use Rattle.schedule.proofs.Faults.{AllFit, IsRowOf, document_lowest, from_two, from_three, lowest_unprintable, not_submit, operation_text-injective, other_is_no_nodes, prints_throughout, query_is_no_nodes, row_faultless, row_words, submit_is_no_nodes, submit_is_no_query, words_fault_lowest}
+use Rattle.schedule.proofs.RowLemmas.{members_fault, op_count, put_count, query_count}
 
 -- ---- the row of a line that spells an action
 document_is_there : (words : List (List ℕ)) (document : List ℕ) → words ≡ words_of document → 1 ≤ length words
@@ -102,6 +103,9 @@ row_of n words (Step (event.Deliver frame)) (others, e, (word, one, w)) =
 row_of n words (Step (event.Drop frame)) (others, e, (word, one, w)) =
     one_row_of n keyword.Drop words others (λ q. cc) e (rw one ((frame, w), tt)) (rw one refl)
 row_of n words Flush (others, e, none) = one_row_of n keyword.Flush words others (λ q. cc) e tt (rw none refl)
+row_of n words (Round node members) (others, e, s) =
+    one_row_of n keyword.Round words others (λ q. cc) e (rw s.words_are ((node, s.leader), ((members, s.named), tt)))
+    (rw s.words_are (omega (arith, s.some)))
 row_of n words (Step (event.Timeout node)) (others, e, (word, one, w)) =
     one_row_of n keyword.Timeout words others (λ q. cc) e (rw one ((node, w), tt)) (rw one refl)
 row_of n words (Step (event.Tick node)) (others, e, (word, one, w)) =
@@ -118,12 +122,19 @@ row_of n words (Step (event.Query node asked)) (others, asks, spells) = rw asks.
 })
 
 -- the same where a document is unread
-pub row_given : (n : ℕ) (words : List (List ℕ)) (unread : Unread) → WordsGive n words unread → IsRowOf n words
-row_given n words (Whole action) spells = row_of n words action spells
-row_given n words (Put p) s =
+put_row_of : (n : ℕ) (words : List (List ℕ)) (p : Putting) → Puts n words p → IsRowOf n words
+put_row_of n words p s =
     submission_row n operation.Put words (words_of p.document.now) p.node p.client p.number s
     (put_fits n (words_of p.document.now) (document_is_there _ p.document.now refl))
     (put_count s.node_word s.client_word s.number_word p.document.now _ refl)
+
+-- words that were read begin as a row
+given_known : (n : ℕ) (words : List (List ℕ)) (unread : Unread) → WordsGive n words unread → ¬ (HasUnknownWord words)
+given_known n words (given.Whole action) spells unknown =
+    let is = row_of n words action spells in unknown is.row (row_words n words is)
+given_known n words (given.Put p) puts unknown =
+    let is = put_row_of n words p puts in unknown is.row (row_words n words is)
+given_known n words (given.Round r) leads unknown = unknown (line_of keyword.Round) (rw leads.words_are (refl, tt))
 
 -- ---- documents
 heads : {X : Type 0} (x y : X) (xs ys : List X) → x ∷ xs ≡ y ∷ ys → x ≡ y
@@ -171,6 +182,8 @@ no_wrong_document n words (Step (event.Drop frame)) (others, e, one) h =
     other_first words others _ (text_of keyword.Drop) (λ q. not_submit keyword.Drop (sym q)) e h.words_are
 no_wrong_document n words Flush (others, e, none) h =
     other_first words others _ (text_of keyword.Flush) (λ q. not_submit keyword.Flush (sym q)) e h.words_are
+no_wrong_document n words (Round node members) (others, e, s) h =
+    other_first words others _ (text_of keyword.Round) (λ q. not_submit keyword.Round (sym q)) e h.words_are
 no_wrong_document n words (Step (event.Timeout node)) (others, e, one) h =
     other_first words others _ (text_of keyword.Timeout) (λ q. not_submit keyword.Timeout (sym q)) e h.words_are
 no_wrong_document n words (Step (event.Tick node)) (others, e, one) h =
@@ -211,19 +224,30 @@ line_read n text words (Ok unread) prints same gives =
 line_read n text words (Err fault) prints same wrong =
     words_fault_lowest n text fault prints (subst (λ (ws : List (List ℕ)). IsWordsFault n ws fault) same wrong)
 
--- with its document a line is an action
-pub line_spells : (n : ℕ) (text : List ℕ) (unread : Unread) (action : Action) → Gives n text unread → Becomes unread action
+-- with its document, or its members, a line is an action
+pub line_spells : (n : ℕ) (text : List ℕ) (unread : Unread) (action : Action) → Gives n text unread → Becomes n unread action
     → Spells n text action
-line_spells n text (Whole whole) action gives same = rw same (record { prints = gives.prints; words = gives.words })
-line_spells n text (Put p) action gives (feature, is, same) =
+line_spells n text (given.Whole whole) action gives same = rw same (record { prints = gives.prints; words = gives.words })
+line_spells n text (given.Put p) action gives (feature, is, same) =
     rw same (record { prints = gives.prints; words = (words_of p.document.now, gives.words, (p.document.now, refl, is)) })
+line_spells n text (given.Round r) action gives (members, named, same) =
+    let leads = gives.words in
+    let spells : SpellsRound n (leads.node_word ∷ words_of r.members.now) r.node members = record {
+      node_word = leads.node_word;
+      others = words_of r.members.now;
+      words_are = refl;
+      leader = leads.leader;
+      some = document_is_there _ r.members.now refl;
+      named = named;
+    } in
+    rw same (record { prints = gives.prints; words = (_, leads.words_are, spells) })
 
 -- or it has a wrong one, or memory was wanting
 pub line_refused : (n : ℕ) (line : NumberedText) (unread : Unread) (fault : ParseFault) → Gives n line.text unread
-    → IsNotRead line.number unread fault → IsLineRefusal n line fault
-line_refused n line (Whole whole) fault gives not = absurd not
-line_refused n line (Put p) (Memory number) gives not = not
-line_refused n line (Put p) (Line at) gives not =
+    → IsNotRead n line.number unread fault → IsLineRefusal n line fault
+line_refused n line (given.Whole whole) fault gives not = absurd not
+line_refused n line (given.Put p) (Memory number) gives not = not
+line_refused n line (given.Put p) (Line at) gives not =
     let s = gives.words in
     let wrong : HasWrongDocument (words_of line.text) = record {
       node = s.node_word;
@@ -233,11 +257,17 @@ line_refused n line (Put p) (Line at) gives not =
       words_are = s.words_are;
       stands_for_none = not.2;
     } in
-    let lowest = document_lowest n line.text gives.prints (row_given n (words_of line.text) (Put p) gives.words) wrong in
+    let lowest = document_lowest n line.text gives.prints (put_row_of n (words_of line.text) p gives.words) wrong in
     (not.0, subst (IsLowest (HasFault n line.text)) (sym not.1) lowest)
+line_refused n line (given.Round r) (Memory number) gives not = not
+line_refused n line (given.Round r) (Line at) gives not =
+    let leads = gives.words in
+    let wrong : IsWordsFault n (words_of line.text) WordForm =
+    rw leads.words_are (members_fault n leads.node_word r.members.now not.2) in
+    (not.0, subst (IsLowest (HasFault n line.text)) (sym not.1) (words_fault_lowest n line.text WordForm gives.prints wrong))
 
 pub line_result : (n : ℕ) (line : NumberedText) (unread : Unread) (read : Result Action ParseFault) → Gives n line.text unread
-    → MatchResult read (Becomes unread) (IsNotRead line.number unread)
+    → MatchResult read (Becomes n unread) (IsNotRead n line.number unread)
     → MatchResult read (Spells n line.text) (IsLineRefusal n line)
 line_result n line unread (Ok action) gives becomes = line_spells n line.text unread action gives becomes
 line_result n line unread (Err fault) gives not = line_refused n line unread fault gives not
@@ -246,13 +276,10 @@ line_result n line unread (Err fault) gives not = line_refused n line unread fau
 -- a first line that would do as a later one
 pub given_first : (n : ℕ) (text : List ℕ) (unread : Unread) → HasFirstFault text NodesLine → Gives n text unread
     → IsLowest (HasFirstFault text) NodesLine
-given_first n text unread wrong gives =
-    let row = row_given n (words_of text) unread gives.words in
-    record {
-      is_there = wrong;
-      lowest = from_three (HasFirstFault text) (row_faultless n text gives.prints row NotPrintable (λ e. cc))
-          (row_faultless n text gives.prints row UnknownWord (λ e. cc));
-    }
+given_first n text unread wrong gives = record {
+  is_there = wrong;
+  lowest = from_three (HasFirstFault text) (prints_throughout text gives.prints) (given_known n (words_of text) unread gives.words);
+}
 
 -- a first line whose lowest fault as a later one is above the second
 beyond_two : (n : ℕ) (text : List ℕ) (fault : ScheduleFault) → HasFirstFault text NodesLine → IsLowest (HasFault n text) fault

@@ -1,5 +1,5 @@
 -- Which row a line is that spells an action.
-use Rattle.std.proofs.Common.{◌≡◌, ℕ, List, refl}
+use Rattle.std.proofs.Common.{◌≡◌, ℕ, List, refl, arith}
 use Rattle.store.specs.declared.op.Op.{Op}
 use Rattle.store.specs.declared.op.Op.TheVariants as op
 use Rattle.store.specs.declared.query.Query.{Query}
@@ -8,7 +8,7 @@ use Rattle.world.specs.declared.event.Event.TheVariants as event
 use Rattle.schedule.specs.Spelling.{WordsSpell, operation_of, question_of}
 use Rattle.schedule.specs.Table.{Row, line_of, submit_of, query_of, HasItsWords, HasItsCount, operation_places, question_places, places}
 use Rattle.schedule.specs.declared.action.Action.{Action}
-use Rattle.schedule.specs.declared.action.Action.TheVariants.{Step, Flush}
+use Rattle.schedule.specs.declared.action.Action.TheVariants.{Step, Flush, Round}
 use Rattle.schedule.specs.declared.keyword.Keyword.TheVariants as keyword
 use Rattle.schedule.proofs.Faults.{one_row}
 use Rattle.schedule.proofs.RowLemmas.{op_count, query_count}
@@ -18,6 +18,7 @@ row_of (Step (event.Submit node client number asked)) = submit_of (operation_of 
 row_of (Step (event.Deliver frame)) = line_of keyword.Deliver
 row_of (Step (event.Drop frame)) = line_of keyword.Drop
 row_of Flush = line_of keyword.Flush
+row_of (Round node members) = line_of keyword.Round
 row_of (Step (event.Timeout node)) = line_of keyword.Timeout
 row_of (Step (event.Tick node)) = line_of keyword.Tick
 row_of (Step (event.Restart node)) = line_of keyword.Restart
@@ -46,6 +47,7 @@ row_has_words n words (Step (event.Submit node client number asked)) (others, s,
 row_has_words n words (Step (event.Deliver frame)) (others, same, rest) = rw same (refl, tt)
 row_has_words n words (Step (event.Drop frame)) (others, same, rest) = rw same (refl, tt)
 row_has_words n words Flush (others, same, none) = rw same (refl, tt)
+row_has_words n words (Round node members) (others, same, rest) = rw same (refl, tt)
 row_has_words n words (Step (event.Timeout node)) (others, same, rest) = rw same (refl, tt)
 row_has_words n words (Step (event.Tick node)) (others, same, rest) = rw same (refl, tt)
 row_has_words n words (Step (event.Restart node)) (others, same, rest) = rw same (refl, tt)
@@ -58,6 +60,7 @@ row_counts n words (Step (event.Submit node client number asked)) (others, s, is
 row_counts n words (Step (event.Deliver frame)) (others, same, (word, one, w)) = rw (same, one) refl
 row_counts n words (Step (event.Drop frame)) (others, same, (word, one, w)) = rw (same, one) refl
 row_counts n words Flush (others, same, none) = rw (same, none) refl
+row_counts n words (Round node members) (others, same, s) = rw (same, s.words_are) (omega (arith, s.some))
 row_counts n words (Step (event.Timeout node)) (others, same, (word, one, w)) = rw (same, one) refl
 row_counts n words (Step (event.Tick node)) (others, same, (word, one, w)) = rw (same, one) refl
 row_counts n words (Step (event.Restart node)) (others, same, (word, one, w)) = rw (same, one) refl

@@ -1,7 +1,7 @@
 -- The words that say what a line is.
 use Rattle.std.specs.Prelude.{ℕ, List, codes}
 use Rattle.schedule.specs.declared.keyword.Keyword.{Keyword}
-use Rattle.schedule.specs.declared.keyword.Keyword.TheVariants.{Nodes, Deliver, Drop, Flush, Timeout, Tick, Restart, Fault}
+use Rattle.schedule.specs.declared.keyword.Keyword.TheVariants.{Nodes, Deliver, Drop, Flush, Timeout, Tick, Restart, Fault, Round}
 use Rattle.schedule.specs.declared.keyword.Operation.{Operation}
 use Rattle.schedule.specs.declared.keyword.Operation.TheVariants.{Put, Append, Remove}
 use Rattle.schedule.specs.declared.keyword.Question.{Question}
@@ -17,6 +17,7 @@ text_of Timeout = codes "timeout"
 text_of Tick = codes "tick"
 text_of Restart = codes "restart"
 text_of Fault = codes "fault"
+text_of Round = codes "round"
 
 -- the word after `submit NODE CLIENT NUMBER`
 abbrev pub operation_text : Operation → List ℕ

@@ -4,16 +4,18 @@ use Rattle.stable.specs.Script.{Script}
 use Rattle.stable.specs.declared.stable.Stable.{Ghosts}
 use Rattle.world.specs.Flushing.{Delivers, DeliversSome, IsStart}
 use Rattle.world.specs.Events.{NamesNoFrame, NamesNoNode}
+use Rattle.world.specs.Rounds.{NamesNoMember, RoundEnds, IsPartOfRound}
 use Rattle.world.specs.Waiting.{NoneWaits, OneWaits}
 use Rattle.world.specs.Staying.{IsSafeOver, StaysSafe}
 use Rattle.world.specs.Worlds.{WorldState, Steps}
 use Rattle.world.specs.declared.event.Event.{Event}
+use Rattle.world.specs.declared.round_end.RoundEnd.{RoundEnd}
 use Rattle.world.specs.declared.log.TheConstants.{MOST_DELIVERIES}
 use Rattle.schedule.specs.Causes.{fault_of}
 use Rattle.schedule.specs.Schedules.{Plan, last_number, IsScheduleOf, IsRefusal}
 use Rattle.schedule.specs.Transcripts.{transcript_of}
 use Rattle.schedule.specs.declared.action.Action.{Action}
-use Rattle.schedule.specs.declared.action.Action.TheVariants.{Step, Flush}
+use Rattle.schedule.specs.declared.action.Action.TheVariants.{Step, Flush, Round}
 use Rattle.schedule.specs.declared.fault.ParseFault.{ParseFault}
 use Rattle.schedule.specs.declared.plan.ScheduleLine.{ScheduleLine}
 use Rattle.schedule.specs.declared.replay_fault.ReplayCause.{ReplayCause}
@@ -32,12 +34,14 @@ pub record NamesWhatIsThere {S : Type 0} (w : WorldState S) (event : Event) : Ty
 
 -- over storages of which it is known what their calls may do
 module _ {S : Type 0} (storages : Ghosts (Script S)) where
-  -- what a line asks for is done: the event happens, or frames are delivered until none waits
+  -- what a line asks for is done: the event happens, or frames are delivered until none waits, or a round comes to an end
   abbrev pub IsDone : Action → WorldState S → WorldState S → Type 0
   IsDone (Step event) old new = NamesWhatIsThere old event
       × Steps storages old event new
   IsDone Flush old new = (n : ℕ) × (n ≤ MOST_DELIVERIES)
       × Delivers storages old n new × NoneWaits new.waiting
+  IsDone (Round node members) old new =
+      (end : RoundEnd) × RoundEnds storages old node members end new
 
   -- the lines are done, one after another
   abbrev pub Leads : List ScheduleLine → WorldState S → WorldState S → Type 0
@@ -56,13 +60,15 @@ module _ {S : Type 0} (storages : Ghosts (Script S)) where
     pub one_waits : OneWaits new.waiting
 
   -- why a world does not do what a line asks for, and what it is then: as it was, but for the frames that a flush has
-  -- delivered
+  -- delivered, and the steps that a round has made
   abbrev pub IsRefused : Action → WorldState S → ReplayCause → WorldState S → Type 0
   IsRefused (Step event) old NoSuchMessage new = NamesNoFrame (length old.frames) event × (new ≡ old)
   IsRefused (Step event) old NoSuchNode new = NamesNoNode (length old.nodes) event × (new ≡ old)
   IsRefused (Step event) old Memory new = NamesWhatIsThere old event × (new ≡ old)
   IsRefused Flush old FlushLimit new = MeetsLimit old new
   IsRefused Flush old Memory new = IsInterrupted old new
+  IsRefused (Round node members) old NoSuchNode new = NamesNoMember (length old.nodes) node members × (new ≡ old)
+  IsRefused (Round node members) old Memory new = IsPartOfRound storages old node members new
   IsRefused _ old _ new = ⊥
 
   -- a line isn't done

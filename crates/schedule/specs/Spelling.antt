@@ -1,5 +1,5 @@
 -- Which lines spell which actions.
-use Rattle.std.specs.Prelude.{◌≡◌, ℕ, List, [], ◌∷◌, codes, All}
+use Rattle.std.specs.Prelude.{◌≡◌, ℕ, ◌≤◌, List, [], ◌∷◌, length, codes, All}
 use Rattle.mfjson.specs.Datetime.{ReadsAs}
 use Rattle.mfjson.specs.Document.{IsDocumentOf}
 use Rattle.tpoint.specs.Extents.{Span, Area}
@@ -15,10 +15,10 @@ use Rattle.world.specs.declared.event.Event.TheVariants as event
 use Rattle.schedule.specs.Extents.{IsPeriod, IsRect}
 use Rattle.schedule.specs.Keywords.{operation_text, question_text}
 use Rattle.schedule.specs.Numbers.{IsCoordinate}
-use Rattle.schedule.specs.Table.{IsNode, IsClient, IsRequestNumber, IsFrameNumber, IsPrintable}
+use Rattle.schedule.specs.Table.{IsNode, NameEach, IsClient, IsRequestNumber, IsFrameNumber, IsPrintable}
 use Rattle.schedule.specs.Words.{words_of}
 use Rattle.schedule.specs.declared.action.Action.{Action}
-use Rattle.schedule.specs.declared.action.Action.TheVariants.{Step, Flush}
+use Rattle.schedule.specs.declared.action.Action.TheVariants.{Step, Flush, Round}
 use Rattle.schedule.specs.declared.keyword.Operation.{Operation}
 use Rattle.schedule.specs.declared.keyword.Operation.TheVariants as operation
 use Rattle.schedule.specs.declared.keyword.Question.{Question}
@@ -132,6 +132,15 @@ ArmsNode n words node failing =
 abbrev pub BeginsWith : List ℕ → List (List ℕ) → (List (List ℕ) → Type 0) → Type 0
 BeginsWith first words P = (others : List (List ℕ)) × (words ≡ first ∷ others) × P others
 
+-- the words after `round` name the node that leads it, and then its members, of which there is one at least
+pub record SpellsRound (n : ℕ) (words : List (List ℕ)) (node : ℕ) (members : List ℕ) : Type 0 where
+  pub node_word : List ℕ
+  pub others : List (List ℕ)
+  pub words_are : words ≡ node_word ∷ others
+  pub leader : IsNode n node_word node
+  pub some : 1 ≤ length others
+  pub named : NameEach n others members
+
 -- the words spell the action, in a run of n nodes
 abbrev pub WordsSpell : ℕ → List (List ℕ) → Action → Type 0
 WordsSpell n words (Step (event.Submit node client number asked)) =
@@ -142,6 +151,8 @@ WordsSpell n words (Step (event.Deliver frame)) =
 WordsSpell n words (Step (event.Drop frame)) =
     BeginsWith (codes "drop") words (IsOneWord (λ word. IsFrameNumber word frame))
 WordsSpell n words Flush = BeginsWith (codes "flush") words (λ others. others ≡ [])
+WordsSpell n words (Round node members) =
+    BeginsWith (codes "round") words (λ others. SpellsRound n others node members)
 WordsSpell n words (Step (event.Timeout node)) =
     BeginsWith (codes "timeout") words (IsOneWord (λ word. IsNode n word node))
 WordsSpell n words (Step (event.Tick node)) =

@@ -10,7 +10,7 @@ use Rattle.schedule.specs.Keywords.{text_of, operation_text, question_text}
 use Rattle.schedule.specs.Numbers.{Writes, IsCoordinate}
 use Rattle.schedule.specs.Words.{words_of}
 use Rattle.schedule.specs.declared.keyword.Keyword.{Keyword}
-use Rattle.schedule.specs.declared.keyword.Keyword.TheVariants.{Nodes, Deliver, Drop, Flush, Timeout, Tick, Restart, Fault}
+use Rattle.schedule.specs.declared.keyword.Keyword.TheVariants.{Nodes, Deliver, Drop, Flush, Timeout, Tick, Restart, Fault, Round}
 use Rattle.schedule.specs.declared.keyword.Operation.{Operation}
 use Rattle.schedule.specs.declared.keyword.Operation.TheVariants.{Put, Append, Remove}
 use Rattle.schedule.specs.declared.keyword.Question.{Question}
@@ -37,6 +37,8 @@ pub data Place : Type 0 where
   a_rectangle : Place
   -- one word and all others that are left; what these have to be is told by the sixth fault alone
   a_document : Place
+  -- one word and all others that are left, each of which names a node
+  some_nodes : Place
 
 -- a row of the table: a line that is known by its first word, a submission or a question
 pub data Row : Type 0 where
@@ -54,6 +56,7 @@ keyword_places Timeout = a_node ∷ []
 keyword_places Tick = a_node ∷ []
 keyword_places Restart = a_node ∷ []
 keyword_places Fault = a_node ∷ a_failing ∷ []
+keyword_places Round = a_node ∷ some_nodes ∷ []
 
 -- the places after `put`, `append` or `remove`
 abbrev pub operation_places : Operation → List Place
@@ -80,7 +83,7 @@ places (query_of question) = the_word (codes "query") ∷ a_node
     ∷ the_word (question_text question) ∷ question_places question
 
 -- ---- how many words there are to be
--- how many words a place wants, a document one at least
+-- how many words a place wants, a document and a list of nodes one at least
 abbrev pub width : Place → ℕ
 width a_period = 2
 width a_rectangle = 4
@@ -90,9 +93,10 @@ abbrev pub count : List Place → ℕ
 count [] = 0
 count (place ∷ others) = width place + count others
 
--- there are as many words as the row wants; a document has any number more
+-- there are as many words as the row wants; a document and a list of nodes have any number more
 abbrev pub HasItsCount : Row → List (List ℕ) → Type 0
 HasItsCount (submit_of Put) words = count (places (submit_of Put)) ≤ length words
+HasItsCount (line_of Round) words = count (places (line_of Round)) ≤ length words
 HasItsCount row words = length words ≡ count (places row)
 
 -- ---- which words
@@ -103,6 +107,12 @@ IsRunSize n = (n ≡ 3) ⊎ (n ≡ 5) ⊎ (n ≡ 7)
 -- n nodes are there; frames have the numbers of a u64
 abbrev pub IsNode : ℕ → List ℕ → ℕ → Type 0
 IsNode n = Writes 0 n
+
+-- the words name these nodes, one by one
+abbrev pub NameEach : ℕ → List (List ℕ) → List ℕ → Type 0
+NameEach n [] [] = Unit {0}
+NameEach n (word ∷ words) (node ∷ nodes) = IsNode n word node × NameEach n words nodes
+NameEach n _ _ = ⊥
 
 abbrev pub IsClient : List ℕ → ℕ → Type 0
 IsClient = Writes 0 256
@@ -128,6 +138,7 @@ IsOfForm n a_coordinate (word ∷ []) = (value : ℤ) × IsCoordinate word value
 IsOfForm n a_period (begin ∷ end ∷ []) = (period : Span) × IsPeriod begin end period
 IsOfForm n a_rectangle (x0 ∷ y0 ∷ x1 ∷ y1 ∷ []) = (rect : Area) × IsRect x0 y0 x1 y1 rect
 IsOfForm n a_document (word ∷ []) = Unit {0}
+IsOfForm n some_nodes words = (nodes : List ℕ) × NameEach n words nodes
 IsOfForm n _ _ = ⊥
 
 -- as far as there are words, those that have to be certain words are
@@ -137,11 +148,16 @@ HasItsWords (the_word wanted ∷ others) [] = Unit {0}
 HasItsWords (the_word wanted ∷ others) (word ∷ words) = (word ≡ wanted) × HasItsWords others words
 HasItsWords (place ∷ others) words = HasItsWords others (drop (width place) words)
 
+-- the words at a place, of those that are left
+abbrev pub words_at : Place → List (List ℕ) → List (List ℕ)
+words_at some_nodes words = words
+words_at place words = take (width place) words
+
 -- the words at some place aren't what it wants
 abbrev pub HasMisfit : ℕ → List Place → List (List ℕ) → Type 0
 HasMisfit n [] words = ⊥
 HasMisfit n (place ∷ others) words =
-    (¬ (IsOfForm n place (take (width place) words))) ⊎ HasMisfit n others (drop (width place) words)
+    (¬ (IsOfForm n place (words_at place words))) ⊎ HasMisfit n others (drop (width place) words)
 
 -- ---- what is wrong with a line
 abbrev pub IsPrintable : ℕ → Type 0

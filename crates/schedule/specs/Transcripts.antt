@@ -10,6 +10,9 @@ use Rattle.world.specs.declared.lists.Replied.{Replied}
 use Rattle.world.specs.declared.lists.Answered.{Answered}
 use Rattle.world.specs.declared.lists.Outcome.{Outcome}
 use Rattle.world.specs.declared.lists.Outcome.TheVariants as outcome
+use Rattle.world.specs.declared.round_end.RoundEnd.{RoundEnd}
+use Rattle.world.specs.declared.round_end.RoundEnd.TheVariants.{NotAQuorum, Down, Refused, Stopped, TooLow, Decided}
+use Rattle.synod.specs.declared.ballot.Ballot.{Ballot}
 
 -- a request by its client and number, as 7:1
 abbrev pub request_text : ℕ → ℕ → List ℕ
@@ -41,6 +44,23 @@ abbrev pub stop_line : ℕ → NodeFault → List ℕ
 stop_line node fault =
     codes "stop " ++ decimal node ++ codes " " ++ decimal (node_code fault) ++ codes "\n"
 
+-- a ballot by its round and node, as 3.0
+abbrev pub ballot_text : Ballot → List ℕ
+ballot_text ballot = decimal ballot.round ++ codes "." ++ decimal ballot.node
+
+-- how a round by hand ended
+abbrev pub end_text : RoundEnd → List ℕ
+end_text NotAQuorum = codes "noquorum"
+end_text (Down member) = codes "down " ++ decimal member
+end_text (Refused fault) = codes "refused " ++ decimal (node_code fault)
+end_text (Stopped member) = codes "stopped " ++ decimal member
+end_text (TooLow promised) = codes "low " ++ ballot_text promised
+end_text (Decided slot) = codes "decided " ++ decimal slot
+
+abbrev pub round_line : ℕ → RoundEnd → List ℕ
+round_line node end =
+    codes "round " ++ decimal node ++ codes " " ++ end_text end ++ codes "\n"
+
 -- ---- a run is told outcome by outcome
 -- what was learnt, replied and answered, each in the order of the steps
 pub record Entries : Type 0 where
@@ -60,6 +80,7 @@ lines_of_outcome outcome.Answered entries = first_lines answer_line 1 entries.an
 lines_of_outcome outcome.Lost entries = []
 lines_of_outcome (outcome.Refused node fault) entries = refuse_line node fault
 lines_of_outcome (outcome.Stopped node fault) entries = stop_line node fault
+lines_of_outcome (outcome.Round node end) entries = round_line node end
 
 -- the entries that later outcomes brought
 abbrev pub entries_after : Outcome → Entries → Entries
@@ -71,6 +92,7 @@ entries_after outcome.Answered entries = record entries { answers = drop 1 entri
 entries_after outcome.Lost entries = entries
 entries_after (outcome.Refused node fault) entries = entries
 entries_after (outcome.Stopped node fault) entries = entries
+entries_after (outcome.Round node end) entries = entries
 
 -- the transcript of these outcomes, which brought these entries
 abbrev pub transcript_of : List Outcome → Entries → List ℕ

@@ -1,30 +1,38 @@
--- Lines that were read but for their documents.
-use Rattle.std.specs.Prelude.{◌≡◌, ℕ, List, All}
+-- Lines that were read but for their documents, or for the members of their rounds.
+use Rattle.std.specs.Prelude.{◌≡◌, ℕ, List, ◌∷◌, codes, All}
 use Rattle.mfjson.specs.Document.{IsDocumentOf}
 use Rattle.mfjson.specs.declared.feature.Feature.{Feature}
 use Rattle.store.specs.declared.op.Op.TheVariants as op
 use Rattle.world.specs.declared.event.Event.TheVariants as event
 use Rattle.schedule.specs.Spelling.{Submits, WordsSpell}
-use Rattle.schedule.specs.Table.{IsPrintable}
+use Rattle.schedule.specs.Table.{IsNode, IsPrintable, NameEach}
 use Rattle.schedule.specs.Words.{words_of}
 use Rattle.schedule.specs.declared.action.Action.{Action}
-use Rattle.schedule.specs.declared.action.Action.TheVariants.{Step}
+use Rattle.schedule.specs.declared.action.Action.TheVariants as act
 use Rattle.schedule.specs.declared.fault.ParseFault.{ParseFault}
 use Rattle.schedule.specs.declared.fault.ParseFault.TheVariants.{Line, Memory}
-use Rattle.schedule.specs.declared.fault.ScheduleFault.TheVariants.{Document}
+use Rattle.schedule.specs.declared.fault.ScheduleFault.TheVariants.{Document, WordForm}
 use Rattle.schedule.specs.declared.keyword.Operation.TheVariants as operation
 use Rattle.schedule.specs.declared.unread.Unread.{Unread}
-use Rattle.schedule.specs.declared.unread.Unread.TheVariants.{Whole, Put}
+use Rattle.schedule.specs.declared.unread.Unread.TheVariants.{Whole, Put, Round}
 use Rattle.schedule.specs.declared.unread.Putting.{Putting}
+use Rattle.schedule.specs.declared.unread.Rounding.{Rounding}
 
 -- the words put the document, whatever it stands for
 abbrev pub Puts : ℕ → List (List ℕ) → Putting → Type 0
 Puts n words p = Submits n operation.Put words (words_of p.document.now) p.node p.client p.number
 
--- the words spell an action, or put a document
+-- the words have the node lead a round, whomever they name as members
+pub record LeadsRound (n : ℕ) (words : List (List ℕ)) (r : Rounding) : Type 0 where
+  pub node_word : List ℕ
+  pub words_are : words ≡ codes "round" ∷ node_word ∷ words_of r.members.now
+  pub leader : IsNode n node_word r.node
+
+-- the words spell an action, or put a document, or have a node lead a round
 abbrev pub WordsGive : ℕ → List (List ℕ) → Unread → Type 0
 WordsGive n words (Whole action) = WordsSpell n words action
 WordsGive n words (Put putting) = Puts n words putting
+WordsGive n words (Round rounding) = LeadsRound n words rounding
 
 -- the same of a line
 pub record Gives (n : ℕ) (text : List ℕ) (unread : Unread) : Type 0 where
@@ -33,13 +41,15 @@ pub record Gives (n : ℕ) (text : List ℕ) (unread : Unread) : Type 0 where
 
 -- the submission of the feature
 abbrev pub submission : Putting → Feature → Action
-submission p f = Step (event.Submit p.node p.client p.number (op.Put f.id f.seq))
+submission p f = act.Step (event.Submit p.node p.client p.number (op.Put f.id f.seq))
 
--- with its document read, it is the action
-abbrev pub Becomes : Unread → Action → Type 0
-Becomes (Whole whole) action = action ≡ whole
-Becomes (Put p) action =
+-- with its document or its members read, it is the action
+abbrev pub Becomes : ℕ → Unread → Action → Type 0
+Becomes n (Whole whole) action = action ≡ whole
+Becomes n (Put p) action =
     (feature : Feature) × IsDocumentOf p.document.now feature × (action ≡ submission p feature)
+Becomes n (Round r) action =
+    (members : List ℕ) × NameEach n (words_of r.members.now) members × (action ≡ act.Round r.node members)
 
 -- why a document was not read, at the line of this number: it stands for no feature, or a growth
 -- was refused
@@ -48,7 +58,15 @@ IsNoDocument number document (Line at) = (at.line ≡ number) × (at.fault ≡ D
     × ((feature : Feature) → ¬ (IsDocumentOf document feature))
 IsNoDocument number document (Memory line) = line ≡ number
 
+-- why a list of nodes was not read, at the line of this number: its words don't name nodes of the run, or a growth
+-- was refused
+abbrev pub IsNoList : ℕ → ℕ → List ℕ → ParseFault → Type 0
+IsNoList n number list (Line at) = (at.line ≡ number) × (at.fault ≡ WordForm)
+    × ((nodes : List ℕ) → ¬ (NameEach n (words_of list) nodes))
+IsNoList n number list (Memory line) = line ≡ number
+
 -- why the line is no action
-abbrev pub IsNotRead : ℕ → Unread → ParseFault → Type 0
-IsNotRead number (Put p) fault = IsNoDocument number p.document.now fault
-IsNotRead number (Whole whole) fault = ⊥
+abbrev pub IsNotRead : ℕ → ℕ → Unread → ParseFault → Type 0
+IsNotRead n number (Put p) fault = IsNoDocument number p.document.now fault
+IsNotRead n number (Round r) fault = IsNoList n number r.members.now fault
+IsNotRead n number (Whole whole) fault = ⊥

@@ -2,7 +2,9 @@
 
 ghost use Rattle.std.specs.Prelude.{◌≡◌};
 
+use super::members::Members;
 use std::alloc::AllocError;
+use wire::NodeId;
 use world::Event;
 
 /// What is done at one line.
@@ -12,6 +14,8 @@ pub enum Action {
     Step(Event),
     /// Frames are delivered until none waits.
     Flush,
+    /// This node leads a round of these members by hand.
+    Round { node: NodeId, members: Members },
 }
 
 impl Clone for Action {
@@ -21,6 +25,10 @@ impl Clone for Action {
         match self {
             Action::Step(event) => Ok(Action::Step(event.clone()?)),
             Action::Flush => Ok(Action::Flush),
+            Action::Round { node, members } => Ok(Action::Round {
+                node: *node,
+                members: members.clone()?,
+            }),
         }
     }
 }

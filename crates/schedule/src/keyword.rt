@@ -17,6 +17,7 @@ pub enum Keyword {
     Tick,
     Restart,
     Fault,
+    Round,
 }
 
 /// The word after `submit NODE CLIENT NUMBER`. It says what a client asks for.
@@ -53,6 +54,7 @@ pub(crate) fn keyword_of(word: &[u8]) -> Option<Keyword>
         b"tick" => Some(Keyword::Tick),
         b"restart" => Some(Keyword::Restart),
         b"fault" => Some(Keyword::Fault),
+        b"round" => Some(Keyword::Round),
         _ => None,
     }
 }

@@ -12,7 +12,7 @@ use super::fault::{LineFault, ParseFault, ScheduleFault};
 use super::lines::{Line, Lines};
 use super::plan::{Schedule, ScheduleLine};
 use super::reading::{later_line, nodes_line};
-use super::unread::with_document;
+use super::unread::completed;
 use std::alloc::Global;
 use store::Op;
 use wire::Nodes;
@@ -75,7 +75,7 @@ fn action_of(alloc: Global, nodes: Nodes, line: Line) -> Result<Action, ParseFau
         (IsLineRefusal nodes (entry_of line.entry)) }
 {
     match later_line(nodes, line.text) {
-        Ok(unread) => with_document(alloc, line.number, unread),
+        Ok(unread) => completed(alloc, nodes, line.number, unread),
         Err(fault) => Err(ParseFault::Line(LineFault {
             line: line.number,
             fault,

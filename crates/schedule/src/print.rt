@@ -1,12 +1,12 @@
 //! The lines of a transcript.
 
 ghost use Rattle.std.specs.Prelude.{◌≡◌, ◌++◌, OnOk, flat_map};
-ghost use Rattle.schedule.specs.Transcripts.{answer_line, learn_line, refuse_line, reply_line, stop_line};
+ghost use Rattle.schedule.specs.Transcripts.{answer_line, learn_line, refuse_line, reply_line, round_line, stop_line};
 
 use sessions::Command;
 use std::io::{self, Write};
 use wire::NodeId;
-use world::{Answered, Learnt, NodeFault, Replied};
+use world::{Answered, Learnt, NodeFault, Replied, RoundEnd};
 
 /// Adds the lines of what nodes learnt.
 pub(crate) fn print_learnt(text: &mut Vec<u8>, entries: &[Learnt]) -> io::Result<()>
@@ -92,4 +92,34 @@ pub(crate) fn print_stop(text: &mut Vec<u8>, node: NodeId, fault: NodeFault) -> 
     let node = node.value();
     let code = fault.code();
     writeln!(text, "stop {node} {code}")
+}
+
+/// Adds the line of a round by hand: `round 0 decided 0`.
+pub(crate) fn print_round(text: &mut Vec<u8>, node: NodeId, end: RoundEnd) -> io::Result<()>
+    ensures { OnOk result (text.new.items ≡ text.old.items ++ round_line node end) }
+{
+    let node = node.value();
+    match end {
+        RoundEnd::NotAQuorum => writeln!(text, "round {node} noquorum"),
+        RoundEnd::Down(member) => {
+            let member = member.value();
+            writeln!(text, "round {node} down {member}")
+        }
+        RoundEnd::Refused(fault) => {
+            let code = fault.code();
+            writeln!(text, "round {node} refused {code}")
+        }
+        RoundEnd::Stopped(member) => {
+            let member = member.value();
+            writeln!(text, "round {node} stopped {member}")
+        }
+        RoundEnd::TooLow(promised) => {
+            let (round, leader) = (promised.round, promised.node);
+            writeln!(text, "round {node} low {round}.{leader}")
+        }
+        RoundEnd::Decided(slot) => {
+            let slot = slot.value();
+            writeln!(text, "round {node} decided {slot}")
+        }
+    }
 }

@@ -4,7 +4,6 @@ ghost use Rattle.std.specs.Prelude.{◌≡◌, ◌∷◌, ℕ, All, MatchBool, M
 ghost use Rattle.schedule.specs.Codes.{IsLowest};
 ghost use Rattle.schedule.specs.Keywords.{text_of};
 ghost use Rattle.schedule.specs.Rows.{IsWordsFault, in_first_line};
-ghost use Rattle.schedule.specs.Spelling.{WordsSpell};
 ghost use Rattle.schedule.specs.Table.{HasFault, HasFirstFault, IsNodesLine, IsPrintable, IsNotPrintable};
 ghost use Rattle.schedule.specs.Unread.{Gives, WordsGive};
 
@@ -12,7 +11,7 @@ use super::action::Action;
 use super::fault::ScheduleFault;
 use super::keyword::{Keyword, keyword_of};
 use super::queries::query_row;
-use super::rows::{fault_row, frame_row, node_row};
+use super::rows::{fault_row, frame_row, node_row, round_row};
 use super::submits::submit_row;
 use super::unread::Unread;
 use super::words::Words;
@@ -96,25 +95,30 @@ fn any_row<'a>(nodes: Nodes, mut words: Words<'a>) -> Result<Unread<'a>, Schedul
         return Ok(Unread::Whole(Action::Step(query_row(nodes, words)?)));
     }
     let keyword = keyword_of(first).ok_or(ScheduleFault::UnknownWord)?;
-    Ok(Unread::Whole(row(nodes, keyword, words)?))
+    row(nodes, keyword, words)
 }
 
 /// What a line is that begins with the keyword and goes on with the words.
-fn row(nodes: Nodes, keyword: Keyword, words: Words) -> Result<Action, ScheduleFault>
-    ensures { MatchResult result (WordsSpell nodes (text_of keyword ∷ words.entry))
+fn row<'a>(nodes: Nodes, keyword: Keyword, words: Words<'a>) -> Result<Unread<'a>, ScheduleFault>
+    ensures { MatchResult result (WordsGive nodes (text_of keyword ∷ words.entry))
         (IsWordsFault nodes (text_of keyword ∷ words.entry)) }
 {
     match keyword {
         Keyword::Nodes => Err(ScheduleFault::NodesLine),
-        Keyword::Deliver => Ok(Action::Step(Event::Deliver(frame_row(words)?))),
-        Keyword::Drop => Ok(Action::Step(Event::Drop(frame_row(words)?))),
+        Keyword::Deliver => Ok(Unread::Whole(Action::Step(Event::Deliver(frame_row(words)?)))),
+        Keyword::Drop => Ok(Unread::Whole(Action::Step(Event::Drop(frame_row(words)?)))),
         Keyword::Flush => {
             words.end()?;
-            Ok(Action::Flush)
+            Ok(Unread::Whole(Action::Flush))
         }
-        Keyword::Timeout => Ok(Action::Step(Event::Timeout(node_row(nodes, words)?))),
-        Keyword::Tick => Ok(Action::Step(Event::Tick(node_row(nodes, words)?))),
-        Keyword::Restart => Ok(Action::Step(Event::Restart(node_row(nodes, words)?))),
-        Keyword::Fault => Ok(Action::Step(fault_row(nodes, words)?)),
+        Keyword::Timeout => Ok(Unread::Whole(Action::Step(Event::Timeout(node_row(
+            nodes, words,
+        )?)))),
+        Keyword::Tick => Ok(Unread::Whole(Action::Step(Event::Tick(node_row(nodes, words)?)))),
+        Keyword::Restart => Ok(Unread::Whole(Action::Step(Event::Restart(node_row(
+            nodes, words,
+        )?)))),
+        Keyword::Fault => Ok(Unread::Whole(Action::Step(fault_row(nodes, words)?))),
+        Keyword::Round => round_row(nodes, words),
     }
 }

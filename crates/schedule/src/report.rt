@@ -3,7 +3,9 @@
 ghost use Rattle.std.specs.Prelude.{◌≡◌, ◌++◌, drop, take, IfOk, OnOk};
 ghost use Rattle.schedule.specs.Transcripts.{transcript_of, lines_of_outcome, entries_after};
 
-use super::print::{print_answers, print_learnt, print_refusal, print_replies, print_stop};
+use super::print::{
+    print_answers, print_learnt, print_refusal, print_replies, print_round, print_stop,
+};
 use std::alloc::{AllocError, Global};
 use std::io;
 use std::marker::Model;
@@ -75,6 +77,7 @@ impl<'a> Unprinted<'a> {
             Outcome::Lost => Ok(()),
             Outcome::Refused(node, fault) => print_refusal(text, node, fault),
             Outcome::Stopped(node, fault) => print_stop(text, node, fault),
+            Outcome::Round(node, end) => print_round(text, node, end),
         }
     }
 }

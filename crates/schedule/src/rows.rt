@@ -2,14 +2,16 @@
 
 ghost use Rattle.std.specs.Prelude.{◌≡◌, ℕ, ◌∷◌, MatchResult};
 ghost use Rattle.schedule.specs.Keywords.{text_of};
-ghost use Rattle.schedule.specs.Rows.{IsFaultAt};
+ghost use Rattle.schedule.specs.Rows.{IsFaultAt, IsWordsFault};
 ghost use Rattle.schedule.specs.Spelling.{IsOneWord, WordsSpell};
 ghost use Rattle.schedule.specs.Table.{IsNode, IsFrameNumber, keyword_places};
+ghost use Rattle.schedule.specs.Unread.{WordsGive};
 ghost use Rattle.schedule.specs.declared.action.Action.TheVariants.{Step};
 
 use super::fault::ScheduleFault;
 use super::forms::{decimal, failing, node};
 use super::keyword::Keyword;
+use super::unread::{Rounding, Unread};
 use super::words::Words;
 use wire::{NodeId, Nodes};
 use world::Event;
@@ -42,6 +44,19 @@ pub(crate) fn fault_row(nodes: Nodes, words: Words) -> Result<Event, ScheduleFau
             Some(failing) => Ok(Event::Fault(node, failing)),
             None => Err(ScheduleFault::WordForm),
         },
+        None => Err(ScheduleFault::WordForm),
+    }
+}
+
+/// After `round`: a node, and its members, which are all that is left.
+pub(crate) fn round_row<'a>(nodes: Nodes, mut words: Words<'a>) -> Result<Unread<'a>, ScheduleFault>
+    ensures { MatchResult result (WordsGive nodes (text_of Keyword.Round ∷ words.entry))
+        (IsWordsFault nodes (text_of Keyword.Round ∷ words.entry)) }
+{
+    let target = words.needed()?;
+    let members = words.rest()?;
+    match node(nodes, target) {
+        Some(node) => Ok(Unread::Round(Rounding { node, members })),
         None => Err(ScheduleFault::WordForm),
     }
 }

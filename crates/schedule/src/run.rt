@@ -144,5 +144,9 @@ fn act<S: Stable>(alloc: Global, world: &mut World<S>, action: Action) -> Result
             let _delivered = world.flush(alloc)?;
             Ok(())
         }
+        Action::Round { node, members } => {
+            let _end = world.round(alloc, node, members.as_slice())?;
+            Ok(())
+        }
     }
 }

@@ -5,11 +5,11 @@ use std::alloc::Global;
 use std::test::Fail;
 use store::{Op, Query, Reply};
 use tpoint::{Id, Instant, Interp, Period, Point, Rect, Seq};
-use wire::{NodeId, Slot};
-use world::{Answered, Event, Learnt, NodeFault, Outcome, Replied, Text};
+use wire::{Ballot, NodeId, Slot};
+use world::{Answered, Event, Learnt, NodeFault, Outcome, Replied, RoundEnd, Text};
 
 // a line after `nodes 3`, and the fault that is told of it
-const LATER: [(&[u8], u8); 92] = [
+const LATER: [(&[u8], u8); 96] = [
     (b"\tflush", 1),
     (b"deliver 8\t", 1),
     (b"flush\r", 1),
@@ -24,7 +24,7 @@ const LATER: [(&[u8], u8); 92] = [
     (b"deliver0", 2),
     (b"dTeliver 6", 2),
     (b"timeou 2", 2),
-    (b"round 0  0", 2),
+    (b"rounds 0 0", 2),
     (b"checkpoint 9", 2),
     (b"query 0 foo", 2),
     (b"query 0 ", 2),
@@ -44,6 +44,8 @@ const LATER: [(&[u8], u8); 92] = [
     (b"tick", 4),
     (b"restart 0 0", 4),
     (b"fault 0", 4),
+    (b"round", 4),
+    (b"round x", 4),
     (b"fault 0 old now", 4),
     (b"query 0", 4),
     (b"query 0 count ", 4),
@@ -63,6 +65,8 @@ const LATER: [(&[u8], u8); 92] = [
     (b"query  count", 5),
     (b"fault 0 other", 5),
     (b"fault 3 new", 5),
+    (b"round 0  0", 5),
+    (b"round 0 1 3", 5),
     (b"submit 0 256 1 remove a", 5),
     (b"submit 0 7 0 remove a", 5),
     (b"submit 0 255 18446744073709551616 remove a", 5),
@@ -203,7 +207,7 @@ submit 0 7 1 remove bus-7\n\
 submit 2 255 18446744073709551615 remove _.Z9\n\
 \n\
 deliver 0\ndrop 18446744073709551615\nflush\n\n\n\
-timeout 1\ntick 2\nrestart 0\nfault 1 old\nfault 2 new\nquery 0 count";
+timeout 1\ntick 2\nrestart 0\nfault 1 old\nfault 2 new\nquery 0 count\nround 2 1 0 1";
 
 // the action of the one line after `nodes 3`
 fn only_action(alloc: Global, line: &[u8]) -> Result<Action, Fail> {
@@ -234,7 +238,8 @@ fn whole_schedule(rt: HostRuntime) -> Result<(), Fail> {
     let schedule = parse_schedule(rt.alloc(), WHOLE).ok().ok_or("a schedule")?;
     let nodes = schedule.nodes();
     assert_eq!(rt; nodes.count(), 3);
-    assert_eq!(rt; (schedule.first(), schedule.last()), (3, 17));
+    assert_eq!(rt; (schedule.first(), schedule.last()), (3, 18));
+    let members = Vec::from_array(rt.alloc(), [node(1)?, node(0)?, node(1)?])?;
     let wanted = [
         (4, removal(0, 7, 1, b"bus-7")?),
         (5, removal(2, 255, u64::MAX, b"_.Z9")?),
@@ -247,6 +252,13 @@ fn whole_schedule(rt: HostRuntime) -> Result<(), Fail> {
         (15, Action::Step(Event::Fault(node(1)?, Failing::Old))),
         (16, Action::Step(Event::Fault(node(2)?, Failing::New))),
         (17, Action::Step(Event::Query(node(0)?, Query::Count))),
+        (
+            18,
+            Action::Round {
+                node: node(2)?,
+                members: Members::new(members),
+            },
+        ),
     ];
     let lines = schedule.lines();
     assert_eq!(rt; lines.len(), wanted.len());
@@ -359,8 +371,9 @@ fn made(learnt: u32, replies: u32) -> Outcome {
     Outcome::Done { learnt, replies }
 }
 
-// One outcome of each kind, and steps by which one slot, two replies or nothing came of it.
-fn told_outcomes() -> Result<[Outcome; 7], Fail> {
+// One outcome of each kind, steps by which one slot, two replies or nothing came of it, and a round by each of its ends.
+fn told_outcomes() -> Result<[Outcome; 13], Fail> {
+    let promised = Ballot::new(3, 2).ok_or("a ballot")?;
     Ok([
         made(0, 0),
         made(1, 2),
@@ -369,6 +382,12 @@ fn told_outcomes() -> Result<[Outcome; 7], Fail> {
         Outcome::Refused(node(1)?, NodeFault::Down),
         Outcome::Answered,
         Outcome::Stopped(node(2)?, NodeFault::Device),
+        Outcome::Round(node(0)?, RoundEnd::NotAQuorum),
+        Outcome::Round(node(0)?, RoundEnd::Down(node(2)?)),
+        Outcome::Round(node(0)?, RoundEnd::Refused(NodeFault::LogFull)),
+        Outcome::Round(node(0)?, RoundEnd::Stopped(node(1)?)),
+        Outcome::Round(node(0)?, RoundEnd::TooLow(promised)),
+        Outcome::Round(node(1)?, RoundEnd::Decided(Slot::first())),
     ])
 }
 
@@ -428,7 +447,8 @@ fn told_run(rt: HostRuntime) -> Result<(), Fail> {
         &answers,
     )?;
     let wanted = b"learn 0 0 7:1\nreply 0 7:1 21\nreply 0 8:1 21\nlearn 1 0 noop\nrefuse 1 41\n\
-answer 0 1 count 0\nstop 2 46\n";
+answer 0 1 count 0\nstop 2 46\n\
+round 0 noquorum\nround 0 down 2\nround 0 refused 42\nround 0 stopped 1\nround 0 low 3.2\nround 1 decided 0\n";
     assert!(rt; text.as_slice() == wanted.as_slice(), "of {outcomes:?}");
     Ok(())
 }
@@ -449,7 +469,7 @@ fn numbers_of_causes(rt: HostRuntime) -> Result<(), Fail> {
 }
 
 // a file, and its transcript
-const TOLD: [(&[u8], &[u8]); 4] = [
+const TOLD: [(&[u8], &[u8]); 6] = [
     (b"nodes 3", b""),
     (
         b"nodes 3\nsubmit 0 7 1 remove bus-7\ntimeout 0\nflush\n",
@@ -466,6 +486,14 @@ learn 4 0 7:1\nanswer 4 1 count 0\n",
         b"nodes 7\nsubmit 6 7 1 remove bus-7\ntimeout 6\ndrop 0\ndrop 1\ndrop 2\nflush\nquery 0 count\n",
         b"learn 0 0 7:1\nlearn 1 0 7:1\nlearn 2 0 7:1\nlearn 3 0 7:1\nlearn 4 0 7:1\n\
 learn 5 0 7:1\nlearn 6 0 7:1\nreply 6 7:1 21\nanswer 0 1 count 0\n",
+    ),
+    (
+        b"nodes 5\nround 0 0 1\nround 0 1 2 3\nround 0 0 1 2\n",
+        b"round 0 noquorum\nround 0 noquorum\nlearn 0 0 noop\nround 0 decided 0\n",
+    ),
+    (
+        b"nodes 3\nround 2 0 2\nround 0 0 1\nround 0 0 1\n",
+        b"learn 2 0 noop\nround 2 decided 0\nround 0 low 1.2\nlearn 0 0 noop\nround 0 decided 0\n",
     ),
 ];
 

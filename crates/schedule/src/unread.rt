@@ -1,16 +1,21 @@
-//! Lines that were read but for their documents.
+//! Lines that were read but for what wants memory: their documents, and the members of their rounds.
 
 ghost use Rattle.std.specs.Prelude.{MatchResult};
 ghost use Rattle.mfjson.specs.Document.{IsDocumentOf};
-ghost use Rattle.schedule.specs.Unread.{Becomes, IsNoDocument, IsNotRead};
+ghost use Rattle.schedule.specs.Table.{NameEach};
+ghost use Rattle.schedule.specs.Unread.{Becomes, IsNoDocument, IsNoList, IsNotRead};
+ghost use Rattle.schedule.specs.Words.{words_of};
 
 use super::action::Action;
 use super::fault::{LineFault, ParseFault, ScheduleFault};
+use super::forms::node;
+use super::members::Members;
+use super::words::Words;
 use mfjson::{Feature, MfFault};
 use sessions::Number;
 use std::alloc::Global;
 use store::Op;
-use wire::NodeId;
+use wire::{NodeId, Nodes};
 use world::Event;
 
 /// A client asks a node to put the feature that a document stands for.
@@ -23,21 +28,31 @@ pub(crate) struct Putting<'a> {
     pub document: &'a [u8],
 }
 
-/// What a line spells, before its document is read.
+/// A node leads a round of the members that are named.
 #[derive(Debug, Drop)]
-pub(crate) enum Unread<'a> {
-    /// The line has none.
-    Whole(Action),
-    Put(Putting<'a>),
+pub(crate) struct Rounding<'a> {
+    pub node: NodeId,
+    /// All that follows the node and one blank.
+    pub members: &'a [u8],
 }
 
-/// The action, with the document read. The line of a fault is the one of this number.
-pub(crate) fn with_document(
+/// What a line spells, before what wants memory is read.
+#[derive(Debug, Drop)]
+pub(crate) enum Unread<'a> {
+    /// Nothing of the line does.
+    Whole(Action),
+    Put(Putting<'a>),
+    Round(Rounding<'a>),
+}
+
+/// The action, with its document or its members read. The line of a fault is the one of this number.
+pub(crate) fn completed(
     alloc: Global,
+    nodes: Nodes,
     number: u64,
     unread: Unread,
 ) -> Result<Action, ParseFault>
-    ensures { MatchResult result (Becomes unread.entry) (IsNotRead number unread.entry) }
+    ensures { MatchResult result (Becomes nodes unread.entry) (IsNotRead nodes number unread.entry) }
 {
     match unread {
         Unread::Whole(action) => Ok(action),
@@ -48,6 +63,13 @@ pub(crate) fn with_document(
                 number: putting.number,
                 op: Op::Put(feature.id, feature.seq),
             })),
+            Err(fault) => Err(fault),
+        },
+        Unread::Round(rounding) => match members_of(alloc, nodes, number, rounding.members) {
+            Ok(members) => Ok(Action::Round {
+                node: rounding.node,
+                members,
+            }),
             Err(fault) => Err(fault),
         },
     }
@@ -67,4 +89,24 @@ fn feature_of(alloc: Global, number: u64, document: &[u8]) -> Result<Feature, Pa
             })),
         },
     }
+}
+
+/// The members that the words of the list name, at the line of this number.
+fn members_of(alloc: Global, nodes: Nodes, number: u64, list: &[u8]) -> Result<Members, ParseFault>
+    ensures { MatchResult result (NameEach nodes (words_of list.now)) (IsNoList nodes number list.now) }
+{
+    let mut words = Words::of(list);
+    let mut members = Vec::new(alloc);
+    while let Some(word) = words.next() {
+        let Some(member) = node(nodes, word) else {
+            return Err(ParseFault::Line(LineFault {
+                line: number,
+                fault: ScheduleFault::WordForm,
+            }));
+        };
+        if let Err(_) = members.push(member) {
+            return Err(ParseFault::Memory(number));
+        }
+    }
+    Ok(Members::new(members))
 }

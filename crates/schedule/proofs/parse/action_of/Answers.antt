@@ -4,5 +4,5 @@ use Rattle.schedule.proofs.parse.action_of.Goals as goal
 
 pub returns-in-Ok : goal.returns-in-Ok
 returns-in-Ok c =
-    line_result c.args.nodes (entry_of c.args.line) c.in-Ok.unread c.with_document.result c.in-Ok.ensures
-    c.with_document.ensures
+    line_result c.args.nodes (entry_of c.args.line) c.in-Ok.unread c.completed.result c.in-Ok.ensures
+    c.completed.ensures
