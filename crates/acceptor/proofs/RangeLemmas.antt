@@ -1,6 +1,6 @@
 -- The votes from a slot on, as a map by slot lists them, and what a promise may tell of them.
 use Rattle.std.proofs.Common.{◌≡◌, ℕ, zero, suc, ◌+◌, ◌<◌, ◌≤◌, ◌⊎◌, Bool, true, false, List, [], ◌∷◌, ◌++◌, length, map, filter, All, Contains, Option, Some, None, IsSome, option_map, inl, inr, refl, sym, ap, ◌∙◌, subst, append_assoc, append-nil, arith, rules, MatchOption}
-use Rattle.std.specs.BTreeMap.{BTreeMap, get, keys, IsOrdered}
+use Rattle.std.specs.BTreeMap.{BTreeMap, get, IsOrdered}
 use Rattle.std.specs.BTreeMap.Range.{entries_between, range_contains, IsEntryInRange}
 use Rattle.std.specs.declared.ops.Bound.TheVariants.{Included, Unbounded}
 use Rattle.std.specs.Prelude.{⊤}
@@ -22,7 +22,7 @@ use Rattle.synod.specs.declared.vote.Vote.{Vote}
 use Rattle.sessions.specs.declared.command.Command.{Command}
 use Rattle.wire.specs.Promises.{AreTold}
 use Rattle.acceptor.specs.Casts.{vote_at}
-use Rattle.acceptor.specs.Ranges.{AreVotesOf, IsPromiseFrom}
+use Rattle.acceptor.specs.Ranges.{AreVotesOf, IsPromiseFrom, StandsFrom}
 use Rattle.acceptor.specs.declared.cast.Cast.{Cast}
 
 -- the vote that an entry of the map is
@@ -198,6 +198,17 @@ module _ (m : BTreeMap ℕ Cast) (first : ℕ) (listed : List (ℕ × Cast)) (or
   listed_ascend = ascends first listed
       (rw between (rw (keys_filter (range_contains nat_cmp (Included first) Unbounded) m.entries) (IsStrictlySortedBy-filter nat_cmp _ (keys_of m.entries) ordered)))
       (λ e c. not_above first e.0 (All-contains (IsEntryInRange nat_cmp (Included first) Unbounded m) listed e each c).0.0)
+
+  -- a vote that is listed stands at the first slot, or at a later one
+  pub listed_from : (told : List (Vote Command)) (v : Vote Command) (more : List (Vote Command)) → told ++ v ∷ more ≡ map vote_in listed
+      → StandsFrom held first
+  listed_from told v more is =
+      let there = subst (λ l. Contains l v) is (Contains-append_right told (v ∷ more) v (in_head v more)) in
+      record {
+        slot = v.slot;
+        from = not_below first (map vote_in listed) listed_ascend v there;
+        stands = rw (listed_stand v there) (search rules);
+      }
 
   -- all of them were taken
   pub all_taken : (told : List (Vote Command)) (last : ℕ) → told ≡ map vote_in listed → AreVotesOf held first last told

@@ -12,6 +12,12 @@ pub record AreVotesOf (vote : ℕ → Option (Vote Command)) (first last : ℕ) 
   pub stand : (v : Vote Command) → Contains told v → vote v.slot ≡ Some v
   pub all : (s : ℕ) (v : Vote Command) → first ≤ s → s ≤ last → vote s ≡ Some v → Contains told v
 
+-- a vote stands at the first slot, or at a later one
+pub record StandsFrom (vote : ℕ → Option (Vote Command)) (first : ℕ) : Type 0 where
+  pub slot : ℕ
+  pub from : first ≤ slot
+  pub stands : IsSome (vote slot)
+
 -- the range reaches to the log's last slot; or the promise is full, and the next slot has the first vote that found no room
 abbrev pub ReachesTo : (ℕ → Option (Vote Command)) → List (Vote Command) → ℕ → Type 0
 ReachesTo vote told last =

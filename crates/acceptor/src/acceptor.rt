@@ -1,7 +1,7 @@
 //! One node's acceptor.
 
 ghost use Rattle.std.specs.Prelude.{◌≡◌, ◌<◌, ◌⊎◌, Some, None};
-ghost use Rattle.std.specs.Prelude.{IfSome, IfOk, OnOk, IsErrOf, option_map};
+ghost use Rattle.std.specs.Prelude.{IsSome, IfSome, IfOk, OnOk, OnErr, IsErrOf, option_map};
 ghost use Rattle.synod.specs.Ballots.{rank};
 ghost use Rattle.stable.specs.Records.{Records};
 ghost use Rattle.stable.specs.declared.key.Key.TheVariants as key;
@@ -12,6 +12,7 @@ ghost use Rattle.acceptor.specs.Accepting.{HasWritten, HasFailed};
 ghost use Rattle.acceptor.specs.Casts.{AreUpTo, vote_at};
 ghost use Rattle.acceptor.specs.Forms.{BallotFits, VoteFits, IsOfItsForm, AreOfTheirForm, HasDamagedRecord};
 ghost use Rattle.acceptor.specs.Loading.{raised, with_seen};
+ghost use Rattle.acceptor.specs.Ranges.{StandsFrom};
 ghost use Rattle.acceptor.specs.Spelling.{ballot_bytes, vote_bytes};
 
 use super::answer::Answer;
@@ -166,7 +167,11 @@ impl Acceptor {
         ensures written { OnOk result (HasWritten S.reads S.puts storage.old storage.new
             (prepare_write (accepting_of self.old) ballot)) }
 
-        // Each error.
+        // Each error. A ballot that is refused is answered without one, and so is one that is promised already where there is no
+        // vote to tell.
+        ensures taken { OnErr result (refusing (accepting_of self.old).promise ballot ≡ None) }
+        ensures wanted { OnErr result (StandsFrom (accepting_of self.old).vote first
+            ⊎ IsSome (prepare_write (accepting_of self.old) ballot)) }
         ensures device { IsErrOf result StableFault.Device
             → HasFailed S.fails storage.old storage.new
             (prepare_write (accepting_of self.old) ballot) }
@@ -203,7 +208,8 @@ impl Acceptor {
             × HasWritten S.reads S.puts storage.old storage.new w) }
         ensures fits { OnOk result (IsNewVote (accepting_of self.old) vote → VoteFits vote) }
 
-        // Each error.
+        // Each error. A ballot that is refused, and a vote that stands there already, are answered without one.
+        ensures fresh { OnErr result (IsNewVote (accepting_of self.old) vote) }
         ensures device { IsErrOf result StableFault.Device
             → (w : Write) × IsAcceptWrite (accepting_of self.old) vote w
             × HasFailed S.fails storage.old storage.new w }

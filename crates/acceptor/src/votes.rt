@@ -2,7 +2,7 @@
 
 ghost use Rattle.std.specs.Prelude.{◌≡◌, ◌↔◌, IsTrue, IsSome, IfOk, OnOk, OnErr, IsErrOf, Some, None, ℕ};
 ghost use Rattle.acceptor.specs.Accepting.{put};
-ghost use Rattle.acceptor.specs.Ranges.{IsPromiseFrom};
+ghost use Rattle.acceptor.specs.Ranges.{IsPromiseFrom, StandsFrom};
 ghost use Rattle.acceptor.specs.Casts.{AreUpTo, vote_at, cast_at, vote_held};
 ghost use Rattle.acceptor.specs.Forms.{VoteFits};
 ghost use Rattle.acceptor.specs.Spelling.{vote_bytes};
@@ -50,7 +50,8 @@ impl Votes {
         first: Slot,
     ) -> Result<Promise, AllocError>
         requires { AreUpTo (Some ballot) self.now }
-        ensures { IfOk result (λ p. IsPromiseFrom (λ s. vote_held self.now s) ballot first p) }
+        ensures tells { IfOk result (λ p. IsPromiseFrom (λ s. vote_held self.now s) ballot first p) }
+        ensures stands { OnErr result (StandsFrom (λ s. vote_held self.now s) first) }
     {
         let mut entries = Entries::new(alloc);
         for (slot, cast) in self.by_slot.range(first..) {

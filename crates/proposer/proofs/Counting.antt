@@ -45,3 +45,13 @@ heard_one old now rest left x v end' grown first same within =
     ∙ ap (λ l. old ++ l) (up_to_first (nat_le v.slot end') v (up_to end' rest) within)
     ∙ ap (λ (u : Vote Command). old ++ up_to end' (u ∷ rest)) same
     ∙ ap (λ l. old ++ up_to end' l) (sym first)
+
+-- where nothing is kept of the votes, nothing is of those behind the first
+none_behind_case : (b : Bool) (v : Vote Command) (rest : List (Vote Command)) → cond b (v ∷ rest) rest ≡ [] → rest ≡ []
+none_behind_case true v rest e = absurd (cc e)
+none_behind_case false v rest e = e
+
+pub none_behind : (rest left : List (Vote Command)) (x : Vote Command) (end' : ℕ) → left ≡ x ∷ rest → up_to end' left ≡ []
+    → up_to end' rest ≡ []
+none_behind rest left x end' first none =
+    none_behind_case (nat_le x.slot end') x (up_to end' rest) (sym (ap (λ l. up_to end' l) first) ∙ none)

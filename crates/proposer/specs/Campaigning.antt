@@ -1,5 +1,5 @@
 -- A proposer's attempt to lead under one ballot: it gathers promises for the slots from the first on, and then it leads.
-use Rattle.std.specs.Prelude.{◌≡◌, ℕ, zero, suc, ◌+◌, ◌-◌, ◌*◌, ◌==◌, ◌&&◌, ◌||◌, min, not, List, [], ◌∷◌, ◌++◌, Bool, true, false, Option, Some, None}
+use Rattle.std.specs.Prelude.{◌≡◌, ◌≢◌, ℕ, zero, suc, ◌+◌, ◌-◌, ◌*◌, ◌==◌, ◌&&◌, ◌||◌, min, not, List, [], ◌∷◌, ◌++◌, Bool, true, false, Option, Some, None}
 use Rattle.std.specs.Prelude.{filter, length, nat_lt, nat_le, if◌then◌else◌, map, find, is_some}
 use Rattle.std.specs.List.{list_any}
 use Rattle.synod.specs.Ballots.{rank}
@@ -71,6 +71,11 @@ with_promise nodes k from p = record k {
 
 abbrev pub after_promise : ℕ → Campaigning → ℕ → Promised → Campaigning
 after_promise nodes k from p = if counts k from p then with_promise nodes k from p else k
+
+-- a promise counts, and of the votes that it tells one is kept
+pub record BringsVotes (k : Campaigning) (from : ℕ) (p : Promised) : Type 0 where
+  pub counted : counts k from p ≡ true
+  pub kept : up_to (min k.end p.last) p.entries ≢ []
 
 -- ---- open proposals
 abbrev pub is_at : ℕ → Proposal → Bool

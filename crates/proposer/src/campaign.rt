@@ -1,8 +1,8 @@
 //! A proposer's attempt to lead under one ballot.
 
-ghost use Rattle.std.specs.Prelude.{◌≡◌, ◌≤◌, ◌++◌, ◌∷◌, [], ◌||◌, min, true, false, IsTrue, ◌↔◌, Some, None, IfOk, OnOk, OnErr, MatchOption, filter, length, nat_le, map, ◌+◌, is_some};
+ghost use Rattle.std.specs.Prelude.{◌≡◌, ◌≤◌, ◌++◌, ◌∷◌, [], ◌||◌, min, true, false, IsTrue, ◌↔◌, Some, None, IsSome, IsSomeAnd, ◌≢◌, IfOk, OnOk, OnErr, MatchOption, filter, length, nat_le, map, ◌+◌, is_some};
 ghost use Rattle.std.specs.List.{list_any};
-ghost use Rattle.proposer.specs.Campaigning.{is_at, begun, counts, after_promise, up_to, is_most, closed, closed_below, choice, window_limit, window_filled, stepped, IsStep, sends_again, accept, prepare};
+ghost use Rattle.proposer.specs.Campaigning.{is_at, begun, counts, after_promise, BringsVotes, up_to, is_most, closed, closed_below, choice, window_limit, window_filled, stepped, IsStep, sends_again, accept, prepare};
 ghost use Rattle.learner.specs.Learning.{learnt_at};
 ghost use Rattle.learner.specs.State.{learning_of};
 
@@ -97,7 +97,8 @@ impl Campaign {
     ///
     /// After `AllocError` it must be dropped.
     pub fn count(&mut self, nodes: Nodes, from: NodeId, promise: Promise) -> Result<(), AllocError>
-        ensures { OnOk result (self.new ≡ after_promise nodes self.old from promise) }
+        ensures counted { OnOk result (self.new ≡ after_promise nodes self.old from promise) }
+        ensures brings { OnErr result (BringsVotes self.old from promise) }
     {
         if !self.counts(from, &promise) {
             return Ok(());
@@ -152,7 +153,8 @@ impl Campaign {
         learnt_to: u32,
         slot: Slot,
     ) -> Result<Option<Command>, AllocError>
-        ensures { IfOk result (λ c. c ≡ choice self.now waiting.now learnt_to slot self.now.proposals) }
+        ensures chosen { IfOk result (λ c. c ≡ choice self.now waiting.now learnt_to slot self.now.proposals) }
+        ensures there { OnErr result (IsSome (choice self.now waiting.now learnt_to slot self.now.proposals)) }
     {
         if let Some(vote) = highest(self.told.as_slice(), slot) {
             return Ok(Some(vote.command.clone()?));
@@ -173,6 +175,7 @@ impl Campaign {
     ) -> Result<Vec<Outgoing>, AllocError>
         ensures filled { IfOk result (λ sends. record { proposals = self.new.proposals; sent = sends.items }
             ≡ window_filled self.old waiting.now learnt_to (learning_of learner.now)) }
+        ensures sending { OnErr result ((window_filled self.old waiting.now learnt_to (learning_of learner.now)).sent ≢ []) }
         ensures only { OnOk result (self.new ≡ record self.old { proposals = self.new.proposals }) }
     {
         let position = learner.prefix();
@@ -218,6 +221,9 @@ impl Campaign {
             goes_on
             (record { proposals = self.old.proposals; sent = sends.old.items })
             (record { proposals = self.new.proposals; sent = sends.new.items })) }
+        ensures opens { OnErr result (IsSomeAnd
+            (stepped self.old waiting.now learnt_to learnt slot (record { proposals = self.old.proposals; sent = sends.old.items }))
+            (λ f. f.sent ≢ [])) }
         ensures only { OnOk result (self.new ≡ record self.old { proposals = self.new.proposals }) }
     {
         if learnt || self.window.has(slot) {
@@ -247,7 +253,8 @@ impl Campaign {
     /// Sends again what may have been lost: while it gathers, the prepare to the nodes whose promise wasn't counted; while it
     /// leads, every open proposal, slots ascending.
     pub fn send_again(&self, alloc: Global) -> Result<Vec<Outgoing>, AllocError>
-        ensures { IfOk result (λ sends. sends.items ≡ sends_again self.now) }
+        ensures sends { IfOk result (λ sends. sends.items ≡ sends_again self.now) }
+        ensures sending { OnErr result (sends_again self.now ≢ []) }
     {
         let mut sends = Vec::new(alloc);
         if !self.leading {
@@ -266,7 +273,8 @@ impl Campaign {
 
 /// Takes in the votes that a promise tells of the slots up to one.
 fn hear(told: &mut Vec<Vote<Command>>, end: Slot, entries: Entries) -> Result<(), AllocError>
-    ensures { OnOk result (told.new.items ≡ told.old.items ++ up_to end entries.items) }
+    ensures heard { OnOk result (told.new.items ≡ told.old.items ++ up_to end entries.items) }
+    ensures kept { OnErr result (up_to end entries.items ≢ []) }
 {
     for entry in entries {
         let vote = entry.into_vote();

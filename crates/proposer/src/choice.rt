@@ -1,6 +1,6 @@
 //! Which command a leader proposes for a slot.
 
-ghost use Rattle.std.specs.Prelude.{◌≡◌, IfOk};
+ghost use Rattle.std.specs.Prelude.{◌≡◌, IsSome, IfOk, OnErr};
 ghost use Rattle.std.specs.Option.{option_copied};
 ghost use Rattle.proposer.specs.Campaigning.{told_at, is_told_after, free_choice};
 
@@ -44,7 +44,8 @@ pub(super) fn free_choice(
     window: &Window,
     is_first: bool,
 ) -> Result<Option<Command>, AllocError>
-    ensures { IfOk result (λ c. c ≡ free_choice is_gap waiting.now window.now is_first) }
+    ensures chosen { IfOk result (λ c. c ≡ free_choice is_gap waiting.now window.now is_first) }
+    ensures there { OnErr result (IsSome (free_choice is_gap waiting.now window.now is_first)) }
 {
     if is_gap {
         return Ok(Some(Command::NoOp));

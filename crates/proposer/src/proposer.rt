@@ -1,12 +1,13 @@
 //! One node's proposer.
 
-ghost use Rattle.std.specs.Prelude.{◌≡◌, ◌≤◌, ◌<◌, ◌^◌, ◌++◌, ◌∷◌, [], ℕ, length, true, false, Some, None, IfOk, OnOk, OnErr, IsErrOf, IsOk, MatchOption};
+ghost use Rattle.std.specs.Prelude.{◌≡◌, ◌≤◌, ◌<◌, ◌^◌, ◌++◌, ◌∷◌, [], ℕ, length, true, false, Some, None, IsSomeAnd, ◌≢◌, IfOk, OnOk, OnErr, IsErrOf, IsOk, MatchOption};
 ghost use Rattle.std.specs.List.{list_any};
 ghost use Rattle.byteorder.specs.Endian.{big_bytes};
 ghost use Rattle.stable.specs.declared.key.Key.TheVariants as key;
 ghost use Rattle.wire.specs.RecordForms.{IsRoundRecord};
 ghost use Rattle.learner.specs.Learning.{prefix};
 ghost use Rattle.learner.specs.State.{learning_of};
+ghost use Rattle.proposer.specs.Campaigning.{BringsVotes};
 ghost use Rattle.proposer.specs.Requests.{is_of, without};
 ghost use Rattle.proposer.specs.Proposing.{loaded, next_round, StartsCampaign, with_promised, after_nack, after_learned, is_led, gathers_on, proposes, sends_again};
 
@@ -194,7 +195,10 @@ impl Proposer {
 
     /// A promise has come. After `AllocError` the proposer must be dropped, and loaded again.
     pub fn on_promise(&mut self, from: NodeId, promise: Promise) -> Result<(), AllocError>
-        ensures { OnOk result (self.new ≡ with_promised self.old from promise) }
+        ensures counted { OnOk result (self.new ≡ with_promised self.old from promise) }
+
+        // Only a promise that counts, and of whose votes one is kept, can be refused memory.
+        ensures brings { OnErr result (IsSomeAnd self.old.campaign (λ k. BringsVotes k from promise)) }
     {
         let Some(campaign) = &mut self.campaign else {
             return Ok(());
@@ -240,7 +244,10 @@ impl Proposer {
     /// It takes a number of steps that grows with the window, and not with the requests that wait. After `AllocError` the proposer
     /// must be dropped, and loaded again.
     pub fn propose(&mut self, alloc: Global, learner: &Learner) -> Result<Vec<Outgoing>, AllocError>
-        ensures { IfOk result (λ sends. (self.new, sends.items) ≡ proposes self.old self.old.campaign (learning_of learner.now)) }
+        ensures proposes { IfOk result (λ sends. (self.new, sends.items) ≡ proposes self.old self.old.campaign (learning_of learner.now)) }
+
+        // Only a leader that has something to send can be refused memory.
+        ensures sending { OnErr result ((proposes self.old self.old.campaign (learning_of learner.now)).1 ≢ []) }
     {
         let Some(campaign) = &mut self.campaign else {
             return Ok(Vec::new(alloc));
@@ -257,7 +264,9 @@ impl Proposer {
 
     /// Gathers promises further on, under the same ballot, where the log has slots left and a request waits.
     fn gather(&mut self, alloc: Global, learner: &Learner) -> Result<Vec<Outgoing>, AllocError>
-        ensures { IfOk result (λ sends. (self.new, sends.items) ≡ gathers_on self.old self.old.campaign (prefix (learning_of learner.now))) }
+        ensures gathers { IfOk result (λ sends. (self.new, sends.items)
+            ≡ gathers_on self.old self.old.campaign (prefix (learning_of learner.now))) }
+        ensures sending { OnErr result ((gathers_on self.old self.old.campaign (prefix (learning_of learner.now))).1 ≢ []) }
     {
         let mut sends = Vec::new(alloc);
         let Some(campaign) = &mut self.campaign else {
@@ -277,7 +286,10 @@ impl Proposer {
 
     /// Sends again what may have been lost.
     pub fn tick(&self, alloc: Global) -> Result<Vec<Outgoing>, AllocError>
-        ensures { IfOk result (λ sends. sends.items ≡ sends_again self.now.campaign) }
+        ensures sends { IfOk result (λ sends. sends.items ≡ sends_again self.now.campaign) }
+
+        // Only where something is sent can memory be refused.
+        ensures sending { OnErr result (sends_again self.now.campaign ≢ []) }
     {
         match &self.campaign {
             Some(campaign) => campaign.send_again(alloc),

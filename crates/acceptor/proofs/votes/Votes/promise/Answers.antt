@@ -1,11 +1,13 @@
-use Rattle.std.proofs.Common.{rules, ◌≡◌, List, ◌+◌, ◌<◌, ◌≤◌, ◌++◌, ◌∷◌, [], ℕ, length, map, All, Contains, Some, IsSome, inl, inr, arith, refl, sym, ap, ◌∙◌, subst, append-nil}
+use Rattle.std.proofs.Common.{rules, ◌≡◌, List, ◌+◌, ◌<◌, ◌++◌, ◌∷◌, [], ℕ, length, map, All, Contains, sym, ap, ◌∙◌, subst, append-nil}
 use Rattle.std.specs.BTreeMap.Range.{entries_between, IsEntryInRange}
 use Rattle.std.specs.Ordering.{nat_cmp}
 use Rattle.std.specs.declared.ops.Bound.TheVariants.{Included, Unbounded}
 use Rattle.synod.specs.declared.vote.Vote.{Vote}
 use Rattle.sessions.specs.declared.command.Command.{Command}
 use Rattle.acceptor.specs.declared.cast.Cast.{Cast}
-use Rattle.acceptor.proofs.RangeLemmas.{vote_in, none_in_log, one_more_in_log, next_taken, some_slot_before, has_one_before, full_promise, last_promise}
+use Rattle.acceptor.specs.Casts.{vote_held}
+use Rattle.acceptor.specs.Ranges.{StandsFrom}
+use Rattle.acceptor.proofs.RangeLemmas.{vote_in, none_in_log, one_more_in_log, next_taken, some_slot_before, has_one_before, listed_from, full_promise, last_promise}
 use Rattle.acceptor.proofs.votes.Votes.promise.Goals as goal
 
 pub loop-slot-init : goal.loop-slot-init
@@ -57,8 +59,8 @@ unwrap-requires-then-len-eq-MOST_ENTRIES c =
     let promise = full_promise votes c.args.first listed ordered between each c.args.ballot told (vote_in e) (map vote_in c.next.new.self) c.unwrap.result whole four next bound c.requires in
     c.new.ensures.valid.1 promise.may_be_said
 
-pub returns-then-len-eq-MOST_ENTRIES : goal.returns-then-len-eq-MOST_ENTRIES
-returns-then-len-eq-MOST_ENTRIES c =
+pub returns-then-len-eq-MOST_ENTRIES-clause-tells : goal.returns-then-len-eq-MOST_ENTRIES-clause-tells
+returns-then-len-eq-MOST_ENTRIES-clause-tells c =
     let e : ℕ × Cast = (c.in-Some.slot.now, c.in-Some.cast.now) in
     let steps : c.loop-slot.slot-iterator ≡ e ∷ c.next.new.self = search rules in
     let votes = c.args.self.now.by_slot in
@@ -92,8 +94,8 @@ unwrap-requires-2 c =
     let promise = last_promise votes c.args.first listed ordered between each c.args.ballot told c.last.result whole c.loop-slot.invariant.1 c.loop-slot.invariant.2 c.last.ensures low c.requires in
     c.new-2.ensures.valid.1 promise.may_be_said
 
-pub returns : goal.returns
-returns c =
+pub returns-clause-tells : goal.returns-clause-tells
+returns-clause-tells c =
     let votes = c.args.self.now.by_slot in
     let listed = c.range-slot-items.result in
     let between : listed ≡ entries_between nat_cmp (Included c.args.first) Unbounded votes.entries = search rules in
@@ -108,3 +110,34 @@ returns c =
     let promise = last_promise votes c.args.first listed ordered between each c.args.ballot told c.last.result whole c.loop-slot.invariant.1 c.loop-slot.invariant.2 c.last.ensures low c.requires in
     let is : c.unwrap-2.result ≡ record { ballot = c.args.ballot; first = c.args.first; last = c.last.result; entries = told } = search rules in
     rw is promise
+
+-- the vote at hand, for which memory was refused, stands at the first slot or at a later one
+pub returns-in_err-clone-clause-stands : goal.returns-in_err-clone-clause-stands
+returns-in_err-clone-clause-stands c =
+    let e : ℕ × Cast = (c.in-Some.slot.now, c.in-Some.cast.now) in
+    let steps : c.loop-slot.slot-iterator ≡ e ∷ c.next.new.self = search rules in
+    let votes = c.args.self.now.by_slot in
+    let listed = c.range-slot-items.result in
+    let between : listed ≡ entries_between nat_cmp (Included c.args.first) Unbounded votes.entries = search rules in
+    let each : All (IsEntryInRange nat_cmp (Included c.args.first) Unbounded votes) listed = search rules in
+    let told = c.loop-slot.entries.items in
+    let whole : told ++ vote_in e ∷ map vote_in c.next.new.self ≡ map vote_in listed =
+    ap (λ (l : List (ℕ × Cast)). told ++ map vote_in l) (sym steps) ∙ c.loop-slot.invariant.0 ∙ ap (map vote_in) c.into_iter-slot-iterator.ensures.into_iter_gives in
+    let there : StandsFrom (λ s. vote_held c.args.self.now s) c.args.first =
+    listed_from votes c.args.first listed c.range-slot-items.ensures.ordered between each told (vote_in e) (map vote_in c.next.new.self) whole in
+    search rules
+
+pub returns-in_err-push-clause-stands : goal.returns-in_err-push-clause-stands
+returns-in_err-push-clause-stands c =
+    let e : ℕ × Cast = (c.in-Some.slot.now, c.in-Some.cast.now) in
+    let steps : c.loop-slot.slot-iterator ≡ e ∷ c.next.new.self = search rules in
+    let votes = c.args.self.now.by_slot in
+    let listed = c.range-slot-items.result in
+    let between : listed ≡ entries_between nat_cmp (Included c.args.first) Unbounded votes.entries = search rules in
+    let each : All (IsEntryInRange nat_cmp (Included c.args.first) Unbounded votes) listed = search rules in
+    let told = c.loop-slot.entries.items in
+    let whole : told ++ vote_in e ∷ map vote_in c.next.new.self ≡ map vote_in listed =
+    ap (λ (l : List (ℕ × Cast)). told ++ map vote_in l) (sym steps) ∙ c.loop-slot.invariant.0 ∙ ap (map vote_in) c.into_iter-slot-iterator.ensures.into_iter_gives in
+    let there : StandsFrom (λ s. vote_held c.args.self.now s) c.args.first =
+    listed_from votes c.args.first listed c.range-slot-items.ensures.ordered between each told (vote_in e) (map vote_in c.next.new.self) whole in
+    search rules

@@ -38,7 +38,7 @@ returns c =
     record {
       opened = opened;
       sent = c.in_ok-sends.sends.items;
-      proposes = c.in_ok-sends.ensures;
+      proposes = c.in_ok-sends.ensures.proposes;
       learned = learned;
       learns = subst (λ r. HearsDecided old place (Request r) learned new) chosen learns;
       submits = subst (λ p. Submits p (request_of (waiting + (1 + place))) c.submit.new.proposer) done comes;

@@ -5,13 +5,13 @@ use Rattle.proposer.specs.Campaigning.{Campaigning, up_to, is_most}
 use Rattle.proposer.proofs.Counting.{made_promise}
 use Rattle.proposer.proofs.campaign.Campaign.count.Goals as goal
 
-pub returns : goal.returns
-returns c =
+pub returns-clause-counted : goal.returns-clause-counted
+returns-clause-counted c =
     let end' = c.min-end.result in
     let kept : c.retain.new.self.items ≡ up_to end' c.self.inside.told.items =
     filter_same _ _ _ (λ x b f' k. search rules) _ _ c.retain.ensures.filtered in
     let told : c.hear.new.told.items ≡ up_to end' (c.self.inside.told.items ++ c.args.promise.entries) =
-    c.in_ok-hear.ensures ∙ ap (λ l. l ++ up_to end' c.into_entries.result.items) kept
+    c.in_ok-hear.ensures.heard ∙ ap (λ l. l ++ up_to end' c.into_entries.result.items) kept
     ∙ ap (λ l. up_to end' c.self.inside.told.items ++ up_to end' l) c.into_entries.ensures
     ∙ sym (filter-append (λ v. nat_le v.slot end') c.self.inside.told.items c.args.promise.entries) in
     let counted : c.counts.result ≡ true = search rules in
