@@ -20,6 +20,7 @@ pub mod Longer
 pub mod Explained
 pub mod Validity
 pub mod InLog
+pub mod PromisesStand
 pub mod OneAnswer
 pub mod TallyLemmas
 -- the start, deliveries one after the other, and rounds
@@ -28,6 +29,21 @@ pub mod FlushLemmas
 pub mod RoundMembers
 pub mod RoundBeginnings
 pub mod RoundLemmas
+-- what a round that nothing disturbs comes to, phase by phase
+pub mod OwnBallots
+pub mod RoundPremises
+pub mod Handing
+pub mod Leading
+pub mod Hearing
+pub mod RoundAsked
+pub mod RoundAnswered
+pub mod RoundVoted
+pub mod RoundHeard
+pub mod RoundDecides
+pub mod RefusedGrows
+pub mod NextBallots
+pub mod RoundProgress
+pub mod RoundsProgress
 pub mod FiredLemmas
 -- all of it, for the public calls
 pub mod SoundSteps

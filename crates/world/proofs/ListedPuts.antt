@@ -91,7 +91,7 @@ module _ {S : Type 0} {contents : S → Records} {IsHonest : S → Type 0} (a b 
 put_shows : (r : Records) (key : Key) (bytes : List ℕ) → Shows (with_record r key bytes) (key, bytes)
 put_shows r key bytes = rw (eq-eqb (rank key) (rank key) refl) refl
 
-put_cases : (r : Records) (key : Key) (bytes : List ℕ) (w : Write) → Shows (with_record r key bytes) w → ((key, bytes) ≡ w) ⊎ Shows r w
+pub put_cases : (r : Records) (key : Key) (bytes : List ℕ) (w : Write) → Shows (with_record r key bytes) w → ((key, bytes) ≡ w) ⊎ Shows r w
 put_cases r key bytes w shows = elim (eqb_tells (rank w.0) (rank key)) [
   | inl same ↦
       let k : key ≡ w.0 = sym (same_rank w.0 key same.1) in

@@ -181,7 +181,8 @@ module _ {S : Type 0} {storages : Ghosts (Script S)} (laws : IsLawful storages)
   read_sure : (a b : Script S) → storages.reads a b → a.unsure ≡ None → b.unsure ≡ None
   read_sure a b h sure = elim (lists.reads_unsure a b h) [ inl now ↦ now | inr same ↦ same.1 ∙ sure ]
 
-  written_goes : (a b : Script S) (w : Write) → HasWritten storages.reads storages.puts a b w → storages.IsHonest b → GoesOn storages.contents a b
+  pub written_goes : (a b : Script S) (w : Write) → HasWritten storages.reads storages.puts a b w → storages.IsHonest b
+      → GoesOn storages.contents a b
   written_goes a b None h honest = lists.reads_on a b h honest
   written_goes a b (Some w) h honest = lists.puts_on a b w.0 w.1 h honest
 
@@ -189,7 +190,7 @@ module _ {S : Type 0} {storages : Ghosts (Script S)} (laws : IsLawful storages)
   written_sure a b None h sure = read_sure a b h sure
   written_sure a b (Some w) h sure = lists.puts_sure a b w.0 w.1 h
 
-  failed_goes : (a b : Script S) (w : Write) → HasFailed storages.fails a b w → storages.IsHonest b → GoesOn storages.contents a b
+  pub failed_goes : (a b : Script S) (w : Write) → HasFailed storages.fails a b w → storages.IsHonest b → GoesOn storages.contents a b
   failed_goes a b None h honest = absurd h
   failed_goes a b (Some w) h honest = lists.fails_on a b w.0 w.1 h honest
 

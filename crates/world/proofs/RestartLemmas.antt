@@ -39,7 +39,7 @@ module _ {S : Type 0} {contents : Script S → Records} where
       }
 
 -- ---- a restart
-abbrev failed_with : NodeFault → Result (Unit {0}) NodeFault
+abbrev pub failed_with : NodeFault → Result (Unit {0}) NodeFault
 failed_with f = Err f
 
 module _ {S : Type 0} {storages : Ghosts (Script S)} (laws : IsLawful storages) where

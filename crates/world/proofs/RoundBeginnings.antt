@@ -1,5 +1,5 @@
 -- How a round begins: the node begins a campaign, goes down on it, or refuses.
-use Rattle.std.proofs.Common.{◌≡◌, ℕ, zero, suc, ◌<◌, ◌≤◌, ◌↔◌, List, [], ◌∷◌, Bool, true, false, Option, Some, None, IsSome, IfSome, Result, Ok, Err, IfErr, MatchBool, MatchOption, slice_get, slice_set, refl, sym, ap, subst, ◌∙◌, arith, rules, nat_le}
+use Rattle.std.proofs.Common.{◌≡◌, ℕ, zero, suc, ◌<◌, ◌≤◌, ◌↔◌, List, [], ◌∷◌, Bool, true, false, Option, Some, None, IsSome, IfSome, Err, MatchBool, MatchOption, slice_get, slice_set, refl, sym, ap, subst, ◌∙◌, arith, rules}
 use Rattle.std.specs.Prelude.{is_some}
 use Rattle.synod.specs.declared.slot.TheConstants.{SLOTS}
 use Rattle.stable.specs.Script.{Script}
@@ -7,14 +7,13 @@ use Rattle.stable.specs.declared.stable.Stable.{Ghosts}
 use Rattle.node.specs.Faults.{is_stop_fault}
 use Rattle.node.specs.Minds.{Mind, position, refuses, is_full}
 use Rattle.node.specs.Nodes.{NodeState, NodeSteps, RefusesInput, StopsOnInput}
-use Rattle.node.specs.Outputs.{Response}
 use Rattle.node.specs.declared.fault.NodeFault.{NodeFault}
 use Rattle.node.specs.declared.fault.NodeFault.TheVariants as fault
 use Rattle.node.specs.declared.input.Input.TheVariants as input
 use Rattle.world.specs.declared.round_end.RoundEnd.{RoundEnd}
 use Rattle.world.specs.declared.round_end.RoundEnd.TheVariants.{Refused, Stopped}
 use Rattle.world.specs.Rounds.{is_up, is_up_node, FailsToBegin, RefusesToBegin, IsAt, MeetingEnds, at_once}
-use Rattle.world.specs.Worlds.{WorldState, TakesAt, with_node, with_outcome, outcome_of, recorded}
+use Rattle.world.specs.Worlds.{WorldState, TakesAt, with_node, with_outcome, outcome_of}
 
 -- ---- one node of a list
 set_here : {A : Type 0} (xs : List A) (i : ℕ) (x y : A) → slice_get xs i ≡ Some x → slice_get (slice_set xs i y) i ≡ Some y

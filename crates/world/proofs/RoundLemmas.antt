@@ -1,5 +1,5 @@
 -- A round by hand, phase by phase.
-use Rattle.std.proofs.Common.{◌≡◌, ◌⊎◌, ℕ, suc, ◌+◌, ◌≤◌, ◌<◌, inl, inr, List, [], ◌∷◌, Bool, true, false, Option, Some, None, IsSome, IfOk, IfErr, OnErr, IsErrOf, MatchOption, drop, take, ◌-◌, rules, Result, Ok, Err, length, slice_get, Contains, refl, sym, ap, subst, ◌∙◌, length-append, add-one, arith}
+use Rattle.std.proofs.Common.{◌≡◌, ◌⊎◌, ℕ, ◌+◌, ◌≤◌, inl, inr, List, [], ◌∷◌, Bool, true, false, Option, Some, None, IsSome, IfOk, IfErr, OnErr, IsErrOf, MatchOption, drop, take, ◌-◌, rules, Result, Ok, Err, length, slice_get, Contains, refl, sym, ap, subst, ◌∙◌, length-append, add-one, arith}
 use Rattle.std.proofs.Math.Seq.{take-length}
 use Rattle.std.proofs.lemmas.List.{length-drop}
 use Rattle.stable.specs.Script.{Script}

@@ -1,10 +1,10 @@
 -- The members of a round, and what they refuse.
-use Rattle.std.proofs.Common.{◌≡◌, ◌≢◌, ◌⊎◌, ℕ, zero, suc, ◌+◌, ◌-◌, ◌≤◌, ◌<◌, List, [], ◌∷◌, length, take, drop, Bool, true, false, Option, Some, None, IfSome, MatchBool, MatchOption, All, AllPairs, Any, Contains, get_or, refl, sym, ap, subst, ◌∙◌, arith, rules, inl, inr}
-use Rattle.std.specs.Prelude.{slice_index_or, nat_lt, if◌then◌else◌}
+use Rattle.std.proofs.Common.{◌≡◌, ◌≢◌, ℕ, suc, ◌+◌, ◌-◌, ◌≤◌, ◌<◌, List, [], ◌∷◌, length, take, drop, Bool, true, false, Option, Some, None, IfSome, MatchBool, MatchOption, All, AllPairs, Contains, get_or, refl, sym, ap, subst, ◌∙◌, arith, rules, inl, inr}
+use Rattle.std.specs.Prelude.{nat_lt, if◌then◌else◌}
 use Rattle.std.proofs.Math.Seq.{take-length}
 use Rattle.std.proofs.lemmas.Bool.{cases_Bool}
 use Rattle.std.proofs.lemmas.List.{get_or_default}
-use Rattle.std.proofs.lemmas.List.Elements.{All-cons, All-nil}
+use Rattle.std.proofs.lemmas.List.Elements.{All-cons}
 use Rattle.std.proofs.lemmas.List.Kept.{AllPairs-cons}
 use Rattle.tpoint.proofs.ListLemmas.{first_to_all, tail_pairs}
 use Rattle.synod.specs.Ballots.{rank}

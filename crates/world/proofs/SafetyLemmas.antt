@@ -179,7 +179,7 @@ module _ {S : Type 0} {storages : Ghosts (Script S)} where
       up_again n n (synod_runs.here synod_runs.start i) n.up refl refl (nothing_agrees (storages.contents n.storage) empty) refl loads
 
   -- no put was made, and no vote cast
-  none_put : (s : Script S) (write : Write) → IsUnused storages s → TookEffect storages.contents s write → ⊥
+  pub none_put : (s : Script S) (write : Write) → IsUnused storages s → TookEffect storages.contents s write → ⊥
   none_put s write fresh (inl c) = none_in write (subst (λ (ws : List Write). Contains ws write) fresh.no_puts c)
   none_put s write fresh (inr u) = none-some write (sym fresh.sure ∙ u.0)
 

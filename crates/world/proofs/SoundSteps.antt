@@ -26,6 +26,7 @@ use Rattle.world.proofs.Explained.{explained}
 use Rattle.world.proofs.FleetSteps.{step_fleet}
 use Rattle.world.proofs.InLog.{start_in_log, step_in_log}
 use Rattle.world.proofs.ListedPuts.{KeepsPuts}
+use Rattle.world.proofs.PromisesStand.{start_promises, step_promises}
 use Rattle.world.proofs.RestartLemmas.{restart_honest}
 use Rattle.world.proofs.SafetyLemmas.{allowed_agrees, has_chosen, learnt_agree, learnt_grounded, start_allowed}
 use Rattle.world.proofs.Tellings.{steps_tell, start_tells}
@@ -56,6 +57,7 @@ start_sound storages count w start = record {
     tells = start_tells storages count w start;
     in_log = start_in_log w.learnt (ap (λ (x : WorldState _). x.learnt) start.nothing);
     valid = start_valid w (ap (λ (x : WorldState _). x.submitted) start.nothing);
+    promises = start_promises storages count w start;
   };
 }
 
@@ -102,12 +104,15 @@ module _ {S : Type 0} {storages : Ghosts (Script S)} (laws : IsLawful storages)
   pub step_sound : (old : WorldState S) (e : Event) (new : WorldState S) → Steps storages old e new
       → IsFleet old.nodes old.frames → IsSoundIfHonest storages.contents storages.IsHonest old → IsSoundIfHonest storages.contents storages.IsHonest new
   step_sound old e new h fleet before = record {
-    sound = λ honest. record {
-      allowed = step_allowed laws armed_honest armed_contents lists old e new h fleet (λ was. (before.sound was).allowed) honest;
-      tells = steps_tell storages old new e h (before.sound (step_honest old e new h fleet honest)).tells;
-      in_log = step_in_log storages old e new h (before.sound (step_honest old e new h fleet honest)).in_log;
-      valid = step_valid storages old e new h (before.sound (step_honest old e new h fleet honest)).valid;
-    };
+    sound = λ honest.
+        let was = before.sound (step_honest old e new h fleet honest) in
+        record {
+          allowed = step_allowed laws armed_honest armed_contents lists old e new h fleet (λ then. (before.sound then).allowed) honest;
+          tells = steps_tell storages old new e h was.tells;
+          in_log = step_in_log storages old e new h was.in_log;
+          valid = step_valid storages old e new h was.valid;
+          promises = step_promises laws lists armed_contents old e new h fleet was.allowed was.promises honest;
+        };
   }
 
   record Kept (w : WorldState S) : Type 0 where
@@ -120,7 +125,7 @@ module _ {S : Type 0} {storages : Ghosts (Script S)} (laws : IsLawful storages)
   told_sound w o h = record {
     sound = λ honest.
         let was = h.sound honest in
-        record { allowed = was.allowed; tells = was.tells; in_log = was.in_log; valid = was.valid };
+        record { allowed = was.allowed; tells = was.tells; in_log = was.in_log; valid = was.valid; promises = was.promises };
   }
 
   -- ---- a round, whatever comes of it

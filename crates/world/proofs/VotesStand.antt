@@ -31,7 +31,7 @@ one_spelled (Some u) v at fit fits e = (let bytes : vote_bytes u ≡ vote_bytes 
 
 module _ {S : Type 0} (contents : Script S → Records) where
   -- what each key holds, as the records that show
-  held_shown : (s : Script S) → ((key : Key) → HoldsPut contents s key) → (w : Write) → Shows (contents s) w → TookEffect contents s w
+  pub held_shown : (s : Script S) → ((key : Key) → HoldsPut contents s key) → (w : Write) → Shows (contents s) w → TookEffect contents s w
   held_shown s held w shows =
       subst (λ (o : Option (List ℕ)). IfSome o (λ bytes. TookEffect contents s (w.0, bytes))) shows (held w.0)
 

@@ -43,7 +43,7 @@ use Rattle.world.proofs.RestartLemmas.{restart_honest}
 use Rattle.world.proofs.VotesStand.{puts_same}
 
 -- ---- one element of a list is replaced
-set_there : {A : Type 0} (xs : List A) (i : ℕ) (y z : A) → slice_get xs i ≡ Some z → slice_get (slice_set xs i y) i ≡ Some y
+pub set_there : {A : Type 0} (xs : List A) (i : ℕ) (y z : A) → slice_get xs i ≡ Some z → slice_get (slice_set xs i y) i ≡ Some y
 set_there [] i y z e = absurd cc
 set_there (x ∷ xs) zero y z e = refl
 set_there (x ∷ xs) (suc i) y z e = set_there xs i y z e

@@ -13,6 +13,7 @@ use Rattle.world.specs.declared.log.TheConstants.{MOST_DELIVERIES}
 use Rattle.world.specs.declared.run.Run.{Run}
 use Rattle.world.specs.Fired.{HasFewFaults}
 use Rattle.world.specs.Fleets.{IsFleet}
+use Rattle.world.specs.Progress.{MakesProgress, PromisesProgress}
 use Rattle.world.specs.Flushing.{IsStart, Delivers, DeliversSome}
 use Rattle.world.specs.Reaching.{AreHonest}
 use Rattle.world.specs.Safety.{IsSafe, IsSoundIfHonest, contents_inside, honest_inside}
@@ -22,6 +23,7 @@ use Rattle.world.proofs.FiredLemmas.{honest_outside}
 use Rattle.world.proofs.ListedPuts.{script_puts}
 use Rattle.world.specs.Rounds.{RoundEnds, IsPartOfRound}
 use Rattle.world.specs.declared.round_end.RoundEnd.{RoundEnd}
+use Rattle.world.proofs.RoundsProgress.{makes_progress}
 use Rattle.world.proofs.SoundSteps.{start_sound, safe_if_honest, step_sound, delivers_sound, round_sound}
 
 abbrev failed : WorldFault → Result ℕ WorldFault
@@ -42,6 +44,25 @@ stays_safe storages r few sound inside =
       honest = honest;
       safe = safe_where_honest {contents = contents_inside storages.contents} {IsHonest = honest_inside storages.IsHonest} (run_of r) sound honest;
     }
+
+-- what a round comes to
+progress_where_honest : {S : Type 0} (storages : Ghosts (Script S)) (w : WorldState S) (node : ℕ) (members : List ℕ) (end : RoundEnd)
+    (new : WorldState S) → IsFleet w.nodes w.frames → RoundEnds storages w node members end new
+    → ∥ IsSoundIfHonest storages.contents storages.IsHonest w ∥₁ → AreHonest storages.IsHonest w.nodes
+    → ∥ MakesProgress w node members end new ∥₁
+progress_where_honest storages w node members end new fleet ends sound honest =
+    ∥∥₁_map sound (λ h. makes_progress storages storages.contents w fleet (h.sound honest) node members end new ends)
+
+pub round_progress : {S : Type 0} (storages : Ghosts S) (r : Run S) (node : ℕ) (members : List ℕ) (result : Result RoundEnd WorldFault)
+    (new : WorldState S) → HasFewFaults (run_of r)
+    → ∥ IsSoundIfHonest (contents_inside storages.contents) (honest_inside storages.IsHonest) (run_of r) ∥₁
+    → IsFleet (run_of r).nodes (run_of r).frames
+    → IfOk result (λ end. RoundEnds (scripted storages) (run_of r) node members end new)
+    → IfOk result (λ end. PromisesProgress storages.IsHonest (run_of r) node members end new)
+round_progress storages r node members (Ok end) new few sound fleet ends = λ inside.
+    progress_where_honest (scripted storages) (run_of r) node members end new fleet ends sound
+    (honest_outside storages.IsHonest r few inside)
+round_progress storages r node members (Err f) new few sound fleet ends = ends
 
 pub started : {S : Type 0} {storages : Ghosts (Script S)} (count : ℕ) (w : WorldState S) → IsStart storages count w
     → ∥ IsSoundIfHonest storages.contents storages.IsHonest w ∥₁

@@ -1,16 +1,19 @@
 -- What is promised of a world whose storages are honest.
-use Rattle.std.specs.Prelude.{◌≡◌, ◌↔◌, ℕ, List, map, length, slice_get, Some, IsSome}
+use Rattle.std.specs.Prelude.{◌≡◌, ◌↔◌, ℕ, ◌<◌, List, map, length, slice_get, Some, IsSome}
 use Rattle.stable.specs.Records.{Records}
 use Rattle.stable.specs.Script.{Script, Write}
+use Rattle.stable.specs.declared.key.Key.TheVariants as key
 use Rattle.synod.specs.History.{Voted}
 use Rattle.synod.specs.Invariant.{IsAgreed}
 use Rattle.synod.specs.Runs as synod_runs
 use Rattle.synod.specs.Runs.{IsReached}
+use Rattle.synod.specs.declared.ballot.Ballot.{Ballot}
 use Rattle.synod.specs.declared.vote.Vote.{Vote}
+use Rattle.acceptor.specs.Spelling.{ballot_bytes}
 use Rattle.sessions.specs.declared.command.Command.{Command}
 use Rattle.world.specs.Explaining.{IsExplained, LearntInLog}
 use Rattle.world.specs.Protocol.{fleet, frame_of, learning_of, command_of}
-use Rattle.world.specs.Reaching.{IsAllowed, AreHonest}
+use Rattle.world.specs.Reaching.{TookEffect, IsAllowed, AreHonest}
 use Rattle.node.specs.States.{NodeState}
 use Rattle.world.specs.Submissions.{BringValid}
 use Rattle.world.specs.Telling.{Tells}
@@ -43,13 +46,23 @@ pub record IsSafe {S : Type 0} (w : WorldState S) : Type 0 where
   pub valid : BringValid w.submitted
 
 -- ---- what is kept from call to call
+-- each promise that was put and took effect is of one of so many nodes
+abbrev pub PromisesAmong : {S : Type 0} → (Script S → Records) → ℕ → Script S → Type 0
+PromisesAmong contents nodes s = (b : Ballot) → TookEffect contents s (key.Promise, ballot_bytes b) → b.node < nodes
+
+-- so it is at each node, of the nodes of the run
+abbrev pub PromisesOfRun : {S : Type 0} → (Script S → Records) → List (NodeState (Script S)) → Type 0
+PromisesOfRun {S} contents nodes =
+    (i : ℕ) (n : NodeState (Script S)) → slice_get nodes i ≡ Some n → PromisesAmong contents (length nodes) n.storage
+
 -- moves that the protocol allows lead there, the lists tell what the nodes know, whatever was learnt was learnt at a slot of the log,
--- and what was submitted is valid
+-- what was submitted is valid, and what was promised is of a node of the run
 pub record IsSound {S : Type 0} (contents : Script S → Records) (w : WorldState S) : Type 0 where
   pub allowed : IsAllowed contents w.nodes w.frames w.learnt w.submitted
   pub tells : Tells w
   pub in_log : LearntInLog w.learnt
   pub valid : BringValid w.submitted
+  pub promises : PromisesOfRun contents w.nodes
 
 -- of a scripted storage, by what holds of the storage inside
 abbrev pub contents_inside : {S : Type 0} → (S → Records) → Script S → Records

@@ -1,6 +1,7 @@
 //! What holds of all runs. Nothing runs.
 
 ghost use Rattle.std.specs.Prelude.{◌≡◌, Contains};
+ghost use Rattle.world.specs.Progress.{BallotsNeverFall};
 ghost use Rattle.world.specs.Safety.{IsSafe};
 ghost use Rattle.world.specs.Tallies.{StepsTally};
 ghost use Rattle.world.specs.Worlds.{WorldState};
@@ -18,4 +19,9 @@ pub fn lists_are_as_told<S: Stable>()
 pub fn answers_are_one<S>()
     ensures { (w : WorldState S) → ∥ IsSafe w ∥₁ → (a b : Answered) → Contains w.answers a → Contains w.answers b
         → a.query ≡ b.query → a.position ≡ b.position → a.text ≡ b.text }
+{}
+
+/// No step but its restart makes the next ballot of a node lower, as long as it stays up: what a round was told of stays below it.
+pub fn ballots_never_fall<S: Stable>()
+    ensures { BallotsNeverFall (⟦<Scripted<S> as Stable>⟧) }
 {}

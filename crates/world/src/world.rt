@@ -53,6 +53,7 @@ impl<S: Stable> World<S> {
     ghost use Rattle.world.specs.Worlds.{Steps};
     ghost use Rattle.world.specs.Events.{NamesNoFrame, NamesNoNode};
     ghost use Rattle.world.specs.Flushing.{Delivers, DeliversSome};
+    ghost use Rattle.world.specs.Progress.{PromisesProgress};
     ghost use Rattle.world.specs.Rounds.{NamesNoMember, RoundEnds, IsPartOfRound};
     ghost use Rattle.world.specs.Staying.{StaysSafe};
 
@@ -152,6 +153,10 @@ impl<S: Stable> World<S> {
     /// A round of a node by hand, among these members alone: its campaign begins, and what is sent in each phase comes to the members or
     /// to the node, in order of sending, before anything else. How it ended; the outcomes tell it, behind those of its steps.
     ///
+    /// Where nothing disturbs it, that is, where the members are a quorum and up, the log has a slot at the node's position and the node a
+    /// round left, it decides that slot if no member has promised more than the node's next ballot; else it tells the greatest promise of
+    /// any member, and the node's next ballot is above that. Only a member that goes down, or want of memory, keeps it from that.
+    ///
     /// `NoSuchNode` where the node or a member is none of the run, and then nothing is done. What was done when memory was wanting stays.
     pub fn round(
         &mut self,
@@ -160,6 +165,8 @@ impl<S: Stable> World<S> {
         members: &[NodeId],
     ) -> Result<RoundEnd, WorldFault>
         ensures ends { IfOk result (λ end. RoundEnds (⟦<Scripted<S> as Stable>⟧)
+            (world_of self.old) node members.now end (world_of self.new)) }
+        ensures progress { IfOk result (λ end. PromisesProgress S.IsHonest
             (world_of self.old) node members.now end (world_of self.new)) }
 
         // Each fault.

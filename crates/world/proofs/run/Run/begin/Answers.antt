@@ -1,4 +1,4 @@
-use Rattle.std.proofs.Common.{◌≡◌, refl, rules, subst, sym, ◌∙◌, arith, Ok, Err, true, false, slice_get, Some, vec_len, All, IfOk}
+use Rattle.std.proofs.Common.{◌≡◌, refl, rules, subst, arith, Ok, Err, slice_get, Some, vec_len, All, IfOk}
 use Rattle.std.proofs.lemmas.Option.{slice_get_read}
 use Rattle.stable.specs.Storages.{scripted}
 use Rattle.node.specs.Nodes.{state_of, NodeSteps}

@@ -1,4 +1,4 @@
-use Rattle.std.proofs.Common.{◌≡◌, refl, sym, subst, rules, length, drop, vec_len, [], ◌∷◌}
+use Rattle.std.proofs.Common.{refl, subst, rules, length, drop, vec_len, [], ◌∷◌}
 use Rattle.std.proofs.lemmas.Option.{MatchOption-at_some}
 use Rattle.stable.specs.Storages.{scripted}
 use Rattle.world.specs.Rounds.{NoneRefuses, IsGreatestTold}

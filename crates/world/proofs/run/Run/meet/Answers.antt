@@ -1,4 +1,4 @@
-use Rattle.std.proofs.Common.{length, rules, subst}
+use Rattle.std.proofs.Common.{rules, subst}
 use Rattle.stable.specs.Storages.{scripted}
 use Rattle.world.specs.Rounds.{IsQuorum, CanMeet}
 use Rattle.world.specs.Worlds.{run_of}

@@ -1,7 +1,7 @@
 use Rattle.std.proofs.Common.{rules}
 use Rattle.world.specs.Worlds.{run_of}
 use Rattle.world.proofs.FiredLemmas.{round_keeps_few}
-use Rattle.world.proofs.WorldSound.{round_kept, stays_safe}
+use Rattle.world.proofs.WorldSound.{round_kept, round_progress, stays_safe}
 use Rattle.world.proofs.world.World.round.Goals as goal
 
 -- the run behind it was left as its contract says
@@ -18,3 +18,8 @@ invariant_of-self g c =
 
 pub returns-clause-safe : goal.returns-clause-safe
 returns-clause-safe g c = stays_safe g.S.Stable c.round.new.self (search rules) (search rules)
+
+-- it was sound when the round began
+pub returns-clause-progress : goal.returns-clause-progress
+returns-clause-progress g c = round_progress g.S.Stable c.args.self.now.run c.args.node c.args.members.now c.round.result
+    (run_of c.round.new.self) c.args.self.now.few_faults c.args.self.now.sound c.args.self.now.run.fleet c.round.ensures.ends
