@@ -1,6 +1,7 @@
 -- What a node holds while it is up, and which inputs it refuses.
 use Rattle.std.specs.Prelude.{◌≡◌, ℕ, ◌<◌, ◌≤◌, ◌^◌, nat_le, length, not, Bool, true, false, Option, Some, None, IfSome, if◌then◌else◌}
 use Rattle.std.specs.List.{list_any}
+use Rattle.synod.specs.declared.ballot.Ballot.{Ballot}
 use Rattle.synod.specs.declared.ballot.TheConstants.{MOST_NODES}
 use Rattle.synod.specs.declared.slot.TheConstants.{SLOTS}
 use Rattle.store.specs.declared.op.Op.{Op}
@@ -35,6 +36,15 @@ position m = prefix m.learning
 -- what the node has learnt at a slot
 abbrev pub learnt_in : Mind → ℕ → Option Command
 learnt_in m slot = m.learning.learnt slot
+
+-- what it has promised
+abbrev pub promised : Mind → Option Ballot
+promised m = m.accepting.promise
+
+-- the ballot under which its next campaign is to begin
+pub record IsNextBallot (m : Mind) (ballot : Ballot) : Type 0 where
+  pub round : ballot.round ≡ next_round m.proposing
+  pub own : ballot.node ≡ m.id
 
 -- the whole log is executed
 abbrev pub is_full : Mind → Bool

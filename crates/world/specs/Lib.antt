@@ -5,6 +5,7 @@ pub mod Fired
 pub mod Fleets
 pub mod Flushing
 pub mod Outputs
+pub mod Progress
 pub mod Protocol
 pub mod Reaching
 pub mod Rounds
