@@ -1,5 +1,6 @@
 pub mod AllowedLemmas
 pub mod HearLemmas
+pub mod KnownLemmas
 pub mod MajorityLemmas
 pub mod PrefixLemmas
 pub mod SlotLemmas

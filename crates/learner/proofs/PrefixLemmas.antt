@@ -20,7 +20,7 @@ same_or_not : (a b : ℕ) → (a ≡ b) ⊎ ((a < b) ⊎ (b < a))
 same_or_not a b = grind (arith, common_steps)
 
 -- one more slot is learnt
-one_more : (learnt : ℕ → Option Command) (first s : ℕ) → IsLearntTo learnt first s → s < SLOTS → is_some (learnt s) ≡ true
+pub one_more : (learnt : ℕ → Option Command) (first s : ℕ) → IsLearntTo learnt first s → s < SLOTS → is_some (learnt s) ≡ true
     → IsLearntTo learnt first (suc s)
 one_more learnt first s to here is = record {
   from = omega (arith, to.from);

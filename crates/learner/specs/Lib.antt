@@ -1,3 +1,4 @@
+pub mod Known
 pub mod Learning
 pub mod Places
 pub mod Prefixes

@@ -3,10 +3,10 @@
 ghost use Rattle.std.specs.Prelude.{◌≡◌, ℕ, ◌≤◌, IfOk, OnErr};
 ghost use Rattle.std.specs.Option.{option_copied};
 ghost use Rattle.learner.specs.Prefixes.{IsPrefix};
-ghost use Rattle.learner.specs.Slots.{learnt_of};
+ghost use Rattle.learner.specs.Known.{known_learnt};
 
+use super::known::Known;
 use super::learned::Learned;
-use super::slots::Slots;
 use sessions::Command;
 use std::alloc::{AllocError, Global};
 use synod::{SLOTS, Slot, Vote};
@@ -23,9 +23,9 @@ pub struct Learner {
     nodes: Nodes,
     // The first slot that is kept: what is told of lower ones is ignored.
     first: u32,
-    slots: Slots,
+    slots: Known,
     prefix: u32,
-    ghost counted: { IsPrefix (learnt_of slots) first prefix },
+    ghost counted: { IsPrefix (known_learnt slots) first prefix },
 }
 
 impl Learner {
@@ -39,7 +39,7 @@ impl Learner {
         Learner {
             nodes,
             first: 0,
-            slots: Slots::new(alloc),
+            slots: Known::new(alloc),
             prefix: 0,
         }
     }

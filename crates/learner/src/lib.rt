@@ -4,6 +4,7 @@
 #![tactic(auto)]
 
 mod allowed;
+mod known;
 mod learned;
 mod learner;
 mod place;

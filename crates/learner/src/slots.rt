@@ -4,7 +4,6 @@ ghost use Rattle.std.specs.Prelude.{◌≡◌, ℕ, ◌≤◌, Some, None, IfOk,
 ghost use Rattle.std.specs.Option.{option_copied};
 ghost use Rattle.synod.specs.Records.{put};
 ghost use Rattle.learner.specs.Learning.{unheard};
-ghost use Rattle.learner.specs.Prefixes.{IsLearntTo, IsPrefix};
 ghost use Rattle.learner.specs.Slots.{learnt_of, heard_of, SlotHears};
 
 use super::place::Place;
@@ -12,7 +11,7 @@ use super::tallies::Tallies;
 use sessions::Command;
 use std::alloc::{AllocError, Global};
 use std::collections::BTreeMap;
-use synod::{SLOTS, Slot, Vote};
+use synod::{Slot, Vote};
 use wire::{NodeId, Nodes};
 
 /// What is known of each slot of which something was told.
@@ -42,18 +41,19 @@ impl Slots {
         }
     }
 
-    /// The first slot that isn't learnt, where none below this one, from the first on, isn't.
-    pub(super) fn first_unlearnt(&self, from: u32) -> u32
-        ensures { (first : ℕ) → IsLearntTo (learnt_of self.now) first from
-            → IsPrefix (learnt_of self.now) first result }
+    /// What is learnt at a slot is handed out, and nothing is known of the slot then.
+    pub(super) fn take(&mut self, slot: Slot) -> Option<Command>
+        ensures is { result ≡ learnt_of self.old slot }
+        ensures learnt { learnt_of self.new ≡ put (learnt_of self.old) slot None }
+        ensures heard { heard_of self.new ≡ heard_of self.old }
     {
-        for value in from..SLOTS {
-            let slot = Slot::new(value).unwrap();
-            if self.learnt(slot).is_none() {
-                return value;
-            }
+        if self.learnt(slot).is_none() {
+            return None;
         }
-        SLOTS
+        match self.by_slot.remove(&slot) {
+            Some(Place::Learnt(command)) => Some(command),
+            _ => None,
+        }
     }
 
     /// A node tells that it voted so. Whether the slot is newly learnt by it.

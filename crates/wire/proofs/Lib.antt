@@ -8,6 +8,7 @@ pub mod FrameExamples
 pub mod FrameLaws
 pub mod FrameLengths
 pub mod FrameSeen
+pub mod IdLemmas
 pub mod LengthLemmas
 pub mod LoopLemmas
 pub mod PushLemmas

@@ -1,6 +1,6 @@
 //! Bytes that are read from left to right.
 
-ghost use Rattle.std.specs.Prelude.{◌≡◌, ◌≤◌, ◌==◌, length};
+ghost use Rattle.std.specs.Prelude.{◌≡◌, ◌≤◌, ◌==◌, if◌then◌else◌, length};
 ghost use Rattle.std.specs.List.{list_all};
 ghost use Rattle.wire.specs.Reading.{Tells, byte_at, number_at, text_at};
 ghost use Rattle.tpoint.specs.Ids.{is_id_byte};
@@ -90,20 +90,25 @@ impl<'a> Input<'a> {
         requires few { len ≤ LONGEST_ID }
         ensures { Tells (λ x. (x, self.new)) result (text_at len self.old) }
     {
-        // A byte that is none of an id's comes before the end of the bytes.
-        let there = len.min(self.rest.len());
-        let fits = are_id_bytes(&self.rest[..there]);
-        if !fits {
-            return Err(WireFault::Field);
-        }
         if self.rest.len() < len {
-            return Err(WireFault::Short);
+            return Err(fault_of_short(self.rest));
         }
         let Some(id) = Id::new(&self.rest[..len]) else {
             return Err(WireFault::Field);
         };
         self.rest = &self.rest[len..];
         Ok(id)
+    }
+}
+
+/// The fault of an id that has these bytes and lacks others: a byte that is none of an id's comes before the end.
+fn fault_of_short(bytes: &[u8]) -> WireFault
+    ensures { result ≡ (if list_all is_id_byte bytes.now then WireFault.Short else WireFault.Field) }
+{
+    if are_id_bytes(bytes) {
+        WireFault::Short
+    } else {
+        WireFault::Field
     }
 }
 

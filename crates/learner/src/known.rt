@@ -1,0 +1,127 @@
+//! What is known of all slots: what is learnt of the first ones lies in a row.
+
+ghost use Rattle.std.specs.Prelude.{◌≡◌, ℕ, Some, None, IfOk, OnOk, OnErr, is_some, slice_get};
+ghost use Rattle.std.specs.Option.{option_copied};
+ghost use Rattle.synod.specs.Records.{put};
+ghost use Rattle.learner.specs.Known.{known_learnt, known_heard};
+ghost use Rattle.learner.specs.Learning.{unheard};
+ghost use Rattle.learner.specs.Prefixes.{IsLearntTo, IsPrefix};
+ghost use Rattle.learner.specs.Slots.{SlotHears};
+
+use super::slots::Slots;
+use sessions::Command;
+use std::alloc::{AllocError, Global};
+use synod::{SLOTS, Slot, Vote};
+use wire::{NodeId, Nodes};
+
+/// What is known of each slot. Slots are learnt nearly in turn: what is learnt of the first ones is found by its place.
+#[derive(Drop)]
+pub(super) struct Known {
+    // What is learnt at slot 0, 1 and so on.
+    settled: Vec<Command>,
+    // What is known of the others.
+    others: Slots,
+}
+
+impl Known {
+    /// Nothing is known.
+    pub(super) fn new(alloc: Global) -> Known
+        ensures learnt { (s : ℕ) → known_learnt result s ≡ None }
+        ensures heard { (s : ℕ) → known_heard result s ≡ unheard }
+    {
+        Known {
+            settled: Vec::new(alloc),
+            others: Slots::new(alloc),
+        }
+    }
+
+    /// The command of a slot that is learnt.
+    pub(super) fn learnt(&self, slot: Slot) -> Option<&Command>
+        ensures { option_copied result ≡ known_learnt self.now slot }
+    {
+        match self.settled.get(slot.value() as usize) {
+            Some(command) => Some(command),
+            None => self.others.learnt(slot),
+        }
+    }
+
+    /// The first slot that isn't learnt, where none below this one, from the first on, isn't. What is learnt up to there is put
+    /// in a row, as far as memory serves.
+    pub(super) fn first_unlearnt(&mut self, from: u32) -> u32
+        ensures learnt { known_learnt self.new ≡ known_learnt self.old }
+        ensures heard { known_heard self.new ≡ known_heard self.old }
+        ensures prefix { (first : ℕ) → IsLearntTo (known_learnt self.old) first from
+            → IsPrefix (known_learnt self.old) first result }
+    {
+        for value in from..SLOTS {
+            let is_learnt = self.settle(Slot::new(value).unwrap());
+            if !is_learnt {
+                return value;
+            }
+        }
+        SLOTS
+    }
+
+    /// Whether the slot is learnt. Where it is the next of the row it joins it, unless memory is wanting.
+    fn settle(&mut self, slot: Slot) -> bool
+        ensures is { result ≡ is_some (known_learnt self.old slot) }
+        ensures learnt { known_learnt self.new ≡ known_learnt self.old }
+        ensures heard { known_heard self.new ≡ known_heard self.old }
+    {
+        if slot.value() as usize != self.settled.len() {
+            return self.learnt(slot).is_some();
+        }
+        if let Err(_) = self.settled.try_reserve(1) {
+            return self.learnt(slot).is_some();
+        }
+        match self.others.take(slot) {
+            Some(command) => {
+                let _ = self.settled.push(command);
+                true
+            }
+            None => false,
+        }
+    }
+
+    /// Whether the slot is of the row.
+    fn is_settled(&self, slot: Slot) -> bool
+        ensures { result ≡ is_some (slice_get self.now.settled.items slot) }
+    {
+        self.settled.get(slot.value() as usize).is_some()
+    }
+
+    /// A node tells that it voted so. Whether the slot is newly learnt by it.
+    pub(super) fn hear(
+        &mut self,
+        alloc: Global,
+        nodes: Nodes,
+        from: NodeId,
+        vote: Vote<Command>,
+    ) -> Result<bool, AllocError>
+        ensures hears { IfOk result (λ learns.
+            SlotHears nodes (known_learnt self.old) (known_heard self.old) from vote
+            learns (known_learnt self.new) (known_heard self.new)) }
+        ensures unlearnt { OnErr result (known_learnt self.old vote.slot ≡ None) }
+        ensures once { OnErr result (known_heard self.old vote.slot vote.ballot from ≡ None) }
+        ensures learnt { OnErr result (known_learnt self.new ≡ known_learnt self.old) }
+        ensures heard { OnErr result (known_heard self.new ≡ known_heard self.old) }
+    {
+        if self.is_settled(vote.slot) {
+            return Ok(false);
+        }
+        self.others.hear(alloc, nodes, from, vote)
+    }
+
+    /// The slot is learnt, and what was told of it goes.
+    pub(super) fn learn(&mut self, slot: Slot, command: Command) -> Result<(), AllocError>
+        requires { known_learnt self.old slot ≡ None }
+        ensures learnt { OnOk result
+            (known_learnt self.new ≡ put (known_learnt self.old) slot (Some command)) }
+        ensures heard { OnOk result
+            (known_heard self.new ≡ put (known_heard self.old) slot unheard) }
+        ensures learnt_unchanged { OnErr result (known_learnt self.new ≡ known_learnt self.old) }
+        ensures heard_unchanged { OnErr result (known_heard self.new ≡ known_heard self.old) }
+    {
+        self.others.learn(slot, command)
+    }
+}
