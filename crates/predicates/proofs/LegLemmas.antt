@@ -86,7 +86,7 @@ else_between low high v n m =
 LiesIn-≈ : {s t : Fraction} {p : Span} → s ≈ t → LiesIn s p → LiesIn t p
 LiesIn-≈ e h = record { begun = ≤ᶠ-≈ h.begun e; not_over = ≈-≤ᶠ (≈_sym e) h.not_over }
 
-Between-≈ : {s t : Fraction} {a b : ℤ} → s ≈ t → Between a b s → Between a b t
+pub Between-≈ : {s t : Fraction} {a b : ℤ} → s ≈ t → Between a b s → Between a b t
 Between-≈ e h = record { from = ≤ᶠ-≈ h.from e; to = ≈-≤ᶠ (≈_sym e) h.to }
 
 -- an instant of the period on the leg has a parameter

@@ -5,3 +5,4 @@ pub mod LegLemmas
 pub mod StayLemmas
 pub mod SequenceLemmas
 pub mod EndLemmas
+pub mod CourseLemmas

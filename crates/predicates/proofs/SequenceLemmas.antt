@@ -1,25 +1,28 @@
 -- From the pieces of a moving point to the whole.
 use Rattle.std.proofs.Common.{◌≡◌, ℕ, ◌+◌, ◌<◌, ◌≤◌, inl, inr, true, false, List}
-use Rattle.std.proofs.Common.{[], ◌∷◌, map, length, get_or, slice_get, Some, subst, refl, arith}
+use Rattle.std.proofs.Common.{[], ◌∷◌, map, length, get_or, slice_get, Some, subst, sym, ◌∙◌, refl, arith}
 use Rattle.std.proofs.lemmas.Bool.{cases_lt}
-use Rattle.std.proofs.lemmas.Option.{slice_get-get_or}
+use Rattle.std.proofs.lemmas.Option.{same_Some, slice_get-get_or, slice_get_within}
 use Rattle.std.specs.List.Sorted.{IsNonDecreasingBy}
-use borrow.Author.Count.{below_more}
 use Rattle.tpoint.proofs.Fractions.{moment_lt, <ᶠ-≤ᶠ, ≤ᶠ-<ᶠ, <ᶠ_of_≤ᶠ_not}
-use Rattle.tpoint.proofs.PieceLemmas.{rises_le, place_within, piece_from, piece_until}
+use Rattle.tpoint.proofs.PieceLemmas.{rises_le, place_within, piece_from, piece_until, leg_to, leg_from}
 use Rattle.tpoint.specs.Fraction.{Fraction, ◌<ᶠ◌}
-use Rattle.tpoint.specs.Moving.{Position, Sequence, HasValue, At, Rises, moment, vertex}
-use Rattle.tpoint.specs.Extents.{Span, Area}
+use Rattle.tpoint.specs.Moving.{Position, Sequence, HasValue, At, OnLeg, Rises, moment, vertex}
+use Rattle.tpoint.specs.Extents.{Span, Area, Inside}
 use Rattle.tpoint.specs.Places.{EachAt}
-use Rattle.tpoint.specs.Pieces.{Piece}
+use Rattle.tpoint.specs.Pieces.{Piece, place}
 use Rattle.tpoint.specs.declared.point.Point.{Point}
 use Rattle.tpoint.specs.declared.interp.Interp.{Interp}
+use Rattle.tpoint.specs.declared.interp.Interp.TheVariants.{Linear}
 use Rattle.predicates.specs.declared.questions.Question.{Question}
 use Rattle.predicates.specs.declared.questions.Question.TheVariants.{Ever, Always}
 use Rattle.predicates.specs.declared.questions.Tri.{Tri}
 use Rattle.predicates.specs.declared.questions.Tri.TheVariants.{Yes, No, None}
 use Rattle.predicates.specs.Predicates.{Shares, SomeInside, AllInside}
 use Rattle.predicates.specs.Questions.{Answers, decides}
+use Rattle.predicates.specs.Courses.{Crosses}
+use Rattle.predicates.proofs.StayLemmas.{answers_same}
+use Rattle.predicates.proofs.EndLemmas.{settled_leg, passed_leg}
 
 -- the values of a list of points
 abbrev pub Whole : Interp → List Point → Fraction → Position → Type 0
@@ -138,28 +141,35 @@ so_far_none q interp ps p r i none =
       not_yet = decides_none q;
     }
 
--- a piece without a value in the period
-pub next_none : (q : Question) (interp : Interp) (ps : List Point) (p : Span) (r : Area) (i : ℕ) (answer : Tri) →
-    SoFar q interp ps p r i answer → Answers q (Piece interp ps i) p r None → SoFar q interp ps p r (i + 1) answer
-next_none q interp ps p r i answer s h =
-    let none = none_by q (Piece interp ps i) p r h in
+-- pieces without a value in the period
+pub next_none : (q : Question) (interp : Interp) (ps : List Point) (p : Span) (r : Area) (i n : ℕ) (answer : Tri) →
+    SoFar q interp ps p r i answer → ((j : ℕ) → i ≤ j → j < n → Answers q (Piece interp ps j) p r None) → SoFar q interp ps p r n answer
+next_none q interp ps p r i n answer s each =
+    let none : (j : ℕ) → i ≤ j → j < n → ¬ Shares (Piece interp ps j) p = λ j l h. none_by q (Piece interp ps j) p r (each j l h) in
     record {
-      undecided = below_more (λ j. Undecided q (Piece interp ps j) p r) i s.undecided (undecided_of_none q (Piece interp ps i) p r none);
-      none = λ e. below_more (λ j. ¬ Shares (Piece interp ps j) p) i (s.none e) none;
+      undecided = λ j h.
+          elim (cases_lt j i) [
+            | inl l ↦ s.undecided j l
+            | inr l ↦ undecided_of_none q (Piece interp ps j) p r (none j l h)
+          ];
+      none = λ e j h. elim (cases_lt j i) [ inl l ↦ s.none e j l | inr l ↦ none j l h ];
       some = s.some;
       not_yet = s.not_yet;
     }
 
--- a piece with one that does not decide
-pub next_some : (q : Question) (interp : Interp) (ps : List Point) (p : Span) (r : Area) (i : ℕ) (answer part : Tri) →
-    SoFar q interp ps p r i answer → Answers q (Piece interp ps i) p r part → ¬ (part ≡ None) → decides q part ≡ false →
-    SoFar q interp ps p r (i + 1) part
-next_some q interp ps p r i answer part s h some open_still =
-    let here = undecided_by q (Piece interp ps i) p r part h open_still in
+-- pieces with one that don't decide
+pub next_some : (q : Question) (interp : Interp) (ps : List Point) (p : Span) (r : Area) (i n : ℕ) (answer part : Tri) →
+    SoFar q interp ps p r i answer → i < n → ((j : ℕ) → i ≤ j → j < n → Answers q (Piece interp ps j) p r part) → ¬ (part ≡ None) →
+    decides q part ≡ false → SoFar q interp ps p r n part
+next_some q interp ps p r i n answer part s on each some open_still =
     record {
-      undecided = below_more (λ j. Undecided q (Piece interp ps j) p r) i s.undecided here;
+      undecided = λ j h.
+          elim (cases_lt j i) [
+            | inl l ↦ s.undecided j l
+            | inr l ↦ undecided_by q (Piece interp ps j) p r part (each j l h) open_still
+          ];
       none = λ e. absurd (some e);
-      some = λ _. shares_whole interp ps p i (shares_by q (Piece interp ps i) p r part h some);
+      some = λ _. shares_whole interp ps p i (shares_by q (Piece interp ps i) p r part (each i (omega arith) on) some);
       not_yet = open_still;
     }
 
@@ -212,3 +222,65 @@ of_sequence q s interp ps p r answer e f h =
 pub instants_rise : (ps : List Point) → ((k : ℕ) → Rises ps k) → IsNonDecreasingBy (λ (p : Point). p.t) ps
 instants_rise ps rise i j d h k =
     rises_le ps rise i j (get_or ps i d) (get_or ps j d) h (slice_get-get_or ps i d (omega arith)) (slice_get-get_or ps j d k)
+
+-- ---- a leg's answer is its piece's
+pub leg_answers : (q : Question) (ps : List Point) (p : Span) (r : Area) (i : ℕ) (a b : Point) (answer : Tri) →
+    slice_get ps i ≡ Some a → slice_get ps (i + 1) ≡ Some b → i + 1 < length ps →
+    Answers q (OnLeg (vertex a) (vertex b)) p r answer → Answers q (Piece Linear ps i) p r answer
+leg_answers q ps p r i a b answer e f within h =
+    answers_same q (OnLeg (vertex a) (vertex b)) _ _ _ _ (leg_to ps i a b e f) (leg_from ps i a b within e f) h
+
+-- and one more after those from a place on
+pub one_more : (P : ℕ → Type 0) (from k : ℕ) → ((j : ℕ) → from ≤ j → j < k → P j) → P k → (j : ℕ) → from ≤ j → j < k + 1 → P j
+one_more P from k before here j l h =
+    elim (cases_lt j k) [
+      | inl less ↦ before j l less
+      | inr no_less ↦ subst P (omega arith) here
+    ]
+
+-- ---- runs of legs: where the legs from a place on begin after the period has begun
+begun_later : (ps : List Point) (begin i k : ℕ) (a : Point) → ((k : ℕ) → Rises ps k) → EachAt ps (λ (p : Point). begin ≤ p.t) i → i ≤ k →
+    slice_get ps k ≡ Some a → begin ≤ a.t
+begun_later ps begin i k a rise begun h e =
+    let within = slice_get_within ps k a e in
+    let own = get_or ps i a in
+    let there = slice_get-get_or ps i a (omega (arith, within, h)) in
+    let order = rises_le ps rise i k own a h there e in
+    omega (arith, order, begun own there)
+
+-- one that passes by
+pub passes_by : (ps : List Point) (p : Span) (r : Area) (i k : ℕ) (a b : Point) → ((k : ℕ) → Rises ps k) →
+    EachAt ps (λ (q : Point). p.begin ≤ q.t) i → i ≤ k → slice_get ps k ≡ Some a → slice_get ps (k + 1) ≡ Some b → b.t ≤ p.end →
+    ¬ Crosses a b r → Answers Ever (Piece Linear ps k) p r No
+passes_by ps p r i k a b rise begun h e f over n =
+    let from = begun_later ps p.begin i k a rise begun h e in
+    let later = rise k a b e f in
+    leg_answers Ever ps p r k a b No e f (slice_get_within ps (k + 1) b f) (passed_leg a b p r later from over n)
+
+-- and one that stays inside
+pub stays_inside : (ps : List Point) (p : Span) (r : Area) (i k : ℕ) (a b : Point) → ((k : ℕ) → Rises ps k) →
+    EachAt ps (λ (q : Point). p.begin ≤ q.t) i → i ≤ k → slice_get ps k ≡ Some a → slice_get ps (k + 1) ≡ Some b → b.t ≤ p.end →
+    Inside (place a) r → Inside (place b) r → Answers Always (Piece Linear ps k) p r Yes
+stays_inside ps p r i k a b rise begun h e f over x y =
+    let from = begun_later ps p.begin i k a rise begun h e in
+    let later = rise k a b e f in
+    leg_answers Always ps p r k a b Yes e f (slice_get_within ps (k + 1) b f)
+    (settled_leg Always a b p r later (omega (arith, from, later, over)) (omega (arith, from, later)) (omega (arith, later, over)) (x, y))
+
+pub first_inside : (ps : List Point) (r : Area) (i : ℕ) (a : Point) → slice_get ps i ≡ Some a → Inside (place a) r →
+    EachAt ps (λ (q : Point). Inside (place q) r) i
+first_inside ps r i a e h q f = subst (λ (x : Point). Inside (place x) r) (same_Some a q (sym e ∙ f)) h
+
+-- those so far stay inside, and one more does
+pub stayed_more : (ps : List Point) (p : Span) (r : Area) (i k : ℕ) (b : Point) → ((k : ℕ) → Rises ps k) →
+    EachAt ps (λ (q : Point). p.begin ≤ q.t) i → i ≤ k → slice_get ps (k + 1) ≡ Some b → b.t ≤ p.end → Inside (place b) r →
+    ((j : ℕ) → i ≤ j → j < k → Answers Always (Piece Linear ps j) p r Yes) → EachAt ps (λ (q : Point). Inside (place q) r) k →
+    ((j : ℕ) → i ≤ j → j < k + 1 → Answers Always (Piece Linear ps j) p r Yes) × EachAt ps (λ (q : Point). Inside (place q) r) (k + 1)
+stayed_more ps p r i k b rise begun h f over inside before last =
+    let within = slice_get_within ps (k + 1) b f in
+    let a = get_or ps k b in
+    let e = slice_get-get_or ps k b (omega (arith, within)) in (
+      one_more (λ j. Answers Always (Piece Linear ps j) p r Yes) i k before
+          (stays_inside ps p r i k a b rise begun h e f over (last a e) inside),
+      first_inside ps r (k + 1) b f inside,
+    )

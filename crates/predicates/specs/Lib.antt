@@ -4,3 +4,4 @@ pub mod Windows
 pub mod Questions
 pub mod Stays
 pub mod Ends
+pub mod Courses

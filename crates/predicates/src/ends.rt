@@ -7,6 +7,15 @@ use crate::questions::{Question, Tri};
 use crate::stays::contains;
 use tpoint::{Period, Point, Rect};
 
+/// Whether the period has an instant of a leg, which may be one of its ends.
+#[inline(always)]
+pub fn shares_time(period: &Period, a: &Point, b: &Point) -> bool
+    ensures shares { IsTrue result ↔ ((period.now.begin ≤ b.now.t) × (a.now.t ≤ period.now.end)) }
+    ensures ordered { period.now.begin ≤ period.now.end }
+{
+    period.begin() <= b.t && a.t <= period.end()
+}
+
 /// Whether a leg lies in the period, both of its ends included.
 #[inline(always)]
 pub fn is_within(period: &Period, a: &Point, b: &Point) -> bool
@@ -42,7 +51,7 @@ pub fn settled(question: Question) -> Tri
 
 /// Whether the ends are beyond one and the same bound of the rectangle.
 #[inline(always)]
-fn miss(a: &Point, b: &Point, area: &Rect) -> bool
+pub fn miss(a: &Point, b: &Point, area: &Rect) -> bool
     ensures { IsTrue result ↔ Miss a.now b.now area.now }
 {
     let across = are_beyond(a.x, b.x, area.x0(), area.x1());

@@ -1,16 +1,18 @@
 //! The way from one listed position to the next.
 
-ghost use Rattle.std.specs.Prelude.{◌<◌, ◌↔◌, IsTrue, MatchBool};
+ghost use Rattle.std.specs.Prelude.{◌<◌, ◌≤◌, ◌↔◌, IsTrue, MatchBool};
 ghost use Rattle.tpoint.specs.Fraction.{Fraction};
 ghost use Rattle.tpoint.specs.Ways.{way};
 ghost use Rattle.tpoint.specs.Coordinates.{InRange};
 ghost use Rattle.tpoint.specs.Moving.{OnLeg, vertex, InBounds};
-ghost use Rattle.tpoint.specs.Extents.{Between, Inside};
+ghost use Rattle.tpoint.specs.Extents.{Span, Between, Inside};
 ghost use Rattle.predicates.specs.Windows.{InWindow, IsWindowOf, InTime, place_at, SomeIn, EveryIn};
+ghost use Rattle.predicates.specs.Ends.{Settle};
 ghost use Rattle.predicates.specs.Questions.{Answers};
 
 use crate::clipping::{at_least, at_most};
-use crate::ends::{is_within, settle, settled};
+use crate::courses::crosses;
+use crate::ends::{is_within, settle, settled, shares_time};
 use crate::questions::{Question, Tri};
 use crate::windows::Window;
 use tpoint::{Period, Point, Rect};
@@ -29,14 +31,42 @@ pub fn leg(question: Question, a: &Point, b: &Point, period: &Period, area: &Rec
     requires b_fits { InBounds b.now }
     ensures { Answers question (OnLeg (vertex a.now) (vertex b.now)) period.now area.now result }
 {
-    // Most legs lie in a long period and well away from the bounds: they need no window.
-    if is_within(period, a, b) && settle(question, a, b, area) {
+    if !shares_time(period, a, b) {
+        return Tri::None;
+    }
+    // Most legs are well away from the bounds, or well between them: they need no product.
+    if settle(question, a, b, area) {
         return settled(question);
+    }
+    if is_within(period, a, b) {
+        return unsettled(question, a, b, area);
     }
     clipped(question, a, b, period, area)
 }
 
-/// The same by windows: the part of the leg that is in the period, and then in the rectangle.
+/// What a leg answers in each period in which it lies, where its ends don't settle it.
+fn unsettled(question: Question, a: &Point, b: &Point, area: &Rect) -> Tri
+    requires later { a.now.t < b.now.t }
+    requires a_fits { InBounds a.now }
+    requires b_fits { InBounds b.now }
+    requires not_settled { ¬ Settle question a.now b.now area.now }
+    ensures { (p : Span) → p.begin ≤ a.now.t → b.now.t ≤ p.end →
+        Answers question (OnLeg (vertex a.now) (vertex b.now)) p area.now result }
+{
+    match question {
+        Question::Ever => {
+            if crosses(a, b, area) {
+                Tri::Yes
+            } else {
+                Tri::No
+            }
+        }
+        // One of its ends is outside.
+        Question::Always => Tri::No,
+    }
+}
+
+/// What a leg answers by windows: the part of the leg that is in the period, and then in the rectangle.
 fn clipped(question: Question, a: &Point, b: &Point, period: &Period, area: &Rect) -> Tri
     requires later { a.now.t < b.now.t }
     requires a_fits { InBounds a.now }

@@ -8,10 +8,12 @@
 
 mod bounds;
 mod clipping;
+mod courses;
 mod ends;
 mod legs;
 mod pieces;
 mod questions;
+mod runs;
 mod sequences;
 mod stays;
 #[cfg(test)]

@@ -6,8 +6,8 @@ ghost use Rattle.tpoint.specs.Moving.{Rises, At};
 ghost use Rattle.predicates.specs.Predicates.{IsEver, IsAlways};
 ghost use Rattle.predicates.specs.Questions.{Answers, decides};
 
-use crate::pieces::piece;
 use crate::questions::{Question, Tri};
+use crate::runs::run_from;
 use tpoint::{Period, Point, Rect, Seq};
 
 /// Whether the moving point is in the rectangle at some instant of the period.
@@ -33,24 +33,28 @@ pub fn always(seq: &Seq, period: &Period, area: &Rect) -> Tri
 
 /// What the moving point answers: what a piece says that decides, and else what any piece says that
 /// is in the period.
+#[inline(always)]
 fn answer(question: Question, seq: &Seq, period: &Period, area: &Rect) -> Tri
     ensures { Answers question (At seq.now) period.now area.now result }
 {
     let interp = seq.interp();
     let points = seq.points();
     let mut answer = Tri::None;
-    for i in first_piece(points, period)..points.len() {
+    let mut i = first_piece(points, period);
+    while i < points.len() {
         // This piece begins after the period, as do those that follow.
         if period.end() < points[i].t {
             return answer;
         }
-        match piece(question, interp, points, i, period, area) {
+        let run = run_from(question, interp, points, i, period, area);
+        match run.answer {
             Tri::None => {}
             part => answer = part,
         }
         if decides(question, answer) {
             return answer;
         }
+        i = run.next;
     }
     answer
 }

@@ -96,6 +96,9 @@ fn extremes(rt: HostRuntime) -> Result<(), Fail> {
         &[
             (all, (0, 0, 0, 0), Yes, No),
             (all, (0, 1, 0, 1), No, No),
+            (all, (-1, 0, 0, 1), Yes, No),
+            (all, (FAR - 1, -FAR, FAR, FAR - 2), No, No),
+            (all, (FAR - 1, -FAR, FAR, FAR - 1), Yes, No),
             (all, (-FAR, -FAR, FAR, FAR), Yes, Yes),
             // Half of the time is no whole millisecond, and the middle is passed then alone.
             ((0, LAST / 2), (0, 0, FAR, FAR), No, No),
@@ -161,6 +164,41 @@ fn along_an_edge(rt: HostRuntime) -> Result<(), Fail> {
             // A point of the edge, at its instant and a millisecond longer.
             ((7, 7), (3, 5, 3, 5), Yes, Yes),
             ((7, 8), (3, 5, 3, 5), Yes, No),
+        ],
+    )
+}
+
+/// Where legs are told by their ends, by products, and by windows: at each bound, and a millimetre or a
+/// millisecond beyond it.
+#[test]
+fn ends_of_each_way(rt: HostRuntime) -> Result<(), Fail> {
+    let way = seq(rt.alloc(), Linear, &[(10, 0, 9), (20, 3, 0), (30, 9, 3)])?;
+    answers_are(
+        &rt,
+        &way,
+        &[
+            // A box that the legs' boxes touch in a corner of theirs, and beside it.
+            ((10, 30), (9, 3, 12, 12), Yes, No),
+            ((10, 30), (10, 3, 12, 12), No, No),
+            ((10, 30), (9, 4, 12, 12), No, No),
+            // One corner on the way down, the other side of it, and the corner that the way up goes by.
+            ((10, 30), (1, 6, 1, 6), Yes, No),
+            ((10, 30), (1, 5, 1, 5), No, No),
+            ((10, 30), (0, 0, 2, 2), No, No),
+            ((10, 30), (0, 0, 2, 3), Yes, No),
+            ((10, 30), (5, 1, 5, 1), Yes, No),
+            ((10, 30), (6, 0, 9, 1), No, No),
+            // Both ends of each leg inside, and one that isn't by a millimetre.
+            ((10, 30), (0, 0, 9, 9), Yes, Yes),
+            ((10, 30), (0, 0, 8, 9), Yes, No),
+            // The period ends as the second leg begins or ends, or before; it begins as the first ends, or later.
+            ((10, 20), (4, 0, 9, 9), No, No),
+            ((10, 30), (4, 0, 9, 9), Yes, No),
+            ((10, 29), (9, 3, 9, 3), No, No),
+            ((20, 25), (0, 1, 9, 9), Yes, No),
+            ((21, 30), (3, 0, 3, 0), No, No),
+            ((1, 10), (0, 9, 0, 9), Yes, Yes),
+            ((30, 31), (9, 3, 9, 3), Yes, Yes),
         ],
     )
 }

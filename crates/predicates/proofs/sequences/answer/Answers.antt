@@ -34,8 +34,8 @@ returns-then-lt c =
     (answered c.args.question interp ps _ _ i _ c.loop-i.invariant
     (λ j h. begins_after interp ps c.args.period.now i j point rise there after h))
 
-pub piece-requires-clause-in_range : goal.piece-requires-clause-in_range
-piece-requires-clause-in_range c =
+pub run_from-run-requires-clause-in_range : goal.run_from-run-requires-clause-in_range
+run_from-run-requires-clause-in_range c =
     let P : List Point → Type 0 = λ qs. (k : ℕ) → EachAt qs InBounds k in
     subst P (sym c.points-points.ensures.value) c.points-points.ensures.valid.in_range
 
@@ -43,7 +43,7 @@ pub returns-then-decides : goal.returns-then-decides
 returns-then-decides c =
     let interp = c.interp-interp.result in
     let ps = c.points-points.result.now in
-    elim c.match-piece.branch [
+    elim c.match-run.branch [
       | in-None w ↦
           let same = w.answer-is in
           let test = c.decides.ensures in
@@ -53,7 +53,8 @@ returns-then-decides c =
       | in_default w ↦
           rw w.answer-is
           (of_sequence c.args.question c.args.seq.now interp ps _ _ _ c.interp-interp.ensures.value c.points-points.ensures.value
-          (decided c.args.question interp ps _ _ c.loop-i.i c.piece.result c.piece.ensures
+          (decided c.args.question interp ps _ _ c.loop-i.i c.run_from-run.result.answer
+          (c.run_from-run.ensures.each c.loop-i.i (omega arith) c.run_from-run.ensures.on)
           (let same = w.answer-is in let test = c.decides.ensures in let passed = c.if-decides.true in cc)))
     ]
 
@@ -61,11 +62,16 @@ pub loop-i-preserved : goal.loop-i-preserved
 loop-i-preserved c =
     let interp = c.interp-interp.result in
     let ps = c.points-points.result.now in
-    elim c.match-piece.branch [
-      | in-None w ↦ rw w.answer-is (next_none c.args.question interp ps _ _ c.loop-i.i _ c.loop-i.invariant w.in-None.ensures)
+    let run = c.run_from-run in
+    let n = run.result.next in
+    elim c.match-run.branch [
+      | in-None w ↦
+          rw w.answer-is
+          (next_none c.args.question interp ps _ _ c.loop-i.i n _ c.loop-i.invariant (rw w.in-None.is at run.ensures.each))
       | in_default w ↦
           rw w.answer-is
-          (next_some c.args.question interp ps _ _ c.loop-i.i _ c.piece.result c.loop-i.invariant c.piece.ensures w.in_default.not-None
+          (next_some c.args.question interp ps _ _ c.loop-i.i n _ run.result.answer c.loop-i.invariant run.ensures.on run.ensures.each
+          w.in_default.not-None
           (let same = w.answer-is in let test = c.decides.ensures in let failed = c.if-decides.false in cc))
     ]
 

@@ -1,0 +1,43 @@
+use Rattle.std.proofs.Common.{◌≡◌, ℕ, ◌+◌, ◌<◌, ◌≤◌, List, get_or, slice_get, Some, refl, length, rules, arith}
+use Rattle.std.proofs.lemmas.Option.{slice_get_read}
+use Rattle.tpoint.specs.Pieces.{Piece}
+use Rattle.tpoint.specs.declared.interp.Interp.TheVariants.{Linear}
+use Rattle.tpoint.specs.declared.point.Point.{Point}
+use Rattle.predicates.specs.Questions.{Answers}
+use Rattle.predicates.specs.declared.questions.Question.TheVariants.{Ever}
+use Rattle.predicates.specs.declared.questions.Tri.TheVariants.{No}
+use Rattle.predicates.proofs.SequenceLemmas.{passes_by, one_more}
+use Rattle.predicates.proofs.runs.first_met.Goals as goal
+
+pub comes_in-requires-clause-a_fits : goal.comes_in-requires-clause-a_fits
+comes_in-requires-clause-a_fits c =
+    let ps = c.args.points.now in
+    let k = c.loop-k.k in
+    let a = c.index-points-k.result in
+    c.requires.in_range k a (slice_get_read ps (length ps) k a refl (omega arith) c.index-points-k.is)
+
+pub comes_in-requires-clause-b_fits : goal.comes_in-requires-clause-b_fits
+comes_in-requires-clause-b_fits c =
+    let ps = c.args.points.now in
+    let k = c.loop-k.k in
+    let b = c.index-points-k-in-loop-k.result in
+    c.requires.in_range (k + 1) b (slice_get_read ps (length ps) (k + 1) b refl (omega arith) c.index-points-k-in-loop-k.is)
+
+pub loop-k-preserved : goal.loop-k-preserved
+loop-k-preserved c =
+    let ps = c.args.points.now in
+    let p = c.args.period.now in
+    let r = c.args.area.now in
+    let k = c.loop-k.k in
+    let a = c.index-points-k.result in
+    let b = c.index-points-k-in-loop-k.result in
+    let e = slice_get_read ps (length ps) k a refl (omega arith) c.index-points-k.is in
+    let f = slice_get_read ps (length ps) (k + 1) b refl (omega arith) c.index-points-k-in-loop-k.is in
+    let over : b.t ≤ p.end = search rules in
+    one_more (λ j. Answers Ever (Piece Linear ps j) p r No) c.args.from k c.loop-k.invariant
+    (passes_by ps p r c.args.from k a b c.requires.increasing c.requires.begun (omega arith) e f over
+    (λ h. let t = c.comes_in.ensures.1 h in let n = c.if-comes_in.false in absurd (cc)))
+
+-- the loop went up to the last point
+pub returns-clause-each : goal.returns-clause-each
+returns-clause-each c = λ j l h. c.loop-k.invariant j l (omega (arith, h))

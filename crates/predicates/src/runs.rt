@@ -1,0 +1,135 @@
+//! Pieces in succession that answer the same.
+
+ghost use Rattle.std.specs.Prelude.{ℕ, ◌<◌, ◌≤◌, length};
+ghost use Rattle.tpoint.specs.Places.{EachAt};
+ghost use Rattle.tpoint.specs.Moving.{Rises, InBounds};
+ghost use Rattle.tpoint.specs.Pieces.{Piece};
+ghost use Rattle.predicates.specs.Ends.{settled};
+ghost use Rattle.predicates.specs.Questions.{Answers};
+
+use crate::courses::comes_in;
+use crate::ends::settled;
+use crate::pieces::piece;
+use crate::questions::{Question, Tri};
+use crate::stays::contains;
+use tpoint::{Interp, Period, Point, Rect};
+
+/// Some pieces in succession, and what each of them answers.
+#[derive(Clone, Copy)]
+pub struct Run {
+    /// The place after the last of them.
+    pub next: usize,
+    pub answer: Tri,
+}
+
+/// The run of pieces from a place on, of which there is at least one.
+///
+/// Legs within the period that don't decide are passed at a stride. Any other piece is a run by itself.
+#[inline(always)]
+pub fn run_from(
+    question: Question,
+    interp: Interp,
+    points: &[Point],
+    i: usize,
+    period: &Period,
+    area: &Rect,
+) -> Run
+    requires in_list { i < length points.now }
+    requires increasing { (k : ℕ) → Rises points.now k }
+    requires in_range { (k : ℕ) → EachAt points.now InBounds k }
+    ensures on { i < result.next }
+    ensures within { result.next ≤ length points.now }
+    ensures each { (j : ℕ) → i ≤ j → j < result.next →
+        Answers question (Piece interp points.now j) period.now area.now result.answer }
+{
+    let next = passed(question, interp, points, i, period, area);
+    if i < next {
+        Run {
+            next,
+            answer: settled(question),
+        }
+    } else {
+        Run {
+            next: i + 1,
+            answer: piece(question, interp, points, i, period, area),
+        }
+    }
+}
+
+/// The first leg from a place on that decides, or may go on outside the period. Those before it answer
+/// as legs do that their ends settle.
+#[inline(always)]
+fn passed(
+    question: Question,
+    interp: Interp,
+    points: &[Point],
+    from: usize,
+    period: &Period,
+    area: &Rect,
+) -> usize
+    requires in_list { from < length points.now }
+    requires increasing { (k : ℕ) → Rises points.now k }
+    requires in_range { (k : ℕ) → EachAt points.now InBounds k }
+    ensures within { result ≤ length points.now }
+    ensures each { (j : ℕ) → from ≤ j → j < result →
+        Answers question (Piece interp points.now j) period.now area.now (settled question) }
+{
+    if interp != Interp::Linear || points[from].t < period.begin() {
+        return from;
+    }
+    match question {
+        Question::Ever => first_met(points, from, period, area),
+        Question::Always => first_left(points, from, period, area),
+    }
+}
+
+/// The first leg that goes on after the period or comes into the rectangle, of those from a place on.
+#[inline(always)]
+fn first_met(points: &[Point], from: usize, period: &Period, area: &Rect) -> usize
+    requires in_list { from < length points.now }
+    requires increasing { (k : ℕ) → Rises points.now k }
+    requires in_range { (k : ℕ) → EachAt points.now InBounds k }
+    requires begun { EachAt points.now (λ point. period.now.begin ≤ point.t) from }
+    ensures within { result ≤ length points.now }
+    ensures each { (j : ℕ) → from ≤ j → j < result →
+        Answers Question.Ever (Piece Interp.Linear points.now j) period.now area.now Tri.No }
+{
+    for k in from..points.len() - 1 {
+        let a = &points[k];
+        let b = &points[k + 1];
+        if period.end() < b.t {
+            return k;
+        }
+        if comes_in(a, b, area) {
+            return k;
+        }
+    }
+    points.len() - 1
+}
+
+/// The first leg that goes on after the period or has an end outside of the rectangle, of those from a
+/// place on.
+#[inline(always)]
+fn first_left(points: &[Point], from: usize, period: &Period, area: &Rect) -> usize
+    requires in_list { from < length points.now }
+    requires increasing { (k : ℕ) → Rises points.now k }
+    requires begun { EachAt points.now (λ point. period.now.begin ≤ point.t) from }
+    ensures within { result ≤ length points.now }
+    ensures each { (j : ℕ) → from ≤ j → j < result →
+        Answers Question.Always (Piece Interp.Linear points.now j) period.now area.now Tri.Yes }
+{
+    if !contains(area, &points[from]) {
+        return from;
+    }
+    // The leg's begin is inside, as the end of the one before it.
+    for k in from..points.len() - 1 {
+        let next = &points[k + 1];
+        if period.end() < next.t {
+            return k;
+        }
+        if !contains(area, next) {
+            return k;
+        }
+    }
+    points.len() - 1
+}
