@@ -11,15 +11,18 @@ behind the next one. At most --changes of these are tried for a line (all), draw
 A changed run may be right all the same. It then has to have one of these reasons, which are counted:
 
     another list       a slot has another command than before, of which nothing else tells; or one more or less is told
+    another operation  the list has a request with another of the operations that were submitted under its name
     another node       the nodes that learnt a slot are others, and nothing rests on who did
     another order      the lines are the same ones, in an order that other deliveries have
-    another ballot     a round by hand was refused for another ballot, and nothing rests on it
-    another put        a fault was armed, and it is open which delivery makes the put that fails, or that none does
+    another wait       a reply is left out, and it is open whether the request came to the node before its slot was learnt there
+    another end        a round by hand ended with another ballot, or with another slot, which an earlier delivery may have taught
+    another put        a fault was armed, and it is open which delivery makes the put that fails, so since when a node is down
 
 A change that passes for none of these reasons is printed, and the script ends with 1.
 """
 
 import argparse
+import collections
 import glob
 import os
 import random
@@ -29,7 +32,7 @@ import explained
 import schedules
 
 FOUND = "found"
-REASONS = ("another list", "another node", "another order", "another ballot", "another put")
+REASONS = ("another list", "another operation", "another node", "another wait", "another order", "another end", "another put")
 CODES = {"reply": (0, 21, 22, 23, 24, 31, 32), "refuse": (41, 42, 43, 44, 45, 47), "stop": (46, 47, 48)}
 
 
@@ -119,22 +122,26 @@ def learnt(lines):
 
 def judged(schedule, lines, changed):
     """`found`, one of the reasons, or None where a change passes for none of them."""
-    if explanation(schedule, changed) is None:
+    other = explanation(schedule, changed)
+    if other is None:
         return FOUND
     if learnt(lines) != learnt(changed):
         return "another list"
     if sorted(lines) == sorted(changed):
         return "another order"
-    gone, new = set(lines) - set(changed), set(changed) - set(lines)
-    if all(line.startswith("learn ") for line in gone | new) and len(gone) + len(new) in (1, 2):
-        return "another node"
-    if len(lines) != len(changed) and not gone | new:
-        return "another node" if all(line.startswith("learn ") for line in set(lines)) else None
-    if all(" low " in line for line in gone | new):
-        return "another ballot"
-    if all(line.startswith("stop ") and line.endswith(" 46") for line in gone | new):
-        return "another put"
-    return None
+    kinds = {line.split(" ")[0] for line in changed_lines(lines, changed)}
+    if kinds == {"reply"} and len(changed) < len(lines):
+        return "another wait"
+    if kinds <= {"reply", "answer"}:
+        return "another operation" if other.operations != explanation(schedule, lines).operations else None
+    reasons = {"learn": "another node", "round": "another end", "stop": "another put", "refuse": "another put"}
+    return reasons[kinds.pop()] if len(kinds) == 1 else None
+
+
+def changed_lines(lines, changed):
+    """The lines of which there are more in one of the two."""
+    before, after = collections.Counter(lines), collections.Counter(changed)
+    return sorted((before - after) + (after - before))
 
 
 def try_run(name, schedule, lines, draw, most, counts):
@@ -150,7 +157,7 @@ def try_run(name, schedule, lines, draw, most, counts):
             end = judged(schedule, lines, other)
             if end is None:
                 right = False
-                print("%s: a change of line %d is not found: %s" % (name, i, sorted(set(lines) ^ set(other))))
+                print("%s: a change of line %d is not found: %s" % (name, i, changed_lines(lines, other)))
             else:
                 counts[end] += 1
     return right

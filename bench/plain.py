@@ -67,7 +67,9 @@ def refuse_constant(word):
 
 
 def whole(digits):
-    """A number of JSON without a point: `-0` isn't a whole one, nor is what 64 bits don't hold."""
+    """A number of JSON without a point: `-0` isn't a whole one, nor is what 64 bits don't hold. One that is beyond all is refused."""
+    if len(digits) > 300:
+        return fraction(digits)
     return NotWhole if digits == "-0" or len(digits) > 20 else int(digits)
 
 
