@@ -91,7 +91,7 @@ class Drawing:
         return self.draw.choice((0, 0, 1, -1, 2, 3, 5, 7, 10, -10, 100, 9_999_999_999, plain.COORDINATE, -plain.COORDINATE))
 
     def name(self):
-        return self.draw.choice(("a", "b", "c", "bus-7", "A.b_c"))
+        return self.draw.choice(("a", "a", "a", "b", "b", "bus-7", "A.b_c"))
 
     def document(self, count=None):
         """A document, with its members in some order and blanks in some places."""
@@ -131,13 +131,29 @@ class Drawing:
     def schedule(self, count=None):
         """A schedule with its kinds of events drawn by weights that are drawn first, and queries of all nodes at the end."""
         draw, nodes = self.draw, self.draw.choice((3, 3, 5, 7))
-        self.numbers, self.frames = {}, 1
+        self.numbers, self.frames, self.fresh = {}, 1, 10
         kinds = ("submit", "timeout", "deliver", "drop", "flush", "tick", "fault", "restart", "query", "round")
-        weights = [draw.random() ** 2 * most for most in (4, 1.2, 12, 1, 1, 1, 1, 1, 2, 1)]
-        lines = ["nodes %d" % nodes]
+        weights = [draw.random() ** 2 * most for most in (6, 1.2, 12, 1, 1, 1, 1, 1, 4, 1)]
+        lines = ["nodes %d" % nodes] + (self.beginning(nodes) if draw.random() < 0.6 else [])
         lines += [self.line(draw.choices(kinds, weights)[0], nodes) for _ in range(count or draw.randrange(4, 90))]
         lines += ["restart %d" % draw.randrange(nodes)] * draw.randrange(2) + ["flush"] * draw.randrange(2)
         return lines + ["query %d %s" % (node, self.query()) for node in range(nodes) for _ in range(draw.randrange(3))]
+
+    def beginning(self, nodes):
+        """Features that all nodes learn before anything goes wrong."""
+        count = self.draw.randrange(1, 6)
+        self.frames = nodes * (2 + count * (1 + nodes))
+        return ["submit 0 %d 1 put %s" % (client, self.document()) for client in range(count)] + ["timeout 0", "flush"]
+
+    def client(self):
+        """A client with its next number, mostly: a new one, or one that has asked before."""
+        draw = self.draw
+        if draw.random() < 0.5:
+            self.fresh += 1
+            return self.fresh % 256, 1
+        client = draw.choice((7, 7, 8, 255, self.fresh % 256))
+        self.numbers[client] = max(1, self.numbers.get(client, 0) + draw.choice((1, 1, 1, 1, 1, 0, 0, -1, 2)))
+        return client, self.numbers[client]
 
     def line(self, kind, nodes):
         draw, node = self.draw, self.draw.randrange(nodes)
@@ -150,9 +166,7 @@ class Drawing:
             self.frames += draw.choice((0, 1, 1, 1, nodes)) if kind == "deliver" else 0
             return "%s %d" % (kind, max(0, frame))
         if kind == "submit":
-            client = draw.choice((7, 7, 8, 255))
-            self.numbers[client] = max(1, self.numbers.get(client, 0) + draw.choice((1, 1, 1, 1, 0, -1, 2)))
-            return "submit %d %d %d %s" % (node, client, self.numbers[client], self.operation())
+            return "submit %d %d %d %s" % (node, *self.client(), self.operation())
         if kind == "query":
             return "query %d %s" % (node, self.query())
         if kind == "fault":
