@@ -1,7 +1,8 @@
 #!/usr/bin/env python3
 """Runs `mfpx` again and again, each time with another request for memory refused, and judges how each run ends.
 
-    bench/failmalloc.py [PROGRAM]        PROGRAM is crates/mfpx/out/mfpx, which `rt run` in crates/mfpx builds
+    bench/failmalloc.py [PROGRAM [NAME..]]   PROGRAM is crates/mfpx/out/mfpx, which `rt run` in crates/mfpx builds; the NAMEs
+                                             are of examples, and where none is given all are run: those of thousands of lines take hours
 
 The first run refuses the first request, the second the second, and so on until a run meets no refusal. A run ends well in
 one of these ways:
@@ -12,6 +13,8 @@ one of these ways:
     began down    as if that node had been down from the start
     no frame      status 1 and fault 51 at a line that delivers or drops what was never sent, as a node was down by then
     no memory     status 3, nothing printed, and `mfpx: out of memory`
+
+Each transcript of a schedule of at most 200 lines has to be explained by `explained.py` besides, whatever its end.
 
 A check of a document prints what it prints with ample memory, and ends so, or it ends for want of memory.
 
@@ -24,7 +27,10 @@ import subprocess
 import sys
 import tempfile
 
+import explained
+
 HERE = os.path.dirname(os.path.abspath(__file__))
+SHORT = 200
 ENDS = ("right", "stopped", "refused", "began down", "no frame", "no memory")
 
 
@@ -108,6 +114,20 @@ def is_explained(lines, transcript, texts):
     return True
 
 
+def one_list_explains(lines, transcript):
+    """Whether the checker that executes the log finds a list that explains the run. Long runs, and undecided ones, are passed over."""
+    if len(lines) > SHORT:
+        return True
+    schedule, told = ("".join(line + "\n" for line in text) for text in (lines, transcript))
+    try:
+        explained.explain(schedule.encode(), told, memory=True)
+    except explained.Unexplained:
+        return False
+    except explained.Undecided:
+        pass
+    return True
+
+
 def shared(a, b):
     """How many lines two transcripts share at their beginning."""
     return next((i for i, (x, y) in enumerate(zip(a, b)) if x != y), min(len(a), len(b)))
@@ -141,7 +161,7 @@ class Job:
             return "no memory"
         if status == 1 and not told and error.startswith("mfpx: line ") and error.endswith(" fault 51\n"):
             return self.judged_line(refused, int(error.split()[2]))
-        if status != 0 or error:
+        if status != 0 or error or not one_list_explains(self.lines, told):
             return None
         if told == self.right:
             return "right"
@@ -212,10 +232,12 @@ def tell(title, words, counts, bad):
     return bool(bad)
 
 
-def named(pattern):
-    """The examples whose names fit: each name, and its path."""
+def named(pattern, names):
+    """The examples whose files fit, those of the names alone if there are any: each name, and its path."""
     for path in sorted(glob.glob(os.path.join(HERE, "..", "crates", "examples", "data", pattern))):
-        yield os.path.splitext(os.path.basename(path))[0], path
+        name = os.path.splitext(os.path.basename(path))[0]
+        if not names or name in names:
+            yield name, path
 
 
 def main():
@@ -227,7 +249,7 @@ def main():
                        check=True)
         runs = Runs(os.path.abspath(program), library)
         print("%-24s %-14s %8s  %s" % ("example", "words", "requests", "  ".join(ENDS)))
-        for name, path in named("*.transcript"):
+        for name, path in named("*.transcript", sys.argv[2:]):
             with open(os.path.splitext(path)[0] + ".schedule") as file:
                 lines = file.read().splitlines()
             for title, tried, words in (
@@ -236,7 +258,7 @@ def main():
                 (name + " +", lines + afterwards(lines), []),
             ):
                 failed |= tell(title, words, *try_each(runs, title, tried, words))
-        for name, path in named("*.json"):
+        for name, path in named("*.json", sys.argv[2:]):
             with open(path, "rb") as file:
                 document = file.read()
             for words in ["check", "-"], ["check", "FILE"]:
