@@ -23,6 +23,7 @@ pub mod InLog
 pub mod OneAnswer
 pub mod TallyLemmas
 -- the start, deliveries one after the other, and rounds
+pub mod UsedStorages
 pub mod StartLemmas
 pub mod FlushLemmas
 pub mod RoundMembers
