@@ -2,6 +2,7 @@
 use Rattle.std.proofs.Common.{◌≡◌, ◌⊎◌, inl, inr, ℕ, List, [], ◌∷◌, ◌++◌, length, refl, sym, ap, ◌∙◌, subst, arith, Result, Ok, Err, IfOk, IfErr, IsErrOf}
 use Rattle.std.specs.Global.{Vec}
 use Rattle.stable.specs.Script.{Script}
+use Rattle.stable.specs.Storages.{scripted}
 use Rattle.stable.specs.declared.stable.Stable.{Ghosts}
 use Rattle.world.specs.Flushing.{Delivers, DeliversSome, IsStart}
 use Rattle.world.specs.declared.fault.WorldFault.{WorldFault}
@@ -10,11 +11,12 @@ use Rattle.world.specs.declared.log.TheConstants.{MOST_DELIVERIES}
 use Rattle.world.specs.declared.round_end.RoundEnd.{RoundEnd}
 use Rattle.world.specs.Rounds.{IsPartOfRound, NamesNoMember, RoundEnds}
 use Rattle.world.specs.Waiting.{OneWaits}
+use Rattle.world.specs.Starting.{AreOver, OneIsUsed}
 use Rattle.world.specs.Staying.{StaysSafe}
 use Rattle.world.specs.Worlds.{WorldState}
 use Rattle.schedule.specs.Causes.{cause_of}
 use Rattle.schedule.specs.declared.action.Action.TheVariants.{Flush, Round}
-use Rattle.schedule.specs.Runs.{IsDone, IsRefused, IsStopped, Leads, EndsAt, RunsTo, RunFails, at_a_line, at_the_last, IsReplay, ReplayEnds, not_run, told_of}
+use Rattle.schedule.specs.Runs.{IsDone, IsRefused, IsStopped, Leads, EndsAt, RunsTo, RunFails, at_a_line, at_the_last, IsReplay, ReplayEnds, not_begun, not_run, told_of, IsRunOver, EndsOver, is_used, no_world, no_end}
 use Rattle.schedule.specs.Schedules.{Plan, IsScheduleOf, last_number}
 use Rattle.schedule.specs.declared.plan.ScheduleLine.{ScheduleLine}
 use Rattle.schedule.specs.declared.replay_fault.ReplayCause.{ReplayCause}
@@ -157,4 +159,44 @@ module _ {S : Type 0} (storages : Ghosts (Script S)) where
       → IfErr result (RunFails storages IsHonest plan start) → IfErr result (ReplayEnds storages bytes)
   replay_ends IsHonest bytes plan start (Ok text) always spelled starts fails = fails
   replay_ends IsHonest bytes plan start (Err fault) always spelled starts fails =
+      not_run plan spelled start fails.end starts fails.ends (fails.safe (λ i n e. always n.storage.inner))
+
+-- ---- runs over storages that are handed over
+module _ {S : Type 0} (storages : Ghosts S) (stores : List S) (plan : Plan) where
+  -- why no run begins
+  pub begins_none : (fault : WorldFault) (cause : ReplayCause) (line : ℕ) → cause ≡ cause_of fault → line ≡ plan.first
+      → (fault ≡ world_fault.NotEmpty → OneIsUsed storages stores) → (fault ≡ world_fault.NotEmpty) ⊎ (fault ≡ world_fault.Memory)
+      → EndsOver storages stores plan (record { line = line; cause = cause })
+  begins_none fault cause line same first used (inl e) = is_used (used e) (same ∙ ap cause_of e)
+  begins_none fault cause line same first used (inr e) = no_world (same ∙ ap cause_of e) first
+
+  -- a run from where these storages lead
+  pub runs_over : (start : WorldState S) (result : Result (Vec ℕ) ReplayFault) → IsStart (scripted storages) plan.nodes start
+      → AreOver storages stores start.nodes
+      → IfOk result (λ text. RunsTo (scripted storages) storages.IsHonest plan start text.items)
+      → IfOk result (λ text. IsRunOver storages stores plan text.items)
+  runs_over start (Ok text) starts over runs = record { start = start; starts = starts; over = over; runs = runs }
+  runs_over start (Err fault) starts over runs = tt
+
+  pub fails_over : (start : WorldState S) (result : Result (Vec ℕ) ReplayFault) → IsStart (scripted storages) plan.nodes start
+      → AreOver storages stores start.nodes
+      → IfErr result (RunFails (scripted storages) storages.IsHonest plan start) → IfErr result (EndsOver storages stores plan)
+  fails_over start (Ok text) starts over fails = fails
+  fails_over start (Err fault) starts over fails = no_end start starts over fails
+
+  -- over storages that are always honest it is a replay of what spells the plan
+  pub over_replayed : (bytes : List ℕ) (result : Result (Vec ℕ) ReplayFault) → ((s : S) → storages.IsHonest s) → IsScheduleOf bytes plan
+      → IfOk result (λ text. IsRunOver storages stores plan text.items) → IfOk result (λ text. IsReplay (scripted storages) bytes text.items)
+  over_replayed bytes (Ok text) always spelled run =
+      replayed (scripted storages) storages.IsHonest bytes plan run.start text.items always spelled run.starts run.runs
+  over_replayed bytes (Err fault) always spelled run = tt
+
+  -- and over such as hold no record it ends as a replay does
+  pub over_ends : (bytes : List ℕ) (result : Result (Vec ℕ) ReplayFault) → ((s : S) → storages.IsHonest s) → IsScheduleOf bytes plan
+      → (OneIsUsed storages stores → ⊥) → IfErr result (EndsOver storages stores plan)
+      → IfErr result (ReplayEnds (scripted storages) bytes)
+  over_ends bytes (Ok text) always spelled unused ends = ends
+  over_ends bytes (Err fault) always spelled unused (is_used one cause) = absurd (unused one)
+  over_ends bytes (Err fault) always spelled unused (no_world cause line) = not_begun plan spelled cause line
+  over_ends bytes (Err fault) always spelled unused (no_end start starts over fails) =
       not_run plan spelled start fails.end starts fails.ends (fails.safe (λ i n e. always n.storage.inner))

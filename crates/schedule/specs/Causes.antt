@@ -7,7 +7,7 @@ use Rattle.schedule.specs.declared.fault.ParseFault.{ParseFault}
 use Rattle.schedule.specs.declared.fault.ParseFault.TheVariants as parse_fault
 use Rattle.schedule.specs.declared.replay_fault.ReplayCause.{ReplayCause}
 use Rattle.schedule.specs.declared.replay_fault.ReplayFault.{ReplayFault}
-use Rattle.schedule.specs.declared.replay_fault.ReplayCause.TheVariants.{Schedule, NoSuchMessage, NoSuchNode, FlushLimit, Memory}
+use Rattle.schedule.specs.declared.replay_fault.ReplayCause.TheVariants.{Schedule, NoSuchMessage, NoSuchNode, FlushLimit, Memory, NotEmpty}
 
 -- the number of a cause
 abbrev pub cause_code : ReplayCause → ℕ
@@ -16,6 +16,7 @@ cause_code NoSuchMessage = 51
 cause_code NoSuchNode = 52
 cause_code FlushLimit = 53
 cause_code Memory = 54
+cause_code NotEmpty = 55
 
 -- a world's fault, as the cause
 abbrev pub cause_of : WorldFault → ReplayCause
@@ -23,6 +24,7 @@ cause_of world_fault.NoSuchMessage = NoSuchMessage
 cause_of world_fault.NoSuchNode = NoSuchNode
 cause_of world_fault.FlushLimit = FlushLimit
 cause_of world_fault.Memory = Memory
+cause_of world_fault.NotEmpty = NotEmpty
 
 -- what is told of a schedule that was not read
 abbrev pub fault_of : ParseFault → ReplayFault

@@ -1,11 +1,13 @@
 -- Runs: what the lines of a schedule do to a world, one after another, and where they end.
 use Rattle.std.specs.Prelude.{◌≡◌, ℕ, ◌≤◌, List, [], ◌∷◌, ◌++◌, length}
 use Rattle.stable.specs.Script.{Script}
+use Rattle.stable.specs.Storages.{scripted}
 use Rattle.stable.specs.declared.stable.Stable.{Ghosts}
 use Rattle.world.specs.Flushing.{Delivers, DeliversSome, IsStart}
 use Rattle.world.specs.Events.{NamesNoFrame, NamesNoNode}
 use Rattle.world.specs.Rounds.{NamesNoMember, RoundEnds, IsPartOfRound}
 use Rattle.world.specs.Waiting.{NoneWaits, OneWaits}
+use Rattle.world.specs.Starting.{AreOver, OneIsUsed}
 use Rattle.world.specs.Staying.{IsSafeOver, StaysSafe}
 use Rattle.world.specs.Worlds.{WorldState, Steps}
 use Rattle.world.specs.declared.event.Event.{Event}
@@ -19,7 +21,7 @@ use Rattle.schedule.specs.declared.action.Action.TheVariants.{Step, Flush, Round
 use Rattle.schedule.specs.declared.fault.ParseFault.{ParseFault}
 use Rattle.schedule.specs.declared.plan.ScheduleLine.{ScheduleLine}
 use Rattle.schedule.specs.declared.replay_fault.ReplayCause.{ReplayCause}
-use Rattle.schedule.specs.declared.replay_fault.ReplayCause.TheVariants.{NoSuchMessage, NoSuchNode, FlushLimit, Memory}
+use Rattle.schedule.specs.declared.replay_fault.ReplayCause.TheVariants.{NoSuchMessage, NoSuchNode, FlushLimit, Memory, NotEmpty}
 use Rattle.schedule.specs.declared.replay_fault.ReplayFault.{ReplayFault}
 
 -- the transcript of all that happened in a world
@@ -130,3 +132,19 @@ module _ {S : Type 0} (storages : Ghosts (Script S)) where
     not_run : (plan : Plan) → IsScheduleOf bytes plan → (start end : WorldState S)
         → IsStart storages plan.nodes start → RunEnds plan start fault end → IsSafeOver storages end
         → ReplayEnds bytes fault
+
+-- ---- runs over storages that are handed over, which are known by what their own calls may do
+module _ {S : Type 0} (storages : Ghosts S) where
+  -- each node starts over its own of these, and the lines lead from there to a world of which the text is the transcript
+  pub record IsRunOver (stores : List S) (plan : Plan) (text : List ℕ) : Type 0 where
+    pub start : WorldState S
+    pub starts : IsStart (scripted storages) plan.nodes start
+    pub over : AreOver storages stores start.nodes
+    pub runs : RunsTo (scripted storages) storages.IsHonest plan start text
+
+  -- why there is no transcript: a storage holds a record already, or no world was made, or the run ended
+  pub data EndsOver (stores : List S) (plan : Plan) (fault : ReplayFault) : Type 0 where
+    is_used : OneIsUsed storages stores → fault.cause ≡ NotEmpty → EndsOver stores plan fault
+    no_world : fault.cause ≡ Memory → fault.line ≡ plan.first → EndsOver stores plan fault
+    no_end : (start : WorldState S) → IsStart (scripted storages) plan.nodes start → AreOver storages stores start.nodes
+        → RunFails (scripted storages) storages.IsHonest plan start fault → EndsOver stores plan fault

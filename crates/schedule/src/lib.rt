@@ -19,9 +19,9 @@ mod print;
 mod queries;
 mod reading;
 mod replay_fault;
+mod replaying;
 mod report;
 mod rows;
-mod run;
 mod submits;
 #[cfg(test)]
 mod tests;
@@ -35,5 +35,5 @@ pub use members::Members;
 pub use parse::parse_schedule;
 pub use plan::{Schedule, ScheduleLine};
 pub use replay_fault::{ReplayCause, ReplayFault};
+pub use replaying::{replay, run, run_lines};
 pub use report::transcript;
-pub use run::{replay, run_lines};

@@ -19,6 +19,8 @@ pub enum ReplayCause {
     FlushLimit,
     /// A growth was refused.
     Memory,
+    /// A storage over which the run was to begin holds a record, or can't tell that it holds none. No line is to blame.
+    NotEmpty,
 }
 
 impl ReplayCause {
@@ -32,6 +34,7 @@ impl ReplayCause {
             ReplayCause::NoSuchNode => 52,
             ReplayCause::FlushLimit => 53,
             ReplayCause::Memory => 54,
+            ReplayCause::NotEmpty => 55,
         }
     }
 }
@@ -45,6 +48,7 @@ impl From<WorldFault> for ReplayCause {
             WorldFault::NoSuchNode => ReplayCause::NoSuchNode,
             WorldFault::FlushLimit => ReplayCause::FlushLimit,
             WorldFault::Memory => ReplayCause::Memory,
+            WorldFault::NotEmpty => ReplayCause::NotEmpty,
         }
     }
 }
@@ -52,7 +56,7 @@ impl From<WorldFault> for ReplayCause {
 /// The line at which a run ended, and why.
 #[derive(Clone, Copy, Debug, PartialEq, Eq)]
 pub struct ReplayFault {
-    /// Which line of the file it is, counted from 1.
+    /// Which line of the file it is, counted from 1; the first one where no node was started.
     pub line: u64,
     pub cause: ReplayCause,
 }

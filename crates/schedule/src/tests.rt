@@ -1,6 +1,6 @@
 use super::*;
 use sessions::Number;
-use stable::Failing;
+use stable::{Failing, Key, MemStable, Stable};
 use std::alloc::Global;
 use std::test::Fail;
 use store::{Op, Query};
@@ -376,6 +376,7 @@ fn numbers_of_causes(rt: HostRuntime) -> Result<(), Fail> {
         (ReplayCause::NoSuchNode, 52),
         (ReplayCause::FlushLimit, 53),
         (ReplayCause::Memory, 54),
+        (ReplayCause::NotEmpty, 55),
     ];
     for (cause, number) in causes {
         assert_eq!(rt; cause.number(), number);
@@ -448,5 +449,33 @@ fn replays(rt: HostRuntime) -> Result<(), Fail> {
             "of {file:?}"
         );
     }
+    Ok(())
+}
+
+// A schedule over records in memory of its own, of which one node's hold something, where that is wanted.
+fn run_over_records(alloc: Global, used: bool) -> Result<Result<Vec<u8>, ReplayFault>, Fail> {
+    let schedule = parse_schedule(alloc, TOLD[1].0).ok().ok_or("a schedule")?;
+    let mut stores = Vec::new(alloc);
+    for _ in 0..schedule.nodes().count() {
+        let mut store = MemStable::new(alloc);
+        if used && store.put(alloc, Key::Promise, b"012345678").is_err() {
+            return Err(Fail::from("a record"));
+        }
+        stores.push(store)?;
+    }
+    if stores.len() != usize::from(schedule.nodes().count()) {
+        return Err(Fail::from("storages"));
+    }
+    Ok(run(alloc, schedule, stores))
+}
+
+// A run over storages that are handed over has the transcript of a replay, where these are empty.
+#[test]
+fn runs_over_records(rt: HostRuntime) -> Result<(), Fail> {
+    let alloc = rt.alloc();
+    let text = run_over_records(alloc, false)?.ok().ok_or("a transcript")?;
+    assert!(rt; text.as_slice() == TOLD[1].1);
+    let fault = run_over_records(alloc, true)?.err().ok_or("a fault")?;
+    assert_eq!(rt; (fault.line, fault.cause), (1, ReplayCause::NotEmpty));
     Ok(())
 }

@@ -24,6 +24,7 @@ pub mod PromisesStand
 pub mod OneAnswer
 pub mod TallyLemmas
 -- the start, deliveries one after the other, and rounds
+pub mod UsedStorages
 pub mod StartLemmas
 pub mod FlushLemmas
 pub mod RoundMembers

@@ -8,3 +8,4 @@ world_code world_fault.NoSuchMessage = 51
 world_code world_fault.NoSuchNode = 52
 world_code world_fault.FlushLimit = 53
 world_code world_fault.Memory = 54
+world_code world_fault.NotEmpty = 55

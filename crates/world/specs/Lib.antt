@@ -11,6 +11,7 @@ pub mod Reaching
 pub mod Rounds
 pub mod Safety
 pub mod Seen
+pub mod Starting
 pub mod Staying
 pub mod Submissions
 pub mod Tallies

@@ -17,6 +17,8 @@ pub enum WorldFault {
     FlushLimit,
     /// A growth was refused.
     Memory,
+    /// A storage over which the run was to begin holds a record, or can't tell that it holds none.
+    NotEmpty,
 }
 
 impl WorldFault {
@@ -29,6 +31,7 @@ impl WorldFault {
             WorldFault::NoSuchNode => 52,
             WorldFault::FlushLimit => 53,
             WorldFault::Memory => 54,
+            WorldFault::NotEmpty => 55,
         }
     }
 }
@@ -37,6 +40,14 @@ impl From<AllocError> for WorldFault {
     ghost from_gives = { λ _ fault. fault ≡ world_fault.Memory };
 
     fn from(_fault: AllocError) -> WorldFault {
+        WorldFault::Memory
+    }
+}
+
+impl<T: Drop> From<AllocFailed<T>> for WorldFault {
+    ghost from_gives = { λ _ fault. fault ≡ world_fault.Memory };
+
+    fn from(_fault: AllocFailed<T>) -> WorldFault {
         WorldFault::Memory
     }
 }

@@ -24,4 +24,5 @@ pub use lists::{Answered, Learnt, Outcome, Replied, Submission};
 pub use log::MOST_DELIVERIES;
 pub use node::{NodeFault, Text};
 pub use round_end::RoundEnd;
+pub use start::fresh_stores;
 pub use world::World;

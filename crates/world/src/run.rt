@@ -22,7 +22,7 @@ use super::round_end::RoundEnd;
 use super::start::start_nodes;
 use node::{Executed, Input, LogEntry, MOST_SENDS, MOST_WAITING, Node, NodeFault, Outputs, Text};
 use sessions::Number;
-use stable::{Failing, MemStable, Put, Scripted, Stable};
+use stable::{Failing, Put, Scripted, Stable};
 use std::alloc::Global;
 use store::{Op, Query};
 use synod::Slot;
@@ -47,16 +47,22 @@ pub struct Run<S> {
     ghost fleet: { IsFleet (map state_of nodes.items) frames.items },
 }
 
-impl Run<MemStable> {
+impl<S: Stable + Drop> Run<S> {
     ghost use Rattle.world.specs.Worlds.{run_of};
     ghost use Rattle.world.specs.Flushing.{IsStart};
+    ghost use Rattle.world.specs.Starting.{AreOver, OneIsUsed};
 
-    /// A world of so many nodes over empty records in memory. `Memory` is its only fault.
-    pub fn new(alloc: Global, count: Nodes) -> Result<Run<MemStable>, WorldFault>
-        ensures start { IfOk result (λ w. IsStart (⟦<Scripted<MemStable> as Stable>⟧) count (run_of w)) }
-        ensures faults { IfErr result (λ f. f ≡ WorldFault.Memory) }
+    /// A world of so many nodes, each over its own of these storages, which hold no record yet.
+    pub fn with(alloc: Global, count: Nodes, stores: Vec<S>) -> Result<Run<S>, WorldFault>
+        requires one_each { vec_len stores ≡ count }
+        ensures start { IfOk result (λ w. IsStart (⟦<Scripted<S> as Stable>⟧) count (run_of w)) }
+        ensures over { IfOk result (λ w. AreOver S.Stable stores.items (run_of w).nodes) }
+
+        // Each fault.
+        ensures used { IfErr result (λ f. f ≡ WorldFault.NotEmpty → OneIsUsed S.Stable stores.items) }
+        ensures faults { IfErr result (λ f. (f ≡ WorldFault.NotEmpty) ⊎ (f ≡ WorldFault.Memory)) }
     {
-        let nodes = start_nodes(alloc, count)?;
+        let nodes = start_nodes(alloc, count, stores)?;
         Ok(Run {
             nodes,
             submitted: Vec::new(alloc),

@@ -1,6 +1,6 @@
 use super::*;
 use sessions::{MOST_PUT_POINTS, Number};
-use stable::{Failing, MemStable};
+use stable::{Failing, Key, MemStable, Stable};
 use std::alloc::Global;
 use std::process::Abort;
 use std::test::Fail;
@@ -57,6 +57,30 @@ fn request(to: u8, number: u64) -> Result<Event, Fail> {
 
 fn three_nodes(alloc: Global) -> Result<World<MemStable>, Fail> {
     Ok(World::new(alloc, Nodes::new(3).ok_or("nodes")?)?)
+}
+
+// Records in memory, which hold one, or none.
+fn records(alloc: Global, used: bool) -> Result<MemStable, Fail> {
+    let mut store = MemStable::new(alloc);
+    if used && store.put(alloc, Key::Round, b"01234567").is_err() {
+        return Err(Fail::from("a record"));
+    }
+    Ok(store)
+}
+
+// A world of three nodes, of whose storages this one holds a record.
+fn world_over(
+    alloc: Global,
+    used: Option<u8>,
+) -> Result<Result<World<MemStable>, WorldFault>, Fail> {
+    let Some(count) = Nodes::new(3) else {
+        return Err(Fail::from("nodes"));
+    };
+    let mut stores = Vec::new(alloc);
+    stores.push(records(alloc, used == Some(0))?)?;
+    stores.push(records(alloc, used == Some(1))?)?;
+    stores.push(records(alloc, used == Some(2))?)?;
+    Ok(World::with(alloc, count, stores))
 }
 
 // Node 0 leads, and all frames are delivered.
@@ -354,5 +378,29 @@ fn rounds_by_hand(rt: HostRuntime) -> Result<(), Fail> {
         Ok(RoundEnd::Down(second))
     );
     assert_eq!(rt; world.learnt().len(), 2);
+    Ok(())
+}
+
+// Over storages that are empty a run is the one over storages of its own making.
+#[test]
+fn a_run_over_empty_records(rt: HostRuntime) -> Result<(), Fail> {
+    let alloc = rt.alloc();
+    let mut world = world_over(alloc, None)??;
+    world.step(alloc, request(0, 1)?)?;
+    decide(alloc, &mut world)?;
+    assert_eq!(rt; (world.frames().len(), world.learnt().len()), (18, 3));
+    assert_eq!(rt; world.writes(node(2)?).ok_or("writes")?.len(), 2);
+    Ok(())
+}
+
+// No run begins over storages of which one holds a record, whichever it is.
+#[test]
+fn no_run_over_used_records(rt: HostRuntime) -> Result<(), Fail> {
+    let alloc = rt.alloc();
+    for used in 0..3 {
+        let fault = world_over(alloc, Some(used))?.err();
+        assert_eq!(rt; fault, Some(WorldFault::NotEmpty), "{used}");
+    }
+    assert_eq!(rt; WorldFault::NotEmpty.code(), 55);
     Ok(())
 }

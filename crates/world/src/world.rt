@@ -1,6 +1,6 @@
 //! The world: all nodes of a run, everything that happened in it, and what is promised of that.
 
-ghost use Rattle.std.specs.Prelude.{◌≡◌, ◌≤◌, ◌↔◌, ◌⊎◌, length, slice_get, IsNone, OnOk, OnErr, IfOk, IfErr, IfSome, IsErrOf};
+ghost use Rattle.std.specs.Prelude.{◌≡◌, ◌≤◌, ◌↔◌, ◌⊎◌, length, slice_get, vec_len, IsNone, OnOk, OnErr, IfOk, IfErr, IfSome, IsErrOf};
 ghost use Rattle.world.specs.Waiting.{NoneWaits, OneWaits};
 ghost use Rattle.world.specs.Worlds.{run_of};
 ghost use Rattle.world.specs.Safety.{IsSoundIfHonest, contents_inside, honest_inside};
@@ -12,6 +12,7 @@ use super::lists::{Answered, Learnt, Outcome, Replied, Submission};
 use super::log::MOST_DELIVERIES;
 use super::round_end::RoundEnd;
 use super::run::Run;
+use super::start::fresh_stores;
 use stable::{MemStable, Put, Scripted, Stable};
 use std::alloc::Global;
 use wire::{Frame, NodeId, Nodes};
@@ -43,7 +44,34 @@ impl World<MemStable> {
         ensures faults { IfErr result (λ f. f ≡ WorldFault.Memory) }
         ensures safe { IfOk result (λ w. IsSafeOver (⟦<Scripted<MemStable> as Stable>⟧) (world_of w)) }
     {
-        let run = Run::new(alloc, count)?;
+        let stores = fresh_stores(alloc, count)?;
+        World::with(alloc, count, stores)
+    }
+}
+
+impl<S: Stable + Drop> World<S> {
+    ghost use Rattle.world.specs.Seen.{world_of};
+    ghost use Rattle.world.specs.Flushing.{IsStart};
+    ghost use Rattle.world.specs.Starting.{AreOver, OneIsUsed};
+    ghost use Rattle.world.specs.Staying.{StaysSafe};
+
+    /// A world of so many nodes, each over its own of these storages, in their order. A node whose own start fails begins down.
+    ///
+    /// `NotEmpty` where a storage holds a record, or can't tell that it holds none; `Memory` is the only other fault. Every storage is
+    /// only read.
+    pub fn with(alloc: Global, count: Nodes, stores: Vec<S>) -> Result<World<S>, WorldFault>
+        requires one_each { vec_len stores ≡ count }
+        ensures start { IfOk result (λ w. IsStart (⟦<Scripted<S> as Stable>⟧) count (world_of w)) }
+        ensures over { IfOk result (λ w. AreOver S.Stable stores.items (world_of w).nodes) }
+
+        // Each fault.
+        ensures used { IfErr result (λ f. f ≡ WorldFault.NotEmpty → OneIsUsed S.Stable stores.items) }
+        ensures faults { IfErr result (λ f. (f ≡ WorldFault.NotEmpty) ⊎ (f ≡ WorldFault.Memory)) }
+
+        // Whatever the storages are.
+        ensures safe { IfOk result (λ w. StaysSafe (⟦<Scripted<S> as Stable>⟧) S.IsHonest (world_of w)) }
+    {
+        let run = Run::with(alloc, count, stores)?;
         Ok(World { run })
     }
 }

@@ -5,7 +5,7 @@ use Rattle.stable.specs.contracts.scripted.ScriptedStable.TheImpl as scripted
 use Rattle.world.specs.Seen.{world_of}
 use Rattle.schedule.specs.Runs.{Leads}
 use Rattle.schedule.proofs.Running.{nothing_left, led_on, ends_here}
-use Rattle.schedule.proofs.run.do_lines.Goals as goal
+use Rattle.schedule.proofs.replaying.do_lines.Goals as goal
 
 pub loop-line-preserved : goal.loop-line-preserved
 loop-line-preserved g c =

@@ -1,7 +1,7 @@
 use Rattle.stable.specs.Storages.{scripted}
 use Rattle.world.specs.Seen.{world_of}
 use Rattle.schedule.proofs.Running.{stopped}
-use Rattle.schedule.proofs.run.do_line.Goals as goal
+use Rattle.schedule.proofs.replaying.do_line.Goals as goal
 
 pub returns-in-Err-clause-done : goal.returns-in-Err-clause-done
 returns-in-Err-clause-done g c =

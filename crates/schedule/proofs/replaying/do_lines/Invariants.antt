@@ -3,7 +3,7 @@ use Rattle.std.specs.Vec.Iter.{into_iter_items, into_iter_len}
 use Rattle.stable.specs.contracts.scripted.ScriptedStable.TheImpl as scripted
 use Rattle.world.specs.Seen.{world_of}
 use Rattle.schedule.specs.Runs.{Leads}
-use Rattle.schedule.proofs.run.do_lines.Given as goal
+use Rattle.schedule.proofs.replaying.do_lines.Given as goal
 
 -- the lines that were taken are done, and the others are left
 abbrev pub invariant-loop-line : goal.invariant-loop-line

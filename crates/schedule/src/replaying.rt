@@ -1,11 +1,12 @@
 //! A run of a schedule.
 
-ghost use Rattle.std.specs.Prelude.{◌≡◌, ◌≢◌, IfErr, IfOk, MatchResult, OnErr};
+ghost use Rattle.std.specs.Prelude.{◌≡◌, ◌≢◌, IfErr, IfOk, MatchResult, OnErr, vec_len};
 ghost use Rattle.world.specs.Flushing.{IsStart};
 ghost use Rattle.world.specs.Seen.{world_of};
+ghost use Rattle.world.specs.Starting.{AreOver};
 ghost use Rattle.world.specs.Staying.{StaysSafe};
 ghost use Rattle.schedule.specs.Causes.{cause_of};
-ghost use Rattle.schedule.specs.Runs.{EndsAt, IsDone, IsRefused, IsReplay, IsStopped, Leads, ReplayEnds, RunFails, RunsTo, told_of};
+ghost use Rattle.schedule.specs.Runs.{EndsAt, EndsOver, IsDone, IsRefused, IsReplay, IsRunOver, IsStopped, Leads, ReplayEnds, RunFails, RunsTo, told_of};
 
 use super::action::Action;
 use super::parse::parse_schedule;
@@ -14,7 +15,7 @@ use super::replay_fault::{ReplayCause, ReplayFault};
 use super::report::transcript;
 use stable::{MemStable, Scripted, Stable};
 use std::alloc::{AllocError, Global};
-use world::{World, WorldFault};
+use world::{World, WorldFault, fresh_stores};
 
 /// The transcript of the run that the bytes spell, over records in memory.
 ///
@@ -32,18 +33,48 @@ pub fn replay(alloc: Global, bytes: &[u8]) -> Result<Vec<u8>, ReplayFault>
     ensures nodes_are_there { IfErr result (λ fault. fault.cause ≢ ReplayCause.NoSuchNode) }
 {
     let schedule = parse_schedule(alloc, bytes)?;
-    let world = start(alloc, &schedule)?;
+    let stores = match fresh_stores(alloc, schedule.nodes()) {
+        Ok(stores) => stores,
+        Err(_) => {
+            return Err(ReplayFault {
+                line: schedule.first(),
+                cause: ReplayCause::Memory,
+            });
+        }
+    };
+    run(alloc, schedule, stores)
+}
+
+/// The transcript of the schedule's run over these storages, one for each of its nodes, in their order.
+///
+/// `NotEmpty` where one of them holds a record already, and then nothing was written. As long as the storages are honest the run is safe,
+/// to the end or to the line that ends it.
+pub fn run<S: Stable + Drop>(
+    alloc: Global,
+    schedule: Schedule,
+    stores: Vec<S>,
+) -> Result<Vec<u8>, ReplayFault>
+    requires one_each { vec_len stores ≡ schedule.nodes }
+    ensures transcript { IfOk result (λ text. IsRunOver S.Stable stores.items schedule text.items) }
+    ensures fault { IfErr result (EndsOver S.Stable stores.items schedule) }
+{
+    let world = start(alloc, &schedule, stores)?;
     run_lines(alloc, schedule, world)
 }
 
-/// The world in which a replay begins.
-fn start(alloc: Global, schedule: &Schedule) -> Result<World<MemStable>, ReplayFault>
+/// The world in which a run over these storages begins.
+fn start<S: Stable + Drop>(
+    alloc: Global,
+    schedule: &Schedule,
+    stores: Vec<S>,
+) -> Result<World<S>, ReplayFault>
+    requires one_each { vec_len stores ≡ schedule.now.nodes }
     ensures started { IfOk result (λ world.
-        IsStart (⟦<Scripted<MemStable> as Stable>⟧) schedule.now.nodes (world_of world)) }
-    ensures refused { IfErr result (λ fault.
-        fault ≡ record { line = schedule.now.first; cause = ReplayCause.Memory }) }
+        IsStart (⟦<Scripted<S> as Stable>⟧) schedule.now.nodes (world_of world)) }
+    ensures over { IfOk result (λ world. AreOver S.Stable stores.items (world_of world).nodes) }
+    ensures fault { IfErr result (EndsOver S.Stable stores.items schedule.now) }
 {
-    match World::new(alloc, schedule.nodes()) {
+    match World::with(alloc, schedule.nodes(), stores) {
         Ok(world) => Ok(world),
         Err(fault) => Err(ReplayFault {
             line: schedule.first(),

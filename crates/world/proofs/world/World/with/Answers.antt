@@ -1,0 +1,17 @@
+use Rattle.stable.specs.Storages.{scripted}
+use Rattle.world.specs.Worlds.{run_of}
+use Rattle.world.proofs.FiredLemmas.{start_few}
+use Rattle.world.proofs.WorldSound.{started, stays_safe}
+use Rattle.world.proofs.world.World.with.Goals as goal
+
+-- a run begins sound, and no fault has come
+pub invariant_of-result : goal.invariant_of-result
+invariant_of-result g c = record {
+  sound = started c.args.count (run_of c.in_ok-run.run') c.in_ok-run.ensures.start;
+  few_faults = start_few (scripted g.S.Stable) c.args.count (run_of c.in_ok-run.run') c.in_ok-run.ensures.start;
+}
+
+pub returns-clause-safe : goal.returns-clause-safe
+returns-clause-safe g c =
+    stays_safe g.S.Stable c.in_ok-run.run' (start_few (scripted g.S.Stable) c.args.count (run_of c.in_ok-run.run') c.in_ok-run.ensures.start)
+    (started c.args.count (run_of c.in_ok-run.run') c.in_ok-run.ensures.start)
