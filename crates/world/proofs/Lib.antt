@@ -29,6 +29,7 @@ pub mod RoundMembers
 pub mod RoundBeginnings
 pub mod RoundLemmas
 pub mod FiredLemmas
+pub mod FramesGrow
 -- all of it, for the public calls
 pub mod SoundSteps
 pub mod WorldSound
