@@ -6,6 +6,8 @@ pub mod Keywords
 pub mod Laws
 pub mod Lines
 pub mod Numbers
+pub mod Passages
+pub mod Queues
 pub mod Reading
 pub mod Rows
 pub mod Runs

@@ -17,6 +17,7 @@ mod parse;
 mod plan;
 mod print;
 mod queries;
+mod queues;
 mod reading;
 mod replay_fault;
 mod replaying;
@@ -25,6 +26,7 @@ mod rows;
 mod submits;
 #[cfg(test)]
 mod tests;
+mod transport;
 mod unread;
 mod words;
 
@@ -35,5 +37,7 @@ pub use members::Members;
 pub use parse::parse_schedule;
 pub use plan::{Schedule, ScheduleLine};
 pub use replay_fault::{ReplayCause, ReplayFault};
+pub use queues::{Passed, Queues};
 pub use replaying::{replay, run, run_lines};
 pub use report::transcript;
+pub use transport::{Transport, TransportFault};

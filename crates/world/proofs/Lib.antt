@@ -46,6 +46,7 @@ pub mod NextBallots
 pub mod RoundProgress
 pub mod RoundsProgress
 pub mod FiredLemmas
+pub mod FramesGrow
 -- all of it, for the public calls
 pub mod SoundSteps
 pub mod WorldSound

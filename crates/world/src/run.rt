@@ -25,7 +25,7 @@ use sessions::Number;
 use stable::{Failing, Put, Scripted, Stable};
 use std::alloc::Global;
 use store::{Op, Query};
-use synod::Slot;
+use synod::{MOST_NODES, Slot};
 use wire::{Envelope, Frame, NodeId, Nodes};
 
 /// All nodes of a run, over storages of one kind.
@@ -137,7 +137,8 @@ impl<S: Stable> Run<S> {
 
     /// How many nodes there are.
     pub fn count(&self) -> u8
-        ensures { result ≡ length (run_of self.now).nodes }
+        ensures count { result ≡ length (run_of self.now).nodes }
+        ensures few { result ≤ MOST_NODES }
     {
         self.nodes.len() as u8
     }

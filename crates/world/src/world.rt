@@ -15,6 +15,7 @@ use super::run::Run;
 use super::start::fresh_stores;
 use stable::{MemStable, Put, Scripted, Stable};
 use std::alloc::Global;
+use synod::MOST_NODES;
 use wire::{Frame, NodeId, Nodes};
 
 /// All nodes of a run, over storages of one kind.
@@ -84,6 +85,14 @@ impl<S: Stable> World<S> {
     ghost use Rattle.world.specs.Progress.{PromisesProgress};
     ghost use Rattle.world.specs.Rounds.{NamesNoMember, RoundEnds, IsPartOfRound};
     ghost use Rattle.world.specs.Staying.{StaysSafe};
+
+    /// How many nodes there are.
+    pub fn count(&self) -> u8
+        ensures count { result ≡ length (world_of self.now).nodes }
+        ensures few { result ≤ MOST_NODES }
+    {
+        self.run.count()
+    }
 
     /// The requests that nodes took.
     pub fn submitted(&self) -> &[Submission]
