@@ -7,6 +7,7 @@
 
 mod action;
 mod cut;
+mod entry_lines;
 mod fault;
 mod forms;
 mod keyword;

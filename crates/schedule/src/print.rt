@@ -3,6 +3,7 @@
 ghost use Rattle.std.specs.Prelude.{◌≡◌, ◌++◌, OnOk, flat_map};
 ghost use Rattle.schedule.specs.Transcripts.{answer_line, learn_line, refuse_line, reply_line, round_line, stop_line};
 
+use super::entry_lines::{add_learn, add_reply};
 use sessions::Command;
 use std::io::{self, Write};
 use wire::NodeId;
@@ -49,7 +50,7 @@ fn print_entry(text: &mut Vec<u8>, learnt: &Learnt) -> io::Result<()>
         Command::Request(request) => {
             let client = request.client();
             let number = request.number().value();
-            writeln!(text, "learn {node} {slot} {client}:{number}")
+            add_learn(text, node, slot, client, number)
         }
     }
 }
@@ -62,7 +63,7 @@ fn print_reply(text: &mut Vec<u8>, replied: &Replied) -> io::Result<()>
     let client = replied.client;
     let number = replied.number.value();
     let code = replied.reply.code();
-    writeln!(text, "reply {node} {client}:{number} {code}")
+    add_reply(text, node, client, number, code)
 }
 
 /// Adds the line of an answer: `answer 0 1 count 0`.

@@ -1,0 +1,70 @@
+//! The lines of what was learnt and replied, of which a transcript has most. Each is written from its end to its front and moved once.
+
+ghost use Rattle.std.specs.Prelude.{◌≡◌, ◌++◌, ◌+◌, ◌≤◌, OnOk, codes, decimal, length, drop};
+ghost use Rattle.schedule.specs.Transcripts.{request_text};
+
+use backward::{LONGEST_WHOLE, write_byte, write_text};
+use itoa::write_digits;
+use std::io::{self, Write};
+
+/// A line has at most this many bytes.
+const LONGEST_LINE: usize = 96;
+
+/// Adds what a node learnt: `learn 0 0 7:1`.
+pub(crate) fn add_learn(
+    text: &mut Vec<u8>,
+    node: u8,
+    slot: u32,
+    client: u8,
+    number: u64,
+) -> io::Result<()>
+    ensures { OnOk result (text.new.items ≡ text.old.items ++ (codes "learn " ++ decimal node ++ codes " " ++ decimal slot
+        ++ codes " " ++ request_text client number ++ codes "\n")) }
+{
+    let mut line = [0; LONGEST_LINE];
+    let start = write_byte(b'\n', &mut line, LONGEST_LINE);
+    let start = write_number(number, &mut line, start);
+    let start = write_byte(b':', &mut line, start);
+    let start = write_number(u64::from(client), &mut line, start);
+    let start = write_byte(b' ', &mut line, start);
+    let start = write_number(u64::from(slot), &mut line, start);
+    let start = write_byte(b' ', &mut line, start);
+    let start = write_number(u64::from(node), &mut line, start);
+    let start = write_text(b"learn ", &mut line, start);
+    text.write_all(&line[start..])
+}
+
+/// Adds a reply: `reply 0 7:1 21`.
+pub(crate) fn add_reply(
+    text: &mut Vec<u8>,
+    node: u8,
+    client: u8,
+    number: u64,
+    code: u8,
+) -> io::Result<()>
+    ensures { OnOk result (text.new.items ≡ text.old.items ++ (codes "reply " ++ decimal node ++ codes " "
+        ++ request_text client number ++ codes " " ++ decimal code ++ codes "\n")) }
+{
+    let mut line = [0; LONGEST_LINE];
+    let start = write_byte(b'\n', &mut line, LONGEST_LINE);
+    let start = write_number(u64::from(code), &mut line, start);
+    let start = write_byte(b' ', &mut line, start);
+    let start = write_number(number, &mut line, start);
+    let start = write_byte(b':', &mut line, start);
+    let start = write_number(u64::from(client), &mut line, start);
+    let start = write_byte(b' ', &mut line, start);
+    let start = write_number(u64::from(node), &mut line, start);
+    let start = write_text(b"reply ", &mut line, start);
+    text.write_all(&line[start..])
+}
+
+/// Writes a number in decimal.
+fn write_number(n: u64, line: &mut [u8], end: usize) -> usize
+    requires room { LONGEST_WHOLE ≤ end }
+    requires in_line { end ≤ length line.old }
+    ensures start { result + length (decimal n) ≡ end }
+    ensures short { length (decimal n) ≤ LONGEST_WHOLE }
+    ensures written { drop result line.new ≡ decimal n ++ drop end line.old }
+{
+    write_digits(n, line, end)
+}
