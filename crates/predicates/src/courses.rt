@@ -32,7 +32,7 @@ pub fn comes_in(a: &Point, b: &Point, area: &Rect) -> bool
 }
 
 /// The same, where its ends don't tell that it isn't.
-#[inline(always)]
+#[inline(never)]
 pub fn crosses(a: &Point, b: &Point, area: &Rect) -> bool
     requires a_fits { InBounds a.now }
     requires b_fits { InBounds b.now }

@@ -1,4 +1,4 @@
-use Rattle.std.proofs.Common.{◌≡◌, inl, inr, to_z, of_z, arith}
+use Rattle.std.proofs.Common.{◌≡◌, inr, to_z, of_z, arith}
 use Rattle.std.proofs.lemmas.Int.{ints}
 use mir.Syntax.{w64}
 use Rattle.predicates.proofs.CourseLemmas.{leg_crosses}

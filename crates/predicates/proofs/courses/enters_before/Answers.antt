@@ -1,5 +1,4 @@
-use Rattle.std.proofs.Common.{◌≡◌, to_z, of_z, rules, arith}
-use Rattle.std.proofs.lemmas.Int.{ints}
+use Rattle.std.proofs.Common.{◌≡◌, to_z, of_z, rules}
 use mir.Syntax.{w128}
 use Rattle.predicates.proofs.courses.enters_before.Goals as goal
 

@@ -1,11 +1,5 @@
-use Rattle.std.proofs.Common.{◌≡◌, ℕ, ◌+◌, ◌<◌, ◌≤◌, List, get_or, slice_get, Some, refl, length, IsTrue, rules, arith}
+use Rattle.std.proofs.Common.{◌+◌, ◌≤◌, refl, length, IsTrue, rules, arith}
 use Rattle.std.proofs.lemmas.Option.{slice_get_read}
-use Rattle.tpoint.specs.Pieces.{Piece}
-use Rattle.tpoint.specs.declared.interp.Interp.TheVariants.{Linear}
-use Rattle.tpoint.specs.declared.point.Point.{Point}
-use Rattle.predicates.specs.Questions.{Answers}
-use Rattle.predicates.specs.declared.questions.Question.TheVariants.{Always}
-use Rattle.predicates.specs.declared.questions.Tri.TheVariants.{Yes}
 use Rattle.predicates.proofs.SequenceLemmas.{first_inside, stayed_more}
 use Rattle.predicates.proofs.runs.first_left.Goals as goal
 

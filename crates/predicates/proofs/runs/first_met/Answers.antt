@@ -1,8 +1,7 @@
-use Rattle.std.proofs.Common.{◌≡◌, ℕ, ◌+◌, ◌<◌, ◌≤◌, List, get_or, slice_get, Some, refl, length, rules, arith}
+use Rattle.std.proofs.Common.{◌+◌, ◌≤◌, refl, length, rules, arith}
 use Rattle.std.proofs.lemmas.Option.{slice_get_read}
 use Rattle.tpoint.specs.Pieces.{Piece}
 use Rattle.tpoint.specs.declared.interp.Interp.TheVariants.{Linear}
-use Rattle.tpoint.specs.declared.point.Point.{Point}
 use Rattle.predicates.specs.Questions.{Answers}
 use Rattle.predicates.specs.declared.questions.Question.TheVariants.{Ever}
 use Rattle.predicates.specs.declared.questions.Tri.TheVariants.{No}
