@@ -120,6 +120,7 @@ class Chains:
         return self.known[key]
 
     def items(self, chain):
+        """The items of a chain, from its first one on."""
         found = []
         while chain:
             chain, item = self.links[chain]
@@ -263,6 +264,7 @@ class Reader:
         return [up] + (self.stopped(up, [event.node]) if self.memory else [])
 
     def submit(self, reading, event):
+        """Refused at a full log (42), as too long (45) or where 64 others wait (44); else the request waits."""
         position, waiting = prefix(reading.learnt[event.node]), reading.waiting[event.node]
         if position == MOST_SLOTS:
             return self.refused(reading, event.node, 42)
@@ -275,6 +277,7 @@ class Reader:
         return [kept] + (self.stopped(reading, [event.node]) if self.memory else [])
 
     def timeout(self, reading, event):
+        """A campaign begins, unless its round can't be written."""
         if prefix(reading.learnt[event.node]) == MOST_SLOTS:
             return self.refused(reading, event.node, 42)
         # The campaign's round is always written.
@@ -285,6 +288,7 @@ class Reader:
         return [reading] + (self.stopped(reading, [event.node]) if self.memory else [])
 
     def query(self, reading, event):
+        """An answer at the first slot that the node hasn't learnt."""
         line = self.next(reading)
         told = self.refused(reading, event.node, MEMORY) if self.memory else []
         if line and line.kind == "answer" and line.node == event.node and line.number == prefix(reading.learnt[event.node]):
@@ -293,13 +297,14 @@ class Reader:
         return told
 
     def deliver(self, reading, event):
+        """Nothing, or one slot that is learnt with what rests on it, or a stop."""
         return [reading] + self.learnt(reading, event) + self.stopped(reading, range(self.nodes))
 
     def flush(self, reading, event):
-        """All readings behind any number of deliveries."""
         return self.delivered({reading}, event)
 
     def delivered(self, readings, event):
+        """All readings behind any number of deliveries."""
         found, new = set(readings), list(readings)
         while new:
             new = [after for reading in new for after in self.deliver(reading, event)[1:] if after not in found]
@@ -307,6 +312,7 @@ class Reader:
         return found
 
     def round(self, reading, event):
+        """The end of a round by hand, behind what its deliveries told."""
         node, members = event.node, event.what
         is_quorum = node in members and len(set(members)) == len(members) and 2 * len(members) > self.nodes
         if not is_quorum:
@@ -409,6 +415,7 @@ class Lists:
         return found
 
     def apply(self, world, client, operation, codes):
+        """What a database, with the replies that are kept, comes to by an operation; None where its reply is another."""
         database, kept, done = world
         reply, after = plain.applied(database, operation)
         return (after, {**kept, client: reply}, done + (operation,)) if codes <= {reply} else None

@@ -11,7 +11,7 @@ other files, and results that lie beside their inputs, are passed over. Kinds of
     changed      a schedule of SEEDS or a drawn one, changed in its lines, words, numbers or bytes
     documents    a document of SEEDS or a drawn one, changed, for `check`
     words        words of the command line
-    large        a schedule of many lines, a line of many bytes, a document of many points
+    large        a schedule of many lines, a line of many bytes, a document of many points, a log of some hundred slots
 
 Each run has to end by itself within a second (ten, of 64 kB and more; in one of three tries), with status 0 to 3, and with
 standard error as docs/FORMATS.md says. What it says is compared with what `schedules.py` and `plain.py` find: the first faulty
@@ -42,7 +42,7 @@ KINDS = ("drawn", "changed", "documents", "words", "large")
 LARGE = 64 * 1024
 USAGE, DEVICE = b"mfpx: usage\n", b"mfpx: device\n"
 AT_LINE = re.compile(rb"mfpx: line ([1-9][0-9]*) fault ([1-9][0-9]*)\n")
-MOST_EVENTS = 2000
+MOST_EVENTS = 3000
 MOST_KEPT = 3000
 WRONG_BYTES = (0x00, 0x09, 0x0D, 0x1F, 0x7F, 0x80, 0xC3, 0xFF)
 NUMBERS = ("0", "00", "-0", "1", "-1", "2", "3", "5", "6", "7", "8", "+1", "1.0", "1e3", "255", "256", "65535", "65536",
@@ -145,6 +145,19 @@ class Drawing:
         self.frames = nodes * (2 + count * (1 + nodes))
         return ["submit 0 %d 1 put %s" % (client, self.document()) for client in range(count)] + ["timeout 0", "flush"]
 
+    def long_log(self, count):
+        """A schedule of this many slots and more: one leader goes on, and others begin anew and are told all of it."""
+        draw, nodes = self.draw, self.draw.choice((3, 5, 7))
+        self.numbers, self.frames, self.fresh = {}, 1, 10
+        lines = ["nodes %d" % nodes, "timeout 0", "flush"]
+        for _ in range(count):
+            lines += [self.line("submit", 1) for _ in range(draw.choice((1, 1, 1, 3, 12)))]
+            lines += ["flush", "query %d %s" % (draw.randrange(nodes), self.query())]
+            if draw.random() < 0.02:
+                other = draw.randrange(1, nodes)
+                lines += ["restart %d" % other, "tick %d" % other, "flush", "query %d count" % other]
+        return lines
+
     def client(self):
         """A client with its next number, mostly: a new one, or one that has asked before."""
         draw = self.draw
@@ -156,6 +169,7 @@ class Drawing:
         return client, self.numbers[client]
 
     def line(self, kind, nodes):
+        """A line of this kind."""
         draw, node = self.draw, self.draw.randrange(nodes)
         if kind == "flush":
             self.frames += draw.randrange(5 * nodes)
@@ -198,6 +212,7 @@ class Changes:
         return self.change(data, (self.tokens, self.tokens, self.tokens, self.numbers, self.numbers, self.bytes))
 
     def change(self, data, ways):
+        """What comes of one to four changes, each in one of these ways."""
         for _ in range(self.draw.choice((1, 1, 2, 4))):
             data = self.draw.choice(ways)(data)
         return data
@@ -482,6 +497,7 @@ class Fuzzer:
                              for line in later]
 
     def changed(self):
+        """A replay of a schedule that was changed."""
         if self.draw.random() < 0.3 or not self.schedules:
             data = "\n".join(self.drawing.schedule()).encode()
         else:
@@ -495,6 +511,7 @@ class Fuzzer:
         return self.draw.choice(self.documents)
 
     def documents_run(self):
+        """A check of a document that was changed."""
         data = self.document()
         return ["check", "-"], Changes(self.draw, self.documents or [data]).changed_document(data)
 
@@ -508,7 +525,7 @@ class Fuzzer:
 
     def large(self):
         """An input of 64 kB and more."""
-        draw, way = self.draw, self.draw.randrange(6)
+        draw, way = self.draw, self.draw.randrange(8)
         if way == 0:
             line = draw.choice((b"tick 0\n", b"\n", b"query 1 count\n", b"timeout 0\n", b"fault 2 old\n", b"restart 1\n"))
             return ["replay", "-"], b"nodes 3\n" + line * draw.choice((20_000, 60_000))
@@ -520,8 +537,8 @@ class Fuzzer:
             return ["check", "-"], self.drawing.document(draw.choice((1023, 1024, 1025, 4000))).encode()
         if way == 4:
             return ["check", "-"], draw.choice((b"[", b'{"a":', b'"', b" ", b"\\u0030", b"9")) * 300_000
-        lines = "".join(line + "\n" for line in self.drawing.schedule(2500))
-        return ["replay", "-"], lines.encode()
+        lines = self.drawing.schedule(2500) if way == 5 else self.drawing.long_log(draw.choice((100, 300)))
+        return ["replay", "-"], "".join(line + "\n" for line in lines).encode()
 
     def one(self, kind):
         """One run of a kind."""
@@ -559,6 +576,7 @@ class Fuzzer:
                     file.write(content)
 
     def report(self):
+        """Prints how many runs of each kind ended in which way."""
         for kind in KINDS:
             ends = sorted((end, count) for (of, end), count in self.ends.items() if of == kind)
             if ends:
