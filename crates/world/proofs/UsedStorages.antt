@@ -44,7 +44,7 @@ unused s empty (told after reads holds) = elim (holds tt) [
 ]
 unused s empty (failed after fails) = fails
 
-none_used : (stores : List MemStable) → All (λ s. stored s ≡ no_records) stores → OneIsUsed in_memory stores → ⊥
+pub none_used : (stores : List MemStable) → All (λ s. stored s ≡ no_records) stores → OneIsUsed in_memory stores → ⊥
 none_used stores empty one =
     unused one.store (All-contains (λ (s : MemStable). stored s ≡ no_records) stores one.store empty one.listed) one.used
 
