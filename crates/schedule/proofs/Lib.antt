@@ -1,3 +1,4 @@
+pub mod Clustering
 pub mod Coordinates
 pub mod Cuts
 pub mod Decimals

@@ -1,4 +1,6 @@
 pub mod Causes
+pub mod Clusters
+pub mod ClusterViews
 pub mod Codes
 pub mod Entries
 pub mod Extents

@@ -86,9 +86,7 @@ impl Queues {
         ensures same_tape { self.new.tape.items ≡ self.old.tape.items }
         ensures same { self.new.tells ≡ self.old.tells }
     {
-        self.waiting
-            .get_mut(usize::from(node.value()))?
-            .pop_front()
+        self.waiting.get_mut(usize::from(node.value()))?.pop_front()
     }
 }
 
@@ -129,11 +127,7 @@ fn sent(alloc: Global, from: NodeId, to: NodeId, bytes: &[u8]) -> Result<Passed,
 }
 
 /// That the node was polled.
-fn polled(
-    alloc: Global,
-    node: NodeId,
-    datagram: &Option<Vec<u8>>,
-) -> Result<Passed, AllocError>
+fn polled(alloc: Global, node: NodeId, datagram: &Option<Vec<u8>>) -> Result<Passed, AllocError>
     ensures { IfOk result (λ p. passage_of p ≡ Polled node (option_map (λ v. v.items) datagram.now)) }
 {
     let datagram = match datagram {

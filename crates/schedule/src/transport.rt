@@ -35,7 +35,13 @@ pub trait Transport {
     ghost Tells: { Self → Type 0 };
 
     /// Sends the bytes from one node to another.
-    fn send(&mut self, alloc: Global, from: NodeId, to: NodeId, bytes: &[u8]) -> Result<(), TransportFault>
+    fn send(
+        &mut self,
+        alloc: Global,
+        from: NodeId,
+        to: NodeId,
+        bytes: &[u8],
+    ) -> Result<(), TransportFault>
         ensures tape { Tells self.new → tape self.new ≡ tape self.old ++ Sent from to bytes.now ∷ [] }
         ensures told { Tells self.new → Tells self.old };
 
