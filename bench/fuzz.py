@@ -346,6 +346,7 @@ class Runs:
             raise Failed("something stands on standard error, with status 0")
         if self.other:
             self.compare(words, data, end)
+        words = without_dashes(words)
         if words == ["replay", "-"] or not words:
             return self.replayed(data, *end)
         if words == ["check", "-"]:
@@ -413,6 +414,12 @@ class Runs:
         if (status, err) == (3, DEVICE) if is_form else (status, err) in ((2, USAGE), (3, DEVICE)):
             return "usage" if status == 2 else "device"
         raise Failed("other words end with status %d and %r" % (status, err))
+
+
+def without_dashes(words):
+    """The words without a `--` behind the work: it says that no option follows."""
+    at = words.index("--", 1) if "--" in words[1:] else len(words)
+    return words[:at] + words[at + 1:]
 
 
 def shorter(data, fails, by, seconds=20):
