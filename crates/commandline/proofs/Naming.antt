@@ -1,6 +1,6 @@
 -- What words name, and which words are refused.
 use Rattle.std.proofs.Common.{◌≡◌, ◌≢◌, ◌⊎◌, ◌∙◌, ap, ap₂, sym, refl, inl, inr, ℕ, arith, length, List, [], ◌∷◌, Option, Some, None, codes, true, false}
-use Rattle.std.proofs.Common.{map, IsSome, IsNone, IfErr, IfSome, MatchResult, unwrap_or, subst}
+use Rattle.std.proofs.Common.{map, IsSome, IsNone, IfErr, IfSome, MatchResult, unwrap_or, subst, Bor}
 use Rattle.std.specs.Option.{ok_or}
 use Rattle.clap.specs.Words.{HasKind, Row, Text, fault_of, kind_of, subcommand_of}
 use Rattle.clap.specs.declared.error.Error.{Error}
@@ -11,7 +11,7 @@ use Rattle.jobs.specs.declared.job.Source.{Source}
 use Rattle.jobs.specs.declared.job.Source.TheVariants.{Input, File}
 use Rattle.jobs.specs.declared.job.Work.{Work}
 use Rattle.jobs.specs.declared.job.Work.TheVariants.{Replay, Check}
-use Rattle.commandline.specs.Forms.{AskFor, IsForm, NameInput, NameSource, Names, file_of, forms, given_file, given_name, name_of}
+use Rattle.commandline.specs.Forms.{AskFor, IsFolderOf, IsForm, NameInput, NameSource, Names, file_of, forms, given_file, given_folder, given_name, name_of, text_of}
 
 some_is : (a b : Text) → Some a ≡ Some b → a ≡ b
 some_is a b e = ap (λ (t : Option Text). unwrap_or t []) e
@@ -96,14 +96,31 @@ dash_gives : (given : Option (Text × List Row)) (work : Work) → given_name gi
 dash_gives given work name dash (inl none) = let both = sym none ∙ dash in cc
 dash_gives given work name dash (inr other) = other work name
 
+-- none is named that has no text
+no_text : (folder : Option (Bor Text)) → text_of folder ≡ None → folder ≡ None
+no_text None e = refl
+no_text (Some name) e = cc
+
+-- no folder is found where none was given
+no_folder : (work : Work) (given : Option Text) (folder : Option (Bor Text)) → given ≡ None → IsFolderOf work given (text_of folder)
+    → folder ≡ None
+no_folder Replay given folder none is = no_text folder (is ∙ none)
+no_folder Check given folder none is = no_text folder is
+
+-- a job of these parts
+abbrev job_with : Work → Source → Option (Bor Text) → Job
+job_with work source folder = record { work = work; source = source; folder = folder }
+
 pub dash_job : (found : Option Job) (work : Work) (given : Option (Text × List Row))
-    → given_name given ≡ Some (name_of work) → given_file given ≡ Some (codes "-")
+    → given_name given ≡ Some (name_of work) → given_file given ≡ Some (codes "-") → given_folder given ≡ None
     → IfSome found (λ job. given_name given ≡ Some (name_of job.work))
     → IfSome found (λ job. (text : Text) × (given_file given ≡ Some text) × Names text job.source)
+    → IfSome found (λ job. IsFolderOf job.work (given_folder given) (text_of job.folder))
     → (IsNone found → GiveNothing given)
-    → MatchResult (ok_or found NoForm) (λ job. job ≡ record { work = work; source = Input }) (λ fault. fault ≡ Memory)
-dash_job (Some job) work given name dash works names none =
-    ap₂ (λ (w : Work) (s : Source). let j : Job = record { work = w; source = s } in j)
+    → MatchResult (ok_or found NoForm) (λ job. job ≡ record { work = work; source = Input; folder = None }) (λ fault. fault ≡ Memory)
+dash_job (Some job) work given name dash bare works names folders none =
+    ap₂ (λ (w : Work) (s : Source). job_with w s job.folder)
     (same_name job.work work (some_is _ _ (sym works ∙ name)))
     (dash_is_input job.source (given_file given) names.0 names.1 dash names.2)
-dash_job None work given name dash works names none = absurd (dash_gives given work name dash (none refl))
+    ∙ ap (job_with work Input) (no_folder job.work (given_folder given) job.folder bare folders)
+dash_job None work given name dash bare works names folders none = absurd (dash_gives given work name dash (none refl))

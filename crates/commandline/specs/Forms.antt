@@ -1,6 +1,7 @@
 -- The forms of the command line, as clap is told them, and which words ask for what.
-use Rattle.std.specs.Prelude.{◌≡◌, ◌≢◌, ◌⊎◌, true, List, [], Option, Some, IsSome, codes}
+use Rattle.std.specs.Prelude.{◌≡◌, ◌≢◌, ◌⊎◌, true, List, [], Option, Some, None, IsSome, codes}
 use Rattle.std.specs.Prelude.{option_and_then, option_map}
+use Rattle.std.specs.Borrow.{Bor}
 use Rattle.clap.specs.Words.{App, Row, Rule, Text, fault_of, first_of, new_app, new_rule, subcommand_of}
 use Rattle.clap.specs.Words.{with_rule, with_subcommand}
 use Rattle.jobs.specs.declared.job.Work.{Work}
@@ -31,14 +32,21 @@ with_names_alone a = record a {
 abbrev pub file_form : Text → App
 file_form name = with_rule (without_help (new_app name)) file
 
+-- the option of a replay: the folder in which it keeps the records of its nodes
+abbrev pub folder : Rule
+folder = record (new_rule (codes "DIR")) { long = Some (codes "db") }
+
 abbrev pub name_of : Work → Text
 name_of Replay = codes "replay"
 name_of Check = codes "check"
 
--- `replay FILE` and `check FILE`, which is all that the program does
+abbrev pub replay_form : App
+replay_form = with_rule (file_form (name_of Replay)) folder
+
+-- `replay FILE`, which may have `--db DIR`, and `check FILE`, which is all that the program does
 abbrev pub forms : App
 forms = with_subcommand (with_subcommand (with_names_alone (without_help (new_app (codes "mfpx"))))
-    (file_form (name_of Replay)).top) (file_form (name_of Check)).top
+    replay_form.top) (file_form (name_of Check)).top
 
 -- ---- what words give
 -- the name of the command that was given
@@ -48,6 +56,10 @@ given_name = option_map (λ given. given.0)
 -- the FILE among the values that a command was given
 abbrev pub given_file : Option (Text × List Row) → Option Text
 given_file = option_and_then (λ given. first_of (codes "FILE") given.1)
+
+-- the DIR among them
+abbrev pub given_folder : Option (Text × List Row) → Option Text
+given_folder = option_and_then (λ given. first_of (codes "DIR") given.1)
 
 -- the FILE that the words give
 abbrev pub file_of : List Text → Option Text
@@ -78,3 +90,17 @@ NameSource words (File path) = (¬ NameInput words) × (file_of words ≡ Some p
 abbrev pub Names : Text → Source → Type 0
 Names text Input = text ≡ codes "-"
 Names text (File path) = (text ≢ codes "-") × (path.now ≡ text)
+
+-- ---- where a replay keeps its records
+-- the folder of a work, of which this one was given: only a replay has one
+abbrev pub IsFolderOf : Work → Option Text → Option Text → Type 0
+IsFolderOf Replay given folder = folder ≡ given
+IsFolderOf Check given folder = folder ≡ None
+
+-- the words name this folder for the records, or none
+abbrev pub NameFolder : List Text → Work → Option Text → Type 0
+NameFolder words work folder = IsFolderOf work (given_folder (subcommand_of forms words)) folder
+
+-- the text of a name, where there is one
+abbrev pub text_of : Option (Bor Text) → Option Text
+text_of = option_map (λ name. name.now)

@@ -43,7 +43,7 @@ fn words_and_their_jobs(rt: HostRuntime) -> Result<(), Fail> {
     Ok(())
 }
 
-const NONE: [&[&str]; 30] = [
+const NONE: [&[&str]; 37] = [
     &[""],
     &["-"],
     &["--"],
@@ -62,10 +62,17 @@ const NONE: [&[&str]; 30] = [
     &["check", "replay", "-"],
     &["replay", "check", "-"],
     &["check", "-x", "-"],
-    // no form has options
-    &["replay", "-", "--db", "records"],
-    &["replay", "--db=records", "-"],
+    // a check keeps no records, and an option is given once, with its value
     &["check", "--db=records", "-"],
+    &["check", "-", "--db", "records"],
+    &["replay", "--db", "a", "--db", "b", "-"],
+    &["replay", "--db=a", "--db=a", "-"],
+    &["replay", "-", "--db"],
+    &["replay", "--db", "-"],
+    &["replay", "--db=records"],
+    &["replay", "--d=records", "-"],
+    &["--db=records", "replay", "-"],
+    &["--db=records"],
     &["loopback", "-"],
     // calls for help and for the version
     &["--help"],
@@ -84,6 +91,32 @@ fn words_that_are_none_of_the_forms(rt: HostRuntime) -> Result<(), Fail> {
         let words = owned(&rt, words)?;
         let fault = job_of(rt.alloc(), words.as_slice()).err();
         assert_eq!(rt; fault, Some(WordsFault::NoForm), "{words:?}");
+    }
+    Ok(())
+}
+
+// words, and the folder that they name for the records
+const FOLDERS: [(&[&str], &str); 6] = [
+    (&["replay", "-", "--db", "records"], "records"),
+    (&["replay", "--db", "records", "-"], "records"),
+    (&["replay", "--db=records", "-"], "records"),
+    (&["replay", "-", "--db=a=b"], "a=b"),
+    (&["replay", "--db=--db", "-"], "--db"),
+    (&["replay", "--db=records", "--", "--db=other"], "records"),
+];
+
+#[test]
+fn words_and_their_folders(rt: HostRuntime) -> Result<(), Fail> {
+    for (words, folder) in FOLDERS {
+        let words = owned(&rt, words)?;
+        let job = job_of(rt.alloc(), words.as_slice())?;
+        assert!(rt; job.work == Work::Replay, "{words:?}");
+        assert_eq!(rt; job.folder, Some(folder), "{words:?}");
+    }
+    for (words, _work, _file) in JOBS {
+        let words = owned(&rt, words)?;
+        let job = job_of(rt.alloc(), words.as_slice())?;
+        assert!(rt; job.folder.is_none(), "{words:?}");
     }
     Ok(())
 }

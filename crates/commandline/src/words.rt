@@ -1,10 +1,10 @@
 //! From words to a job.
 
 ghost use Rattle.std.specs.Prelude.{◌≡◌, ◌≢◌, ◌⊎◌, ◌∷◌, [], ℕ, List, map, codes, string_bytes};
-ghost use Rattle.std.specs.Prelude.{IfErr, IfOk, IfSome, IsNone, MatchOption, MatchResult};
-ghost use Rattle.clap.specs.Words.{app_of, kind_of, subcommand_rows_of};
-ghost use Rattle.commandline.specs.Forms.{AskFor, NameSource, Names};
-ghost use Rattle.commandline.specs.Forms.{forms, given_file, given_name, name_of};
+ghost use Rattle.std.specs.Prelude.{IfErr, IfOk, IfSome, IsNone, MatchOption, MatchResult, None, Some};
+ghost use Rattle.clap.specs.Words.{app_of, first_value, found_of, kind_of, subcommand_rows_of};
+ghost use Rattle.commandline.specs.Forms.{AskFor, IsFolderOf, NameFolder, NameSource, Names};
+ghost use Rattle.commandline.specs.Forms.{forms, given_file, given_folder, given_name, name_of, text_of};
 
 use crate::fault::WordsFault;
 use clap::error::ErrorKind;
@@ -16,20 +16,22 @@ use std::alloc::{AllocError, Global};
 pub fn job_of<'a>(alloc: Global, words: &'a [String]) -> Result<Job<'a>, WordsFault>
     ensures work { IfOk result (λ job. AskFor (map string_bytes words.now) job.work) }
     ensures source { IfOk result (λ job. NameSource (map string_bytes words.now) job.source) }
+    ensures folder { IfOk result (λ job. NameFolder (map string_bytes words.now) job.work (text_of job.folder)) }
     ensures no_form { IfErr result (λ fault. fault ≡ WordsFault.NoForm
         → (work : Work) → ¬ AskFor (map string_bytes words.now) work) }
 
     // What the forms come to where standard input is named.
     ensures no_words { words.now ≡ []
-        → result ≡ Ok (record { work = Work.Replay; source = Source.Input }) }
+        → result ≡ Ok (record { work = Work.Replay; source = Source.Input; folder = None }) }
     ensures dash { (work : Work) → map string_bytes words.now ≡ name_of work ∷ codes "-" ∷ []
-        → MatchResult result (λ job. job ≡ record { work = work; source = Source.Input })
+        → MatchResult result (λ job. job ≡ record { work = work; source = Source.Input; folder = None })
         (λ fault. fault ≡ WordsFault.Memory) }
 {
     if words.is_empty() {
         return Ok(Job {
             work: Work::Replay,
             source: Source::Input,
+            folder: None,
         });
     }
     let command = program(alloc)?;
@@ -46,7 +48,8 @@ fn program<'a>(alloc: Global) -> Result<Command<'a>, AllocError>
 {
     let replay = Command::new(alloc, "replay")
         .disable_help_flag(true)
-        .arg(Arg::new(alloc, "FILE").required(true))?;
+        .arg(Arg::new(alloc, "FILE").required(true))?
+        .arg(Arg::new(alloc, "DIR").long("db"))?;
     let check = Command::new(alloc, "check")
         .disable_help_flag(true)
         .arg(Arg::new(alloc, "FILE").required(true))?;
@@ -65,6 +68,8 @@ fn job_in<'a>(matches: &ArgMatches<'a>) -> Option<Job<'a>>
         given_name (subcommand_rows_of matches.now) ≡ Some (name_of job.work)) }
     ensures source { IfSome result (λ job. (text : List ℕ)
         × (given_file (subcommand_rows_of matches.now) ≡ Some text) × Names text job.source) }
+    ensures folder { IfSome result (λ job.
+        IsFolderOf job.work (given_folder (subcommand_rows_of matches.now)) (text_of job.folder)) }
     ensures none { IsNone result → (given_file (subcommand_rows_of matches.now) ≡ None)
         ⊎ ((work : Work) → given_name (subcommand_rows_of matches.now) ≢ Some (name_of work)) }
 {
@@ -74,7 +79,18 @@ fn job_in<'a>(matches: &ArgMatches<'a>) -> Option<Job<'a>>
     Some(Job {
         work,
         source: source_named(file),
+        folder: folder_in(work, inner),
     })
+}
+
+/// The folder that a replay was given.
+fn folder_in<'a>(work: Work, inner: &ArgMatches<'a>) -> Option<&'a str>
+    ensures { IsFolderOf work (first_value (found_of inner.now) (codes "DIR")) (text_of result) }
+{
+    match work {
+        Work::Replay => inner.get_str("DIR"),
+        Work::Check => None,
+    }
 }
 
 /// The work of this name.

@@ -37,6 +37,9 @@ pub enum Failure {
     /// The document is none.
     #[error("fault {} of the document", .0.fault)]
     Document(FaultyDocument),
+    /// A storage over which the schedule was to run holds a record already.
+    #[error("records are there already")]
+    NotEmpty,
     /// The words after the program's name ask for nothing that it does.
     #[error("unknown words")]
     Usage,
@@ -54,7 +57,7 @@ impl Failure {
         ensures { result ≡ status_of self }
     {
         match self {
-            Failure::Schedule(_) | Failure::Document(_) => 1,
+            Failure::Schedule(_) | Failure::Document(_) | Failure::NotEmpty => 1,
             Failure::Usage => 2,
             Failure::Device | Failure::Memory => 3,
         }
@@ -69,6 +72,7 @@ impl Failure {
         match self {
             Failure::Schedule(at) => { write!(err, "mfpx: line {} fault {}\n", at.line, at.fault) }
             Failure::Document(at) => at.tell(err),
+            Failure::NotEmpty => err.write_all(b"mfpx: fault 55\n"),
             Failure::Usage => err.write_all(b"mfpx: usage\n"),
             Failure::Device => err.write_all(b"mfpx: device\n"),
             Failure::Memory => err.write_all(b"mfpx: out of memory\n"),

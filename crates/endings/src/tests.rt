@@ -17,7 +17,7 @@ impl Write for Unwritable {
 }
 
 // failures, their lines and their statuses
-const LINES: [(Failure, &str, u8); 6] = [
+const LINES: [(Failure, &str, u8); 7] = [
     (
         Failure::Schedule(FaultyLine {
             line: 12,
@@ -42,6 +42,7 @@ const LINES: [(Failure, &str, u8); 6] = [
         "mfpx: document fault 12 at 1\n",
         1,
     ),
+    (Failure::NotEmpty, "mfpx: fault 55\n", 1),
     (Failure::Usage, "mfpx: usage\n", 2),
     (Failure::Device, "mfpx: device\n", 3),
     (Failure::Memory, "mfpx: out of memory\n", 3),

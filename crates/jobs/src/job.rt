@@ -23,4 +23,6 @@ pub enum Source<'a> {
 pub struct Job<'a> {
     pub work: Work,
     pub source: Source<'a>,
+    /// The folder in which a replay keeps its nodes' records, each node's in a file; None where they are kept in memory.
+    pub folder: Option<&'a str>,
 }

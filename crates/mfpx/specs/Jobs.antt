@@ -1,31 +1,63 @@
 -- What a run of the program prints, and how one ends that prints nothing.
-use Rattle.std.specs.Prelude.{◌≡◌, ℕ, List, Option, IfSome}
+use Rattle.std.specs.Prelude.{◌≡◌, ◌⊎◌, ℕ, List, Option, Some, None, IfSome}
 use Rattle.stable.specs.Script.{Script}
 use Rattle.stable.specs.declared.stable.Stable.{Ghosts}
-use Rattle.commandline.specs.Forms.{AskFor, NameInput}
+use Rattle.commandline.specs.Forms.{AskFor, NameFolder, NameInput}
 use Rattle.jobs.specs.declared.job.Work.{Work}
 use Rattle.endings.specs.declared.failure.Failure.{Failure}
-use Rattle.works.specs.Works.{EndsWith, Makes}
+use Rattle.schedule.specs.Runs.{IsRunOver}
+use Rattle.schedule.specs.Schedules.{IsScheduleOf, Plan}
+use Rattle.works.specs.Works.{EndsWith, IsUnread, Makes, StopsOver}
 
 -- these may be the bytes that the words name: of the input all that it has left, where that is known; of a file nothing
 -- is known
 abbrev pub MayName : List (List ℕ) → Option (List ℕ) → List ℕ → Type 0
 MayName words left bytes = NameInput words → IfSome left (λ all. bytes ≡ all)
 
--- over storages of which it is known what their calls may do
-module _ {S : Type 0} (storages : Ghosts (Script S)) where
-  -- the text is what the work that the words ask for makes of the bytes that they name
+-- over files of which it is known what their calls may do
+module _ {F : Type 0} (files : Ghosts F) where
+  -- the bytes spell a schedule, and the text is the transcript of its run over records in files
+  pub record IsKept (bytes text : List ℕ) : Type 0 where
+    pub plan : Plan
+    pub spelled : IsScheduleOf bytes plan
+    pub stores : List F
+    pub runs : IsRunOver files stores plan text
+
+  -- they spell one whose run ends so
+  pub record Stops (bytes : List ℕ) (failure : Failure) : Type 0 where
+    pub plan : Plan
+    pub spelled : IsScheduleOf bytes plan
+    pub stores : List F
+    pub stops : StopsOver files stores plan failure
+
+-- and over storages in memory
+module _ {S F : Type 0} (storages : Ghosts (Script S)) (files : Ghosts F) where
+  -- the text is what the work makes of the bytes, with its records in memory or in files of a folder
+  abbrev pub MakesIn : Work → Option (List ℕ) → List ℕ → List ℕ → Type 0
+  MakesIn work None bytes text = Makes storages work bytes text
+  MakesIn work (Some folder) bytes text = IsKept files bytes text
+
+  -- so it ends, and makes nothing
+  abbrev pub EndsIn : Work → Option (List ℕ) → List ℕ → Failure → Type 0
+  EndsIn work None bytes failure = EndsWith storages work bytes failure
+  EndsIn work (Some folder) bytes failure = IsUnread bytes failure ⊎ Stops files bytes failure
+
+  -- the text is what the work that the words ask for makes of the bytes that they name, with the records where they say
   pub record IsAnswer (words : List (List ℕ)) (left : Option (List ℕ)) (text : List ℕ) : Type 0 where
     pub work : Work
+    pub folder : Option (List ℕ)
     pub asked : AskFor words work
+    pub kept : NameFolder words work folder
     pub bytes : List ℕ
     pub named : MayName words left bytes
-    pub made : Makes storages work bytes text
+    pub made : MakesIn work folder bytes text
 
   -- so that work ends on them
   pub record IsFaulty (words : List (List ℕ)) (left : Option (List ℕ)) (failure : Failure) : Type 0 where
     pub work : Work
+    pub folder : Option (List ℕ)
     pub asked : AskFor words work
+    pub kept : NameFolder words work folder
     pub bytes : List ℕ
     pub named : MayName words left bytes
-    pub ends : EndsWith storages work bytes failure
+    pub ends : EndsIn work folder bytes failure

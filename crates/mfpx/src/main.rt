@@ -2,6 +2,7 @@
 //! checked, and its canonical form is printed.
 //!
 //! `mfpx replay FILE` and `mfpx check FILE` read the file, or standard input where FILE is `-`.
+//! `mfpx replay FILE --db DIR` keeps the records of the nodes in files of the folder DIR.
 //! No words stand for `replay -`. The crate `commandline` says what the words ask for, `run` does
 //! it over any streams, and the crate `endings` says how a run ends; `failures` says what each fault
 //! is to the program. Here the streams are those of the process.
@@ -10,6 +11,7 @@
 #[cfg(test)]
 mod checks;
 mod failures;
+mod records;
 mod run;
 #[cfg(test)]
 mod runs;

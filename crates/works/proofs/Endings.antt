@@ -1,17 +1,20 @@
 -- How a work ends that makes nothing.
-use Rattle.std.proofs.Common.{◌≡◌, ◌≢◌, ℕ, List, refl, sym, subst}
+use Rattle.std.proofs.Common.{◌≡◌, ◌≢◌, ◌∙◌, ℕ, List, refl, sym, subst}
 use Rattle.stable.specs.Script.{Script}
 use Rattle.stable.specs.declared.stable.Stable.{Ghosts}
-use Rattle.schedule.specs.Causes.{cause_code}
-use Rattle.schedule.specs.Runs.{ReplayEnds}
+use Rattle.schedule.specs.Causes.{cause_code, fault_of}
+use Rattle.schedule.specs.Runs.{EndsOver, ReplayEnds}
+use Rattle.schedule.specs.Schedules.{IsRefusal, Plan}
+use Rattle.schedule.specs.declared.fault.ParseFault.{ParseFault}
+use Rattle.schedule.specs.declared.replay_fault.ReplayCause.{ReplayCause}
 use Rattle.schedule.specs.declared.replay_fault.ReplayCause.TheVariants as cause
 use Rattle.schedule.specs.declared.replay_fault.ReplayFault.{ReplayFault}
 use Rattle.mfjson.specs.Faults.{IsFaultOf, code_of, index_of}
 use Rattle.mfjson.specs.declared.fault.MfFault.{MfFault}
 use Rattle.mfjson.specs.declared.fault.MfFault.TheVariants as document
-use Rattle.works.specs.Works.{EndsWith}
+use Rattle.works.specs.Works.{EndsWith, IsUnread, StopsOver}
 use Rattle.endings.specs.declared.failure.Failure.{Failure}
-use Rattle.endings.specs.declared.failure.Failure.TheVariants.{Schedule, Document, Memory}
+use Rattle.endings.specs.declared.failure.Failure.TheVariants.{Schedule, Document, NotEmpty, Memory}
 use Rattle.jobs.specs.declared.job.Work.TheVariants.{Replay, Check}
 
 -- a fault of a schedule has a line, but for want of memory
@@ -40,3 +43,42 @@ module _ {S : Type 0} (storages : Ghosts (Script S)) where
       let named : fault ≢ document.Memory = λ e. other (memory e) in
       subst (λ (f : Failure). EndsWith storages Check bytes f) (sym (place named))
       (record { fault = fault; is_fault = is_fault; cause = named; told = refl })
+
+-- what bytes that are no schedule are to the program
+pub unread_ends : (bytes : List ℕ) (refusal : ParseFault) (fault : ReplayFault) (failure : Failure) → IsRefusal bytes refusal
+    → fault ≡ fault_of refusal → (fault.cause ≡ cause.Memory → failure ≡ Memory) → (fault.cause ≢ cause.Memory → HasLine fault failure)
+    → failure ≢ Memory → IsUnread bytes failure
+unread_ends bytes refusal fault failure refused is memory line other =
+    let named : fault.cause ≢ cause.Memory = λ e. other (memory e) in
+    subst (λ (f : Failure). IsUnread bytes f) (sym (line named))
+    (subst (λ (g : ReplayFault). IsUnread bytes (Schedule (record { line = g.line; fault = cause_code g.cause }))) (sym is)
+    (record { refusal = refusal; refused = refused; cause = subst (λ (g : ReplayFault). g.cause ≢ cause.Memory) is named; told = refl }))
+
+-- what the end of a run over storages is to the program
+module _ {S : Type 0} (storages : Ghosts S) (stores : List S) (plan : Plan) where
+  -- a fault with a line
+  with_line : (fault : ReplayFault) (failure : Failure) → EndsOver storages stores plan fault → fault.cause ≢ cause.Memory
+      → (fault.cause ≢ cause.NotEmpty → HasLine fault failure) → fault.cause ≢ cause.NotEmpty → StopsOver storages stores plan failure
+  with_line fault failure ends named line begun =
+      subst (λ (f : Failure). StopsOver storages stores plan f) (sym (line begun))
+      (record { fault = fault; ends = ends; begun = begun; cause = named; told = refl })
+
+  -- by its cause, and whether that is a storage which holds a record
+  by_cause : (fault : ReplayFault) (why : ReplayCause) (failure : Failure) → fault.cause ≡ why → EndsOver storages stores plan fault
+      → fault.cause ≢ cause.Memory → (fault.cause ≡ cause.NotEmpty → failure ≡ NotEmpty)
+      → (fault.cause ≢ cause.NotEmpty → HasLine fault failure) → StopsOver storages stores plan failure
+  by_cause fault cause.NotEmpty failure is ends named used line =
+      subst (λ (f : Failure). StopsOver storages stores plan f) (sym (used is)) (record { fault = fault; ends = ends; used = is })
+  by_cause fault (cause.Schedule which) failure is ends named used line = with_line fault failure ends named line (λ e. let both = sym is ∙ e in cc)
+  by_cause fault cause.NoSuchMessage failure is ends named used line = with_line fault failure ends named line (λ e. let both = sym is ∙ e in cc)
+  by_cause fault cause.NoSuchNode failure is ends named used line = with_line fault failure ends named line (λ e. let both = sym is ∙ e in cc)
+  by_cause fault cause.FlushLimit failure is ends named used line = with_line fault failure ends named line (λ e. let both = sym is ∙ e in cc)
+  by_cause fault cause.Memory failure is ends named used line = absurd (named is)
+
+  pub stops_over : (fault : ReplayFault) (failure : Failure) → EndsOver storages stores plan fault
+      → (fault.cause ≡ cause.Memory → failure ≡ Memory) → (fault.cause ≡ cause.NotEmpty → failure ≡ NotEmpty)
+      → (fault.cause ≢ cause.Memory → fault.cause ≢ cause.NotEmpty → HasLine fault failure)
+      → failure ≢ Memory → StopsOver storages stores plan failure
+  stops_over fault failure ends memory used line other =
+      let named : fault.cause ≢ cause.Memory = λ e. other (memory e) in
+      by_cause fault fault.cause failure refl ends named used (line named)

@@ -7,8 +7,10 @@ use Rattle.mfjson.specs.declared.fault.MfFault.TheVariants as document
 use Rattle.mfjson.specs.declared.feature.Feature.{Feature}
 use Rattle.stable.specs.Script.{Script}
 use Rattle.stable.specs.declared.stable.Stable.{Ghosts}
-use Rattle.schedule.specs.Causes.{cause_code}
-use Rattle.schedule.specs.Runs.{IsReplay, ReplayEnds}
+use Rattle.schedule.specs.Causes.{cause_code, fault_of}
+use Rattle.schedule.specs.Runs.{EndsOver, IsReplay, ReplayEnds}
+use Rattle.schedule.specs.Schedules.{IsRefusal, Plan}
+use Rattle.schedule.specs.declared.fault.ParseFault.{ParseFault}
 use Rattle.schedule.specs.declared.replay_fault.ReplayCause.TheVariants as cause
 use Rattle.schedule.specs.declared.replay_fault.ReplayFault.{ReplayFault}
 use Rattle.jobs.specs.declared.job.Work.{Work}
@@ -55,3 +57,36 @@ module _ {S : Type 0} (storages : Ghosts (Script S)) where
   EndsWith Replay bytes (failure.Schedule at) = EndsAtLine bytes at
   EndsWith Check bytes (failure.Document at) = IsNoDocument bytes at
   EndsWith work bytes other = ⊥
+
+-- ---- a replay in two parts
+-- the replay of the bytes ended as they were read, at this line, with this number, and not for want of memory
+pub record IsUnreadAt (bytes : List ℕ) (at : FaultyLine) : Type 0 where
+  pub refusal : ParseFault
+  pub refused : IsRefusal bytes refusal
+  pub cause : (fault_of refusal).cause ≢ cause.Memory
+  pub told : at ≡ record { line = (fault_of refusal).line; fault = cause_code (fault_of refusal).cause }
+
+abbrev pub IsUnread : List ℕ → Failure → Type 0
+IsUnread bytes (failure.Schedule at) = IsUnreadAt bytes at
+IsUnread bytes other = ⊥
+
+-- over storages that are handed over, which are known by what their own calls may do
+module _ {S : Type 0} (storages : Ghosts S) (stores : List S) (plan : Plan) where
+  -- the run ends at this line, with this number
+  pub record StopsAtLine (at : FaultyLine) : Type 0 where
+    pub fault : ReplayFault
+    pub ends : EndsOver storages stores plan fault
+    pub begun : fault.cause ≢ cause.NotEmpty
+    pub cause : fault.cause ≢ cause.Memory
+    pub told : at ≡ record { line = fault.line; fault = cause_code fault.cause }
+
+  -- a storage holds a record already
+  pub record StopsAtOnce : Type 0 where
+    pub fault : ReplayFault
+    pub ends : EndsOver storages stores plan fault
+    pub used : fault.cause ≡ cause.NotEmpty
+
+  abbrev pub StopsOver : Failure → Type 0
+  StopsOver (failure.Schedule at) = StopsAtLine at
+  StopsOver failure.NotEmpty = StopsAtOnce
+  StopsOver other = ⊥

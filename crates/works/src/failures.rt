@@ -23,6 +23,19 @@ pub(crate) fn replay_failure(fault: ReplayFault) -> Failure
     }
 }
 
+/// What a run's fault is to the program, over storages that were handed over. One that holds a record has no line either.
+pub(crate) fn run_failure(fault: ReplayFault) -> Failure
+    ensures memory { fault.cause ≡ ReplayCause.Memory → result ≡ Failure.Memory }
+    ensures used { fault.cause ≡ ReplayCause.NotEmpty → result ≡ Failure.NotEmpty }
+    ensures line { fault.cause ≢ ReplayCause.Memory → fault.cause ≢ ReplayCause.NotEmpty
+        → result ≡ Failure.Schedule (record { line = fault.line; fault = cause_code fault.cause }) }
+{
+    match fault.cause {
+        ReplayCause::NotEmpty => Failure::NotEmpty,
+        _ => replay_failure(fault),
+    }
+}
+
 /// What a document's fault is to the program. Want of memory has no line of its own.
 pub(crate) fn document_failure(fault: MfFault) -> Failure
     ensures memory { fault ≡ MfFault.Memory → result ≡ Failure.Memory }

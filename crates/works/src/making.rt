@@ -1,15 +1,16 @@
 //! What a work makes of bytes.
 
-ghost use Rattle.std.specs.Prelude.{◌≡◌, ◌≢◌, [], ◌∷◌, ◌++◌, ℕ, List, IfErr, IfOk};
-ghost use Rattle.schedule.specs.Runs.{IsReplay};
+ghost use Rattle.std.specs.Prelude.{◌≡◌, ◌≢◌, [], ◌∷◌, ◌++◌, ℕ, List, IfErr, IfOk, vec_len};
+ghost use Rattle.schedule.specs.Runs.{IsReplay, IsRunOver};
+ghost use Rattle.schedule.specs.Schedules.{IsScheduleOf};
 ghost use Rattle.mfjson.specs.Document.{IsCanonical};
-ghost use Rattle.works.specs.Works.{EndsWith, IsChecked, Makes};
+ghost use Rattle.works.specs.Works.{EndsWith, IsChecked, IsUnread, Makes, StopsOver};
 
-use crate::failures::{document_failure, replay_failure};
+use crate::failures::{document_failure, replay_failure, run_failure};
 use endings::Failure;
 use jobs::Work;
 use mfjson::Feature;
-use schedule::replay;
+use schedule::{ReplayFault, Schedule, parse_schedule, replay, run};
 use stable::{MemStable, Scripted, Stable};
 use std::alloc::{AllocError, Global};
 
@@ -23,6 +24,34 @@ pub fn made(alloc: Global, work: Work, bytes: &[u8]) -> Result<Vec<u8>, Failure>
     match work {
         Work::Replay => transcript(alloc, bytes),
         Work::Check => checked(alloc, bytes),
+    }
+}
+
+/// The schedule that the bytes spell, with which a replay begins over storages that the caller has.
+pub fn planned(alloc: Global, bytes: &[u8]) -> Result<Schedule, Failure>
+    ensures spelled { IfOk result (IsScheduleOf bytes.now) }
+    ensures ends { IfErr result (λ failure. failure ≢ Failure.Memory → IsUnread bytes.now failure) }
+{
+    match parse_schedule(alloc, bytes) {
+        Ok(schedule) => Ok(schedule),
+        Err(fault) => Err(replay_failure(ReplayFault::from(fault))),
+    }
+}
+
+/// The transcript of the schedule's run over these storages, one for each of its nodes.
+pub fn made_over<S: Stable + Drop>(
+    alloc: Global,
+    schedule: Schedule,
+    stores: Vec<S>,
+) -> Result<Vec<u8>, Failure>
+    requires one_each { vec_len stores ≡ schedule.nodes }
+    ensures makes { IfOk result (λ text. IsRunOver S.Stable stores.items schedule text.items) }
+    ensures ends { IfErr result (λ failure. failure ≢ Failure.Memory
+        → StopsOver S.Stable stores.items schedule failure) }
+{
+    match run(alloc, schedule, stores) {
+        Ok(text) => Ok(text),
+        Err(fault) => Err(run_failure(fault)),
     }
 }
 

@@ -1,6 +1,6 @@
 use Rattle.std.proofs.Common.{rules, ◌≡◌, codes, inl, Some, None}
 use Rattle.clap.specs.Words.{first_value, found_of, subcommand_rows_of}
-use Rattle.commandline.proofs.Given.{given_is_found}
+use Rattle.commandline.proofs.Given.{folder_is_found, given_is_found}
 use Rattle.commandline.proofs.words.job_in.Goals as goal
 
 -- the command was given no FILE
@@ -19,3 +19,9 @@ returns-clause-source c =
           (Some c.in_ok-file.file.now) c.in_ok-name.ensures.rows read,
       c.source_named.ensures,
     )
+
+-- so is the folder
+pub returns-clause-folder : goal.returns-clause-folder
+returns-clause-folder c =
+    folder_is_found (subcommand_rows_of c.args.matches.now) (found_of c.in_ok-name.inner.now) _ _ c.in_ok-name.ensures.rows
+    c.folder_in.ensures

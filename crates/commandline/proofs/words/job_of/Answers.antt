@@ -1,5 +1,5 @@
 -- clap's parse succeeds only on words of the forms, and on these only want of memory refuses it.
-use Rattle.std.proofs.Common.{rules, ◌≡◌, ◌≢◌, ◌∙◌, ap, ap₂, refl, sym, subst, codes, true, map, string_bytes, List, [], ◌∷◌, Some}
+use Rattle.std.proofs.Common.{rules, ◌≡◌, ◌≢◌, ◌∙◌, ap, ap₂, refl, sym, subst, codes, true, map, string_bytes, List, [], ◌∷◌, None, Some}
 use Rattle.clap.specs.Words.{HasKind, Text, is_simple, kind_of, subcommand_of, subcommand_rows_of, takes}
 use Rattle.clap.specs.Faults.{fault_of, is_simple_and_free}
 use Rattle.clap.proofs.OnLiterals.{clap_on_literals}
@@ -8,7 +8,7 @@ use Rattle.commandline.proofs.Naming.{dash_job, map-none, no_job, refused_ask_fo
 use Rattle.commandline.specs.declared.fault.WordsFault.TheVariants.{Memory, NoForm}
 use Rattle.jobs.specs.declared.job.Work.{Work}
 use Rattle.jobs.specs.declared.job.Work.TheVariants.{Replay, Check}
-use Rattle.commandline.specs.Forms.{forms, given_file, given_name, name_of}
+use Rattle.commandline.specs.Forms.{forms, given_file, given_folder, given_name, name_of}
 use Rattle.commandline.proofs.words.job_of.Goals as goal
 
 abbrev dash : Work → List Text
@@ -28,6 +28,15 @@ gives_a_dash : (work : Work) → given_file (subcommand_of forms (dash work)) �
 unfolding clap_on_literals
 gives_a_dash Replay = refl
 gives_a_dash Check = refl
+
+gives_no_folder : (work : Work) → given_folder (subcommand_of forms (dash work)) ≡ None
+unfolding clap_on_literals
+gives_no_folder Replay = refl
+gives_no_folder Check = refl
+
+no_words_give_none : None ≡ given_folder (subcommand_of forms [])
+unfolding clap_on_literals
+no_words_give_none = refl
 
 forms_are_simple : is_simple forms ≡ true
 forms_are_simple = refl
@@ -49,7 +58,8 @@ returns-in-Ok-clause-dash c = λ work words_are.
     let given : subcommand_rows_of c.in-Ok.matches ≡ subcommand_of forms (dash work) =
     same.1 ∙ ap₂ subcommand_of c.in_ok-command.ensures words_are in
     rw c.ok_or.ensures.value (dash_job c.job_in.result work _ (ap given_name given ∙ gives_its_name work)
-    (ap given_file given ∙ gives_a_dash work) c.job_in.ensures.work c.job_in.ensures.source c.job_in.ensures.none)
+    (ap given_file given ∙ gives_a_dash work) (ap given_folder given ∙ gives_no_folder work) c.job_in.ensures.work
+    c.job_in.ensures.source c.job_in.ensures.folder c.job_in.ensures.none)
 
 pub returns-in-Err-clause-no_form : goal.returns-in-Err-clause-no_form
 returns-in-Err-clause-no_form c = λ is work asked.
