@@ -7,6 +7,8 @@
 
 mod action;
 mod cluster;
+#[cfg(test)]
+mod cluster_tests;
 mod cut;
 mod entry_lines;
 mod fault;

@@ -190,9 +190,10 @@ impl<S: Stable> World<S> {
     /// A round of a node by hand, among these members alone: its campaign begins, and what is sent in each phase comes to the members or
     /// to the node, in order of sending, before anything else. How it ended; the outcomes tell it, behind those of its steps.
     ///
-    /// While the storages inside are honest, and nothing disturbs it, that is, where the members are a quorum and up, the log has a slot at the node's position and the node a
-    /// round left, it decides that slot if no member has promised more than the node's next ballot; else it tells the greatest promise of
-    /// any member, and the node's next ballot is above that. Only a member that goes down, or want of memory, keeps it from that.
+    /// While the storages inside are honest, and nothing disturbs it, that is, where the members are a quorum and up, the log has a slot at
+    /// the node's position and the node a round left, it decides that slot if no member has promised more than the node's next ballot; else
+    /// it tells the greatest promise of any member, and the node's next ballot is above that. Only a member that goes down, or want of
+    /// memory, keeps it from that.
     ///
     /// `NoSuchNode` where the node or a member is none of the run, and then nothing is done. What was done when memory was wanting stays.
     pub fn round(
