@@ -117,9 +117,10 @@ module _ {S : Type 0} (storages : Ghosts (Script S)) where
     pub delivers : DeliversFrame storages between frame new
     pub down : is_up new m ≡ false
 
-  -- so some of them come
+  -- so some of them come, of those that were sent by then
   pub record DeliversPart (receivers : List ℕ) (old : WorldState S) (first : ℕ) (new : WorldState S) : Type 0 where
     pub end : ℕ
+    pub within : end ≤ length old.frames
     pub delivers : DeliversTo receivers old first end new
 
   -- a node goes down where its campaign is to begin

@@ -22,6 +22,7 @@ returns-in_err-deliver-clause-part g c =
     let part : DeliversPart (scripted g.S.Stable) c.args.receivers.now (run_of c.args.self.now) c.args.first (run_of c.deliver.new.self) =
     record {
       end = c.loop-index.index;
+      within = search (rules, arith);
       delivers = subst (λ w. DeliversTo (scripted g.S.Stable) c.args.receivers.now (run_of c.args.self.now) c.args.first c.loop-index.index w)
           (sym c.in_err-deliver.ensures.err) c.loop-index.invariant.0;
     } in
