@@ -31,7 +31,7 @@ pub struct Leader {
 }
 
 impl Leader {
-    ghost use Rattle.benchmarks.specs.Leaders.{leading_of, IsLeader, Proposes, IsProposing};
+    ghost use Rattle.benchmarks.specs.Leaders.{leading_of, Begins, IsLeader, Proposes, IsProposing};
 
     /// One of three nodes, at which so many requests wait, and to which all nodes but one have promised.
     pub fn new(alloc: Global, waiting: u16) -> Result<Leader, Fault>
@@ -49,10 +49,18 @@ impl Leader {
         ensures { IfOk result (λ number. IsProposing waiting round
             (leading_of self.old) number (leading_of self.new)) }
     {
-        if round % LAP == 0 {
+        self.begin(alloc, waiting, round % LAP)?;
+        self.propose(alloc, waiting, round % LAP)
+    }
+
+    /// Another leader begins where a lap is over.
+    fn begin(&mut self, alloc: Global, waiting: u16, place: u32) -> Result<(), Fault>
+        ensures { OnOk result (Begins waiting place (leading_of self.old) (leading_of self.new)) }
+    {
+        if place == 0 {
             *self = Leader::new(alloc, waiting)?;
         }
-        self.propose(alloc, waiting, round % LAP)
+        Ok(())
     }
 
     /// It proposes; the request that has waited longest is chosen for its slot, learnt and executed, and another one

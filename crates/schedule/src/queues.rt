@@ -26,7 +26,8 @@ pub enum Passed {
     },
 }
 
-/// A queue for each node, in memory: what is sent comes once, in order. It tells, until a growth of its tape is refused.
+/// A queue for each node, in memory. What its tape tells is promised, as long as it tells, which it does until a growth of the tape is
+/// refused. That what is sent comes once, in order, is tested.
 #[derive(Drop)]
 pub struct Queues {
     // What is on its way to each node.

@@ -47,7 +47,7 @@ pub fn replay(alloc: Global, bytes: &[u8]) -> Result<Vec<u8>, ReplayFault>
 
 /// The transcript of the schedule's run over these storages, one for each of its nodes, in their order.
 ///
-/// `NotEmpty` where one of them holds a record already, and then nothing was written. As long as the storages are honest the run is safe,
+/// `NotEmpty` where one of them holds a record already; all of them were only read then. As long as the storages are honest the run is safe,
 /// to the end or to the line that ends it.
 pub fn run<S: Stable + Drop>(
     alloc: Global,
