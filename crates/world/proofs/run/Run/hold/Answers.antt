@@ -1,4 +1,4 @@
-use Rattle.std.proofs.Common.{refl, subst, rules, length, drop, vec_len, [], ◌∷◌}
+use Rattle.std.proofs.Common.{arith, refl, subst, rules, length, drop, vec_len, [], ◌∷◌}
 use Rattle.std.proofs.lemmas.Option.{MatchOption-at_some}
 use Rattle.stable.specs.Storages.{scripted}
 use Rattle.world.specs.Rounds.{NoneRefuses, IsGreatestTold}
@@ -47,7 +47,11 @@ returns-in_err-refusal-clause-part g c =
     (vec_len c.begin.new.self.frames) (run_of c.begin.new.self) (run_of c.hand_on.new.self) begun refl
     (at_none _ _ c.in_ok-down.field-0 (search rules) c.in_ok-down.ensures.delivers) (search rules) in
     on_err _ (broken_by st w0 c.args.node members rounds.asked (vec_len c.begin.new.self.frames) (vec_len c.begin.new.self.frames)
-    (run_of c.hand_on.new.self) (run_of c.hand_on.new.self) asked refl (record { end = vec_len c.begin.new.self.frames; delivers = rounds.nothing }))
+    (run_of c.hand_on.new.self) (run_of c.hand_on.new.self) asked refl (record {
+      end = vec_len c.begin.new.self.frames;
+      within = search (rules, arith);
+      delivers = rounds.nothing;
+    }))
 
 -- the answers: memory is wanting
 pub returns-in_err-down-2-clause-part : goal.returns-in_err-down-2-clause-part
