@@ -116,7 +116,9 @@ class Drawing:
         return "remove " + self.name()
 
     def period(self):
-        return "%s %s" % tuple(sorted((self.time(), self.time()), key=plain.instant))
+        """Two datetimes, often with marks; where they are equal a mark may leave nothing of the period, which is a fault."""
+        begin, end = sorted((self.time(), self.time()), key=plain.instant)
+        return "%s%s %s%s" % (self.draw.choice(("", "", "[", "(")), begin, end, self.draw.choice(("", "", "]", ")")))
 
     def rectangle(self):
         across, along = sorted((self.coordinate(), self.coordinate())), sorted((self.coordinate(), self.coordinate()))

@@ -7,6 +7,7 @@ interpolation and a tuple of points (t, x, y), t in milliseconds and x, y in mil
 import datetime
 import json
 import re
+import typing
 from fractions import Fraction
 
 LAST_INSTANT = 253402300799999
@@ -175,11 +176,45 @@ def value_at(sequence, t):
     return x0 + gone * (x1 - x0), y0 + gone * (y1 - y0)
 
 
-def cut(sequence, begin, end):
-    """The instants with positions that the cut to a period lists."""
-    instants = {t for t, _, _ in sequence[1] if begin <= t <= end} | {begin, end}
-    values = ((t, value_at(sequence, t)) for t in sorted(instants))
-    return [(t, *value) for t, value in values if value is not None]
+class Period(typing.NamedTuple):
+    """From an instant to an instant, each of which is in it or isn't, with all fractions between them."""
+
+    begin: int
+    end: int
+    begin_in: bool = True
+    end_in: bool = True
+
+    def has(self, t):
+        """Whether the instant is in it."""
+        return (self.begin < t or t == self.begin and self.begin_in) and (t < self.end or t == self.end and self.end_in)
+
+
+def pieces(sequence, period):
+    """What the period has of a sequence, as one or two positions each: an instant at which something is listed, or at which the
+    period begins or ends, has one; so has all that lies between two such, if nothing moves there; else it is the straight way
+    between the two positions, of which these are not a part."""
+    interpolation, points = sequence
+    inner = {t for t, _, _ in points if period.begin <= t <= period.end}
+    marks = sorted(inner | {period.begin, period.end})
+    at = [(value_at(sequence, t),) for t in marks if period.has(t)]
+    ways = [] if interpolation == "Discrete" else [(value_at(sequence, a), value_at(sequence, b)) for a, b in zip(marks, marks[1:])]
+    if interpolation == "Step":
+        # Until the later of the two, where another position may be listed, the earlier one's stays.
+        ways = [(a,) for a, b in ways if b is not None]
+    return [piece for piece in at + ways if None not in piece]
+
+
+def cut(sequence, period):
+    """The instants with positions that the cut to a period lists, and whether its first and its last one are in it."""
+    interpolation, points = sequence
+    if not pieces(sequence, period):
+        return [], True, True
+    ends = set() if interpolation == "Discrete" else {t for t in (period.begin, period.end) if points[0][0] <= t <= points[-1][0]}
+    instants = sorted({t for t, _, _ in points if period.has(t)} | ends)
+    listed = [(t, *value_at(sequence, t)) for t in instants]
+    if interpolation == "Step" and instants[-1] == period.end and not period.end_in:
+        listed[-1] = (period.end, *value_at(sequence, Fraction(2 * period.end - 1, 2)))
+    return listed, period.has(instants[0]), period.has(instants[-1])
 
 
 def is_inside(rectangle, x, y):
@@ -187,63 +222,42 @@ def is_inside(rectangle, x, y):
     return x0 <= x <= x1 and y0 <= y <= y1
 
 
-def step_values(points, begin, end):
-    """The positions that a Step has in a period: each listed one stays until the next."""
-    for i, (t, x, y) in enumerate(points):
-        is_last = i + 1 == len(points)
-        if t <= end and (begin <= t or (not is_last and begin < points[i + 1][0])):
-            yield x, y
-
-
-def legs(points, begin, end):
-    """The straight ways of a Linear in a period, each by its two ends, which may be one position."""
-    sequence = ("Linear", points)
-    ways = zip(points, points[1:]) if len(points) > 1 else [(points[0], points[0])]
-    for (t0, _, _), (t1, _, _) in ways:
-        first, last = max(t0, begin), min(t1, end)
-        if first <= last:
-            yield value_at(sequence, first), value_at(sequence, last)
-
-
 def share_inside(low, high, start, stop):
     """Between which shares of a way from `start` to `stop` a coordinate is at least `low` and at most `high`; None if it never is."""
     if start == stop:
         return (Fraction(0), Fraction(1)) if low <= start <= high else None
     one, other = Fraction(low - start) / (stop - start), Fraction(high - start) / (stop - start)
-    return max(min(one, other), Fraction(0)), min(max(one, other), Fraction(1))
+    return min(one, other), max(one, other)
 
 
-def meets(rectangle, a, b):
-    """Whether the straight way from a to b has a position in the rectangle."""
+def meets(rectangle, piece):
+    """Whether a piece has a position in the rectangle. The ends of a way are no part of it."""
+    if len(piece) == 1:
+        return is_inside(rectangle, *piece[0])
     x0, y0, x1, y1 = rectangle
-    across, along = share_inside(x0, x1, a[0], b[0]), share_inside(y0, y1, a[1], b[1])
-    return across is not None and along is not None and max(across[0], along[0]) <= min(across[1], along[1])
+    (ax, ay), (bx, by) = piece
+    across, along = share_inside(x0, x1, ax, bx), share_inside(y0, y1, ay, by)
+    if across is None or along is None:
+        return False
+    first, last = max(across[0], along[0]), min(across[1], along[1])
+    return first <= last and first < 1 and last > 0
 
 
-def ever(sequence, begin, end, rectangle):
+def stays(rectangle, piece):
+    """Whether all of a piece is in the rectangle. A way is in it where both of its ends are, as it comes as near to them as one likes."""
+    return all(is_inside(rectangle, *place) for place in piece)
+
+
+def ever(sequence, period, rectangle):
     """yes, no, or none where the sequence has no value in the period."""
-    interpolation, points = sequence
-    if interpolation == "Linear":
-        ways = list(legs(points, begin, end))
-        return "none" if not ways else "yes" if any(meets(rectangle, a, b) for a, b in ways) else "no"
-    values = positions(sequence, begin, end)
-    return "none" if not values else "yes" if any(is_inside(rectangle, *value) for value in values) else "no"
+    found = pieces(sequence, period)
+    return "none" if not found else "yes" if any(meets(rectangle, piece) for piece in found) else "no"
 
 
-def always(sequence, begin, end, rectangle):
+def always(sequence, period, rectangle):
     """yes, no, or none where the sequence has no value in the period."""
-    values = positions(sequence, begin, end)
-    return "none" if not values else "yes" if all(is_inside(rectangle, *value) for value in values) else "no"
-
-
-def positions(sequence, begin, end):
-    """All positions in a period; of a Linear the ends of its ways, between which nothing leaves a rectangle that holds both."""
-    interpolation, points = sequence
-    if interpolation == "Linear":
-        return [place for way in legs(points, begin, end) for place in way]
-    if interpolation == "Step":
-        return list(step_values(points, begin, end))
-    return [(x, y) for t, x, y in points if begin <= t <= end]
+    found = pieces(sequence, period)
+    return "none" if not found else "yes" if all(stays(rectangle, piece) for piece in found) else "no"
 
 
 # The database: a dictionary from ids to sequences, which no call changes.
@@ -291,6 +305,9 @@ def answer(database, query):
         value = value_at(sequence, *words)
         return "at none" if value is None else "at " + numbers(value)
     if kind == "cut":
-        listed = cut(sequence, *words)
-        return " | ".join(["cut %s %d" % (sequence[0], len(listed))] + [numbers(row) for row in listed]) if listed else "cut none"
+        listed, begin_in, end_in = cut(sequence, *words)
+        if not listed:
+            return "cut none"
+        mark = "" if begin_in and end_in else " " + "(["[begin_in] + ")]"[end_in]
+        return " | ".join(["cut %s %d%s" % (sequence[0], len(listed), mark)] + [numbers(row) for row in listed])
     return "%s %s" % (kind, (ever if kind == "ever" else always)(sequence, *words))

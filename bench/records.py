@@ -3,9 +3,10 @@
 
     bench/records.py PROGRAM SCHEDULES
 
-PROGRAM is the built `mfpx`, SCHEDULES a folder of schedules with their transcripts. Each schedule is run over an empty folder:
-it prints the same bytes as in memory and leaves one file for each node (beside a log of some bytes that holds no record), which
-Python's SQLite reads. Run again it prints nothing, tells fault 55, ends with 1, and leaves every file as it was. A folder that isn't there is a device.
+PROGRAM is the built `mfpx`, SCHEDULES a folder of schedules: all files in it but those whose names end as what is wanted of them does.
+Each schedule is run over an empty folder: it ends and prints as in memory, and leaves one file for each node and nothing beside
+it, which Python's SQLite reads. A file that is no schedule leaves the folder empty. Run again it prints nothing, tells fault 55,
+ends with 1, and leaves every file as it was. A folder that isn't there is a device.
 """
 import os
 import sqlite3
@@ -20,12 +21,17 @@ def run(program, schedule, *more):
     return done.returncode, done.stdout, done.stderr
 
 
+# How the names of files end that say what is wanted.
+WANTED = (".transcript", ".canonical", ".json", ".stdout", ".stderr", ".status")
+
+IN_USE = (1, b"", b"mfpx: fault 55\n")
+NO_FOLDER = (3, b"", b"mfpx: device\n")
+
+
 def files_in(folder):
-    """The databases of the folder, by name."""
+    """All files of the folder, by name."""
     found = {}
     for name in sorted(os.listdir(folder)):
-        if not name.endswith(".db"):
-            continue
         with open(os.path.join(folder, name), "rb") as file:
             found[name] = file.read()
     return found
@@ -40,11 +46,16 @@ def nodes_of(schedule):
     return 0
 
 
-def are_records(path):
-    """Whether the table has keys and values of the forms that docs/FORMATS.md tells."""
-    connection = sqlite3.connect(f"file:{path}?mode=ro", uri=True)
+def rows_of(path):
+    """The rows of a file that nobody writes, read without a lock and without a file beside it."""
+    connection = sqlite3.connect(f"file:{path}?immutable=1", uri=True)
     rows = connection.execute("SELECT k, v FROM record ORDER BY k").fetchall()
     connection.close()
+    return rows
+
+
+def are_records(rows):
+    """Whether keys and values have the forms that docs/FORMATS.md tells."""
     for key, value in rows:
         if key in (b"P", b"R"):
             good = len(value) == (9 if key == b"P" else 8)
@@ -59,25 +70,27 @@ def failures_of(program, schedule):
     """What is wrong with the schedule's runs over a folder."""
     told = []
     alone = run(program, schedule)
+    # whether a run begins at all: a line that can't be read has one of the faults 1 to 6
+    begins = alone[0] == 0 or int(alone[2].split()[-1]) > 6
     with tempfile.TemporaryDirectory() as folder:
         for option in (["--db", folder], [f"--db={folder}"]):
             for name in os.listdir(folder):
                 os.remove(os.path.join(folder, name))
             if run(program, schedule, *option) != alone:
                 told.append("another end than in memory")
-        names = [f"node{i}.db" for i in range(nodes_of(schedule))]
+        names = [f"node{i}.db" for i in range(nodes_of(schedule))] if begins else []
         before = files_in(folder)
         if sorted(before) != names:
-            told.append(f"left {sorted(before)}")
-        if not all(are_records(os.path.join(folder, name)) for name in before):
+            return told + [f"left {sorted(before)}"]
+        rows = [rows_of(os.path.join(folder, name)) for name in names]
+        if not all(are_records(of_node) for of_node in rows):
             told.append("a record of another form")
         again = run(program, schedule, "--db", folder)
-        kept = any(sqlite3.connect(os.path.join(folder, n)).execute("SELECT count(*) FROM record").fetchone()[0] for n in names)
-        if kept and again != (1, b"", b"mfpx: fault 55\n"):
+        if again != (IN_USE if any(rows) else alone):
             told.append(f"again: {again}")
-        if kept and files_in(folder) != before:
-            told.append("a file was changed")
-        if run(program, schedule, "--db", os.path.join(folder, "none")) != (3, b"", b"mfpx: device\n"):
+        if any(rows) and files_in(folder) != before:
+            told.append(f"a file was changed, or one came: {sorted(files_in(folder))}")
+        if run(program, schedule, "--db", os.path.join(folder, "none")) != (NO_FOLDER if begins else alone):
             told.append("no folder is no device")
     return told
 
@@ -85,11 +98,9 @@ def failures_of(program, schedule):
 def main():
     program, folder = sys.argv[1:3]
     failed = 0
-    names = [n for n in sorted(os.listdir(folder)) if n.endswith(".schedule")]
+    names = [n for n in sorted(os.listdir(folder)) if n != "words" and not n.endswith(WANTED)]
     for name in names:
         schedule = os.path.join(folder, name)
-        if run(program, schedule)[0] != 0:
-            continue
         for told in failures_of(os.path.abspath(program), schedule):
             failed += 1
             print(f"{name}: {told}")

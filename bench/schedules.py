@@ -67,10 +67,13 @@ def coordinate(word):
 
 
 def period(words):
-    begin, end = (time(word) for word in words)
-    if begin > end:
+    """A begin, before which a mark may stand, and an end, behind which one may stand."""
+    begin, end = words
+    begin_in, end_in = not begin.startswith("("), not end.endswith(")")
+    at = plain.Period(time(begin[1:] if begin[:1] in ("[", "(") else begin), time(end[:-1] if end[-1:] in ("]", ")") else end), begin_in, end_in)
+    if at.begin > at.end or at.begin == at.end and not (begin_in and end_in):
         raise Fault(5)
-    return begin, end
+    return at
 
 
 def rectangle(words):
@@ -129,10 +132,10 @@ def query(words):
     if kind == "at":
         return kind, name(rest[0]), time(rest[1])
     if kind == "cut":
-        return (kind, name(rest[0]), *period(rest[1:]))
+        return kind, name(rest[0]), period(rest[1:])
     if kind == "within":
-        return (kind, *period(rest[:2]), rectangle(rest[2:]))
-    return (kind, name(rest[0]), *period(rest[1:3]), rectangle(rest[3:]))
+        return kind, period(rest[:2]), rectangle(rest[2:])
+    return kind, name(rest[0]), period(rest[1:3]), rectangle(rest[3:])
 
 
 def event(line, words, nodes):

@@ -17,13 +17,16 @@ use Rattle.acceptor.specs.declared.answer.Answer.{Answer}
 use Rattle.acceptor.specs.Accepting.{Accepting, put, nack, TellsFrom, AnswersPrepare, after_prepare, accept_answer, after_accept}
 use Rattle.acceptor.specs.Ranges.{IsPromiseFrom}
 use Rattle.acceptor.specs.Protocol.{RecordsStand, MayWrite, MayAnswer, answer_frames}
+use Rattle.acceptor.proofs.RangeLemmas.{told_from}
 use Rattle.acceptor.proofs.RecordLemmas.{refusing_cases}
 
 -- two lists of votes with one vote more
-put_alike : (f g : ℕ → Option (Vote Command)) (i : ℕ) (x : Option (Vote Command)) → ((s : ℕ) → f s ≡ g s) → (s : ℕ) → put_one f i x s ≡ put g i x s
-put_alike f g i x same s = elim (eqb_tells s i) [ inl e ↦ rw e.0 refl | inr ne ↦ rw ne.0 (same s) ]
+put_alike : (f g : ℕ → Option (Vote Command)) (i : ℕ) (x : Option (Vote Command)) (s : ℕ) → f s ≡ g s
+    → put_one f i x s ≡ put g i x s
+put_alike f g i x s same = elim (eqb_tells s i) [ inl e ↦ rw e.0 refl | inr ne ↦ rw ne.0 same ]
 
-module _ (f : Fleet Command) (i : ℕ) (input : Input Command) (x : Local Command) (a : Accepting) (round : ℕ) (stands : RecordsStand a round x.records) where
+module _ (f : Fleet Command) (i : ℕ) (input : Input Command) (x : Local Command) (a : Accepting) (round : ℕ)
+    (stands : RecordsStand a round x.records) where
   same_records : MayWrite f i input x a round
   same_records = record { after = x.records; does = does_nothing f i input x; stands = stands }
 
@@ -47,11 +50,14 @@ module _ (f : Fleet Command) (i : ℕ) (input : Input Command) (x : Local Comman
       → TellsVotes (with_promise x.records b) first p.last p.entries
   tells b first p low is = record {
     floor = omega (arith, stands.floor_, low);
-    all = λ s v from to e. is.tells.all s v from to (sym (stands.vote s) ∙ e);
-    only = λ v c. (v.slot, stands.vote v.slot ∙ is.tells.stand v c);
+    all = λ s v from to e. is.tells.all s v from to (sym (stands.vote s (omega (arith, low, from))) ∙ e);
+    only = λ v c.
+        let from = told_from p.ballot p.first p.last p.entries is.may_be_said.told v c in
+        (v.slot, stands.vote v.slot (omega (arith, low, from, is.from)) ∙ is.tells.stand v c);
   }
 
-  promises_and_tells : (nodes to first : ℕ) (b : Ballot) (p : Promised) → rank_of a.promise ≤ rank b → a.floor ≤ first → IsPromiseFrom a.vote b first p
+  promises_and_tells : (nodes to first : ℕ) (b : Ballot) (p : Promised) → rank_of a.promise ≤ rank b → a.floor ≤ first
+      → IsPromiseFrom a.vote b first p
       → MayAnswer f i input x (record a { promise = Some b }) round
       (record { sender = i; receiver = to; message = Promise p.ballot p.first p.last p.entries } ∷ [])
   promises_and_tells nodes to first b p le low is = rw (is.of_the_ballot, is.from) (record {
@@ -81,10 +87,11 @@ module _ (f : Fleet Command) (i : ℕ) (input : Input Command) (x : Local Comman
   ]
 
   -- an accept
-  voted : (v : Vote Command) → RecordsStand (record a { promise = Some v.ballot; vote = put a.vote v.slot (Some v) }) round (with_vote x.records v)
+  voted : (v : Vote Command) → RecordsStand (record a { promise = Some v.ballot; vote = put a.vote v.slot (Some v) }) round
+      (with_vote x.records v)
   voted v = record {
     promise = refl;
-    vote = put_alike x.records.vote a.vote v.slot (Some v) stands.vote;
+    vote = λ s from. put_alike x.records.vote a.vote v.slot (Some v) s (stands.vote s from);
     round_ = stands.round_;
     floor_ = stands.floor_;
   }

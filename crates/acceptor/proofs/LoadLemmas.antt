@@ -1,5 +1,6 @@
 -- Records under some keys, taken in one after the other.
-use Rattle.std.proofs.Common.{◌≡◌, ◌↔◌, ℕ, suc, ◌+◌, ◌<◌, ◌≤◌, Bool, true, false, eqb, List, [], ◌∷◌, ◌++◌, length, take, drop, get_or, Option, Some, None, Contains, IsSome, IfSome, refl, sym, ap, subst, ◌∙◌, arith, inl, inr}
+use Rattle.std.proofs.Common.{◌≡◌, ◌↔◌, ℕ, suc, ◌+◌, ◌<◌, ◌≤◌, Bool, true, false, eqb, List, [], ◌∷◌, ◌++◌, length, take, drop, get_or}
+use Rattle.std.proofs.Common.{Option, Some, None, Contains, IsSome, IfSome, refl, sym, ap, subst, ◌∙◌, arith, inl, inr}
 use Rattle.std.specs.declared.cmp.Ordering.TheVariants.{Less}
 use Rattle.std.specs.List.{list_any, AllByRecursion}
 use Rattle.std.specs.List.Sorted.{IsStrictlySortedBy}
@@ -82,21 +83,24 @@ split_at keys i d lt = sym (take-append-drop i keys) ∙ ap (λ xs. take i keys 
 fresh_at : (r : Records) (keys : List Key) (i : ℕ) (d : Key) → IsStrictlySortedBy key_cmp keys → i < length keys
     → records_at r (take i keys) (get_or keys i d) ≡ None
 fresh_at r keys i d sorted lt =
-    let apart : IsStrictlySortedBy key_cmp (take i keys ++ (get_or keys i d ∷ drop (suc i) keys)) = subst (IsStrictlySortedBy key_cmp) (split_at keys i d lt) sorted in
+    let apart : IsStrictlySortedBy key_cmp (take i keys ++ (get_or keys i d ∷ drop (suc i) keys)) =
+    subst (IsStrictlySortedBy key_cmp) (split_at keys i d lt) sorted in
     rw (not_among (take i keys) (drop (suc i) keys) (get_or keys i d) apart) refl
 
 one_more : (keys : List Key) (i : ℕ) (key : Key) → i < length keys → key ≡ get_or keys i key → take (i + 1) keys ≡ take i keys ++ key ∷ []
 one_more keys i key lt is = take_more keys i key lt ∙ ap (λ (k : Key). take i keys ++ k ∷ []) (sym is)
 
 -- a key more is taken in, whose record is what it was at the start
-pub says_more : (r now : Records) (keys : List Key) (i : ℕ) (key : Key) (a b : Accepting) → IsStrictlySortedBy key_cmp keys → i < length keys
+pub says_more : (r now : Records) (keys : List Key) (i : ℕ) (key : Key) (a b : Accepting) → IsStrictlySortedBy key_cmp keys
+    → i < length keys
     → key ≡ get_or keys i key → now ≡ r
     → ((seen : Records) → seen key ≡ None → RecordsSay seen a → RecordsSay (with_seen seen key (now key)) b)
     → RecordsSay (records_at r (take i keys)) a → RecordsSay (records_at r (take (i + 1) keys)) b
 says_more r now keys i key a b sorted lt is same taken says =
     let seen : Records = records_at r (take i keys) in
     let fresh : seen key ≡ None = subst (λ (k : Key). seen k ≡ None) (sym is) (fresh_at r keys i key sorted lt) in
-    let step : (q : Key) → records_at r (take (i + 1) keys) q ≡ with_seen seen key (r key) q = λ q. rw (one_more keys i key lt is) (records_more r (take i keys) key q) in
+    let step : (q : Key) → records_at r (take (i + 1) keys) q ≡ with_seen seen key (r key) q =
+    λ q. rw (one_more keys i key lt is) (records_more r (take i keys) key q) in
     RecordsSay-same (with_seen seen key (now key)) (records_at r (take (i + 1) keys)) b
     (λ q. step q ∙ ap (λ (x : Records). with_seen seen key (x key) q) (sym same)) (taken seen fresh says)
 
@@ -119,7 +123,8 @@ absent r keys told q lacks =
     absurd cc)
 
 -- the records under all keys that hold one are the records
-pub says_all : (r : Records) (keys : List Key) (a : Accepting) → ((k : Key) → Contains keys k ↔ IsSome (r k)) → RecordsSay (records_at r keys) a → RecordsSay r a
+pub says_all : (r : Records) (keys : List Key) (a : Accepting) → ((k : Key) → Contains keys k ↔ IsSome (r k))
+    → RecordsSay (records_at r keys) a → RecordsSay r a
 says_all r keys a told says =
     RecordsSay-same (records_at r keys) r a
     (λ q. elim (cases_Bool (among q keys)) [

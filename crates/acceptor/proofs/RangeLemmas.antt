@@ -1,5 +1,7 @@
 -- The votes from a slot on, as a map by slot lists them, and what a promise may tell of them.
-use Rattle.std.proofs.Common.{◌≡◌, ℕ, zero, suc, ◌+◌, ◌<◌, ◌≤◌, ◌⊎◌, Bool, true, false, List, [], ◌∷◌, ◌++◌, length, map, filter, All, Contains, Option, Some, None, IsSome, option_map, inl, inr, refl, sym, ap, ◌∙◌, subst, append_assoc, append-nil, arith, rules, MatchOption}
+use Rattle.std.proofs.Common.{◌≡◌, ℕ, zero, suc, ◌+◌, ◌<◌, ◌≤◌, ◌⊎◌, Bool, true, false, List, [], ◌∷◌, ◌++◌, length, map, filter, All}
+use Rattle.std.proofs.Common.{Contains, Option, Some, None, IsSome, option_map, inl, inr, refl, sym, ap, ◌∙◌, subst, append_assoc}
+use Rattle.std.proofs.Common.{append-nil, arith, rules, MatchOption}
 use Rattle.std.specs.BTreeMap.{BTreeMap, get, IsOrdered}
 use Rattle.std.specs.BTreeMap.Range.{entries_between, range_contains, IsEntryInRange}
 use Rattle.std.specs.declared.ops.Bound.TheVariants.{Included, Unbounded}
@@ -12,7 +14,8 @@ use Rattle.std.specs.List.Sorted.{IsStrictlySortedBy}
 use Rattle.std.specs.List.{AllByRecursion}
 use Rattle.std.proofs.lemmas.Bool.{cond_both}
 use Rattle.std.proofs.lemmas.Cmp.{by_ranked}
-use Rattle.std.proofs.lemmas.List.Elements.{All-contains, Contains-append_left, Contains-append_right, Contains-append_cases, Contains-push_cases}
+use Rattle.std.proofs.lemmas.List.Elements.{All-contains, Contains-append_left, Contains-append_right, Contains-append_cases}
+use Rattle.std.proofs.lemmas.List.Elements.{Contains-push_cases}
 use Rattle.std.proofs.lemmas.List.Kept.{IsStrictlySortedBy-filter}
 use Rattle.std.proofs.lemmas.Map.Lookups.{exact_unsigned}
 use Rattle.std.proofs.lemmas.Map.Views.{btree_map_get_iff}
@@ -102,7 +105,8 @@ ascends from (e ∷ es) sorted low = (
   ascends (e.0 + 1) es sorted.1 (λ f c. next e.0 f es c sorted.0),
 )
   where
-    next : (k : ℕ) (f : ℕ × Cast) (es : List (ℕ × Cast)) → Contains es f → AllByRecursion (λ y. nat_cmp k y ≡ Less) (keys_of es) → k + 1 ≤ f.0
+    next : (k : ℕ) (f : ℕ × Cast) (es : List (ℕ × Cast)) → Contains es f → AllByRecursion (λ y. nat_cmp k y ≡ Less) (keys_of es)
+        → k + 1 ≤ f.0
     next k f [] c all = absurd (omega (arith, c.1))
     next k f (g ∷ gs) c all = elim (in_cons g f gs c) [
       | inl e ↦ (let lt = below k g.0 all.0 in subst (λ (h : ℕ × Cast). k + 1 ≤ h.0) e (omega arith))
@@ -114,11 +118,13 @@ before_others : (from : ℕ) (told : List (Vote Command)) (v : Vote Command) (mo
     → (w : Vote Command) → Contains told w → w.slot < v.slot
 before_others from [] v more asc w c = absurd (omega (arith, c.1))
 before_others from (u ∷ told) v more asc w c = elim (in_cons u w told c) [
-  | inl e ↦ (let low = first_of (u.slot + 1) told v more asc.1 in let at : u.slot ≡ w.slot = ap (λ (x : Vote Command). x.slot) e in omega arith)
+  | inl e ↦ (let low = first_of (u.slot + 1) told v more asc.1 in let at : u.slot ≡ w.slot = ap (λ (x : Vote Command). x.slot) e in
+      omega arith)
   | inr t ↦ before_others (u.slot + 1) told v more asc.1 w t
 ]
   where
-    first_of : (from : ℕ) (told : List (Vote Command)) (v : Vote Command) (more : List (Vote Command)) → Ascends from (told ++ v ∷ more) → from ≤ v.slot
+    first_of : (from : ℕ) (told : List (Vote Command)) (v : Vote Command) (more : List (Vote Command)) → Ascends from (told ++ v ∷ more)
+        → from ≤ v.slot
     first_of from [] v more asc = asc.0
     first_of from (u ∷ told) v more asc = (let rest = first_of (u.slot + 1) told v more asc.1 in let low = asc.0 in omega arith)
 
@@ -128,6 +134,15 @@ not_below from [] asc w c = absurd (omega (arith, c.1))
 not_below from (v ∷ vs) asc w c = elim (in_cons v w vs c) [
   | inl e ↦ subst (λ (x : Vote Command). from ≤ x.slot) e asc.0
   | inr t ↦ (let rest = not_below (v.slot + 1) vs asc.1 w t in let low = asc.0 in omega arith)
+]
+
+-- nor is any that a promise may tell
+pub told_from : (b : Ballot) (from last : ℕ) (vs : List (Vote Command)) → AreTold b from last vs → (w : Vote Command) → Contains vs w
+    → from ≤ w.slot
+told_from b from last [] told w c = absurd (omega (arith, c.1))
+told_from b from last (v ∷ vs) told w c = elim (in_cons v w vs c) [
+  | inl e ↦ subst (λ (x : Vote Command). from ≤ x.slot) e told.0.not_before
+  | inr t ↦ (let rest = told_from b (v.slot + 1) last vs told.1 w t in let low = told.0.not_before in omega arith)
 ]
 
 -- what stands behind comes from the same list
@@ -153,7 +168,8 @@ AreInLog vs = (v : Vote Command) → Contains vs v → v.slot < 65536
 pub none_in_log : AreInLog []
 none_in_log v c = absurd (omega (arith, c.1))
 
-pub one_more_in_log : (vs more : List (Vote Command)) (v : Vote Command) → more ≡ vs ++ v ∷ [] → AreInLog vs → v.slot < 65536 → AreInLog more
+pub one_more_in_log : (vs more : List (Vote Command)) (v : Vote Command) → more ≡ vs ++ v ∷ [] → AreInLog vs → v.slot < 65536
+    → AreInLog more
 one_more_in_log vs more v is low here w c = elim (Contains-push_cases vs v w (subst (λ l. Contains l w) is c)) [
   | inl old ↦ low w old
   | inr new ↦ (let at : v.slot ≡ w.slot = ap (λ (x : Vote Command). x.slot) new in omega arith)
@@ -187,7 +203,8 @@ module _ (m : BTreeMap ℕ Cast) (first : ℕ) (listed : List (ℕ × Cast)) (or
   listed_all s v le e =
       let found = mapped (get nat_cmp m s) refl in
       subst (λ (x : Vote Command). Contains (map vote_in listed) x) found.2
-      (in_map vote_in (s, found.0) listed (rw between (in_filter (λ e. range_contains nat_cmp (Included first) Unbounded e.0) (s, found.0) m.entries
+      (in_map vote_in (s, found.0) listed
+      (rw between (in_filter (λ e. range_contains nat_cmp (Included first) Unbounded e.0) (s, found.0) m.entries
       (rw (is_from first s le) refl) ((btree_map_get_iff nat_cmp_total exact_unsigned m ordered s found.0).0 found.1))))
     where
       mapped : (o : Option Cast) → o ≡ get nat_cmp m s → (cast : Cast) × (get nat_cmp m s ≡ Some cast) × (vote_at s cast ≡ v)
@@ -196,7 +213,8 @@ module _ (m : BTreeMap ℕ Cast) (first : ℕ) (listed : List (ℕ × Cast)) (or
 
   pub listed_ascend : Ascends first (map vote_in listed)
   listed_ascend = ascends first listed
-      (rw between (rw (keys_filter (range_contains nat_cmp (Included first) Unbounded) m.entries) (IsStrictlySortedBy-filter nat_cmp _ (keys_of m.entries) ordered)))
+      (rw between (rw (keys_filter (range_contains nat_cmp (Included first) Unbounded) m.entries)
+      (IsStrictlySortedBy-filter nat_cmp _ (keys_of m.entries) ordered)))
       (λ e c. not_above first e.0 (All-contains (IsEntryInRange nat_cmp (Included first) Unbounded m) listed e each c).0.0)
 
   -- a vote that is listed stands at the first slot, or at a later one
@@ -218,7 +236,8 @@ module _ (m : BTreeMap ℕ Cast) (first : ℕ) (listed : List (ℕ × Cast)) (or
   }
 
   -- those before a vote were taken, up to the slot before it
-  pub some_taken : (told : List (Vote Command)) (v : Vote Command) (more : List (Vote Command)) (last : ℕ) → told ++ v ∷ more ≡ map vote_in listed
+  pub some_taken : (told : List (Vote Command)) (v : Vote Command) (more : List (Vote Command)) (last : ℕ)
+      → told ++ v ∷ more ≡ map vote_in listed
       → last + 1 ≡ v.slot → AreVotesOf held first last told
   some_taken told v more last is next = record {
     stand = λ w c. listed_stand w (subst (λ l. Contains l w) is (Contains-append_left told (v ∷ more) w c));
@@ -247,10 +266,12 @@ module _ (m : BTreeMap ℕ Cast) (first : ℕ) (listed : List (ℕ × Cast)) (or
   taken_in_order b told more last is fits = told_in_order b first last told more (subst (Ascends first) (sym is) listed_ascend) fits
 
   -- a slot below one before which there are votes
-  pub some_slot_before : (told : List (Vote Command)) (v : Vote Command) (more : List (Vote Command)) → told ++ v ∷ more ≡ map vote_in listed
+  pub some_slot_before : (told : List (Vote Command)) (v : Vote Command) (more : List (Vote Command))
+      → told ++ v ∷ more ≡ map vote_in listed
       → 0 < length told → (m : ℕ) × (m < v.slot)
   some_slot_before [] v more is lt = absurd (omega (arith, lt))
-  some_slot_before (u ∷ told) v more is lt = (u.slot, before_others first (u ∷ told) v more (subst (Ascends first) (sym is) listed_ascend) u (in_head u told))
+  some_slot_before (u ∷ told) v more is lt =
+      (u.slot, before_others first (u ∷ told) v more (subst (Ascends first) (sym is) listed_ascend) u (in_head u told))
 
   -- no vote that is held is above the ballot
   abbrev pub IsUpTo : Ballot → Type 0

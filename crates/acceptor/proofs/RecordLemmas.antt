@@ -1,5 +1,6 @@
 -- Records that say what an acceptor holds, as records are written or read one by one.
-use Rattle.std.proofs.Common.{◌≡◌, ◌⊎◌, ℕ, ◌+◌, ◌≤◌, List, Option, Some, None, inl, inr, refl, sym, ap, subst, ◌∙◌, arith, IfSome, IsSome, option_map}
+use Rattle.std.proofs.Common.{◌≡◌, ◌⊎◌, ℕ, ◌+◌, ◌≤◌, List, Option, Some, None, inl, inr, refl, sym, ap, subst, ◌∙◌, arith, IfSome, IsSome}
+use Rattle.std.proofs.Common.{option_map}
 use Rattle.std.proofs.lemmas.Bool.{cases_eq, cases_lt, lt-ltb, le-ltb, eq-eqb, ne_eqb}
 use Rattle.std.proofs.lemmas.Bool.Decides.{eqb_tells}
 use Rattle.std.proofs.lemmas.Option.{IfSome_then}
@@ -30,7 +31,8 @@ put_here f i s x e = rw (eq-eqb s i e) refl
 put_elsewhere : (f : Votes) (i s : ℕ) (x : Option (Vote Command)) → (s ≡ i → ⊥) → put f i x s ≡ f s
 put_elsewhere f i s x ne = rw (ne_eqb s i ne) refl
 
-IfSome-put : (f : Votes) (i s : ℕ) (v : Vote Command) (P : Vote Command → Type 0) → (s ≡ i → P v) → IfSome (f s) P → IfSome (put f i (Some v) s) P
+IfSome-put : (f : Votes) (i s : ℕ) (v : Vote Command) (P : Vote Command → Type 0) → (s ≡ i → P v) → IfSome (f s) P
+    → IfSome (put f i (Some v) s) P
 IfSome-put f i s v P here there =
     elim (eqb_tells s i) [
       | inl same ↦ rw same.0 (here same.1)
@@ -51,22 +53,24 @@ raised_cases (Some p) b =
 elsewhere : (r : Records) (k q : Key) (found : Option (List ℕ)) → (place q ≡ place k → ⊥) → with_seen r k found q ≡ r q
 elsewhere r k q found ne = rw (ne_eqb (place q) (place k) ne) refl
 
-vote_elsewhere : (r : Records) (i s : ℕ) (found : Option (List ℕ)) → (s ≡ i → ⊥) → with_seen r (key.Vote i) found (key.Vote s) ≡ r (key.Vote s)
+vote_elsewhere : (r : Records) (i s : ℕ) (found : Option (List ℕ)) → (s ≡ i → ⊥)
+    → with_seen r (key.Vote i) found (key.Vote s) ≡ r (key.Vote s)
 vote_elsewhere r i s found ne = elsewhere r (key.Vote i) (key.Vote s) found (λ e. ne (omega arith))
 
 vote_here : (r : Records) (i s : ℕ) (found : Option (List ℕ)) → s ≡ i → with_seen r (key.Vote i) found (key.Vote s) ≡ found
 vote_here r i s found e = rw (eq-eqb (s + 2) (i + 2) (omega arith)) refl
 
--- where a vote is put under its key and among the votes, each record still spells its vote
-votes_say : (r : Records) (f : Votes) (v : Vote Command) → ((s : ℕ) → r (key.Vote s) ≡ option_map vote_bytes (f s)) → (s : ℕ)
+-- where a vote is put under its key and among the votes, a record that spelled its vote still does
+votes_say : (r : Records) (f : Votes) (v : Vote Command) (s : ℕ) → r (key.Vote s) ≡ option_map vote_bytes (f s)
     → with_seen r (key.Vote v.slot) (Some (vote_bytes v)) (key.Vote s) ≡ option_map vote_bytes (put f v.slot (Some v) s)
-votes_say r f v says s =
+votes_say r f v s says =
     elim (cases_eq s v.slot) [
       | inl e ↦ vote_here r v.slot s _ e ∙ sym (ap (option_map vote_bytes) (put_here f v.slot s (Some v) e))
-      | inr ne ↦ vote_elsewhere r v.slot s _ ne ∙ says s ∙ sym (ap (option_map vote_bytes) (put_elsewhere f v.slot s (Some v) ne))
+      | inr ne ↦ vote_elsewhere r v.slot s _ ne ∙ says ∙ sym (ap (option_map vote_bytes) (put_elsewhere f v.slot s (Some v) ne))
     ]
 
-pub refusing_cases : (p : Option Ballot) (b : Ballot) → ((refusing p b ≡ None) × (rank_of p ≤ rank b)) ⊎ ((q : Ballot) × (refusing p b ≡ Some q))
+pub refusing_cases : (p : Option Ballot) (b : Ballot) → ((refusing p b ≡ None) × (rank_of p ≤ rank b))
+    ⊎ ((q : Ballot) × (refusing p b ≡ Some q))
 refusing_cases None b = inl (refl, omega arith)
 refusing_cases (Some p) b =
     elim (cases_lt (rank b) (rank p)) [
@@ -81,7 +85,7 @@ RecordsSay-same r q a same says =
     record {
       promised = says.promised;
       promise_record = same key.Promise ∙ says.promise_record;
-      vote_record = λ s. same (key.Vote s) ∙ says.vote_record s;
+      vote_record = λ s from. same (key.Vote s) ∙ says.vote_record s from;
       at_its_slot = says.at_its_slot;
       promise = says.promise;
       floor = says.floor;
@@ -96,11 +100,11 @@ RecordsSay-promise r a b fits says le =
     record {
       promised = Some b;
       promise_record = refl;
-      vote_record = λ s. elsewhere r key.Promise (key.Vote s) _ (λ e. absurd (omega arith)) ∙ says.vote_record s;
+      vote_record = λ s from. elsewhere r key.Promise (key.Vote s) _ (λ e. absurd (omega arith)) ∙ says.vote_record s from;
       at_its_slot = says.at_its_slot;
       promise = record {
         not_below_the_record = omega arith;
-        not_below_a_vote = λ s. IfSome_then (a.vote s) (says.promise.not_below_a_vote s) (λ v low. omega arith);
+        not_below_a_vote = λ s from. IfSome_then (a.vote s) (says.promise.not_below_a_vote s from) (λ v low. omega arith);
         among_them = inl refl;
       };
       floor = says.floor;
@@ -114,7 +118,7 @@ RecordsSay-round r a bytes says =
     record {
       promised = says.promised;
       promise_record = elsewhere r key.Round key.Promise (Some bytes) (λ e. absurd (omega arith)) ∙ says.promise_record;
-      vote_record = λ s. elsewhere r key.Round (key.Vote s) (Some bytes) (λ e. absurd (omega arith)) ∙ says.vote_record s;
+      vote_record = λ s from. elsewhere r key.Round (key.Vote s) (Some bytes) (λ e. absurd (omega arith)) ∙ says.vote_record s from;
       at_its_slot = says.at_its_slot;
       promise = says.promise;
       floor = says.floor;
@@ -149,17 +153,17 @@ RecordsSay-vote r a v fits says le =
     record {
       promised = says.promised;
       promise_record = elsewhere r (key.Vote v.slot) key.Promise _ (λ e. absurd (omega arith)) ∙ says.promise_record;
-      vote_record = votes_say r a.vote v says.vote_record;
-      at_its_slot = λ s. IfSome-put a.vote v.slot s v (λ w. w.slot ≡ s) (λ e. sym e) (says.at_its_slot s);
+      vote_record = λ s from. votes_say r a.vote v s (says.vote_record s from);
+      at_its_slot = λ s from. IfSome-put a.vote v.slot s v (λ w. w.slot ≡ s) (λ e. sym e) (says.at_its_slot s from);
       promise = record {
         not_below_the_record = let low = says.promise.not_below_the_record in omega arith;
-        not_below_a_vote = λ s. IfSome-put a.vote v.slot s v (λ w. rank w.ballot ≤ rank v.ballot) (λ e. omega arith)
-            (IfSome_then (a.vote s) (says.promise.not_below_a_vote s) (λ w low. omega arith));
-        among_them = inr (v.slot, v, put_here a.vote v.slot v.slot (Some v) refl, refl);
+        not_below_a_vote = λ s from. IfSome-put a.vote v.slot s v (λ w. rank w.ballot ≤ rank v.ballot) (λ e. omega arith)
+            (IfSome_then (a.vote s) (says.promise.not_below_a_vote s from) (λ w low. omega arith));
+        among_them = inr (v.slot, v, put_here a.vote v.slot v.slot (Some v) refl, refl, omega (arith, says.floor));
       };
       floor = says.floor;
       promised_fits = says.promised_fits;
-      votes_fit = λ s. IfSome-put a.vote v.slot s v VoteFits (λ e. fits) (says.votes_fit s);
+      votes_fit = λ s from. IfSome-put a.vote v.slot s v VoteFits (λ e. fits) (says.votes_fit s from);
     }
 
 -- ---- records that are seen one after the other
@@ -188,7 +192,7 @@ low_promise r a b fits fresh says le =
     record {
       promised = Some b;
       promise_record = refl;
-      vote_record = λ s. elsewhere r key.Promise (key.Vote s) _ (λ e. absurd (omega arith)) ∙ says.vote_record s;
+      vote_record = λ s from. elsewhere r key.Promise (key.Vote s) _ (λ e. absurd (omega arith)) ∙ says.vote_record s from;
       at_its_slot = says.at_its_slot;
       promise = record {
         not_below_the_record = le;
@@ -208,26 +212,29 @@ other a v s w none some e =
     let both : a.vote s ≡ None = ap a.vote e ∙ none in
     absurd cc
 
-low_vote : (r : Records) (a : Accepting) (v : Vote Command) → VoteFits v → r (key.Vote v.slot) ≡ None → RecordsSay r a → rank v.ballot ≤ rank_of a.promise
+low_vote : (r : Records) (a : Accepting) (v : Vote Command) → VoteFits v → r (key.Vote v.slot) ≡ None → RecordsSay r a
+    → rank v.ballot ≤ rank_of a.promise
     → RecordsSay (with_record r (key.Vote v.slot) (vote_bytes v)) (record a { vote = put a.vote v.slot (Some v) })
 low_vote r a v fits fresh says le =
-    let none : a.vote v.slot ≡ None = unmapped vote_bytes (a.vote v.slot) (sym (says.vote_record v.slot) ∙ fresh) in
+    let none : a.vote v.slot ≡ None = unmapped vote_bytes (a.vote v.slot)
+    (sym (says.vote_record v.slot (omega (arith, says.floor))) ∙ fresh) in
     record {
       promised = says.promised;
       promise_record = elsewhere r (key.Vote v.slot) key.Promise _ (λ e. absurd (omega arith)) ∙ says.promise_record;
-      vote_record = votes_say r a.vote v says.vote_record;
-      at_its_slot = λ s. IfSome-put a.vote v.slot s v (λ w. w.slot ≡ s) (λ e. sym e) (says.at_its_slot s);
+      vote_record = λ s from. votes_say r a.vote v s (says.vote_record s from);
+      at_its_slot = λ s from. IfSome-put a.vote v.slot s v (λ w. w.slot ≡ s) (λ e. sym e) (says.at_its_slot s from);
       promise = record {
         not_below_the_record = says.promise.not_below_the_record;
-        not_below_a_vote = λ s. IfSome-put a.vote v.slot s v (λ w. rank w.ballot ≤ rank_of a.promise) (λ e. le) (says.promise.not_below_a_vote s);
+        not_below_a_vote = λ s from. IfSome-put a.vote v.slot s v (λ w. rank w.ballot ≤ rank_of a.promise) (λ e. le)
+            (says.promise.not_below_a_vote s from);
         among_them = elim says.promise.among_them [
           | inl e ↦ inl e
-          | inr w ↦ inr (w.0, w.1, put_elsewhere a.vote v.slot w.0 (Some v) (λ e. other a v w.0 w.1 none w.2 e) ∙ w.2, w.3)
+          | inr w ↦ inr (w.0, w.1, put_elsewhere a.vote v.slot w.0 (Some v) (λ e. other a v w.0 w.1 none w.2 e) ∙ w.2, w.3, w.4)
         ];
       };
       floor = says.floor;
       promised_fits = says.promised_fits;
-      votes_fit = λ s. IfSome-put a.vote v.slot s v VoteFits (λ e. fits) (says.votes_fit s);
+      votes_fit = λ s from. IfSome-put a.vote v.slot s v VoteFits (λ e. fits) (says.votes_fit s from);
     }
 
 -- record Promise is seen for the first time
@@ -243,16 +250,19 @@ RecordsSay-see_promise r a b fits fresh says =
 
 -- the record of a vote is seen for the first time
 pub RecordsSay-see_vote : (r : Records) (a : Accepting) (v : Vote Command) → VoteFits v → r (key.Vote v.slot) ≡ None → RecordsSay r a
-    → RecordsSay (with_seen r (key.Vote v.slot) (Some (vote_bytes v))) (record a { promise = raised a.promise v.ballot; vote = put a.vote v.slot (Some v) })
+    → RecordsSay (with_seen r (key.Vote v.slot) (Some (vote_bytes v)))
+    (record a { promise = raised a.promise v.ballot; vote = put a.vote v.slot (Some v) })
 RecordsSay-see_vote r a v fits fresh says =
-    let seen : Option Ballot → Type 0 = λ p. RecordsSay (with_record r (key.Vote v.slot) (vote_bytes v)) (record a { promise = p; vote = put a.vote v.slot (Some v) }) in
+    let seen : Option Ballot → Type 0 = λ p. RecordsSay (with_record r (key.Vote v.slot) (vote_bytes v))
+    (record a { promise = p; vote = put a.vote v.slot (Some v) }) in
     elim (raised_cases a.promise v.ballot) [
       | inl h ↦ subst seen (sym h.1) (RecordsSay-vote r a v fits says h.0)
       | inr h ↦ subst seen (sym h.1) (low_vote r a v fits fresh says h.0)
     ]
 
 -- an acceptor that holds the same holds what the records say
-pub RecordsSay-holds : (r : Records) (a b : Accepting) → b.promise ≡ a.promise → b.floor ≡ a.floor → ((s : ℕ) → b.vote s ≡ a.vote s) → RecordsSay r a → RecordsSay r b
+pub RecordsSay-holds : (r : Records) (a b : Accepting) → b.promise ≡ a.promise → b.floor ≡ a.floor → ((s : ℕ) → b.vote s ≡ a.vote s)
+    → RecordsSay r a → RecordsSay r b
 RecordsSay-holds r a b p l v says =
     let same : a ≡ b = λ i. record { promise = sym p i; floor = sym l i; vote = λ s. sym (v s) i } in
     subst (λ (x : Accepting). RecordsSay r x) same says
@@ -263,21 +273,23 @@ RecordsSay-nothing =
     record {
       promised = None;
       promise_record = refl;
-      vote_record = λ s. refl;
-      at_its_slot = λ s. tt;
-      promise = record { not_below_the_record = omega arith; not_below_a_vote = λ s. tt; among_them = inl refl };
+      vote_record = λ s from. refl;
+      at_its_slot = λ s from. tt;
+      promise = record { not_below_the_record = omega arith; not_below_a_vote = λ s from. tt; among_them = inl refl };
       floor = refl;
       promised_fits = tt;
-      votes_fit = λ s. tt;
+      votes_fit = λ s from. tt;
     }
 
 -- ---- records of their form
-pub promise_of_its_form : (found : Option (List ℕ)) (bytes : List ℕ) (b : Ballot) → found ≡ Some bytes → BallotFits b → bytes ≡ ballot_bytes b
+pub promise_of_its_form : (found : Option (List ℕ)) (bytes : List ℕ) (b : Ballot) → found ≡ Some bytes → BallotFits b
+    → bytes ≡ ballot_bytes b
     → IfSome found (IsOfItsForm key.Promise)
 promise_of_its_form found bytes b e fits spelled =
     subst (λ (o : Option (List ℕ)). IfSome o (IsOfItsForm key.Promise)) (sym e) (b, fits, spelled)
 
-pub vote_of_its_form : (found : Option (List ℕ)) (slot : ℕ) (bytes : List ℕ) (v : Vote Command) → found ≡ Some bytes → VoteFits v → bytes ≡ vote_bytes v
+pub vote_of_its_form : (found : Option (List ℕ)) (slot : ℕ) (bytes : List ℕ) (v : Vote Command) → found ≡ Some bytes → VoteFits v
+    → bytes ≡ vote_bytes v
     → IfSome found (IsOfItsForm (key.Vote slot))
 vote_of_its_form found slot bytes v e fits spelled =
     subst (λ (o : Option (List ℕ)). IfSome o (IsOfItsForm (key.Vote slot))) (sym e) (v, fits, spelled)
@@ -288,7 +300,8 @@ same_promise None b e = absurd (begun b (omega arith))
 same_promise (Some p) b e = ap Some (same_rank p b (sym e))
 
 prepare_taken : (r : Records) (a : Accepting) (b : Ballot) → BallotFits b → RecordsSay r a → rank_of a.promise ≤ rank b
-    → RecordsSay (records_after r (if rank b == rank_of a.promise then None else Some (key.Promise, ballot_bytes b))) (record a { promise = Some b })
+    → RecordsSay (records_after r (if rank b == rank_of a.promise then None else Some (key.Promise, ballot_bytes b)))
+    (record a { promise = Some b })
 prepare_taken r a b fits says le =
     elim (eqb_tells (rank b) (rank_of a.promise)) [
       | inl same ↦ rw same.0 (subst (λ (p : Option Ballot). RecordsSay r (record a { promise = p })) (same_promise a.promise b same.1) says)
@@ -296,7 +309,8 @@ prepare_taken r a b fits says le =
     ]
 
 -- records that say what an acceptor holds say so after a prepare and its write
-pub prepare_kept : (r : Records) (a : Accepting) (b : Ballot) → BallotFits b → RecordsSay r a → RecordsSay (records_after r (prepare_write a b)) (after_prepare a b)
+pub prepare_kept : (r : Records) (a : Accepting) (b : Ballot) → BallotFits b → RecordsSay r a
+    → RecordsSay (records_after r (prepare_write a b)) (after_prepare a b)
 prepare_kept r a b fits says =
     elim (refusing_cases a.promise b) [
       | inl h ↦ rw h.0 (prepare_taken r a b fits says h.1)
@@ -312,7 +326,8 @@ vote_stands r a v says le stands =
       | inl e ↦ rw e.0 (sym (ap a.vote e.1 ∙ stands))
       | inr ne ↦ rw ne.0 refl
     ] in
-    RecordsSay-holds r (record a { promise = Some v.ballot }) (record a { promise = Some v.ballot; vote = put a.vote v.slot (Some v) }) refl refl same
+    RecordsSay-holds r (record a { promise = Some v.ballot })
+    (record a { promise = Some v.ballot; vote = put a.vote v.slot (Some v) }) refl refl same
     (record {
       promised = says.promised;
       promise_record = says.promise_record;
@@ -320,16 +335,18 @@ vote_stands r a v says le stands =
       at_its_slot = says.at_its_slot;
       promise = record {
         not_below_the_record = let low = says.promise.not_below_the_record in omega arith;
-        not_below_a_vote = λ s. IfSome_then (a.vote s) (says.promise.not_below_a_vote s) (λ w low. omega arith);
-        among_them = inr (v.slot, v, stands, refl);
+        not_below_a_vote = λ s from. IfSome_then (a.vote s) (says.promise.not_below_a_vote s from) (λ w low. omega arith);
+        among_them = inr (v.slot, v, stands, refl, omega (arith, says.floor));
       };
       floor = says.floor;
       promised_fits = says.promised_fits;
       votes_fit = says.votes_fit;
     })
 
-accept_taken : (r : Records) (a : Accepting) (v : Vote Command) (w : Write) → VoteFits v → IsAcceptWrite a v w → RecordsSay r a → refusing a.promise v.ballot ≡ None
-    → rank_of a.promise ≤ rank v.ballot → RecordsSay (records_after r w) (record a { promise = Some v.ballot; vote = put a.vote v.slot (Some v) })
+accept_taken : (r : Records) (a : Accepting) (v : Vote Command) (w : Write) → VoteFits v → IsAcceptWrite a v w → RecordsSay r a
+    → refusing a.promise v.ballot ≡ None
+    → rank_of a.promise ≤ rank v.ballot → RecordsSay (records_after r w)
+    (record a { promise = Some v.ballot; vote = put a.vote v.slot (Some v) })
 accept_taken r a v None fits is says taken le =
     elim (is.nothing refl) [
       | inl refused ↦ (let none : IsSome {T = Ballot} None = rw taken at refused in absurd cc)
@@ -337,7 +354,8 @@ accept_taken r a v None fits is says taken le =
     ]
 accept_taken r a v (Some w) fits is says taken le =
     let written : Some w ≡ Some (key.Vote v.slot, vote_bytes v) = is.cast taken (λ stands. let none = is.already stands in absurd cc) in
-    subst (λ (x : Write). RecordsSay (records_after r x) (record a { promise = Some v.ballot; vote = put a.vote v.slot (Some v) })) (sym written)
+    subst (λ (x : Write). RecordsSay (records_after r x) (record a { promise = Some v.ballot; vote = put a.vote v.slot (Some v) }))
+    (sym written)
     (RecordsSay-vote r a v fits says le)
 
 -- records that say what an acceptor holds say so after an accept and its write

@@ -1,5 +1,6 @@
 -- Records say one thing: no two votes that fit are spelled alike.
-use Rattle.std.proofs.Common.{◌≡◌, ℕ, ◌≤◌, List, [], ◌++◌, Ok, Option, Some, None, IfSome, option_map, inl, inr, refl, sym, ap, ◌∙◌, subst, arith}
+use Rattle.std.proofs.Common.{◌≡◌, ℕ, ◌≤◌, List, [], ◌++◌, Ok, Option, Some, None, IfSome, option_map, inl, inr, refl, sym, ap, ◌∙◌, subst}
+use Rattle.std.proofs.Common.{arith}
 use Rattle.synod.specs.Ballots.{rank, rank_of}
 use Rattle.synod.specs.declared.ballot.Ballot.{Ballot}
 use Rattle.synod.specs.declared.vote.Vote.{Vote}
@@ -29,15 +30,18 @@ vote_record v fits = record { ballot = fits.ballot; command = fits.command; spel
 -- votes that fit, at one slot, and are spelled alike
 pub one_vote : (a b : Vote Command) → VoteFits a → VoteFits b → a.slot ≡ b.slot → vote_bytes a ≡ vote_bytes b → a ≡ b
 one_vote a b fits_a fits_b slot e =
-    let read_a : choice_at (vote_bytes a) ≡ Ok ((a.ballot, a.command), []) = record_is_choice (vote_bytes a) a.ballot a.command (vote_record a fits_a) in
-    let read_b : choice_at (vote_bytes b) ≡ Ok ((b.ballot, b.command), []) = record_is_choice (vote_bytes b) b.ballot b.command (vote_record b fits_b) in
+    let read_a : choice_at (vote_bytes a) ≡ Ok ((a.ballot, a.command), []) =
+    record_is_choice (vote_bytes a) a.ballot a.command (vote_record a fits_a) in
+    let read_b : choice_at (vote_bytes b) ≡ Ok ((b.ballot, b.command), []) =
+    record_is_choice (vote_bytes b) b.ballot b.command (vote_record b fits_b) in
     let same : ((a.ballot, a.command), []) ≡ ((b.ballot, b.command), []) =
     ok_is ((a.ballot, a.command), []) ((b.ballot, b.command), []) (sym read_a ∙ ap choice_at e ∙ read_b) in
     let ballot : a.ballot ≡ b.ballot = ap (λ (p : (Ballot × Command) × List ℕ). p.0.0) same in
     let command : a.command ≡ b.command = ap (λ (p : (Ballot × Command) × List ℕ). p.0.1) same in
     λ i. record { slot = slot i; ballot = ballot i; command = command i }
 
-one_vote_at : (s : ℕ) (x y : Option (Vote Command)) → IfSome x (λ v. v.slot ≡ s) → IfSome y (λ v. v.slot ≡ s) → IfSome x VoteFits → IfSome y VoteFits
+one_vote_at : (s : ℕ) (x y : Option (Vote Command)) → IfSome x (λ v. v.slot ≡ s) → IfSome y (λ v. v.slot ≡ s) → IfSome x VoteFits
+    → IfSome y VoteFits
     → option_map vote_bytes x ≡ option_map vote_bytes y → x ≡ y
 one_vote_at s None None at_x at_y fits_x fits_y e = refl
 one_vote_at s None (Some v) at_x at_y fits_x fits_y e = absurd cc
@@ -46,7 +50,8 @@ one_vote_at s (Some v) (Some w) at_x at_y fits_x fits_y e =
     let bytes : vote_bytes v ≡ vote_bytes w = cc in
     ap Some (one_vote v w fits_x fits_y (at_x ∙ sym at_y) bytes)
 
-one_promise_record : (x y : Option Ballot) → IfSome x BallotFits → IfSome y BallotFits → option_map ballot_bytes x ≡ option_map ballot_bytes y → x ≡ y
+one_promise_record : (x y : Option Ballot) → IfSome x BallotFits → IfSome y BallotFits
+    → option_map ballot_bytes x ≡ option_map ballot_bytes y → x ≡ y
 one_promise_record None None fits_x fits_y e = refl
 one_promise_record None (Some b) fits_x fits_y e = absurd cc
 one_promise_record (Some a) None fits_x fits_y e = absurd cc
@@ -55,31 +60,42 @@ one_promise_record (Some a) (Some b) fits_x fits_y e =
     ap Some (one_ballot a b fits_x fits_y bytes)
 
 module _ (records : Records) (a b : Accepting) (says_a : RecordsSay records a) (says_b : RecordsSay records b) where
-  pub one_vote_each : (s : ℕ) → a.vote s ≡ b.vote s
-  one_vote_each s = one_vote_at s (a.vote s) (b.vote s) (says_a.at_its_slot s) (says_b.at_its_slot s) (says_a.votes_fit s) (says_b.votes_fit s)
-      (sym (says_a.vote_record s) ∙ says_b.vote_record s)
+  pub one_floor : a.floor ≡ b.floor
+  one_floor = says_a.floor ∙ sym says_b.floor
+
+  pub one_vote_each : (s : ℕ) → a.floor ≤ s → a.vote s ≡ b.vote s
+  one_vote_each s from =
+      let also : b.floor ≤ s = omega (arith, one_floor, from) in
+      one_vote_at s (a.vote s) (b.vote s) (says_a.at_its_slot s from) (says_b.at_its_slot s also) (says_a.votes_fit s from)
+      (says_b.votes_fit s also)
+      (sym (says_a.vote_record s from) ∙ says_b.vote_record s also)
 
   one_record : says_a.promised ≡ says_b.promised
   one_record = one_promise_record says_a.promised says_b.promised says_a.promised_fits says_b.promised_fits
       (sym says_a.promise_record ∙ says_b.promise_record)
 
 -- the greatest is not above another
-at_most : (promised : Option Ballot) (vote : ℕ → Option (Vote Command)) (p q : Option Ballot) → IsGreatest promised vote p
-    → rank_of promised ≤ rank_of q → ((s : ℕ) → IfSome (vote s) (λ v. rank v.ballot ≤ rank_of q)) → rank_of p ≤ rank_of q
-at_most promised vote p q greatest record_low votes_low =
+at_most : (promised : Option Ballot) (floor : ℕ) (vote : ℕ → Option (Vote Command)) (p q : Option Ballot)
+    → IsGreatest promised floor vote p → rank_of promised ≤ rank_of q
+    → ((s : ℕ) → floor ≤ s → IfSome (vote s) (λ v. rank v.ballot ≤ rank_of q)) → rank_of p ≤ rank_of q
+at_most promised floor vote p q greatest record_low votes_low =
     elim greatest.among_them [
       | inl e ↦ subst (λ (x : Option Ballot). rank_of x ≤ rank_of q) (sym e) record_low
       | inr w ↦
-          let low : IfSome (Some w.1) (λ (v : Vote Command). rank v.ballot ≤ rank_of q) = rw w.2 at (votes_low w.0) in
+          let low : IfSome (Some w.1) (λ (v : Vote Command). rank v.ballot ≤ rank_of q) = rw w.2 at (votes_low w.0 w.4) in
           subst (λ (x : Option Ballot). rank_of x ≤ rank_of q) (sym w.3) low
     ]
 
-not_above : (records : Records) (a b : Accepting) (says_a : RecordsSay records a) (says_b : RecordsSay records b) → rank_of a.promise ≤ rank_of b.promise
+not_above : (records : Records) (a b : Accepting) (says_a : RecordsSay records a) (says_b : RecordsSay records b)
+    → rank_of a.promise ≤ rank_of b.promise
 not_above records a b says_a says_b =
-    at_most says_a.promised a.vote a.promise b.promise says_a.promise
-    (subst (λ (x : Option Ballot). rank_of x ≤ rank_of b.promise) (sym (one_record records a b says_a says_b)) says_b.promise.not_below_the_record)
-    (λ s. subst (λ (x : Option (Vote Command)). IfSome x (λ v. rank v.ballot ≤ rank_of b.promise)) (sym (one_vote_each records a b says_a says_b s))
-    (says_b.promise.not_below_a_vote s))
+    at_most says_a.promised a.floor a.vote a.promise b.promise says_a.promise
+    (subst (λ (x : Option Ballot). rank_of x ≤ rank_of b.promise)
+    (sym (one_record records a b says_a says_b)) says_b.promise.not_below_the_record)
+    (λ s from. subst (λ (x : Option (Vote Command)). IfSome x (λ v. rank v.ballot ≤ rank_of b.promise))
+    (sym (one_vote_each records a b says_a says_b s from))
+    (says_b.promise.not_below_a_vote s (omega (arith, one_floor records a b says_a says_b, from))))
 
-pub one_promise : (records : Records) (a b : Accepting) (says_a : RecordsSay records a) (says_b : RecordsSay records b) → rank_of a.promise ≡ rank_of b.promise
+pub one_promise : (records : Records) (a b : Accepting) (says_a : RecordsSay records a) (says_b : RecordsSay records b)
+    → rank_of a.promise ≡ rank_of b.promise
 one_promise records a b says_a says_b = omega (arith, not_above records a b says_a says_b, not_above records b a says_b says_a)

@@ -1,5 +1,6 @@
 -- Votes in a map by slot.
-use Rattle.std.proofs.Common.{◌≡◌, ℕ, Option, Some, None, Result, Ok, Err, refl, ap, ◌∙◌, sym, arith, inl, inr, IsSome, IfSome, OnOk, OnErr, option_map}
+use Rattle.std.proofs.Common.{◌≡◌, ℕ, Option, Some, None, Result, Ok, Err, refl, ap, ◌∙◌, sym, arith, inl, inr, IsSome, IfSome, OnOk, OnErr}
+use Rattle.std.proofs.Common.{option_map}
 use Rattle.std.specs.Ordering.{nat_cmp}
 use Rattle.std.specs.BTreeMap.{BTreeMap, get, Updates}
 use Rattle.std.proofs.lemmas.Grind.{common_steps}
@@ -24,7 +25,8 @@ never_refused (Ok x) o there bad good = good
 never_refused (Err e) o there bad good = absurd (some_not_none o there bad)
 
 -- a change of a map at one slot is a change of its votes at that slot
-pub get-updated : {X : Type 0} (m n : BTreeMap ℕ X) (slot : ℕ) (w : Option X) → Updates nat_cmp m n slot w → (s : ℕ) → get nat_cmp n s ≡ put (get nat_cmp m) slot w s
+pub get-updated : {X : Type 0} (m n : BTreeMap ℕ X) (slot : ℕ) (w : Option X) → Updates nat_cmp m n slot w → (s : ℕ)
+    → get nat_cmp n s ≡ put (get nat_cmp m) slot w s
 get-updated m n slot w u s = grind (arith, common_steps, nat_tests, u.0 s)
 
 -- a vote that was cast under this ballot for this command
@@ -32,7 +34,8 @@ pub same_vote : (cast : Cast) (v : Vote Command) → cast.ballot ≡ v.ballot �
 same_vote cast v b d = rw (b, d) refl
 
 -- the command of a vote that the map tells
-pub command_told : (cast : Cast) (v : Vote Command) (found : Option Cast) → found ≡ Some cast → option_map (vote_at v.slot) found ≡ Some v → cast.command ≡ v.command
+pub command_told : (cast : Cast) (v : Vote Command) (found : Option Cast) → found ≡ Some cast → option_map (vote_at v.slot) found ≡ Some v
+    → cast.command ≡ v.command
 command_told cast v found is e =
     let told : Some (vote_at v.slot cast) ≡ Some v = sym (ap (option_map (vote_at v.slot)) is) ∙ e in
     cc
@@ -67,7 +70,12 @@ cast_write a v taken fresh = record { refused = rw taken tt; already = λ e. abs
 -- there is nothing to write where the vote stands there already
 pub no_write : (a : Accepting) (v : Vote Command) → a.vote v.slot ≡ Some v → IsAcceptWrite a v None
 no_write a v cast =
-    record { refused = always (refusing a.promise v.ballot) refl; already = λ _. refl; cast = λ _ fresh. absurd (fresh cast); nothing = λ _. inr cast }
+    record {
+      refused = always (refusing a.promise v.ballot) refl;
+      already = λ _. refl;
+      cast = λ _ fresh. absurd (fresh cast);
+      nothing = λ _. inr cast;
+    }
 
 -- there is nothing to write where the ballot is refused
 pub refused_write : (a : Accepting) (v : Vote Command) (p : Ballot) → refusing a.promise v.ballot ≡ Some p → IsAcceptWrite a v None

@@ -47,27 +47,27 @@ abbrev pub put : {A : Type 0} → (ℕ → A) → ℕ → A → ℕ → A
 put f i x j = if j == i then x else f j
 
 -- ---- what the records say
--- the promise is the greatest of record Promise and of the ballots of all votes, and none without
-pub record IsGreatest (promised : Option Ballot) (vote : ℕ → Option (Vote Command))
+-- the promise is the greatest of record Promise and of the ballots of all votes from the floor on, and none without
+pub record IsGreatest (promised : Option Ballot) (floor : ℕ) (vote : ℕ → Option (Vote Command))
     (promise : Option Ballot) : Type 0 where
   pub not_below_the_record : rank_of promised ≤ rank_of promise
-  pub not_below_a_vote : (s : ℕ) → IfSome (vote s) (λ v. rank v.ballot ≤ rank_of promise)
+  pub not_below_a_vote : (s : ℕ) → floor ≤ s → IfSome (vote s) (λ v. rank v.ballot ≤ rank_of promise)
   pub among_them : (promise ≡ promised)
-      ⊎ ((s : ℕ) × (v : Vote Command) × (vote s ≡ Some v) × (promise ≡ Some v.ballot))
+      ⊎ ((s : ℕ) × (v : Vote Command) × (vote s ≡ Some v) × (promise ≡ Some v.ballot) × (floor ≤ s))
 
--- each record is the spelling of what the acceptor holds
+-- each record is the spelling of what the acceptor holds: of the votes, from the floor on
 pub record RecordsSay (records : Key → Option (List ℕ)) (a : Accepting) : Type 0 where
   -- what record Promise holds
   pub promised : Option Ballot
   pub promise_record : records key.Promise ≡ option_map ballot_bytes promised
-  pub vote_record : (s : ℕ) → records (key.Vote s) ≡ option_map vote_bytes (a.vote s)
-  pub at_its_slot : (s : ℕ) → IfSome (a.vote s) (λ v. v.slot ≡ s)
-  pub promise : IsGreatest promised a.vote a.promise
+  pub vote_record : (s : ℕ) → a.floor ≤ s → records (key.Vote s) ≡ option_map vote_bytes (a.vote s)
+  pub at_its_slot : (s : ℕ) → a.floor ≤ s → IfSome (a.vote s) (λ v. v.slot ≡ s)
+  pub promise : IsGreatest promised a.floor a.vote a.promise
   -- no record raises the floor
   pub floor : a.floor ≡ zero
   -- each fits its record, so that no two are spelled alike
   pub promised_fits : IfSome promised BallotFits
-  pub votes_fit : (s : ℕ) → IfSome (a.vote s) VoteFits
+  pub votes_fit : (s : ℕ) → a.floor ≤ s → IfSome (a.vote s) VoteFits
 
 -- ---- a ballot is refused or promised
 -- the promise that refuses the ballot: the acceptor's, where the ballot is below it

@@ -1,5 +1,5 @@
 -- What an acceptor's state and its answers are to the protocol.
-use Rattle.std.specs.Prelude.{◌≡◌, ℕ, List, [], ◌∷◌, ◌++◌}
+use Rattle.std.specs.Prelude.{◌≡◌, ℕ, ◌≤◌, List, [], ◌∷◌, ◌++◌}
 use Rattle.synod.specs.Ballots.{rank_of}
 use Rattle.synod.specs.Messages as synod
 use Rattle.synod.specs.Messages.{Frame, Plain, to_first}
@@ -10,10 +10,11 @@ use Rattle.acceptor.specs.declared.answer.Answer.{Answer}
 use Rattle.acceptor.specs.declared.answer.Answer.TheVariants.{Promise, Accepted, Nack}
 use Rattle.acceptor.specs.Accepting.{Accepting}
 
--- the protocol's records say what the acceptor holds, and the round that its node has begun last
+-- the protocol's records say what the acceptor holds, of the votes from the floor on, and the round that its node has
+-- begun last
 pub record RecordsStand (a : Accepting) (round : ℕ) (r : synod_records.Records Command) : Type 0 where
   pub promise : r.promise ≡ rank_of a.promise
-  pub vote : (s : ℕ) → r.vote s ≡ a.vote s
+  pub vote : (s : ℕ) → a.floor ≤ s → r.vote s ≡ a.vote s
   pub round_ : r.round ≡ round
   pub floor_ : r.floor ≡ a.floor
 

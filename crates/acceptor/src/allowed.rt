@@ -2,7 +2,7 @@
 //!
 //! Each law is the contract of a function that does nothing.
 
-ghost use Rattle.std.specs.Prelude.{◌≡◌, ℕ};
+ghost use Rattle.std.specs.Prelude.{◌≡◌, ℕ, ◌≤◌};
 ghost use Rattle.synod.specs.Ballots.{rank_of};
 ghost use Rattle.synod.specs.declared.ballot.Ballot.{Ballot};
 ghost use Rattle.synod.specs.declared.vote.Vote.{Vote};
@@ -34,10 +34,13 @@ pub fn accept_is_allowed()
         → MayAnswer f i input x (after_accept a v) round (answer_frames i nodes to (accept_answer a v)) }
 {}
 
-/// Records say one thing: what two acceptors hold of whom they say it is the same, as far as ranks and votes go.
+/// Records say one thing: what two acceptors hold of whom they say it is the same, as far as ranks, floors and the votes
+/// from the floor on go.
 pub fn records_say_one()
     ensures promise { (records : Records) (a b : Accepting) → RecordsSay records a → RecordsSay records b
         → rank_of a.promise ≡ rank_of b.promise }
+    ensures floor { (records : Records) (a b : Accepting) → RecordsSay records a → RecordsSay records b
+        → a.floor ≡ b.floor }
     ensures vote { (records : Records) (a b : Accepting) → RecordsSay records a → RecordsSay records b
-        → (s : ℕ) → a.vote s ≡ b.vote s }
+        → (s : ℕ) → a.floor ≤ s → a.vote s ≡ b.vote s }
 {}

@@ -13,6 +13,3 @@ pub use acceptor::Acceptor;
 pub use allowed::{accept_is_allowed, prepare_is_allowed, records_say_one};
 pub use answer::Answer;
 pub use kept::{accept_keeps_records, prepare_keeps_records};
-
-#[cfg(test)]
-mod tests;

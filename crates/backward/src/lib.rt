@@ -7,9 +7,6 @@
 ghost use Rattle.std.specs.Prelude.{◌≡◌, ◌+◌, ◌≤◌, ◌∷◌, ◌++◌, length, drop};
 ghost use Rattle.std.specs.Fmt.{signed_decimal};
 
-#[cfg(test)]
-mod tests;
-
 use itoa::{Buffer, write_digits};
 
 /// The bytes that a whole number of 64 bits takes at most, with its sign.

@@ -1,8 +1,8 @@
 -- What a time index is asked for.
 use Rattle.std.specs.Prelude.{◌≡◌, ℕ, zero, suc, ◌+◌, ◌*◌, ◌%◌, max, List, [], length}
-use Rattle.tpoint.specs.Extents.{Span}
+use Rattle.tpoint.specs.Extents.{Span, closed}
 use Rattle.timeindex.specs.Entries.{with_entry, ids_overlapping}
-use Rattle.timeindex.specs.declared.entry.Entry.{Entry}
+use Rattle.timeindex.specs.Entries.{Entry}
 use Rattle.benchmarks.specs.declared.numbers.TheConstants.{STEP}
 use Rattle.benchmarks.specs.declared.scene.TheConstants.{START, EVERY, SHORT}
 use Rattle.benchmarks.specs.Fleets.{name_at}
@@ -21,10 +21,8 @@ entries_of (suc place) = with_entry (entries_of place) (entry_at place)
 
 -- the short period of a round: a step later than that of the round before, and from the start again
 abbrev pub period_of : ℕ → ℕ → Span
-period_of entries round = record {
-  begin = START + round * STEP % (EVERY * max entries 1);
-  end = START + round * STEP % (EVERY * max entries 1) + SHORT;
-}
+period_of entries round =
+    closed (START + round * STEP % (EVERY * max entries 1)) (START + round * STEP % (EVERY * max entries 1) + SHORT)
 
 -- one more than the number of entries that overlap the round's period
 pub record IsOverlapNumber (index : List Entry) (entries round number : ℕ) : Type 0 where

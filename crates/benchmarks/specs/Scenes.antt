@@ -3,7 +3,7 @@ use Rattle.std.specs.Prelude.{◌≡◌, ℕ, ◌+◌, ◌-◌, ◌*◌, ◌/◌
 use Rattle.tpoint.specs.declared.point.Point.{Point}
 use Rattle.tpoint.specs.declared.interp.Interp.TheVariants.{Linear}
 use Rattle.tpoint.specs.declared.coordinate.TheConstants.{FURTHEST}
-use Rattle.tpoint.specs.Extents.{Area}
+use Rattle.tpoint.specs.Extents.{Area, closed}
 use Rattle.benchmarks.specs.Sums.{AreEach}
 use Rattle.benchmarks.specs.declared.scene.Scene.{Scene}
 use Rattle.benchmarks.specs.declared.scene.TheConstants.{START, EVERY, SHORT}
@@ -32,11 +32,8 @@ pub record IsScene (points : ℕ) (s : Scene) : Type 0 where
   pub interp : s.feature.seq.interp ≡ Linear
   pub fixes : AreFixes points s.feature.seq.points
   pub extent : s.extent ≡ extent_of points
-  pub middle : s.middle ≡ record {
-    begin = START + extent_of points / 2;
-    end = START + extent_of points / 2 + SHORT;
-  }
-  pub whole : s.whole ≡ record { begin = START; end = START + extent_of points }
+  pub middle : s.middle ≡ closed (START + extent_of points / 2) (START + extent_of points / 2 + SHORT)
+  pub whole : s.whole ≡ closed START (START + extent_of points)
   pub below : s.below ≡ area (1000 * points / 2) 0 (1000 * points) 10
   pub above : s.above ≡ area 0 (1000 * points / 2 + 600) 10 (1000 * points + 600)
   pub around : s.around ≡ area 0 0 (1000 * points) (1000 * points + 500)

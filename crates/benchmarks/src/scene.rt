@@ -1,6 +1,7 @@
 //! What is asked, and of what.
 
 ghost use Rattle.std.specs.Prelude.{◌≡◌, ℕ, ◌+◌, ◌*◌, ◌<◌, ◌≤◌, ◌⊎◌, pos, codes, IfOk, IfErr};
+ghost use Rattle.tpoint.specs.Extents.{closed};
 ghost use Rattle.tpoint.specs.Instants.{IsInstant};
 ghost use Rattle.benchmarks.specs.Scenes.{fix, AreFixes, area, all_positions};
 
@@ -109,7 +110,7 @@ pub fn period(begin: u64, end: u64) -> Period
     requires begins { IsInstant (pos begin) }
     requires ends { IsInstant (pos end) }
     requires ordered { begin ≤ end }
-    ensures { result ≡ record { begin = begin; end = end } }
+    ensures { result ≡ closed begin end }
 {
     Period::new(instant(begin), instant(end)).unwrap()
 }

@@ -40,4 +40,5 @@ folder_is_found given found Check folder rows is = is
 
 -- so is the name
 pub given_name_is : (m : ArgMatches) → given_name (subcommand_rows_of m) ≡ subcommand_name_of m
-given_name_is m = elim (out-ArgMatches m).subcommand as (λ o. given_name (subcommand_rows o) ≡ option_map (λ b. (out-SubCommand (box_value b)).name.now) o) [ None ↦ refl | Some b ↦ refl ]
+given_name_is m = elim (out-ArgMatches m).subcommand as (λ o. given_name (subcommand_rows o) ≡ option_map
+    (λ b. (out-SubCommand (box_value b)).name.now) o) [ None ↦ refl | Some b ↦ refl ]

@@ -1,5 +1,6 @@
 -- What words name, and which words are refused.
-use Rattle.std.proofs.Common.{◌≡◌, ◌≢◌, ◌⊎◌, ◌∙◌, ap, ap₂, sym, refl, inl, inr, ℕ, arith, length, List, [], ◌∷◌, Option, Some, None, codes, true, false}
+use Rattle.std.proofs.Common.{◌≡◌, ◌≢◌, ◌⊎◌, ◌∙◌, ap, ap₂, sym, refl, inl, inr, ℕ, arith, length, List, [], ◌∷◌, Option, Some, None, codes}
+use Rattle.std.proofs.Common.{true, false}
 use Rattle.std.proofs.Common.{map, IsSome, IsNone, IfErr, IfSome, MatchResult, unwrap_or, subst, Bor}
 use Rattle.std.specs.Option.{ok_or}
 use Rattle.clap.specs.Words.{HasKind, Row, Text, fault_of, kind_of, subcommand_of}
@@ -11,7 +12,8 @@ use Rattle.jobs.specs.declared.job.Source.{Source}
 use Rattle.jobs.specs.declared.job.Source.TheVariants.{Input, File}
 use Rattle.jobs.specs.declared.job.Work.{Work}
 use Rattle.jobs.specs.declared.job.Work.TheVariants.{Replay, Check}
-use Rattle.commandline.specs.Forms.{AskFor, IsFolderOf, IsForm, NameInput, NameSource, Names, file_of, forms, given_file, given_folder, given_name, name_of, text_of}
+use Rattle.commandline.specs.Forms.{AskFor, IsFolderOf, IsForm, NameInput, NameSource, Names, file_of, forms, given_file, given_folder}
+use Rattle.commandline.specs.Forms.{given_name, name_of, text_of}
 
 some_is : (a b : Text) → Some a ≡ Some b → a ≡ b
 some_is a b e = ap (λ (t : Option Text). unwrap_or t []) e

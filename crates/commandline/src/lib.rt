@@ -6,8 +6,6 @@
 #![tactic(auto)]
 
 mod fault;
-#[cfg(test)]
-mod tests;
 mod words;
 
 pub use fault::WordsFault;

@@ -6,8 +6,6 @@
 #![tactic(auto)]
 
 mod failure;
-#[cfg(test)]
-mod tests;
 mod tracked;
 
 pub use failure::{Failure, FaultyDocument, FaultyLine, device_failure};

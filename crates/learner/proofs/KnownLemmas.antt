@@ -1,5 +1,6 @@
 -- What is known of slots of which the first lie in a row.
-use Rattle.std.proofs.Common.{◌≡◌, ◌≢◌, ℕ, zero, suc, ◌++◌, ◌∷◌, [], length, List, Option, Some, None, slice_get, is_some, Bool, true, false, Result, Ok, Err, OnOk, IfOk, refl}
+use Rattle.std.proofs.Common.{◌≡◌, ◌≢◌, ℕ, zero, suc, ◌++◌, ◌∷◌, [], length, List, Option, Some, None, slice_get, is_some, Bool, true}
+use Rattle.std.proofs.Common.{false, Result, Ok, Err, OnOk, IfOk, refl}
 use Rattle.std.proofs.Common.{sym, ap, subst, ◌∙◌, inl, inr}
 use Rattle.std.proofs.lemmas.Bool.Decides.{nat_tests, eqb_tells}
 use Rattle.synod.specs.Records.{put}
@@ -101,29 +102,30 @@ pub row_covers : {B : Type 0} (read : Command → B) (row : List Command) (c : C
 row_covers read row c f g n there here e = row_longer read row c f g n there here (λ s apart. ap (λ h. h s) e)
 
 -- the news of a vote, for a slot that is not of the row
-module _ (nodes from : ℕ) (v : Vote Command) (row : List Command) (learnt learnt_then : ℕ → Option Command) (heard heard_then : ℕ → Heard) where
-  abbrev Hears : Bool → Type 0
-  Hears learns = SlotHears nodes (in_row Some row learnt) (in_row (λ _. unheard) row heard) from v learns
-      (in_row Some row learnt_then) (in_row (λ _. unheard) row heard_then)
+module _ (nodes from : ℕ) (v : Vote Command) (row : List Command) (learnt learnt_then : ℕ → Option Command) (heard heard_then : ℕ → Heard)
+  where
+    abbrev Hears : Bool → Type 0
+    Hears learns = SlotHears nodes (in_row Some row learnt) (in_row (λ _. unheard) row heard) from v learns
+        (in_row Some row learnt_then) (in_row (λ _. unheard) row heard_then)
 
-  hears_behind : (learns : Bool) → slice_get row v.slot ≡ None → SlotHears nodes learnt heard from v learns learnt_then heard_then
-      → Hears learns
-  hears_behind learns behind h = record {
-    turns = rw behind h.turns;
-    learnt_elsewhere = moved Some learnt learnt_then h.learnt_elsewhere;
-    heard_elsewhere = moved (λ _. unheard) heard heard_then h.heard_elsewhere;
-  }
-    where
-      moved : {B : Type 0} (read : Command → B) (f g : ℕ → B) → g ≡ put f v.slot (g v.slot)
-          → in_row read row g ≡ put (in_row read row f) v.slot (in_row read row g v.slot)
-      moved read f g e =
-          ap (in_row read row) e ∙ row_put read row f v.slot (g v.slot) behind
-          ∙ ap (put (in_row read row f) v.slot) (sym (behind_reads read row g v.slot behind))
+    hears_behind : (learns : Bool) → slice_get row v.slot ≡ None → SlotHears nodes learnt heard from v learns learnt_then heard_then
+        → Hears learns
+    hears_behind learns behind h = record {
+      turns = rw behind h.turns;
+      learnt_elsewhere = moved Some learnt learnt_then h.learnt_elsewhere;
+      heard_elsewhere = moved (λ _. unheard) heard heard_then h.heard_elsewhere;
+    }
+      where
+        moved : {B : Type 0} (read : Command → B) (f g : ℕ → B) → g ≡ put f v.slot (g v.slot)
+            → in_row read row g ≡ put (in_row read row f) v.slot (in_row read row g v.slot)
+        moved read f g e =
+            ap (in_row read row) e ∙ row_put read row f v.slot (g v.slot) behind
+            ∙ ap (put (in_row read row f) v.slot) (sym (behind_reads read row g v.slot behind))
 
-  pub hears_behind_ok : {E : Type 0} (r : Result Bool E) → slice_get row v.slot ≡ None
-      → IfOk r (λ learns. SlotHears nodes learnt heard from v learns learnt_then heard_then) → IfOk r Hears
-  hears_behind_ok (Ok learns) behind h = hears_behind learns behind h
-  hears_behind_ok (Err e) behind h = tt
+    pub hears_behind_ok : {E : Type 0} (r : Result Bool E) → slice_get row v.slot ≡ None
+        → IfOk r (λ learns. SlotHears nodes learnt heard from v learns learnt_then heard_then) → IfOk r Hears
+    hears_behind_ok (Ok learns) behind h = hears_behind learns behind h
+    hears_behind_ok (Err e) behind h = tt
 
 -- of a slot that is of the row nothing is heard any more
 pub hears_settled : (nodes from : ℕ) (v : Vote Command) (learnt : ℕ → Option Command) (heard : ℕ → Heard) → (learnt v.slot ≡ None → ⊥)

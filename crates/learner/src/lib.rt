@@ -17,6 +17,3 @@ pub use allowed::{decided_is_allowed, prefix_never_falls, vote_is_allowed};
 pub use learned::Learned;
 pub use learner::Learner;
 pub use prefixes::prefix_is_first_unlearnt;
-
-#[cfg(test)]
-mod tests;

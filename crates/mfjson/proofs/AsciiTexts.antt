@@ -68,7 +68,8 @@ same xs ys e low = subst Low (sym e) low
 
 three : (b : ℕ) → IsLow b → (xs ys zs : List ℕ) → Low xs → Low ys → Low zs → Low (xs ++ b ∷ [] ++ ys ++ b ∷ [] ++ zs)
 three b h xs ys zs p q r =
-    both (xs ++ b ∷ [] ++ ys ++ b ∷ []) zs (both (xs ++ b ∷ [] ++ ys) (b ∷ []) (both (xs ++ b ∷ []) ys (both xs (b ∷ []) p (mark b h)) q) (mark b h)) r
+    both (xs ++ b ∷ [] ++ ys ++ b ∷ []) zs (both (xs ++ b ∷ [] ++ ys) (b ∷ []) (both (xs ++ b ∷ []) ys (both xs (b ∷ []) p (mark b h)) q)
+    (mark b h)) r
 
 dash : IsLow 45
 dash = record { from_35 = omega arith; below_128 = omega arith; other = λ e. omega (arith, e) }
@@ -87,15 +88,18 @@ letter_z = record { from_35 = omega arith; below_128 = omega arith; other = λ e
 
 low_date : (text : List ℕ) (n : ℕ) → IsDateText text n → Low text
 low_date text n d =
-    same text _ d.spelling (three 45 dash (digits 4 d.year) (digits 2 d.month) (digits 2 d.day) (low_digits 4 d.year) (low_digits 2 d.month) (low_digits 2 d.day))
+    same text _ d.spelling (three 45 dash (digits 4 d.year) (digits 2 d.month) (digits 2 d.day) (low_digits 4 d.year) (low_digits 2 d.month)
+    (low_digits 2 d.day))
 
 low_clock : (text : List ℕ) (n : ℕ) → IsClockText text n → Low text
 low_clock text n k =
-    same text _ k.spelling (three 58 colon (digits 2 (n / 3600)) (digits 2 (n / 60 % 60)) (digits 2 (n % 60)) (low_digits 2 (n / 3600)) (low_digits 2 (n / 60 % 60)) (low_digits 2 (n % 60)))
+    same text _ k.spelling (three 58 colon (digits 2 (n / 3600)) (digits 2 (n / 60 % 60)) (digits 2 (n % 60)) (low_digits 2 (n / 3600))
+    (low_digits 2 (n / 60 % 60)) (low_digits 2 (n % 60)))
 
 low_second : (text : List ℕ) (n : ℕ) → IsSecondText text n → Low text
 low_second text n s =
-    same text _ s.spelling (both s.date (84 ∷ s.clock) (low_date s.date (n / 86400) s.is_date) (both (84 ∷ []) s.clock (mark 84 letter_t) (low_clock s.clock (n % 86400) s.is_clock)))
+    same text _ s.spelling (both s.date (84 ∷ s.clock) (low_date s.date (n / 86400) s.is_date)
+    (both (84 ∷ []) s.clock (mark 84 letter_t) (low_clock s.clock (n % 86400) s.is_clock)))
 
 low_datetime : (text : List ℕ) (t : ℕ) → IsDatetime text t → Low text
 low_datetime text t is =

@@ -42,10 +42,15 @@ pub spelled : (text : List ℕ) (hour minute second : ℕ) → HasRead text hour
     text ≡ digits 2 hour ++ (58 ∷ (digits 2 minute ++ (58 ∷ (digits 2 second ++ []))))
 spelled text hour minute second r =
     let h = r.long in
-    drop_part text 0 2 _ (omega arith) (drop_byte text 2 58 _ (omega arith) r.hour_end (drop_part text 3 5 _ (omega arith) (drop_byte text 5 58 _ (omega arith) r.minute_end (drop_part text 6 8 _ (omega arith) (drop_end text 8 h)))))
-    ∙ ap (λ p. p ++ (58 ∷ (slice_range text 3 5 ++ (58 ∷ (slice_range text 6 8 ++ []))))) (part text 0 2 hour (omega arith) (omega arith) (omega arith) h r.first)
-    ∙ ap (λ p. digits 2 hour ++ (58 ∷ (p ++ (58 ∷ (slice_range text 6 8 ++ []))))) (part text 3 5 minute (omega arith) (omega arith) (omega arith) h r.middle)
-    ∙ ap (λ p. digits 2 hour ++ (58 ∷ (digits 2 minute ++ (58 ∷ (p ++ []))))) (part text 6 8 second (omega arith) (omega arith) (omega arith) h r.last)
+    drop_part text 0 2 _ (omega arith) (drop_byte text 2 58 _ (omega arith) r.hour_end
+    (drop_part text 3 5 _ (omega arith) (drop_byte text 5 58 _ (omega arith) r.minute_end
+    (drop_part text 6 8 _ (omega arith) (drop_end text 8 h)))))
+    ∙ ap (λ p. p ++ (58 ∷ (slice_range text 3 5 ++ (58 ∷ (slice_range text 6 8 ++ [])))))
+    (part text 0 2 hour (omega arith) (omega arith) (omega arith) h r.first)
+    ∙ ap (λ p. digits 2 hour ++ (58 ∷ (p ++ (58 ∷ (slice_range text 6 8 ++ [])))))
+    (part text 3 5 minute (omega arith) (omega arith) (omega arith) h r.middle)
+    ∙ ap (λ p. digits 2 hour ++ (58 ∷ (digits 2 minute ++ (58 ∷ (p ++ [])))))
+    (part text 6 8 second (omega arith) (omega arith) (omega arith) h r.last)
 
 -- it is the text of this second alone
 pub clock_exact : (text : List ℕ) (hour minute second : ℕ) → HasRead text hour minute second → hour < 24 →

@@ -1,5 +1,6 @@
 -- The texts of a day.
-use Rattle.std.proofs.Common.{◌≡◌, ℕ, pos, ◌+◌, ◌^◌, ◌<◌, ◌≤◌, List, [], ◌∷◌, ◌++◌, length, get_or, Some, ◌↔◌, subst, arith, ap, sym, ◌∙◌, w8, w16}
+use Rattle.std.proofs.Common.{◌≡◌, ℕ, pos, ◌+◌, ◌^◌, ◌<◌, ◌≤◌, List, [], ◌∷◌, ◌++◌, length, get_or, Some, ◌↔◌, subst, arith, ap, sym, ◌∙◌}
+use Rattle.std.proofs.Common.{w8, w16}
 use mir.Val.{to_z}
 use Rattle.jiff_core.proofs.SignedLemmas.{signed_casts}
 use Rattle.std.specs.List.{slice_range}
@@ -46,10 +47,15 @@ part text from to count n a b size long is =
 pub date_spelled : (text : List ℕ) (year month day : ℕ) → length text ≡ 10 → HasDateParts text year month day →
     text ≡ date_text year month day
 date_spelled text year month day h r =
-    drop_part text 0 4 _ (omega arith) (drop_byte text 4 45 _ (omega arith) r.year_end (drop_part text 5 7 _ (omega arith) (drop_byte text 7 45 _ (omega arith) r.month_end (drop_part text 8 10 _ (omega arith) (drop_end text 10 h)))))
-    ∙ ap (λ p. p ++ (45 ∷ (slice_range text 5 7 ++ (45 ∷ (slice_range text 8 10 ++ []))))) (part text 0 4 4 year (omega arith) (omega arith) (omega arith) h r.first)
-    ∙ ap (λ p. digits 4 year ++ (45 ∷ (p ++ (45 ∷ (slice_range text 8 10 ++ []))))) (part text 5 7 2 month (omega arith) (omega arith) (omega arith) h r.middle)
-    ∙ ap (λ p. digits 4 year ++ (45 ∷ (digits 2 month ++ (45 ∷ (p ++ []))))) (part text 8 10 2 day (omega arith) (omega arith) (omega arith) h r.last)
+    drop_part text 0 4 _ (omega arith) (drop_byte text 4 45 _ (omega arith) r.year_end
+    (drop_part text 5 7 _ (omega arith) (drop_byte text 7 45 _ (omega arith) r.month_end
+    (drop_part text 8 10 _ (omega arith) (drop_end text 10 h)))))
+    ∙ ap (λ p. p ++ (45 ∷ (slice_range text 5 7 ++ (45 ∷ (slice_range text 8 10 ++ [])))))
+    (part text 0 4 4 year (omega arith) (omega arith) (omega arith) h r.first)
+    ∙ ap (λ p. digits 4 year ++ (45 ∷ (p ++ (45 ∷ (slice_range text 8 10 ++ [])))))
+    (part text 5 7 2 month (omega arith) (omega arith) (omega arith) h r.middle)
+    ∙ ap (λ p. digits 4 year ++ (45 ∷ (digits 2 month ++ (45 ∷ (p ++ [])))))
+    (part text 8 10 2 day (omega arith) (omega arith) (omega arith) h r.last)
 
 -- the parts are those of the date that it is the text of
 pub record IsSameDate (year month day y m d : ℕ) : Type 0 where
@@ -75,10 +81,18 @@ is_civil text year month day r number is =
     rw (s.years, s.months, s.days) (is.date, is.day_number)
 
 pub civil_is_date : (year month day : ℕ) → IsCivilDate (pos year) month day → IsDate (pos year) (pos month) (pos day)
-civil_is_date year month day c = (c.0, (omega (arith, signed_arith, c.1.0), omega (arith, signed_arith, c.1.1)), (omega (arith, signed_arith, c.2.0), omega (arith, signed_arith, c.2.1)))
+civil_is_date year month day c = (
+  c.0,
+  (omega (arith, signed_arith, c.1.0), omega (arith, signed_arith, c.1.1)),
+  (omega (arith, signed_arith, c.2.0), omega (arith, signed_arith, c.2.1)),
+)
 
 pub date_is_civil : (year month day : ℕ) → IsDate (pos year) (pos month) (pos day) → IsCivilDate (pos year) month day
-date_is_civil year month day c = (c.0, (omega (arith, signed_arith, c.1.0), omega (arith, signed_arith, c.1.1)), (omega (arith, signed_arith, c.2.0), omega (arith, signed_arith, c.2.1)))
+date_is_civil year month day c = (
+  c.0,
+  (omega (arith, signed_arith, c.1.0), omega (arith, signed_arith, c.1.1)),
+  (omega (arith, signed_arith, c.2.0), omega (arith, signed_arith, c.2.1)),
+)
 
 -- it is the text of this day alone
 pub date_exact : (text : List ℕ) (year month day : ℕ) → length text ≡ 10 → HasDateParts text year month day →
@@ -86,7 +100,15 @@ pub date_exact : (text : List ℕ) (year month day : ℕ) → length text ≡ 10
     IsDateText text n ↔ (Some m ≡ Some n)
 date_exact text year month day long r civil m e n = (
   λ is. let same : pos m ≡ pos n = sym e ∙ (is_civil text year month day r n is).1 in ap Some cc,
-  λ s. record { year = year; month = month; day = day; date = civil; day_number = e ∙ ap pos (same_Some m n s); spelling = date_spelled text year month day long r },
+  λ s. record {
+    year = year;
+    month = month;
+    day = day;
+    date = civil;
+    day_number = e
+        ∙ ap pos (same_Some m n s);
+    spelling = date_spelled text year month day long r;
+  },
 )
 
 -- ---- what the code casts
@@ -118,7 +140,8 @@ small_parts text year month day h r =
 -- the numbers that the calendar is asked with
 pub asked : (year month day : ℕ) → IsSmall year month day → IsCivilDate (pos year) month day →
     IsDate (to_z w16 year) (to_z w8 month) (to_z w8 day)
-asked year month day s civil = rw (year_cast year s.years, part_cast month s.months, part_cast day s.days) (civil_is_date year month day civil)
+asked year month day s civil = rw (year_cast year s.years, part_cast month s.months, part_cast day s.days)
+    (civil_is_date year month day civil)
 
 pub answered : (year month day : ℕ) → IsSmall year month day → IsDate (to_z w16 year) (to_z w8 month) (to_z w8 day) →
     IsCivilDate (pos year) month day

@@ -1,5 +1,6 @@
 -- Decimal digits, and lists cut at one place.
-use Rattle.std.proofs.Common.{◌≡◌, ℕ, zero, suc, ◌+◌, ◌-◌, ◌*◌, ◌/◌, ◌%◌, ◌^◌, ◌<◌, ◌≤◌, List, [], ◌∷◌, ◌++◌, length, All, get_or, take, drop, None, Some, ◌↔◌, subst, refl, arith, ap, sym, ◌∙◌}
+use Rattle.std.proofs.Common.{◌≡◌, ℕ, zero, suc, ◌+◌, ◌-◌, ◌*◌, ◌/◌, ◌%◌, ◌^◌, ◌<◌, ◌≤◌, List, [], ◌∷◌, ◌++◌, length, All, get_or, take}
+use Rattle.std.proofs.Common.{drop, None, Some, ◌↔◌, subst, refl, arith, ap, sym, ◌∙◌}
 use Rattle.std.proofs.Math.Seq.{drop-cons}
 use Rattle.std.proofs.Math.ListN.{drop_of_length-le}
 use Rattle.std.specs.List.{slice_range}
@@ -53,7 +54,8 @@ digits_injective (suc count) m n a b e =
 pub digits_are_digits : (count n : ℕ) → All IsAsciiDigit (digits count n)
 digits_are_digits zero n = λ k d h. absurd (omega (arith, h))
 digits_are_digits (suc count) n =
-    All-append IsAsciiDigit (digits count (n / 10)) ((48 + n % 10) ∷ []) (digits_are_digits count (n / 10)) (λ k d h. rw (zero_below k h) (last_is n))
+    All-append IsAsciiDigit (digits count (n / 10)) ((48 + n % 10) ∷ []) (digits_are_digits count (n / 10))
+    (λ k d h. rw (zero_below k h) (last_is n))
 
 -- one digit more
 pub digits_push : (count n d : ℕ) → d < 10 → digits (suc count) (n * 10 + d) ≡ digits count n ++ (48 + d) ∷ []
@@ -68,7 +70,10 @@ power_more i = rw (add-one i) (omega arith)
 -- one digit more was read
 pub number_step : (text : List ℕ) (i n : ℕ) → i < length text → IsAsciiDigit (get_or text i 0) → n < 10 ^ i →
     take i text ≡ digits i n →
-    record { below : n * 10 + (get_or text i 0 - 48) < 10 ^ (i + 1); read : take (i + 1) text ≡ digits (i + 1) (n * 10 + (get_or text i 0 - 48)) }
+    record {
+      below : n * 10 + (get_or text i 0 - 48) < 10 ^ (i + 1);
+      read : take (i + 1) text ≡ digits (i + 1) (n * 10 + (get_or text i 0 - 48));
+    }
 number_step text i n h digit below read =
     let d : ℕ = get_or text i 0 - 48 in
     let low : d < 10 = omega (arith, digit.0, digit.1) in
@@ -76,7 +81,8 @@ number_step text i n h digit below read =
     let power : 10 ^ (i + 1) ≡ 10 * 10 ^ i = power_more i in
     record {
       below = omega (arith, power, low, below);
-      read = take_more text i 0 h ∙ ap (λ xs. xs ++ get_or text i 0 ∷ []) read ∙ ap (λ x. digits i n ++ x ∷ []) (sym back) ∙ sym (digits_push i n d low) ∙ ap (λ k. digits k (n * 10 + d)) (sym (add-one i));
+      read = take_more text i 0 h ∙ ap (λ xs. xs ++ get_or text i 0 ∷ []) read ∙ ap (λ x. digits i n ++ x ∷ []) (sym back)
+          ∙ sym (digits_push i n d low) ∙ ap (λ k. digits k (n * 10 + d)) (sym (add-one i));
     }
 
 -- the number that was read is the only one

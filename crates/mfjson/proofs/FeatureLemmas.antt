@@ -1,5 +1,6 @@
 -- From what was read of a value to the feature that it stands for, or to the first fault.
-use Rattle.std.proofs.Common.{◌≡◌, ◌≢◌, ℕ, zero, suc, ℤ, [], ◌∷◌, ◌+◌, ◌<◌, List, map, length, codes, Some, refl, arith, ap, sym, subst, ◌∙◌, inl, inr}
+use Rattle.std.proofs.Common.{◌≡◌, ◌≢◌, ℕ, zero, suc, ℤ, [], ◌∷◌, ◌+◌, ◌<◌, List, map, length, codes, Some, refl, arith, ap, sym, subst}
+use Rattle.std.proofs.Common.{◌∙◌, inl, inr}
 use Rattle.std.specs.Prelude.{slice_get}
 use Rattle.std.proofs.lemmas.Bool.{cases_lt}
 use Rattle.std.proofs.lemmas.List.{length-map}
@@ -17,7 +18,8 @@ use Rattle.mfjson.specs.Pairs.{Pairwise}
 use Rattle.mfjson.specs.Document.{SaysInstant, SaysWhen, SaysWhere, StandsFor}
 use Rattle.mfjson.specs.Faults.{IsFirst, IsInstantText, IsPlace, SaysCoordinates, FallsAt, geometry, datetimes, coordinates}
 use Rattle.mfjson.specs.Outline.{IsOutline, FailsFirst, AreTogether, list_fault}
-use Rattle.mfjson.proofs.FirstFaults.{IsClear, clear_4, clear_5, clear_6, clear_7, clear_8, clear_9, clear_10, clear_11, clear_12, first_of, first_alone}
+use Rattle.mfjson.proofs.FirstFaults.{IsClear, clear_4, clear_5, clear_6, clear_7, clear_8, clear_9, clear_10, clear_11, clear_12, first_of}
+use Rattle.mfjson.proofs.FirstFaults.{first_alone}
 use Rattle.mfjson.proofs.Lists.{pairwise_length, pairwise_get, pairwise_back, pairwise_under, pairwise_weaker, none_fails}
 use Rattle.mfjson.proofs.OneFeature.{one_instant}
 use Rattle.mfjson.proofs.PartLemmas.{found, text_found, array_found}
@@ -49,25 +51,29 @@ clear_times d ts c when =
 
 clear_places : (d : Data) (ts : List ℕ) (cs : List (ℤ × ℤ)) → HasRead d ts cs → IsClear d 9
 clear_places d ts cs r =
-    clear_9 d (clear_times d ts r.clear r.when) (none_fails SaysCoordinates IsPlace (coordinates d) cs (λ e p says. record { p = p; says = says }) r.where_to)
+    clear_9 d (clear_times d ts r.clear r.when) (none_fails SaysCoordinates IsPlace (coordinates d) cs
+    (λ e p says. record { p = p; says = says }) r.where_to)
 
 -- ---- the first fault
 pub datetime_first : (d : Data) (id : List ℕ) (interp : Interp) (times places : List Data) (i : ℕ) → IsOutline d id interp times places →
     FailsFirst IsInstantText times i → IsFirst d (Datetime i)
 datetime_first d id interp times places i o f =
     let here = subst (λ ds. FailsFirst IsInstantText ds i) o.lists.times_are f in
-    first_of d (Datetime i) (clear_outline d id interp times places o) here.fails (λ j h g. let least = here.before j g in absurd (omega (arith, h, least)))
+    first_of d (Datetime i) (clear_outline d id interp times places o) here.fails
+    (λ j h g. let least = here.before j g in absurd (omega (arith, h, least)))
 
 pub coordinates_first : (d : Data) (id : List ℕ) (interp : Interp) (times places : List Data) (ts : List ℕ) (i : ℕ) →
     IsOutline d id interp times places → Pairwise SaysInstant times ts → FailsFirst IsPlace places i → IsFirst d (Coordinates i)
 coordinates_first d id interp times places ts i o when f =
     let here = subst (λ ds. FailsFirst IsPlace ds i) o.lists.places_are f in
     let read = subst (λ ds. Pairwise SaysInstant ds ts) o.lists.times_are when in
-    first_of d (Coordinates i) (clear_times d ts (clear_outline d id interp times places o) read) here.fails (λ j h g. let least = here.before j g in absurd (omega (arith, h, least)))
+    first_of d (Coordinates i) (clear_times d ts (clear_outline d id interp times places o) read) here.fails
+    (λ j h g. let least = here.before j g in absurd (omega (arith, h, least)))
 
 pub lengths_first : (d : Data) (ts : List ℕ) (cs : List (ℤ × ℤ)) → HasRead d ts cs → length ts ≢ length cs → IsFirst d Lengths
 lengths_first d ts cs r differ =
-    first_alone d Lengths (clear_places d ts cs r) (λ same. differ (sym (pairwise_length SaysInstant (datetimes d) ts r.when) ∙ same ∙ pairwise_length SaysCoordinates (coordinates d) cs r.where_to)) refl
+    first_alone d Lengths (clear_places d ts cs r) (λ same. differ (sym (pairwise_length SaysInstant (datetimes d) ts r.when) ∙ same
+    ∙ pairwise_length SaysCoordinates (coordinates d) cs r.where_to)) refl
 
 -- ---- the points
 abbrev PlaceOf : Point → ℤ × ℤ
@@ -76,10 +82,12 @@ PlaceOf p = (p.x, p.y)
 abbrev SaysPlaceOf : Data → Point → Type 0
 SaysPlaceOf d p = SaysCoordinates d (p.x, p.y)
 
-when_points : (ds : List Data) (ps : List Point) (ts : List ℕ) → map (λ (p : Point). p.t) ps ≡ ts → Pairwise SaysInstant ds ts → Pairwise SaysWhen ds ps
+when_points : (ds : List Data) (ps : List Point) (ts : List ℕ) → map (λ (p : Point). p.t) ps ≡ ts → Pairwise SaysInstant ds ts
+    → Pairwise SaysWhen ds ps
 when_points ds ps ts e w = pairwise_under SaysInstant (λ (p : Point). p.t) ds ps (subst (λ us. Pairwise SaysInstant ds us) (sym e) w)
 
-where_points : (ds : List Data) (ps : List Point) (cs : List (ℤ × ℤ)) → map (λ (p : Point). (p.x, p.y)) ps ≡ cs → Pairwise SaysCoordinates ds cs → Pairwise SaysPlaceOf ds ps
+where_points : (ds : List Data) (ps : List Point) (cs : List (ℤ × ℤ)) → map (λ (p : Point). (p.x, p.y)) ps ≡ cs
+    → Pairwise SaysCoordinates ds cs → Pairwise SaysPlaceOf ds ps
 where_points ds ps cs e w = pairwise_under SaysCoordinates PlaceOf ds ps (subst (λ us. Pairwise SaysCoordinates ds us) (sym e) w)
 
 in_bounds : (ds : List Data) (ps : List Point) → Pairwise SaysPlaceOf ds ps → (k : ℕ) → EachAt ps InBounds k
@@ -163,7 +171,8 @@ place_says e p s =
       y_is = s.says_y.whole;
     }
 
-pub feature_stands : (d : Data) (id : List ℕ) (interp : Interp) (times places : List Data) (ts : List ℕ) (cs : List (ℤ × ℤ)) (ps : List Point) →
+pub feature_stands : (d : Data) (id : List ℕ) (interp : Interp) (times places : List Data) (ts : List ℕ) (cs : List (ℤ × ℤ))
+    (ps : List Point) →
     IsOutline d id interp times places → HasRead d ts cs → AreTogether ps ts cs → IsValid (record { interp = interp; points = ps }) →
     StandsFor d (record { id = id; seq = record { interp = interp; points = ps } })
 feature_stands d id interp times places ts cs ps o r all valid =
@@ -183,7 +192,8 @@ feature_stands d id interp times places ts cs ps o r all valid =
         coordinates = array_found (codes "coordinates") (geometry d) moving.coordinates;
         interpolation = text_found (codes "interpolation") (geometry d) _ o.interp_is;
         when = when_points (datetimes d) ps ts all.when r.when;
-        where_to = pairwise_weaker SaysPlaceOf SaysWhere (coordinates d) ps place_says (where_points (coordinates d) ps cs all.where_to r.where_to);
+        where_to = pairwise_weaker SaysPlaceOf SaysWhere (coordinates d) ps place_says
+            (where_points (coordinates d) ps cs all.where_to r.where_to);
       };
       id_is = o.id_is.is_id;
       seq_is = valid;

@@ -4,8 +4,10 @@ use Rattle.std.proofs.lemmas.Bool.{cases_lt}
 use Rattle.serde_json.specs.Data.{Data}
 use Rattle.tpoint.specs.declared.seq.TheConstants.{MOST_POINTS}
 use Rattle.mfjson.specs.declared.fault.MfFault.{MfFault}
-use Rattle.mfjson.specs.declared.fault.MfFault.TheVariants.{NotJson, Members, NotFeature, Id, Geometry, Interpolation, Datetime, Coordinates, Lengths, Empty, TooMany, Order, Memory}
-use Rattle.mfjson.specs.Faults.{Breaks, IsFirst, code_of, place_of, HasFeatureMembers, SaysFeature, SaysId, IsMovingPoint, SaysInterp, IsInstantText, IsPlace, FailsAt, part, geometry, datetimes, coordinates}
+use Rattle.mfjson.specs.declared.fault.MfFault.TheVariants.{NotJson, Members, NotFeature, Id, Geometry, Interpolation, Datetime}
+use Rattle.mfjson.specs.declared.fault.MfFault.TheVariants.{Coordinates, Lengths, Empty, TooMany, Order, Memory}
+use Rattle.mfjson.specs.Faults.{Breaks, IsFirst, code_of, place_of, HasFeatureMembers, SaysFeature, SaysId, IsMovingPoint, SaysInterp}
+use Rattle.mfjson.specs.Faults.{IsInstantText, IsPlace, FailsAt, part, geometry, datetimes, coordinates}
 
 -- the fault of this number, at this place
 abbrev fault_at : ℕ → ℕ → MfFault

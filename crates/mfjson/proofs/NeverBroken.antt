@@ -10,10 +10,12 @@ use Rattle.tpoint.specs.Moving.{InBounds}
 use Rattle.tpoint.specs.Places.{EachAt}
 use Rattle.mfjson.specs.declared.feature.Feature.{Feature}
 use Rattle.mfjson.specs.declared.fault.MfFault.{MfFault}
-use Rattle.mfjson.specs.declared.fault.MfFault.TheVariants.{NotJson, Members, NotFeature, Id, Geometry, Interpolation, Datetime, Coordinates, Lengths, Empty, TooMany, Order, Memory}
+use Rattle.mfjson.specs.declared.fault.MfFault.TheVariants.{NotJson, Members, NotFeature, Id, Geometry, Interpolation, Datetime}
+use Rattle.mfjson.specs.declared.fault.MfFault.TheVariants.{Coordinates, Lengths, Empty, TooMany, Order, Memory}
 use Rattle.mfjson.specs.Pairs.{Pairwise}
 use Rattle.mfjson.specs.Document.{SaysWhen, SaysWhere, IsGeometry, StandsFor, IsDocumentOf, Shows}
-use Rattle.mfjson.specs.Faults.{Breaks, IsFirst, IsMovingPoint, IsInstantText, IsPlace, FailsAt, part, elements, geometry, datetimes, coordinates}
+use Rattle.mfjson.specs.Faults.{Breaks, IsFirst, IsMovingPoint, IsInstantText, IsPlace, FailsAt, part, elements, geometry, datetimes}
+use Rattle.mfjson.specs.Faults.{coordinates}
 use Rattle.mfjson.proofs.Lists.{pairwise_length, pairwise_get, none_fails}
 use Rattle.mfjson.proofs.OneFeature.{stands_for_one}
 use Rattle.mfjson.proofs.PartLemmas.{part_found, array_here, elements_here}
@@ -36,7 +38,8 @@ moving_point g f is =
     }
 
 -- a place of a point in range
-is_place : (ds : List Data) (ps : List Point) → Pairwise SaysWhere ds ps → ((k : ℕ) → EachAt ps InBounds k) → (i : ℕ) → ¬ FailsAt IsPlace ds i
+is_place : (ds : List Data) (ps : List Point) → Pairwise SaysWhere ds ps → ((k : ℕ) → EachAt ps InBounds k) → (i : ℕ)
+    → ¬ FailsAt IsPlace ds i
 is_place ds ps w all i f =
     let p = pairwise_get SaysWhere ds ps i f.element w f.here in
     let in_bounds = all i p.0 p.1 in
@@ -61,9 +64,11 @@ has_points d f s =
     let is = s.is_geometry in
     let g : geometry d ≡ s.geometry = part_found (codes "temporalGeometry") d s.geometry s.temporal_geometry in
     let times : datetimes d ≡ is.times =
-    ap (λ x. elements (part (codes "datetimes") x)) g ∙ elements_here (codes "datetimes") s.geometry is.times (array_here (codes "datetimes") s.geometry _ _ is.datetimes refl) in
+    ap (λ x. elements (part (codes "datetimes") x)) g ∙ elements_here (codes "datetimes") s.geometry is.times
+    (array_here (codes "datetimes") s.geometry _ _ is.datetimes refl) in
     let places : coordinates d ≡ is.places =
-    ap (λ x. elements (part (codes "coordinates") x)) g ∙ elements_here (codes "coordinates") s.geometry is.places (array_here (codes "coordinates") s.geometry _ _ is.coordinates refl) in
+    ap (λ x. elements (part (codes "coordinates") x)) g ∙ elements_here (codes "coordinates") s.geometry is.places
+    (array_here (codes "coordinates") s.geometry _ _ is.coordinates refl) in
     record {
       when = subst (λ ds. Pairwise SaysWhen ds f.seq.points) (sym times) is.when;
       where_to = subst (λ ds. Pairwise SaysWhere ds f.seq.points) (sym places) is.where_to;
@@ -129,7 +134,8 @@ told d f Empty s h = absurd (never_broken d f s Empty (h (λ e. cc)).broken)
 told d f TooMany s h = absurd (never_broken d f s TooMany (h (λ e. cc)).broken)
 told d f (Order i) s h = absurd (never_broken d f s (Order i) (h (λ e. cc)).broken)
 
-answered : (d : Data) (f : Feature) (r : Result Feature MfFault) → StandsFor d f → IfOk r (StandsFor d) → IfErr r (IsTold d) → IsAnswered f r
+answered : (d : Data) (f : Feature) (r : Result Feature MfFault) → StandsFor d f → IfOk r (StandsFor d) → IfErr r (IsTold d)
+    → IsAnswered f r
 answered d f (Ok g) s ok err = inl (ap (λ x. Ok x) (stands_for_one d g f ok s))
 answered d f (Err fault) s ok err = told d f fault s err
 

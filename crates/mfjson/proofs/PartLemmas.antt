@@ -41,7 +41,8 @@ array_some (Some (string s)) h = absurd (cc)
 array_some (Some (array ds)) h = ap (λ xs. Some (array xs)) (sym (items_back ds))
 array_some (Some (object ms)) h = absurd (cc)
 
-pub array_found : (name : List ℕ) (d : Data) → IsSome (as_array (part name d)) → get name d ≡ Some (array (items_of (elements (part name d))))
+pub array_found : (name : List ℕ) (d : Data) → IsSome (as_array (part name d))
+    → get name d ≡ Some (array (items_of (elements (part name d))))
 array_found name d h = array_some (get name d) h
 
 -- the array that is found under a name

@@ -1,5 +1,6 @@
 -- The lists of a document, written piece by piece.
-use Rattle.std.proofs.Common.{◌≡◌, ℕ, ℤ, pos, negsuc, ◌+◌, ◌<◌, List, [], ◌∷◌, ◌++◌, length, take, get_or, true, refl, ap, sym, ◌∙◌, append_assoc, append-nil}
+use Rattle.std.proofs.Common.{◌≡◌, ℕ, ℤ, pos, negsuc, ◌+◌, ◌<◌, List, [], ◌∷◌, ◌++◌, length, take, get_or, true, refl, ap, sym, ◌∙◌}
+use Rattle.std.proofs.Common.{append_assoc, append-nil}
 use Rattle.std.specs.Prelude.{flat_map}
 use Rattle.std.specs.Fmt.{signed_decimal}
 use Rattle.std.proofs.lemmas.List.{take_more, flat_map_more}
@@ -29,7 +30,8 @@ one_more R ps i old mid new d p h before r e =
 -- what follows the first element, and the bracket
 follows : (ds : List Data) → items_text true (items_of ds) ≡ flat_map after_comma ds ++ 93 ∷ []
 follows [] = refl
-follows (d ∷ ds) = ap (λ s. 44 ∷ (compact_text d ++ s)) (follows ds) ∙ sym (append_assoc (after_comma d) (flat_map after_comma ds) (93 ∷ []))
+follows (d ∷ ds) = ap (λ s. 44 ∷ (compact_text d ++ s)) (follows ds)
+    ∙ sym (append_assoc (after_comma d) (flat_map after_comma ds) (93 ∷ []))
 
 -- the whole array
 pub all_listed : (R : Data → Point → Type 0) (p : Point) (ps : List Point) (old mid more new : List ℕ) (d : Data) → R d p →

@@ -1,5 +1,6 @@
 -- The canonical document, as bytes: its pieces, its encoding, and that it is read back.
-use Rattle.std.proofs.Common.{◌≡◌, ℕ, ℤ, pos, negsuc, ◌≤◌, suc, Bool, true, false, List, [], ◌∷◌, ◌++◌, codes, Some, subst, refl, ap, sym, ◌∙◌, arith, append_assoc, append-nil}
+use Rattle.std.proofs.Common.{◌≡◌, ℕ, ℤ, pos, negsuc, ◌≤◌, suc, Bool, true, false, List, [], ◌∷◌, ◌++◌, codes, Some, subst, refl, ap, sym}
+use Rattle.std.proofs.Common.{◌∙◌, arith, append_assoc, append-nil}
 use Rattle.std.specs.Prelude.{IsUtf8, option_and_then}
 use Rattle.std.proofs.lemmas.Int.{ints}
 use Rattle.std.proofs.lemmas.Str.{IsUtf8-append, IsUtf8-from_ascii}
@@ -129,7 +130,8 @@ outline_back : (d : Data) → tree.HasNumbers (outline d) → tree.depth (outlin
 outline_back d numbers shallow =
     let j = outline d in
     ap (option_and_then (λ p. json.if_last p.0 p.1)) (ap (json.value max_depth) (ap tokens (sym (print-outline d))
-    ∙ tokens-print (tree.json_tokens j) (ArePrintable-json_tokens j numbers) ∙ sym (append-nil (tree.json_tokens j))) ∙ value-json_tokens j max_depth [] shallow)
+    ∙ tokens-print (tree.json_tokens j) (ArePrintable-json_tokens j numbers) ∙ sym (append-nil (tree.json_tokens j)))
+    ∙ value-json_tokens j max_depth [] shallow)
 
 pub canonical_back : (id name : List ℕ) (times places : List Data) (ps : List Point) → Pairwise WritesWhen times ps →
     Pairwise WritesWhere places ps → ((k : ℕ) → EachAt ps InBounds k) →
@@ -159,13 +161,15 @@ position_utf8 x y h k =
 one_more_item : (later : Bool) (d : Data) (ds : List Data) → IsUtf8 (compact_text d) → IsUtf8 (items_text true (items_of ds)) →
     IsUtf8 (items_text later (items_of (d ∷ ds)))
 one_more_item later d ds h more =
-    IsUtf8-append (comma_if later) (compact_text d ++ items_text true (items_of ds)) (comma_utf8 later) (IsUtf8-append (compact_text d) (items_text true (items_of ds)) h more)
+    IsUtf8-append (comma_if later) (compact_text d ++ items_text true (items_of ds)) (comma_utf8 later)
+    (IsUtf8-append (compact_text d) (items_text true (items_of ds)) h more)
 
 times_utf8 : (later : Bool) (ds : List Data) (ps : List Point) → Pairwise WritesWhen ds ps → IsUtf8 (items_text later (items_of ds))
 times_utf8 later [] ps w = IsUtf8-are_ascii (93 ∷ []) refl
 times_utf8 later (d ∷ ds) [] w = absurd w
 times_utf8 later (d ∷ ds) (p ∷ ps) w =
-    one_more_item later d ds (rw w.0.is_text (IsUtf8-quoted w.0.text (datetime_utf8 w.0.text p.t w.0.is_datetime))) (times_utf8 true ds ps w.1)
+    one_more_item later d ds (rw w.0.is_text (IsUtf8-quoted w.0.text (datetime_utf8 w.0.text p.t w.0.is_datetime)))
+    (times_utf8 true ds ps w.1)
 
 places_utf8 : (later : Bool) (ds : List Data) (ps : List Point) → Pairwise WritesWhere ds ps → ((k : ℕ) → EachAt ps InBounds k) →
     IsUtf8 (items_text later (items_of ds))
@@ -189,12 +193,15 @@ led : (bs more : List ℕ) → are_ascii bs ≡ true → IsUtf8 more → IsUtf8 
 led bs more e h = IsUtf8-append bs more (IsUtf8-are_ascii bs e) h
 
 pub canonical_utf8 : (id : List ℕ) (interp : Interp) (times places : List Data) (ps : List Point) → IsId id → Pairwise WritesWhen times ps →
-    Pairwise WritesWhere places ps → ((k : ℕ) → EachAt ps InBounds k) → IsUtf8 (compact_text (canonical id (interp_name interp) times places))
+    Pairwise WritesWhere places ps → ((k : ℕ) → EachAt ps InBounds k)
+    → IsUtf8 (compact_text (canonical id (interp_name interp) times places))
 canonical_utf8 id interp times places ps is t p all =
     subst IsUtf8 (sym (canonical_pieces id interp times places (id_as_it_is id is)))
     (led (codes "{\"id\":\"") _ refl (IsUtf8-append id _ (id_utf8 id is) (led (codes "\",\"temporalGeometry\":{\"coordinates\":") _ refl
-    (IsUtf8-append (compact_text (array (items_of places))) _ (bracketed places (places_utf8 false places ps p all)) (led (codes ",\"datetimes\":") _ refl
-    (IsUtf8-append (compact_text (array (items_of times))) _ (bracketed times (times_utf8 false times ps t)) (led (codes ",\"interpolation\":\"") _ refl
+    (IsUtf8-append (compact_text (array (items_of places))) _ (bracketed places (places_utf8 false places ps p all))
+    (led (codes ",\"datetimes\":") _ refl
+    (IsUtf8-append (compact_text (array (items_of times))) _ (bracketed times (times_utf8 false times ps t))
+    (led (codes ",\"interpolation\":\"") _ refl
     (IsUtf8-append (interp_name interp) _ (name_utf8 interp) (IsUtf8-are_ascii _ refl)))))))))
 
 -- ---- a feature's document, written after other bytes
@@ -225,7 +232,8 @@ document_written f start a b c d e g h i j id valid a_is b_is c_is places e_is t
         value = value;
         shown = record {
           utf8 = canonical_utf8 f.id f.seq.interp times.elements places.elements f.seq.points id times.pairs places.pairs valid.in_range;
-          read = canonical_back f.id (interp_name f.seq.interp) times.elements places.elements f.seq.points times.pairs places.pairs valid.in_range;
+          read = canonical_back f.id (interp_name f.seq.interp) times.elements places.elements f.seq.points times.pairs places.pairs
+              valid.in_range;
         };
         stands = canonical_stands f times.elements places.elements times.pairs places.pairs id valid;
       };

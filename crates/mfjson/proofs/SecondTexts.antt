@@ -1,10 +1,12 @@
 -- The texts of a second, and of an instant.
-use Rattle.std.proofs.Common.{◌≡◌, ℕ, pos, ◌+◌, ◌*◌, ◌/◌, ◌%◌, ◌<◌, List, [], ◌∷◌, ◌++◌, length, get_or, Some, ◌↔◌, ◌⊎◌, inl, inr, subst, refl, arith, ap, sym, ◌∙◌, append-nil}
+use Rattle.std.proofs.Common.{◌≡◌, ℕ, pos, ◌+◌, ◌*◌, ◌/◌, ◌%◌, ◌<◌, List, [], ◌∷◌, ◌++◌, length, get_or, Some, ◌↔◌, ◌⊎◌, inl, inr, subst}
+use Rattle.std.proofs.Common.{refl, arith, ap, sym, ◌∙◌, append-nil}
 use Rattle.std.specs.List.{slice_range}
 use Rattle.std.proofs.lemmas.Option.{same_Some}
 use Rattle.jiff_core.specs.Calendar.{IsCivilDate, days_from_civil}
 use Rattle.mfjson.specs.Digits.{digits, IsNumber}
-use Rattle.mfjson.specs.Datetime.{date_text, clock_text, IsDateText, IsClockText, IsSecondText, IsSpelled, IsDatetime, IsShortDatetime, ReadsAs}
+use Rattle.mfjson.specs.Datetime.{date_text, clock_text, IsDateText, IsClockText, IsSecondText, IsSpelled, IsDatetime, IsShortDatetime}
+use Rattle.mfjson.specs.Datetime.{ReadsAs}
 use Rattle.mfjson.proofs.DigitsLemmas.{number_spelling, number_is, number_unique, part_length, drop_part, drop_byte, drop_end}
 
 -- ---- a second
@@ -15,7 +17,8 @@ pub record HasSecondParts (text : List ℕ) (second : ℕ) : Type 0 where
 
 whole : (text : List ℕ) (second : ℕ) → (is : IsSecondText text second) →
     text ≡ date_text is.is_date.year is.is_date.month is.is_date.day ++ (84 ∷ clock_text (second % 86400))
-whole text second is = is.spelling ∙ ap (λ d. d ++ (84 ∷ is.clock)) is.is_date.spelling ∙ ap (λ k. date_text is.is_date.year is.is_date.month is.is_date.day ++ (84 ∷ k)) is.is_clock.spelling
+whole text second is = is.spelling ∙ ap (λ d. d ++ (84 ∷ is.clock)) is.is_date.spelling
+    ∙ ap (λ k. date_text is.is_date.year is.is_date.month is.is_date.day ++ (84 ∷ k)) is.is_clock.spelling
 
 pub second_parts : (text : List ℕ) (second : ℕ) → IsSecondText text second → HasSecondParts text second
 second_parts text second is =
@@ -34,7 +37,8 @@ second_length text second is = ap length (whole text second is)
 cut : (text : List ℕ) → length text ≡ 19 → get_or text 10 0 ≡ 84 →
     text ≡ slice_range text 0 10 ++ (84 ∷ slice_range text 11 19)
 cut text h mark =
-    drop_part text 0 10 _ (omega arith) (drop_byte text 10 84 _ (omega arith) mark (drop_part text 11 19 _ (omega arith) (drop_end text 19 h)))
+    drop_part text 0 10 _ (omega arith) (drop_byte text 10 84 _ (omega arith) mark
+    (drop_part text 11 19 _ (omega arith) (drop_end text 19 h)))
     ∙ ap (λ k. slice_range text 0 10 ++ (84 ∷ k)) (append-nil (slice_range text 11 19))
 
 pub second_exact : (text : List ℕ) (day clock : ℕ) → length text ≡ 19 → get_or text 10 0 ≡ 84 → clock < 86400 →
@@ -145,9 +149,11 @@ long_exact text second milli h point zone is_milli low is_second t =
     let n : ℕ = second * 1000 + milli in
     let seconds : second ≡ n / 1000 = omega (arith, low) in
     let millis : milli ≡ n % 1000 = omega (arith, low) in
-    let fraction = number_spelling (slice_range text 20 23) 3 milli (part_length text 20 23 (omega arith) (omega arith) ∙ omega arith) is_milli in
+    let fraction = number_spelling (slice_range text 20 23) 3 milli (part_length text 20 23 (omega arith) (omega arith)
+    ∙ omega arith) is_milli in
     let all : text ≡ slice_range text 0 19 ++ (46 ∷ (slice_range text 20 23 ++ (90 ∷ []))) =
-    drop_part text 0 19 _ (omega arith) (drop_byte text 19 46 _ (omega arith) point (drop_part text 20 23 _ (omega arith) (drop_byte text 23 90 _ (omega arith) zone (drop_end text 24 h)))) in
+    drop_part text 0 19 _ (omega arith) (drop_byte text 19 46 _ (omega arith) point
+    (drop_part text 20 23 _ (omega arith) (drop_byte text 23 90 _ (omega arith) zone (drop_end text 24 h)))) in
     let spelling : text ≡ slice_range text 0 19 ++ (46 ∷ (digits 3 (n % 1000) ++ (90 ∷ []))) =
     all ∙ ap (λ f. slice_range text 0 19 ++ (46 ∷ (f ++ (90 ∷ [])))) (fraction ∙ ap (digits 3) millis) in (
       λ is.

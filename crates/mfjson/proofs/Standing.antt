@@ -35,7 +35,13 @@ says_where [] (p ∷ ps) w all = absurd w
 says_where (d ∷ ds) [] w all = absurd w
 says_where (d ∷ ds) (p ∷ ps) w all =
     let in_bounds : InBounds p = all 0 p refl in (
-      record { x = of_integer p.x; y = of_integer p.y; pair = w.0; x_is = read_back p.x in_bounds.x_fits; y_is = read_back p.y in_bounds.y_fits },
+      record {
+        x = of_integer p.x;
+        y = of_integer p.y;
+        pair = w.0;
+        x_is = read_back p.x in_bounds.x_fits;
+        y_is = read_back p.y in_bounds.y_fits;
+      },
       says_where ds ps w.1 (λ k. all (suc k)),
     )
 

@@ -1,5 +1,6 @@
 -- Why bytes are no document: for each fault the rule that is broken, and which fault is told.
-use Rattle.std.specs.Prelude.{◌≡◌, ◌≢◌, ◌⊎◌, ℕ, ◌+◌, ◌<◌, ◌≤◌, ℤ, List, [], ◌∷◌, length, codes, slice_get, Option, Some, None, IsSome, unwrap_or}
+use Rattle.std.specs.Prelude.{◌≡◌, ◌≢◌, ◌⊎◌, ℕ, ◌+◌, ◌<◌, ◌≤◌, ℤ, List, [], ◌∷◌, length, codes, slice_get, Option, Some, None, IsSome}
+use Rattle.std.specs.Prelude.{unwrap_or}
 use Rattle.serde_json.specs.Data.{Data, Num, null, number, string, array, Items, no_items, item}
 use Rattle.serde_json.specs.Find.{get, as_array, as_i64}
 use Rattle.tpoint.specs.declared.interp.Interp.{Interp}
@@ -7,7 +8,8 @@ use Rattle.tpoint.specs.declared.seq.TheConstants.{MOST_POINTS}
 use Rattle.tpoint.specs.Ids.{IsId}
 use Rattle.tpoint.specs.Coordinates.{InRange}
 use Rattle.mfjson.specs.declared.fault.MfFault.{MfFault}
-use Rattle.mfjson.specs.declared.fault.MfFault.TheVariants.{NotJson, Members, NotFeature, Id, Geometry, Interpolation, Datetime, Coordinates, Lengths, Empty, TooMany, Order, Memory}
+use Rattle.mfjson.specs.declared.fault.MfFault.TheVariants.{NotJson, Members, NotFeature, Id, Geometry, Interpolation, Datetime}
+use Rattle.mfjson.specs.declared.fault.MfFault.TheVariants.{Coordinates, Lengths, Empty, TooMany, Order, Memory}
 use Rattle.tpoint.specs.Interps.{interp_name}
 use Rattle.mfjson.specs.Document.{SaysInstant, Shows, member_count}
 

@@ -12,8 +12,6 @@ mod fault;
 mod feature;
 mod laws;
 mod reading;
-#[cfg(test)]
-mod tests;
 mod writing;
 
 pub use datetime::{datetime_read, datetime_text};

@@ -6,6 +6,8 @@ use endings::Failure;
 use sqlite::{File, FileStore};
 use sqlstable::SqlStable;
 use stable::StableFault;
+use std::alloc::AllocError;
+use std::fs;
 use wire::Nodes;
 
 /// The records of so many nodes, node i's in `nodei.db` of the folder. A file is made where there is none; the folder isn't.
@@ -26,27 +28,46 @@ pub(crate) fn open_all(
 }
 
 /// Brings the logs that a run has left into the files beside which they lie, so that each file alone has its node's records.
+///
+/// It stops at the first file that can't be used, as the opening did. A file that isn't settled keeps its log, and the next
+/// opening finds both.
 pub(crate) fn settle_all(rt: &HostRuntime, folder: &str, count: Nodes) -> Result<(), Failure>
     ensures { IfErr result (λ failure. (failure ≡ Failure.Device) ⊎ (failure ≡ Failure.Memory)) }
 {
     for number in 0..count.count() {
-        let store = open(rt, folder, number)?;
-        if let Err(fault) = store.close() {
+        let path = path_of(rt, folder, number)?;
+        if let Err(fault) = SqlStable::settle(rt, path.as_str()) {
             return Err(storage_failure(fault));
         }
     }
     Ok(())
 }
 
+/// Whether a log lies beside one of the files, which were not closed in order then.
+pub(crate) fn has_logs(rt: &HostRuntime, folder: &str, count: Nodes) -> Result<bool, AllocError> {
+    for number in 0..count.count() {
+        let log = format!(in rt.alloc(); "{folder}/node{number}.db-wal")?;
+        if fs::symlink_metadata(rt, log.as_str()).is_ok() {
+            return Ok(true);
+        }
+    }
+    Ok(false)
+}
+
 /// A node's records.
 fn open(rt: &HostRuntime, folder: &str, number: u8) -> Result<SqlStable<FileStore<File>>, Failure>
     ensures { IfErr result (λ failure. (failure ≡ Failure.Device) ⊎ (failure ≡ Failure.Memory)) }
 {
-    let path = format!(in rt.alloc(); "{folder}/node{number}.db")?;
+    let path = path_of(rt, folder, number)?;
     match SqlStable::open(rt, path.as_str()) {
         Ok(store) => Ok(store),
         Err(fault) => Err(storage_failure(fault)),
     }
+}
+
+/// Where a node's records are.
+fn path_of(rt: &HostRuntime, folder: &str, number: u8) -> Result<String, AllocError> {
+    format!(in rt.alloc(); "{folder}/node{number}.db")
 }
 
 /// What a storage's fault is to the program.

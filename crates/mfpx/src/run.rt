@@ -5,14 +5,16 @@ ghost use Rattle.std.specs.Prelude.{string_bytes, true, IfOk, IfErr, IfSome, OnE
 ghost use Rattle.endings.specs.Failures.{line_text, status_of};
 ghost use Rattle.commandline.specs.Forms.{AskFor, NameInput, text_of as name_text};
 ghost use Rattle.mfpx.specs.Jobs.{EndsIn, IsAnswer, IsFaulty, IsKept, MakesIn, Stops};
-ghost use Rattle.works.specs.Works.{IsUnread};
+ghost use Rattle.schedule.specs.Runs.{IsRunOver};
+ghost use Rattle.works.specs.Works.{IsUnread, StopsOver};
 ghost use Rattle.endings.specs.Streams.{Takes, Tells};
 
 use crate::failures::words_failure;
-use crate::records::{open_all, settle_all};
+use crate::records::{has_logs, open_all, settle_all};
 use commandline::job_of;
 use endings::{Failure, Tracked, device_failure};
 use jobs::{Source, Work};
+use schedule::Schedule;
 use sqlite::{File, FileStore};
 use sqlstable::SqlStable;
 use stable::{MemStable, Scripted, Stable};
@@ -141,7 +143,8 @@ fn text_of(
 
 /// The transcript of the schedule that the bytes spell, whose nodes keep their records in files of the folder.
 ///
-/// The schedule is parsed before a file is opened. Where a file holds a record nothing is written.
+/// The schedule is parsed before a file is opened. Where a file holds a record nothing is written. However the run ends, the
+/// files are closed in order; one that can't be keeps its log beside it, and nothing else is told of that.
 fn kept(rt: &HostRuntime, folder: &str, bytes: &[u8]) -> Result<Vec<u8>, Failure>
     ensures kept { IfOk result (λ text. IsKept (⟦<SqlStable<FileStore<File>> as Stable>⟧) bytes.now text.items) }
     ensures ends { IfErr result (λ failure. failure ≢ Failure.Memory → failure ≢ Failure.Device
@@ -150,10 +153,32 @@ fn kept(rt: &HostRuntime, folder: &str, bytes: &[u8]) -> Result<Vec<u8>, Failure
 {
     let schedule = planned(rt.alloc(), bytes)?;
     let count = schedule.nodes();
-    let stores = open_all(rt, folder, count)?;
-    let text = made_over(rt.alloc(), schedule, stores)?;
-    settle_all(rt, folder, count)?;
-    Ok(text)
+    let had_logs = has_logs(rt, folder, count)?;
+    match made_in(rt, folder, schedule) {
+        Ok(text) => {
+            let _settled = settle_all(rt, folder, count);
+            Ok(text)
+        }
+        Err(failure) => {
+            // A log that a crash has left beside records stays: nothing is to be changed there.
+            if !had_logs || failure != Failure::NotEmpty {
+                let _settled = settle_all(rt, folder, count);
+            }
+            Err(failure)
+        }
+    }
+}
+
+/// The transcript of the schedule's run over files of the folder.
+fn made_in(rt: &HostRuntime, folder: &str, schedule: Schedule) -> Result<Vec<u8>, Failure>
+    ensures made { IfOk result (λ text. (stores : _)
+        × IsRunOver (⟦<SqlStable<FileStore<File>> as Stable>⟧) stores schedule text.items) }
+    ensures ends { IfErr result (λ failure. failure ≢ Failure.Memory → failure ≢ Failure.Device
+        → (stores : _) × StopsOver (⟦<SqlStable<FileStore<File>> as Stable>⟧) stores schedule failure) }
+    ensures no_usage { IfErr result (λ failure. failure ≢ Failure.Usage) }
+{
+    let stores = open_all(rt, folder, schedule.nodes())?;
+    made_over(rt.alloc(), schedule, stores)
 }
 
 /// The bytes of the source.

@@ -33,7 +33,7 @@ pub proposer_changed : (m : Mind) (x : Local Command) (p : Proposing) (y : Local
 proposer_changed m x p y s h promise vote floor learnt heard at = record {
   records = record {
     promise = promise ∙ s.records.promise;
-    vote = λ i. ap (λ g. g i) vote ∙ s.records.vote i;
+    vote = λ i from. ap (λ g. g i) vote ∙ s.records.vote i from;
     round_ = h.round;
     floor_ = floor ∙ s.records.floor_;
   };

@@ -1,5 +1,6 @@
 -- A node that has loaded its records holds what they say, and nothing else.
 use Rattle.std.proofs.Common.{◌≡◌, ℕ, zero, ◌<◌, ◌^◌, List, [], Option, Some, None, true, false, refl, sym, ap, subst, ◌∙◌, arith}
+use Rattle.std.proofs.Common.{◌≤◌}
 use Rattle.byteorder.specs.Endian.{big_number, big_bytes}
 use Rattle.byteorder.specs.Numbers.{big_number-reads_back}
 use Rattle.synod.specs.Minds as synod_minds
@@ -10,7 +11,7 @@ use Rattle.stable.specs.Records.{Records}
 use Rattle.stable.specs.declared.key.Key.TheVariants as key
 use Rattle.acceptor.specs.Accepting.{Accepting}
 use Rattle.acceptor.specs.Protocol.{RecordsStand}
-use Rattle.acceptor.proofs.SayingOne.{one_promise, one_vote_each}
+use Rattle.acceptor.proofs.SayingOne.{one_promise, one_floor, one_vote_each}
 use Rattle.sessions.specs.declared.command.Command.{Command}
 use Rattle.learner.specs.Learning.{Learning, prefix, unlearnt}
 use Rattle.learner.specs.Protocol.{LearnerStands}
@@ -67,12 +68,17 @@ module _ (records : Records) (id nodes : ℕ) (m : Mind) (loads : IsLoaded recor
 
   module _ (a : Accepting) (round : ℕ) (x : Local Command) (holds : RecordsHold records a round) (stands : RecordsStand a round x.records)
       (none : x.mind ≡ blank) where
+    floors_one : a.floor ≡ m.accepting.floor
+    floors_one = one_floor records a m.accepting holds.acceptor loads.accepting
+
     records_stand : RecordsStand m.accepting m.proposing.round x.records
     records_stand = record {
       promise = stands.promise ∙ one_promise records a m.accepting holds.acceptor loads.accepting;
-      vote = λ s. stands.vote s ∙ one_vote_each records a m.accepting holds.acceptor loads.accepting s;
+      vote = λ s from.
+          let also : a.floor ≤ s = omega (arith, floors_one, from) in
+          stands.vote s also ∙ one_vote_each records a m.accepting holds.acceptor loads.accepting s also;
       round_ = stands.round_ ∙ one_round (records key.Round) round m.proposing.round holds.proposer round_loaded.0;
-      floor_ = stands.floor_ ∙ holds.acceptor.floor ∙ sym loads.accepting.floor;
+      floor_ = stands.floor_ ∙ floors_one;
     }
 
     -- what it holds stands

@@ -1,5 +1,6 @@
 -- What a node of a run sends goes between nodes of the run.
-use Rattle.std.proofs.Common.{◌≡◌, ◌==◌, ◌&&◌, ℕ, zero, suc, ◌<◌, ◌≤◌, nat_lt, Bool, true, false, List, [], ◌∷◌, ◌++◌, All, Option, Some, None}
+use Rattle.std.proofs.Common.{◌≡◌, ◌==◌, ◌&&◌, ℕ, zero, suc, ◌<◌, ◌≤◌, nat_lt, Bool, true, false, List, [], ◌∷◌, ◌++◌, All, Option, Some}
+use Rattle.std.proofs.Common.{None}
 use Rattle.std.proofs.Common.{Result, Ok, Err, IfOk, IfSome, not, refl, sym, subst, arith}
 use Rattle.std.proofs.lemmas.Bool.{and_parts, ltb-true, cond_both}
 use Rattle.std.proofs.lemmas.List.Elements.{All-nil, All-append, All-push, All-filter}
@@ -121,7 +122,8 @@ module _ (old new : Mind) (said : Response) (there : old.id < old.nodes) where
   takes_sends (input.Message e) k = envelope_sends e (concerns old.id old.nodes e) refl k
   takes_sends input.Timeout (prepare, starts, leaves, e) = says _ e (outgoing old.nodes old.id there prepare)
   takes_sends input.Tick k =
-      says _ k.1 (both old.nodes old.id there _ _ (all_outgoing old.nodes old.id there _) (asks_others old.nodes old.id there (position old)))
+      says _ k.1 (both old.nodes old.id there _ _ (all_outgoing old.nodes old.id there _)
+      (asks_others old.nodes old.id there (position old)))
 
 -- ---- a step of a node
 module _ {S : Type 0} (storages : Ghosts S) (id nodes : ℕ) (old new : NodeState S) (i : Input) (is : IsMember id nodes old)

@@ -60,7 +60,8 @@ pub record KeepsLearnt (old new : Learning) : Type 0 where
 put_elsewhere : (learnt : ℕ → Option Command) (slot : ℕ) (c : Command) → learnt slot ≡ None → (s : ℕ) → IsSome (learnt s)
     → put learnt slot (Some c) s ≡ learnt s
 put_elsewhere learnt slot c vacant s was = elim (eqb_tells s slot) [
-  | inl same ↦ absurd (let here : IsSome {T = Command} None = subst IsSome vacant (subst (λ (i : ℕ). IsSome (learnt i)) same.1 was) in let f : false ≡ true = here in cc)
+  | inl same ↦ absurd (let here : IsSome {T = Command} None = subst IsSome vacant (subst (λ (i : ℕ). IsSome (learnt i)) same.1 was) in let f
+      : false ≡ true = here in cc)
   | inr other ↦ rw other.0 refl
 ]
 

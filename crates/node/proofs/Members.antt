@@ -162,7 +162,8 @@ module _ {S : Type 0} (storages : Ghosts S) (id nodes : ℕ) (old new : NodeStat
   failed_member m f false k = same_member k.leaves
 
   up_member : (m : Mind) (r : Result Response NodeFault) → old.up ≡ Some m → IfOk r (λ said. TakesInput storages old m i said new)
-      → IfErr r (λ f. MatchBool (is_stop_fault f) (StopsOnInput storages old m i f new) (RefusesInput old m i f new)) → IsMember id nodes new
+      → IfErr r (λ f. MatchBool (is_stop_fault f) (StopsOnInput storages old m i f new) (RefusesInput old m i f new))
+      → IsMember id nodes new
   up_member m (Ok said) up taken failed = taken_member m said up taken
   up_member m (Err f) up taken failed = failed_member m f (is_stop_fault f) failed
 

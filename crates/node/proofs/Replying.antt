@@ -55,7 +55,8 @@ pub reply_behind : (l : List Command) (r : Asked) (o : Outcome) (e : Executed)
     → e.client ≡ r.client → e.number ≡ r.number → e.reply ≡ o → e.position ≡ suc (length l)
     → IsReplyOf (l ++ Request r ∷ []) e
 reply_behind l r o e h client number code position =
-    let long : length (l ++ Request r ∷ []) ≡ suc (length l) = length-append l (Request r ∷ []) ∙ (let x : length l + 1 ≡ suc (length l) = omega arith in x) in
+    let long : length (l ++ Request r ∷ []) ≡ suc (length l) = length-append l (Request r ∷ [])
+    ∙ (let x : length l + 1 ≡ suc (length l) = omega arith in x) in
     let whole : take (suc (length l)) (l ++ Request r ∷ []) ≡ l ++ Request r ∷ [] =
     subst (λ (n : ℕ). take n (l ++ Request r ∷ []) ≡ l ++ Request r ∷ []) long (take_all (l ++ Request r ∷ [])) in
     record {

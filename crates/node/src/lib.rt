@@ -26,6 +26,3 @@ pub use laws::{
 pub use node::Node;
 pub use outputs::{Executed, LogEntry, MOST_SENDS, Outputs, Text};
 pub use proposer::MOST_WAITING;
-
-#[cfg(test)]
-mod tests;

@@ -2,23 +2,12 @@
 use Rattle.std.proofs.Common.{◌+◌, ◌&&◌, not, pos, ◌+ℤ◌, ◌*ℤ◌, Bool, true, false, refl, arith}
 use Rattle.std.proofs.lemmas.Int.{by_lt_z}
 use Rattle.tpoint.proofs.Polynomials.{int, nat, ◌⊕◌, ◌⊛◌, lt_parts, lt_from}
-use Rattle.tpoint.proofs.Fractions.{≤ᶠ_trans, ≤ᶠ-<ᶠ, <ᶠ-≤ᶠ, ≤ᶠ_of_<ᶠ, ≤ᶠ_refl}
+use Rattle.tpoint.proofs.Fractions.{≤ᶠ_trans, ≤ᶠ-<ᶠ, <ᶠ-≤ᶠ, ≤ᶠ_refl}
+use Rattle.tpoint.proofs.Periods.{at_or_before, strictly_before}
 use Rattle.tpoint.specs.Fraction.{Fraction, ◌≤ᶠ◌, ◌<ᶠ◌}
-use Rattle.predicates.specs.Bounds.{Before}
+use Rattle.tpoint.specs.Extents.{Before}
 
 -- ---- orders
-pub at_or_before : {a b : Fraction} → a ≤ᶠ b → Before true a b
-at_or_before h = record { not_after = h; apart = λ e. absurd (cc) }
-
-pub strictly_before : (counts : Bool) {a b : Fraction} → a <ᶠ b → Before counts a b
-strictly_before counts h = record { not_after = ≤ᶠ_of_<ᶠ h; apart = λ _. h }
-
-pub before_then_up : {s : Bool} {a b c : Fraction} → Before s a b → b ≤ᶠ c → Before s a c
-before_then_up h k = record { not_after = ≤ᶠ_trans h.not_after k; apart = λ e. <ᶠ-≤ᶠ (h.apart e) k }
-
-pub up_then_before : {s : Bool} {a b c : Fraction} → a ≤ᶠ b → Before s b c → Before s a c
-up_then_before h k = record { not_after = ≤ᶠ_trans h k.not_after; apart = λ e. ≤ᶠ-<ᶠ h (k.apart e) }
-
 -- what is not at most another is above it
 pub above : (a b : Fraction) → ¬ (a ≤ᶠ b) → b <ᶠ a
 above a b n =

@@ -1,21 +1,23 @@
 -- What the two ends of a leg tell of the whole of it.
-use Rattle.std.proofs.Common.{◌≡◌, ℕ, ◌+◌, ◌-◌, ◌<◌, ◌≤◌, ℤ, pos, ◌+ℤ◌, ◌-ℤ◌, subst, sym, inl, inr, arith}
-use Rattle.std.proofs.Math.Nat.{mul-le-mul_right}
+use Rattle.std.proofs.Common.{◌+◌, ◌<◌, ◌≤◌, ℤ, pos, ◌+ℤ◌, ◌-ℤ◌, inl, inr, arith}
 use Rattle.std.proofs.lemmas.Bool.{cases_lt}
 use Rattle.std.proofs.lemmas.Int.{ints}
-use Rattle.tpoint.proofs.Fractions.{≤ᶠ_trans, whole_le, moment_le}
-use Rattle.tpoint.proofs.Polynomials.{int, nat, ◌⊕◌, ◌⊝◌, ◌⊛◌, le_from, eq_from}
-use Rattle.tpoint.specs.Fraction.{Fraction, ◌≈◌, whole}
+use Rattle.tpoint.proofs.Fractions.{≤ᶠ_trans, ≤ᶠ_refl, ≤ᶠ_of_<ᶠ, whole_le, moment_le}
+use Rattle.tpoint.proofs.SubLegs.{leg_reaches}
+use Rattle.tpoint.proofs.Periods.{begun_at, over_at, whole_lies, lies_between, before_then_up, up_then_before, early, before_begin}
+use Rattle.tpoint.proofs.Periods.{begin_no_later, first_then}
+use Rattle.tpoint.proofs.Polynomials.{int, nat, ◌⊕◌, ◌⊝◌, ◌⊛◌, eq_from}
+use Rattle.tpoint.specs.Fraction.{Fraction, ◌≈◌, ◌≤ᶠ◌, whole}
 use Rattle.tpoint.specs.Ways.{way}
-use Rattle.tpoint.specs.Moving.{OnLeg, vertex}
-use Rattle.tpoint.specs.Extents.{Span, LiesIn, Area, Between, Inside}
+use Rattle.tpoint.specs.Moving.{OnLeg, moment, vertex}
+use Rattle.tpoint.specs.Extents.{Span, HasInstant, LiesIn, Shares, Area, Between, Inside, first_whole, last_whole}
 use Rattle.tpoint.specs.Pieces.{place}
 use Rattle.tpoint.specs.declared.point.Point.{Point}
 use Rattle.predicates.specs.declared.questions.Question.{Question}
 use Rattle.predicates.specs.declared.questions.Question.TheVariants.{Ever, Always}
 use Rattle.predicates.specs.Windows.{InLeg, InTime, instant_at, place_at}
 use Rattle.predicates.specs.declared.questions.Tri.TheVariants.{Yes, No}
-use Rattle.predicates.specs.Predicates.{Shares, AllInside}
+use Rattle.predicates.specs.Predicates.{AllInside}
 use Rattle.predicates.specs.Questions.{Answers}
 use Rattle.predicates.specs.Ends.{AreBeyond, Miss, Settle, settled}
 use Rattle.predicates.specs.Courses.{Crosses}
@@ -53,66 +55,66 @@ between_all_along from to low high u in_leg f t =
     }
 
 -- a leg within the period is in time all along
-in_time : (a b : Point) (p : Span) (u : Fraction) → a.t < b.t → p.begin ≤ a.t → b.t ≤ p.end → InLeg u → InTime a b p u
-in_time a b p u later begun over in_leg =
+pub leg_lies : (a b : Point) (p : Span) → HasInstant p → a.t < b.t → first_whole p ≤ a.t → b.t ≤ last_whole p →
+    LiesIn (moment a.t) p × LiesIn (moment b.t) p
+leg_lies a b p has later begun over = (
+  (whole_lies p a.t has).0 (begun, omega (arith, later, over)),
+  (whole_lies p b.t has).0 (omega (arith, later, begun), over),
+)
+
+in_time : (a b : Point) (p : Span) (u : Fraction) → a.t < b.t → LiesIn (moment a.t) p → LiesIn (moment b.t) p → InLeg u → InTime a b p u
+in_time a b p u later from to in_leg =
     record {
       in_leg = in_leg;
-      in_period = record {
-        begun = way_at_least (pos p.begin) (pos a.t) (pos b.t) u in_leg (omega (arith, ints)) (omega (arith, ints));
-        not_over = way_at_most (pos p.end) (pos a.t) (pos b.t) u in_leg (omega (arith, ints)) (omega (arith, ints));
-      };
+      in_period = lies_between from
+          (way_at_least (pos a.t) (pos a.t) (pos b.t) u in_leg (omega (arith, ints)) (omega (arith, ints)))
+          (way_at_most (pos b.t) (pos a.t) (pos b.t) u in_leg (omega (arith, ints)) (omega (arith, ints)))
+          to;
     }
 
 begin_in_leg : InLeg (whole (pos 0))
 begin_in_leg = record { from = record { cross = omega (arith, ints) }; to = record { cross = omega (arith, ints) } }
 
--- a leg has a value at each of its whole instants
-in_time_by : (p : Span) (A k r : ℕ) → p.begin ≤ A + k → A + k ≤ p.end → (one : 1 ≤ k + r) →
-    InLeg (record { num = pos k; den = k + r; at_least_one = one })
-    × LiesIn (way (pos A) (pos (A + (k + r))) (record { num = pos k; den = k + r; at_least_one = one })) p
-in_time_by p A k r begun over one =
-    let D = nat (k + r) in
-    let W = (nat A ⊛ D ⊕ (nat (A + (k + r)) ⊝ nat A) ⊛ nat k) ⊛ nat 1 in (
-      record { from = record { cross = omega (arith, ints) }; to = record { cross = omega (arith, ints) } },
-      record {
-        begun = record { cross = le_from (nat p.begin ⊛ D) W (omega (arith, mul-le-mul_right (k + r) begun)) };
-        not_over = record { cross = le_from W (nat p.end ⊛ D) (omega (arith, mul-le-mul_right (k + r) over)) };
-      },
-    )
-
-shares_by_parts : (a b : Point) (p : Span) (k r : ℕ) → 1 ≤ k + r → a.t < b.t → b.t ≡ a.t + (k + r) → p.begin ≤ a.t + k →
-    a.t + k ≤ p.end → Shares (OnLeg (vertex a) (vertex b)) p
-shares_by_parts a b p k r one later e begun over =
-    let u : Fraction = record { num = pos k; den = k + r; at_least_one = one } in
-    let f = in_time_by p a.t k r begun over one in
-    let at : InTime a b p u =
-    record { in_leg = f.0; in_period = subst (λ (t : ℕ). LiesIn (way (pos a.t) (pos t) u) p) (sym e) f.1 } in
-    record { t = instant_at a b u; v = place_at a b u; in_period = at.in_period; value = value_at a b p u later at }
-
-shares_at : (a b : Point) (p : Span) (t : ℕ) → a.t < b.t → a.t ≤ t → t ≤ b.t → p.begin ≤ t → t ≤ p.end →
+-- a leg has a value at each of its instants
+shares_at : (a b : Point) (p : Span) (t : Fraction) → a.t < b.t → moment a.t ≤ᶠ t → t ≤ᶠ moment b.t → LiesIn t p →
     Shares (OnLeg (vertex a) (vertex b)) p
-shares_at a b p t later from to begun over =
-    shares_by_parts a b p (t - a.t) (b.t - t) (omega arith) later (omega arith) (omega arith) (omega arith)
+shares_at a b p t later from to lies =
+    let value = leg_reaches a b t later from to in record { t = t; v = value.0; in_period = lies; value = value.1 }
 
-pub shares : (a b : Point) (p : Span) → a.t < b.t → p.begin ≤ p.end → p.begin ≤ b.t → a.t ≤ p.end → Shares (OnLeg (vertex a) (vertex b)) p
-shares a b p later order begun over =
-    elim (cases_lt p.begin a.t) [
-      | inl h ↦ shares_at a b p a.t later (omega arith) (omega arith) (omega arith) over
-      | inr h ↦ shares_at a b p p.begin later h begun (omega arith) order
+pub shares : (a b : Point) (p : Span) → a.t < b.t → HasInstant p → first_whole p ≤ b.t → a.t ≤ last_whole p →
+    Shares (OnLeg (vertex a) (vertex b)) p
+shares a b p later has begun over =
+    elim (cases_lt a.t (first_whole p)) [
+      | inr from ↦
+          shares_at a b p (moment a.t) later (≤ᶠ_refl (moment a.t)) ((moment_le a.t b.t).0 (omega (arith, later)))
+          ((whole_lies p a.t has).0 (from, over))
+      | inl before ↦
+          let from = (moment_le a.t p.begin).0 (before_begin p a.t before) in
+          elim (cases_lt p.begin b.t) [
+            | inl less ↦
+                let first = early p has in
+                let to = (moment_le (p.begin + 1) b.t).0 (omega (arith, less)) in
+                shares_at a b p first.0 later (≤ᶠ_trans from first.2) (≤ᶠ_trans (≤ᶠ_of_<ᶠ first.3) to) first.1
+            | inr last ↦
+                let lies = (whole_lies p p.begin has).0 (omega (arith, begun, last), begin_no_later p has) in
+                let to = (moment_le p.begin b.t).0 (first_then p b.t begun) in
+                shares_at a b p (moment p.begin) later from to lies
+          ]
     ]
 
 -- and none in a period of other instants
-pub shares_not : (a b : Point) (p : Span) → ¬ ((p.begin ≤ b.t) × (a.t ≤ p.end)) → ¬ Shares (OnLeg (vertex a) (vertex b)) p
-shares_not a b p apart s =
-    let begun = (moment_le p.begin b.t).1 (≤ᶠ_trans s.in_period.begun s.value.not_over) in
-    let over = (moment_le a.t p.end).1 (≤ᶠ_trans s.value.begun s.in_period.not_over) in
+pub shares_not : (a b : Point) (p : Span) → HasInstant p → ¬ ((first_whole p ≤ b.t) × (a.t ≤ last_whole p)) →
+    ¬ Shares (OnLeg (vertex a) (vertex b)) p
+shares_not a b p has apart s =
+    let begun = (begun_at p b.t).1 (before_then_up s.in_period.begun s.value.not_over) in
+    let over = (over_at p a.t has).1 (up_then_before s.value.begun s.in_period.not_over) in
     apart (begun, over)
 
 -- ---- the answer of a leg that its ends settle, where it has an instant of the period
-pub settled_leg : (q : Question) (a b : Point) (p : Span) (r : Area) → a.t < b.t → p.begin ≤ p.end → p.begin ≤ b.t → a.t ≤ p.end →
-    Settle q a b r → Answers q (OnLeg (vertex a) (vertex b)) p r (settled q)
-settled_leg Ever a b p r later order begun over h = (
-  shares a b p later order begun over,
+pub settled_leg : (q : Question) (a b : Point) (p : Span) (r : Area) → a.t < b.t → HasInstant p → first_whole p ≤ b.t →
+    a.t ≤ last_whole p → Settle q a b r → Answers q (OnLeg (vertex a) (vertex b)) p r (settled q)
+settled_leg Ever a b p r later has begun over h = (
+  shares a b p later has begun over,
   λ s.
       let found = time_of a b p s.t s.v later s.in_period s.value in
       let u = found.0 in
@@ -122,8 +124,8 @@ settled_leg Ever a b p r later order begun over h = (
         | inr along ↦ beyond_all_along a.y b.y r.y0 r.y1 u found.2.in_leg along i.along
       ],
 )
-settled_leg Always a b p r later order begun over h = (
-  shares a b p later order begun over,
+settled_leg Always a b p r later has begun over h = (
+  shares a b p later has begun over,
   record {
     inside = λ t v lies on.
         let found = time_of a b p t v later lies on in
@@ -137,10 +139,12 @@ settled_leg Always a b p r later order begun over h = (
 )
 
 -- ---- the answer of a leg within the period that its ends don't settle
-within_shares : (a b : Point) (p : Span) → a.t < b.t → p.begin ≤ a.t → b.t ≤ p.end → Shares (OnLeg (vertex a) (vertex b)) p
-within_shares a b p later begun over = shares a b p later (omega arith) (omega arith) (omega arith)
+within_shares : (a b : Point) (p : Span) → a.t < b.t → LiesIn (moment a.t) p → LiesIn (moment b.t) p
+    → Shares (OnLeg (vertex a) (vertex b)) p
+within_shares a b p later begun over =
+    shares_at a b p (moment a.t) later (≤ᶠ_refl (moment a.t)) ((moment_le a.t b.t).0 (omega (arith, later))) begun
 
-pub crossed_leg : (a b : Point) (p : Span) (r : Area) → a.t < b.t → p.begin ≤ a.t → b.t ≤ p.end → Crosses a b r →
+pub crossed_leg : (a b : Point) (p : Span) (r : Area) → a.t < b.t → LiesIn (moment a.t) p → LiesIn (moment b.t) p → Crosses a b r →
     Answers Ever (OnLeg (vertex a) (vertex b)) p r Yes
 crossed_leg a b p r later begun over c =
     let at = in_time a b p c.at later begun over c.in_leg in
@@ -152,7 +156,7 @@ crossed_leg a b p r later begun over c =
       inside = c.inside;
     }
 
-pub passed_leg : (a b : Point) (p : Span) (r : Area) → a.t < b.t → p.begin ≤ a.t → b.t ≤ p.end → ¬ Crosses a b r →
+pub passed_leg : (a b : Point) (p : Span) (r : Area) → a.t < b.t → LiesIn (moment a.t) p → LiesIn (moment b.t) p → ¬ Crosses a b r →
     Answers Ever (OnLeg (vertex a) (vertex b)) p r No
 passed_leg a b p r later begun over n = (
   within_shares a b p later begun over,
@@ -175,13 +179,13 @@ at_end from to =
 end_in_leg : InLeg (whole (pos 1))
 end_in_leg = record { from = record { cross = omega (arith, ints) }; to = record { cross = omega (arith, ints) } }
 
-inside_at : (a b : Point) (p : Span) (r : Area) (u : Fraction) → a.t < b.t → p.begin ≤ a.t → b.t ≤ p.end → InLeg u →
+inside_at : (a b : Point) (p : Span) (r : Area) (u : Fraction) → a.t < b.t → LiesIn (moment a.t) p → LiesIn (moment b.t) p → InLeg u →
     AllInside (OnLeg (vertex a) (vertex b)) p r → Inside (place_at a b u) r
 inside_at a b p r u later begun over in_leg all =
     let at = in_time a b p u later begun over in_leg in
     all.inside (instant_at a b u) (place_at a b u) at.in_period (value_at a b p u later at)
 
-pub straying_leg : (a b : Point) (p : Span) (r : Area) → a.t < b.t → p.begin ≤ a.t → b.t ≤ p.end →
+pub straying_leg : (a b : Point) (p : Span) (r : Area) → a.t < b.t → LiesIn (moment a.t) p → LiesIn (moment b.t) p →
     ¬ (Inside (place a) r × Inside (place b) r) → Answers Always (OnLeg (vertex a) (vertex b)) p r No
 straying_leg a b p r later begun over n = (
   within_shares a b p later begun over,

@@ -5,17 +5,17 @@ use Rattle.tpoint.proofs.Parameters.{Placed, leg_parameter, leg_value}
 use Rattle.tpoint.specs.Fraction.{Fraction, ◌≈◌, ◌<ᶠ◌, whole}
 use Rattle.tpoint.specs.Ways.{way}
 use Rattle.tpoint.specs.Moving.{Position, OnLeg, vertex, moment}
-use Rattle.tpoint.specs.Extents.{Span, LiesIn, Area, Between, Inside}
+use Rattle.tpoint.specs.Extents.{Span, Before, LiesIn, Shares, Area, Between, Inside}
 use Rattle.tpoint.specs.declared.point.Point.{Point}
 use Rattle.predicates.specs.declared.windows.Window.{Window}
 use Rattle.predicates.specs.declared.questions.Question.{Question}
 use Rattle.predicates.specs.declared.questions.Question.TheVariants.{Ever, Always}
 use Rattle.predicates.specs.declared.questions.Tri.TheVariants.{None}
-use Rattle.predicates.specs.Bounds.{Before}
 use Rattle.predicates.specs.Windows.{InLeg, InWindow, IsWindowOf, SomeIn, EveryIn, InTime, instant_at, place_at}
-use Rattle.predicates.specs.Predicates.{Shares, SomeInside, AllInside}
+use Rattle.predicates.specs.Predicates.{SomeInside, AllInside}
 use Rattle.predicates.specs.Questions.{Answers}
-use Rattle.predicates.proofs.BoundLemmas.{at_or_before, strictly_before, not_below}
+use Rattle.predicates.proofs.BoundLemmas.{not_below}
+use Rattle.tpoint.proofs.Periods.{at_or_before, strictly_before, lies_same}
 use Rattle.predicates.proofs.WindowLemmas.{some_parameter, is_some_of, same_window}
 
 -- ---- windows of two conditions
@@ -42,11 +42,9 @@ between_both low high v = (
 )
 
 pub in_time_both : (a b : Point) (p : Span) (u : Fraction) →
-    (Before true (moment p.begin) (instant_at a b u) × Before true (instant_at a b u) (moment p.end)) ↔ LiesIn (instant_at a b u) p
-in_time_both a b p u = (
-  λ h. record { begun = h.0.not_after; not_over = h.1.not_after },
-  λ l. (at_or_before l.begun, at_or_before l.not_over),
-)
+    (Before p.begin_in (moment p.begin) (instant_at a b u) × Before p.end_in (instant_at a b u) (moment p.end)) ↔ LiesIn
+    (instant_at a b u) p
+in_time_both a b p u = (λ h. record { begun = h.0; not_over = h.1 }, λ l. (l.begun, l.not_over))
 
 -- the part in the period of the window of the whole leg
 pub timed : (a b : Point) (p : Span) (w : Window) (o : Option Window) → ((u : Fraction) → InWindow u w ↔ InLeg u) →
@@ -83,9 +81,6 @@ else_between low high v n m =
     }
 
 -- ---- a leg's instants in the period, by parameters
-LiesIn-≈ : {s t : Fraction} {p : Span} → s ≈ t → LiesIn s p → LiesIn t p
-LiesIn-≈ e h = record { begun = ≤ᶠ-≈ h.begun e; not_over = ≈-≤ᶠ (≈_sym e) h.not_over }
-
 pub Between-≈ : {s t : Fraction} {a b : ℤ} → s ≈ t → Between a b s → Between a b t
 Between-≈ e h = record { from = ≤ᶠ-≈ h.from e; to = ≈-≤ᶠ (≈_sym e) h.to }
 
@@ -95,7 +90,7 @@ pub time_of : (a b : Point) (p : Span) (t : Fraction) (v : Position) → a.t < b
 time_of a b p t v later lies on =
     let found = leg_parameter a b t v later on in
     let at = found.1 in
-    (found.0, at, record { in_leg = record { from = at.from; to = at.to }; in_period = LiesIn-≈ at.time lies })
+    (found.0, at, record { in_leg = record { from = at.from; to = at.to }; in_period = lies_same at.time lies })
 
 pub value_at : (a b : Point) (p : Span) (u : Fraction) → a.t < b.t → InTime a b p u →
     OnLeg (vertex a) (vertex b) (instant_at a b u) (place_at a b u)

@@ -7,9 +7,10 @@ use Rattle.tpoint.proofs.Fractions.{≤ᶠ_trans, <ᶠ-≤ᶠ, whole_le}
 use Rattle.tpoint.proofs.Polynomials.{int, nat, ◌⊕◌, ◌⊝◌, ◌⊛◌, le_parts, lt_parts, eq_parts, le_from, lt_from}
 use Rattle.tpoint.specs.Fraction.{Fraction, ◌≤ᶠ◌, ◌<ᶠ◌, whole}
 use Rattle.tpoint.specs.Ways.{way}
-use Rattle.predicates.specs.Bounds.{Before}
+use Rattle.tpoint.specs.Extents.{Before}
 use Rattle.predicates.specs.Windows.{InLeg, IsInner}
-use Rattle.predicates.proofs.BoundLemmas.{at_or_before, strictly_before, above, not_below}
+use Rattle.predicates.proofs.BoundLemmas.{above, not_below}
+use Rattle.tpoint.proofs.Periods.{at_or_before, strictly_before}
 
 -- ---- a margin stays between those at its two ends
 at_least : (m from to : ℤ) (k r : ℕ) → m ≤ℤ from → m ≤ℤ to → (m *ℤ pos (k + r)) ≤ℤ ((from *ℤ pos (k + r) +ℤ (to -ℤ from) *ℤ pos k) *ℤ pos 1)

@@ -4,11 +4,12 @@ use Rattle.std.proofs.Common.{[], ◌∷◌, map, length, get_or, slice_get, Som
 use Rattle.std.proofs.lemmas.Bool.{cases_lt}
 use Rattle.std.proofs.lemmas.Option.{same_Some, slice_get-get_or, slice_get_within}
 use Rattle.std.specs.List.Sorted.{IsNonDecreasingBy}
-use Rattle.tpoint.proofs.Fractions.{moment_lt, <ᶠ-≤ᶠ, ≤ᶠ-<ᶠ, <ᶠ_of_≤ᶠ_not}
+use Rattle.tpoint.proofs.Fractions.{moment_lt, ≤ᶠ-<ᶠ, <ᶠ_of_≤ᶠ_not}
+use Rattle.tpoint.proofs.Periods.{over_at, up_then_before}
 use Rattle.tpoint.proofs.PieceLemmas.{rises_le, place_within, piece_from, piece_until, leg_to, leg_from}
-use Rattle.tpoint.specs.Fraction.{Fraction, ◌<ᶠ◌}
+use Rattle.tpoint.specs.Fraction.{Fraction}
 use Rattle.tpoint.specs.Moving.{Position, Sequence, HasValue, At, OnLeg, Rises, moment, vertex}
-use Rattle.tpoint.specs.Extents.{Span, Area, Inside}
+use Rattle.tpoint.specs.Extents.{Span, HasInstant, Shares, Area, Inside, first_whole, last_whole}
 use Rattle.tpoint.specs.Places.{EachAt}
 use Rattle.tpoint.specs.Pieces.{Piece, place}
 use Rattle.tpoint.specs.declared.point.Point.{Point}
@@ -18,11 +19,11 @@ use Rattle.predicates.specs.declared.questions.Question.{Question}
 use Rattle.predicates.specs.declared.questions.Question.TheVariants.{Ever, Always}
 use Rattle.predicates.specs.declared.questions.Tri.{Tri}
 use Rattle.predicates.specs.declared.questions.Tri.TheVariants.{Yes, No, None}
-use Rattle.predicates.specs.Predicates.{Shares, SomeInside, AllInside}
+use Rattle.predicates.specs.Predicates.{SomeInside, AllInside}
 use Rattle.predicates.specs.Questions.{Answers, decides}
 use Rattle.predicates.specs.Courses.{Crosses}
 use Rattle.predicates.proofs.StayLemmas.{answers_same}
-use Rattle.predicates.proofs.EndLemmas.{settled_leg, passed_leg}
+use Rattle.predicates.proofs.EndLemmas.{settled_leg, passed_leg, leg_lies}
 
 -- the values of a list of points
 abbrev pub Whole : Interp → List Point → Fraction → Position → Type 0
@@ -35,7 +36,7 @@ pub ends_before : (interp : Interp) (ps : List Point) (p : Span) (j : ℕ) (next
 ends_before interp ps p j next rise e before s =
     let until = piece_until interp ps j next s.t s.v rise e s.value in
     let apart = ≤ᶠ-<ᶠ until ((moment_lt next.t p.begin).0 before) in
-    <ᶠ_of_≤ᶠ_not s.t (moment p.begin) apart s.in_period.begun
+    <ᶠ_of_≤ᶠ_not s.t (moment p.begin) apart s.in_period.begun.not_after
 
 -- those before a place up to which each next point is before it
 pub before_place : (interp : Interp) (ps : List Point) (p : Span) (n : ℕ) → ((k : ℕ) → Rises ps k) → n < length ps →
@@ -48,16 +49,16 @@ before_place interp (x ∷ xs) p n rise within earlier j h =
     ends_before interp ps p j next rise there (earlier j h next there)
 
 -- one from a point on that is after it
-pub begins_after : (interp : Interp) (ps : List Point) (p : Span) (i j : ℕ) (point : Point) → ((k : ℕ) → Rises ps k) →
-    slice_get ps i ≡ Some point → p.end < point.t → i ≤ j → ¬ Shares (Piece interp ps j) p
-begins_after interp ps p i j point rise e after h s =
+pub begins_after : (interp : Interp) (ps : List Point) (p : Span) (i j : ℕ) (point : Point) → HasInstant p → ((k : ℕ) → Rises ps k) →
+    slice_get ps i ≡ Some point → last_whole p < point.t → i ≤ j → ¬ Shares (Piece interp ps j) p
+begins_after interp ps p i j point has rise e after h s =
     let within = place_within interp ps j s.t s.v s.value in
     let own = get_or ps j point in
     let there = slice_get-get_or ps j point within in
     let order = rises_le ps rise i j point own h e there in
     let from = piece_from interp ps j own s.t s.v there s.value in
-    let apart : moment p.end <ᶠ s.t = <ᶠ-≤ᶠ ((moment_lt p.end own.t).0 (omega arith)) from in
-    <ᶠ_of_≤ᶠ_not (moment p.end) s.t apart s.in_period.not_over
+    let over = (over_at p own.t has).1 (up_then_before from s.in_period.not_over) in
+    omega (arith, order, after, over)
 
 -- one past the last point
 pub past_the_last : (interp : Interp) (ps : List Point) (p : Span) (j : ℕ) → length ps ≤ j → ¬ Shares (Piece interp ps j) p
@@ -249,38 +250,39 @@ begun_later ps begin i k a rise begun h e =
     omega (arith, order, begun own there)
 
 -- one that passes by
-pub passes_by : (ps : List Point) (p : Span) (r : Area) (i k : ℕ) (a b : Point) → ((k : ℕ) → Rises ps k) →
-    EachAt ps (λ (q : Point). p.begin ≤ q.t) i → i ≤ k → slice_get ps k ≡ Some a → slice_get ps (k + 1) ≡ Some b → b.t ≤ p.end →
-    ¬ Crosses a b r → Answers Ever (Piece Linear ps k) p r No
-passes_by ps p r i k a b rise begun h e f over n =
-    let from = begun_later ps p.begin i k a rise begun h e in
+pub passes_by : (ps : List Point) (p : Span) (r : Area) (i k : ℕ) (a b : Point) → HasInstant p → ((k : ℕ) → Rises ps k) →
+    EachAt ps (λ (q : Point). first_whole p ≤ q.t) i → i ≤ k → slice_get ps k ≡ Some a → slice_get ps (k + 1) ≡ Some b →
+    b.t ≤ last_whole p → ¬ Crosses a b r → Answers Ever (Piece Linear ps k) p r No
+passes_by ps p r i k a b has rise begun h e f over n =
+    let from = begun_later ps (first_whole p) i k a rise begun h e in
     let later = rise k a b e f in
-    leg_answers Ever ps p r k a b No e f (slice_get_within ps (k + 1) b f) (passed_leg a b p r later from over n)
+    let lies = leg_lies a b p has later from over in
+    leg_answers Ever ps p r k a b No e f (slice_get_within ps (k + 1) b f) (passed_leg a b p r later lies.0 lies.1 n)
 
 -- and one that stays inside
-pub stays_inside : (ps : List Point) (p : Span) (r : Area) (i k : ℕ) (a b : Point) → ((k : ℕ) → Rises ps k) →
-    EachAt ps (λ (q : Point). p.begin ≤ q.t) i → i ≤ k → slice_get ps k ≡ Some a → slice_get ps (k + 1) ≡ Some b → b.t ≤ p.end →
-    Inside (place a) r → Inside (place b) r → Answers Always (Piece Linear ps k) p r Yes
-stays_inside ps p r i k a b rise begun h e f over x y =
-    let from = begun_later ps p.begin i k a rise begun h e in
+pub stays_inside : (ps : List Point) (p : Span) (r : Area) (i k : ℕ) (a b : Point) → HasInstant p → ((k : ℕ) → Rises ps k) →
+    EachAt ps (λ (q : Point). first_whole p ≤ q.t) i → i ≤ k → slice_get ps k ≡ Some a → slice_get ps (k + 1) ≡ Some b →
+    b.t ≤ last_whole p → Inside (place a) r → Inside (place b) r → Answers Always (Piece Linear ps k) p r Yes
+stays_inside ps p r i k a b has rise begun h e f over x y =
+    let from = begun_later ps (first_whole p) i k a rise begun h e in
     let later = rise k a b e f in
     leg_answers Always ps p r k a b Yes e f (slice_get_within ps (k + 1) b f)
-    (settled_leg Always a b p r later (omega (arith, from, later, over)) (omega (arith, from, later)) (omega (arith, later, over)) (x, y))
+    (settled_leg Always a b p r later has (omega (arith, from, later)) (omega (arith, later, over)) (x, y))
 
 pub first_inside : (ps : List Point) (r : Area) (i : ℕ) (a : Point) → slice_get ps i ≡ Some a → Inside (place a) r →
     EachAt ps (λ (q : Point). Inside (place q) r) i
 first_inside ps r i a e h q f = subst (λ (x : Point). Inside (place x) r) (same_Some a q (sym e ∙ f)) h
 
 -- those so far stay inside, and one more does
-pub stayed_more : (ps : List Point) (p : Span) (r : Area) (i k : ℕ) (b : Point) → ((k : ℕ) → Rises ps k) →
-    EachAt ps (λ (q : Point). p.begin ≤ q.t) i → i ≤ k → slice_get ps (k + 1) ≡ Some b → b.t ≤ p.end → Inside (place b) r →
+pub stayed_more : (ps : List Point) (p : Span) (r : Area) (i k : ℕ) (b : Point) → HasInstant p → ((k : ℕ) → Rises ps k) →
+    EachAt ps (λ (q : Point). first_whole p ≤ q.t) i → i ≤ k → slice_get ps (k + 1) ≡ Some b → b.t ≤ last_whole p → Inside (place b) r →
     ((j : ℕ) → i ≤ j → j < k → Answers Always (Piece Linear ps j) p r Yes) → EachAt ps (λ (q : Point). Inside (place q) r) k →
     ((j : ℕ) → i ≤ j → j < k + 1 → Answers Always (Piece Linear ps j) p r Yes) × EachAt ps (λ (q : Point). Inside (place q) r) (k + 1)
-stayed_more ps p r i k b rise begun h f over inside before last =
+stayed_more ps p r i k b has rise begun h f over inside before last =
     let within = slice_get_within ps (k + 1) b f in
     let a = get_or ps k b in
     let e = slice_get-get_or ps k b (omega (arith, within)) in (
       one_more (λ j. Answers Always (Piece Linear ps j) p r Yes) i k before
-          (stays_inside ps p r i k a b rise begun h e f over (last a e) inside),
+          (stays_inside ps p r i k a b has rise begun h e f over (last a e) inside),
       first_inside ps r (k + 1) b f inside,
     )

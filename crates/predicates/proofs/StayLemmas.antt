@@ -1,17 +1,18 @@
 -- What a position answers that stays as it is listed.
-use Rattle.std.proofs.Common.{◌≡◌, ℕ, ◌<◌, ◌≤◌, ℤ, ◌≤ℤ◌, ◌↔◌, inl, inr, Bool, false, IsTrue, arith}
+use Rattle.std.proofs.Common.{◌≡◌, ℕ, ◌+◌, ◌<◌, ◌≤◌, ℤ, ◌≤ℤ◌, ◌↔◌, inl, inr, Bool, false, IsTrue, arith}
 use Rattle.std.proofs.lemmas.Bool.{cases_lt}
-use Rattle.tpoint.proofs.Fractions.{≤ᶠ_trans, ≤ᶠ_refl, ≈-≤ᶠ, ≤ᶠ-≈, ≈_sym, ≈_refl, ≤ᶠ-<ᶠ, whole_le, moment_le, moment_lt}
+use Rattle.tpoint.proofs.Fractions.{≤ᶠ_trans, ≤ᶠ_refl, ≈-≤ᶠ, ≤ᶠ-≈, ≈_sym, ≈_refl, ≤ᶠ-<ᶠ, <ᶠ-≤ᶠ, whole_le, moment_le, moment_lt}
+use Rattle.tpoint.proofs.Periods.{before_begin, over_at, whole_lies, lies_same, up_then_before, early}
 use Rattle.tpoint.specs.Fraction.{Fraction, ◌≈◌, ◌≤ᶠ◌, ◌<ᶠ◌}
 use Rattle.tpoint.specs.Moving.{Position, IsPlace, moment}
-use Rattle.tpoint.specs.Extents.{Span, LiesIn, Area, Between, Inside}
+use Rattle.tpoint.specs.Extents.{Span, HasInstant, LiesIn, Shares, Area, Between, Inside, first_whole, last_whole}
 use Rattle.tpoint.specs.Pieces.{place, AtPoint, HeldUntil}
 use Rattle.tpoint.specs.declared.point.Point.{Point}
 use Rattle.predicates.specs.declared.questions.Question.{Question}
 use Rattle.predicates.specs.declared.questions.Question.TheVariants.{Ever, Always}
 use Rattle.predicates.specs.declared.questions.Tri.{Tri}
 use Rattle.predicates.specs.declared.questions.Tri.TheVariants.{Yes, No, None}
-use Rattle.predicates.specs.Predicates.{Shares, SomeInside, AllInside}
+use Rattle.predicates.specs.Predicates.{SomeInside, AllInside}
 use Rattle.predicates.specs.Questions.{Answers}
 use Rattle.predicates.specs.Stays.{IsStayAnswer}
 
@@ -90,46 +91,48 @@ stay_answers Always S w p r there No when h =
 stay_answers Always S w p r there None when h = stay_apart S w p there when h
 
 -- ---- when it is there
-at_instant : (p : Span) (n : ℕ) → ((p.begin ≤ n) × (n ≤ p.end)) ↔ MeetsStay (λ t. t ≈ moment n) p
-at_instant p n = (
-  λ h. (moment n, record { begun = (moment_le p.begin n).0 h.0; not_over = (moment_le n p.end).0 h.1 }, ≈_refl (moment n)),
-  λ s. ((moment_le p.begin n).1 (≤ᶠ-≈ s.1.begun s.2), (moment_le n p.end).1 (≈-≤ᶠ (≈_sym s.2) s.1.not_over)),
+at_instant : (p : Span) (n : ℕ) → HasInstant p → ((first_whole p ≤ n) × (n ≤ last_whole p)) ↔ MeetsStay (λ t. t ≈ moment n) p
+at_instant p n has = (
+  λ h. (moment n, (whole_lies p n has).0 h, ≈_refl (moment n)),
+  λ s. (whole_lies p n has).1 (lies_same s.2 s.1),
 )
 
-until_next : (p : Span) (m n : ℕ) → m < n → p.begin ≤ p.end →
-    ((m ≤ p.end) × (p.begin < n)) ↔ MeetsStay (λ t. (moment m ≤ᶠ t) × (t <ᶠ moment n)) p
-until_next p m n h o = (
+until_next : (p : Span) (m n : ℕ) → m < n → HasInstant p →
+    ((m ≤ last_whole p) × (p.begin < n)) ↔ MeetsStay (λ t. (moment m ≤ᶠ t) × (t <ᶠ moment n)) p
+until_next p m n h has = (
   λ k.
-      elim (cases_lt p.begin m) [
-        | inl l ↦
-            let lies : LiesIn (moment m) p =
-            record { begun = (moment_le p.begin m).0 (omega arith); not_over = (moment_le m p.end).0 k.0 } in
-            (moment m, lies, (≤ᶠ_refl (moment m), (moment_lt m n).0 h))
-        | inr l ↦
-            let lies : LiesIn (moment p.begin) p = record { begun = ≤ᶠ_refl (moment p.begin); not_over = (moment_le p.begin p.end).0 o } in
-            (moment p.begin, lies, ((moment_le m p.begin).0 l, (moment_lt p.begin n).0 k.1))
+      elim (cases_lt m (first_whole p)) [
+        | inr begun ↦ (moment m, (whole_lies p m has).0 (begun, k.0), (≤ᶠ_refl (moment m), (moment_lt m n).0 h))
+        | inl before ↦
+            let first = early p has in
+            let from = (moment_le m p.begin).0 (before_begin p m before) in
+            let to = (moment_le (p.begin + 1) n).0 (omega (arith, k.1)) in
+            (first.0, first.1, (≤ᶠ_trans from first.2, <ᶠ-≤ᶠ first.3 to))
       ],
-  λ s. ((moment_le m p.end).1 (≤ᶠ_trans s.2.0 s.1.not_over), (moment_lt p.begin n).1 (≤ᶠ-<ᶠ s.1.begun s.2.1)),
+  λ s. (
+    (over_at p m has).1 (up_then_before s.2.0 s.1.not_over),
+    (moment_lt p.begin n).1 (≤ᶠ-<ᶠ s.1.begun.not_after s.2.1),
+  ),
 )
 
 -- ---- the two kinds
 pub point_answers : (q : Question) (point : Point) (p : Span) (r : Area) (there : Bool) (answer : Tri) →
-    (IsTrue there ↔ ((p.begin ≤ point.t) × (point.t ≤ p.end))) → IsStayAnswer there (Inside (place point) r) answer →
-    Answers q (AtPoint point) p r answer
-point_answers q point p r there answer when h =
+    HasInstant p → (IsTrue there ↔ ((first_whole p ≤ point.t) × (point.t ≤ last_whole p))) →
+    IsStayAnswer there (Inside (place point) r) answer → Answers q (AtPoint point) p r answer
+point_answers q point p r there answer has when h =
     let S : Fraction → Type 0 = λ t. t ≈ moment point.t in
-    let i = at_instant p point.t in
+    let i = at_instant p point.t has in
     answers_same q (Stays S (place point)) (AtPoint point) p r answer
     (λ t v k. record { then = k.while; there = k.there })
     (λ t v k. record { while = k.then; there = k.there })
     (stay_answers q S (place point) p r there answer (λ e. i.0 (when.0 e), λ m. when.1 (i.1 m)) h)
 
 pub held_answers : (q : Question) (point next : Point) (p : Span) (r : Area) (there : Bool) (answer : Tri) → point.t < next.t →
-    p.begin ≤ p.end → (IsTrue there ↔ ((point.t ≤ p.end) × (p.begin < next.t))) → IsStayAnswer there (Inside (place point) r) answer →
+    HasInstant p → (IsTrue there ↔ ((point.t ≤ last_whole p) × (p.begin < next.t))) → IsStayAnswer there (Inside (place point) r) answer →
     Answers q (HeldUntil point next) p r answer
-held_answers q point next p r there answer later ordered when h =
+held_answers q point next p r there answer later has when h =
     let S : Fraction → Type 0 = λ t. (moment point.t ≤ᶠ t) × (t <ᶠ moment next.t) in
-    let i = until_next p point.t next.t later ordered in
+    let i = until_next p point.t next.t later has in
     answers_same q (Stays S (place point)) (HeldUntil point next) p r answer
     (λ t v k. record { reached = k.while.0; not_left = k.while.1; there = k.there })
     (λ t v k. record { while = (k.reached, k.not_left); there = k.there })

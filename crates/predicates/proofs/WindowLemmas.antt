@@ -6,7 +6,8 @@ use Rattle.tpoint.specs.Fraction.{Fraction, ◌≤ᶠ◌, whole}
 use Rattle.tpoint.specs.Ways.{way}
 use Rattle.predicates.specs.declared.bounds.Bound.{Bound}
 use Rattle.predicates.specs.declared.windows.Window.{Window}
-use Rattle.predicates.specs.Bounds.{Before, parameter}
+use Rattle.tpoint.specs.Extents.{Before}
+use Rattle.predicates.specs.Bounds.{parameter}
 use Rattle.predicates.specs.Windows.{InLeg, InWindow, IsWindowOf, IsInner}
 use Rattle.predicates.proofs.BoundLemmas.{between_ends}
 use Rattle.predicates.proofs.Margins.{rises, falls}

@@ -4,16 +4,9 @@
 -- one listed position.
 use Rattle.tpoint.specs.Fraction.{Fraction}
 use Rattle.tpoint.specs.Moving.{Position, Sequence, At}
-use Rattle.tpoint.specs.Extents.{Span, LiesIn, Area, Inside}
+use Rattle.tpoint.specs.Extents.{Span, LiesIn, Shares, Area, Inside}
 use Rattle.predicates.specs.declared.questions.Tri.{Tri}
 use Rattle.predicates.specs.declared.questions.Tri.TheVariants.{Yes, No, None}
-
--- there is a value in the period
-pub record Shares (R : Fraction → Position → Type 0) (p : Span) : Type 0 where
-  pub t : Fraction
-  pub v : Position
-  pub in_period : LiesIn t p
-  pub value : R t v
 
 -- some value of the period lies in the rectangle
 pub record SomeInside (R : Fraction → Position → Type 0) (p : Span) (r : Area) : Type 0 where

@@ -5,7 +5,8 @@ use Rattle.tpoint.specs.Ways.{way}
 use Rattle.tpoint.specs.Moving.{Position}
 use Rattle.tpoint.specs.Extents.{Span, LiesIn}
 use Rattle.tpoint.specs.declared.point.Point.{Point}
-use Rattle.predicates.specs.Bounds.{Before, parameter}
+use Rattle.tpoint.specs.Extents.{Before}
+use Rattle.predicates.specs.Bounds.{parameter}
 use Rattle.predicates.specs.declared.windows.Window.{Window}
 
 pub record InLeg (u : Fraction) : Type 0 where

@@ -16,7 +16,8 @@ pub struct Bound {
 
 impl Bound {
     ghost use Rattle.tpoint.specs.Fraction.{Fraction};
-    ghost use Rattle.predicates.specs.Bounds.{Before, parameter};
+    ghost use Rattle.tpoint.specs.Extents.{Before};
+    ghost use Rattle.predicates.specs.Bounds.{parameter};
 
     /// Whether it is before another parameter, or is that one where this counts.
     pub fn is_before(self, other: Bound, counts: bool) -> bool

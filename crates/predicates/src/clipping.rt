@@ -3,7 +3,7 @@
 ghost use Rattle.std.specs.Prelude.{◌≡◌, ◌≢◌, ◌^◌, ◌<◌, ◌≤◌, ◌-ℤ◌, ◌↔◌, unsigned_abs, IsTrue};
 ghost use Rattle.tpoint.specs.Fraction.{Fraction, whole};
 ghost use Rattle.tpoint.specs.Ways.{way};
-ghost use Rattle.predicates.specs.Bounds.{Before};
+ghost use Rattle.tpoint.specs.Extents.{Before};
 ghost use Rattle.predicates.specs.Windows.{InWindow, IsWindowOf, IsInner};
 
 use crate::bounds::Bound;

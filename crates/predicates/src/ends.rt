@@ -1,6 +1,7 @@
 //! What the two ends of a leg tell of the whole of it.
 
 ghost use Rattle.std.specs.Prelude.{◌≡◌, ◌≤◌, ◌↔◌, IsTrue};
+ghost use Rattle.tpoint.specs.Extents.{HasInstant, first_whole, last_whole};
 ghost use Rattle.predicates.specs.Ends.{AreBeyond, Miss, Settle, settled};
 
 use crate::questions::{Question, Tri};
@@ -10,18 +11,20 @@ use tpoint::{Period, Point, Rect};
 /// Whether the period has an instant of a leg, which may be one of its ends.
 #[inline(always)]
 pub fn shares_time(period: &Period, a: &Point, b: &Point) -> bool
-    ensures shares { IsTrue result ↔ ((period.now.begin ≤ b.now.t) × (a.now.t ≤ period.now.end)) }
-    ensures ordered { period.now.begin ≤ period.now.end }
+    ensures shares { IsTrue result ↔
+        ((first_whole period.now ≤ b.now.t) × (a.now.t ≤ last_whole period.now)) }
+    ensures has_instant { HasInstant period.now }
 {
-    period.begin() <= b.t && a.t <= period.end()
+    period.first_whole() <= b.t && a.t <= period.last_whole()
 }
 
-/// Whether a leg lies in the period, both of its ends included.
+/// Whether a leg lies in the period, with both of its ends.
 #[inline(always)]
 pub fn is_within(period: &Period, a: &Point, b: &Point) -> bool
-    ensures { IsTrue result ↔ ((period.now.begin ≤ a.now.t) × (b.now.t ≤ period.now.end)) }
+    ensures { IsTrue result ↔
+        ((first_whole period.now ≤ a.now.t) × (b.now.t ≤ last_whole period.now)) }
 {
-    period.begin() <= a.t && b.t <= period.end()
+    period.first_whole() <= a.t && b.t <= period.last_whole()
 }
 
 /// Whether the ends alone tell that the leg never meets the rectangle, or that it never leaves it.

@@ -1,11 +1,11 @@
 //! The way from one listed position to the next.
 
-ghost use Rattle.std.specs.Prelude.{◌<◌, ◌≤◌, ◌↔◌, IsTrue, MatchBool};
+ghost use Rattle.std.specs.Prelude.{◌<◌, ◌↔◌, IsTrue, MatchBool};
 ghost use Rattle.tpoint.specs.Fraction.{Fraction};
 ghost use Rattle.tpoint.specs.Ways.{way};
 ghost use Rattle.tpoint.specs.Coordinates.{InRange};
-ghost use Rattle.tpoint.specs.Moving.{OnLeg, vertex, InBounds};
-ghost use Rattle.tpoint.specs.Extents.{Span, Between, Inside};
+ghost use Rattle.tpoint.specs.Moving.{OnLeg, moment, vertex, InBounds};
+ghost use Rattle.tpoint.specs.Extents.{Span, LiesIn, Between, Inside};
 ghost use Rattle.predicates.specs.Windows.{InWindow, IsWindowOf, InTime, place_at, SomeIn, EveryIn};
 ghost use Rattle.predicates.specs.Ends.{Settle};
 ghost use Rattle.predicates.specs.Questions.{Answers};
@@ -16,12 +16,6 @@ use crate::ends::{is_within, settle, settled, shares_time};
 use crate::questions::{Question, Tri};
 use crate::windows::Window;
 use tpoint::{Period, Point, Rect};
-
-/// Whether the begin of a period is in it.
-const BEGIN_COUNTS: bool = true;
-
-/// Whether the end of a period is in it.
-const END_COUNTS: bool = true;
 
 /// What the leg from `a` to `b` answers.
 #[inline(always)]
@@ -50,7 +44,7 @@ fn unsettled(question: Question, a: &Point, b: &Point, area: &Rect) -> Tri
     requires a_fits { InBounds a.now }
     requires b_fits { InBounds b.now }
     requires not_settled { ¬ Settle question a.now b.now area.now }
-    ensures { (p : Span) → p.begin ≤ a.now.t → b.now.t ≤ p.end →
+    ensures { (p : Span) → LiesIn (moment a.now.t) p → LiesIn (moment b.now.t) p →
         Answers question (OnLeg (vertex a.now) (vertex b.now)) p area.now result }
 {
     match question {
@@ -90,8 +84,14 @@ fn time_window(a: &Point, b: &Point, period: &Period) -> Option<Window>
 {
     let from = a.t.ms();
     let to = b.t.ms();
-    let begun = at_least(Window::whole(), from, to, period.begin().ms(), BEGIN_COUNTS)?;
-    at_most(begun, from, to, period.end().ms(), END_COUNTS)
+    let begun = at_least(
+        Window::whole(),
+        from,
+        to,
+        period.begin().ms(),
+        period.begin_in(),
+    )?;
+    at_most(begun, from, to, period.end().ms(), period.end_in())
 }
 
 /// Whether the leg is in the rectangle at some parameter of the window.

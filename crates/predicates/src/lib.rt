@@ -17,8 +17,6 @@ mod questions;
 mod runs;
 mod sequences;
 mod stays;
-#[cfg(test)]
-mod tests;
 mod windows;
 
 pub use questions::Tri;

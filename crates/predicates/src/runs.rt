@@ -3,6 +3,7 @@
 ghost use Rattle.std.specs.Prelude.{ℕ, ◌<◌, ◌≤◌, length};
 ghost use Rattle.tpoint.specs.Places.{EachAt};
 ghost use Rattle.tpoint.specs.Moving.{Rises, InBounds};
+ghost use Rattle.tpoint.specs.Extents.{first_whole};
 ghost use Rattle.tpoint.specs.Pieces.{Piece};
 ghost use Rattle.predicates.specs.Ends.{settled};
 ghost use Rattle.predicates.specs.Questions.{Answers};
@@ -74,7 +75,7 @@ fn passed(
     ensures each { (j : ℕ) → from ≤ j → j < result →
         Answers question (Piece interp points.now j) period.now area.now (settled question) }
 {
-    if interp != Interp::Linear || points[from].t < period.begin() {
+    if interp != Interp::Linear || points[from].t < period.first_whole() {
         return from;
     }
     match question {
@@ -89,7 +90,7 @@ fn first_met(points: &[Point], from: usize, period: &Period, area: &Rect) -> usi
     requires in_list { from < length points.now }
     requires increasing { (k : ℕ) → Rises points.now k }
     requires in_range { (k : ℕ) → EachAt points.now InBounds k }
-    requires begun { EachAt points.now (λ point. period.now.begin ≤ point.t) from }
+    requires begun { EachAt points.now (λ point. first_whole period.now ≤ point.t) from }
     ensures within { result ≤ length points.now }
     ensures each { (j : ℕ) → from ≤ j → j < result →
         Answers Question.Ever (Piece Interp.Linear points.now j) period.now area.now Tri.No }
@@ -97,7 +98,7 @@ fn first_met(points: &[Point], from: usize, period: &Period, area: &Rect) -> usi
     for k in from..points.len() - 1 {
         let a = &points[k];
         let b = &points[k + 1];
-        if period.end() < b.t {
+        if period.last_whole() < b.t {
             return k;
         }
         if comes_in(a, b, area) {
@@ -113,7 +114,7 @@ fn first_met(points: &[Point], from: usize, period: &Period, area: &Rect) -> usi
 fn first_left(points: &[Point], from: usize, period: &Period, area: &Rect) -> usize
     requires in_list { from < length points.now }
     requires increasing { (k : ℕ) → Rises points.now k }
-    requires begun { EachAt points.now (λ point. period.now.begin ≤ point.t) from }
+    requires begun { EachAt points.now (λ point. first_whole period.now ≤ point.t) from }
     ensures within { result ≤ length points.now }
     ensures each { (j : ℕ) → from ≤ j → j < result →
         Answers Question.Always (Piece Interp.Linear points.now j) period.now area.now Tri.Yes }
@@ -124,7 +125,7 @@ fn first_left(points: &[Point], from: usize, period: &Period, area: &Rect) -> us
     // The leg's begin is inside, as the end of the one before it.
     for k in from..points.len() - 1 {
         let next = &points[k + 1];
-        if period.end() < next.t {
+        if period.last_whole() < next.t {
             return k;
         }
         if !contains(area, next) {

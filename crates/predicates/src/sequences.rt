@@ -12,7 +12,7 @@ use tpoint::{Period, Point, Rect, Seq};
 
 /// Whether the moving point is in the rectangle at some instant of the period.
 ///
-/// Every fraction of a millisecond counts, and so do the period's ends and the rectangle's bounds.
+/// Every fraction of a millisecond counts, and so do the rectangle's bounds; an end of the period that isn't in it doesn't.
 /// `Tri::None` where the moving point has no value in the period. Takes no memory.
 pub fn ever(seq: &Seq, period: &Period, area: &Rect) -> Tri
     ensures { IsEver seq.now period.now area.now result }
@@ -23,7 +23,7 @@ pub fn ever(seq: &Seq, period: &Period, area: &Rect) -> Tri
 /// Whether the moving point is in the rectangle at every instant of the period at which it has a
 /// value.
 ///
-/// Every fraction of a millisecond counts, and so do the period's ends and the rectangle's bounds.
+/// Every fraction of a millisecond counts, and so do the rectangle's bounds; an end of the period that isn't in it doesn't.
 /// `Tri::None` where the moving point has no value in the period. Takes no memory.
 pub fn always(seq: &Seq, period: &Period, area: &Rect) -> Tri
     ensures { IsAlways seq.now period.now area.now result }
@@ -43,7 +43,7 @@ fn answer(question: Question, seq: &Seq, period: &Period, area: &Rect) -> Tri
     let mut i = first_piece(points, period);
     while i < points.len() {
         // This piece begins after the period, as do those that follow.
-        if period.end() < points[i].t {
+        if period.last_whole() < points[i].t {
             return answer;
         }
         let run = run_from(question, interp, points, i, period, area);

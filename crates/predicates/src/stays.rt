@@ -1,7 +1,7 @@
 //! A position that stays as it is listed.
 
 ghost use Rattle.std.specs.Prelude.{◌<◌, ◌≤◌, ◌↔◌, IsTrue, ◌≤ℤ◌};
-ghost use Rattle.tpoint.specs.Extents.{Inside};
+ghost use Rattle.tpoint.specs.Extents.{HasInstant, Inside, first_whole, last_whole};
 ghost use Rattle.tpoint.specs.Pieces.{place, AtPoint, HeldUntil};
 ghost use Rattle.predicates.specs.Questions.{Answers};
 ghost use Rattle.predicates.specs.declared.questions.Question.{Question};
@@ -42,18 +42,19 @@ fn answer(there: bool, point: &Point, area: &Rect) -> Tri
 
 /// Whether an instant is in the period.
 fn in_period(period: &Period, t: Instant) -> bool
-    ensures { IsTrue result ↔ ((period.now.begin ≤ t) × (t ≤ period.now.end)) }
+    ensures in_period { IsTrue result ↔ ((first_whole period.now ≤ t) × (t ≤ last_whole period.now)) }
+    ensures has_instant { HasInstant period.now }
 {
-    period.begin() <= t && t <= period.end()
+    period.first_whole() <= t && t <= period.last_whole()
 }
 
 /// Whether the period has an instant from one on and before another, which is later.
 fn meets_stay(period: &Period, from: Instant, until: Instant) -> bool
     requires { from < until }
-    ensures shares { IsTrue result ↔ ((from ≤ period.now.end) × (period.now.begin < until)) }
-    ensures ordered { period.now.begin ≤ period.now.end }
+    ensures shares { IsTrue result ↔ ((from ≤ last_whole period.now) × (period.now.begin < until)) }
+    ensures has_instant { HasInstant period.now }
 {
-    from <= period.end() && period.begin() < until
+    from <= period.last_whole() && period.begin() < until
 }
 
 /// Whether the rectangle has the position, its bounds included.

@@ -2,7 +2,8 @@
 
 ghost use Rattle.std.specs.Prelude.{◌≡◌, ◌≤◌, ◌&&◌, ◌↔◌, MatchOption};
 ghost use Rattle.tpoint.specs.Fraction.{Fraction, ◌≤ᶠ◌};
-ghost use Rattle.predicates.specs.Bounds.{Before, parameter};
+ghost use Rattle.tpoint.specs.Extents.{Before};
+ghost use Rattle.predicates.specs.Bounds.{parameter};
 
 use crate::bounds::Bound;
 

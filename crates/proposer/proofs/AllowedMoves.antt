@@ -1,5 +1,6 @@
 -- What a proposer does is allowed by the protocol.
-use Rattle.std.proofs.Common.{◌≡◌, ℕ, ◌+◌, ◌<◌, ◌≤◌, max, List, [], ◌∷◌, ◌++◌, Bool, true, false, cond, inl, inr, Option, Some, None, Contains, refl, sym, ap, ◌∙◌, subst, arith}
+use Rattle.std.proofs.Common.{◌≡◌, ℕ, ◌+◌, ◌<◌, ◌≤◌, max, List, [], ◌∷◌, ◌++◌, Bool, true, false, cond, inl, inr, Option, Some, None}
+use Rattle.std.proofs.Common.{Contains, refl, sym, ap, ◌∙◌, subst, arith}
 use Rattle.std.proofs.lemmas.List.Elements.{Contains-append_left, Contains-append_right, Contains-append_cases}
 use Rattle.std.proofs.lemmas.Grind.{common_steps}
 use Rattle.synod.specs.declared.ballot.Ballot.{Ballot}
@@ -18,7 +19,8 @@ use Rattle.proposer.specs.declared.outgoing.Outgoing.{Outgoing}
 use Rattle.proposer.specs.Requests.{is_of, without}
 use Rattle.proposer.specs.Campaigning.{Campaigning, begun}
 use Rattle.proposer.specs.Proposing.{Proposing, loaded, StartsCampaign, next_round, unless_refused, after_nack}
-use Rattle.proposer.specs.Protocol.{CampaignStands, CampaignsStand, ProposerStands, MayHold, MaySend, MayCome, advancing, stopping, frames_of}
+use Rattle.proposer.specs.Protocol.{CampaignStands, CampaignsStand, ProposerStands, MayHold, MaySend, MayCome, advancing, stopping}
+use Rattle.proposer.specs.Protocol.{frames_of}
 
 -- what is left of a list was there before
 left_over : (b : Bool) (r s : Asked) (rest left : List Asked) → ((t : Asked) → Contains left t → Contains rest t)

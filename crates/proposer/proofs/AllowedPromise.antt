@@ -1,5 +1,6 @@
 -- A promise may be counted, and a majority lead.
-use Rattle.std.proofs.Common.{◌≡◌, ◌<◌, ℕ, List, ◌++◌, length, Bool, true, false, cond, not, ◌==◌, ◌&&◌, min, inl, inr, Option, Some, None, Contains, refl, sym, ap, ◌∙◌, subst, arith, le_refl}
+use Rattle.std.proofs.Common.{◌≡◌, ◌<◌, ℕ, List, ◌++◌, length, Bool, true, false, cond, not, ◌==◌, ◌&&◌, min, inl, inr, Option, Some, None}
+use Rattle.std.proofs.Common.{Contains, refl, sym, ap, ◌∙◌, subst, arith, le_refl}
 use Rattle.std.proofs.lemmas.Bool.{and_parts, eqb-true, ltb-true, not-true}
 use Rattle.std.proofs.lemmas.List.{get_or-set_same, get_or-set_other, length-set}
 use Rattle.std.proofs.lemmas.List.Elements.{Contains-append_left, Contains-append_right, Contains-append_cases}

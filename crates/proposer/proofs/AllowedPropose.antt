@@ -1,5 +1,6 @@
 -- What a proposer proposes is allowed.
-use Rattle.std.proofs.Common.{◌≡◌, ◌≤◌, ◌<◌, ℕ, ◌+◌, ◌-◌, List, [], ◌∷◌, nat_lt, nat_le, true, inl, Option, Some, None, refl, sym, ◌∙◌, subst, arith, append-nil}
+use Rattle.std.proofs.Common.{◌≡◌, ◌≤◌, ◌<◌, ℕ, ◌+◌, ◌-◌, List, [], ◌∷◌, nat_lt, nat_le, true, inl, Option, Some, None, refl, sym, ◌∙◌}
+use Rattle.std.proofs.Common.{subst, arith, append-nil}
 use Rattle.std.proofs.lemmas.Bool.{cond_both, ltb-true, ltb-false, leb-false}
 use Rattle.synod.specs.declared.ballot.Ballot.{Ballot}
 use Rattle.synod.specs.Messages.{Frame, Plain, to_first}

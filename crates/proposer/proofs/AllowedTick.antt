@@ -1,5 +1,6 @@
 -- What a proposer sends again, and a request that it takes in, are allowed.
-use Rattle.std.proofs.Common.{◌≡◌, ℕ, zero, suc, List, [], ◌∷◌, ◌++◌, map, filter, not, Bool, true, false, cond, inl, inr, Option, Some, None, Contains, refl, sym, ap, ◌∙◌, subst, append_assoc, append-nil}
+use Rattle.std.proofs.Common.{◌≡◌, ℕ, zero, suc, List, [], ◌∷◌, ◌++◌, map, filter, not, Bool, true, false, cond, inl, inr, Option, Some}
+use Rattle.std.proofs.Common.{None, Contains, refl, sym, ap, ◌∙◌, subst, append_assoc, append-nil}
 use Rattle.std.specs.Prelude.{⊤}
 use Rattle.std.proofs.lemmas.List.Elements.{Contains-append_left, Contains-push, Contains-push_cases}
 use Rattle.synod.specs.declared.ballot.Ballot.{Ballot}
@@ -17,7 +18,8 @@ use Rattle.proposer.specs.declared.window.Proposal.{Proposal}
 use Rattle.proposer.specs.Campaigning.{Campaigning, accept}
 use Rattle.proposer.specs.Campaigning as campaign
 use Rattle.proposer.specs.Proposing.{Proposing, sends_again}
-use Rattle.proposer.specs.Protocol.{CampaignStands, CampaignsStand, ProposerStands, AreApart, proposed_at, MaySend, MayCome, submitting, frames_of, frames_of_all}
+use Rattle.proposer.specs.Protocol.{CampaignStands, CampaignsStand, ProposerStands, AreApart, proposed_at, MaySend, MayCome, submitting}
+use Rattle.proposer.specs.Protocol.{frames_of, frames_of_all}
 use Rattle.proposer.proofs.Proposed.{proposed_first, proposed_later}
 
 -- no frame more, and some after others

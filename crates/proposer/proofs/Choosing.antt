@@ -1,5 +1,6 @@
 -- A leader's choice is one that the protocol allows.
-use Rattle.std.proofs.Common.{◌≡◌, ◌≤◌, ◌<◌, ℕ, ◌==◌, ◌||◌, ◌+◌, List, [], ◌∷◌, Bool, true, false, cond, inl, inr, Option, Some, None, Contains, nat_lt, refl, sym, ap, ◌∙◌, subst, arith, le_of_eq}
+use Rattle.std.proofs.Common.{◌≡◌, ◌≤◌, ◌<◌, ℕ, ◌==◌, ◌||◌, ◌+◌, List, [], ◌∷◌, Bool, true, false, cond, inl, inr, Option, Some, None}
+use Rattle.std.proofs.Common.{Contains, nat_lt, refl, sym, ap, ◌∙◌, subst, arith, le_of_eq}
 use Rattle.std.specs.List.{find}
 use Rattle.std.proofs.lemmas.Bool.{ltb-true, ltb-false, eqb-true, eqb-false}
 use Rattle.synod.specs.Ballots.{rank}
@@ -10,7 +11,8 @@ use Rattle.sessions.specs.Asked.{Asked}
 use Rattle.sessions.specs.declared.command.Command.{Command}
 use Rattle.sessions.specs.declared.command.Command.TheVariants.{NoOp, Request}
 use Rattle.proposer.specs.declared.window.Proposal.{Proposal}
-use Rattle.proposer.specs.Campaigning.{Campaigning, higher, told_at, is_told_after, first_free, noop_where, request_or, free_choice, command_or, choice}
+use Rattle.proposer.specs.Campaigning.{Campaigning, higher, told_at, is_told_after, first_free, noop_where, request_or, free_choice}
+use Rattle.proposer.specs.Campaigning.{command_or, choice}
 use Rattle.proposer.proofs.Votes.{in_cons, in_head, in_tail, in_none}
 
 -- ---- the highest of the votes told at a slot

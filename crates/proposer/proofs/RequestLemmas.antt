@@ -1,5 +1,6 @@
 -- Requests in a map, by name.
-use Rattle.std.proofs.Common.{◌≡◌, ℕ, ◌+◌, ◌<◌, ◌≤◌, arith, ◌==◌, ◌&&◌, ◌||◌, List, [], ◌∷◌, ◌++◌, Bool, true, false, cond, Option, Some, None, is_some, refl, ap, ◌∙◌}
+use Rattle.std.proofs.Common.{◌≡◌, ℕ, ◌+◌, ◌<◌, ◌≤◌, arith, ◌==◌, ◌&&◌, ◌||◌, List, [], ◌∷◌, ◌++◌, Bool, true, false, cond, Option, Some}
+use Rattle.std.proofs.Common.{None, is_some, refl, ap, ◌∙◌}
 use Rattle.std.specs.List.{list_any}
 use Rattle.std.specs.Map.{lookup, remove_entry, values_of}
 use Rattle.sessions.specs.Asked.{Asked}

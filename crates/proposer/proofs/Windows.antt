@@ -1,5 +1,6 @@
 -- A window that is filled slot by slot.
-use Rattle.std.proofs.Common.{◌≡◌, ◌≢◌, ℕ, zero, suc, ◌+◌, ◌++◌, ◌∷◌, [], ◌-◌, ◌<◌, List, Bool, true, false, Option, Some, None, IfSome, IsSomeAnd, is_some, ◌||◌, if◌then◌else◌, nat_le, length, refl, sym, ap, ◌∙◌, subst, arith}
+use Rattle.std.proofs.Common.{◌≡◌, ◌≢◌, ℕ, zero, suc, ◌+◌, ◌++◌, ◌∷◌, [], ◌-◌, ◌<◌, List, Bool, true, false, Option, Some, None, IfSome}
+use Rattle.std.proofs.Common.{IsSomeAnd, is_some, ◌||◌, if◌then◌else◌, nat_le, length, refl, sym, ap, ◌∙◌, subst, arith}
 use Rattle.std.specs.List.{list_any}
 use Rattle.sessions.specs.Asked.{Asked}
 use Rattle.sessions.specs.declared.command.Command.{Command}
@@ -81,7 +82,8 @@ module _ (k : Campaigning) (waiting : List Asked) (learnt_to : ℕ) (learnt : �
       → now ≡ record k { proposals = proposals } → slot ≡ number → l ≡ (list_any (is_at number) f.proposals || is_some (learnt number))
       → b ≡ true → number < limit
       → IsStep (stepped now waiting learnt_to l slot f) b f g
-      → filled k waiting learnt_to learnt (limit - (number + 1)) (number + 1) g ≡ filled k waiting learnt_to learnt (limit - number) number f
+      → filled k waiting learnt_to learnt (limit - (number + 1)) (number + 1) g
+      ≡ filled k waiting learnt_to learnt (limit - number) number f
   goes_on now proposals slot number limit l b f g same at known goes below h =
       goes_case _ f g _ (same_step now proposals slot number l b true f g same at known goes h) ∙ sym (one_more limit number f below)
 
@@ -133,6 +135,7 @@ module _ (k : Campaigning) (waiting : List Asked) (learnt_to : ℕ) (learnt : �
       → IsSomeAnd (stepped now waiting learnt_to l slot f) (λ g. g.sent ≢ [])
       → (filled k waiting learnt_to learnt (limit - number) number f).sent ≢ []
   opens now proposals slot number limit l f same at known below h =
-      let was = subst (λ (o : Option Filling). IsSomeAnd o (λ g. g.sent ≢ [])) (same_stepped now proposals slot number l f same at known) h in
+      let was = subst (λ (o : Option Filling). IsSomeAnd o (λ g. g.sent ≢ [])) (same_stepped now proposals slot number l f same at known) h
+      in
       subst (λ (x : Filling). x.sent ≢ []) (sym (one_more limit number f below))
       (opens_case _ f _ was (sent_stays (limit - (number + 1)) (number + 1)))

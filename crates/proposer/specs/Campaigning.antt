@@ -1,5 +1,6 @@
 -- A proposer's attempt to lead under one ballot: it gathers promises for the slots from the first on, and then it leads.
-use Rattle.std.specs.Prelude.{◌≡◌, ◌≢◌, ℕ, zero, suc, ◌+◌, ◌-◌, ◌*◌, ◌==◌, ◌&&◌, ◌||◌, min, not, List, [], ◌∷◌, ◌++◌, Bool, true, false, Option, Some, None}
+use Rattle.std.specs.Prelude.{◌≡◌, ◌≢◌, ℕ, zero, suc, ◌+◌, ◌-◌, ◌*◌, ◌==◌, ◌&&◌, ◌||◌, min, not, List, [], ◌∷◌, ◌++◌, Bool, true, false}
+use Rattle.std.specs.Prelude.{Option, Some, None}
 use Rattle.std.specs.Prelude.{filter, length, nat_lt, nat_le, if◌then◌else◌, map, find, is_some}
 use Rattle.std.specs.List.{list_any}
 use Rattle.synod.specs.Ballots.{rank}

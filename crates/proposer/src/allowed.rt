@@ -15,8 +15,10 @@ ghost use Rattle.learner.specs.Learning.{Learning, prefix};
 ghost use Rattle.learner.specs.Protocol.{LearnerStands};
 ghost use Rattle.proposer.specs.declared.outgoing.Outgoing.{Outgoing};
 ghost use Rattle.proposer.specs.Requests.{without};
-ghost use Rattle.proposer.specs.Proposing.{Proposing, loaded, next_round, StartsCampaign, with_promised, after_nack, after_learned, proposes, sends_again};
-ghost use Rattle.proposer.specs.Protocol.{ProposerStands, MayHold, MaySend, MayCome, submitting, advancing, stopping, frames_of, frames_of_all};
+ghost use Rattle.proposer.specs.Proposing.{Proposing, loaded, next_round, StartsCampaign, with_promised, after_nack, after_learned};
+ghost use Rattle.proposer.specs.Proposing.{proposes, sends_again};
+ghost use Rattle.proposer.specs.Protocol.{ProposerStands, MayHold, MaySend, MayCome, submitting, advancing, stopping, frames_of};
+ghost use Rattle.proposer.specs.Protocol.{frames_of_all};
 
 /// A campaign may start, once its round is written, and its prepares be sent.
 pub fn timeout_is_allowed()

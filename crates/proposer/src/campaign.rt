@@ -1,8 +1,10 @@
 //! A proposer's attempt to lead under one ballot.
 
-ghost use Rattle.std.specs.Prelude.{◌≡◌, ◌≤◌, ◌++◌, ◌∷◌, [], ◌||◌, min, true, false, IsTrue, ◌↔◌, Some, None, IsSome, IsSomeAnd, ◌≢◌, IfOk, OnOk, OnErr, MatchOption, filter, length, nat_le, map, ◌+◌, is_some};
+ghost use Rattle.std.specs.Prelude.{◌≡◌, ◌≤◌, ◌++◌, ◌∷◌, [], ◌||◌, min, true, false, IsTrue, ◌↔◌, Some, None, IsSome, IsSomeAnd, ◌≢◌};
+ghost use Rattle.std.specs.Prelude.{IfOk, OnOk, OnErr, MatchOption, filter, length, nat_le, map, ◌+◌, is_some};
 ghost use Rattle.std.specs.List.{list_any};
-ghost use Rattle.proposer.specs.Campaigning.{is_at, begun, counts, after_promise, BringsVotes, up_to, is_most, closed, closed_below, choice, window_limit, window_filled, stepped, IsStep, sends_again, accept, prepare};
+ghost use Rattle.proposer.specs.Campaigning.{is_at, begun, counts, after_promise, BringsVotes, up_to, is_most, closed, closed_below};
+ghost use Rattle.proposer.specs.Campaigning.{choice, window_limit, window_filled, stepped, IsStep, sends_again, accept, prepare};
 ghost use Rattle.learner.specs.Learning.{learnt_at};
 ghost use Rattle.learner.specs.State.{learning_of};
 

@@ -2,6 +2,8 @@
 
 use stable::StableFault;
 use std::alloc::AllocFailed;
+use std::error::Error;
+use std::fmt;
 
 /// Why a request was turned away. Nothing changed.
 #[derive(Clone, Copy, Debug, PartialEq, Eq)]
@@ -11,6 +13,17 @@ pub enum SubmitFault {
     /// A growth was refused.
     Memory,
 }
+
+impl fmt::Display for SubmitFault {
+    fn fmt<W: fmt::Write>(&self, f: &mut fmt::Formatter<W>) -> fmt::Result {
+        f.write_str(match self {
+            SubmitFault::QueueFull => "as many requests wait as may",
+            SubmitFault::Memory => "out of memory",
+        })
+    }
+}
+
+impl Error for SubmitFault {}
 
 impl<T: Drop> From<AllocFailed<T>> for SubmitFault {
     ghost use Rattle.std.specs.Prelude.{◌≡◌};
@@ -33,3 +46,15 @@ pub enum TimeoutFault {
     /// A growth was refused. Nothing was written or changed.
     Memory,
 }
+
+impl fmt::Display for TimeoutFault {
+    fn fmt<W: fmt::Write>(&self, f: &mut fmt::Formatter<W>) -> fmt::Result {
+        f.write_str(match self {
+            TimeoutFault::RoundsUsedUp => "no round is left",
+            TimeoutFault::Device => "the device failed",
+            TimeoutFault::Memory => "out of memory",
+        })
+    }
+}
+
+impl Error for TimeoutFault {}

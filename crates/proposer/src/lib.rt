@@ -24,6 +24,3 @@ pub use outgoing::{Outgoing, Recipients};
 pub use proposer::Proposer;
 pub use waiting::MOST_WAITING;
 pub use window::MOST_OPEN;
-
-#[cfg(test)]
-mod tests;

@@ -1,6 +1,7 @@
 //! One node's proposer.
 
-ghost use Rattle.std.specs.Prelude.{◌≡◌, ◌≤◌, ◌<◌, ◌^◌, ◌++◌, ◌∷◌, [], ℕ, length, true, false, Some, None, IsSomeAnd, ◌≢◌, IfOk, OnOk, OnErr, IsErrOf, IsOk, MatchOption};
+ghost use Rattle.std.specs.Prelude.{◌≡◌, ◌≤◌, ◌<◌, ◌^◌, ◌++◌, ◌∷◌, [], ℕ, length, true, false, Some, None, IsSomeAnd, ◌≢◌, IfOk, OnOk};
+ghost use Rattle.std.specs.Prelude.{OnErr, IsErrOf, IsOk, MatchOption};
 ghost use Rattle.std.specs.List.{list_any};
 ghost use Rattle.byteorder.specs.Endian.{big_bytes};
 ghost use Rattle.stable.specs.declared.key.Key.TheVariants as key;
@@ -9,7 +10,8 @@ ghost use Rattle.learner.specs.Learning.{prefix};
 ghost use Rattle.learner.specs.State.{learning_of};
 ghost use Rattle.proposer.specs.Campaigning.{BringsVotes};
 ghost use Rattle.proposer.specs.Requests.{is_of, without};
-ghost use Rattle.proposer.specs.Proposing.{loaded, next_round, StartsCampaign, with_promised, after_nack, after_learned, is_led, gathers_on, proposes, sends_again};
+ghost use Rattle.proposer.specs.Proposing.{loaded, next_round, StartsCampaign, with_promised, after_nack, after_learned, is_led};
+ghost use Rattle.proposer.specs.Proposing.{gathers_on, proposes, sends_again};
 
 use super::campaign::Campaign;
 use super::fault::{SubmitFault, TimeoutFault};

@@ -1,31 +1,25 @@
--- The value at the begin, the points inside and the value at the end are the sequence's values at just the instants of the cut.
-use Rattle.std.proofs.Common.{◌≡◌, ℕ, ◌+◌, ◌<◌, ◌≤◌, ◌↔◌, ◌⊎◌, inl, inr, zero, suc, List, [], ◌∷◌, ◌++◌, map, length, slice_get, Option, Some, None, option_to_list, sym, ◌∙◌, ap, subst, refl, arith}
+-- The value at the begin, the points inside and the value at the end are the cut's: its instants, with their positions.
+use Rattle.std.proofs.Common.{◌≡◌, ◌≢◌, ℕ, ◌+◌, ◌<◌, ◌≤◌, ◌↔◌, inl, inr, zero, suc, Bool, true, false, not, is_some, ◌||◌, List, [], ◌∷◌}
+use Rattle.std.proofs.Common.{◌++◌, map, length, slice_get, Option, Some, None, option_to_list, sym, ◌∙◌, ap, subst, refl, arith}
+use Rattle.std.specs.Option.{is_none}
 use Rattle.std.proofs.lemmas.Bool.{cases_lt}
-use Rattle.std.proofs.lemmas.Option.{same_Some, none-some, slice_get_within, MatchOption-at_some}
-use Rattle.tpoint.proofs.Fractions.{moment_le}
+use Rattle.std.proofs.lemmas.Option.{same_Some, none-some, slice_get_within}
+use Rattle.tpoint.proofs.Fractions.{moment_lt}
+use Rattle.tpoint.proofs.Periods.{begun_at, first_then, last_then, open_end, over_at, whole_lies}
 use Rattle.tpoint.specs.Moving.{Vertex, Sequence, At, HasValue, IsValid, moment}
-use Rattle.tpoint.specs.Extents.{Span, LiesIn}
+use Rattle.tpoint.specs.Extents.{Span, HasInstant, LiesIn, Shares, first_whole, last_whole}
 use Rattle.tpoint.specs.Pieces.{place}
-use Rattle.tpoint.specs.declared.frac.Frac.{Frac}
 use Rattle.tpoint.specs.declared.interp.Interp.{Interp}
+use Rattle.tpoint.specs.declared.interp.Interp.TheVariants.{Discrete}
 use Rattle.tpoint.specs.declared.point.Point.{Point}
-use Rattle.restrict.specs.Cuts.{HasValueAt, HasNoCut, IsCut, IsCutInstant, IsInstantOf, vertex_of}
-use Rattle.restrict.specs.Inside.{ArePoints, AreJoined, IsAdded, IsInside, IsPoint, IsValueAt}
+use Rattle.restrict.specs.Cuts.{HasValueAt, IsCut, IsCutInstant, IsCutPlace, IsInstantOf, IsListedIn, vertex_of}
+use Rattle.restrict.specs.Inside.{AddsNone, ArePoints, AreJoined, IsAddedFirst, IsAddedLast, IsFirst, IsInside, IsLast, IsPoint, IsValueAt}
 use Rattle.restrict.proofs.Joining.{left, right, get_left, get_right, side}
 use Rattle.restrict.proofs.OwnValues.{own_value}
 use Rattle.restrict.proofs.Samples.{Samples}
+use Rattle.restrict.proofs.Shared.{Ends, Triple, begin_added, end_added, last_value}
 use Rattle.restrict.proofs.Transport.{at_place}
-use Rattle.restrict.proofs.Values.{values}
-
-abbrev Triple : Type 0
-Triple = ℕ × Frac × Frac
-
-pub record Ends (s : Sequence) (p : Span) (begin : Option Triple) (qs : List Point) (end : Option Triple) : Type 0 where
-  pub valid : IsValid s
-  pub order : p.begin ≤ p.end
-  pub inside : IsInside s.points p qs
-  pub at_begin : IsAdded s p.begin (IsInstantOf qs p.begin) begin
-  pub at_end : IsAdded s p.end (IsInstantOf qs p.end ⊎ (p.begin ≡ p.end)) end
+use Rattle.restrict.proofs.Values.{AreMarked, values}
 
 -- ---- lists
 some_at : {A : Type 0} → (xs : List A) (k : ℕ) → k < length xs → (x : A) × (slice_get xs k ≡ Some x)
@@ -114,21 +108,13 @@ source begin qs end mid are k u e =
 value_at_its : (s : Sequence) (n : ℕ) (u : Triple) → IsValueAt s n u → At s (moment u.0) (vertex_of u).place
 value_at_its s n u h = subst (λ (m : ℕ). At s (moment m) (vertex_of u).place) (sym h.0) h.1
 
-inside_of : (p : Span) (n : ℕ) → p.begin ≤ n → n ≤ p.end → LiesIn (moment n) p
-inside_of p n from to = record { begun = (moment_le p.begin n).0 from; not_over = (moment_le n p.end).0 to }
-
-has_value : (s : Sequence) (n : ℕ) (u : Triple) → IsValueAt s n u → HasValueAt s n
-has_value s n u h = record { v = (vertex_of u).place; value = h.1 }
-
-point_instant : (s : Sequence) (p : Span) (qs : List Point) → IsInside s.points p qs → (k : ℕ) (q : Point) → slice_get qs k ≡ Some q
-    → IsCutInstant s p q.t
-point_instant s p qs inside k q e =
-    let within = inside.in_period k q e in
-    record {
-      in_period = inside_of p q.t within.0 within.1;
-      end_or_listed = inr
-          (record { i = inside.first + k; point = q; listed = inside.from_list k q e; then = refl });
-    }
+point_instant : (s : Sequence) (p : Span) (qs : List Point) → HasInstant p → IsInside s.points p qs → (k : ℕ) (q : Point)
+    → slice_get qs k ≡ Some q → IsCutInstant s p q.t
+point_instant s p qs has inside k q e =
+    inl (record {
+      in_period = (whole_lies p q.t has).0 (inside.in_period k q e);
+      listed = record { i = inside.first + k; point = q; listed = inside.from_list k q e; then = refl };
+    })
 
 -- ---- where an instant of the cut is kept
 data Kept (begin : Option Triple) (qs : List Point) (end : Option Triple) (n : ℕ) : Type 0 where
@@ -136,26 +122,34 @@ data Kept (begin : Option Triple) (qs : List Point) (end : Option Triple) (n : �
   at_point : IsInstantOf qs n → Kept begin qs end n
   at_end : (u : Triple) → end ≡ Some u → u.0 ≡ n → Kept begin qs end n
 
-kept_begin : (s : Sequence) (n : ℕ) (begin : Option Triple) (qs : List Point) (end : Option Triple) → IsAdded s n (IsInstantOf qs n) begin
-    → HasValueAt s n → Kept begin qs end n
-kept_begin s n None qs end h v = elim h [ inl l ↦ at_point l | inr l ↦ absurd (l v) ]
-kept_begin s n (Some u) qs end h v = at_begin u refl h.1.0
-
-kept_end : (s : Sequence) (p : Span) (begin : Option Triple) (qs : List Point) (end : Option Triple)
-    → IsAdded s p.begin (IsInstantOf qs p.begin) begin → IsAdded s p.end (IsInstantOf qs p.end ⊎ (p.begin ≡ p.end)) end
-    → HasValueAt s p.end → Kept begin qs end p.end
-kept_end s p begin qs None b h v =
-    elim h [
-      | inl l ↦
-          elim l [
-            | inl m ↦ at_point m
-            | inr same ↦
-                let P : ℕ → Type 0 = λ n. IsAdded s n (IsInstantOf qs n) begin in
-                kept_begin s p.end begin qs None (subst P same b) v
-          ]
-      | inr l ↦ absurd (l v)
+kept_adds : (s : Sequence) (n : ℕ) (begin : Option Triple) (qs : List Point) (end : Option Triple) → s.interp ≢ Discrete
+    → HasValueAt s n → AddsNone s qs n → Kept begin qs end n
+kept_adds s n begin qs end goes_on v adds =
+    elim adds [
+      | inl l ↦ at_point l
+      | inr r ↦ elim r [ inl discrete ↦ absurd (goes_on discrete) | inr no_value ↦ absurd (no_value v) ]
     ]
-kept_end s p begin qs (Some u) b h v = at_end u refl h.1.0
+
+kept_begin : (s : Sequence) (p : Span) (begin : Option Triple) (qs : List Point) (end : Option Triple) → IsAddedFirst s p qs begin
+    → s.interp ≢ Discrete → HasValueAt s p.begin → Kept begin qs end p.begin
+kept_begin s p None qs end h goes_on v = kept_adds s p.begin None qs end goes_on v h
+kept_begin s p (Some u) qs end h goes_on v = at_begin u refl h.value.0
+
+kept_end : (s : Sequence) (p : Span) (begin : Option Triple) (qs : List Point) (end : Option Triple) → IsValid s → HasInstant p
+    → IsAddedFirst s p qs begin → IsAddedLast s p qs end → Shares (At s) p → s.interp ≢ Discrete → HasValueAt s p.end
+    → Kept begin qs end p.end
+kept_end s p begin qs None valid has b h shared goes_on v =
+    elim h [
+      | inl adds ↦ kept_adds s p.end begin qs None goes_on v adds
+      | inr r ↦
+          elim r [
+            | inl same ↦
+                let first = kept_begin s p begin qs None b goes_on (subst (λ (n : ℕ). HasValueAt s n) (sym same) v) in
+                subst (λ (n : ℕ). Kept begin qs None n) same first
+            | inr no_value ↦ absurd (no_value (last_value s valid p has goes_on shared v))
+          ]
+    ]
+kept_end s p begin qs (Some u) valid has b h shared goes_on v = at_end u refl h.value.then
 
 listed_option : (o : Option Triple) (u : Triple) → o ≡ Some u → slice_get (option_to_list o) 0 ≡ Some u
 listed_option None u e = e
@@ -197,55 +191,85 @@ find begin qs end mid are n h =
           }
     ]
 
--- ---- whether there is anything to list
-abbrev pub count_of : Option Triple → List Point → Option Triple → ℕ
-count_of begin qs end = length (option_to_list begin) + length qs + length (option_to_list end)
+-- an end of the period that isn't in, and adds its value
+neither : (b : Bool) (o : Option Triple) → (b || is_none o) ≡ false → (b ≡ false) × (u : Triple) × (o ≡ Some u)
+neither true o e = absurd (cc)
+neither false None e = absurd (cc)
+neither false (Some u) e = (refl, u, refl)
 
-length_some : (o : Option Triple) (u : Triple) → o ≡ Some u → length (option_to_list o) ≡ 1
-length_some None u e = absurd (none-some u e)
-length_some (Some v) u e = refl
+open_then : (b : Bool) (o : Option Triple) (u : Triple) → b ≡ false → o ≡ Some u → (b || is_none o) ≡ false
+open_then b o u e f = rw (e, f) refl
+
+pub by_itself : (b n r : Bool) → b ≡ true → r ≡ true → r ≡ (b || n)
+by_itself b n r e f = rw (e, f) refl
+
+pub by_other : (b r none : Bool) (o : Option Triple) → b ≡ false → r ≡ none → is_some o ≡ not none → r ≡ (b || is_none o)
+by_other b r true None e f g = rw (e, f) refl
+by_other b r false None e f g = absurd (cc)
+by_other b r true (Some u) e f g = absurd (cc)
+by_other b r false (Some u) e f g = rw (e, f) refl
+
+-- a point of the period at its begin, or at its end
+first_then_point : (p : Span) (qs : List Point) → IsInstantOf qs p.begin
+    → ((k : ℕ) (q : Point) → slice_get qs k ≡ Some q → first_whole p ≤ q.t) → first_whole p ≤ p.begin
+first_then_point p qs l from = subst (λ (n : ℕ). first_whole p ≤ n) l.then (from l.i l.point l.listed)
+
+last_point_then : (p : Span) (qs : List Point) → IsInstantOf qs p.end
+    → ((k : ℕ) (q : Point) → slice_get qs k ≡ Some q → q.t ≤ last_whole p) → p.end ≤ last_whole p
+last_point_then p qs l to = subst (λ (n : ℕ). n ≤ last_whole p) l.then (to l.i l.point l.listed)
 
 module _ (s : Sequence) (p : Span) (begin : Option Triple) (qs : List Point) (end : Option Triple) (E : Ends s p begin qs end) where
-  -- what is added at an end is the value there, and no point is listed there
-  begin_added : (u : Triple) → begin ≡ Some u → (¬ IsInstantOf qs p.begin) × IsValueAt s p.begin u
-  begin_added u e = MatchOption-at_some _ _ u e E.at_begin
+  first_of : (u : Triple) → begin ≡ Some u → IsFirst s p qs u
+  first_of = begin_added s p begin qs end E
 
-  end_added : (u : Triple) → end ≡ Some u → (¬ (IsInstantOf qs p.end ⊎ (p.begin ≡ p.end))) × IsValueAt s p.end u
-  end_added u e = MatchOption-at_some _ _ u e E.at_end
+  last_of : (u : Triple) → end ≡ Some u → IsLast s p qs u
+  last_of = end_added s p begin qs end E
 
   -- the list ascends
   up_all : (mid : List Triple) → ArePoints qs (length qs) mid → Up (option_to_list begin ++ mid ++ option_to_list end)
   up_all mid are =
       up_joined (option_to_list begin ++ mid) (option_to_list end)
       (up_joined (option_to_list begin) mid (up_option begin) (up_points qs mid s.points p E.inside are) (λ i j a b e f.
-      let x = begin_added a (of_option begin i a e).1 in
+      let x = first_of a (of_option begin i a e).1 in
       let y = point_of qs mid are j b f in
-      let within = E.inside.in_period j y.0 y.1 in
-      apart_below p.begin a.0 b.0 x.1.0 (omega (arith, within.0, y.2.then))
-      (λ l. x.0 (record { i = j; point = y.0; listed = y.1; then = sym y.2.then ∙ l }))))
+      let from = first_then p y.0.t (E.inside.in_period j y.0 y.1).0 in
+      apart_below p.begin a.0 b.0 x.value.0 (omega (arith, from, y.2.then))
+      (λ l. x.not_listed (record { i = j; point = y.0; listed = y.1; then = sym y.2.then ∙ l }))))
       (up_option end) (λ i j a b e f.
-      let y = end_added b (of_option end j b f).1 in
+      let y = last_of b (of_option end j b f).1 in
       elim (side (option_to_list begin) mid i a e) [
         | left g ↦
-            let x = begin_added a (of_option begin i a g).1 in
-            apart_below p.begin a.0 b.0 x.1.0 (omega (arith, E.order, y.1.0)) (λ l. y.0 (inr (sym l ∙ y.1.0)))
+            let x = first_of a (of_option begin i a g).1 in
+            apart_below p.begin a.0 b.0 x.value.0 (omega (arith, E.has.ordered, y.value.then)) (λ l. y.apart (sym l ∙ y.value.then))
         | right m l g ↦
             let x = point_of qs mid are m a g in
-            let within = E.inside.in_period m x.0 x.1 in
-            apart_above p.end a.0 b.0 y.1.0 (omega (arith, within.1, x.2.then))
-            (λ h. y.0 (inl (record { i = m; point = x.0; listed = x.1; then = sym x.2.then ∙ h })))
+            let to = last_then p x.0.t (E.inside.in_period m x.0 x.1).1 in
+            apart_above p.end a.0 b.0 y.value.then (omega (arith, to, x.2.then))
+            (λ h. y.not_listed (record { i = m; point = x.0; listed = x.1; then = sym x.2.then ∙ h }))
       ])
 
-  -- each of the list is the sequence's value at its instant
-  placed : (u : Triple) → Source begin qs end u → At s (moment u.0) (vertex_of u).place
+  -- each of the list has its position: at the begin and at a point it is the sequence's
+  own_place : (u : Triple) → (p.end_in ≡ false → u.0 < p.end) → At s (moment u.0) (vertex_of u).place → IsCutPlace s p (vertex_of u)
+  own_place u less h =
+      record {
+        there = λ _. h;
+        before = λ stops. let early_enough = less stops.not_in in
+            absurd (omega (arith, early_enough, stops.is_end));
+      }
+
+  placed : (u : Triple) → Source begin qs end u → IsCutPlace s p (vertex_of u)
   placed u from =
       elim from [
-        | from_begin e ↦ value_at_its s p.begin u (begin_added u e).1
-        | from_end e ↦ value_at_its s p.end u (end_added u e).1
+        | from_begin e ↦
+            let x = first_of u e in
+            own_place u (λ not_in. let less = open_end p E.has not_in in omega (arith, less, x.value.0)) (value_at_its s p.begin u x.value)
+        | from_end e ↦ (last_of u e).value.there
         | from_point k q e h ↦
             let own = own_value s E.valid (E.inside.first + k) q (E.inside.from_list k q e) in
             let here = at_place s E.valid (moment q.t) (vertex_of u).place (place q) h.there own in
-            subst (λ (m : ℕ). At s (moment m) (vertex_of u).place) (sym h.then) here
+            let to = (over_at p q.t E.has).0 (E.inside.in_period k q e).1 in
+            own_place u (λ not_in. let less = (moment_lt q.t p.end).1 (to.apart not_in) in omega (arith, less, h.then))
+            (subst (λ (m : ℕ). At s (moment m) (vertex_of u).place) (sym h.then) here)
       ]
 
   -- which is an instant of the cut
@@ -253,43 +277,46 @@ module _ (s : Sequence) (p : Span) (begin : Option Triple) (qs : List Point) (en
   at_cut_instant u from =
       elim from [
         | from_begin e ↦
-            let x = (begin_added u e).1 in
-            subst (λ (n : ℕ). IsCutInstant s p n) (sym x.0)
-            (record {
-              in_period = inside_of p p.begin (omega arith) E.order;
-              end_or_listed = inl (inl refl, has_value s p.begin u x);
-            })
+            let x = first_of u e in
+            let here : HasValueAt s p.begin = record { v = (vertex_of u).place; value = x.value.1 } in
+            subst (λ (n : ℕ). IsCutInstant s p n) (sym x.value.0)
+            (inr (record { goes_on = x.goes_on; is_end = inl refl; has_value = here }))
         | from_end e ↦
-            let x = (end_added u e).1 in
-            subst (λ (n : ℕ). IsCutInstant s p n) (sym x.0)
-            (record { in_period = inside_of p p.end E.order (omega arith); end_or_listed = inl (inr refl, has_value s p.end u x) })
-        | from_point k q e h ↦ subst (λ (n : ℕ). IsCutInstant s p n) (sym h.then) (point_instant s p qs E.inside k q e)
+            let x = last_of u e in
+            subst (λ (n : ℕ). IsCutInstant s p n) (sym x.value.then)
+            (inr (record { goes_on = x.goes_on; is_end = inr refl; has_value = x.value.has_value }))
+        | from_point k q e h ↦
+            subst (λ (n : ℕ). IsCutInstant s p n) (sym h.then) (point_instant s p qs E.has E.inside k q e)
       ]
 
   -- and each instant of the cut is among them
-  kept : (n : ℕ) → IsCutInstant s p n → Kept begin qs end n
-  kept n h =
+  kept : Shares (At s) p → (n : ℕ) → IsCutInstant s p n → Kept begin qs end n
+  kept shared n h =
       let P : ℕ → Type 0 = λ m. Kept begin qs end m in
-      elim h.end_or_listed [
+      let Q : ℕ → Type 0 = λ m. HasValueAt s m in
+      elim h [
         | inl l ↦
-            elim l.0 [
-              | inl e ↦ subst P (sym e) (kept_begin s p.begin begin qs end E.at_begin (subst (λ (m : ℕ). HasValueAt s m) e l.1))
-              | inr e ↦ subst P (sym e) (kept_end s p begin qs end E.at_begin E.at_end (subst (λ (m : ℕ). HasValueAt s m) e l.1))
-            ]
+            let lies = subst (λ (m : ℕ). LiesIn (moment m) p) (sym l.listed.then) l.in_period in
+            let within = (whole_lies p l.listed.point.t E.has).1 lies in
+            let x = E.inside.all l.listed.i l.listed.point l.listed.listed within.0 within.1 in
+            at_point (record { i = x.0; point = l.listed.point; listed = x.1; then = l.listed.then })
         | inr l ↦
-            let from = (moment_le p.begin n).1 h.in_period.begun in
-            let to = (moment_le n p.end).1 h.in_period.not_over in
-            let x = E.inside.all l.i l.point l.listed (omega (arith, l.then)) (omega (arith, l.then)) in
-            at_point (record { i = x.0; point = l.point; listed = x.1; then = l.then })
+            elim l.is_end [
+              | inl e ↦ subst P (sym e) (kept_begin s p begin qs end E.at_begin l.goes_on (subst Q e l.has_value))
+              | inr e ↦
+                  subst P (sym e)
+                  (kept_end s p begin qs end E.valid E.has E.at_begin E.at_end shared l.goes_on (subst Q e l.has_value))
+            ]
       ]
 
   -- together
-  samples_joined : (mid : List Triple) → ArePoints qs (length qs) mid
+  samples_joined : Shares (At s) p → (mid : List Triple) → ArePoints qs (length qs) mid
       → Samples s p (map vertex_of (option_to_list begin ++ mid ++ option_to_list end))
-  samples_joined mid are =
+  samples_joined shared mid are =
       let ws = option_to_list begin ++ mid ++ option_to_list end in
       record {
         valid = E.valid;
+        has = E.has;
         ascending = λ k a b e f.
             let x = of_mapped vertex_of ws k a e in
             let y = of_mapped vertex_of ws (k + 1) b f in
@@ -302,52 +329,92 @@ module _ (s : Sequence) (p : Span) (begin : Option Triple) (qs : List Point) (en
               let here = at_cut_instant x.0 (source begin qs end mid are h.i x.0 x.1) in
               subst (λ (m : ℕ). IsCutInstant s p m) (ap (λ (w : Vertex). w.time) x.2 ∙ h.then) here,
           λ h.
-              let x = find begin qs end mid are n (kept n h) in
+              let x = find begin qs end mid are n (kept shared n h) in
               record { i = x.i; point = vertex_of x.u; listed = to_mapped vertex_of ws x.i x.u x.listed; then = x.then },
         );
         placed = λ k w e.
             let x = of_mapped vertex_of ws k w e in
-            let P : Vertex → Type 0 = λ w. At s (moment w.time) w.place in
+            let P : Vertex → Type 0 = λ w. IsCutPlace s p w in
             subst P x.2 (placed x.0 (source begin qs end mid are k x.0 x.1));
       }
 
-  samples : (ws : List Triple) → AreJoined begin qs end ws → Samples s p (map vertex_of ws)
-  samples ws j =
-      subst (λ (l : List Triple). Samples s p (map vertex_of l)) (sym j.joined) (samples_joined j.inside j.are_points)
+  samples : Shares (At s) p → (ws : List Triple) → AreJoined begin qs end ws → Samples s p (map vertex_of ws)
+  samples shared ws j =
+      subst (λ (l : List Triple). Samples s p (map vertex_of l)) (sym j.joined) (samples_joined shared j.inside j.are_points)
+
+  -- ---- its ends
+  begin_marked : (list : List Vertex) → Shares (At s) p → Samples s p list →
+      (p.begin_in || is_none begin ≡ false) ↔ ((p.begin_in ≡ false) × IsListedIn list p.begin)
+  begin_marked list shared S = (
+    λ h.
+        let x = neither p.begin_in begin h in
+        let first = first_of x.1 x.2 in
+        let at = at_cut_instant x.1 (from_begin x.2) in
+        (x.0, (S.instants p.begin).1 (subst (λ (n : ℕ). IsCutInstant s p n) first.value.0 at)),
+    λ h.
+        elim (kept shared p.begin ((S.instants p.begin).0 h.1)) [
+          | at_begin u e f ↦ open_then p.begin_in begin u h.0 e
+          | at_point l ↦
+              let from = first_then_point p qs l (λ k q e. (E.inside.in_period k q e).0) in
+              let less = (moment_lt p.begin p.begin).1 (((begun_at p p.begin).0 from).apart h.0) in
+              absurd (omega (arith, less))
+          | at_end u e f ↦ let last = last_of u e in absurd (last.apart (sym f ∙ last.value.then))
+        ],
+  )
+
+  end_marked : (list : List Vertex) → Shares (At s) p → Samples s p list →
+      (p.end_in || is_none end ≡ false) ↔ ((p.end_in ≡ false) × IsListedIn list p.end)
+  end_marked list shared S = (
+    λ h.
+        let x = neither p.end_in end h in
+        let last = last_of x.1 x.2 in
+        let at = at_cut_instant x.1 (from_end x.2) in
+        (x.0, (S.instants p.end).1 (subst (λ (n : ℕ). IsCutInstant s p n) last.value.then at)),
+    λ h.
+        elim (kept shared p.end ((S.instants p.end).0 h.1)) [
+          | at_end u e f ↦ open_then p.end_in end u h.0 e
+          | at_point l ↦
+              let to = last_point_then p qs l (λ k q e. (E.inside.in_period k q e).1) in
+              let less = (moment_lt p.end p.end).1 (((over_at p p.end E.has).0 to).apart h.0) in
+              absurd (omega (arith, less))
+          | at_begin u e f ↦
+              let first = first_of u e in
+              let less = open_end p E.has h.0 in
+              absurd (omega (arith, less, first.value.0, f))
+        ],
+  )
 
 -- ---- the cut
-some_instant : (s : Sequence) (p : Span) (begin : Option Triple) (qs : List Point) (end : Option Triple) → Ends s p begin qs end
-    → ¬ (count_of begin qs end ≡ 0) → (n : ℕ) × IsCutInstant s p n
-some_instant s p (Some u) qs end E more = (u.0, at_cut_instant s p (Some u) qs end E u (from_begin refl))
-some_instant s p None (q ∷ qs) end E more = (q.t, point_instant s p (q ∷ qs) E.inside 0 q refl)
-some_instant s p None [] (Some u) E more = (u.0, at_cut_instant s p None [] (Some u) E u (from_end refl))
-some_instant s p None [] None E more = absurd (more refl)
-
-pub something : (s : Sequence) (p : Span) (begin : Option Triple) (qs : List Point) (end : Option Triple) → Ends s p begin qs end
-    → ¬ (count_of begin qs end ≡ 0) → ¬ HasNoCut s p
-something s p begin qs end E more none = let x = some_instant s p begin qs end E more in none.nothing_listed x.0 x.1
-
 pub is_cut : (s : Sequence) (p : Span) (begin : Option Triple) (qs : List Point) (end : Option Triple) (interp : Interp)
-    (ws : List Triple) → interp ≡ s.interp → Ends s p begin qs end → ¬ (count_of begin qs end ≡ 0) → AreJoined begin qs end ws
-    → IsCut s p (record { interp = interp; vertices = map vertex_of ws })
-is_cut s p begin qs end interp ws same E more j =
+    (ws : List Triple) (begin_in end_in : Bool) → interp ≡ s.interp → begin_in ≡ (p.begin_in || is_none begin)
+    → end_in ≡ (p.end_in || is_none end) → Ends s p begin qs end → Shares (At s) p → AreJoined begin qs end ws
+    → IsCut s p (record { interp = interp; vertices = map vertex_of ws; begin_in = begin_in; end_in = end_in })
+is_cut s p begin qs end interp ws begin_in end_in same e f E shared j =
     let list = map vertex_of ws in
-    let S = samples s p begin qs end E ws j in
-    let x = some_instant s p begin qs end E more in
-    let y = (S.instants x.0).1 x.1 in
+    let S = samples s p begin qs end E shared ws j in
+    let Begins : Bool → Type 0 = λ b. (b ≡ false) ↔ ((p.begin_in ≡ false) × IsListedIn list p.begin) in
+    let Ends : Bool → Type 0 = λ b. (b ≡ false) ↔ ((p.end_in ≡ false) × IsListedIn list p.end) in
+    let begin_open = subst Begins (sym e) (begin_marked s p begin qs end E list shared S) in
+    let end_open = subst Ends (sym f) (end_marked s p begin qs end E list shared S) in
+    let M : AreMarked p list begin_in end_in = record { begin_open = begin_open; end_open = end_open } in
     record {
+      shared = shared;
       same_interp = same;
-      not_empty = omega (arith, slice_get_within list y.i y.point y.listed);
       ascending = S.ascending;
       instants = S.instants;
+      positions = S.placed;
+      begin_open = begin_open;
+      end_open = end_open;
       values = λ t v.
-          let P : Interp → Type 0 = λ i. HasValue i list t v ↔ (LiesIn t p × At s t v) in
-          subst P (sym same) (values s p list S t v);
+          let h = values s p list begin_in end_in S M t v in
+          let P : Interp → Type 0 = λ i. HasValue i list t v in (
+            λ x. h.0 (x.in_extent, subst P same x.value),
+            λ y. let z = h.1 y in record { in_extent = z.0; value = subst P (sym same) z.1 },
+          );
     }
 
 -- the same, for points that are those of the sequence
 pub ends_of : (s : Sequence) (p : Span) (ps : List Point) (begin : Option Triple) (qs : List Point) (end : Option Triple) → IsValid s
-    → ps ≡ s.points → p.begin ≤ p.end → IsInside ps p qs → IsAdded s p.begin (IsInstantOf qs p.begin) begin
-    → IsAdded s p.end (IsInstantOf qs p.end ⊎ (p.begin ≡ p.end)) end → Ends s p begin qs end
-ends_of s p ps begin qs end valid same order inside b e =
-    record { valid = valid; order = order; inside = subst (λ (l : List Point). IsInside l p qs) same inside; at_begin = b; at_end = e }
+    → ps ≡ s.points → HasInstant p → IsInside ps p qs → IsAddedFirst s p qs begin → IsAddedLast s p qs end → Ends s p begin qs end
+ends_of s p ps begin qs end valid same has inside b e =
+    record { valid = valid; has = has; inside = subst (λ (l : List Point). IsInside l p qs) same inside; at_begin = b; at_end = e }

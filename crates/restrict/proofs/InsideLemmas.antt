@@ -1,5 +1,6 @@
 -- The points of a list in a period, by two searches.
-use Rattle.std.proofs.Common.{◌≡◌, ℕ, ◌+◌, ◌-◌, ◌<◌, ◌≤◌, inl, inr, true, false, leb, ltb, List, length, slice_get, get_or, Option, Some, None, MatchOption, take, drop, sym, ◌∙◌, ap, subst, refl, arith}
+use Rattle.std.proofs.Common.{◌≡◌, ◌≢◌, ℕ, ◌+◌, ◌-◌, ◌<◌, ◌≤◌, ◌⊎◌, inl, inr, true, false, leb, ltb, List, length, slice_get, get_or}
+use Rattle.std.proofs.Common.{Option, Some, None, MatchOption, take, drop, sym, ◌∙◌, ap, subst, refl, arith}
 use Rattle.std.proofs.lemmas.Bool.{cases_lt, leb-true, leb-false, ltb-true, ltb-false}
 use Rattle.std.proofs.lemmas.List.{get_or-take, get_or-drop, length-take-le, length-drop}
 use Rattle.std.proofs.lemmas.Option.{slice_get_within, slice_get-get_or, slice_get_read, get_or_from_slice_get}
@@ -7,11 +8,15 @@ use Rattle.std.proofs.Math.Seq.{take-length}
 use Rattle.std.specs.List.Sorted.{IsPartitionPoint, IsNonDecreasingBy}
 use Rattle.tpoint.proofs.PieceLemmas.{rises_le}
 use Rattle.tpoint.specs.Moving.{Sequence, Rises}
-use Rattle.tpoint.specs.Extents.{Span}
+use Rattle.tpoint.specs.Extents.{Span, HasInstant, first_whole, last_whole}
+use Rattle.tpoint.specs.declared.interp.Interp.TheVariants.{Discrete, Step}
+use Rattle.tpoint.proofs.Periods.{end_after_last, first_then, last_then}
 use Rattle.tpoint.specs.declared.point.Point.{Point}
 use Rattle.tpoint.specs.declared.frac.Frac.{Frac}
-use Rattle.restrict.specs.Cuts.{HasValueAt, IsInstantOf}
-use Rattle.restrict.specs.Inside.{IsInside, IsAdded, IsValueAt}
+use Rattle.tpoint.specs.Reduced.{position}
+use Rattle.restrict.proofs.Shared.{value_before}
+use Rattle.restrict.specs.Cuts.{HasValueAt, IsInstantOf, StopsBefore}
+use Rattle.restrict.specs.Inside.{IsAddedFirst, IsAddedLast, IsInside, IsUpToEnd, IsValueAt}
 
 -- ---- elements of a part of a list
 from_take : {A : Type 0} → (xs : List A) (n k : ℕ) (x : A) → n ≤ length xs → slice_get (take n xs) k ≡ Some x
@@ -68,8 +73,8 @@ above x q n e h = subst (λ (y : Point). n < y.t) e (leb-false x.t n h)
 
 -- ---- the points that the searches leave
 pub found_inside : (ps : List Point) (p : Span) (first count : ℕ) → ((k : ℕ) → Rises ps k) → count ≤ length (drop first ps)
-    → IsPartitionPoint (λ (q : Point). ltb q.t p.begin ≡ true) (λ q. ltb q.t p.begin ≡ false) ps first
-    → IsPartitionPoint (λ (q : Point). leb q.t p.end ≡ true) (λ q. leb q.t p.end ≡ false) (drop first ps) count
+    → IsPartitionPoint (λ (q : Point). ltb q.t (first_whole p) ≡ true) (λ q. ltb q.t (first_whole p) ≡ false) ps first
+    → IsPartitionPoint (λ (q : Point). leb q.t (last_whole p) ≡ true) (λ q. leb q.t (last_whole p) ≡ false) (drop first ps) count
     → IsInside ps p (take count (drop first ps))
 found_inside ps p first count rise bound begin end =
     let rest = drop first ps in
@@ -85,16 +90,16 @@ found_inside ps p first count rise bound begin end =
           let at = from_drop ps first k q r.1 in
           let here = get_or_from_slice_get ps (first + k) q q at in
           let there = get_or_from_slice_get rest k q q r.1 in (
-            not_below (get_or ps (first + k) q) q p.begin here
+            not_below (get_or ps (first + k) q) q (first_whole p) here
                 (begin.1 (first + k) q (omega arith) (slice_get_within ps (first + k) q at)),
-            at_most (get_or rest k q) q p.end there
+            at_most (get_or rest k q) q (last_whole p) there
                 (end.0 k q (omega arith) r.0),
           );
       all = λ k q e from to.
           elim (cases_lt k first) [
             | inl early ↦ absurd (omega (
               arith,
-              below (get_or ps k q) q p.begin (get_or_from_slice_get ps k q q e)
+              below (get_or ps k q) q (first_whole p) (get_or_from_slice_get ps k q q e)
                   (begin.0 k q (omega arith) early),
             ))
             | inr later ↦
@@ -104,7 +109,7 @@ found_inside ps p first count rise bound begin end =
                   | inl within ↦ (k - first, to_take rest count (k - first) q bound within r)
                   | inr over ↦ absurd (omega (
                     arith,
-                    above (get_or rest (k - first) q) q p.end
+                    above (get_or rest (k - first) q) q (last_whole p)
                         (get_or_from_slice_get rest (k - first) q q r) (end.1 (k - first) q over (slice_get_within rest (k - first) q r)),
                   ))
                 ]
@@ -117,20 +122,52 @@ pub begin_not_listed : (ps : List Point) (p : Span) (qs : List Point) (x : Point
 begin_not_listed ps p qs x inside some read other h =
     let at = slice_get_read qs (length qs) 0 x refl some read in
     let order = rises_le qs inside.rising 0 h.i x h.point (omega arith) at h.listed in
-    other (omega (arith, order, h.then, (inside.in_period 0 x at).0))
+    other (omega (arith, order, h.then, first_then p x.t (inside.in_period 0 x at).0))
 
 pub end_not_listed : (ps : List Point) (p : Span) (qs : List Point) (i : ℕ) (x : Point) → IsInside ps p qs → i + 1 ≡ length qs
     → x ≡ get_or qs i x → ¬ (x.t ≡ p.end) → ¬ IsInstantOf qs p.end
 end_not_listed ps p qs i x inside last read other h =
     let at = slice_get_read qs (length qs) i x refl (omega arith) read in
     let order = rises_le qs inside.rising h.i i h.point x (omega (arith, slice_get_within qs h.i h.point h.listed)) h.listed at in
-    other (omega (arith, order, h.then, (inside.in_period i x at).1))
+    other (omega (arith, order, h.then, last_then p x.t (inside.in_period i x at).1))
 
 pub none_listed : (qs : List Point) (n : ℕ) → length qs < 1 → ¬ IsInstantOf qs n
 none_listed qs n h k = absurd (omega (arith, slice_get_within qs k.i k.point k.listed))
 
 -- a value at an end that no point is at is added
-pub to_add : (s : Sequence) (m n : ℕ) (Listed : Type 0) (o : Option (ℕ × Frac × Frac)) → m ≡ n → ¬ Listed
-    → MatchOption o (¬ HasValueAt s m) (IsValueAt s m) → IsAdded s n Listed o
-to_add s m n Listed None e free h = inr (subst (λ (k : ℕ). ¬ HasValueAt s k) e h)
-to_add s m n Listed (Some w) e free h = (free, subst (λ (k : ℕ). IsValueAt s k w) e h)
+pub first_added : (s : Sequence) (p : Span) (qs : List Point) (n : ℕ) (o : Option (ℕ × Frac × Frac)) → n ≡ p.begin
+    → ¬ IsInstantOf qs p.begin → s.interp ≢ Discrete → MatchOption o (¬ HasValueAt s n) (IsValueAt s n) → IsAddedFirst s p qs o
+first_added s p qs n None e free goes_on h = inr (inr (subst (λ (k : ℕ). ¬ HasValueAt s k) e h))
+first_added s p qs n (Some w) e free goes_on h =
+    record { not_listed = free; goes_on = goes_on; value = subst (λ (k : ℕ). IsValueAt s k w) e h }
+
+pub last_added : (s : Sequence) (p : Span) (qs : List Point) (o : Option (ℕ × Frac × Frac)) → ¬ IsInstantOf qs p.end
+    → ¬ (p.begin ≡ p.end) → s.interp ≢ Discrete
+    → MatchOption o ((¬ HasValueAt s p.end) ⊎ (¬ HasValueAt s (last_whole p))) (IsUpToEnd s p) → IsAddedLast s p qs o
+last_added s p qs None free apart goes_on h =
+    elim h [ inl no_value ↦ inl (inr (inr no_value)) | inr no_value ↦ inr (inr no_value) ]
+last_added s p qs (Some w) free apart goes_on h = record { not_listed = free; apart = apart; goes_on = goes_on; value = h }
+
+-- ---- the value up to the end
+pub value_itself : (s : Sequence) (p : Span) (n : ℕ) (t : ℕ) (x y : Frac) → n ≡ p.end → ¬ StopsBefore s p n → IsValueAt s n (t, x, y)
+    → IsUpToEnd s p (n, x, y)
+value_itself s p n t x y e free h =
+    record {
+      then = e;
+      has_value = subst (λ (k : ℕ). HasValueAt s k) e (record { v = position (x, y); value = h.1 });
+      there = record { there = λ _. h.1; before = λ stops. absurd (free stops) };
+    }
+
+pub value_just_before : (s : Sequence) (p : Span) (n m : ℕ) (t u : ℕ) (x y a b : Frac) → HasInstant p → n ≡ p.end → m ≡ last_whole p
+    → s.interp ≡ Step → p.end_in ≡ false → IsValueAt s n (t, x, y) → IsValueAt s m (u, a, b) → IsUpToEnd s p (n, a, b)
+value_just_before s p n m t u x y a b has e f is_step not_in h k =
+    let end : HasValueAt s n = record { v = position (x, y); value = h.1 } in
+    let next : n ≡ m + 1 = omega (arith, e, f, end_after_last p has not_in) in
+    record {
+      then = e;
+      has_value = subst (λ (i : ℕ). HasValueAt s i) e end;
+      there = record {
+        there = λ free. absurd (free (record { is_step = is_step; is_end = e; not_in = not_in }));
+        before = λ _. value_before s m n (position (a, b)) is_step next k.1 end;
+      };
+    }

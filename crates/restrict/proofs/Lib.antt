@@ -7,5 +7,6 @@ pub mod Transport
 pub mod Values
 pub mod InsideLemmas
 pub mod Joining
+pub mod Shared
 pub mod OwnValues
 pub mod Assembly

@@ -10,7 +10,7 @@ use Rattle.tpoint.specs.Pieces.{place, AtPoint}
 use Rattle.tpoint.specs.declared.point.Point.{Point}
 use Rattle.tpoint.specs.declared.interp.Interp.{Interp}
 use Rattle.tpoint.specs.declared.interp.Interp.TheVariants.{Discrete, Step, Linear}
-use Rattle.restrict.proofs.Spans.{leg_value}
+use Rattle.tpoint.proofs.SubLegs.{leg_reaches}
 
 at_itself : (q : Point) → AtPoint q (moment q.t) (place q)
 at_itself q = record { then = ≈_refl (moment q.t); there = record { same_x = ≈_refl (place q).x; same_y = ≈_refl (place q).y } }
@@ -20,7 +20,7 @@ on_begin : (ps : List Point) → ((k : ℕ) → Rises ps k) → (i : ℕ) (a b :
     → HasValue Linear (map vertex ps) (moment a.t) (place a)
 on_begin ps rise i a b e f =
     let order = rise i a b e f in
-    let v = leg_value a b (moment a.t) order ((moment_le a.t a.t).0 (omega arith)) ((moment_le a.t b.t).0 (omega arith)) in
+    let v = leg_reaches a b (moment a.t) order ((moment_le a.t a.t).0 (omega arith)) ((moment_le a.t b.t).0 (omega arith)) in
     let same = leg_begin a b (moment a.t) v.0 order (≈_refl (moment a.t)) v.1 in
     record {
       i = i;
@@ -31,7 +31,7 @@ on_end : (ps : List Point) → ((k : ℕ) → Rises ps k) → (i : ℕ) (a b : P
     → HasValue Linear (map vertex ps) (moment b.t) (place b)
 on_end ps rise i a b e f =
     let order = rise i a b e f in
-    let v = leg_value a b (moment b.t) order ((moment_le a.t b.t).0 (omega arith)) ((moment_le b.t b.t).0 (omega arith)) in
+    let v = leg_reaches a b (moment b.t) order ((moment_le a.t b.t).0 (omega arith)) ((moment_le b.t b.t).0 (omega arith)) in
     let same = leg_end a b (moment b.t) v.0 order (≈_refl (moment b.t)) v.1 in
     record {
       i = i;

@@ -1,71 +1,133 @@
 -- A list that has the sequence's values at just the instants that a cut lists.
-use Rattle.std.proofs.Common.{◌≡◌, ℕ, ◌<◌, ◌↔◌, inl, inr, List, map, slice_get, Some, subst, refl, arith}
+use Rattle.std.proofs.Common.{◌≡◌, ◌≢◌, ℕ, ◌<◌, ◌≤◌, ◌↔◌, ◌⊎◌, inl, inr, List, map, slice_get, Some, subst, refl, arith}
 use Rattle.std.proofs.lemmas.Bool.{cases_lt}
-use Rattle.tpoint.proofs.Fractions.{≤ᶠ_trans, ≤ᶠ_of_≈, ≈_sym, ≈_refl, ≤ᶠ-≈, ≈-≤ᶠ, moment_le, moment_lt, ≤ᶠ_of_<ᶠ}
+use Rattle.tpoint.proofs.Fractions.{≤ᶠ_trans, ≈_sym, moment_le, moment_lt, ≤ᶠ_of_<ᶠ}
 use Rattle.tpoint.proofs.PieceLemmas.{unmap}
 use Rattle.tpoint.proofs.Unique.{at_unique}
 use Rattle.tpoint.specs.Fraction.{Fraction, ◌≈◌, ◌≤ᶠ◌}
 use Rattle.tpoint.specs.Moving.{Position, Vertex, IsPlace, AtListed, Sequence, At, IsValid, moment, vertex}
-use Rattle.tpoint.specs.Extents.{Span, LiesIn}
-use Rattle.restrict.specs.Cuts.{IsCutInstant, IsListedIn}
+use Rattle.tpoint.specs.Extents.{Span, HasInstant, LiesIn, first_whole, last_whole}
+use Rattle.tpoint.specs.Pieces.{place}
+use Rattle.tpoint.specs.declared.point.Point.{Point}
+use Rattle.tpoint.specs.declared.interp.Interp.TheVariants.{Discrete}
+use Rattle.tpoint.proofs.Periods.{after_end, before_begin, whole_lies}
+use Rattle.restrict.specs.Cuts.{HasValueAt, IsCutInstant, IsCutPlace, IsListedIn, StopsBefore}
+use Rattle.restrict.proofs.OwnValues.{own_value}
 use Rattle.restrict.proofs.Transport.{at_time, at_place}
 use Rattle.restrict.proofs.Ordered.{Ascends, place_before}
-use Rattle.restrict.proofs.Spans.{NotAfter, NotBefore, begun_before, ended_after, Fills, fills}
+use Rattle.restrict.proofs.Spans.{NotAfter, NotBefore, begun_before, ended_after, fills, fills_of}
+
+-- an instant is not before a period, nor after it, in it or not
+pub record Around (t : Fraction) (p : Span) : Type 0 where
+  pub begun : moment p.begin ≤ᶠ t
+  pub not_over : t ≤ᶠ moment p.end
+
+pub around_of : {t : Fraction} {p : Span} → LiesIn t p → Around t p
+around_of h = record { begun = h.begun.not_after; not_over = h.not_over.not_after }
+
+around_by : (p : Span) (n : ℕ) → p.begin ≤ n → n ≤ p.end → Around (moment n) p
+around_by p n from to = record { begun = (moment_le p.begin n).0 from; not_over = (moment_le n p.end).0 to }
 
 pub record Samples (s : Sequence) (p : Span) (list : List Vertex) : Type 0 where
   pub valid : IsValid s
+  pub has : HasInstant p
   pub ascending : Ascends list
   pub instants : (n : ℕ) → IsListedIn list n ↔ IsCutInstant s p n
-  pub placed : (k : ℕ) (w : Vertex) → slice_get list k ≡ Some w → At s (moment w.time) w.place
+  pub placed : (k : ℕ) (w : Vertex) → slice_get list k ≡ Some w → IsCutPlace s p w
 
 module _ (s : Sequence) (p : Span) (list : List Vertex) (S : Samples s p list) where
   -- ---- what is listed
-  pub in_period : (k : ℕ) (w : Vertex) → slice_get list k ≡ Some w → LiesIn (moment w.time) p
-  in_period k w e = ((S.instants w.time).0 (record { i = k; point = w; listed = e; then = refl })).in_period
+  cut_instant : (k : ℕ) (w : Vertex) → slice_get list k ≡ Some w → IsCutInstant s p w.time
+  cut_instant k w e = (S.instants w.time).0 (record { i = k; point = w; listed = e; then = refl })
 
-  pub vertex_listed : (m : ℕ) (u : Vertex) → slice_get (map vertex s.points) m ≡ Some u → LiesIn (moment u.time) p
-      → IsListedIn list u.time
-  vertex_listed m u e within =
+  pub in_period : (k : ℕ) (w : Vertex) → slice_get list k ≡ Some w → Around (moment w.time) p
+  in_period k w e =
+      let order = S.has.ordered in
+      elim (cut_instant k w e) [
+        | inl h ↦ around_of h.in_period
+        | inr h ↦
+            elim h.is_end [
+              | inl begin ↦ around_by p w.time (omega (arith, begin)) (omega (arith, begin, order))
+              | inr end ↦ around_by p w.time (omega (arith, end, order)) (omega (arith, end))
+            ]
+      ]
+
+  own_instant : (m : ℕ) (q : Point) → slice_get s.points m ≡ Some q → HasValueAt s q.t
+  own_instant m q e = record { v = place q; value = own_value s S.valid m q e }
+
+  -- the sequence has a value at each
+  pub value_listed : (k : ℕ) (w : Vertex) → slice_get list k ≡ Some w → HasValueAt s w.time
+  value_listed k w e =
+      elim (cut_instant k w e) [
+        | inl h ↦ subst (λ (n : ℕ). HasValueAt s n) h.listed.then (own_instant h.listed.i h.listed.point h.listed.listed)
+        | inr h ↦ h.has_value
+      ]
+
+  inner_listed : (m : ℕ) (q : Point) → slice_get s.points m ≡ Some q → LiesIn (moment q.t) p → IsListedIn list q.t
+  inner_listed m q e lies =
+      (S.instants q.t).1 (inl (record { in_period = lies; listed = record { i = m; point = q; listed = e; then = refl } }))
+
+  -- an instant of the sequence in the period is listed, and at an end that isn't in, where the sequence goes on
+  point_listed : s.interp ≢ Discrete → (m : ℕ) (q : Point) → slice_get s.points m ≡ Some q → Around (moment q.t) p → IsListedIn list q.t
+  point_listed goes_on m q e k =
+      let from = (moment_le p.begin q.t).1 k.begun in
+      let to = (moment_le q.t p.end).1 k.not_over in
+      let at_end : ((q.t ≡ p.begin) ⊎ (q.t ≡ p.end)) → IsListedIn list q.t =
+      λ is_end. (S.instants q.t).1 (inr (record { goes_on = goes_on; is_end = is_end; has_value = own_instant m q e })) in
+      elim (cases_lt q.t (first_whole p)) [
+        | inl before ↦ at_end (inl (omega (arith, from, before_begin p q.t before)))
+        | inr begun ↦
+            elim (cases_lt (last_whole p) q.t) [
+              | inl after ↦ at_end (inr (omega (arith, to, after_end p q.t after)))
+              | inr over ↦ inner_listed m q e ((whole_lies p q.t S.has).0 (begun, over))
+            ]
+      ]
+
+  pub vertex_inside : (m : ℕ) (u : Vertex) → slice_get (map vertex s.points) m ≡ Some u → LiesIn (moment u.time) p → IsListedIn list u.time
+  vertex_inside m u e lies =
       let f = unmap s.points m u e in
       let P : Vertex → Type 0 = λ w. LiesIn (moment w.time) p → IsListedIn list w.time in
-      subst P f.2 (λ k. (S.instants f.0.t).1 (record {
-        in_period = k;
-        end_or_listed = inr
-            (record { i = m; point = f.0; listed = f.1; then = refl });
-      })) within
+      subst P f.2 (inner_listed m f.0 f.1) lies
+
+  pub vertex_listed : s.interp ≢ Discrete → (m : ℕ) (u : Vertex) → slice_get (map vertex s.points) m ≡ Some u → Around (moment u.time) p
+      → IsListedIn list u.time
+  vertex_listed goes_on m u e within =
+      let f = unmap s.points m u e in
+      let P : Vertex → Type 0 = λ w. Around (moment w.time) p → IsListedIn list w.time in
+      subst P f.2 (point_listed goes_on m f.0 f.1) within
 
   -- an instant of the sequence from the vertex w on is listed after w
-  pub listed_after : (i : ℕ) (w : Vertex) → slice_get list i ≡ Some w → (m : ℕ) (u : Vertex) → slice_get (map vertex s.points) m ≡ Some u
+  pub listed_after : s.interp ≢ Discrete → (i : ℕ) (w : Vertex) → slice_get list i ≡ Some w → (m : ℕ) (u : Vertex)
+      → slice_get (map vertex s.points) m ≡ Some u
       → w.time < u.time → moment u.time ≤ᶠ moment p.end
       → (j : ℕ) × (x : Vertex) × (i < j) × (slice_get list j ≡ Some x) × (x.time ≡ u.time)
-  listed_after i w e m u f later to =
+  listed_after goes_on i w e m u f later to =
       let from = (in_period i w e).begun in
-      let l = vertex_listed m u f (record { begun = ≤ᶠ_trans from (≤ᶠ_of_<ᶠ ((moment_lt w.time u.time).0 later)); not_over = to }) in
+      let l = vertex_listed goes_on m u f (record { begun = ≤ᶠ_trans from (≤ᶠ_of_<ᶠ ((moment_lt w.time u.time).0 later)); not_over = to })
+      in
       (l.i, l.point, place_before list S.ascending i l.i w l.point (omega (arith, l.then)) e l.listed, l.listed, l.then)
 
   -- ---- at a listed instant
-  pub listed_to : (i : ℕ) (w : Vertex) (t : Fraction) (v : Position) → slice_get list i ≡ Some w → t ≈ moment w.time → IsPlace v w.place
-      → LiesIn t p × At s t v
-  listed_to i w t v e then there =
-      let within = in_period i w e in (
-        record { begun = ≤ᶠ-≈ within.begun (≈_sym then); not_over = ≈-≤ᶠ then within.not_over },
-        at_time s S.valid (moment w.time) t v (≈_sym then) (at_place s S.valid (moment w.time) v w.place there (S.placed i w e)),
-      )
+  pub listed_to : (i : ℕ) (w : Vertex) (t : Fraction) (v : Position) → slice_get list i ≡ Some w → ¬ StopsBefore s p w.time
+      → t ≈ moment w.time → IsPlace v w.place → At s t v
+  listed_to i w t v e free then there =
+      at_time s S.valid (moment w.time) t v (≈_sym then)
+      (at_place s S.valid (moment w.time) v w.place there ((S.placed i w e).there free))
 
-  pub listed_from : (i : ℕ) (w : Vertex) (t : Fraction) (v : Position) → slice_get list i ≡ Some w → t ≈ moment w.time → At s t v
-      → AtListed list i t v
-  listed_from i w t v e then h =
+  pub listed_from : (i : ℕ) (w : Vertex) (t : Fraction) (v : Position) → slice_get list i ≡ Some w → ¬ StopsBefore s p w.time
+      → t ≈ moment w.time → At s t v → AtListed list i t v
+  listed_from i w t v e free then h =
       record {
         point = w;
         listed = e;
         then = then;
-        there = at_unique s S.valid (moment w.time) v w.place (at_time s S.valid t (moment w.time) v then h) (S.placed i w e);
+        there = at_unique s S.valid (moment w.time) v w.place (at_time s S.valid t (moment w.time) v then h) ((S.placed i w e).there free);
       }
 
   -- ---- listed instants reach as far as the values in the period
-  low_end : Fills s.interp → (t : Fraction) → LiesIn t p → NotAfter (map vertex s.points) t → NotBefore (map vertex s.points) t
+  low_end : s.interp ≢ Discrete → (t : Fraction) → Around t p → NotAfter (map vertex s.points) t → NotBefore (map vertex s.points) t
       → NotAfter list t
-  low_end f t within a b =
+  low_end goes_on t within a b =
       elim (cases_lt a.w.time p.begin) [
         | inl l ↦
             let from : NotAfter (map vertex s.points)
@@ -78,11 +140,9 @@ module _ (s : Sequence) (p : Span) (list : List Vertex) (S : Samples s p list) w
               reaches = ≤ᶠ_trans
                   within.begun b.reaches;
             } in
-            let v = fills s.interp f s.points S.valid.increasing (moment p.begin) from to in
-            let here = (S.instants p.begin).1 (record {
-              in_period = record { begun = ≤ᶠ_of_≈ (≈_refl (moment p.begin)); not_over = ≤ᶠ_trans within.begun within.not_over };
-              end_or_listed = inl (inl refl, record { v = v.0; value = v.1 });
-            }) in
+            let v = fills s.interp (fills_of s.interp goes_on) s.points S.valid.increasing (moment p.begin) from to in
+            let here = (S.instants p.begin).1
+            (inr (record { goes_on = goes_on; is_end = inl refl; has_value = record { v = v.0; value = v.1 } })) in
             record {
               i = here.i;
               w = here.point;
@@ -91,7 +151,7 @@ module _ (s : Sequence) (p : Span) (list : List Vertex) (S : Samples s p list) w
                   ((moment_le here.point.time p.begin).0 (omega (arith, here.then))) within.begun;
             }
         | inr l ↦
-            let here = vertex_listed a.i a.w a.listed
+            let here = vertex_listed goes_on a.i a.w a.listed
             (record { begun = (moment_le p.begin a.w.time).0 l; not_over = ≤ᶠ_trans a.reached within.not_over }) in
             record {
               i = here.i;
@@ -102,9 +162,9 @@ module _ (s : Sequence) (p : Span) (list : List Vertex) (S : Samples s p list) w
             }
       ]
 
-  high_end : Fills s.interp → (t : Fraction) → LiesIn t p → NotAfter (map vertex s.points) t → NotBefore (map vertex s.points) t
+  high_end : s.interp ≢ Discrete → (t : Fraction) → Around t p → NotAfter (map vertex s.points) t → NotBefore (map vertex s.points) t
       → NotBefore list t
-  high_end f t within a b =
+  high_end goes_on t within a b =
       elim (cases_lt p.end b.w.time) [
         | inl l ↦
             let from : NotAfter (map vertex s.points)
@@ -116,11 +176,9 @@ module _ (s : Sequence) (p : Span) (list : List Vertex) (S : Samples s p list) w
               reaches = ≤ᶠ_of_<ᶠ
                   ((moment_lt p.end b.w.time).0 l);
             } in
-            let v = fills s.interp f s.points S.valid.increasing (moment p.end) from to in
-            let here = (S.instants p.end).1 (record {
-              in_period = record { begun = ≤ᶠ_trans within.begun within.not_over; not_over = ≤ᶠ_of_≈ (≈_refl (moment p.end)) };
-              end_or_listed = inl (inr refl, record { v = v.0; value = v.1 });
-            }) in
+            let v = fills s.interp (fills_of s.interp goes_on) s.points S.valid.increasing (moment p.end) from to in
+            let here = (S.instants p.end).1
+            (inr (record { goes_on = goes_on; is_end = inr refl; has_value = record { v = v.0; value = v.1 } })) in
             record {
               i = here.i;
               w = here.point;
@@ -129,7 +187,7 @@ module _ (s : Sequence) (p : Span) (list : List Vertex) (S : Samples s p list) w
                   ((moment_le p.end here.point.time).0 (omega (arith, here.then)));
             }
         | inr l ↦
-            let here = vertex_listed b.i b.w b.listed
+            let here = vertex_listed goes_on b.i b.w b.listed
             (record { begun = ≤ᶠ_trans within.begun b.reaches; not_over = (moment_le b.w.time p.end).0 l }) in
             record {
               i = here.i;
@@ -140,12 +198,12 @@ module _ (s : Sequence) (p : Span) (list : List Vertex) (S : Samples s p list) w
             }
       ]
 
-  pub listed_before : Fills s.interp → (t : Fraction) (v : Position) → LiesIn t p → At s t v → NotAfter list t
-  listed_before f t v within h =
-      low_end f t within (begun_before s.interp (map vertex s.points) h.i t v h.at_i)
+  pub listed_before : s.interp ≢ Discrete → (t : Fraction) (v : Position) → Around t p → At s t v → NotAfter list t
+  listed_before goes_on t v within h =
+      low_end goes_on t within (begun_before s.interp (map vertex s.points) h.i t v h.at_i)
       (ended_after s.interp (map vertex s.points) h.i t v h.at_i)
 
-  pub listed_behind : Fills s.interp → (t : Fraction) (v : Position) → LiesIn t p → At s t v → NotBefore list t
-  listed_behind f t v within h =
-      high_end f t within (begun_before s.interp (map vertex s.points) h.i t v h.at_i)
+  pub listed_behind : s.interp ≢ Discrete → (t : Fraction) (v : Position) → Around t p → At s t v → NotBefore list t
+  listed_behind goes_on t v within h =
+      high_end goes_on t within (begun_before s.interp (map vertex s.points) h.i t v h.at_i)
       (ended_after s.interp (map vertex s.points) h.i t v h.at_i)

@@ -1,12 +1,13 @@
 -- A list of vertices has values from its first instant to its last, and nowhere else.
-use Rattle.std.proofs.Common.{◌≡◌, ℕ, ◌+◌, ◌-◌, ◌*◌, ◌<◌, ◌≤◌, inl, inr, zero, suc, ℤ, pos, ◌+ℤ◌, ◌*ℤ◌, ◌-ℤ◌, List, map, length, slice_get, get_or, Some, sym, subst, refl, arith}
+use Rattle.std.proofs.Common.{◌≡◌, ◌≢◌, ℕ, ◌+◌, ◌<◌, inl, inr, zero, suc, List, map, length, slice_get, get_or, Some, sym, subst, refl}
+use Rattle.std.proofs.Common.{arith}
 use Rattle.std.proofs.lemmas.Bool.{cases_lt}
 use Rattle.std.proofs.lemmas.Option.{slice_get_within, slice_get-get_or}
 use Rattle.tpoint.proofs.Fractions.{≤ᶠ_trans, ≤ᶠ_of_≈, ≈_sym, ≈_refl, ≈_from_≤ᶠ, ≤ᶠ_of_<ᶠ, moment_le, <ᶠ_of_≤ᶠ_not}
-use Rattle.tpoint.proofs.SubLegs.{OnLine, line_to}
+use Rattle.tpoint.proofs.SubLegs.{leg_reaches}
 use Rattle.tpoint.proofs.PieceLemmas.{unmap, mapped, leg_to, single_to, rises_le}
-use Rattle.tpoint.specs.Fraction.{Fraction, ◌≤ᶠ◌, ◌<ᶠ◌, one_le-mul}
-use Rattle.tpoint.specs.Moving.{Position, Vertex, OnLeg, AtPlace, HasValue, Rises, moment, vertex}
+use Rattle.tpoint.specs.Fraction.{Fraction, ◌≤ᶠ◌, ◌<ᶠ◌}
+use Rattle.tpoint.specs.Moving.{Position, Vertex, AtPlace, HasValue, Rises, moment, vertex}
 use Rattle.tpoint.specs.declared.point.Point.{Point}
 use Rattle.tpoint.specs.declared.interp.Interp.{Interp}
 use Rattle.tpoint.specs.declared.interp.Interp.TheVariants.{Discrete, Step, Linear}
@@ -47,36 +48,6 @@ latest_of list t h =
       | inl l ↦ l
       | inr all ↦ absurd (<ᶠ_of_≤ᶠ_not t (moment h.w.time) (all h.i h.w h.listed) h.reached)
     ]
-
--- ---- a leg has a value at each of its instants
-line_value : (x0 k : ℤ) (t0 D : ℕ) → 1 ≤ D → (t : Fraction) → (v : Fraction) × OnLine x0 k t0 D v.num v.den t.num t.den
-line_value x0 k t0 D h t = (
-  record {
-    num = x0 *ℤ pos (D * t.den) +ℤ k *ℤ (t.num -ℤ pos t0 *ℤ pos t.den);
-    den = D * t.den;
-    at_least_one = one_le-mul D t.den h t.at_least_one;
-  },
-  refl,
-)
-
-leg_value_by : (a b : Point) (D : ℕ) (t : Fraction) → 1 ≤ D → b.t ≡ a.t + D → moment a.t ≤ᶠ t → t ≤ᶠ moment b.t
-    → (w : Position) × OnLeg (vertex a) (vertex b) t w
-leg_value_by a b D t h e from to =
-    let x = line_value a.x (b.x -ℤ a.x) a.t D h t in
-    let y = line_value a.y (b.y -ℤ a.y) a.t D h t in (
-      record { x = x.0; y = y.0 },
-      record {
-        begun = from;
-        not_over = to;
-        along_x = rw e (line_to a.x b.x a.t D x.0 t x.1);
-        along_y = rw e
-            (line_to a.y b.y a.t D y.0 t y.1);
-      },
-    )
-
-pub leg_value : (a b : Point) (t : Fraction) → a.t < b.t → moment a.t ≤ᶠ t → t ≤ᶠ moment b.t
-    → (w : Position) × OnLeg (vertex a) (vertex b) t w
-leg_value a b t h from to = leg_value_by a b (b.t - a.t) t (omega arith) (omega arith) from to
 
 -- ---- the last point that is not after t
 pub record LatestPoint (ps : List Point) (t : Fraction) : Type 0 where
@@ -121,7 +92,7 @@ fills_step ps t h k =
 on_leg_of : (ps : List Point) → ((k : ℕ) → Rises ps k) → (i : ℕ) (a b : Point) (t : Fraction) → slice_get ps i ≡ Some a
     → slice_get ps (i + 1) ≡ Some b → moment a.t ≤ᶠ t → t ≤ᶠ moment b.t → (v : Position) × HasValue Linear (map vertex ps) t v
 on_leg_of ps rise i a b t ea eb from to =
-    let w = leg_value a b t (rise i a b ea eb) from to in
+    let w = leg_reaches a b t (rise i a b ea eb) from to in
     (w.0, record { i = i; at_i = leg_to ps i a b ea eb t w.0 w.1 })
 
 -- at the last point
@@ -172,3 +143,8 @@ pub fills : (interp : Interp) → Fills interp → (ps : List Point) → ((k : �
 fills Discrete f ps rise t h k = absurd f
 fills Step f ps rise t h k = fills_step ps t h k
 fills Linear f ps rise t h k = fills_linear ps rise t h k
+
+pub fills_of : (interp : Interp) → interp ≢ Discrete → Fills interp
+fills_of Discrete goes_on = absurd (goes_on refl)
+fills_of Step goes_on = tt
+fills_of Linear goes_on = tt

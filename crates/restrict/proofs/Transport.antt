@@ -1,5 +1,6 @@
 -- Equal instants have equal values.
-use Rattle.std.proofs.Common.{◌≡◌, ℕ, ◌+◌, ◌-◌, ◌*◌, ◌<◌, ◌≤◌, inl, inr, ℤ, pos, ◌+ℤ◌, ◌*ℤ◌, ◌-ℤ◌, List, map, slice_get, Some, sym, subst, ap, arith}
+use Rattle.std.proofs.Common.{◌≡◌, ℕ, ◌+◌, ◌-◌, ◌*◌, ◌<◌, ◌≤◌, inl, inr, ℤ, pos, ◌+ℤ◌, ◌*ℤ◌, ◌-ℤ◌, List, map, slice_get, Some, sym, subst}
+use Rattle.std.proofs.Common.{ap, arith}
 use Rattle.tpoint.proofs.Polynomials.{int, nat, ◌⊕◌, ◌⊝◌, ◌⊛◌, eq_parts, eq_from}
 use Rattle.tpoint.proofs.Fractions.{scale_eq_back, ≤ᶠ_of_≈, ≈_sym, ≈_trans, ≤ᶠ-≈, ≈-≤ᶠ, ≤ᶠ-<ᶠ}
 use Rattle.tpoint.proofs.SubLegs.{OnLine, line_from, line_to}

@@ -1,11 +1,13 @@
 -- What a cut is put together from: the points in the period, and the values at its ends.
-use Rattle.std.specs.Prelude.{◌≡◌, ℕ, ◌+◌, ◌≤◌, ◌⊎◌, ◌++◌, List, length, slice_get, Option, Some, MatchOption, option_to_list}
+use Rattle.std.specs.Prelude.{◌≡◌, ◌≢◌, ℕ, ◌+◌, ◌≤◌, ◌⊎◌, ◌++◌, List, length, slice_get, Option, Some, MatchOption, option_to_list}
+use Rattle.std.specs.Prelude.{Bool, ◌||◌, ◌&&◌, nat_lt, is_some}
 use Rattle.tpoint.specs.Moving.{Sequence, At, IsPlace, Rises, moment}
-use Rattle.tpoint.specs.Extents.{Span}
+use Rattle.tpoint.specs.Extents.{Span, first_whole, last_whole}
 use Rattle.tpoint.specs.Pieces.{place}
 use Rattle.tpoint.specs.declared.frac.Frac.{Frac}
 use Rattle.tpoint.specs.declared.point.Point.{Point}
-use Rattle.restrict.specs.Cuts.{HasValueAt, vertex_of}
+use Rattle.tpoint.specs.declared.interp.Interp.TheVariants.{Discrete}
+use Rattle.restrict.specs.Cuts.{HasValueAt, IsInstantOf, IsCutPlace, vertex_of}
 
 -- qs are the points of ps in the period; in ps they stand from the place `first` on
 pub record IsInside (ps : List Point) (p : Span) (qs : List Point) : Type 0 where
@@ -14,18 +16,48 @@ pub record IsInside (ps : List Point) (p : Span) (qs : List Point) : Type 0 wher
       → slice_get ps (first + k) ≡ Some q
   pub rising : (k : ℕ) → Rises qs k
   pub in_period : (k : ℕ) (q : Point) → slice_get qs k ≡ Some q
-      → (p.begin ≤ q.t) × (q.t ≤ p.end)
-  pub all : (k : ℕ) (q : Point) → slice_get ps k ≡ Some q → p.begin ≤ q.t → q.t ≤ p.end
+      → (first_whole p ≤ q.t) × (q.t ≤ last_whole p)
+  pub all : (k : ℕ) (q : Point) → slice_get ps k ≡ Some q → first_whole p ≤ q.t → q.t ≤ last_whole p
       → (j : ℕ) × (slice_get qs j ≡ Some q)
 
 -- w is the sequence's value at n
 abbrev pub IsValueAt : Sequence → ℕ → ℕ × Frac × Frac → Type 0
 IsValueAt s n w = (w.0 ≡ n) × At s (moment n) (vertex_of w).place
 
--- what an end n of the period adds: its value, unless the instant is listed already
-abbrev pub IsAdded : Sequence → ℕ → Type 0 → Option (ℕ × Frac × Frac) → Type 0
-IsAdded s n Listed added =
-    MatchOption added (Listed ⊎ (¬ HasValueAt s n)) (λ w. (¬ Listed) × IsValueAt s n w)
+-- the sequence has no value at n that isn't listed already
+abbrev pub AddsNone : Sequence → List Point → ℕ → Type 0
+AddsNone s qs n = IsInstantOf qs n ⊎ (s.interp ≡ Discrete) ⊎ (¬ HasValueAt s n)
+
+-- what the begin of the period adds
+pub record IsFirst (s : Sequence) (p : Span) (qs : List Point) (w : ℕ × Frac × Frac) : Type 0 where
+  pub not_listed : ¬ IsInstantOf qs p.begin
+  pub goes_on : s.interp ≢ Discrete
+  pub value : IsValueAt s p.begin w
+
+abbrev pub IsAddedFirst : Sequence → Span → List Point → Option (ℕ × Frac × Frac) → Type 0
+IsAddedFirst s p qs added = MatchOption added (AddsNone s qs p.begin) (IsFirst s p qs)
+
+-- w is the sequence's value at the period's end, or just before it where the cut stops before it
+pub record IsUpToEnd (s : Sequence) (p : Span) (w : ℕ × Frac × Frac) : Type 0 where
+  pub then : w.0 ≡ p.end
+  pub has_value : HasValueAt s p.end
+  pub there : IsCutPlace s p (vertex_of w)
+
+-- what its end adds
+pub record IsLast (s : Sequence) (p : Span) (qs : List Point) (w : ℕ × Frac × Frac) : Type 0 where
+  pub not_listed : ¬ IsInstantOf qs p.end
+  pub apart : ¬ (p.begin ≡ p.end)
+  pub goes_on : s.interp ≢ Discrete
+  pub value : IsUpToEnd s p w
+
+abbrev pub IsAddedLast : Sequence → Span → List Point → Option (ℕ × Frac × Frac) → Type 0
+IsAddedLast s p qs added =
+    MatchOption added (AddsNone s qs p.end ⊎ (p.begin ≡ p.end) ⊎ (¬ HasValueAt s (last_whole p))) (IsLast s p qs)
+
+-- there is a point in the period, or a value at an end that is in it, or one at both ends
+abbrev pub tells_shared : Span → Option (ℕ × Frac × Frac) → List Point → Option (ℕ × Frac × Frac) → Bool
+tells_shared p begin qs end =
+    nat_lt 0 (length qs) || (is_some begin && (is_some end || p.begin_in)) || (is_some end && p.end_in)
 
 -- w is the point q
 pub record IsPoint (q : Point) (w : ℕ × Frac × Frac) : Type 0 where

@@ -10,6 +10,3 @@ mod part;
 
 pub use cutting::cut;
 pub use part::Cut;
-
-#[cfg(test)]
-mod tests;

@@ -1,5 +1,6 @@
 -- A cluster: what passed through its transport.
-use Rattle.std.proofs.Common.{◌≡◌, ◌⊎◌, inl, inr, ℕ, ◌+◌, ◌<◌, ◌≤◌, List, [], ◌∷◌, ◌++◌, length, map, drop, slice_get, Option, IfSome, IfOk, IfErr, IsErrOf, OnOk, Result, Ok, refl, sym, ap, subst, ◌∙◌, append_assoc, append-nil, arith}
+use Rattle.std.proofs.Common.{◌≡◌, ◌⊎◌, inl, inr, ℕ, ◌+◌, ◌<◌, ◌≤◌, List, [], ◌∷◌, ◌++◌, length, map, drop, slice_get, Option, IfSome, IfOk}
+use Rattle.std.proofs.Common.{IfErr, IsErrOf, OnOk, Result, Ok, refl, sym, ap, subst, ◌∙◌, append_assoc, append-nil, arith}
 use Rattle.std.proofs.lemmas.List.{length-append, map-append, drop_more, drop_all}
 use Rattle.std.proofs.lemmas.Option.{slice_get_cases}
 use Rattle.stable.specs.Script.{Script}
@@ -23,7 +24,8 @@ module _ {T : Type 0} (transport : Transports T) where
   nothing_passes t = record { told = λ tells. tells; tape = λ tells. sym (append-nil (transport.tape t)) }
 
   -- one thing after the other
-  pub then_passes : (a b c : T) (p q : List Passage) → HasPassed transport a p b → HasPassed transport b q c → HasPassed transport a (p ++ q) c
+  pub then_passes : (a b c : T) (p q : List Passage) → HasPassed transport a p b → HasPassed transport b q c
+      → HasPassed transport a (p ++ q) c
   then_passes a b c p q one two = record {
     told = λ tells. one.told (two.told tells);
     tape = λ tells. two.tape tells ∙ ap (λ l. l ++ q) (one.tape (two.told tells)) ∙ append_assoc (transport.tape a) p q;
@@ -45,7 +47,8 @@ module _ {T : Type 0} (transport : Transports T) (frames : List Envelope) (first
       → HasPassed transport mid (sending e ∷ []) new → SendsTo transport frames first old (k + 1) new
   sends_more k mid new e next before passes = record {
     done = before.done ++ e ∷ [];
-    parts = append_assoc before.done (e ∷ []) (drop (k + 1) frames) ∙ ap (λ (fs : List Envelope). before.done ++ fs) (sym next) ∙ before.parts;
+    parts = append_assoc before.done (e ∷ []) (drop (k + 1) frames) ∙ ap (λ (fs : List Envelope). before.done ++ fs) (sym next)
+        ∙ before.parts;
     passes = subst (λ (l : List Passage). HasPassed transport old l new) (sym (map-append sending before.done (e ∷ [])))
         (then_passes transport old mid new (map sending before.done) (sending e ∷ []) before.passes passes);
   }
@@ -78,7 +81,8 @@ module _ {S : Type 0} where
       let all = ap (λ (x : List Envelope). length x) h.all in
       omega (arith, all, length-append old.frames h.more)
 
-  pub round_frames : (storages : Ghosts (Script S)) (old new : WorldState S) (node : ℕ) (members : List ℕ) (result : Result RoundEnd WorldFault)
+  pub round_frames : (storages : Ghosts (Script S)) (old new : WorldState S) (node : ℕ) (members : List ℕ)
+      (result : Result RoundEnd WorldFault)
       → IfOk result (λ end. RoundEnds storages old node members end new)
       → (IsErrOf result fault.NoSuchNode → new ≡ old)
       → (IsErrOf result fault.Memory → IsPartOfRound storages old node members new)

@@ -1,18 +1,18 @@
 -- Which words write a coordinate, and which ones together are a period or a rectangle.
-use Rattle.std.proofs.Common.{◌≡◌, ℕ, ◌<◌, ◌≤◌, ◌^◌, suc, ℤ, pos, negsuc, List, ◌∷◌, Option, Some, None, MatchOption, arith, subst, refl, sym, ◌∙◌, ◌↔◌, IsSome, IfSome}
+use Rattle.std.proofs.Common.{◌≡◌, ℕ, ◌<◌, ◌≤◌, ◌^◌, suc, ℤ, pos, negsuc, List, ◌∷◌, Option, Some, None, MatchOption, arith, subst, refl}
+use Rattle.std.proofs.Common.{sym, ◌∙◌, ◌↔◌, IsSome, IfSome}
 use Rattle.std.specs.Fmt.{decimal}
 use Rattle.std.proofs.lemmas.Fmt.{signed_decimal_injective}
 use Rattle.std.proofs.lemmas.Int.{ints}
 use Rattle.std.specs.Int.Signed.{mag}
 use Rattle.std.proofs.Common.{to_z, of_z}
 use mir.Syntax.{w64}
-use Rattle.mfjson.specs.Datetime.{ReadsAs}
-use Rattle.mfjson.proofs.OneText.{instant_of_one}
 use Rattle.tpoint.specs.Coordinates.{InRange}
-use Rattle.tpoint.specs.Extents.{Span, Area, IsArea}
-use Rattle.schedule.specs.Extents.{IsPeriod, IsRect}
+use Rattle.tpoint.specs.Extents.{Span, HasInstant, Area, IsArea}
+use Rattle.schedule.specs.Extents.{IsBegin, IsEnd, IsPeriod, IsRect}
 use Rattle.schedule.specs.Numbers.{Writes, IsCoordinate, IsSize}
 use Rattle.schedule.specs.declared.forms.TheConstants.{SIZES}
+use Rattle.schedule.proofs.OneMark.{one_begin, one_end}
 use Rattle.schedule.proofs.Decimals.{no_minus, writes_one}
 
 below_limit : (n : ℕ) → InRange (negsuc n) → suc n < 10000000001
@@ -36,16 +36,19 @@ not_zero digits size value is zero c =
     let same : m.0 ≡ is.value = writes_one digits 0 SIZES is.value m.0 (omega arith) wide m.2 in
     omega (arith, ints, is.is, is.writes.below, zero, same, m.1)
 
--- two instants are a period where the first is not later
-pub period_made : (begin end : List ℕ) (b e : ℕ) (made : Option Span) → ReadsAs begin b → ReadsAs end e
-    → IsSome made ↔ (b ≤ e) → IfSome made (λ p. p ≡ record { begin = b; end = e })
+same_span : (a b : Span) → a.begin ≡ b.begin → a.end ≡ b.end → a.begin_in ≡ b.begin_in → a.end_in ≡ b.end_in → a ≡ b
+same_span a b p q r s = λ i. record { begin = p i; end = q i; begin_in = r i; end_in = s i }
+
+-- a begin and an end are a period where it has an instant
+pub period_made : (begin end : List ℕ) (at : Span) (made : Option Span) → IsBegin begin at.begin at.begin_in → IsEnd end at.end at.end_in
+    → IsSome made ↔ HasInstant at → IfSome made (λ p. p ≡ at)
     → MatchOption made ((period : Span) → ¬ (IsPeriod begin end period)) (IsPeriod begin end)
-period_made begin end b e None at_b at_e valid value = λ period is.
-    let same_b : period.begin ≡ b = instant_of_one begin period.begin b is.begins at_b in
-    let same_e : period.end ≡ e = instant_of_one end period.end e is.ends at_e in
-    let none = valid.1 (omega (arith, same_b, same_e, is.in_order)) in cc
-period_made begin end b e (Some made) at_b at_e valid value =
-    rw value (record { begins = at_b; ends = at_e; in_order = valid.0 refl })
+period_made begin end at None begins ends valid value = λ period is.
+    let from = one_begin begin _ _ _ _ is.begins begins in
+    let to = one_end end _ _ _ _ is.ends ends in
+    let none = valid.1 (subst HasInstant (same_span period at from.0 to.0 from.1 to.1) is.has_instant) in cc
+period_made begin end at (Some made) begins ends valid value =
+    rw value (record { begins = begins; ends = ends; has_instant = valid.0 refl })
 
 -- a word writes one coordinate
 small : (value : ℤ) → InRange value → mag value < 2 ^ 63
@@ -65,12 +68,11 @@ one_rect x0 y0 x1 y1 a b p q =
     same_area a b (one_coordinate x0 _ _ p.left q.left) (one_coordinate y0 _ _ p.bottom q.bottom)
     (one_coordinate x1 _ _ p.right q.right) (one_coordinate y1 _ _ p.top q.top)
 
-same_span : (a b : Span) → a.begin ≡ b.begin → a.end ≡ b.end → a ≡ b
-same_span a b p q = λ i. record { begin = p i; end = q i }
-
 pub one_period : (begin end : List ℕ) (a b : Span) → IsPeriod begin end a → IsPeriod begin end b → a ≡ b
 one_period begin end a b p q =
-    same_span a b (instant_of_one begin _ _ p.begins q.begins) (instant_of_one end _ _ p.ends q.ends)
+    let from = one_begin begin _ _ _ _ p.begins q.begins in
+    let to = one_end end _ _ _ _ p.ends q.ends in
+    same_span a b from.0 to.0 from.1 to.1
 
 -- four coordinates are a rectangle where they are in order
 in_bounds : (x0 y0 x1 y1 : List ℕ) (bounds : Area) (made : Option Area)

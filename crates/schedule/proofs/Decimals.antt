@@ -1,10 +1,12 @@
 -- Which words write a number.
-use Rattle.std.proofs.Common.{◌≡◌, ◌≢◌, ℕ, ◌<◌, ◌≤◌, ◌^◌, zero, suc, List, ◌∷◌, length, get_or, Option, Some, None, Result, Ok, Err, MatchOption, arith, ap, sym, ◌∙◌, refl, ◌↔◌, IsSome, IfSome}
+use Rattle.std.proofs.Common.{◌≡◌, ◌≢◌, ℕ, ◌<◌, ◌≤◌, ◌^◌, zero, suc, List, ◌∷◌, length, get_or, Option, Some, None, Result, Ok, Err}
+use Rattle.std.proofs.Common.{MatchOption, arith, ap, sym, ◌∙◌, refl, ◌↔◌, IsSome, IfSome}
 use Rattle.std.specs.Fmt.{decimal}
 use Rattle.std.specs.Result.{result_ok}
 use Rattle.std.specs.Str.{IsUtf8}
 use Rattle.std.specs.Str.Parse.{ParsesUnsigned, AllDigits, digits_value}
-use Rattle.std.proofs.lemmas.Fmt.{decimal_is_IsNumeral, parse-decimal, decimal-digits_value, decimal_digit, first_decimal, decimal_nonempty, decimal_injective, IsAscii-decimal}
+use Rattle.std.proofs.lemmas.Fmt.{decimal_is_IsNumeral, parse-decimal, decimal-digits_value, decimal_digit, first_decimal, decimal_nonempty}
+use Rattle.std.proofs.lemmas.Fmt.{decimal_injective, IsAscii-decimal}
 use Rattle.std.proofs.lemmas.Str.{IsUtf8-from_ascii}
 use Rattle.std.proofs.lemmas.Str.Parse.{IsNumeralModel, numerals_by_value, tells_digits, parse_plain, digit_at}
 use Rattle.schedule.specs.Numbers.{Writes, IsPlain}

@@ -1,11 +1,15 @@
 -- Which fault of a line is its lowest.
-use Rattle.std.proofs.Common.{◌≡◌, ◌≢◌, ℕ, ◌≤◌, List, [], ◌∷◌, length, get_or, drop, Option, Some, None, cond, codes, refl, sym, ◌∙◌, ap, subst, lit≤, inl, inr, arith}
+use Rattle.std.proofs.Common.{◌≡◌, ◌≢◌, ℕ, ◌≤◌, List, [], ◌∷◌, length, get_or, drop, Option, Some, None, cond, codes, refl, sym, ◌∙◌, ap}
+use Rattle.std.proofs.Common.{subst, lit≤, inl, inr, arith}
 use Rattle.std.specs.List.{All}
 use Rattle.std.specs.Str.{bytes_eq}
 use Rattle.schedule.specs.Codes.{code_of, IsLowest}
 use Rattle.schedule.specs.Keywords.{text_of, operation_text, question_text}
 use Rattle.schedule.specs.Rows.{IsWordsFault}
-use Rattle.schedule.specs.Table.{Place, the_word, a_run_size, a_node, a_client, a_request_number, a_frame_number, a_failing, an_id, a_datetime, a_coordinate, a_period, a_rectangle, a_document, some_nodes, Row, line_of, submit_of, query_of, IsOfForm, HasItsWords, HasItsCount, HasMisfit, HasFault, HasOtherCount, IsNotPrintable, IsPrintable, places, width, words_at}
+use Rattle.schedule.specs.Table.{Place, the_word, a_run_size, a_node, a_client, a_request_number, a_frame_number, a_failing, an_id}
+use Rattle.schedule.specs.Table.{a_datetime, a_coordinate, a_period, a_rectangle, a_document, some_nodes, Row, line_of, submit_of, query_of}
+use Rattle.schedule.specs.Table.{IsOfForm, HasItsWords, HasItsCount, HasMisfit, HasFault, HasOtherCount, IsNotPrintable, IsPrintable}
+use Rattle.schedule.specs.Table.{places, width, words_at}
 use Rattle.schedule.specs.Words.{words_of}
 use Rattle.schedule.specs.declared.keyword.Keyword.{Keyword}
 use Rattle.schedule.specs.declared.keyword.Keyword.TheVariants.{Nodes, Deliver, Drop, Flush, Timeout, Tick, Restart, Fault, Round}

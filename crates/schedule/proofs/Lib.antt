@@ -1,4 +1,6 @@
 pub mod Clustering
+pub mod PeriodMarks
+pub mod OneMark
 pub mod Coordinates
 pub mod Cuts
 pub mod Decimals

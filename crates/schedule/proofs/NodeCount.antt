@@ -1,5 +1,6 @@
 -- A run has as many nodes in the end as at its start, so no line of it names a node that it lacks.
-use Rattle.std.proofs.Common.{◌≡◌, ◌≢◌, ℕ, ◌<◌, List, [], ◌∷◌, ◌++◌, length, Bool, true, false, None, Some, Result, Ok, Err, IfErr, IsSome, inl, inr, refl, sym, ap, ◌∙◌, subst, arith, rules}
+use Rattle.std.proofs.Common.{◌≡◌, ◌≢◌, ℕ, ◌<◌, List, [], ◌∷◌, ◌++◌, length, Bool, true, false, None, Some, Result, Ok, Err, IfErr, IsSome}
+use Rattle.std.proofs.Common.{inl, inr, refl, sym, ap, ◌∙◌, subst, arith, rules}
 use Rattle.std.specs.List.{All}
 use Rattle.std.proofs.lemmas.List.{length-set}
 use Rattle.std.proofs.lemmas.List.Elements.{All-cons, All-nil}
@@ -11,7 +12,8 @@ use Rattle.wire.specs.declared.frames.envelope.Envelope.{Envelope}
 use Rattle.world.specs.Flushing.{Delivers, none, more}
 use Rattle.world.specs.Events.{NamesNoNode}
 use Rattle.node.specs.Outputs.{Response}
-use Rattle.world.specs.Rounds.{DeliversTo, nothing, elsewhere, there, Phase, ComesThrough, begins, asks, answers, votes, hears, GoesDown, at_once, on_the_way, EndsIn, RoundEnds, NamesNoMember}
+use Rattle.world.specs.Rounds.{DeliversTo, nothing, elsewhere, there, Phase, ComesThrough, begins, asks, answers, votes, hears, GoesDown}
+use Rattle.world.specs.Rounds.{at_once, on_the_way, EndsIn, RoundEnds, NamesNoMember}
 use Rattle.world.specs.declared.round_end.RoundEnd.{RoundEnd}
 use Rattle.world.specs.declared.round_end.RoundEnd.TheVariants.{NotAQuorum, Down, Refused, Stopped, TooLow, Decided}
 use Rattle.world.specs.Worlds.{WorldState, Steps, TakesAt, ReceivesAt, DeliversFrame, recorded, answered, with_submission}
@@ -42,7 +44,8 @@ module _ {S : Type 0} where
   recorded_keeps w node (Ok told) = refl
   recorded_keeps w node (Err f) = refl
 
-  answered_keeps : (w : WorldState S) (node : ℕ) (query : Question) (result : Result (ℕ × List ℕ) NodeFault) → size (answered w node query result) ≡ size w
+  answered_keeps : (w : WorldState S) (node : ℕ) (query : Question) (result : Result (ℕ × List ℕ) NodeFault)
+      → size (answered w node query result) ≡ size w
   answered_keeps w node query (Ok told) = refl
   answered_keeps w node query (Err f) = refl
 

@@ -20,7 +20,8 @@ use Rattle.stable.specs.declared.scripted.Failing.TheVariants.{Old, New}
 use Rattle.world.specs.declared.event.Event.TheVariants as event
 use Rattle.schedule.specs.Extents.{IsPeriod, IsRect}
 use Rattle.schedule.specs.Numbers.{Writes, IsCoordinate}
-use Rattle.schedule.specs.Spelling.{WordsSpell, SpellsOp, SpellsAddition, SpellsInstant, SpellsPeriod, SpellsVisit, SpellsQuery, OfFeature, BeginsWith, IsOneWord, ArmsNode, SpellsRound, Submits, Asks, operation_of, question_of, failing_text}
+use Rattle.schedule.specs.Spelling.{WordsSpell, SpellsOp, SpellsAddition, SpellsInstant, SpellsPeriod, SpellsVisit, SpellsQuery, OfFeature}
+use Rattle.schedule.specs.Spelling.{BeginsWith, IsOneWord, ArmsNode, SpellsRound, Submits, Asks, operation_of, question_of, failing_text}
 use Rattle.schedule.specs.Table.{Row, line_of, submit_of, query_of, NameEach}
 use Rattle.schedule.specs.Words.{blank, words_of}
 use Rattle.schedule.specs.declared.action.Action.{Action}

@@ -13,7 +13,8 @@ use Rattle.schedule.proofs.NoSchedule.{heads, tails, right_faultless}
 -- no two faults have one number
 fault_of : ℕ → ScheduleFault
 fault_of n =
-    cond (nat_eq n 1) NotPrintable (cond (nat_eq n 2) UnknownWord (cond (nat_eq n 3) NodesLine (cond (nat_eq n 4) WordCount (cond (nat_eq n 5) WordForm Document))))
+    cond (nat_eq n 1) NotPrintable (cond (nat_eq n 2) UnknownWord
+    (cond (nat_eq n 3) NodesLine (cond (nat_eq n 4) WordCount (cond (nat_eq n 5) WordForm Document))))
 
 read_back : (fault : ScheduleFault) → fault_of (code_of fault) ≡ fault
 unfolding fault_of

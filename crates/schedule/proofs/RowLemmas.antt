@@ -1,10 +1,13 @@
 -- What is wrong with the words of a row, as its parts tell it.
-use Rattle.std.proofs.Common.{◌≡◌, ◌≢◌, ◌==◌, ℕ, ◌<◌, ◌≤◌, List, [], ◌∷◌, ◌++◌, length, Result, Ok, Err, MatchResult, codes, refl, sym, ap, subst, inl, inr, arith}
+use Rattle.std.proofs.Common.{◌≡◌, ◌≢◌, ◌==◌, ℕ, ◌<◌, ◌≤◌, List, [], ◌∷◌, ◌++◌, length, Result, Ok, Err, MatchResult, codes, refl, sym, ap}
+use Rattle.std.proofs.Common.{subst, inl, inr, arith}
 use Rattle.std.proofs.lemmas.List.Splits.{length-slice_split}
 use Rattle.store.specs.declared.op.Op.{Op}
 use Rattle.store.specs.declared.op.Op.TheVariants as op
 use Rattle.store.specs.declared.query.Query.{Query}
 use Rattle.store.specs.declared.query.Query.TheVariants as query
+use Rattle.tpoint.specs.Extents.{Span}
+use Rattle.schedule.specs.Extents.{IsPeriod}
 use Rattle.schedule.specs.Keywords.{text_of, operation_text, question_text}
 use Rattle.schedule.specs.Rows.{IsFaultAt, IsRowFault, IsWordsFault}
 use Rattle.schedule.specs.Spelling.{SpellsOp, SpellsQuery, WordsSpell, operation_of, question_of}
@@ -13,7 +16,8 @@ use Rattle.schedule.specs.declared.submits.Asker.{Asker}
 use Rattle.schedule.specs.declared.submits.AskerWords.{AskerWords}
 use Rattle.schedule.specs.declared.action.Action.TheVariants.{Step}
 use Rattle.world.specs.declared.event.Event.TheVariants as event
-use Rattle.schedule.specs.Table.{line_of, submit_of, query_of, count, IsNode, NameEach, HasItsWords, HasItsCount, HasMisfit, HasUnknownWord, keyword_places, operation_places, question_places}
+use Rattle.schedule.specs.Table.{line_of, submit_of, query_of, count, IsNode, NameEach, HasItsWords, HasItsCount, HasMisfit, HasUnknownWord}
+use Rattle.schedule.specs.Table.{keyword_places, operation_places, question_places}
 use Rattle.schedule.specs.Unread.{WordsGive}
 use Rattle.schedule.specs.declared.unread.Unread.{Unread}
 use Rattle.schedule.specs.Words.{blank, words_of}
@@ -56,13 +60,15 @@ keyword_words Round words = tt
 
 -- a submission has its count where the words of its operation have theirs
 operation_count : (operation : Operation) (a b c : List ℕ) (words : List (List ℕ)) → operation ≢ Put
-    → (length words ≡ count (operation_places operation)) → HasItsCount (submit_of operation) (codes "submit" ∷ a ∷ b ∷ c ∷ operation_text operation ∷ words)
+    → (length words ≡ count (operation_places operation)) → HasItsCount (submit_of operation)
+    (codes "submit" ∷ a ∷ b ∷ c ∷ operation_text operation ∷ words)
 operation_count Put a b c words other same = absurd (other refl)
 operation_count Append a b c words other same = omega (arith, same)
 operation_count Remove a b c words other same = omega (arith, same)
 
 operation_count_back : (operation : Operation) (a b c : List ℕ) (words : List (List ℕ)) → operation ≢ Put
-    → HasItsCount (submit_of operation) (codes "submit" ∷ a ∷ b ∷ c ∷ operation_text operation ∷ words) → (length words ≡ count (operation_places operation))
+    → HasItsCount (submit_of operation) (codes "submit" ∷ a ∷ b ∷ c ∷ operation_text operation ∷ words)
+    → (length words ≡ count (operation_places operation))
 operation_count_back Put a b c words other same = absurd (other refl)
 operation_count_back Append a b c words other same = omega (arith, same)
 operation_count_back Remove a b c words other same = omega (arith, same)
@@ -97,7 +103,8 @@ question_count : (question : Question) (a : List ℕ) (words : List (List ℕ)) 
 question_count question a words same = omega (arith, same)
 
 question_count_back : (question : Question) (a : List ℕ) (words : List (List ℕ))
-    → HasItsCount (query_of question) (codes "query" ∷ a ∷ question_text question ∷ words) → (length words ≡ count (question_places question))
+    → HasItsCount (query_of question) (codes "query" ∷ a ∷ question_text question ∷ words)
+    → (length words ≡ count (question_places question))
 question_count_back question a words same = omega (arith, same)
 
 -- ---- what the words of an operation or a query count
@@ -134,6 +141,15 @@ visit_fault n word words NodesLine at = absurd at
 visit_fault n word words WordCount at = λ same. at (omega (arith, same))
 visit_fault n word words WordForm at = (omega (arith, at.0), inr at.1)
 visit_fault n word words Document at = absurd at
+
+-- ---- words that are no period
+pub no_period_to_cut : (n : ℕ) (name begin end : List ℕ) → ((period : Span) → ¬ IsPeriod begin end period)
+    → IsFaultAt n (question_places Cut) (name ∷ begin ∷ end ∷ []) WordForm
+no_period_to_cut n name begin end none = (refl, inr (inl (λ is. none is.0 is.1)))
+
+pub no_period_to_look_in : (n : ℕ) (begin end x0 y0 x1 y1 : List ℕ) → ((period : Span) → ¬ IsPeriod begin end period)
+    → IsFaultAt n (question_places Within) (begin ∷ end ∷ x0 ∷ y0 ∷ x1 ∷ y1 ∷ []) WordForm
+no_period_to_look_in n begin end x0 y0 x1 y1 none = (refl, inl (λ is. none is.0 is.1))
 
 -- what an operation needs, behind the words that say who asks
 pub operation_fault : (n : ℕ) (operation : Operation) (a b c : List ℕ) (words : List (List ℕ)) (fault : ScheduleFault)
@@ -320,21 +336,39 @@ no_words n =
     (record { row = line_of Flush; its_words = tt; other_count = λ same. omega (arith, same) }, λ others same. cc)
 
 pub short_submit : (n : ℕ) (words : List (List ℕ)) → length words < 4 → IsWordsFault n (codes "submit" ∷ words) WordCount
-short_submit n [] short =
-    (record { row = submit_of Remove; its_words = (refl, tt); other_count = λ same. omega (arith, same) }, λ others. submit_is_no_nodes _ others)
-short_submit n (a ∷ []) short =
-    (record { row = submit_of Remove; its_words = (refl, tt); other_count = λ same. omega (arith, same) }, λ others. submit_is_no_nodes _ others)
-short_submit n (a ∷ b ∷ []) short =
-    (record { row = submit_of Remove; its_words = (refl, tt); other_count = λ same. omega (arith, same) }, λ others. submit_is_no_nodes _ others)
-short_submit n (a ∷ b ∷ c ∷ []) short =
-    (record { row = submit_of Remove; its_words = (refl, tt); other_count = λ same. omega (arith, same) }, λ others. submit_is_no_nodes _ others)
+short_submit n [] short = (
+  record { row = submit_of Remove; its_words = (refl, tt); other_count = λ same. omega (arith, same) },
+  λ others. submit_is_no_nodes _
+      others,
+)
+short_submit n (a ∷ []) short = (
+  record { row = submit_of Remove; its_words = (refl, tt); other_count = λ same. omega (arith, same) },
+  λ others. submit_is_no_nodes _
+      others,
+)
+short_submit n (a ∷ b ∷ []) short = (
+  record { row = submit_of Remove; its_words = (refl, tt); other_count = λ same. omega (arith, same) },
+  λ others. submit_is_no_nodes _
+      others,
+)
+short_submit n (a ∷ b ∷ c ∷ []) short = (
+  record { row = submit_of Remove; its_words = (refl, tt); other_count = λ same. omega (arith, same) },
+  λ others. submit_is_no_nodes _
+      others,
+)
 short_submit n (a ∷ b ∷ c ∷ d ∷ words) short = absurd (omega (arith, short))
 
 pub short_query : (n : ℕ) (words : List (List ℕ)) → length words < 2 → IsWordsFault n (codes "query" ∷ words) WordCount
-short_query n [] short =
-    (record { row = query_of Count; its_words = (refl, tt); other_count = λ same. omega (arith, same) }, λ others. query_is_no_nodes _ others)
-short_query n (a ∷ []) short =
-    (record { row = query_of Count; its_words = (refl, tt); other_count = λ same. omega (arith, same) }, λ others. query_is_no_nodes _ others)
+short_query n [] short = (
+  record { row = query_of Count; its_words = (refl, tt); other_count = λ same. omega (arith, same) },
+  λ others. query_is_no_nodes _
+      others,
+)
+short_query n (a ∷ []) short = (
+  record { row = query_of Count; its_words = (refl, tt); other_count = λ same. omega (arith, same) },
+  λ others. query_is_no_nodes _
+      others,
+)
 short_query n (a ∷ b ∷ words) short = absurd (omega (arith, short))
 
 -- ---- words that no row begins with

@@ -1,5 +1,6 @@
 -- Doing line by line.
-use Rattle.std.proofs.Common.{◌≡◌, ◌⊎◌, inl, inr, ℕ, List, [], ◌∷◌, ◌++◌, length, refl, sym, ap, ◌∙◌, subst, arith, Result, Ok, Err, IfOk, IfErr, IsErrOf}
+use Rattle.std.proofs.Common.{◌≡◌, ◌⊎◌, inl, inr, ℕ, List, [], ◌∷◌, ◌++◌, length, refl, sym, ap, ◌∙◌, subst, arith, Result, Ok, Err, IfOk}
+use Rattle.std.proofs.Common.{IfErr, IsErrOf}
 use Rattle.std.specs.Global.{Vec}
 use Rattle.stable.specs.Script.{Script}
 use Rattle.stable.specs.Storages.{scripted}
@@ -16,7 +17,8 @@ use Rattle.world.specs.Staying.{StaysSafe}
 use Rattle.world.specs.Worlds.{WorldState}
 use Rattle.schedule.specs.Causes.{cause_of}
 use Rattle.schedule.specs.declared.action.Action.TheVariants.{Flush, Round}
-use Rattle.schedule.specs.Runs.{IsDone, IsRefused, IsStopped, Leads, EndsAt, RunsTo, RunFails, at_a_line, at_the_last, IsReplay, ReplayEnds, not_begun, not_run, told_of, IsRunOver, EndsOver, is_used, no_world, no_end}
+use Rattle.schedule.specs.Runs.{IsDone, IsRefused, IsStopped, Leads, EndsAt, RunsTo, RunFails, at_a_line, at_the_last, IsReplay, ReplayEnds}
+use Rattle.schedule.specs.Runs.{not_begun, not_run, told_of, IsRunOver, EndsOver, is_used, no_world, no_end}
 use Rattle.schedule.specs.Schedules.{Plan, IsScheduleOf, last_number}
 use Rattle.schedule.specs.declared.plan.ScheduleLine.{ScheduleLine}
 use Rattle.schedule.specs.declared.replay_fault.ReplayCause.{ReplayCause}
@@ -101,7 +103,8 @@ module _ {S : Type 0} (storages : Ghosts (Script S)) where
   }
 
   -- the transcript after all lines
-  pub runs_to : (IsHonest : S → Type 0) (plan : Plan) (lines : List ScheduleLine) (start end : WorldState S) (text : List ℕ) → lines ≡ plan.lines
+  pub runs_to : (IsHonest : S → Type 0) (plan : Plan) (lines : List ScheduleLine) (start end : WorldState S) (text : List ℕ) → lines
+      ≡ plan.lines
       → Leads storages lines start end → text ≡ told_of end
       → StaysSafe storages IsHonest end
       → RunsTo storages IsHonest plan start text
@@ -130,7 +133,8 @@ module _ {S : Type 0} (storages : Ghosts (Script S)) where
   pub all_replayed : (IsHonest : S → Type 0) (bytes : List ℕ) (plan : Plan) (start : WorldState S) (result : Result (Vec ℕ) ReplayFault)
       → ((s : S) → IsHonest s) → IsScheduleOf bytes plan → IsStart storages plan.nodes start
       → IfOk result (λ text. RunsTo storages IsHonest plan start text.items) → IfOk result (λ text. IsReplay storages bytes text.items)
-  all_replayed IsHonest bytes plan start (Ok text) always spelled starts runs = replayed IsHonest bytes plan start text.items always spelled starts runs
+  all_replayed IsHonest bytes plan start (Ok text) always spelled starts runs = replayed IsHonest bytes plan start text.items always spelled
+      starts runs
   all_replayed IsHonest bytes plan start (Err fault) always spelled starts runs = tt
 
   -- a line isn't done
@@ -154,7 +158,8 @@ module _ {S : Type 0} (storages : Ghosts (Script S)) where
   }
 
   -- why a run ended is why its replay did
-  pub replay_ends : {T : Type 0} (IsHonest : S → Type 0) (bytes : List ℕ) (plan : Plan) (start : WorldState S) (result : Result T ReplayFault)
+  pub replay_ends : {T : Type 0} (IsHonest : S → Type 0) (bytes : List ℕ) (plan : Plan) (start : WorldState S)
+      (result : Result T ReplayFault)
       → ((s : S) → IsHonest s) → IsScheduleOf bytes plan → IsStart storages plan.nodes start
       → IfErr result (RunFails storages IsHonest plan start) → IfErr result (ReplayEnds storages bytes)
   replay_ends IsHonest bytes plan start (Ok text) always spelled starts fails = fails
@@ -186,7 +191,8 @@ module _ {S : Type 0} (storages : Ghosts S) (stores : List S) (plan : Plan) wher
 
   -- over storages that are always honest it is a replay of what spells the plan
   pub over_replayed : (bytes : List ℕ) (result : Result (Vec ℕ) ReplayFault) → ((s : S) → storages.IsHonest s) → IsScheduleOf bytes plan
-      → IfOk result (λ text. IsRunOver storages stores plan text.items) → IfOk result (λ text. IsReplay (scripted storages) bytes text.items)
+      → IfOk result (λ text. IsRunOver storages stores plan text.items) → IfOk result
+      (λ text. IsReplay (scripted storages) bytes text.items)
   over_replayed bytes (Ok text) always spelled run =
       replayed (scripted storages) storages.IsHonest bytes plan run.start text.items always spelled run.starts run.runs
   over_replayed bytes (Err fault) always spelled run = tt

@@ -1,5 +1,6 @@
 -- A line that spells an action has no fault.
-use Rattle.std.proofs.Common.{◌≡◌, ◌≢◌, ◌==◌, ◌⊎◌, ℕ, ◌≤◌, List, [], ◌∷◌, length, Result, Ok, Err, MatchResult, codes, refl, sym, ◌∙◌, ap, subst, inl, inr, arith}
+use Rattle.std.proofs.Common.{◌≡◌, ◌≢◌, ◌==◌, ◌⊎◌, ℕ, ◌≤◌, List, [], ◌∷◌, length, Result, Ok, Err, MatchResult, codes, refl, sym, ◌∙◌, ap}
+use Rattle.std.proofs.Common.{subst, inl, inr, arith}
 use Rattle.std.specs.List.{All, join_with_byte}
 use Rattle.std.proofs.lemmas.List.Splits.{join_with_byte-slice_split, length-slice_split}
 use Rattle.mfjson.specs.Document.{IsDocumentOf}
@@ -18,8 +19,10 @@ use Rattle.schedule.specs.Keywords.{text_of, operation_text}
 use Rattle.schedule.specs.Lines.{NumberedText}
 use Rattle.schedule.specs.Reading.{IsLineRefusal}
 use Rattle.schedule.specs.Rows.{IsWordsFault, in_first_line}
-use Rattle.schedule.specs.Spelling.{Spells, SpellsOp, SpellsQuery, SpellsRound, Submits, WordsSpell, failing_text, operation_of, question_of}
-use Rattle.schedule.specs.Table.{a_failing, line_of, submit_of, query_of, IsOfForm, HasItsCount, HasFault, HasFirstFault, HasUnknownWord, HasWrongDocument, IsPrintable, keyword_places, operation_places, question_places}
+use Rattle.schedule.specs.Spelling.{Spells, SpellsOp, SpellsQuery, SpellsRound, Submits, WordsSpell, failing_text, operation_of}
+use Rattle.schedule.specs.Spelling.{question_of}
+use Rattle.schedule.specs.Table.{a_failing, line_of, submit_of, query_of, IsOfForm, HasItsCount, HasFault, HasFirstFault, HasUnknownWord}
+use Rattle.schedule.specs.Table.{HasWrongDocument, IsPrintable, keyword_places, operation_places, question_places}
 use Rattle.schedule.specs.Unread.{Becomes, Gives, IsNotRead, Puts, WordsGive}
 use Rattle.schedule.specs.Words.{blank, words_of}
 use Rattle.schedule.specs.declared.action.Action.{Action}
@@ -35,7 +38,9 @@ use Rattle.schedule.specs.declared.keyword.Operation.TheVariants as operation
 use Rattle.schedule.specs.declared.unread.Unread.{Unread}
 use Rattle.schedule.specs.declared.unread.Unread.TheVariants as given
 use Rattle.schedule.specs.declared.unread.Putting.{Putting}
-use Rattle.schedule.proofs.Faults.{AllFit, IsRowOf, document_lowest, from_two, from_three, lowest_unprintable, not_submit, operation_text-injective, other_is_no_nodes, prints_throughout, query_is_no_nodes, row_faultless, row_words, submit_is_no_nodes, submit_is_no_query, words_fault_lowest}
+use Rattle.schedule.proofs.Faults.{AllFit, IsRowOf, document_lowest, from_two, from_three, lowest_unprintable, not_submit}
+use Rattle.schedule.proofs.Faults.{operation_text-injective, other_is_no_nodes, prints_throughout, query_is_no_nodes, row_faultless}
+use Rattle.schedule.proofs.Faults.{row_words, submit_is_no_nodes, submit_is_no_query, words_fault_lowest}
 use Rattle.schedule.proofs.RowLemmas.{members_fault, op_count, put_count, query_count}
 
 -- ---- the row of a line that spells an action
@@ -173,9 +178,11 @@ no_wrong_document n words (Step (event.Submit node client number (op.Put id seq)
     h.stands_for_none (record { id = id; seq = seq })
     (subst (λ (t : List ℕ). IsDocumentOf t (record { id = id; seq = seq })) (sym text) is)
 no_wrong_document n words (Step (event.Submit node client number (op.Append addition))) (others, s, spells) h =
-    let e : operation.Append ≡ operation.Put = operation_text-injective operation.Append operation.Put (fifth_word _ _ _ _ _ _ _ _ _ _ _ _ (sym s.words_are ∙ h.words_are)) in cc
+    let e : operation.Append ≡ operation.Put = operation_text-injective operation.Append operation.Put
+    (fifth_word _ _ _ _ _ _ _ _ _ _ _ _ (sym s.words_are ∙ h.words_are)) in cc
 no_wrong_document n words (Step (event.Submit node client number (op.Remove id))) (others, s, spells) h =
-    let e : operation.Remove ≡ operation.Put = operation_text-injective operation.Remove operation.Put (fifth_word _ _ _ _ _ _ _ _ _ _ _ _ (sym s.words_are ∙ h.words_are)) in cc
+    let e : operation.Remove ≡ operation.Put = operation_text-injective operation.Remove operation.Put
+    (fifth_word _ _ _ _ _ _ _ _ _ _ _ _ (sym s.words_are ∙ h.words_are)) in cc
 no_wrong_document n words (Step (event.Deliver frame)) (others, e, one) h =
     other_first words others _ (text_of keyword.Deliver) (λ q. not_submit keyword.Deliver (sym q)) e h.words_are
 no_wrong_document n words (Step (event.Drop frame)) (others, e, one) h =

@@ -56,7 +56,8 @@ row_has_words n words (Step (event.Query node asked)) (others, s, is) =
     rw s.words_are (refl, (refl, query_words asked others))
 
 row_counts : (n : ℕ) (words : List (List ℕ)) (action : Action) → WordsSpell n words action → HasItsCount (row_of action) words
-row_counts n words (Step (event.Submit node client number asked)) (others, s, is) = rw s.words_are (op_count asked s.node_word s.client_word s.number_word others is)
+row_counts n words (Step (event.Submit node client number asked)) (others, s, is) = rw s.words_are
+    (op_count asked s.node_word s.client_word s.number_word others is)
 row_counts n words (Step (event.Deliver frame)) (others, same, (word, one, w)) = rw (same, one) refl
 row_counts n words (Step (event.Drop frame)) (others, same, (word, one, w)) = rw (same, one) refl
 row_counts n words Flush (others, same, none) = rw (same, none) refl

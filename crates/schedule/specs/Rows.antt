@@ -1,6 +1,7 @@
 -- What is wrong with the words of a line, as far as they are read with no document in hand.
 use Rattle.std.specs.Prelude.{◌≡◌, ◌≢◌, ℕ, List, ◌∷◌, length, codes}
-use Rattle.schedule.specs.Table.{Place, Row, count, HasItsWords, HasItsCount, HasMisfit, HasUnknownWord, HasOtherCount, HasWrongWord, places}
+use Rattle.schedule.specs.Table.{Place, Row, count, HasItsWords, HasItsCount, HasMisfit, HasUnknownWord, HasOtherCount, HasWrongWord}
+use Rattle.schedule.specs.Table.{places}
 use Rattle.schedule.specs.declared.fault.ScheduleFault.{ScheduleFault}
 use Rattle.schedule.specs.declared.fault.ScheduleFault.TheVariants.{NotPrintable, UnknownWord, NodesLine, WordCount, WordForm}
 

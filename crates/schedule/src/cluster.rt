@@ -1,6 +1,7 @@
 //! A cluster: a world whose frames go through a transport.
 
-ghost use Rattle.std.specs.Prelude.{◌≡◌, ◌<◌, ◌≤◌, ◌↔◌, ◌⊎◌, ◌∷◌, [], length, drop, map, slice_get, IfErr, IfOk, IfSome, IsErrOf, OnErr, OnOk};
+ghost use Rattle.std.specs.Prelude.{◌≡◌, ◌<◌, ◌≤◌, ◌↔◌, ◌⊎◌, ◌∷◌, [], length, drop, map, slice_get, IfErr, IfOk, IfSome, IsErrOf, OnErr};
+ghost use Rattle.std.specs.Prelude.{OnOk};
 ghost use Rattle.world.specs.Events.{NamesNoFrame, NamesNoNode};
 ghost use Rattle.world.specs.Rounds.{IsPartOfRound, NamesNoMember, RoundEnds};
 ghost use Rattle.world.specs.Seen.{world_of};

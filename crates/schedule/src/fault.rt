@@ -3,6 +3,9 @@
 ghost use Rattle.std.specs.Prelude.{◌≡◌};
 ghost use Rattle.schedule.specs.Codes.{code_of};
 
+use std::error::Error;
+use std::fmt;
+
 /// What is wrong with a line. Of a line's faults the one with the lowest number is told.
 #[derive(Clone, Copy, Debug, PartialEq, Eq)]
 pub enum ScheduleFault {
@@ -14,7 +17,7 @@ pub enum ScheduleFault {
     NodesLine,
     /// There are too few or too many words.
     WordCount,
-    /// A word isn't what its place wants, or a period or a rectangle is reversed.
+    /// A word isn't what its place wants, a period has no instant, or a rectangle is reversed.
     WordForm,
     /// The document that is to be put stands for no feature.
     Document,
@@ -36,6 +39,21 @@ impl ScheduleFault {
     }
 }
 
+impl fmt::Display for ScheduleFault {
+    fn fmt<W: fmt::Write>(&self, f: &mut fmt::Formatter<W>) -> fmt::Result {
+        f.write_str(match self {
+            ScheduleFault::NotPrintable => "a byte is not printable",
+            ScheduleFault::UnknownWord => "no line begins so",
+            ScheduleFault::NodesLine => "the line `nodes` is missing, or isn't right",
+            ScheduleFault::WordCount => "too few or too many words",
+            ScheduleFault::WordForm => "a word isn't what its place wants",
+            ScheduleFault::Document => "the document stands for no feature",
+        })
+    }
+}
+
+impl Error for ScheduleFault {}
+
 /// The first faulty line, and the lowest of its faults.
 #[derive(Clone, Copy, Debug, PartialEq, Eq)]
 pub struct LineFault {
@@ -43,6 +61,14 @@ pub struct LineFault {
     pub line: u64,
     pub fault: ScheduleFault,
 }
+
+impl fmt::Display for LineFault {
+    fn fmt<W: fmt::Write>(&self, f: &mut fmt::Formatter<W>) -> fmt::Result {
+        write!(f, "line {}: {}", self.line, self.fault)
+    }
+}
+
+impl Error for LineFault {}
 
 /// Why no schedule was read.
 #[derive(Clone, Copy, Debug, PartialEq, Eq)]
@@ -52,3 +78,14 @@ pub enum ParseFault {
     /// A growth was refused at the line of this number, before which no line is faulty.
     Memory(u64),
 }
+
+impl fmt::Display for ParseFault {
+    fn fmt<W: fmt::Write>(&self, f: &mut fmt::Formatter<W>) -> fmt::Result {
+        match self {
+            ParseFault::Line(fault) => fault.fmt(f),
+            ParseFault::Memory(line) => write!(f, "line {line}: out of memory"),
+        }
+    }
+}
+
+impl Error for ParseFault {}

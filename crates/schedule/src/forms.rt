@@ -1,10 +1,10 @@
 //! What single words stand for, and words that belong together.
 
-ghost use Rattle.std.specs.Prelude.{◌≡◌, ◌≢◌, ◌^◌, ◌↔◌, ℕ, ℤ, List, ◌∷◌, MatchOption, IsTrue, codes};
+ghost use Rattle.std.specs.Prelude.{◌≡◌, ◌≢◌, ◌^◌, ◌↔◌, ◌++◌, ℕ, ℤ, Bool, List, ◌∷◌, MatchOption, IsTrue, codes};
 ghost use Rattle.tpoint.specs.Extents.{Span, Area};
 ghost use Rattle.tpoint.specs.Ids.{IsId};
 ghost use Rattle.mfjson.specs.Datetime.{ReadsAs};
-ghost use Rattle.schedule.specs.Extents.{IsPeriod, IsRect};
+ghost use Rattle.schedule.specs.Extents.{IsBegin, IsEnd, IsPeriod, IsRect};
 ghost use Rattle.schedule.specs.Numbers.{Writes, IsCoordinate, IsPlain, IsSize};
 ghost use Rattle.schedule.specs.Spelling.{failing_text};
 ghost use Rattle.schedule.specs.declared.forms.TheConstants.{SIZES};
@@ -69,13 +69,59 @@ pub(crate) fn instant(word: &[u8]) -> Option<Instant>
     datetime_read(word)
 }
 
-/// The period from one datetime to another.
+/// The period from one datetime to another, each of which is in it unless its mark says otherwise.
 pub(crate) fn period(words: PeriodWords) -> Option<Period>
     ensures { MatchOption result
         ((period : Span) → ¬ IsPeriod words.entry.begin.now words.entry.end.now period)
         (IsPeriod words.entry.begin.now words.entry.end.now) }
 {
-    Period::new(instant(words.begin)?, instant(words.end)?)
+    let (begin, begin_in) = period_begin(words.begin)?;
+    let (end, end_in) = period_end(words.end)?;
+    Period::with(begin, end, begin_in, end_in)
+}
+
+/// Where a period begins, and whether that instant is in it.
+fn period_begin(word: &[u8]) -> Option<(Instant, bool)>
+    ensures { MatchOption result ((t : ℕ) (is_in : Bool) → ¬ IsBegin word.now t is_in)
+        (λ begin. IsBegin word.now begin.0 begin.1) }
+{
+    if let Some(text) = after(word, b"[") {
+        return Some((instant(text)?, true));
+    }
+    match after(word, b"(") {
+        Some(text) => Some((instant(text)?, false)),
+        None => Some((instant(word)?, true)),
+    }
+}
+
+/// Where a period ends, and whether that instant is in it.
+fn period_end(word: &[u8]) -> Option<(Instant, bool)>
+    ensures { MatchOption result ((t : ℕ) (is_in : Bool) → ¬ IsEnd word.now t is_in)
+        (λ end. IsEnd word.now end.0 end.1) }
+{
+    if let Some(text) = before(word, b"]") {
+        return Some((instant(text)?, true));
+    }
+    match before(word, b")") {
+        Some(text) => Some((instant(text)?, false)),
+        None => Some((instant(word)?, true)),
+    }
+}
+
+/// What stands behind the mark with which the word begins.
+fn after<'a>(word: &'a [u8], mark: &[u8]) -> Option<&'a [u8]>
+    ensures { MatchOption result ((text : List ℕ) → word.now ≢ mark.now ++ text)
+        (λ text. word.now ≡ mark.now ++ text.now) }
+{
+    word.strip_prefix(mark)
+}
+
+/// What stands before the mark with which the word ends.
+fn before<'a>(word: &'a [u8], mark: &[u8]) -> Option<&'a [u8]>
+    ensures { MatchOption result ((text : List ℕ) → word.now ≢ text ++ mark.now)
+        (λ text. word.now ≡ text.now ++ mark.now) }
+{
+    word.strip_suffix(mark)
 }
 
 /// The rectangle between the bounds.

@@ -7,8 +7,6 @@
 
 mod action;
 mod cluster;
-#[cfg(test)]
-mod cluster_tests;
 mod cut;
 mod entry_lines;
 mod fault;
@@ -28,8 +26,6 @@ mod replaying;
 mod report;
 mod rows;
 mod submits;
-#[cfg(test)]
-mod tests;
 mod transport;
 mod unread;
 mod words;

@@ -4,6 +4,8 @@ ghost use Rattle.std.specs.Prelude.{◌≡◌};
 ghost use Rattle.schedule.specs.Causes.{cause_code, cause_of, fault_of};
 
 use super::fault::{ParseFault, ScheduleFault};
+use std::error::Error;
+use std::fmt;
 use world::WorldFault;
 
 /// Why a line of a run was not done.
@@ -39,6 +41,23 @@ impl ReplayCause {
     }
 }
 
+impl fmt::Display for ReplayCause {
+    fn fmt<W: fmt::Write>(&self, f: &mut fmt::Formatter<W>) -> fmt::Result {
+        match self {
+            ReplayCause::Schedule(fault) => fault.fmt(f),
+            ReplayCause::NoSuchMessage => f.write_str("no frame of this number was sent"),
+            ReplayCause::NoSuchNode => f.write_str("the run has no such node"),
+            ReplayCause::FlushLimit => f.write_str(
+                "a frame still waits after the most that a flush delivers",
+            ),
+            ReplayCause::Memory => f.write_str("out of memory"),
+            ReplayCause::NotEmpty => f.write_str("a storage holds a record already"),
+        }
+    }
+}
+
+impl Error for ReplayCause {}
+
 impl From<WorldFault> for ReplayCause {
     ghost from_gives = { λ fault cause. cause ≡ cause_of fault };
 
@@ -60,6 +79,14 @@ pub struct ReplayFault {
     pub line: u64,
     pub cause: ReplayCause,
 }
+
+impl fmt::Display for ReplayFault {
+    fn fmt<W: fmt::Write>(&self, f: &mut fmt::Formatter<W>) -> fmt::Result {
+        write!(f, "line {}: {}", self.line, self.cause)
+    }
+}
+
+impl Error for ReplayFault {}
 
 impl From<ParseFault> for ReplayFault {
     ghost from_gives = { λ given fault. fault ≡ fault_of given };

@@ -6,7 +6,8 @@ ghost use Rattle.world.specs.Seen.{world_of};
 ghost use Rattle.world.specs.Starting.{AreOver};
 ghost use Rattle.world.specs.Staying.{StaysSafe};
 ghost use Rattle.schedule.specs.Causes.{cause_of};
-ghost use Rattle.schedule.specs.Runs.{EndsAt, EndsOver, IsDone, IsRefused, IsReplay, IsRunOver, IsStopped, Leads, ReplayEnds, RunFails, RunsTo, told_of};
+ghost use Rattle.schedule.specs.Runs.{EndsAt, EndsOver, IsDone, IsRefused, IsReplay, IsRunOver, IsStopped, Leads, ReplayEnds, RunFails};
+ghost use Rattle.schedule.specs.Runs.{RunsTo, told_of};
 
 use super::action::Action;
 use super::parse::parse_schedule;
@@ -47,8 +48,8 @@ pub fn replay(alloc: Global, bytes: &[u8]) -> Result<Vec<u8>, ReplayFault>
 
 /// The transcript of the schedule's run over these storages, one for each of its nodes, in their order.
 ///
-/// `NotEmpty` where one of them holds a record already; all of them were only read then. As long as the storages are honest the run is safe,
-/// to the end or to the line that ends it.
+/// `NotEmpty` where one of them holds a record already; all of them were only read then. As long as the storages are honest
+/// the run is safe, to the end or to the line that ends it.
 pub fn run<S: Stable + Drop>(
     alloc: Global,
     schedule: Schedule,

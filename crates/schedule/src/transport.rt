@@ -4,11 +4,21 @@ ghost use Rattle.std.specs.Prelude.{◌≡◌, ◌++◌, ◌∷◌, [], List};
 ghost use Rattle.schedule.specs.Passages.{Passage, Sent, Polled, handed_over};
 
 use std::alloc::{AllocError, AllocFailed, Global};
+use std::error::Error;
+use std::fmt;
 use wire::NodeId;
 
 /// A transport could not do what it was asked. What was to be sent is lost; what was polled is nothing.
 #[derive(Clone, Copy, Debug, PartialEq, Eq)]
 pub struct TransportFault;
+
+impl fmt::Display for TransportFault {
+    fn fmt<W: fmt::Write>(&self, f: &mut fmt::Formatter<W>) -> fmt::Result {
+        f.write_str("the transport failed")
+    }
+}
+
+impl Error for TransportFault {}
 
 impl From<AllocError> for TransportFault {
     fn from(_fault: AllocError) -> TransportFault {

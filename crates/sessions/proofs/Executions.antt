@@ -1,5 +1,6 @@
 -- A list of commands can be executed, and in one way; it has one reply at each place, and one answer to each query.
-use Rattle.std.proofs.Common.{◌≡◌, ℕ, zero, suc, ◌+◌, inl, inr, List, length, Bool, true, false, Option, Some, None, slice_get, refl, sym, ap, ◌∙◌, subst, arith}
+use Rattle.std.proofs.Common.{◌≡◌, ℕ, zero, suc, ◌+◌, inl, inr, List, length, Bool, true, false, Option, Some, None, slice_get, refl, sym}
+use Rattle.std.proofs.Common.{ap, ◌∙◌, subst, arith}
 use Rattle.store.specs.Answers.{IsAnswer}
 use Rattle.store.specs.Features.{AreValid, IsDatabase}
 use Rattle.store.specs.Operations.{reply, effect}

@@ -1,5 +1,6 @@
 -- A machine that has executed a command stands for the list with the command added, and tells the reply to it.
-use Rattle.std.proofs.Common.{◌≡◌, ℕ, ◌+◌, ◌<◌, ◌≤◌, ◌↔◌, inl, inr, List, [], ◌∷◌, ◌++◌, length, Bool, true, false, Option, Some, None, slice_get, if◌then◌else◌, refl, sym, ap, ◌∙◌, subst, arith, eqb-true}
+use Rattle.std.proofs.Common.{◌≡◌, ℕ, ◌+◌, ◌<◌, ◌≤◌, ◌↔◌, inl, inr, List, [], ◌∷◌, ◌++◌, length, Bool, true, false, Option, Some, None}
+use Rattle.std.proofs.Common.{slice_get, if◌then◌else◌, refl, sym, ap, ◌∙◌, subst, arith, eqb-true}
 use Rattle.std.proofs.lemmas.Bool.{cases_lt}
 use Rattle.std.proofs.lemmas.Bool.Decides.{nat_tests}
 use Rattle.std.proofs.lemmas.List.{length_push, get_or-set_same, get_or-set_other}
@@ -17,7 +18,8 @@ use Rattle.sessions.specs.declared.outcome.Outcome.TheVariants.{Applied, Past, G
 use Rattle.sessions.specs.declared.session.Session.{Session}
 use Rattle.sessions.proofs.Counting.{same_number, counted_or_not}
 use Rattle.sessions.proofs.Turns.{each_lesser, the_one, turn_of}
-use Rattle.sessions.proofs.Longer.{IsTurn, longer, counts_last, length-longer, in_longer, later, already, extended, before_still, before_last, get-push_last}
+use Rattle.sessions.proofs.Longer.{IsTurn, longer, counts_last, length-longer, in_longer, later, already, extended, before_still}
+use Rattle.sessions.proofs.Longer.{before_last, get-push_last}
 
 -- ---- what the machine keeps is what is kept of the longer list
 module _ (l : List Command) (e : Execution l) (c : Command) (b : Bool) (turn : (b ≡ true) ↔ IsTurn e c)

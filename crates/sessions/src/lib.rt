@@ -22,6 +22,3 @@ pub use machine::Machine;
 pub use number::Number;
 pub use outcome::Outcome;
 pub use request::{MOST_PUT_POINTS, Request, TooLong};
-
-#[cfg(test)]
-mod tests;

@@ -1,5 +1,6 @@
 -- What the calls of the storage come to.
-use Rattle.std.proofs.Common.{◌≡◌, ◌≢◌, ℕ, ◌<◌, arith, Bool, true, false, List, [], Option, IsSome, unwrap_or, Ok, Err, Result, IfOk, OnOk, Contains, ◌↔◌, length, IsTrue, refl, sym, ap, subst, ◌∙◌}
+use Rattle.std.proofs.Common.{◌≡◌, ◌≢◌, ℕ, ◌<◌, arith, Bool, true, false, List, [], Option, IsSome, unwrap_or, Ok, Err, Result, IfOk, OnOk}
+use Rattle.std.proofs.Common.{Contains, ◌↔◌, length, IsTrue, refl, sym, ap, subst, ◌∙◌}
 use Rattle.std.proofs.Math.Logic.{∥∥₁_elim}
 use base.Stored.{Coded-set}
 use mathlib.Core.Bool.{Bool-set}
@@ -37,8 +38,10 @@ IsSound-prop s a b = λ i. record {
   committed_schema = Schema-set s.committed.schema record_schema a.committed_schema b.committed_schema i;
   committed = rows_set (s.committed.trees 0) (s.now.trees 0) a.committed b.committed i;
   listed = ¬_prop a.listed b.listed i;
-  own_keys = IsAscending-prop AreApart (λ x y. Π_prop (λ k. Π_prop (λ h. Bool-set (has_key k y) false))) (s.now.trees 0) a.own_keys b.own_keys i;
-  numbered = AllByRecursion-prop (λ r. is_int (rowid r) ≡ true) (λ r. Bool-set (is_int (rowid r)) true) (s.now.trees 0) a.numbered b.numbered i;
+  own_keys = IsAscending-prop AreApart (λ x y. Π_prop (λ k. Π_prop (λ h. Bool-set (has_key k y) false)))
+      (s.now.trees 0) a.own_keys b.own_keys i;
+  numbered = AllByRecursion-prop (λ r. is_int (rowid r) ≡ true) (λ r. Bool-set (is_int (rowid r)) true)
+      (s.now.trees 0) a.numbered b.numbered i;
 }
 
 IsSettled-prop : (s : State) → IsProp (IsSettled s)
@@ -64,8 +67,12 @@ module _ {S : Type 0} (g : Ghosts S) (a : SqlStable S g) (now : Held S) where
   pub read_made : (b : SqlStable S g) → Follows old new → (IsUsable new → IsSound old → table new ≡ table old) → b.connection ≡ now
       → b.failures ≡ a.failures → Reads g a b
   read_made b f same is counts = record {
-    honest = λ h. record { usable = usable_before f (subst (λ c. IsUsable (state g c)) is h.usable); counts = subst IsSome counts h.counts };
-    rows = λ h. let usable = subst (λ c. IsUsable (state g c)) is h.usable in ap (λ c. table (state g c)) is ∙ same usable (sound_before f usable);
+    honest = λ h. record {
+      usable = usable_before f (subst (λ c. IsUsable (state g c)) is h.usable);
+      counts = subst IsSome counts h.counts;
+    };
+    rows = λ h. let usable = subst (λ c. IsUsable (state g c)) is h.usable in ap (λ c. table (state g c)) is
+        ∙ same usable (sound_before f usable);
     failures = λ h. let e = ap (λ (n : Option ℕ). unwrap_or n 0) counts in omega (arith, e);
   }
 
@@ -74,7 +81,8 @@ module _ {S : Type 0} (g : Ghosts S) (a : SqlStable S g) (now : Held S) where
       → (IsSome b.failures → IsSome a.failures × (unwrap_or a.failures 0 < unwrap_or b.failures 0)) → ReadFails g a b
   read_failed b f same is counts = record {
     honest = λ h. record { usable = usable_before f (subst (λ c. IsUsable (state g c)) is h.usable); counts = (counts h.counts).0 };
-    rows = λ h. let usable = subst (λ c. IsUsable (state g c)) is h.usable in ap (λ c. table (state g c)) is ∙ same usable (sound_before f usable);
+    rows = λ h. let usable = subst (λ c. IsUsable (state g c)) is h.usable in ap (λ c. table (state g c)) is
+        ∙ same usable (sound_before f usable);
     failures = λ h. (counts h.counts).1;
   }
 
@@ -82,9 +90,13 @@ module _ {S : Type 0} (g : Ghosts S) (a : SqlStable S g) (now : Held S) where
       → (IsUsable new → IsSound old → PutsRow (spelled key) bytes (table old) (table new)) → b.connection ≡ now
       → b.failures ≡ a.failures → Puts g a key bytes b
   put_made key bytes b valid f made is counts = record {
-    honest = λ h. record { usable = usable_before f (subst (λ c. IsUsable (state g c)) is h.usable); counts = subst IsSome counts h.counts };
+    honest = λ h. record {
+      usable = usable_before f (subst (λ c. IsUsable (state g c)) is h.usable);
+      counts = subst IsSome counts h.counts;
+    };
     records = λ h. let usable = subst (λ c. IsUsable (state g c)) is h.usable in
-        ap (λ c. records_in (table (state g c))) is ∙ puts_records key bytes (table old) (table new) valid (made usable (sound_before f usable));
+        ap (λ c. records_in (table (state g c))) is ∙ puts_records key bytes (table old) (table new) valid
+        (made usable (sound_before f usable));
     stray = λ h. let usable = subst (λ c. IsUsable (state g c)) is h.usable in
         let both = puts_stray key bytes (table old) (table new) valid (made usable (sound_before f usable)) in
         (λ s. both.0 (subst (λ c. HasStray (table (state g c))) is s), λ s. subst (λ c. HasStray (table (state g c))) (sym is) (both.1 s));
@@ -100,7 +112,8 @@ pub on_ok : {X E : Type 0} {P : Type 0} (r : Result X E) → P → OnOk r P
 on_ok (Ok x) h = h
 on_ok (Err e) h = tt
 
-module _ {X : Type 0} (keys_of : X → List Key) (rows_before rows slice : List Row) (same : slice ≡ rows) (own : HasOwnKeys rows_before) where
+module _ {X : Type 0} (keys_of : X → List Key) (rows_before rows slice : List Row) (same : slice ≡ rows)
+    (own : HasOwnKeys rows_before) where
   pub if_told : (r : Result X StableFault) → IfOk r (λ x. AreKeysOf slice (keys_of x)) → ListsKeys rows_before rows
       → IfOk r (λ x. (k : Key) → Contains (keys_of x) k ↔ IsSome (records_in rows_before k))
   if_told (Ok x) told l = keys_tell rows_before rows (keys_of x) own l (subst (λ rs. AreKeysOf rs (keys_of x)) same told)
@@ -113,7 +126,8 @@ module _ {X : Type 0} (keys_of : X → List Key) (rows_before rows slice : List 
 
 pub if_no_stray : {X : Type 0} (keys_of : X → List Key) (rows_before rows slice : List Row) → slice ≡ rows → (r : Result X StableFault)
     → IfOk r (λ x. AreKeysOf slice (keys_of x)) → ListsKeys rows_before rows → OnOk r (¬ HasStray rows_before)
-if_no_stray keys_of rows_before rows slice same (Ok x) told l = no_stray_row rows_before rows (keys_of x) l (subst (λ rs. AreKeysOf rs (keys_of x)) same told)
+if_no_stray keys_of rows_before rows slice same (Ok x) told l =
+    no_stray_row rows_before rows (keys_of x) l (subst (λ rs. AreKeysOf rs (keys_of x)) same told)
 if_no_stray keys_of rows_before rows slice same (Err e) told l = tt
 
 pub stray_told : (rows_before rows slice : List Row) → slice ≡ rows → ListsKeys rows_before rows

@@ -1,5 +1,6 @@
 -- What the list of keys shows of a table that was found.
-use Rattle.std.proofs.Common.{◌≡◌, inl, inr, ℕ, List, [], ◌∷◌, ◌++◌, codes, arith, Bool, true, false, not, Ok, Err, Result, IfOk, OnOk, refl, sym, ap, subst, ◌∙◌, true≢false}
+use Rattle.std.proofs.Common.{◌≡◌, inl, inr, ℕ, List, [], ◌∷◌, ◌++◌, codes, arith, Bool, true, false, not, Ok, Err, Result, IfOk, OnOk}
+use Rattle.std.proofs.Common.{refl, sym, ap, subst, ◌∙◌, true≢false}
 use Rattle.std.specs.List.{AllByRecursion}
 use Rattle.std.specs.Ordering.{is_lt}
 use Rattle.std.specs.declared.cmp.Ordering.{Ordering}
@@ -59,7 +60,8 @@ Up a b = rises (column a 0) (column b 0) ≡ true
 
 all_above : (row : Row) (rows : List Row) → RisesTo row rows → IsAscending Up rows → AllByRecursion (Up row) rows
 all_above row [] next up = tt
-all_above row (s ∷ rs) next up = (next, all_weaker (Up s) (Up row) (λ t h. rises_on (column row 0) (column s 0) (column t 0) next h) rs up.0)
+all_above row (s ∷ rs) next up =
+    (next, all_weaker (Up s) (Up row) (λ t h. rises_on (column row 0) (column s 0) (column t 0) next h) rs up.0)
 
 up_of : (rows : List Row) → AreSoundRows rows → IsAscending Up rows
 up_of [] h = tt
@@ -67,7 +69,9 @@ up_of (r ∷ rs) (number, next, more) = let up = up_of rs more in (all_above r r
 
 differ_of : (v w : Value) → rises v w ≡ true → Differ v w
 differ_of v w up k hit = elim (cases_Bool (is_bytes k w)) [
-  | inl same ↦ absurd (true≢false (sym (subst (λ x. rises x (Blob k) ≡ true) (blob_is k v hit) (subst (λ x. rises v x ≡ true) (blob_is k w same) up)) ∙ ap is_lt (tied_itself nat_list_cmp_total k)))
+  | inl same ↦ absurd (true≢false
+      (sym (subst (λ x. rises x (Blob k) ≡ true) (blob_is k v hit) (subst (λ x. rises v x ≡ true) (blob_is k w same) up))
+      ∙ ap is_lt (tied_itself nat_list_cmp_total k)))
   | inr other ↦ other
 ]
 
@@ -76,15 +80,22 @@ numbers_of [] h = tt
 numbers_of (r ∷ rs) (number, next, more) = (number, numbers_of rs more)
 
 pub own_keys_found : (table rows : List Row) → ListsKeys table rows → AreSoundRows rows → HasOwnKeys table
-own_keys_found table rows l sound = l.owned (ascending_weaker Up (λ a b. Differ (column a 0) (column b 0)) (λ a b. differ_of (column a 0) (column b 0)) rows (up_of rows sound))
+own_keys_found table rows l sound =
+    l.owned (ascending_weaker Up (λ a b. Differ (column a 0) (column b 0)) (λ a b. differ_of (column a 0) (column b 0)) rows
+    (up_of rows sound))
 
 pub numbers_found : (table rows : List Row) → ListsKeys table rows → AreSoundRows rows → AreNumbered table
-numbers_found table rows l sound = all_from _ table (λ r h. all_has (λ r. is_int (column r 1) ≡ true) rows (key_row r) (numbers_of rows sound) (l.to r h))
+numbers_found table rows l sound =
+    all_from _ table (λ r h. all_has (λ r. is_int (column r 1) ≡ true) rows (key_row r) (numbers_of rows sound) (l.to r h))
 
 -- ---- a table that was found
 
 schema_with : List ℕ → Schema
-schema_with ds = record { tables = record_table ∷ []; indexes = record record_index { name = codes "sqlite_autoindex_" ++ (record_table.name ++ (codes "_" ++ ds)) } ∷ []; views = [] }
+schema_with ds = record {
+  tables = record_table ∷ [];
+  indexes = record record_index { name = codes "sqlite_autoindex_" ++ (record_table.name ++ (codes "_" ++ ds)) } ∷ [];
+  views = [];
+}
 
 pub listed_is : listed_schema ≡ record_schema
 unfolding schema_with
@@ -93,7 +104,8 @@ listed_is = ap schema_with (sym (decimal_digit 1 (omega arith)))
 -- the list of keys shows that the table is sound, and leaves its rows
 pub found_sound : (before after : State) (rows slice : List Row) → before.now.schema ≡ record_schema → ListsKeys (table before) rows
     → IsUnchanged before after
-    → IsLive before → after.in_transaction ≡ false → after.now ≡ after.committed → slice ≡ rows → AreSoundRows slice → IsSound after × (table after ≡ table before)
+    → IsLive before → after.in_transaction ≡ false → after.now ≡ after.committed → slice ≡ rows → AreSoundRows slice → IsSound after
+    × (table after ≡ table before)
 found_sound before after rows slice has l same live auto settled is sound =
     let now = same.0.now_is in
     let database : IsDatabase after.now = subst IsDatabase (sym now) (live same.0.was_open).0 in
@@ -121,10 +133,12 @@ not_in answer false e h = refl
 pub those_held : (image : Image) (before : State) (found : List Row) → Opens before
     → ((db : Trees) → HoldsDatabase image db → before.committed.trees ≡ db)
     → FindsTable before found → AreThoseHeld image found
-those_held image before found opens holds finds rows held = ∥∥₁_elim held (rows_set found rows) (λ (db, there, listed, is). elim finds.found [
-  | inl none ↦ absurd (listed (ap (λ (t : Trees). t catalog_tree) (sym (holds db there)) ∙ ap (λ (d : Database). d.trees catalog_tree) (sym opens.clean) ∙ none.0))
-  | inr same ↦ same ∙ ap (λ (d : Database). d.trees 0) opens.clean ∙ ap (λ (t : Trees). t 0) (holds db there) ∙ is
-])
+those_held image before found opens holds finds rows held = ∥∥₁_elim held (rows_set found rows)
+    (λ (db, there, listed, is). elim finds.found [
+      | inl none ↦ absurd (listed (ap (λ (t : Trees). t catalog_tree) (sym (holds db there))
+          ∙ ap (λ (d : Database). d.trees catalog_tree) (sym opens.clean) ∙ none.0))
+      | inr same ↦ same ∙ ap (λ (d : Database). d.trees 0) opens.clean ∙ ap (λ (t : Trees). t 0) (holds db there) ∙ is
+    ])
 
 -- a storage that is closed leaves its rows
 pub closed_holds : (image : Image) (last : State) → IsSound last → HoldsAlone image last.committed.trees → HoldRowsAlone image (table last)
@@ -134,7 +148,8 @@ closed_holds image last sound holds = record {
 }
 
 -- the table was made where nothing was there
-pub blank_found : {X E : Type 0} (before after : State) (r : Result X E) → before.now.schema ≡ no_schema → IsLive before → OnOk r (IsUsable before)
+pub blank_found : {X E : Type 0} (before after : State) (r : Result X E) → before.now.schema ≡ no_schema → IsLive before
+    → OnOk r (IsUsable before)
     → OnOk r (table after ≡ []) → OnOk r (FindsTable before (table after))
 blank_found before after (Ok x) blank live usable empty = record {
   was_clean = usable.0;

@@ -7,7 +7,9 @@ use Rattle.sqlite.specs.State.{State, Executes, ExecutesIn, IsNotRun, shows_rows
 use Rattle.sqlite_schema.specs.declared.command.Returning.{Returning}
 use Rattle.std.proofs.Common.{OnErr, IsTrue, Option}
 use Rattle.sqlite_schema.specs.declared.command.Command.{Command}
-use Rattle.sqlite_schema.specs.declared.command.Command.TheVariants.{Select, Insert, InsertOr, Update, Delete, CreateTable, CreateIndex, DropTable, DropIndex, Begin, Commit, Rollback, Savepoint as Save, Release, RollbackTo, Rows, Nothing, CreateView, DropView}
+use Rattle.sqlite_schema.specs.declared.command.Command.TheVariants.{Select, Insert, InsertOr, Update, Delete, CreateTable, CreateIndex}
+use Rattle.sqlite_schema.specs.declared.command.Command.TheVariants.{DropTable, DropIndex, Begin, Commit, Rollback, Savepoint as Save}
+use Rattle.sqlite_schema.specs.declared.command.Command.TheVariants.{Release, RollbackTo, Rows, Nothing, CreateView, DropView}
 use Rattle.sqlstable.specs.States.{Leaves}
 
 pub not_run : (old new : State) (sql : List ℕ) (params : Row) (e : Error) → IsNotRun old new sql params e → Leaves old new

@@ -1,5 +1,7 @@
 -- Keys, their spelling, and what the rows have for them.
-use Rattle.std.proofs.Common.{◌≡◌, ◌≢◌, ◌⊎◌, ◌↔◌, inl, inr, ℕ, suc, ◌+◌, ◌*◌, ◌/◌, ◌%◌, ◌<◌, ◌^◌, ◌==◌, arith, List, [], ◌∷◌, ◌++◌, map, drop, length, Bool, true, false, if◌then◌else◌, Option, Some, None, IsSome, refl, sym, ap, subst, ◌∙◌, true≢false, Contains}
+use Rattle.std.proofs.Common.{◌≡◌, ◌≢◌, ◌⊎◌, ◌↔◌, inl, inr, ℕ, suc, ◌+◌, ◌*◌, ◌/◌, ◌%◌, ◌<◌, ◌^◌, ◌==◌, arith, List, [], ◌∷◌, ◌++◌, map}
+use Rattle.std.proofs.Common.{drop, length, Bool, true, false, if◌then◌else◌, Option, Some, None, IsSome, refl, sym, ap, subst, ◌∙◌}
+use Rattle.std.proofs.Common.{true≢false, Contains}
 use Rattle.std.specs.Int.{w32, to_be_bytes, from_be_bytes}
 use Rattle.std.specs.List.{AllByRecursion}
 use Rattle.std.specs.Prelude.{slice_index_or}
@@ -35,7 +37,8 @@ use Rattle.sqlstable.proofs.Selects.{has_mapped, mapped_has}
 use Rattle.sqlstable.proofs.OnePut.{reads_put, reads_others}
 
 vote_apart : (m n : ℕ) → m < 65536 → n < 65536 → to_be_bytes w32 m ≡ to_be_bytes w32 n → m ≡ n
-vote_apart m n p q e = sym (from_be_bytes-to_be_bytes_4 m (omega (arith, p))) ∙ ap (from_be_bytes w32) e ∙ from_be_bytes-to_be_bytes_4 n (omega (arith, q))
+vote_apart m n p q e = sym (from_be_bytes-to_be_bytes_4 m (omega (arith, p))) ∙ ap (from_be_bytes w32) e
+    ∙ from_be_bytes-to_be_bytes_4 n (omega (arith, q))
 
 first : {xs ys : List ℕ} → xs ≡ ys → slice_index_or xs 0 0 ≡ slice_index_or ys 0 0
 first e = ap (λ (l : List ℕ). slice_index_or l 0 0) e
@@ -64,7 +67,8 @@ puts_records key v old new valid p = λ i q. at q i
     other : (q : Key) → (rank q == rank key) ≡ false → (b : Bool) → is_valid q ≡ b
         → (if b then value_at (spelled q) new else None) ≡ (if b then value_at (spelled q) old else None)
     other q differs false e = refl
-    other q differs true e = reads_others (spelled key) v (spelled q) old new p (λ same. true≢false (sym (eq-eqb (rank q) (rank key) (ap rank (spelled_apart q key e valid same))) ∙ differs))
+    other q differs true e = reads_others (spelled key) v (spelled q) old new p
+        (λ same. true≢false (sym (eq-eqb (rank q) (rank key) (ap rank (spelled_apart q key e valid same))) ∙ differs))
 
     at : (q : Key) → records_in new q ≡ with_record (records_in old) key v q
     at q = elim (cases_Bool (rank q == rank key)) [
@@ -77,19 +81,24 @@ puts_records key v old new valid p = λ i q. at q i
 
 pub puts_stray : (key : Key) (v : List ℕ) (old new : List Row) → is_valid key ≡ true → PutsRow (spelled key) v old new
     → HasStray new ↔ HasStray old
-puts_stray key v old new valid p = (λ (r, h, stray). (r, p.was r h (stray key valid), stray), λ (r, h, stray). (r, p.kept r h (stray key valid), stray))
+puts_stray key v old new valid p = (
+  λ (r, h, stray). (r, p.was r h (stray key valid), stray),
+  λ (r, h, stray). (r, p.kept r h (stray key valid), stray),
+)
 
 -- ---- the keys of the rows
 
 tell_at : (rows : List Row) (keys : List Key) (k : Key) → map (λ row. column row 0) rows ≡ map (λ k. Blob (spelled k)) keys
     → Has keys k → (row : Row) × Has rows row × (column row 0 ≡ Blob (spelled k))
 tell_at rows keys k tell h =
-    let it = mapped_has (λ row. column row 0) rows (Blob (spelled k)) (subst (λ vs. Has vs (Blob (spelled k))) (sym tell) (has_mapped (λ k. Blob (spelled k)) keys k h)) in
+    let it = mapped_has (λ row. column row 0) rows (Blob (spelled k))
+    (subst (λ vs. Has vs (Blob (spelled k))) (sym tell) (has_mapped (λ k. Blob (spelled k)) keys k h)) in
     (it.0, it.1, sym it.2)
 
 told_at : (rows : List Row) (keys : List Key) (row : Row) → map (λ row. column row 0) rows ≡ map (λ k. Blob (spelled k)) keys
     → Has rows row → (k : Key) × Has keys k × (column row 0 ≡ Blob (spelled k))
-told_at rows keys row tell h = mapped_has (λ k. Blob (spelled k)) keys (column row 0) (subst (λ vs. Has vs (column row 0)) tell (has_mapped (λ row. column row 0) rows row h))
+told_at rows keys row tell h = mapped_has (λ k. Blob (spelled k)) keys (column row 0)
+    (subst (λ vs. Has vs (column row 0)) tell (has_mapped (λ row. column row 0) rows row h))
 
 blob_apart : {a b : List ℕ} → Blob a ≡ Blob b → a ≡ b
 blob_apart e = cc
@@ -131,7 +140,8 @@ below x y h = ranked x y Less (sym h)
 
 above_first : (x y : ℕ) (xs ys : List ℕ) → slice_cmp nat_cmp (x ∷ xs) (y ∷ ys) ≡ Less
     → (x < y) ⊎ ((x ≡ y) × (slice_cmp nat_cmp xs ys ≡ Less))
-above_first x y xs ys h = elim (then_below (nat_cmp x y) (slice_cmp nat_cmp xs ys) h) [ inl less ↦ inl (below x y less) | inr both ↦ inr (exact_unsigned x y both.0, both.1) ]
+above_first x y xs ys h = elim (then_below (nat_cmp x y) (slice_cmp nat_cmp xs ys) h)
+    [ inl less ↦ inl (below x y less) | inr both ↦ inr (exact_unsigned x y both.0, both.1) ]
 
 lex : (a b c d e f g h m n : ℕ) → m ≡ a * 16777216 + b * 65536 + c * 256 + d → n ≡ e * 16777216 + f * 65536 + g * 256 + h → b < 256
     → c < 256 → d < 256
@@ -158,7 +168,8 @@ byte_below m = omega arith
 
 -- which of two numbers is the lesser, as four digits tell
 digits_less : (m n : ℕ) → m < 65536 → n < 65536 → slice_cmp nat_cmp (to_be_bytes w32 m) (to_be_bytes w32 n) ≡ Less → m < n
-digits_less m n p q h = lex _ _ _ _ _ _ _ _ m n (digits m p) (digits n q) (byte_below (m / 256 ^ 2)) (byte_below (m / 256 ^ 1)) (byte_below m) h
+digits_less m n p q h = lex _ _ _ _ _ _ _ _ m n (digits m p) (digits n q) (byte_below (m / 256 ^ 2)) (byte_below (m / 256 ^ 1))
+    (byte_below m) h
 
 nat_less : (x y : ℕ) → x < y → nat_cmp x y ≡ Less
 nat_less x y h = sym (nat_cmp_is x y Less h)
@@ -192,7 +203,10 @@ before xs ys h apart = go (list_cmp ys xs) refl
 prepend : (x y : List ℕ) (ys : List (List ℕ)) → list_cmp x y ≡ Less → IsStrictlySortedBy list_cmp (y ∷ ys)
     → IsStrictlySortedBy list_cmp (x ∷ y ∷ ys)
 unfolding IsStrictlySortedBy
-prepend x y ys less rest = ((less, all_weaker (λ z. list_cmp y z ≡ Less) (λ z. list_cmp x z ≡ Less) (λ z h. nat_list_cmp_total.trans x y z less h) ys rest.0), rest)
+prepend x y ys less rest = (
+  (less, all_weaker (λ z. list_cmp y z ≡ Less) (λ z. list_cmp x z ≡ Less) (λ z h. nat_list_cmp_total.trans x y z less h) ys rest.0),
+  rest,
+)
 
 -- in order, and no two alike, so each below those after it
 strictly : (xs : List (List ℕ)) → ((k : ℕ) (d : List ℕ) → suc k < length xs
@@ -202,7 +216,8 @@ unfolding IsStrictlySortedBy
 strictly [] sorted apart = tt
 strictly (x ∷ []) sorted apart = (tt, tt)
 strictly (x ∷ y ∷ ys) sorted apart =
-    prepend x y ys (before x y (sorted 0 x (omega arith)) apart.0.0) (strictly (y ∷ ys) (λ k d h. sorted (suc k) d (omega (arith, h))) apart.1)
+    prepend x y ys (before x y (sorted 0 x (omega arith)) apart.0.0)
+    (strictly (y ∷ ys) (λ k d h. sorted (suc k) d (omega (arith, h))) apart.1)
 
 keys_rise : (keys : List Key) → AllByRecursion (λ k. is_valid k ≡ true) keys → IsStrictlySortedBy list_cmp (map spelled keys)
     → IsStrictlySortedBy key_cmp keys
@@ -227,7 +242,8 @@ keys_ascend table rows keys own l a = keys_rise keys a.valid (strictly (map spel
 
     at : (k : ℕ) (d : List ℕ) (e : Row) → k < length (map spelled keys)
         → column (slice_index_or rows k e) 0 ≡ Blob (slice_index_or (map spelled keys) k d)
-    at k d e h = sym (get_or-map (λ (row : Row). column row 0) rows k e (Blob d) (omega (arith, h, long))) ∙ ap (λ vs. slice_index_or vs k (Blob d)) values ∙ get_or-map Blob (map spelled keys) k d (Blob d) h
+    at k d e h = sym (get_or-map (λ (row : Row). column row 0) rows k e (Blob d) (omega (arith, h, long)))
+        ∙ ap (λ vs. slice_index_or vs k (Blob d)) values ∙ get_or-map Blob (map spelled keys) k d (Blob d) h
 
     sorted : (k : ℕ) (d : List ℕ) → suc k < length (map spelled keys)
         → is_lt (list_cmp (slice_index_or (map spelled keys) (suc k) d) (slice_index_or (map spelled keys) k d)) ≡ false
@@ -243,14 +259,17 @@ keys_ascend table rows keys own l a = keys_rise keys a.valid (strictly (map spel
     apart : IsAscending (λ x y. x ≢ y) (map spelled keys)
     apart =
         let vs = subst (IsAscending Differ) values (ascending-map Differ (λ (row : Row). column row 0) rows (l.apart own)) in
-        ascending_weaker (λ x y. Differ (Blob x) (Blob y)) (λ x y. x ≢ y) (λ x y d same. true≢false (sym (is_bytes-self x) ∙ subst (λ z. is_bytes x (Blob z) ≡ false) (sym same) (d x (is_bytes-self x)))) _
+        ascending_weaker (λ x y. Differ (Blob x) (Blob y)) (λ x y. x ≢ y)
+        (λ x y d same. true≢false (sym (is_bytes-self x) ∙ subst (λ z. is_bytes x (Blob z) ≡ false) (sym same) (d x (is_bytes-self x))))
+        _
         (ascending_from_map Differ Blob (map spelled keys) vs)
 
 -- ---- a stray key
 
 pub stray_row : (table rows : List Row) (row : Row) → ListsKeys table rows → Has rows row
     → ((k : Key) → is_valid k ≡ true → is_bytes (spelled k) (column row 0) ≡ false) → HasStray table
-stray_row table rows row l h stray = let r = l.from row h in (r.0, r.1, λ k valid. ap (λ (c : Row). is_bytes (spelled k) (column c 0)) (sym r.2) ∙ stray k valid)
+stray_row table rows row l h stray = let r = l.from row h in
+    (r.0, r.1, λ k valid. ap (λ (c : Row). is_bytes (spelled k) (column c 0)) (sym r.2) ∙ stray k valid)
 
 -- a list of keys leaves no row for a stray one
 pub no_stray_row : (table rows : List Row) (keys : List Key) → ListsKeys table rows → AreKeysOf rows keys → ¬ HasStray table
@@ -265,7 +284,8 @@ pub not_a_blob : (v : Value) (k : List ℕ) → ¬ ((b : List ℕ) × (v ≡ Blo
 not_a_blob v k none = elim (cases_Bool (is_bytes k v)) [ inl hit ↦ absurd (none (k, blob_is k v hit)) | inr other ↦ other ]
 
 pub other_blob : (v : Value) (k b : List ℕ) → v ≡ Blob b → k ≢ b → is_bytes k v ≡ false
-other_blob v k b is apart = elim (cases_Bool (is_bytes k v)) [ inl hit ↦ absurd (apart (blob_apart (sym (blob_is k v hit) ∙ is))) | inr other ↦ other ]
+other_blob v k b is apart = elim (cases_Bool (is_bytes k v))
+    [ inl hit ↦ absurd (apart (blob_apart (sym (blob_is k v hit) ∙ is))) | inr other ↦ other ]
 
 pub no_keys : AreKeysOf [] []
 no_keys = record { valid = tt; tell = refl }
@@ -274,5 +294,6 @@ pub one_more_key : (rows : List Row) (keys : List Key) (row : Row) (key : Key) �
     → column row 0 ≡ Blob (spelled key) → AreKeysOf (rows ++ row ∷ []) (keys ++ key ∷ [])
 one_more_key rows keys row key a valid is = record {
   valid = all-append (λ k. is_valid k ≡ true) keys (key ∷ []) a.valid (valid, tt);
-  tell = map-append (λ (r : Row). column r 0) rows (row ∷ []) ∙ ap (λ vs. vs ++ column row 0 ∷ []) a.tell ∙ ap (λ v. map (λ k. Blob (spelled k)) keys ++ v ∷ []) is ∙ sym (map-append (λ k. Blob (spelled k)) keys (key ∷ []));
+  tell = map-append (λ (r : Row). column r 0) rows (row ∷ []) ∙ ap (λ vs. vs ++ column row 0 ∷ []) a.tell
+      ∙ ap (λ v. map (λ k. Blob (spelled k)) keys ++ v ∷ []) is ∙ sym (map-append (λ k. Blob (spelled k)) keys (key ∷ []));
 }

@@ -12,7 +12,8 @@ use Rattle.sqlstable.specs.Table.{no_schema, record_schema}
 -- a database with the table lists it
 pub lists_something : (db : Database) → db.schema ≡ record_schema → IsDatabase db → db.trees catalog_tree ≢ []
 lists_something db is sound none =
-    let tables = subst (λ (s : Schema). AllZip IsTableRow (filter is_table_row (db.trees catalog_tree)) s.tables) is sound.lists.listed.tables in
+    let tables = subst (λ (s : Schema). AllZip IsTableRow (filter is_table_row (db.trees catalog_tree)) s.tables) is
+    sound.lists.listed.tables in
     subst (λ objects. AllZip IsTableRow (filter is_table_row objects) record_schema.tables) none tables
 
 -- a row of the list is one of the three

@@ -1,5 +1,6 @@
 -- One put sets one key.
-use Rattle.std.proofs.Common.{◌≡◌, ◌≢◌, inl, inr, ℕ, ℤ, List, [], ◌∷◌, ◌++◌, map, drop, length, ◌≤◌, arith, Bool, true, false, not, ◌&&◌, ◌||◌, if◌then◌else◌, Option, Some, Ok, refl, sym, ap, subst, ◌∙◌, true≢false}
+use Rattle.std.proofs.Common.{◌≡◌, ◌≢◌, inl, inr, ℕ, ℤ, List, [], ◌∷◌, ◌++◌, map, drop, length, ◌≤◌, arith, Bool, true, false, not, ◌&&◌}
+use Rattle.std.proofs.Common.{◌||◌, if◌then◌else◌, Option, Some, Ok, refl, sym, ap, subst, ◌∙◌, true≢false}
 use Rattle.std.specs.List.{AllByRecursion}
 use Rattle.std.specs.List.Sorted.{IsPermutation}
 use Rattle.std.proofs.lemmas.List.Sorted.{length_permutation}
@@ -100,7 +101,11 @@ goes_to id k v old left own numbered none from stays fresh =
       put = (n, has_put n left, is_bytes-self k, refl);
       kept = λ r h is. put_all_keeps (n ∷ []) left r fresh (stays r h is);
       was = λ r h is. elim (put_all_has (n ∷ []) left r h) [
-        | inl new ↦ elim new [ inl same ↦ absurd (true≢false (sym (is_bytes-self k) ∙ sym (ap (has_key k) same) ∙ is)) | inr none_left ↦ absurd none_left ]
+        | inl new ↦ elim new [
+          | inl same ↦ absurd (true≢false (sym (is_bytes-self k) ∙ sym (ap (has_key k) same) ∙ is))
+          | inr none_left ↦
+              absurd none_left
+        ]
         | inr there ↦ from r there
       ];
     }
@@ -126,7 +131,8 @@ none_conflicts id k v rows c r h = elim (cases_Bool (has_key k r)) [
 pub one_conflicts : (id : ℤ) (k v : List ℕ) (rows more : List Row) (there : Row)
     → AreConflicts (Some (1 ∷ [])) record_schema.indexes record_table rows (row_of id k v) (there ∷ more)
     → (r : Row) × Has rows r × (has_key k r ≡ true) × (rowid there ≡ rowid r)
-one_conflicts id k v rows more there c = let it = c.sound there (inl refl) in (it.0, it.1, sym (conflicts_is id k v it.0) ∙ it.2, ap rowid it.3)
+one_conflicts id k v rows more there c = let it = c.sound there (inl refl) in
+    (it.0, it.1, sym (conflicts_is id k v it.0) ∙ it.2, ap rowid it.3)
 
 -- ---- what the update shows
 
@@ -152,22 +158,26 @@ outputs_numbered id v (r ∷ rs) n = go (equal Binary (column r 0) (Int id)) ref
   where
     go : (b : Bool) → equal Binary (column r 0) (Int id) ≡ b
         → AllByRecursion (λ (o : Output). column (drop 1 o.1) 0 ≡ Int id) (outputs (Int id) v rs)
-        → AllByRecursion (λ (o : Output). column (drop 1 o.1) 0 ≡ Int id) (if b then set_row v r ∷ outputs (Int id) v rs else outputs (Int id) v rs)
+        → AllByRecursion (λ (o : Output). column (drop 1 o.1) 0 ≡ Int id)
+        (if b then set_row v r ∷ outputs (Int id) v rs else outputs (Int id) v rs)
     go true e more =
         let is = int_is (column r 0) n.0 in
-        let same = int_tied (id_in (column r 0)) id (sym (equal_ints (id_in (column r 0)) id) ∙ subst (λ x. equal Binary x (Int id) ≡ true) is e) in
+        let same = int_tied (id_in (column r 0)) id (sym (equal_ints (id_in (column r 0)) id)
+        ∙ subst (λ x. equal Binary x (Int id) ≡ true) is e) in
         (is ∙ ap Int same, more)
     go false e more = more
 
 twice : (n m : Row) (left more : List Row) → rowid n ≡ rowid m → are_fresh left (n ∷ m ∷ more) ≡ true → ⊥
 twice n m left more same fresh =
     let free = not-true _ (and_parts _ _ (and_parts _ _ fresh).1).0 in
-    let taken = some_from (λ r. is_eq (value_cmp (rowid r) (rowid m))) (put_row n left) n (has_put n left) (ap (λ x. is_eq (value_cmp x (rowid m))) same ∙ alike (rowid m)) in
+    let taken = some_from (λ r. is_eq (value_cmp (rowid r) (rowid m))) (put_row n left) n (has_put n left)
+    (ap (λ x. is_eq (value_cmp x (rowid m))) same ∙ alike (rowid m)) in
     true≢false (sym taken ∙ free)
 
 -- ---- the update
 
-module _ (k v : List ℕ) (rows : List Row) (own : HasOwnKeys rows) (numbered : AreNumbered rows) (there : Row) (listed : Has rows there) (keyed : has_key k there ≡ true) where
+module _ (k v : List ℕ) (rows : List Row) (own : HasOwnKeys rows) (numbered : AreNumbered rows) (there : Row) (listed : Has rows there)
+    (keyed : has_key k there ≡ true) where
   abbrev id : ℤ
   id = id_in (rowid there)
 
@@ -211,7 +221,8 @@ module _ (k v : List ℕ) (rows : List Row) (own : HasOwnKeys rows) (numbered : 
     ]
 
     updated : are_fresh left (row_of id k v ∷ []) ≡ true → PutsRow k v rows (put_all left (row_of id k v ∷ []))
-    updated fresh = goes_to id k v rows left (ascending-filter AreApart _ rows own) (all-filter _ _ rows numbered) left_apart (λ r h. (left_was r h).0) stays_left fresh
+    updated fresh = goes_to id k v rows left (ascending-filter AreApart _ rows own) (all-filter _ _ rows numbered) left_apart
+        (λ r h. (left_was r h).0) stays_left fresh
 
 abbrev pub news_of : List Row → List Row → List Row
 news_of left shown = numbered Given left (map (λ s. cast_row record_table (drop 1 s)) shown)
@@ -228,12 +239,14 @@ many id left (o ∷ p ∷ more) long all fresh =
 pub update_put : (limit : Option ℕ) (keys : Keys) (params : Row) (k v : List ℕ) (n : ℤ) (db : Trees) (one : Written)
     → HasOwnKeys (db 0) → AreNumbered (db 0)
     → (there : Row) → Has (db 0) there → has_key k there ≡ true
-    → Updates (record { limit = limit; keys = keys; schema = record_schema; table = record_table; params = params }) set_program (Blob k ∷ Blob v ∷ rowid there ∷ Int n ∷ Blob k ∷ Blob v ∷ []) db (Ok one)
+    → Updates (record { limit = limit; keys = keys; schema = record_schema; table = record_table; params = params }) set_program
+    (Blob k ∷ Blob v ∷ rowid there ∷ Int n ∷ Blob k ∷ Blob v ∷ []) db (Ok one)
     → PutsRow k v (db 0) (one.trees 0)
 update_put limit keys params k v n db one own numbers there listed keyed h =
     let got = sets limit keys params k v (rowid there) (Int n) db one h in
     let is = there_is k v (db 0) own numbers there listed keyed in
-    go got.0 got.1 (subst (λ x. IsPermutation (outputs x (Blob v) (db 0)) got.1) is got.2) got.3 got.4 got.5 (outputs (Int (id_in (rowid there))) (Blob v) (db 0)) refl
+    go got.0 got.1 (subst (λ x. IsPermutation (outputs x (Blob v) (db 0)) got.1) is got.2) got.3 got.4 got.5
+    (outputs (Int (id_in (rowid there))) (Blob v) (db 0)) refl
   where
     here : Has (outputs (Int (id_in (rowid there))) (Blob v) (db 0)) (set_row (Blob v) there)
     here = let is = there_is k v (db 0) own numbers there listed keyed in
@@ -242,65 +255,80 @@ update_put limit keys params k v n db one own numbers there listed keyed h =
 
     one_row : (rows : List Row) → rows ≡ (set_row (Blob v) there).1 ∷ []
         → one.trees 0 ≡ edited db (edit_of db record_table (ids_of rows) Given 1 rows)
-        → are_fresh (left_by db (edit_of db record_table (ids_of rows) Given 1 rows)) (edit_of db record_table (ids_of rows) Given 1 rows).news ≡ true
+        → are_fresh (left_by db (edit_of db record_table (ids_of rows) Given 1 rows))
+        (edit_of db record_table (ids_of rows) Given 1 rows).news ≡ true
         → outputs (Int (id_in (rowid there))) (Blob v) (db 0) ≡ set_row (Blob v) there ∷ []
         → PutsRow k v (db 0) (one.trees 0)
     one_row rows e ended fresh only =
         let is = there_is k v (db 0) own numbers there listed keyed in
         let left = without_rowid (id_in (rowid there)) (db 0) in
         let row : cast Integer (column there 0) ∷ column there 1 ∷ Blob v ∷ [] ≡ row_of (id_in (rowid there)) k v =
-        ap (λ x. x ∷ column there 1 ∷ Blob v ∷ []) (ap (cast Integer) is ∙ cast_int _) ∙ ap (λ x. Int (id_in (rowid there)) ∷ x ∷ Blob v ∷ []) (blob_is k (column there 1) keyed) in
+        ap (λ x. x ∷ column there 1 ∷ Blob v ∷ []) (ap (cast Integer) is ∙ cast_int _)
+        ∙ ap (λ x. Int (id_in (rowid there)) ∷ x ∷ Blob v ∷ []) (blob_is k (column there 1) keyed) in
         let trees : one.trees 0 ≡ put_all left (row_of (id_in (rowid there)) k v ∷ []) =
-        subst (λ rs. one.trees 0 ≡ edited db (edit_of db record_table (ids_of rs) Given 1 rs)) e ended ∙ ap (λ r. put_all left (r ∷ [])) row in
+        subst (λ rs. one.trees 0 ≡ edited db (edit_of db record_table (ids_of rs) Given 1 rs)) e ended
+        ∙ ap (λ r. put_all left (r ∷ [])) row in
         let free : are_fresh left (row_of (id_in (rowid there)) k v ∷ []) ≡ true =
-        subst (λ r. are_fresh left (r ∷ []) ≡ true) row (subst (λ rs. are_fresh (left_by db (edit_of db record_table (ids_of rs) Given 1 rs)) (edit_of db record_table (ids_of rs) Given 1 rs).news ≡ true) e fresh) in
+        subst (λ r. are_fresh left (r ∷ []) ≡ true) row (subst
+        (λ rs. are_fresh (left_by db (edit_of db record_table (ids_of rs) Given 1 rs))
+        (edit_of db record_table (ids_of rs) Given 1 rs).news ≡ true) e fresh) in
         subst (PutsRow k v (db 0)) (sym trees) (updated k v (db 0) own numbers there listed keyed only free)
 
     go : (rows : List Row) (ordered : List Output) → IsPermutation (outputs (Int (id_in (rowid there))) (Blob v) (db 0)) ordered
         → rows ≡ map (λ (o : Output). o.1) ordered
         → one.trees 0 ≡ edited db (edit_of db record_table (ids_of rows) Given 1 rows)
-        → are_fresh (left_by db (edit_of db record_table (ids_of rows) Given 1 rows)) (edit_of db record_table (ids_of rows) Given 1 rows).news ≡ true
+        → are_fresh (left_by db (edit_of db record_table (ids_of rows) Given 1 rows))
+        (edit_of db record_table (ids_of rows) Given 1 rows).news ≡ true
         → (os : List Output) → outputs (Int (id_in (rowid there))) (Blob v) (db 0) ≡ os → PutsRow k v (db 0) (one.trees 0)
     go rows ordered same shown ended fresh [] e = absurd (subst (λ os. Has os (set_row (Blob v) there)) e here)
     go rows ordered same shown ended fresh (o ∷ []) e =
-        let o_is : set_row (Blob v) there ≡ o = elim (subst (λ os. Has os (set_row (Blob v) there)) e here) [ inl x ↦ x | inr none ↦ absurd none ] in
+        let o_is : set_row (Blob v) there ≡ o = elim (subst (λ os. Has os (set_row (Blob v) there)) e here)
+        [ inl x ↦ x | inr none ↦ absurd none ] in
         let only = e ∙ ap (λ x. x ∷ []) (sym o_is) in
         let one_only = one_permutation (set_row (Blob v) there) ordered (subst (λ os. IsPermutation os ordered) only same) in
         one_row rows (shown ∙ ap (map (λ (p : Output). p.1)) one_only) ended fresh only
     go rows ordered same shown ended fresh (o ∷ p ∷ more) e =
-        let long : 2 ≤ length ordered = let l = length_permutation _ ordered (subst (λ os. IsPermutation os ordered) e same) in omega (arith, l) in
+        let long : 2 ≤ length ordered = let l = length_permutation _ ordered (subst (λ os. IsPermutation os ordered) e same) in
+        omega (arith, l) in
         absurd (many (id_in (rowid there)) (left_by db (edit_of db record_table (ids_of rows) Given 1 rows)) ordered long
         (all-permutation _ _ ordered same (outputs_numbered (id_in (rowid there)) (Blob v) (db 0) numbers))
-        (subst (λ rs. are_fresh (left_by db (edit_of db record_table (ids_of rows) Given 1 rows)) (news_of (left_by db (edit_of db record_table (ids_of rows) Given 1 rows)) rs) ≡ true) shown fresh))
+        (subst (λ rs. are_fresh (left_by db (edit_of db record_table (ids_of rows) Given 1 rows))
+        (news_of (left_by db (edit_of db record_table (ids_of rows) Given 1 rows)) rs) ≡ true) shown fresh))
 
 -- ---- the put
 
 pub one_put : (limit : Option ℕ) (keys : Keys) (params : Row) (id : ℤ) (k v : List ℕ) (db : Trees) (one : Written) → HasOwnKeys (db 0)
     → AreNumbered (db 0) → params ≡ Blob k ∷ Blob v ∷ []
-    → Upserts (record { limit = limit; keys = keys; schema = record_schema; table = record_table; params = params }) Abort (row_of id k v) db (put_clause ∷ []) (Ok one)
+    → Upserts (record { limit = limit; keys = keys; schema = record_schema; table = record_table; params = params }) Abort
+    (row_of id k v) db (put_clause ∷ []) (Ok one)
     → PutsRow k v (db 0) (one.trees 0)
 one_put limit keys params id k v db one own numbers given (found, met, does) = go found met does
   where
     insert : ((r : Row) → Has (db 0) r → has_key k r ≡ false)
-        → Puts (record { limit = limit; keys = keys; schema = record_schema; table = record_table; params = params }) (row_of id k v) db (Ok one) → PutsRow k v (db 0) (one.trees 0)
+        → Puts (record { limit = limit; keys = keys; schema = record_schema; table = record_table; params = params }) (row_of id k v) db
+        (Ok one) → PutsRow k v (db 0) (one.trees 0)
     insert none h = let went = goes_in limit keys params id k v db one h in
         subst (PutsRow k v (db 0)) (sym went.0) (goes_to id k v (db 0) (db 0) own numbers none (λ r x. x) (λ r x is. x) went.1)
 
     clear : ((r : Row) → Has (db 0) r → has_key k r ≡ false) → (found : List Row)
-        → Clears (record { limit = limit; keys = keys; schema = record_schema; table = record_table; params = params }) Abort (row_of id k v) db found (Ok one) → PutsRow k v (db 0) (one.trees 0)
+        → Clears (record { limit = limit; keys = keys; schema = record_schema; table = record_table; params = params }) Abort
+        (row_of id k v) db found (Ok one) → PutsRow k v (db 0) (one.trees 0)
     clear none [] h = insert none h
     clear none (x ∷ more) h = insert none h
 
     go : (found : List Row) → AreConflicts (Some (1 ∷ [])) record_schema.indexes record_table (db 0) (row_of id k v) found
         → Meets (record { limit = limit; keys = keys; schema = record_schema; table = record_table; params = params })
-        (Upserts (record { limit = limit; keys = keys; schema = record_schema; table = record_table; params = params }) Abort (row_of id k v) db []) (row_of id k v) db put_clause found (Ok one)
+        (Upserts (record { limit = limit; keys = keys; schema = record_schema; table = record_table; params = params }) Abort
+        (row_of id k v) db []) (row_of id k v) db put_clause found (Ok one)
         → PutsRow k v (db 0) (one.trees 0)
     go [] met (other, again, h) = clear (none_conflicts id k v (db 0) met) other h
     go (there ∷ more) met h =
         let it = one_conflicts id k v (db 0) more there met in
         update_put limit keys params k v id db one own numbers it.0 it.1 it.2
-        (subst (λ x. Updates (record { limit = limit; keys = keys; schema = record_schema; table = record_table; params = params }) set_program (Blob k ∷ Blob v ∷ x ∷ Int id ∷ Blob k ∷ Blob v ∷ []) db (Ok one)) it.3
-        (subst (λ ps. Updates (record { limit = limit; keys = keys; schema = record_schema; table = record_table; params = params }) set_program (ps ++ rowid there ∷ Int id ∷ Blob k ∷ Blob v ∷ []) db (Ok one)) given h))
+        (subst (λ x. Updates (record { limit = limit; keys = keys; schema = record_schema; table = record_table; params = params })
+        set_program (Blob k ∷ Blob v ∷ x ∷ Int id ∷ Blob k ∷ Blob v ∷ []) db (Ok one)) it.3
+        (subst (λ ps. Updates (record { limit = limit; keys = keys; schema = record_schema; table = record_table; params = params })
+        set_program (ps ++ rowid there ∷ Int id ∷ Blob k ∷ Blob v ∷ []) db (Ok one)) given h))
 
 -- ---- what is put is read
 

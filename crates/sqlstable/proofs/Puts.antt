@@ -1,5 +1,6 @@
 -- What the statements do to the table.
-use Rattle.std.proofs.Common.{◌≡◌, ◌⊎◌, inl, inr, ℕ, ℤ, List, [], ◌∷◌, Bool, true, false, cond, Option, Some, None, Ok, Err, Result, OnOk, refl, sym, ap, subst, ◌∙◌}
+use Rattle.std.proofs.Common.{◌≡◌, ◌⊎◌, inl, inr, ℕ, ℤ, List, [], ◌∷◌, Bool, true, false, cond, Option, Some, None, Ok, Err, Result, OnOk}
+use Rattle.std.proofs.Common.{refl, sym, ap, subst, ◌∙◌}
 use Rattle.sqlite_value.specs.declared.value.Value.{Value}
 use Rattle.sqlite_value.specs.declared.value.Value.TheVariants.{Null, Int, Blob}
 use Rattle.sqlite_value.specs.Order.{Row}
@@ -51,7 +52,8 @@ pub creates : (sql : List ℕ) (making : IsMaking sql) (old new : State) (r : Re
     → Executes sql [] old new r → OnOk r (new.now.schema ≡ record_schema) × OnOk r (new.now.trees 0 ≡ [])
 creates sql making old new (Err e) has h = (tt, tt)
 creates sql making old new (Ok count) has h =
-    let w : Writes old new None CreateTable (statement_of sql (understood no_schema sql)) [] count = runs_as sql [] old new no_schema has CreateTable making.command making.bare count h in
+    let w : Writes old new None CreateTable (statement_of sql (understood no_schema sql)) [] count =
+    runs_as sql [] old new no_schema has CreateTable making.command making.bare count h in
     let all = went w.changed in
     let first = went all.1 in
     let made = first.1 in
@@ -59,15 +61,24 @@ creates sql making old new (Ok count) has h =
     let same : made.table ≡ record_table = cc in
     let schema : first.0.schema ≡ record_schema = made.is ∙ ap (λ s. created s made.table) has ∙ ap (created no_schema) same in
     let plain : lacks_sequence first.0.schema ≡ false = ap lacks_sequence schema in
-    let now : new.now ≡ first.0 = ap (λ (p : Tally × Database). p.1) (same_value all.2) ∙ same_value (rw plain at first.2) in
-    (ap (λ (d : Database). d.schema) now ∙ schema, ap (λ (d : Database). d.trees 0) now ∙ subst (λ s. first.0.trees (next_tree s) ≡ []) has made.empty)
+    let now : new.now ≡ first.0 = ap (λ (p : Tally × Database). p.1) (same_value all.2) ∙ same_value (rw plain at first.2) in (
+      ap (λ (d : Database). d.schema) now ∙ schema,
+      ap (λ (d : Database). d.trees 0) now
+          ∙ subst (λ s. first.0.trees (next_tree s) ≡ []) has made.empty,
+    )
 
 -- the row that a put writes
 abbrev pub fresh_row : List Row → List ℕ → List ℕ → Row
 fresh_row rows k v = Int (next_rowid rows) ∷ Blob k ∷ Blob v ∷ []
 
 abbrev pub task_of : Option ℕ → State → List ℕ → List ℕ → Task
-task_of limit old k v = record { limit = limit; keys = (mode_of old).keys; schema = record_schema; table = record_table; params = Blob k ∷ Blob v ∷ [] }
+task_of limit old k v = record {
+  limit = limit;
+  keys = (mode_of old).keys;
+  schema = record_schema;
+  table = record_table;
+  params = Blob k ∷ Blob v ∷ [];
+}
 
 judged_upserts : (task : Task) (new : Row) (db : Trees) (one : Written) (verdict : Option Refusal)
     → Judged task Abort (put_clause ∷ []) new db verdict (Ok one) → Upserts task Abort new db (put_clause ∷ []) (Ok one)
@@ -85,7 +96,8 @@ puts sql put old new k v count has h =
     let task = task_of old.step_limit old k v in
     let w = runs_as sql params old new record_schema has put_command put.command put.bare count h in
     let text = statement_of sql (understood record_schema sql) in
-    let done = went (subst (λ s. Does old.step_limit (mode_of old) params (record old.now { schema = s }) text None put_command (Ok (w.tally, new.now))) has w.changed) in
+    let done = went (subst (λ s. Does old.step_limit (mode_of old) params (record old.now { schema = s }) text None put_command
+    (Ok (w.tally, new.now))) has w.changed) in
     let now = ap (λ (p : Tally × Database). p.1) (same_value (went (went done.2).2).2) in
     let given = went done.1 in
     let counter = went given.2 in
@@ -98,16 +110,25 @@ puts sql put old new k v count has h =
     let one = went each in
     let joins : tried.0.0.trees ≡ one.0.trees = ap (λ (p : Written × ℤ). p.0.trees) (same_value one.2) in
     let judged = went_on one.1 in
-    let row = judged_upserts task _ db one.0 judged.0 judged.2 in
-    (ap (λ (d : Database). d.schema) now, one.0, ap (λ (d : Database). d.trees) now ∙ ended ∙ trees ∙ joins, subst (λ x. Upserts task Abort (with_rowid Chosen (db 0) (x ∷ Blob k ∷ Blob v ∷ [])) db (put_clause ∷ []) (Ok one.0)) cast_null row)
+    let row = judged_upserts task _ db one.0 judged.0 judged.2 in (
+      ap (λ (d : Database). d.schema) now,
+      one.0,
+      ap (λ (d : Database). d.trees) now ∙ ended ∙ trees
+          ∙ joins,
+      subst (λ x. Upserts task Abort (with_rowid Chosen (db 0) (x ∷ Blob k ∷ Blob v ∷ [])) db (put_clause ∷ []) (Ok one.0))
+          cast_null row,
+    )
 
 -- a row that no row stands in the way of goes in
 pub goes_in : (limit : Option ℕ) (keys : Keys) (params : Row) (id : ℤ) (k v : List ℕ) (db : Trees) (one : Written)
-    → Puts (record { limit = limit; keys = keys; schema = record_schema; table = record_table; params = params }) (Int id ∷ Blob k ∷ Blob v ∷ []) db (Ok one)
-    → (one.trees 0 ≡ put_all (db 0) ((Int id ∷ Blob k ∷ Blob v ∷ []) ∷ [])) × (are_fresh (db 0) ((Int id ∷ Blob k ∷ Blob v ∷ []) ∷ []) ≡ true)
+    → Puts (record { limit = limit; keys = keys; schema = record_schema; table = record_table; params = params })
+    (Int id ∷ Blob k ∷ Blob v ∷ []) db (Ok one)
+    → (one.trees 0 ≡ put_all (db 0) ((Int id ∷ Blob k ∷ Blob v ∷ []) ∷ []))
+    × (are_fresh (db 0) ((Int id ∷ Blob k ∷ Blob v ∷ []) ∷ []) ≡ true)
 goes_in limit keys params id k v db one h =
     let all = went h in
-    let done = one_step record_schema keys db all.0 (edit_of db record_table [] Given 0 ((Int id ∷ Blob k ∷ Blob v ∷ []) ∷ [])) refl all.1 in
+    let done = one_step record_schema keys db all.0 (edit_of db record_table [] Given 0 ((Int id ∷ Blob k ∷ Blob v ∷ []) ∷ [])) refl all.1
+    in
     let ended : one.trees ≡ all.0 = ap (λ (it : Written). it.trees) (same_value all.2) in (
       ap (λ (t : Trees). t 0) ended ∙ done.rows ∙ ap (λ x. put_row (x ∷ Blob k ∷ Blob v ∷ []) (db 0)) (cast_int id),
       subst (λ x. are_fresh (db 0) ((x ∷ Blob k ∷ Blob v ∷ []) ∷ []) ≡ true) (cast_int id) done.fresh,

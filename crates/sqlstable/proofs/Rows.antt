@@ -81,4 +81,5 @@ value_same k old new own there back = go (value_at k old) refl
 
         some_found : (r : Row) → Has old r → has_key k r ≡ true → value_at k old ≡ None → ⊥
         some_found r h hit e = some_in old r h hit e
-    go (Some v) e = let found = value_some k old v e in value_has k new found.0 own (there found.0 found.1 found.2) found.2 ∙ ap Some found.3 ∙ sym e
+    go (Some v) e = let found = value_some k old v e in value_has k new found.0 own (there found.0 found.1 found.2) found.2
+        ∙ ap Some found.3 ∙ sym e

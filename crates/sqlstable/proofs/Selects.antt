@@ -1,5 +1,6 @@
 -- What the two selects tell of the table.
-use Rattle.std.proofs.Common.{◌≡◌, inl, inr, ℕ, ◌+◌, ◌<◌, arith, List, [], ◌∷◌, ◌++◌, map, length, get_or, Bool, true, false, ◌&&◌, if◌then◌else◌, Some, Ok, Err, Result, IfOk, OnOk, refl, sym, ap, subst, ◌∙◌, true≢false}
+use Rattle.std.proofs.Common.{◌≡◌, inl, inr, ℕ, ◌+◌, ◌<◌, arith, List, [], ◌∷◌, ◌++◌, map, length, get_or, Bool, true, false, ◌&&◌}
+use Rattle.std.proofs.Common.{if◌then◌else◌, Some, Ok, Err, Result, IfOk, OnOk, refl, sym, ap, subst, ◌∙◌, true≢false}
 use Rattle.std.specs.Prelude.{flat_map, slice_index_or}
 use Rattle.std.specs.List.{list_all, AllByRecursion}
 use Rattle.std.specs.List.Sorted.{IsPermutation, IsSorted}
@@ -17,7 +18,8 @@ use Rattle.sqlite_sql.specs.Query.{IsAnswer, Output, output, output_cmp}
 use Rattle.sqlite_sql.specs.Term.{Env, holds}
 use Rattle.sqlite_sql.specs.Program.{overlay}
 use Rattle.sqlite_trees.specs.Tree.{Trees, IsAscending}
-use Rattle.sqlite_trees.proofs.ListLemmas.{all-permutation, along_permutation, ascending-map, ascending_from_map, all-map, all_of, all-get_or}
+use Rattle.sqlite_trees.proofs.ListLemmas.{all-permutation, along_permutation, ascending-map, ascending_from_map, all-map, all_of}
+use Rattle.sqlite_trees.proofs.ListLemmas.{all-get_or}
 use Rattle.sqlite_rules.specs.Lists.{Has}
 use Rattle.sqlite_rules.proofs.ListLemmas.{has_contained, contains_had}
 use Rattle.sqlite.specs.State.{State, Shown, IsUnchanged}
@@ -65,7 +67,8 @@ shown_values : (k : List ℕ) (rows : List Row) → map (output get_query) (matc
 shown_values k [] = refl
 shown_values k (r ∷ rs) =
     one_row (output get_query) (equal Binary (column r 1) (Blob k)) ((Blob k ∷ []) ∷ r ∷ []) (matched (Blob k ∷ []) rs)
-    ∙ ap (λ b. if b then ([], column r 2 ∷ []) ∷ map (output get_query) (matched (Blob k ∷ []) rs) else map (output get_query) (matched (Blob k ∷ []) rs)) (equal_is k (column r 1))
+    ∙ ap (λ b. if b then ([], column r 2 ∷ []) ∷ map (output get_query) (matched (Blob k ∷ []) rs) else map (output get_query)
+    (matched (Blob k ∷ []) rs)) (equal_is k (column r 1))
     ∙ ap (λ more. if has_key k r then ([], column r 2 ∷ []) ∷ more else more) (shown_values k rs)
 
 at_has : (k : List ℕ) (rows : List Row) (r : Row) → Has rows r → has_key k r ≡ true → Has (outputs_at k rows) ([], column r 2 ∷ [])
@@ -144,18 +147,21 @@ abbrev OutputsApart : Output → Output → Type 0
 OutputsApart o p = Differ (column o.1 0) (column p.1 0)
 
 output_lt : (o p : Output) → IsKeyed o → IsKeyed p → is_lt (output_cmp keys_query o p) ≡ is_lt (value_cmp (column o.1 0) (column p.1 0))
-output_lt o p e f = ap is_lt (then-Equal _) ∙ ap (λ x. is_lt (value_cmp (column x 0) (column p.0 0))) e ∙ ap (λ x. is_lt (value_cmp (column o.1 0) (column x 0))) f
+output_lt o p e f = ap is_lt (then-Equal _) ∙ ap (λ x. is_lt (value_cmp (column x 0) (column p.0 0))) e
+    ∙ ap (λ x. is_lt (value_cmp (column o.1 0) (column x 0))) f
 
 keys_listed : (table : List Row) (ordered : List Output) → IsPermutation (map key_output table) ordered
     → IsSorted (output_cmp keys_query) ordered → ListsKeys table (map (λ (o : Output). o.1) ordered)
 keys_listed table ordered same sorted =
-    let keyed : AllByRecursion IsKeyed ordered = all-permutation IsKeyed _ ordered same (all-map IsKeyed key_output table (all_of (λ r. IsKeyed (key_output r)) (λ r. refl) table)) in
+    let keyed : AllByRecursion IsKeyed ordered = all-permutation IsKeyed _ ordered same
+    (all-map IsKeyed key_output table (all_of (λ r. IsKeyed (key_output r)) (λ r. refl) table)) in
     record {
       from = λ row h.
           let o = mapped_has (λ (p : Output). p.1) ordered row h in
           let r = mapped_has key_output table o.0 (has_permuted ordered (map key_output table) o.0 (IsPermutation-sym _ _ same) o.1) in
           (r.0, r.1, o.2 ∙ ap (λ (p : Output). p.1) r.2);
-      to = λ r h. has_mapped (λ (p : Output). p.1) ordered (key_output r) (has_permuted (map key_output table) ordered (key_output r) same (has_mapped key_output table r h));
+      to = λ r h. has_mapped (λ (p : Output). p.1) ordered (key_output r)
+          (has_permuted (map key_output table) ordered (key_output r) same (has_mapped key_output table r h));
       sorted = λ k d below.
           let l : length (map (λ (o : Output). o.1) ordered) ≡ length ordered = length-map ordered (λ (o : Output). o.1) in
           let short : k + 1 < length ordered = omega (arith, l, below) in
@@ -165,11 +171,14 @@ keys_listed table ordered same sorted =
           let at_next = get_or-map (λ (o : Output). o.1) ordered (k + 1) e d short in
           ap (λ r. is_lt (value_cmp (column r 0) (column (slice_index_or (map (λ (o : Output). o.1) ordered) k d) 0))) at_next
           ∙ ap (λ r. is_lt (value_cmp (column (get_or ordered (k + 1) e).1 0) (column r 0))) at
-          ∙ sym (output_lt (get_or ordered (k + 1) e) (get_or ordered k e) (all-get_or IsKeyed ordered (k + 1) e keyed short) (all-get_or IsKeyed ordered k e keyed less))
+          ∙ sym (output_lt (get_or ordered (k + 1) e) (get_or ordered k e) (all-get_or IsKeyed ordered (k + 1) e keyed short)
+          (all-get_or IsKeyed ordered k e keyed less))
           ∙ sorted k e (omega arith) short;
       apart = λ own. ascending-map (λ a b. Differ (column a 0) (column b 0)) (λ (p : Output). p.1) ordered
-          (pairwise_permuted OutputsApart (λ o p. differ_back (column o.1 0) (column p.1 0)) _ ordered same (ascending-map OutputsApart key_output table own));
-      owned = λ up. ascending_from_map OutputsApart key_output table (pairwise_permuted OutputsApart (λ o p. differ_back (column o.1 0) (column p.1 0)) ordered _ (IsPermutation-sym _ _ same)
+          (pairwise_permuted OutputsApart (λ o p. differ_back (column o.1 0) (column p.1 0)) _ ordered same
+          (ascending-map OutputsApart key_output table own));
+      owned = λ up. ascending_from_map OutputsApart key_output table
+          (pairwise_permuted OutputsApart (λ o p. differ_back (column o.1 0) (column p.1 0)) ordered _ (IsPermutation-sym _ _ same)
           (ascending_from_map (λ a b. Differ (column a 0) (column b 0)) (λ (p : Output). p.1) ordered up));
     }
 
@@ -178,8 +187,10 @@ pub lists : (sql : List ℕ) (listing : IsListing sql) (old new : State) (rows :
 lists sql listing old new rows has h =
     let read = reads_as sql [] old new record_schema has _ listing.command listing.bare listing.unlisted rows h in
     let a : IsAnswer keys_query (overlay old.now.trees []) [] rows = read.answer Null in
-    let kept : a.kept ≡ map key_output (old.now.trees 0) = a.distinct ∙ ap (map (output keys_query)) a.grouped ∙ shown_keys (old.now.trees 0) in
-    subst (ListsKeys (old.now.trees 0)) (sym a.shown) (keys_listed (old.now.trees 0) a.ordered (subst (λ ks. IsPermutation ks a.ordered) kept a.same) a.sorted)
+    let kept : a.kept ≡ map key_output (old.now.trees 0) = a.distinct ∙ ap (map (output keys_query)) a.grouped
+    ∙ shown_keys (old.now.trees 0) in
+    subst (ListsKeys (old.now.trees 0)) (sym a.shown) (keys_listed (old.now.trees 0) a.ordered
+    (subst (λ ks. IsPermutation ks a.ordered) kept a.same) a.sorted)
 
 module _ (sql : List ℕ) (old new : State) {X : Type 0} (rows_in : X → List Row) where
   pub if_tells : IsLookup sql → (k : List ℕ) (r : Result X Error) → IsSound old

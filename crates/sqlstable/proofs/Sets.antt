@@ -52,10 +52,13 @@ shown_rows k v there id (r ∷ rs) =
     ∙ ap (λ more. if equal Binary (column r 0) there then set_row (Blob v) r ∷ more else more) (shown_rows k v there id rs)
 
 pub sets : (limit : Option ℕ) (keys : Keys) (params : Row) (k v : List ℕ) (there id : Value) (db : Trees) (one : Written)
-    → Updates (record { limit = limit; keys = keys; schema = record_schema; table = record_table; params = params }) set_program (Blob k ∷ Blob v ∷ there ∷ id ∷ Blob k ∷ Blob v ∷ []) db (Ok one)
-    → (rows : List Row) × (ordered : List Output) × IsPermutation (outputs there (Blob v) (db 0)) ordered × (rows ≡ map (λ (o : Output). o.1) ordered)
+    → Updates (record { limit = limit; keys = keys; schema = record_schema; table = record_table; params = params }) set_program
+    (Blob k ∷ Blob v ∷ there ∷ id ∷ Blob k ∷ Blob v ∷ []) db (Ok one)
+    → (rows : List Row) × (ordered : List Output) × IsPermutation (outputs there (Blob v) (db 0)) ordered
+    × (rows ≡ map (λ (o : Output). o.1) ordered)
     × (one.trees 0 ≡ edited db (edit_of db record_table (ids_of rows) Given 1 rows))
-    × (are_fresh (left_by db (edit_of db record_table (ids_of rows) Given 1 rows)) (edit_of db record_table (ids_of rows) Given 1 rows).news ≡ true)
+    × (are_fresh (left_by db (edit_of db record_table (ids_of rows) Given 1 rows))
+    (edit_of db record_table (ids_of rows) Given 1 rows).news ≡ true)
 sets limit keys params k v there id db one h =
     let all = went h in
     let done = went all.2 in
@@ -65,5 +68,6 @@ sets limit keys params k v there id db one h =
     let step = one_step record_schema keys db done.0 (edit_of db record_table (ids_of all.0) Given 1 all.0) refl done.1 in
     let ended : one.trees ≡ done.0 = ap (λ (it : Written). it.trees) (same_value done.2) in
     let kept : a.kept ≡ map (output set_query) (matched given (db 0)) = a.distinct ∙ ap (map (output set_query)) a.grouped in
-    let same : IsPermutation (outputs there (Blob v) (db 0)) a.ordered = subst (λ ks. IsPermutation ks a.ordered) (kept ∙ shown_rows k v there id (db 0)) a.same in
+    let same : IsPermutation (outputs there (Blob v) (db 0)) a.ordered =
+    subst (λ ks. IsPermutation ks a.ordered) (kept ∙ shown_rows k v there id (db 0)) a.same in
     (all.0, a.ordered, same, a.shown, ap (λ (t : Trees). t 0) ended ∙ step.rows, step.fresh)

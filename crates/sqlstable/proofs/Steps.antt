@@ -1,5 +1,6 @@
 -- What one statement does to the state.
-use Rattle.std.proofs.Common.{◌≡◌, inl, inr, ℕ, List, [], ◌∷◌, false, Option, Some, None, Ok, Err, Result, OnErr, OnOk, IfOk, IfErr, IsTrue, refl, sym, ap, ◌∙◌, subst}
+use Rattle.std.proofs.Common.{◌≡◌, inl, inr, ℕ, List, [], ◌∷◌, false, Option, Some, None, Ok, Err, Result, OnErr, OnOk, IfOk, IfErr, IsTrue}
+use Rattle.std.proofs.Common.{refl, sym, ap, ◌∙◌, subst}
 use Rattle.sqlite_value.specs.declared.value.Value.TheVariants.{Blob}
 use Rattle.sqlite_value.specs.Order.{Row}
 use Rattle.sqlite_schema.specs.declared.schema.Schema.{Schema}
@@ -63,7 +64,8 @@ module _ (old new : State) where
     pub put_made : (count : ℕ) → IsSound old → Executes sql (Blob k ∷ Blob v ∷ []) old new (Ok count) → PutsRow k v (table old) (table new)
     put_made count s h =
         let p = puts sql put old new k v count s.schema h in
-        let one = one_put old.step_limit (mode_of old).keys (Blob k ∷ Blob v ∷ []) (next_rowid (old.now.trees 0)) k v old.now.trees p.1 s.own_keys s.numbered refl p.3 in
+        let one = one_put old.step_limit (mode_of old).keys (Blob k ∷ Blob v ∷ [])
+        (next_rowid (old.now.trees 0)) k v old.now.trees p.1 s.own_keys s.numbered refl p.3 in
         subst (PutsRow k v (table old)) (sym (ap (λ (t : Trees). t 0) p.2)) one
 
     pub put_sound : (count : ℕ) → IsSound old → Executes sql (Blob k ∷ Blob v ∷ []) old new (Ok count) → IsSound new
@@ -137,7 +139,8 @@ module _ (old new : State) where
   put_follows sql put k v r clean ran = record {
     clean = clean;
     was_open = λ h now. executes_open old new sql (Blob k ∷ Blob v ∷ []) r (ran h) now;
-    settled = λ was h now. step_sound sql put k v r (ran h) now (was (clean h) (executes_open old new sql (Blob k ∷ Blob v ∷ []) r (ran h) now));
+    settled = λ was h now. step_sound sql put k v r (ran h) now
+        (was (clean h) (executes_open old new sql (Blob k ∷ Blob v ∷ []) r (ran h) now));
   }
 
   module _ {X : Type 0} (rows_in : X → List Row) (sql : List ℕ) (params : Row) (plain : IsPlain (understood record_schema sql)) where
@@ -157,7 +160,8 @@ module _ (old new : State) where
     query_follows r clean ok err = record {
       clean = clean;
       was_open = λ h now. query_open r (ok h) (err h) now;
-      settled = λ was h now. let s = was (clean h) (query_open r (ok h) (err h) now) in (kept_sound (query_keeps r (ok h) (err h) s) now s).0;
+      settled = λ was h now. let s = was (clean h) (query_open r (ok h) (err h) now) in
+          (kept_sound (query_keeps r (ok h) (err h) s) now s).0;
     }
 
     pub query_same : (r : Result X Error) → (HasCleanDisk new → IfOk r (λ x. Shown sql params old new (rows_in x)))

@@ -21,6 +21,10 @@ pub record HoldRowsAlone (image : Image) (rows : List Row) : Type 0 where
 abbrev pub AreThoseHeld : Image → List Row → Type 0
 AreThoseHeld image found = (rows : List Row) → HoldRows image rows → found ≡ rows
 
+-- whatever rows were there stayed, and are in the database file alone
+abbrev pub IsSettledFrom : Image → Image → Type 0
+IsSettledFrom before after = (rows : List Row) → HoldRows before rows → HoldRowsAlone after rows
+
 -- the rows of the table that was there, or none where nothing was
 pub record FindsTable (before : State) (rows : List Row) : Type 0 where
   pub was_clean : HasCleanDisk before

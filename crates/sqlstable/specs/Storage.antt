@@ -1,5 +1,5 @@
 -- A storage over the table, and what its calls make of it.
-use Rattle.std.specs.Prelude.{◌≡◌, ◌↔◌, ℕ, ◌<◌, ◌≤◌, IsSome, unwrap_or, List}
+use Rattle.std.specs.Prelude.{◌≡◌, ◌↔◌, ℕ, ◌<◌, ◌≤◌, Some, IsSome, unwrap_or, List}
 use Rattle.sqlite_value.specs.Order.{Row}
 use Rattle.sqlite_trees.specs.declared.store.Store.{Ghosts}
 use Rattle.sqlite.specs.Held.{state}
@@ -18,6 +18,10 @@ module _ {S : Type 0} (g : Ghosts S) where
   -- how often the device has failed
   abbrev pub failures_of : SqlStable S g → ℕ
   failures_of s = unwrap_or s.failures 0
+
+  -- it has not failed yet
+  abbrev pub IsUnfailed : SqlStable S g → Type 0
+  IsUnfailed s = s.failures ≡ Some 0
 
   -- the disk has returned so far what was written, no fault has shut the connection, and the failures can be counted
   pub record IsSqlHonest (s : SqlStable S g) : Type 0 where

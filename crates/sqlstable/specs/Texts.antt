@@ -75,6 +75,7 @@ keys_query = record (plain [] (col 1 1 ∷ col 1 0 ∷ [])) { order = (col 1 1, 
 
 -- it selects the keys in order
 pub record IsListing (sql : List ℕ) : Type 0 where
-  pub command : command_of (understood record_schema sql) ≡ Select (record { lets = []; body = keys_query }) (codes "k" ∷ codes "rowid" ∷ [])
+  pub command : command_of (understood record_schema sql) ≡ Select (record { lets = []; body = keys_query })
+      (codes "k" ∷ codes "rowid" ∷ [])
   pub bare : IsPlain (understood record_schema sql)
   pub unlisted : reads_listing record_schema sql ≡ false

@@ -2,8 +2,10 @@
 
 ghost use Rattle.std.specs.Prelude.{◌≡◌, IsTrue, IfOk, IsErrOf};
 ghost use Rattle.sqlite.specs.Files.{image_of, over_files};
+ghost use Rattle.sqlite.specs.Held.{state};
 ghost use Rattle.sqlite_wal.specs.Reads.{AreClean};
 ghost use Rattle.sqlstable.specs.Files.{AreThoseHeld, HoldRowsAlone};
+ghost use Rattle.sqlstable.specs.States.{IsUsable};
 ghost use Rattle.sqlstable.specs.Storage.{IsSqlHonest, rows_of};
 
 use crate::fault::fault_of;
@@ -42,6 +44,8 @@ impl<D: Disk + Drop> SqlStable<FileStore<D>> {
             × IsTrue (D.Disk.is_usable files.db)) }
         ensures closed { IfOk result (λ files. AreClean D.Disk files.log files.db
             → HoldRowsAlone (image_of D.Disk files) (rows_of over_files self)) }
+        ensures was_usable { IfOk result (λ files. AreClean D.Disk files.log files.db
+            → IsUsable (state over_files self.connection)) }
         ensures not_damaged { ¬ IsErrOf result StableFault.Damaged }
     {
         match self.into_connection().close_files() {

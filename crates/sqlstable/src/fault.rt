@@ -1,9 +1,11 @@
-//! Which fault of a storage an error of the database is.
+//! Which fault of a storage an error of the database is, or of a call on a file.
 
 ghost use Rattle.std.specs.Prelude.{◌≡◌, ◌≢◌};
+ghost use Rattle.std.specs.IoError.{error_kind};
 
 use sqlite::{Error, ErrorCode};
 use stable::StableFault;
+use std::io::{self, ErrorKind};
 
 /// Want of memory is told as such. Any other refusal is the device's.
 pub fn fault_of(error: &Error) -> StableFault
@@ -15,6 +17,18 @@ pub fn fault_of(error: &Error) -> StableFault
 {
     match error {
         Error::SqliteFailure(ErrorCode::OutOfMemory) => StableFault::Memory,
+        _ => StableFault::Device,
+    }
+}
+
+/// The same of an error of the system.
+pub fn file_fault_of(error: &io::Error) -> StableFault
+    ensures memory { error_kind error.now ≡ ErrorKind.OutOfMemory → result ≡ StableFault.Memory }
+    ensures device { error_kind error.now ≢ ErrorKind.OutOfMemory → result ≡ StableFault.Device }
+    ensures not_damaged { result ≢ StableFault.Damaged }
+{
+    match error.kind() {
+        ErrorKind::OutOfMemory => StableFault::Memory,
         _ => StableFault::Device,
     }
 }

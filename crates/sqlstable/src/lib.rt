@@ -10,12 +10,10 @@ mod fault;
 mod listing;
 mod opening;
 mod schema;
+mod settling;
 mod spelling;
 mod statements;
 mod storage;
 mod survey;
 
 pub use storage::SqlStable;
-
-#[cfg(test)]
-mod tests;

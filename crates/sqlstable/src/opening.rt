@@ -4,7 +4,7 @@ ghost use Rattle.std.specs.Prelude.{◌≡◌, [], IfOk, OnOk, IsErrOf};
 ghost use Rattle.sqlite.specs.Held.{state};
 ghost use Rattle.sqlstable.specs.States.{IsSound, IsUsable, table};
 ghost use Rattle.sqlstable.specs.Files.{FindsTable};
-ghost use Rattle.sqlstable.specs.Storage.{IsSqlHonest, rows_of};
+ghost use Rattle.sqlstable.specs.Storage.{IsSqlHonest, IsUnfailed, rows_of};
 ghost use Rattle.sqlstable.specs.Table.{no_schema};
 
 use crate::fault::fault_of;
@@ -57,6 +57,7 @@ impl<F: Start> SqlStable<FileStore<FileFrom<F>>> {
     ) -> Result<SqlStable<FileStore<FileFrom<F>>>, StableFault>
         ensures found { IfOk result (λ s. IsSqlHonest over_files s
             → AreThoseHeld (image_at F.Start) (rows_of over_files s)) }
+        ensures unfailed { IfOk result (IsUnfailed over_files) }
         ensures not_damaged { ¬ IsErrOf result StableFault.Damaged }
     {
         match Connection::open_from(rt, path, false, start) {
@@ -73,6 +74,7 @@ impl<S: Alter + Drop> SqlStable<S> {
     pub fn over(mut connection: Connection<S>) -> Result<SqlStable<S>, StableFault>
         ensures found { IfOk result (λ s. IsSqlHonest S.Store s
             → FindsTable (state S.Store connection) (rows_of S.Store s)) }
+        ensures unfailed { IfOk result (IsUnfailed S.Store) }
         ensures not_damaged { ¬ IsErrOf result StableFault.Damaged }
     {
         prepare(&mut connection)?;

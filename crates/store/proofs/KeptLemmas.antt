@@ -1,13 +1,12 @@
 -- Each edit of the features, with the same of the index, keeps the two together.
-use Rattle.std.proofs.Common.{◌≡◌, ℕ, ◌<◌, ◌≤◌, List, length, map, get_or, set, slice_get, slice_set, Some, sym, ap, subst, ◌∙◌, arith}
+use Rattle.std.proofs.Common.{◌≡◌, ℕ, ◌<◌, List, length, get_or, set, slice_get, slice_set, Some, sym, ap, subst, ◌∙◌, arith}
 use Rattle.std.specs.List.{AllPairs, insert, remove}
 use Rattle.std.specs.Option.{option_map}
 use Rattle.std.proofs.lemmas.List.{map-set, length-set, get_or_default}
 use Rattle.std.proofs.lemmas.Option.{slice_get-get_or, slice_get-map}
 use Rattle.tpoint.specs.Spans.{span_of}
 use Rattle.mfjson.specs.declared.feature.Feature.{Feature}
-use Rattle.timeindex.specs.Entries.{with_entry, without_entry}
-use Rattle.timeindex.specs.declared.entry.Entry.{Entry}
+use Rattle.timeindex.specs.Entries.{Entry, with_entry}
 use Rattle.store.specs.Features.{ComesBefore, IsDatabase, with_feature, without}
 use Rattle.store.specs.Places.{IsAt, IsGap}
 use Rattle.store.specs.Indexed.{entry_of, entries_of, IsKept}
@@ -15,16 +14,16 @@ use Rattle.store.specs.declared.db.TheConstants.{MOST_FEATURES}
 use Rattle.store.proofs.PlaceLemmas.{at_place}
 use Rattle.store.proofs.EditLemmas.{set-at, insert-gap, remove-at, with_feature_ascending, insert_database}
 use Rattle.store.proofs.DatabaseLemmas.{without_database}
-use Rattle.store.proofs.IndexLemmas.{with_feature_indexed, without_indexed}
+use Rattle.store.proofs.IndexLemmas.{with_feature_indexed, remove_indexed}
 
 -- a feature is taken out
 pub removed_kept : (fs gs : List Feature) (es ds : List Entry) (id : List ℕ) (i : ℕ) → IsKept fs es → IsAt fs id i →
-    gs ≡ remove fs i → ds ≡ without_entry es id → IsKept gs ds
+    gs ≡ remove fs i → ds ≡ remove es i → IsKept gs ds
 removed_kept fs gs es ds id i kept at gone taken =
     let same : gs ≡ without fs id = gone ∙ remove-at fs id i at in
     record {
       database = subst IsDatabase (sym same) (without_database fs id kept.database);
-      indexed = taken ∙ ap (λ (xs : List Entry). without_entry xs id) kept.indexed ∙ without_indexed fs id ∙ ap entries_of (sym same);
+      indexed = taken ∙ ap (λ (xs : List Entry). remove xs i) kept.indexed ∙ remove_indexed fs i ∙ ap entries_of (sym gone);
     }
 
 -- a feature is put into a gap

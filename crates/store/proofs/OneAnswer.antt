@@ -1,19 +1,21 @@
 -- One text answers a query.
-use Rattle.std.proofs.Common.{◌≡◌, ℕ, suc, ◌++◌, codes, decimal, List, [], ◌∷◌, length, Bool, true, false, cond, Option, Some, None, MatchOption, nat_eq, inl, inr, refl, sym, ◌∙◌, ap, arith}
+use Rattle.std.proofs.Common.{◌≡◌, ℕ, suc, ◌++◌, codes, decimal, List, [], ◌∷◌, length, Bool, true, false, cond, Option, Some, None}
+use Rattle.std.proofs.Common.{MatchOption, nat_eq, inl, inr, refl, sym, ◌∙◌, ap, arith}
 use Rattle.std.specs.List.{All, find, flat_map}
 use Rattle.std.specs.Cmp.Lexicographic.{pointwise}
 use Rattle.tpoint.specs.Fraction.{Fraction}
 use Rattle.tpoint.specs.Moving.{Position, Sequence, IsValid}
-use Rattle.tpoint.specs.Extents.{Span, Area}
+use Rattle.tpoint.specs.Extents.{Span, Area, Shares}
 use Rattle.tpoint.specs.declared.point.Point.{Point}
-use Rattle.predicates.specs.Predicates.{Shares, SomeInside, EverOf, AlwaysOf}
+use Rattle.predicates.specs.Predicates.{SomeInside, EverOf, AlwaysOf}
 use Rattle.predicates.specs.declared.questions.Tri.{Tri}
 use Rattle.predicates.specs.declared.questions.Tri.TheVariants.{Yes, No, None as NoValue}
 use Rattle.mfjson.specs.Pairs.{Pairwise}
 use Rattle.mfjson.specs.Document.{WritesWhen, WritesWhere, IsCanonical}
 use Rattle.mfjson.specs.declared.feature.Feature.{Feature}
 use Rattle.mfjson.proofs.OneText.{datetime_one}
-use Rattle.store.specs.Answers.{SaysValue, SaysCut, SaysEver, SaysAlways, SaysDocument, SaysWithin, AreIdsOf, OfKnown, IsAnswer, tri_text, id_text}
+use Rattle.store.specs.Answers.{SaysValue, SaysCut, SaysEver, SaysAlways, SaysDocument, SaysWithin, AreIdsOf, OfKnown, IsAnswer, tri_text}
+use Rattle.store.specs.Answers.{id_text}
 use Rattle.store.specs.Features.{AreValid, feature_of}
 use Rattle.store.specs.declared.query.Query.{Query}
 use Rattle.store.specs.declared.query.Query.TheVariants.{At, Cut, Ever, Always, Within, Get, Count}

@@ -1,135 +1,22 @@
 -- The text of a cut is one.
-use Rattle.std.proofs.Common.{◌≡◌, ℕ, zero, suc, ◌+◌, ◌-◌, ◌*◌, ◌<◌, ◌≤◌, ◌++◌, codes, decimal, List, [], ◌∷◌, map, length, slice_get, get_or, Some, ℤ, pos, ◌*ℤ◌, ◌-ℤ◌, inl, inr, refl, sym, ◌∙◌, ap, subst, arith}
+use Rattle.std.proofs.Common.{◌⊎◌, ◌↔◌, Bool, true, false, negsuc, ◌≡◌, ℕ, zero, suc, ◌<◌, ◌≤◌, ◌++◌, codes, decimal, List, [], ◌∷◌, map}
+use Rattle.std.proofs.Common.{length, slice_get, Some, ℤ, pos, ◌*ℤ◌, ◌-ℤ◌, inl, inr, refl, sym, ◌∙◌, ap, subst, arith}
 use Rattle.std.specs.List.{flat_map}
-use Rattle.std.proofs.lemmas.Bool.{cases_lt}
+use Rattle.std.proofs.lemmas.Bool.{cases_eq, cases_Bool}
 use Rattle.std.proofs.lemmas.Int.{ints}
-use Rattle.std.proofs.lemmas.Option.{same_Some, none-some, slice_get_within, slice_get-get_or}
-use Rattle.tpoint.specs.Fraction.{Fraction, ◌≈◌, ◌-ᶠ◌, ◌*ᶠ◌}
-use Rattle.tpoint.specs.Moving.{Position, Vertex, IsPlace, AtListed, HasValue, Sequence, At, IsValid, moment}
+use Rattle.std.proofs.lemmas.Option.{same_Some, none-some}
+use Rattle.tpoint.specs.Fraction.{Fraction, ◌≤ᶠ◌}
+use Rattle.tpoint.specs.Moving.{Position, Vertex, IsPlace, Sequence, IsValid, moment}
 use Rattle.tpoint.specs.Extents.{Span}
 use Rattle.tpoint.specs.FracText.{frac_text}
 use Rattle.tpoint.specs.declared.frac.Frac.{Frac}
 use Rattle.tpoint.specs.declared.interp.Interp.{Interp}
 use Rattle.tpoint.specs.declared.interp.Interp.TheVariants.{Discrete, Step, Linear}
-use Rattle.tpoint.proofs.Fractions.{≈_refl, ≤ᶠ_refl, moment_le, moment_lt}
+use Rattle.tpoint.proofs.Fractions.{≤ᶠ_refl}
 use Rattle.tpoint.proofs.Unique.{at_unique}
-use Rattle.restrict.specs.Cuts.{IsCut, IsListedIn, IsCutInstant, vertex_of}
+use Rattle.restrict.specs.Cuts.{IsCut, IsListedIn, IsCutPlace, HasValueBefore, StopsBefore, vertex_of}
 use Rattle.store.specs.Answers.{SaysCut, fix_text, part_text}
 use Rattle.store.proofs.OneValue.{one_pair}
-
--- ---- a list of vertices has each of them as its value
-abbrev Ascends : List Vertex → Type 0
-Ascends list = (k : ℕ) (a b : Vertex) → slice_get list k ≡ Some a → slice_get list (k + 1) ≡ Some b → a.time < b.time
-
-far : (list : List Vertex) → Ascends list → (d i : ℕ) (a b : Vertex) → slice_get list i ≡ Some a →
-    slice_get list (suc d + i) ≡ Some b → a.time < b.time
-far list up zero i a b e f = up i a b e (subst (λ (k : ℕ). slice_get list k ≡ Some b) (omega arith) f)
-far list up (suc d) i a b e f =
-    let m = get_or list (suc d + i) a in
-    let within = slice_get_within list (suc (suc d) + i) b f in
-    let at = slice_get-get_or list (suc d + i) a (omega arith) in
-    let first = far list up d i a m e at in
-    let last = up (suc d + i) m b at (subst (λ (k : ℕ). slice_get list k ≡ Some b) (omega arith) f) in
-    omega arith
-
-later : (list : List Vertex) → Ascends list → (i j : ℕ) (a b : Vertex) → i < j → slice_get list i ≡ Some a →
-    slice_get list j ≡ Some b → a.time < b.time
-later list up zero j a b h e f = far list up (j - 1) zero a b e (subst (λ (k : ℕ). slice_get list k ≡ Some b) (omega arith) f)
-later list up (suc i) j a b h e f =
-    far list up (j - suc i - 1) (suc i) a b e (subst (λ (k : ℕ). slice_get list k ≡ Some b) (omega arith) f)
-
-at_itself : (v : Position) → IsPlace v v
-at_itself v = record { same_x = ≈_refl v.x; same_y = ≈_refl v.y }
-
-listed : (list : List Vertex) (k : ℕ) (w : Vertex) → slice_get list k ≡ Some w → AtListed list k (moment w.time) w.place
-listed list k w e = record { point = w; listed = e; then = ≈_refl (moment w.time); there = at_itself w.place }
-
--- no way is in proportion to no time
-sub_self : (z : ℤ) → z -ℤ z ≡ pos 0
-sub_self z = omega (arith, ints)
-
-zero_times : (z : ℤ) → pos 0 *ℤ z ≡ pos 0
-zero_times z = omega (arith, ints)
-
-times_zero : (z : ℤ) → z *ℤ pos 0 ≡ pos 0
-times_zero z = omega (arith, ints)
-
-nothing : (x y p q : ℤ) (m n : ℕ) → ((x -ℤ x) *ℤ y) *ℤ pos m ≡ (p *ℤ (q -ℤ q)) *ℤ pos n
-nothing x y p q m n =
-    let left : ((x -ℤ x) *ℤ y) *ℤ pos m ≡ pos 0 =
-    ap (λ (z : ℤ). (z *ℤ y) *ℤ pos m) (sub_self x) ∙ ap (λ (z : ℤ). z *ℤ pos m) (zero_times y) ∙ zero_times (pos m) in
-    let right : (p *ℤ (q -ℤ q)) *ℤ pos n ≡ pos 0 =
-    ap (λ (z : ℤ). (p *ℤ z) *ℤ pos n) (sub_self q) ∙ ap (λ (z : ℤ). z *ℤ pos n) (times_zero p) ∙ zero_times (pos n) in
-    left ∙ sym right
-
-no_way : (a b c d : Fraction) → (a -ᶠ a) *ᶠ b ≈ c *ᶠ (d -ᶠ d)
-no_way a b c d =
-    record {
-      cross = nothing (a.num *ℤ pos a.den) b.num c.num (d.num *ℤ pos d.den) (c.den * (d.den * d.den)) (a.den * a.den * b.den);
-    }
-
-own : (interp : Interp) (list : List Vertex) → Ascends list → (k : ℕ) (w : Vertex) → slice_get list k ≡ Some w →
-    HasValue interp list (moment w.time) w.place
-own Discrete list up k w e = record { i = k; at_i = listed list k w e }
-own Step list up k w e =
-    record {
-      i = k;
-      at_i = record {
-        point = w;
-        listed = e;
-        reached = ≤ᶠ_refl (moment w.time);
-        not_left = λ j b h f. (moment_lt w.time b.time).0 (later list up k j w b h e f);
-        not_over = (k, w, e, ≤ᶠ_refl (moment w.time));
-        there = at_itself w.place;
-      };
-    }
-own Linear list up zero w e =
-    elim (cases_lt 1 (length list)) [
-      | inl more ↦
-          let b = get_or list 1 w in
-          let f : slice_get list 1 ≡ Some b = slice_get-get_or list 1 w more in
-          let order = up 0 w b e f in
-          record {
-            i = 0;
-            at_i = inl (record {
-              point = w;
-              next = b;
-              listed = e;
-              next_listed = f;
-              between = record {
-                begun = ≤ᶠ_refl (moment w.time);
-                not_over = (moment_le w.time b.time).0 (omega arith);
-                along_x = no_way w.place.x (moment b.time -ᶠ moment w.time) (b.place.x -ᶠ w.place.x) (moment w.time);
-                along_y = no_way w.place.y (moment b.time -ᶠ moment w.time) (b.place.y -ᶠ w.place.y) (moment w.time);
-              };
-            });
-          }
-      | inr few ↦
-          let within = slice_get_within list 0 w e in
-          let one : length list ≡ 1 = omega arith in
-          record { i = 0; at_i = inr (one, listed list 0 w e) }
-    ]
-own Linear list up (suc k) w e =
-    let within = slice_get_within list (suc k) w e in
-    let a = get_or list k w in
-    let f : slice_get list k ≡ Some a = slice_get-get_or list k w (omega arith) in
-    let g : slice_get list (k + 1) ≡ Some w = subst (λ (n : ℕ). slice_get list n ≡ Some w) (omega arith) e in
-    let order = up k a w f g in
-    record {
-      i = k;
-      at_i = inl (record {
-        point = a;
-        next = w;
-        listed = f;
-        next_listed = g;
-        between = record {
-          begun = (moment_le a.time w.time).0 (omega arith);
-          not_over = ≤ᶠ_refl (moment w.time);
-          along_x = ≈_refl ((w.place.x -ᶠ a.place.x) *ᶠ (moment w.time -ᶠ moment a.time));
-          along_y = ≈_refl ((w.place.y -ᶠ a.place.y) *ᶠ (moment w.time -ᶠ moment a.time));
-        };
-      });
-    }
 
 -- ---- two ascending lists with the same instants, and with the same texts at each
 abbrev Triple : Type 0
@@ -208,13 +95,13 @@ to_mapped [] k x e = absurd (none-some x e)
 to_mapped (y ∷ xs) zero x e = ap (λ (z : Triple). Some (vertex_of z)) (same_Some y x e)
 to_mapped (y ∷ xs) (suc k) x e = to_mapped xs k x e
 
-abbrev CutOf : Sequence → Span → Interp → List Triple → Type 0
-CutOf s p interp xs = IsCut s p (record { interp = interp; vertices = map vertex_of xs })
+abbrev CutOf : Sequence → Span → Interp → Bool → Bool → List Triple → Type 0
+CutOf s p interp b e xs = IsCut s p (record { interp = interp; vertices = map vertex_of xs; begin_in = b; end_in = e })
 
-up_of : (s : Sequence) (p : Span) (interp : Interp) (xs : List Triple) → CutOf s p interp xs → Up xs
-up_of s p interp xs c k a b e f =
-    c.ascending k (vertex_of a) (vertex_of b) (to_mapped xs k a e)
-    (subst (λ (n : ℕ). slice_get (map vertex_of xs) n ≡ Some (vertex_of b)) (omega arith) (to_mapped xs (suc k) b f))
+up_of : (s : Sequence) (p : Span) (interp : Interp) (b e : Bool) (xs : List Triple) → CutOf s p interp b e xs → Up xs
+up_of s p interp b e xs c k x y f g =
+    c.ascending k (vertex_of x) (vertex_of y) (to_mapped xs k x f)
+    (subst (λ (n : ℕ). slice_get (map vertex_of xs) n ≡ Some (vertex_of y)) (omega arith) (to_mapped xs (suc k) y g))
 
 listed_of : (xs : List Triple) (n : ℕ) → IsListedIn (map vertex_of xs) n → Listed xs n
 listed_of xs n l =
@@ -224,40 +111,87 @@ listed_of xs n l =
 listed_in : (xs : List Triple) (n : ℕ) → Listed xs n → IsListedIn (map vertex_of xs) n
 listed_in xs n l = record { i = l.i; point = vertex_of l.w; listed = to_mapped xs l.i l.w l.here; then = l.then }
 
-value_of : (s : Sequence) (p : Span) (interp : Interp) (xs : List Triple) → CutOf s p interp xs → (k : ℕ) (x : Triple) →
-    slice_get xs k ≡ Some x → At s (moment x.0) (vertex_of x).place
-value_of s p interp xs c k x e =
-    ((c.values (moment x.0) (vertex_of x).place).0 (own interp (map vertex_of xs) c.ascending k (vertex_of x) (to_mapped xs k x e))).1
+-- ---- an instant has one position, where it stops before it too
+in_order : (a b : Fraction) → (a ≤ᶠ b) ⊎ (b ≤ᶠ a)
+in_order a b = by (b.num *ℤ pos a.den -ℤ a.num *ℤ pos b.den) refl
+  where
+    by : (d : ℤ) → b.num *ℤ pos a.den -ℤ a.num *ℤ pos b.den ≡ d → (a ≤ᶠ b) ⊎ (b ≤ᶠ a)
+    by (pos n) e = inl (record { cross = omega (arith, ints, e) })
+    by (negsuc n) e = inr (record { cross = omega (arith, ints, e) })
 
-same_fix : (s : Sequence) → IsValid s → (a b : Triple) → At s (moment a.0) (vertex_of a).place → At s (moment b.0) (vertex_of b).place →
+one_before : (s : Sequence) → IsValid s → (n : ℕ) (v w : Position) → HasValueBefore s n v → HasValueBefore s n w → IsPlace v w
+one_before s valid n v w h k =
+    elim (in_order h.from k.from) [
+      | inl order ↦ at_unique s valid k.from v w (h.held k.from order k.earlier) (k.held k.from (≤ᶠ_refl k.from) k.earlier)
+      | inr order ↦ at_unique s valid h.from v w (h.held h.from (≤ᶠ_refl h.from) h.earlier) (k.held h.from order h.earlier)
+    ]
+
+stops_or_not : (s : Sequence) (p : Span) (n : ℕ) → StopsBefore s p n ⊎ (¬ (StopsBefore s p n))
+stops_or_not s p n = by_interp s.interp refl
+  where
+    by_end : s.interp ≡ Step → (p.end_in ≡ true) ⊎ (p.end_in ≡ false) → (n ≡ p.end) ⊎ (¬ (n ≡ p.end))
+        → StopsBefore s p n ⊎ (¬ (StopsBefore s p n))
+    by_end is (inl closed) at = inr (λ stops. let open_end = stops.not_in in absurd (cc))
+    by_end is (inr open_end) (inl at) = inl (record { is_step = is; is_end = at; not_in = open_end })
+    by_end is (inr open_end) (inr other) = inr (λ stops. other stops.is_end)
+
+    by_interp : (i : Interp) → s.interp ≡ i → StopsBefore s p n ⊎ (¬ (StopsBefore s p n))
+    by_interp Discrete is = inr (λ stops. let step = stops.is_step in absurd (cc))
+    by_interp Step is = by_end is (cases_Bool p.end_in) (cases_eq n p.end)
+    by_interp Linear is = inr (λ stops. let step = stops.is_step in absurd (cc))
+
+one_place : (s : Sequence) → IsValid s → (p : Span) (n : ℕ) (v w : Position)
+    → IsCutPlace s p (record { time = n; place = v }) → IsCutPlace s p (record { time = n; place = w }) → IsPlace v w
+one_place s valid p n v w h k =
+    elim (stops_or_not s p n) [
+      | inl stops ↦ one_before s valid n v w (h.before stops) (k.before stops)
+      | inr goes_on ↦ at_unique s valid (moment n) v w (h.there goes_on) (k.there goes_on)
+    ]
+
+same_fix : (s : Sequence) → IsValid s → (p : Span) (a b : Triple) → IsCutPlace s p (vertex_of a) → IsCutPlace s p (vertex_of b) →
     a.0 ≡ b.0 → fix_text a ≡ fix_text b
-same_fix s valid a b h k same =
-    let h' = subst (λ (n : ℕ). At s (moment n) (vertex_of a).place) same h in
-    let places = at_unique s valid (moment b.0) (vertex_of a).place (vertex_of b).place h' k in
+same_fix s valid p a b h k same =
+    let h' = subst (λ (n : ℕ). IsCutPlace s p (record { time = n; place = (vertex_of a).place })) same h in
+    let places = one_place s valid p b.0 (vertex_of a).place (vertex_of b).place h' k in
     let texts = one_pair (a.1, a.2) (b.1, b.2) places in
     ap (λ (n : ℕ). codes " | " ++ decimal n ++ codes " " ++ frac_text a.1 ++ codes " " ++ frac_text a.2) same
     ∙ ap (λ (t : List ℕ). codes " | " ++ decimal b.0 ++ codes " " ++ t ++ codes " " ++ frac_text a.2) texts.0
     ∙ ap (λ (t : List ℕ). codes " | " ++ decimal b.0 ++ codes " " ++ frac_text b.1 ++ codes " " ++ t) texts.1
 
-same_parts : (s : Sequence) → IsValid s → (p : Span) (i j : Interp) (xs ys : List Triple) → CutOf s p i xs → CutOf s p j ys →
-    part_text i xs ≡ part_text j ys
-same_parts s valid p i j xs ys c d =
-    let same = same_lists xs ys (up_of s p i xs c) (up_of s p j ys d)
-    (λ n l. listed_of ys n ((d.instants n).1 ((c.instants n).0 (listed_in xs n l))))
-    (λ n l. listed_of xs n ((c.instants n).1 ((d.instants n).0 (listed_in ys n l))))
-    (λ k l a b e f h. same_fix s valid a b (value_of s p i xs c k a e) (value_of s p j ys d l b f) h) in
-    let interps : i ≡ j = c.same_interp ∙ sym d.same_interp in
-    rw (interps, same.0, same.1) refl
+-- ---- the marks
+same_flag : (a b : Bool) → (a ≡ false → b ≡ false) → (b ≡ false → a ≡ false) → a ≡ b
+same_flag true true h k = refl
+same_flag true false h k = k refl
+same_flag false true h k = sym (h refl)
+same_flag false false h k = refl
 
--- a cut lists an instant
-lists_one : (s : Sequence) (p : Span) (i : Interp) (xs : List Triple) → CutOf s p i xs → (n : ℕ) × IsCutInstant s p n
-lists_one s p i [] c = absurd (let some = c.not_empty in omega arith)
-lists_one s p i (x ∷ xs) c =
-    (x.0, (c.instants x.0).0 (listed_in (x ∷ xs) x.0 (record { i = 0; w = x; here = refl; then = refl })))
+open_too : (p_in a b : Bool) (xs ys : List Vertex) (n : ℕ)
+    → (a ≡ false) ↔ ((p_in ≡ false) × IsListedIn xs n) → (b ≡ false) ↔ ((p_in ≡ false) × IsListedIn ys n)
+    → (IsListedIn xs n → IsListedIn ys n) → a ≡ false → b ≡ false
+open_too p_in a b xs ys n h k there open_end = let is = h.0 open_end in k.1 (is.0, there is.1)
+
+same_parts : (s : Sequence) → IsValid s → (p : Span) (i j : Interp) (b e b' e' : Bool) (xs ys : List Triple)
+    → CutOf s p i b e xs → CutOf s p j b' e' ys → part_text i b e xs ≡ part_text j b' e' ys
+same_parts s valid p i j b e b' e' xs ys c d =
+    let there : (n : ℕ) → IsListedIn (map vertex_of xs) n → IsListedIn (map vertex_of ys) n =
+    λ n l. (d.instants n).1 ((c.instants n).0 l) in
+    let back : (n : ℕ) → IsListedIn (map vertex_of ys) n → IsListedIn (map vertex_of xs) n = λ n l. (c.instants n).1 ((d.instants n).0 l) in
+    let same = same_lists xs ys (up_of s p i b e xs c) (up_of s p j b' e' ys d)
+    (λ n l. listed_of ys n (there n (listed_in xs n l))) (λ n l. listed_of xs n (back n (listed_in ys n l)))
+    (λ k l x y f g h. same_fix s valid p x y (c.positions k (vertex_of x) (to_mapped xs k x f))
+    (d.positions l (vertex_of y) (to_mapped ys l y g)) h) in
+    let interps : i ≡ j = c.same_interp ∙ sym d.same_interp in
+    let begins : b ≡ b' = same_flag b b' (open_too p.begin_in b b' _ _ p.begin c.begin_open d.begin_open (there p.begin))
+    (open_too p.begin_in b' b _ _ p.begin d.begin_open c.begin_open (back p.begin)) in
+    let ends : e ≡ e' = same_flag e e' (open_too p.end_in e e' _ _ p.end c.end_open d.end_open (there p.end))
+    (open_too p.end_in e' e _ _ p.end d.end_open c.end_open (back p.end)) in
+    rw (interps, begins, ends, same.0, same.1) refl
 
 pub cut_one : (s : Sequence) → IsValid s → (p : Span) (a b : List ℕ) → SaysCut s p a → SaysCut s p b → a ≡ b
 cut_one s valid p a b (inl h) (inl k) =
-    h.spelling ∙ same_parts s valid p h.interp k.interp h.fixes k.fixes h.is_cut k.is_cut ∙ sym k.spelling
-cut_one s valid p a b (inl h) (inr k) = absurd (let n = lists_one s p h.interp h.fixes h.is_cut in k.has_none.nothing_listed n.0 n.1)
-cut_one s valid p a b (inr h) (inl k) = absurd (let n = lists_one s p k.interp k.fixes k.is_cut in h.has_none.nothing_listed n.0 n.1)
+    h.spelling
+    ∙ same_parts s valid p h.interp k.interp h.begin_in h.end_in k.begin_in k.end_in h.fixes k.fixes h.is_cut k.is_cut
+    ∙ sym k.spelling
+cut_one s valid p a b (inl h) (inr k) = absurd (k.has_none.nothing_shared h.is_cut.shared)
+cut_one s valid p a b (inr h) (inl k) = absurd (h.has_none.nothing_shared k.is_cut.shared)
 cut_one s valid p a b (inr h) (inr k) = h.spelling ∙ sym k.spelling

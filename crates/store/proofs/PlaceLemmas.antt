@@ -1,23 +1,20 @@
 -- What a database is around the place of an id, and what an edit there makes of it.
-use Rattle.std.proofs.Common.{◌≡◌, ℕ, zero, suc, ◌+◌, ◌<◌, ◌≤◌, List, [], ◌∷◌, ◌++◌, length, take, drop, get_or, set, Bool, true, false, Option, Some, None, Result, Ok, Err, IfOk, IfErr, nat_eq, refl, inl, inr, sym, ap, subst, ◌∙◌, cond, arith}
-use Rattle.std.specs.List.{AllWithin, HoldsAt, All, AllPairs, insert, remove}
+use Rattle.std.proofs.Common.{◌≡◌, ℕ, suc, ◌+◌, ◌<◌, List, length, take, drop, get_or, false, Some, None, Result, Ok, Err, IfOk, IfErr}
+use Rattle.std.proofs.Common.{nat_eq, inl, inr, sym, ap, subst, ◌∙◌, arith}
+use Rattle.std.specs.List.{AllWithin, HoldsAt}
 use Rattle.std.specs.List.Sorted.{IsSearchInRange, IsBinarySearchResult, IsNonDecreasingBy, IsSortedBy}
-use Rattle.std.specs.Ordering.{nat_cmp, is_lt, is_gt, is_eq, ordering_index, ordering_reverse}
+use Rattle.std.specs.Ordering.{is_lt, is_gt, is_eq, ordering_index, ordering_reverse}
 use Rattle.std.specs.Cmp.{IsTotalOrder}
-use Rattle.std.specs.Cmp.Lexicographic.{pointwise, slice_cmp, bytes_decides, texts_ties, nat_list_cmp_total}
+use Rattle.std.specs.Cmp.Lexicographic.{pointwise, bytes_decides, texts_ties, nat_list_cmp_total}
 use Rattle.std.specs.declared.cmp.Ordering.{Ordering}
 use Rattle.std.specs.declared.cmp.Ordering.TheVariants.{Less, Equal, Greater}
 use Rattle.std.proofs.lemmas.Bool.{cases_lt, cases_eq}
 use Rattle.std.proofs.lemmas.Cmp.{tied_itself}
-use Rattle.std.proofs.lemmas.List.{set_split}
 use Rattle.std.proofs.lemmas.List.Sorted.{searchable_from_sorted}
-use Rattle.std.proofs.lemmas.List.Elements.{filter_passes}
-use Rattle.std.proofs.lemmas.List.Kept.{AllPairs-cons, AllPairs-filter}
 use Rattle.mfjson.specs.declared.feature.Feature.{Feature}
-use Rattle.store.specs.Features.{id_order, ComesBefore, IsDatabase, feature_of, before, after, with_feature, without}
-use Rattle.store.specs.Places.{AllBefore, AllAfter, IsAt, IsGap}
-use Rattle.store.specs.declared.db.TheConstants.{MOST_FEATURES}
-use Rattle.tpoint.proofs.ListLemmas.{filter-take, filter-drop, find-none, find-at, AllBoth, all_pairs_append}
+use Rattle.store.specs.Features.{id_order, IsDatabase, feature_of, before, after}
+use Rattle.store.specs.Places.{IsAt, IsGap}
+use Rattle.tpoint.proofs.ListLemmas.{filter-take, filter-drop, find-none, find-at}
 
 -- ---- the order of two ids
 abbrev pub total : IsTotalOrder id_order

@@ -1,5 +1,6 @@
 -- Each operation that brings what is valid leaves the features valid.
-use Rattle.std.proofs.Common.{◌≡◌, ℕ, ◌<◌, ◌==◌, List, [], ◌∷◌, length, Bool, true, false, Option, Some, None, if◌then◌else◌, nat_eq, nat_lt, refl, subst, arith}
+use Rattle.std.proofs.Common.{◌≡◌, ℕ, ◌<◌, ◌==◌, List, [], ◌∷◌, length, Bool, true, false, Option, Some, None, if◌then◌else◌, nat_eq}
+use Rattle.std.proofs.Common.{nat_lt, refl, subst, arith}
 use Rattle.std.specs.Option.{option_map_or}
 use Rattle.std.specs.Cmp.Lexicographic.{pointwise}
 use Rattle.std.proofs.lemmas.Bool.Decides.{nat_tests}
@@ -60,7 +61,8 @@ appended_one : (fs : List Feature) (f : Feature) (p : Point) → AreValid fs →
 appended_one fs f p v h fits =
     let ps = f.seq.points in
     let new = with_feature fs (record f { seq = extended f.seq p }) in
-    by_test (λ b. AreValid (if is_done (if b then (if length ps == 1024 then Full else Done) else NotLater) then new else fs)) (is_later ps p)
+    by_test (λ b. AreValid (if is_done (if b then (if length ps == 1024 then Full else Done) else NotLater) then new else fs))
+    (is_later ps p)
     (λ later. by_test (λ b. AreValid (if is_done (if b then Full else Done) then new else fs)) (length ps == 1024)
     (λ full. v)
     (λ room.

@@ -1,5 +1,6 @@
 -- What a query is answered: the texts, over a database.
-use Rattle.std.specs.Prelude.{◌≡◌, ◌⊎◌, ℕ, List, [], ◌∷◌, ◌++◌, codes, decimal, length, map, Option, Some, None, MatchOption}
+use Rattle.std.specs.Prelude.{◌≡◌, ◌⊎◌, ℕ, List, [], ◌∷◌, ◌++◌, codes, decimal, length, map, Bool, true, false, Option, Some, None}
+use Rattle.std.specs.Prelude.{MatchOption}
 use Rattle.std.specs.List.{flat_map}
 use Rattle.tpoint.specs.Moving.{Sequence, At as HasPlace, moment}
 use Rattle.tpoint.specs.Extents.{Span, Area}
@@ -28,20 +29,28 @@ pub record SaysValue (s : Sequence) (t : ℕ) (text : List ℕ) : Type 0 where
   pub found : Finds (HasPlace s (moment t)) value
   pub spelling : text ≡ codes "at " ++ value_text value
 
--- ---- its cut to a period: interpolation, count, and after a bar each instant with its position
+-- ---- its cut to a period: interpolation, count, a mark where an end isn't in it, and after a bar each instant with its position
 abbrev pub fix_text : ℕ × Frac × Frac → List ℕ
 fix_text fix = codes " | " ++ decimal fix.0 ++ codes " " ++ frac_text fix.1 ++ codes " " ++ frac_text fix.2
 
-abbrev pub part_text : Interp → List (ℕ × Frac × Frac) → List ℕ
-part_text interp fixes =
-    codes "cut " ++ interp_name interp ++ codes " " ++ decimal (length fixes)
+abbrev pub mark_text : Bool → Bool → List ℕ
+mark_text true true = []
+mark_text true false = codes " [)"
+mark_text false true = codes " (]"
+mark_text false false = codes " ()"
+
+abbrev pub part_text : Interp → Bool → Bool → List (ℕ × Frac × Frac) → List ℕ
+part_text interp begin_in end_in fixes =
+    codes "cut " ++ interp_name interp ++ codes " " ++ decimal (length fixes) ++ mark_text begin_in end_in
     ++ flat_map fix_text fixes
 
 pub record SaysPart (s : Sequence) (p : Span) (text : List ℕ) : Type 0 where
   pub interp : Interp
+  pub begin_in : Bool
+  pub end_in : Bool
   pub fixes : List (ℕ × Frac × Frac)
-  pub is_cut : IsCut s p (record { interp = interp; vertices = map vertex_of fixes })
-  pub spelling : text ≡ part_text interp fixes
+  pub is_cut : IsCut s p (record { interp = interp; vertices = map vertex_of fixes; begin_in = begin_in; end_in = end_in })
+  pub spelling : text ≡ part_text interp begin_in end_in fixes
 
 pub record SaysNoPart (s : Sequence) (p : Span) (text : List ℕ) : Type 0 where
   pub has_none : HasNoCut s p

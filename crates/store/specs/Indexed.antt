@@ -2,7 +2,7 @@
 use Rattle.std.specs.Prelude.{◌≡◌, List, map}
 use Rattle.tpoint.specs.Spans.{span_of}
 use Rattle.mfjson.specs.declared.feature.Feature.{Feature}
-use Rattle.timeindex.specs.declared.entry.Entry.{Entry}
+use Rattle.timeindex.specs.Entries.{Entry}
 use Rattle.store.specs.Features.{IsDatabase}
 
 -- an entry for a feature: its id, and from when to when it is

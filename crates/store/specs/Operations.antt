@@ -1,5 +1,6 @@
 -- What an operation makes of a database, and its reply.
-use Rattle.std.specs.Prelude.{◌≡◌, ⊤, ◌-◌, List, [], ◌∷◌, ◌++◌, length, slice_get, Bool, true, false, ◌||◌, ◌==◌, nat_lt, is_some, if◌then◌else◌}
+use Rattle.std.specs.Prelude.{◌≡◌, ⊤, ◌-◌, List, [], ◌∷◌, ◌++◌, length, slice_get, Bool, true, false, ◌||◌, ◌==◌, nat_lt, is_some}
+use Rattle.std.specs.Prelude.{if◌then◌else◌}
 use Rattle.std.specs.Option.{option_map_or}
 use Rattle.tpoint.specs.Moving.{Sequence, IsValid, InBounds}
 use Rattle.tpoint.specs.declared.point.Point.{Point}

@@ -1,11 +1,11 @@
 //! The texts of answers.
 
-ghost use Rattle.std.specs.Prelude.{◌≡◌, ◌↔◌, ◌++◌, codes, decimal, map, slice_get, Some, IsTrue, IfOk, OnOk};
+ghost use Rattle.std.specs.Prelude.{◌≡◌, ◌↔◌, ◌++◌, codes, decimal, map, Some, IsTrue, IfOk, OnOk};
 ghost use Rattle.std.specs.List.{flat_map};
 ghost use Rattle.std.specs.Option.{option_copied};
 ghost use Rattle.predicates.specs.Predicates.{IsEver};
 ghost use Rattle.store.specs.Answers.{OfKnown, SaysValue, SaysCut, SaysEver, SaysAlways, SaysDocument, SaysWithin};
-ghost use Rattle.store.specs.Answers.{AreIdsOf, value_text, fix_text, part_text, id_text, tri_text};
+ghost use Rattle.store.specs.Answers.{AreIdsOf, value_text, fix_text, mark_text, part_text, id_text, tri_text};
 ghost use Rattle.store.specs.Indexed.{IsKept};
 
 use crate::line::{LONGEST_FIX, write_fix, write_place};
@@ -13,10 +13,10 @@ use backward::write_text;
 use itoa::Buffer;
 use mfjson::Feature;
 use predicates::{Tri, always, ever};
-use restrict::cut;
+use restrict::{Cut, cut};
 use std::alloc::{AllocError, Global};
 use timeindex::TimeIndex;
-use tpoint::{Frac, Id, Instant, Interp, Period, Rect};
+use tpoint::{Frac, Id, Instant, Period, Rect};
 
 /// The bytes for which room is made for each listed instant of a cut. Most take fewer; where they take more, the text grows.
 const USUAL_FIX: usize = 40;
@@ -62,7 +62,7 @@ pub(crate) fn cut_text(
         return absent(alloc);
     };
     match cut(alloc, &feature.seq, period)? {
-        Some(part) => part_text(alloc, part.interp, &part.points),
+        Some(part) => part_text(alloc, &part),
         None => Vec::from_slice(alloc, b"cut none"),
     }
 }
@@ -165,21 +165,31 @@ fn tri_text(answer: Tri) -> &'static str
 }
 
 /// A cut with its listed instants.
-fn part_text(
-    alloc: Global,
-    interp: Interp,
-    fixes: &[(Instant, Frac, Frac)],
-) -> Result<Vec<u8>, AllocError>
-    ensures { IfOk result (λ text. text.items ≡ part_text interp fixes.now) }
+fn part_text(alloc: Global, part: &Cut) -> Result<Vec<u8>, AllocError>
+    ensures { IfOk result (λ text. text.items
+        ≡ part_text part.now.interp part.now.begin_in part.now.end_in part.now.points.items) }
 {
-    let count = fixes.len();
+    let count = part.points.len();
     let mut text = Vec::with_capacity(alloc, count.saturating_add(1).saturating_mul(USUAL_FIX))?;
     text.extend_from_slice(b"cut ")?;
-    text.extend_from_slice(interp.name().as_bytes())?;
+    text.extend_from_slice(part.interp.name().as_bytes())?;
     text.push(b' ')?;
     text.extend_from_slice(Buffer::new().format(count).as_bytes())?;
-    push_fixes(&mut text, fixes)?;
+    text.extend_from_slice(mark_text(part.begin_in, part.end_in))?;
+    push_fixes(&mut text, &part.points)?;
     Ok(text)
+}
+
+/// What tells which ends aren't in a cut.
+fn mark_text(begin_in: bool, end_in: bool) -> &'static [u8]
+    ensures { result.now ≡ mark_text begin_in end_in }
+{
+    match (begin_in, end_in) {
+        (true, true) => b"",
+        (true, false) => b" [)",
+        (false, true) => b" (]",
+        (false, false) => b" ()",
+    }
 }
 
 /// Adds the listed instants of a cut, each after a bar.
@@ -206,7 +216,7 @@ fn push_fix(
 }
 
 /// The ids of the features that are ever in a rectangle, in the features' order. Only those are
-/// asked that the index finds in the period.
+/// asked of which the index tells that they are there in the period.
 fn ids_within(
     alloc: Global,
     features: &[Feature],
@@ -218,31 +228,19 @@ fn ids_within(
     ensures { IfOk result (λ ids.
         AreIdsOf (λ f. IsEver f.seq period.now area.now Tri.Yes) features.now ids.items) }
 {
-    let found = index.overlapping(alloc, period)?;
-    let mut next = 0;
     let mut ids = Vec::new(alloc);
-    for feature in features {
+    for place in 0..features.len() {
+        let feature = &features[place];
         feature.seq.values_lie_in_its_span();
-        if !is_next(&found, next, &feature.id) {
+        if !index.overlaps(place, period) {
             continue;
         }
-        next += 1;
         if !is_within(feature, period, area) {
             continue;
         }
         ids.push(feature.id)?;
     }
     Ok(ids)
-}
-
-/// Whether the id stands at a place in a list of ids.
-fn is_next(ids: &[Id], place: usize, id: &Id) -> bool
-    ensures { IsTrue result ↔ (slice_get ids.now place ≡ Some id.now) }
-{
-    if place >= ids.len() {
-        return false;
-    }
-    ids[place] == *id
 }
 
 /// Whether the feature is ever in a rectangle.

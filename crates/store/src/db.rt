@@ -145,7 +145,7 @@ impl Db {
             return Reply::Unknown;
         };
         self.features.remove(at);
-        self.index.remove(id);
+        self.index.remove_at(at);
         Reply::Done
     }
 

@@ -22,6 +22,3 @@ pub use laws::{an_answer_is_one, features_stay_a_database, features_stay_valid};
 pub use op::{Addition, Op};
 pub use query::Query;
 pub use reply::Reply;
-
-#[cfg(test)]
-mod tests;

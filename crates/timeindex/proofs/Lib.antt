@@ -1,3 +1,4 @@
 pub mod PlaceLemmas
 pub mod EditLemmas
 pub mod SignLemmas
+pub mod Sides

@@ -1,5 +1,6 @@
 -- The sign of two numbers at once.
-use Rattle.std.proofs.Common.{◌≡◌, ℕ, suc, ◌-◌, ◌<◌, ◌≤◌, ◌^◌, ◌&&◌, ℤ, pos, negsuc, int_le, bit_or, FitsSigned, true, false, ap, subst, sym, ◌∙◌, arith}
+use Rattle.std.proofs.Common.{◌≡◌, ℕ, suc, ◌-◌, ◌<◌, ◌≤◌, ◌^◌, ◌&&◌, ℤ, pos, negsuc, int_le, bit_or, FitsSigned, true, false, ap, subst}
+use Rattle.std.proofs.Common.{sym, ◌∙◌, arith}
 use Rattle.std.specs.Int.{w64, int_bit_or, cast_signed, cast_unsigned}
 use Rattle.std.proofs.lemmas.Nat.{or_lt, le_or_l, le_or_r}
 use Rattle.std.proofs.lemmas.Int.{to_z_pos}

@@ -1,11 +1,11 @@
 //! The index.
 
-ghost use Rattle.std.specs.Prelude.{◌≡◌, ◌<◌, [], length, slice_get, slice_set, IsTrue, IfOk, IfErr, OnOk, OnErr, IsOk};
-ghost use Rattle.timeindex.specs.declared.entry.Entry.{Entry};
+ghost use Rattle.std.specs.Prelude.{◌≡◌, ◌<◌, [], length, slice_get, slice_set, Some, IsTrue, IfOk, IfErr, OnOk, OnErr, IsOk};
+ghost use Rattle.std.specs.List.{remove};
 ghost use Rattle.timeindex.specs.Ascending.{IsAt, IsGap};
-ghost use Rattle.timeindex.specs.Entries.{id_of, is_known, with_entry, without_entry, ids_overlapping};
+ghost use Rattle.timeindex.specs.Entries.{Entry, overlaps, id_of, is_known, with_entry, without_entry, ids_overlapping};
 
-use crate::Entry;
+use crate::kept::Kept;
 use std::alloc::{AllocError, Global};
 use std::marker::Model;
 use tpoint::{Id, Instant, Period};
@@ -16,13 +16,12 @@ use tpoint::{Id, Instant, Period};
 /// a part of them need no sorting.
 #[derive(Debug, Drop)]
 pub struct TimeIndex {
-    entries: Vec<Entry>,
+    entries: Vec<Kept>,
 }
 
 impl Model for TimeIndex {
     ghost use Rattle.std.specs.Prelude.{List};
-    ghost use Rattle.timeindex.specs.declared.entry.Entry.{Entry};
-    ghost use Rattle.timeindex.specs.Entries.{IsSet};
+    ghost use Rattle.timeindex.specs.Entries.{Entry, IsSet};
 
     ghost Value = { List Entry };
 
@@ -49,10 +48,12 @@ impl TimeIndex {
         ensures known { IsTrue (is_known self.old id) → IsOk result }
         ensures err { OnErr result (self.new ≡ self.old) }
     {
-        let entry = Entry { id, first, last };
         match self.place(&id) {
-            Ok(at) => self.entries[at] = entry,
-            Err(at) => self.entries.insert(at, entry)?,
+            Ok(at) => self.entries[at].replace(first, last),
+            Err(at) => {
+                let entry = Kept::new(*self.entries.allocator(), id, first, last)?;
+                self.entries.insert(at, entry)?;
+            }
         }
         Ok(())
     }
@@ -64,9 +65,7 @@ impl TimeIndex {
         ensures { (e : Entry) → slice_get self.old place ≡ Some e
             → self.new ≡ slice_set self.old place (record e { first = first; last = last }) }
     {
-        let entry = &mut self.entries[place];
-        entry.first = first;
-        entry.last = last;
+        self.entries[place].replace(first, last);
     }
 
     /// Takes out the entry of an id, and tells whether there was one.
@@ -81,6 +80,22 @@ impl TimeIndex {
         true
     }
 
+    /// Takes out the entry at a place, in the byte order of ids.
+    pub fn remove_at(&mut self, place: usize)
+        requires { place < length self.old }
+        ensures { self.new ≡ remove self.old place }
+    {
+        self.entries.remove(place);
+    }
+
+    /// Whether the entry at a place, in the byte order of ids, has an instant in the period.
+    pub fn overlaps(&self, place: usize, period: &Period) -> bool
+        requires { place < length self.now }
+        ensures { (e : Entry) → slice_get self.now place ≡ Some e → result ≡ overlaps period.now e }
+    {
+        self.entries[place].overlaps(period)
+    }
+
     /// The ids of the entries that have an instant in the period, in byte order.
     pub fn overlapping(&self, alloc: Global, period: &Period) -> Result<Vec<Id>, AllocError>
         ensures { IfOk result (λ ids. ids.items ≡ ids_overlapping self.now period.now) }
@@ -88,7 +103,7 @@ impl TimeIndex {
         let mut ids = Vec::new(alloc);
         for entry in &self.entries {
             if entry.overlaps(period) {
-                ids.push(entry.id)?;
+                ids.push(entry.id())?;
             }
         }
         Ok(ids)
@@ -99,6 +114,6 @@ impl TimeIndex {
         ensures found { IfOk result (IsAt id_of self.now id.now) }
         ensures absent { IfErr result (IsGap id_of self.now id.now) }
     {
-        self.entries.binary_search_by_key(id, |entry| entry.id)
+        self.entries.binary_search_by_key(id, |entry| entry.id())
     }
 }

@@ -4,11 +4,7 @@
 //! gives is the filter of a set, which stands in `specs/Entries.antt`.
 #![tactic(auto)]
 
-mod entry;
 mod index;
+mod kept;
 
-pub use entry::Entry;
 pub use index::TimeIndex;
-
-#[cfg(test)]
-mod tests;

@@ -12,4 +12,5 @@ pub mod Appending
 pub mod ValueLemmas
 pub mod IdTexts
 pub mod Searching
+pub mod Periods
 pub mod SpanLemmas

@@ -1,5 +1,6 @@
 -- Lists of which a front passes a test and the rest doesn't, and ordered lists end to end.
-use Rattle.std.proofs.Common.{◌≡◌, ℕ, zero, suc, ◌+◌, ◌<◌, ◌≤◌, List, [], ◌∷◌, ◌++◌, length, map, take, drop, get_or, Bool, true, false, Option, Some, None, refl, ap, cond, arith}
+use Rattle.std.proofs.Common.{◌≡◌, ℕ, zero, suc, ◌+◌, ◌<◌, ◌≤◌, List, [], ◌∷◌, ◌++◌, length, map, take, drop, get_or, Bool, true, false}
+use Rattle.std.proofs.Common.{Option, Some, None, refl, ap, cond, arith}
 use Rattle.std.specs.List.{AllWithin, All, AllPairs, filter, find}
 use Rattle.std.proofs.lemmas.List.Kept.{AllPairs-cons}
 

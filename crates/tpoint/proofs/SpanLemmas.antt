@@ -1,11 +1,14 @@
 -- A sequence has no value before its first instant, and none after its last.
-use Rattle.std.proofs.Common.{◌≡◌, ℕ, ◌+◌, ◌-◌, ◌<◌, ◌≤◌, List, [], ◌∷◌, length, get_or, slice_get, Option, Some, inl, inr, refl, sym, ap, subst, ◌∙◌, arith}
+use Rattle.std.proofs.Common.{◌≡◌, ℕ, ◌+◌, ◌-◌, ◌<◌, ◌≤◌, List, [], ◌∷◌, length, get_or, slice_get, Some, inl, inr, refl, sym, ap, subst}
+use Rattle.std.proofs.Common.{arith}
 use Rattle.std.specs.Option.{option_map_or}
 use Rattle.std.proofs.lemmas.Bool.{cases_lt, cases_eq}
-use Rattle.std.proofs.lemmas.Option.{slice_get_read, slice_get_within, slice_get-get_or}
-use Rattle.tpoint.specs.Fraction.{Fraction, ◌≈◌, ◌≤ᶠ◌}
-use Rattle.tpoint.specs.Moving.{Position, Sequence, IsValid, Rises, At, moment}
+use Rattle.std.proofs.lemmas.Option.{slice_get_read, slice_get-get_or}
+use Rattle.tpoint.specs.Fraction.{Fraction, ◌≤ᶠ◌}
+use Rattle.tpoint.specs.Moving.{Position, Sequence, IsValid, Rises, moment}
 use Rattle.tpoint.specs.Pieces.{AtPoint, Piece}
+use Rattle.tpoint.specs.Extents.{closed}
+use Rattle.tpoint.proofs.Periods.{at_or_before}
 use Rattle.tpoint.specs.Spans.{instant_at, span_of, HasValuesIn}
 use Rattle.tpoint.specs.declared.point.Point.{Point}
 use Rattle.tpoint.specs.declared.interp.Interp.{Interp}
@@ -69,10 +72,10 @@ values_in_span s valid =
           let first = point_there s.points 0 (omega arith) in
           let last = point_there s.points n (omega arith) in
           record {
-            begun = subst (λ (k : ℕ). moment k ≤ᶠ t) (sym (instant_there s.points 0 first.0 first.1))
-                (from_first s.interp s.points valid.increasing h.i first.0 first.1 t v h.at_i);
-            not_over = subst (λ (k : ℕ). t ≤ᶠ moment k) (sym (instant_there s.points n last.0 last.1))
-                (until_last s.interp s.points valid.increasing h.i n last.0 (omega arith) last.1 t v h.at_i);
+            begun = at_or_before (subst (λ (k : ℕ). moment k ≤ᶠ t) (sym (instant_there s.points 0 first.0 first.1))
+                (from_first s.interp s.points valid.increasing h.i first.0 first.1 t v h.at_i));
+            not_over = at_or_before (subst (λ (k : ℕ). t ≤ᶠ moment k) (sym (instant_there s.points n last.0 last.1))
+                (until_last s.interp s.points valid.increasing h.i n last.0 (omega arith) last.1 t v h.at_i));
           };
     }
 
@@ -84,8 +87,8 @@ ends_in_order ps rise first last some at_first at_last =
     (slice_get_read ps (length ps) (length ps - 1) last refl (omega arith) at_last)
 
 pub span_read : (ps : List Point) (first last : Point) → 1 ≤ length ps → first ≡ get_or ps 0 first →
-    last ≡ get_or ps (length ps - 1) last → record { begin = first.t; end = last.t } ≡ span_of ps
+    last ≡ get_or ps (length ps - 1) last → closed first.t last.t ≡ span_of ps
 span_read ps first last some at_first at_last =
     let begins = instant_read ps 0 first (omega arith) at_first in
     let ends = instant_read ps (length ps - 1) last (omega arith) at_last in
-    λ j. record { begin = sym begins j; end = sym ends j }
+    λ j. closed (sym begins j) (sym ends j)

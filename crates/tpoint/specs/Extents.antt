@@ -1,19 +1,51 @@
 -- Periods of time and rectangles.
-use Rattle.std.specs.Prelude.{ℕ, ℤ, ◌≤ℤ◌}
-use Rattle.tpoint.specs.Fraction.{Fraction, ◌≤ᶠ◌, whole}
+use Rattle.std.specs.Prelude.{◌≡◌, ℕ, ◌+◌, ◌-◌, ◌≤◌, ℤ, ◌≤ℤ◌, Bool, true, false, if◌then◌else◌}
+use Rattle.tpoint.specs.Fraction.{Fraction, ◌≤ᶠ◌, ◌<ᶠ◌, whole}
 use Rattle.tpoint.specs.Coordinates.{InRange}
 use Rattle.tpoint.specs.Moving.{Position, moment}
 
--- a period, from an instant to an instant, both included
+-- ---- periods
+-- a period, from an instant to an instant, each of which is in it or isn't
 pub record Span : Type 0 where
   pub begin : ℕ
   pub end : ℕ
+  pub begin_in : Bool
+  pub end_in : Bool
 
--- a fraction lies in the period
+-- the period with both of its ends
+abbrev pub closed : ℕ → ℕ → Span
+closed begin end = record { begin = begin; end = end; begin_in = true; end_in = true }
+
+-- it has an instant: it begins before it ends, or is one instant, which is in it
+pub record HasInstant (p : Span) : Type 0 where
+  pub ordered : p.begin ≤ p.end
+  pub one_instant : p.begin ≡ p.end → (p.begin_in ≡ true) × (p.end_in ≡ true)
+
+-- a is before b, or is b where that counts
+pub record Before (counts : Bool) (a b : Fraction) : Type 0 where
+  pub not_after : a ≤ᶠ b
+  pub apart : counts ≡ false → a <ᶠ b
+
+-- an instant, whole or fractional, is in the period
 pub record LiesIn (t : Fraction) (p : Span) : Type 0 where
-  pub begun : moment p.begin ≤ᶠ t
-  pub not_over : t ≤ᶠ moment p.end
+  pub begun : Before p.begin_in (moment p.begin) t
+  pub not_over : Before p.end_in t (moment p.end)
 
+-- values, as a relation R between instants and positions, share an instant with the period
+pub record Shares (R : Fraction → Position → Type 0) (p : Span) : Type 0 where
+  pub t : Fraction
+  pub v : Position
+  pub in_period : LiesIn t p
+  pub value : R t v
+
+-- its whole instants are those from the one to the other
+abbrev pub first_whole : Span → ℕ
+first_whole p = if p.begin_in then p.begin else p.begin + 1
+
+abbrev pub last_whole : Span → ℕ
+last_whole p = if p.end_in then p.end else p.end - 1
+
+-- ---- rectangles
 -- a rectangle, bounds included
 pub record Area : Type 0 where
   pub x0 : ℤ

@@ -1,6 +1,6 @@
 //! Instants.
 
-ghost use Rattle.std.specs.Prelude.{◌≡◌, ℤ, pos, ◌≤ℤ◌, ◌↔◌, IsSome, IfSome};
+ghost use Rattle.std.specs.Prelude.{◌≡◌, ◌+◌, ◌-◌, ◌≤◌, ℤ, pos, ◌≤ℤ◌, ◌↔◌, IsSome, IfSome};
 ghost use Rattle.tpoint.specs.Instants.{IsInstant};
 
 use std::marker::Model;
@@ -47,5 +47,21 @@ impl Instant {
         ensures in_range { IsInstant result }
     {
         self.ms as i64
+    }
+
+    /// The instant a millisecond later.
+    pub(crate) fn next(self) -> Instant
+        requires { IsInstant (pos (self + 1)) }
+        ensures { result ≡ self + 1 }
+    {
+        Instant { ms: self.ms + 1 }
+    }
+
+    /// The instant a millisecond earlier.
+    pub(crate) fn previous(self) -> Instant
+        requires { 1 ≤ self }
+        ensures { result ≡ self - 1 }
+    {
+        Instant { ms: self.ms - 1 }
     }
 }

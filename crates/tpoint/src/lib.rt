@@ -36,8 +36,3 @@ pub use probing::{Listed, MOST_PROBES, search};
 pub use rect::Rect;
 pub use seq::{MOST_POINTS, Seq};
 pub use values::Found;
-
-#[cfg(test)]
-mod tests;
-#[cfg(test)]
-mod ticks;

@@ -1,5 +1,6 @@
 -- Operations and commands: what is read was spelled so, and fits; and what fits is read from its spelling.
-use Rattle.std.proofs.Common.{◌≡◌, ℕ, ◌^◌, ◌<◌, ◌≤◌, false, eqb, List, [], ◌∷◌, ◌++◌, Ok, refl, sym, ap, subst, ◌∙◌, append_assoc, arith, inl, inr}
+use Rattle.std.proofs.Common.{◌≡◌, ℕ, ◌^◌, ◌<◌, ◌≤◌, false, eqb, List, [], ◌∷◌, ◌++◌, Ok, refl, sym, ap, subst, ◌∙◌, append_assoc, arith}
+use Rattle.std.proofs.Common.{inl, inr}
 use Rattle.std.proofs.lemmas.Bool.Decides.{nat_tests}
 use Rattle.byteorder.specs.Endian.{big_bytes}
 use Rattle.tpoint.specs.Ids.{IsId}
@@ -11,20 +12,25 @@ use Rattle.sessions.specs.Asked.{Asked}
 use Rattle.sessions.specs.declared.command.Command.{Command}
 use Rattle.sessions.specs.declared.command.Command.TheVariants.{NoOp, Request}
 use Rattle.wire.specs.declared.frames.fault.WireFault.TheVariants.{Field}
-use Rattle.wire.specs.Spelling.{id_bytes, triple_bytes, TripleFits, sequence_bytes, SequenceFits, op_bytes, OpFits, request_bytes, RequestFits, command_bytes, CommandFits}
-use Rattle.wire.specs.Reading.{Read, byte_at, number_at, id_at, triple_at, sequence_at, put_at, append_at, remove_at, op_at, request_number_at, request_at, asked_at, command_at}
-use Rattle.wire.proofs.FieldLemmas.{IsBytes, bind_ok, guard_ok, chosen, ok_is, Takes, Takes-then, Took, number_takes, number_again, back8, byte_takes, from_zero, is_equal}
+use Rattle.wire.specs.Spelling.{id_bytes, triple_bytes, TripleFits, sequence_bytes, SequenceFits, op_bytes, OpFits, request_bytes}
+use Rattle.wire.specs.Spelling.{RequestFits, command_bytes, CommandFits}
+use Rattle.wire.specs.Reading.{Read, byte_at, number_at, id_at, triple_at, sequence_at, put_at, append_at, remove_at, op_at}
+use Rattle.wire.specs.Reading.{request_number_at, request_at, asked_at, command_at}
+use Rattle.wire.proofs.FieldLemmas.{IsBytes, bind_ok, guard_ok, chosen, ok_is, Takes, Takes-then, Took, number_takes, number_again, back8}
+use Rattle.wire.proofs.FieldLemmas.{byte_takes, from_zero, is_equal}
 use Rattle.wire.proofs.FieldLaws.{id_takes, id_again, triple_takes, triple_again, sequence_takes, sequence_again}
 
 -- ---- operations: what stands behind the first byte, and then the whole
-op_case : (bytes after : List ℕ) (byte : ℕ) (code : ℕ) (body : List ℕ) (op : Op) (rest : List ℕ) → Takes bytes (byte ∷ []) after → byte ≡ code → Takes after body rest
+op_case : (bytes after : List ℕ) (byte : ℕ) (code : ℕ) (body : List ℕ) (op : Op) (rest : List ℕ) → Takes bytes (byte ∷ []) after → byte
+    ≡ code → Takes after body rest
     → op_bytes op ≡ code ∷ body → OpFits op → Took op_bytes OpFits bytes (op, rest)
 op_case bytes after byte code body op rest t is u spelled fits =
     let both : Takes bytes (byte ∷ body) rest = Takes-then bytes (byte ∷ []) after body rest t u in
     let coded : Takes bytes (code ∷ body) rest = subst (λ (b : ℕ). Takes bytes (b ∷ body) rest) is both in
     record { takes = subst (λ (text : List ℕ). Takes bytes text rest) (sym spelled) coded; fits = fits }
 
-put_takes : (bytes after : List ℕ) (byte : ℕ) (x : Op × List ℕ) → Takes bytes (byte ∷ []) after → byte ≡ 1 → put_at after ≡ Ok x → Took op_bytes OpFits bytes x
+put_takes : (bytes after : List ℕ) (byte : ℕ) (x : Op × List ℕ) → Takes bytes (byte ∷ []) after → byte ≡ 1 → put_at after ≡ Ok x
+    → Took op_bytes OpFits bytes x
 unfolding put_at
 put_takes bytes after byte x t is e =
     let a = bind_ok (id_at after) _ x e in
@@ -35,7 +41,8 @@ put_takes bytes after byte x t is e =
     subst (Took op_bytes OpFits bytes) (ok_is _ _ b.2)
     (op_case bytes after byte 1 (id_bytes a.0.0 ++ sequence_bytes b.0.0) (Put a.0.0 b.0.0) b.0.1 t is both refl (u.fits, v.fits))
 
-append_takes : (bytes after : List ℕ) (byte : ℕ) (x : Op × List ℕ) → Takes bytes (byte ∷ []) after → byte ≡ 2 → append_at after ≡ Ok x → Took op_bytes OpFits bytes x
+append_takes : (bytes after : List ℕ) (byte : ℕ) (x : Op × List ℕ) → Takes bytes (byte ∷ []) after → byte ≡ 2 → append_at after ≡ Ok x
+    → Took op_bytes OpFits bytes x
 unfolding append_at
 append_takes bytes after byte x t is e =
     let a = bind_ok (id_at after) _ x e in
@@ -44,9 +51,11 @@ append_takes bytes after byte x t is e =
     let v = triple_takes a.0.1 b.0 u.takes.rest_fits b.1 in
     let both = Takes-then after (id_bytes a.0.0) a.0.1 (triple_bytes b.0.0) b.0.1 u.takes v.takes in
     subst (Took op_bytes OpFits bytes) (ok_is _ _ b.2)
-    (op_case bytes after byte 2 (id_bytes a.0.0 ++ triple_bytes b.0.0) (Append (record { id = a.0.0; point = b.0.0 })) b.0.1 t is both refl (u.fits, v.fits))
+    (op_case bytes after byte 2 (id_bytes a.0.0 ++ triple_bytes b.0.0) (Append (record { id = a.0.0; point = b.0.0 })) b.0.1 t is both refl
+    (u.fits, v.fits))
 
-remove_takes : (bytes after : List ℕ) (byte : ℕ) (x : Op × List ℕ) → Takes bytes (byte ∷ []) after → byte ≡ 3 → remove_at after ≡ Ok x → Took op_bytes OpFits bytes x
+remove_takes : (bytes after : List ℕ) (byte : ℕ) (x : Op × List ℕ) → Takes bytes (byte ∷ []) after → byte ≡ 3 → remove_at after ≡ Ok x
+    → Took op_bytes OpFits bytes x
 unfolding remove_at
 remove_takes bytes after byte x t is e =
     let a = bind_ok (id_at after) _ x e in
@@ -70,15 +79,19 @@ op_takes bytes x fits e =
       ]
     ]
 
-put_again : (id : List ℕ) (s : Sequence) (rest : List ℕ) → IsId id → SequenceFits s → put_at ((id_bytes id ++ sequence_bytes s) ++ rest) ≡ Ok (Put id s, rest)
+put_again : (id : List ℕ) (s : Sequence) (rest : List ℕ) → IsId id → SequenceFits s → put_at ((id_bytes id ++ sequence_bytes s) ++ rest)
+    ≡ Ok (Put id s, rest)
 unfolding put_at
 put_again id s rest valid fits =
-    ap put_at (append_assoc (id_bytes id) (sequence_bytes s) rest) ∙ rw (id_again id (sequence_bytes s ++ rest) valid, sequence_again s rest fits) refl
+    ap put_at (append_assoc (id_bytes id) (sequence_bytes s) rest)
+    ∙ rw (id_again id (sequence_bytes s ++ rest) valid, sequence_again s rest fits) refl
 
-append_again : (id : List ℕ) (p : Point) (rest : List ℕ) → IsId id → TripleFits p → append_at ((id_bytes id ++ triple_bytes p) ++ rest) ≡ Ok (Append (record { id = id; point = p }), rest)
+append_again : (id : List ℕ) (p : Point) (rest : List ℕ) → IsId id → TripleFits p → append_at ((id_bytes id ++ triple_bytes p) ++ rest)
+    ≡ Ok (Append (record { id = id; point = p }), rest)
 unfolding append_at
 append_again id p rest valid fits =
-    ap append_at (append_assoc (id_bytes id) (triple_bytes p) rest) ∙ rw (id_again id (triple_bytes p ++ rest) valid, triple_again p rest fits) refl
+    ap append_at (append_assoc (id_bytes id) (triple_bytes p) rest)
+    ∙ rw (id_again id (triple_bytes p ++ rest) valid, triple_again p rest fits) refl
 
 remove_again : (id rest : List ℕ) → IsId id → remove_at (id_bytes id ++ rest) ≡ Ok (Remove id, rest)
 unfolding remove_at
@@ -94,7 +107,8 @@ op_again (Remove id) rest fits = remove_again id rest fits
 abbrev IsNumber : ℕ → Type 0
 IsNumber n = (1 ≤ n) × (n < 2 ^ 64)
 
-request_number_takes : (bytes : List ℕ) (x : ℕ × List ℕ) → IsBytes bytes → request_number_at bytes ≡ Ok x → Took (big_bytes 8) IsNumber bytes x
+request_number_takes : (bytes : List ℕ) (x : ℕ × List ℕ) → IsBytes bytes → request_number_at bytes ≡ Ok x
+    → Took (big_bytes 8) IsNumber bytes x
 unfolding request_number_at
 request_number_takes bytes x fits e =
     let r = bind_ok (number_at 8 bytes) _ x e in
@@ -135,7 +149,8 @@ request_again r rest fits =
     ap request_at regrouped ∙ rw (request_number_again r.number op fits.begun fits.number, op_again r.op rest fits.op) refl
 
 -- ---- commands
-asked_takes : (bytes after : List ℕ) (byte : ℕ) (x : Command × List ℕ) → Takes bytes (byte ∷ []) after → byte ≡ 1 → asked_at after ≡ Ok x → Took command_bytes CommandFits bytes x
+asked_takes : (bytes after : List ℕ) (byte : ℕ) (x : Command × List ℕ) → Takes bytes (byte ∷ []) after → byte ≡ 1 → asked_at after ≡ Ok x
+    → Took command_bytes CommandFits bytes x
 unfolding asked_at
 asked_takes bytes after byte x t is e =
     let a = bind_ok (request_at after) _ x e in
@@ -145,12 +160,15 @@ asked_takes bytes after byte x t is e =
     record { takes = subst (λ (b : ℕ). Takes bytes (b ∷ request_bytes a.0.0) a.0.1) is both; fits = u.fits } in
     subst (Took command_bytes CommandFits bytes) (ok_is _ _ a.2) it
 
-no_op_takes : (bytes after : List ℕ) (byte : ℕ) (x : Command × List ℕ) → Takes bytes (byte ∷ []) after → byte ≡ 0 → ◌≡◌ {A = Read Command} (Ok (NoOp, after)) (Ok x) → Took command_bytes CommandFits bytes x
+no_op_takes : (bytes after : List ℕ) (byte : ℕ) (x : Command × List ℕ) → Takes bytes (byte ∷ []) after → byte ≡ 0
+    → ◌≡◌ {A = Read Command} (Ok (NoOp, after)) (Ok x) → Took command_bytes CommandFits bytes x
 no_op_takes bytes after byte x t is e =
-    let it : Took command_bytes CommandFits bytes (NoOp, after) = record { takes = subst (λ (b : ℕ). Takes bytes (b ∷ []) after) is t; fits = tt } in
+    let it : Took command_bytes CommandFits bytes (NoOp, after) = record
+    { takes = subst (λ (b : ℕ). Takes bytes (b ∷ []) after) is t; fits = tt } in
     subst (Took command_bytes CommandFits bytes) (ok_is _ _ e) it
 
-pub command_takes : (bytes : List ℕ) (x : Command × List ℕ) → IsBytes bytes → command_at bytes ≡ Ok x → Took command_bytes CommandFits bytes x
+pub command_takes : (bytes : List ℕ) (x : Command × List ℕ) → IsBytes bytes → command_at bytes ≡ Ok x
+    → Took command_bytes CommandFits bytes x
 unfolding command_at
 command_takes bytes x fits e =
     let b = bind_ok (byte_at bytes) _ x e in

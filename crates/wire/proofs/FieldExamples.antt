@@ -8,7 +8,8 @@ use Rattle.sessions.specs.declared.command.Command.{Command}
 use Rattle.sessions.specs.declared.command.Command.TheVariants.{Request}
 use Rattle.wire.specs.declared.frames.fault.WireFault.TheVariants.{Short, Field}
 use Rattle.wire.specs.Spelling.{op_bytes, command_bytes, triple_bytes}
-use Rattle.wire.specs.Reading.{ballot_at, id_at, instant_at, coordinate_at, triple_at, triple_from, triples_at, interp_at, count_at, sequence_at, put_at, remove_at, op_at, request_number_at, request_at, asked_at, command_at}
+use Rattle.wire.specs.Reading.{ballot_at, id_at, instant_at, coordinate_at, triple_at, triple_from, triples_at, interp_at, count_at}
+use Rattle.wire.specs.Reading.{sequence_at, put_at, remove_at, op_at, request_number_at, request_at, asked_at, command_at}
 
 -- `bus-7`
 abbrev bus : List ℕ

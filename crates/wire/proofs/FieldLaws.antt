@@ -1,5 +1,6 @@
 -- For each field: what is read was spelled so, and fits; and what fits is read from its spelling, whatever follows.
-use Rattle.std.proofs.Common.{◌≡◌, ℕ, zero, suc, ◌+◌, ◌^◌, ◌<◌, ◌≤◌, Bool, true, false, eqb, leb, ltb, not, ◌&&◌, ◌||◌, List, [], ◌∷◌, ◌++◌, length, take, Ok, refl, sym, ap, subst, ◌∙◌, append_assoc, arith, inl, inr}
+use Rattle.std.proofs.Common.{◌≡◌, ℕ, zero, suc, ◌+◌, ◌^◌, ◌<◌, ◌≤◌, Bool, true, false, eqb, leb, ltb, not, ◌&&◌, ◌||◌, List, [], ◌∷◌, ◌++◌}
+use Rattle.std.proofs.Common.{length, take, Ok, refl, sym, ap, subst, ◌∙◌, append_assoc, arith, inl, inr}
 use Rattle.std.specs.Prelude.{ℤ, pos, negsuc, neg_ℤ, ◌≤ℤ◌, ◌<ℤ◌}
 use Rattle.std.specs.List.{flat_map, list_all}
 use Rattle.std.specs.Int.{cast_signed, cast_unsigned, w64}
@@ -28,13 +29,17 @@ use Rattle.tpoint.specs.declared.interp.Interp.TheVariants.{Discrete, Step, Line
 use Rattle.tpoint.specs.declared.point.Point.{Point}
 use Rattle.sessions.specs.declared.request.TheConstants.{MOST_PUT_POINTS}
 use Rattle.wire.specs.declared.frames.fault.WireFault.TheVariants.{Short, Field}
-use Rattle.wire.specs.Spelling.{ballot_bytes, BallotFits, slot_bytes, SlotFits, id_bytes, triple_bytes, TripleFits, TriplesFit, interp_byte, sequence_bytes, SequenceFits}
-use Rattle.wire.specs.Reading.{Read, byte_at, number_at, ballot_of, ballot_at, slot_at, text_at, id_at, instant_at, is_coordinate, coordinate_at, triple_at, triple_from, triples_at, interp_at, count_at, sequence_at}
+use Rattle.wire.specs.Spelling.{ballot_bytes, BallotFits, slot_bytes, SlotFits, id_bytes, triple_bytes, TripleFits, TriplesFit, interp_byte}
+use Rattle.wire.specs.Spelling.{sequence_bytes, SequenceFits}
+use Rattle.wire.specs.Reading.{Read, byte_at, number_at, ballot_of, ballot_at, slot_at, text_at, id_at, instant_at, is_coordinate}
+use Rattle.wire.specs.Reading.{coordinate_at, triple_at, triple_from, triples_at, interp_at, count_at, sequence_at}
 use Rattle.wire.proofs.BallotLemmas.{ballot_is, round_is, node_is}
-use Rattle.wire.proofs.FieldLemmas.{IsBytes, IsBytes-drop, bind_ok, guard_ok, chosen, ok_is, Takes, Takes-then, Took, number_takes, number_again, back2, back4, back8, byte_takes, from_zero, below, at_most, is_equal}
+use Rattle.wire.proofs.FieldLemmas.{IsBytes, IsBytes-drop, bind_ok, guard_ok, chosen, ok_is, Takes, Takes-then, Took, number_takes}
+use Rattle.wire.proofs.FieldLemmas.{number_again, back2, back4, back8, byte_takes, from_zero, below, at_most, is_equal}
 
 -- ---- ballots
-pub ballot_takes : (nodes : ℕ) → nodes ≤ 7 → (bytes : List ℕ) (x : Ballot × List ℕ) → IsBytes bytes → ballot_at nodes bytes ≡ Ok x → Took ballot_bytes (BallotFits nodes) bytes x
+pub ballot_takes : (nodes : ℕ) → nodes ≤ 7 → (bytes : List ℕ) (x : Ballot × List ℕ) → IsBytes bytes → ballot_at nodes bytes ≡ Ok x
+    → Took ballot_bytes (BallotFits nodes) bytes x
 unfolding ballot_at
 ballot_takes nodes few bytes x fits e =
     let r = bind_ok (number_at 8 bytes) _ x e in
@@ -59,7 +64,8 @@ ballot_takes nodes few bytes x fits e =
 pub ballot_again : (nodes : ℕ) (b : Ballot) (rest : List ℕ) → BallotFits nodes b → ballot_at nodes (ballot_bytes b ++ rest) ≡ Ok (b, rest)
 unfolding ballot_at
 ballot_again nodes b rest fits =
-    let first : number_at 8 (ballot_bytes b ++ rest) ≡ Ok (b.round, b.node ∷ rest) = ap (number_at 8) (append_assoc (big_bytes 8 b.round) (b.node ∷ []) rest) ∙ number_again 8 b.round (b.node ∷ rest) fits.round in
+    let first : number_at 8 (ballot_bytes b ++ rest) ≡ Ok (b.round, b.node ∷ rest) = ap (number_at 8)
+    (append_assoc (big_bytes 8 b.round) (b.node ∷ []) rest) ∙ number_again 8 b.round (b.node ∷ rest) fits.round in
     let begun : 1 ≤ b.round = b.begun in
     let round : eqb b.round 0 ≡ false = grind (arith, nat_tests) in
     let low : b.node < nodes = fits.node in
@@ -92,7 +98,8 @@ pub neither : (a b : Bool) → (a || b) ≡ false → (a ≡ false) × (b ≡ fa
 neither true b e = absurd cc
 neither false b e = (refl, e)
 
-pub text_takes : (len : ℕ) (bytes : List ℕ) (x : List ℕ × List ℕ) → IsBytes bytes → text_at len bytes ≡ Ok x → Takes bytes x.0 x.1 × (length x.0 ≡ len) × (list_all is_id_byte x.0 ≡ true)
+pub text_takes : (len : ℕ) (bytes : List ℕ) (x : List ℕ × List ℕ) → IsBytes bytes → text_at len bytes ≡ Ok x → Takes bytes x.0 x.1
+    × (length x.0 ≡ len) × (list_all is_id_byte x.0 ≡ true)
 text_takes len bytes x fits e =
     let g = guard_ok (not (list_all is_id_byte (take len bytes))) Field _ x e in
     let h = guard_ok (ltb (length bytes) len) Short _ x g.1 in
@@ -136,7 +143,8 @@ id_again id rest valid =
     rw bounds (text_again id rest valid)
 
 -- ---- instants and coordinates
-pub instant_takes : (bytes : List ℕ) (x : ℕ × List ℕ) → IsBytes bytes → instant_at bytes ≡ Ok x → Took (big_bytes 8) (λ t. IsInstant (pos t)) bytes x
+pub instant_takes : (bytes : List ℕ) (x : ℕ × List ℕ) → IsBytes bytes → instant_at bytes ≡ Ok x → Took (big_bytes 8)
+    (λ t. IsInstant (pos t)) bytes x
 unfolding instant_at
 instant_takes bytes x fits e =
     let r = bind_ok (number_at 8 bytes) _ x e in
@@ -180,7 +188,8 @@ in_range z e =
 
 range_in : (z : ℤ) → InRange z → is_coordinate z ≡ true
 range_in z r =
-    let low : is_le (int_cmp (neg_ℤ FURTHEST) z) ≡ true = le_to (neg_ℤ FURTHEST) z (int_cmp (neg_ℤ FURTHEST) z) (int_ranks (neg_ℤ FURTHEST) z) r.least in
+    let low : is_le (int_cmp (neg_ℤ FURTHEST) z) ≡ true = le_to (neg_ℤ FURTHEST) z (int_cmp (neg_ℤ FURTHEST) z)
+    (int_ranks (neg_ℤ FURTHEST) z) r.least in
     let high : is_le (int_cmp z FURTHEST) ≡ true = le_to z FURTHEST (int_cmp z FURTHEST) (int_ranks z FURTHEST) r.greatest in
     rw (low, high) refl
 
@@ -239,10 +248,17 @@ triple_again p rest fits =
     let y = signed_bytes p.y ++ rest in
     let x = signed_bytes p.x ++ y in
     let regrouped : triple_bytes p ++ rest ≡ big_bytes 8 p.t ++ x =
-    append_assoc (big_bytes 8 p.t ++ signed_bytes p.x) (signed_bytes p.y) rest ∙ append_assoc (big_bytes 8 p.t) (signed_bytes p.x) (signed_bytes p.y ++ rest) in
-    ap triple_at regrouped ∙ rw (instant_again p.t x fits.instant, coordinate_again p.x y fits.in_bounds.x_fits, coordinate_again p.y rest fits.in_bounds.y_fits) refl
+    append_assoc (big_bytes 8 p.t ++ signed_bytes p.x) (signed_bytes p.y) rest
+    ∙ append_assoc (big_bytes 8 p.t) (signed_bytes p.x) (signed_bytes p.y ++ rest) in
+    ap triple_at regrouped ∙ rw (
+      instant_again p.t x fits.instant,
+      coordinate_again p.x y fits.in_bounds.x_fits,
+      coordinate_again p.y rest
+          fits.in_bounds.y_fits,
+    ) refl
 
-pub triple_from_takes : (from : ℕ) (bytes : List ℕ) (x : Point × List ℕ) → IsBytes bytes → triple_from from bytes ≡ Ok x → Took triple_bytes (λ p. TripleFits p × (from ≤ p.t)) bytes x
+pub triple_from_takes : (from : ℕ) (bytes : List ℕ) (x : Point × List ℕ) → IsBytes bytes → triple_from from bytes ≡ Ok x → Took triple_bytes
+    (λ p. TripleFits p × (from ≤ p.t)) bytes x
 unfolding triple_from
 triple_from_takes from bytes x fits e =
     let a = bind_ok (triple_at bytes) _ x e in
@@ -252,7 +268,8 @@ triple_from_takes from bytes x fits e =
     record { takes = t.takes; fits = (t.fits, at_most a.0.0.t from g.0) } in
     subst (Took triple_bytes (λ p. TripleFits p × (from ≤ p.t)) bytes) (ok_is _ _ g.1) it
 
-pub triple_from_again : (from : ℕ) (p : Point) (rest : List ℕ) → TripleFits p → from ≤ p.t → triple_from from (triple_bytes p ++ rest) ≡ Ok (p, rest)
+pub triple_from_again : (from : ℕ) (p : Point) (rest : List ℕ) → TripleFits p → from ≤ p.t → triple_from from (triple_bytes p ++ rest)
+    ≡ Ok (p, rest)
 unfolding triple_from
 triple_from_again from p rest fits late =
     let right : ltb p.t from ≡ false = grind (arith, nat_tests) in
@@ -264,10 +281,12 @@ pub record TookTriples (count from : ℕ) (bytes : List ℕ) (x : List Point × 
   pub counted : length x.0 ≡ count
   pub fits : TriplesFit from x.0
 
-pub triples_take : (count from : ℕ) (bytes : List ℕ) (x : List Point × List ℕ) → IsBytes bytes → triples_at count from bytes ≡ Ok x → TookTriples count from bytes x
+pub triples_take : (count from : ℕ) (bytes : List ℕ) (x : List Point × List ℕ) → IsBytes bytes → triples_at count from bytes ≡ Ok x
+    → TookTriples count from bytes x
 unfolding triples_at
 triples_take zero from bytes x fits e =
-    let it : TookTriples 0 from bytes ([], bytes) = record { takes = record { parts = refl; rest_fits = fits }; counted = refl; fits = tt } in
+    let it : TookTriples 0 from bytes ([], bytes) = record { takes = record { parts = refl; rest_fits = fits }; counted = refl; fits = tt }
+    in
     subst (TookTriples 0 from bytes) (ok_is _ _ e) it
 triples_take (suc count) from bytes x fits e =
     let a = bind_ok (triple_from from bytes) _ x e in
@@ -280,7 +299,8 @@ triples_take (suc count) from bytes x fits e =
     record { takes = rw flat_map-cons both; counted = ap suc u.counted; fits = (t.fits.0, t.fits.1, u.fits) } in
     subst (TookTriples (suc count) from bytes) (ok_is _ _ b.2) it
 
-pub triples_again : (from : ℕ) (ps : List Point) (rest : List ℕ) → TriplesFit from ps → triples_at (length ps) from (flat_map triple_bytes ps ++ rest) ≡ Ok (ps, rest)
+pub triples_again : (from : ℕ) (ps : List Point) (rest : List ℕ) → TriplesFit from ps
+    → triples_at (length ps) from (flat_map triple_bytes ps ++ rest) ≡ Ok (ps, rest)
 unfolding triples_at
 triples_again from [] rest fits = refl
 triples_again from (p ∷ ps) rest fits =
@@ -296,9 +316,11 @@ interp_bytes interp = interp_byte interp ∷ []
 abbrev AnyInterp : Interp → Type 0
 AnyInterp interp = Unit {0}
 
-interp_case : (bytes rest : List ℕ) (byte : ℕ) (interp : Interp) (x : Interp × List ℕ) → Takes bytes (byte ∷ []) rest → byte ≡ interp_byte interp → ◌≡◌ {A = Read Interp} (Ok (interp, rest)) (Ok x) → Took interp_bytes AnyInterp bytes x
+interp_case : (bytes rest : List ℕ) (byte : ℕ) (interp : Interp) (x : Interp × List ℕ) → Takes bytes (byte ∷ []) rest → byte
+    ≡ interp_byte interp → ◌≡◌ {A = Read Interp} (Ok (interp, rest)) (Ok x) → Took interp_bytes AnyInterp bytes x
 interp_case bytes rest byte interp x t is e =
-    let it : Took interp_bytes AnyInterp bytes (interp, rest) = record { takes = subst (λ (b : ℕ). Takes bytes (b ∷ []) rest) is t; fits = tt } in
+    let it : Took interp_bytes AnyInterp bytes (interp, rest) = record
+    { takes = subst (λ (b : ℕ). Takes bytes (b ∷ []) rest) is t; fits = tt } in
     subst (Took interp_bytes AnyInterp bytes) (ok_is _ _ e) it
 
 pub interp_takes : (bytes : List ℕ) (x : Interp × List ℕ) → IsBytes bytes → interp_at bytes ≡ Ok x → Took interp_bytes AnyInterp bytes x
@@ -333,7 +355,11 @@ count_takes bytes x fits e =
     let t = number_takes 2 back2 bytes r.0.0 r.0.1 fits r.1 in
     let g = guard_ok (eqb r.0.0 0 || ltb MOST_PUT_POINTS r.0.0) Field _ x r.2 in
     let bounds = neither _ _ g.0 in
-    let it : Took (big_bytes 2) IsCount bytes r.0 = record { takes = t.0; fits = (from_zero r.0.0 bounds.0, at_most MOST_PUT_POINTS r.0.0 bounds.1) } in
+    let it : Took (big_bytes 2) IsCount bytes r.0 = record {
+      takes = t.0;
+      fits =
+          (from_zero r.0.0 bounds.0, at_most MOST_PUT_POINTS r.0.0 bounds.1);
+    } in
     subst (Took (big_bytes 2) IsCount bytes) (ok_is _ _ g.1) it
 
 pub count_again : (n : ℕ) (rest : List ℕ) → 1 ≤ n → n ≤ MOST_PUT_POINTS → count_at (big_bytes 2 n ++ rest) ≡ Ok (n, rest)
@@ -343,7 +369,8 @@ count_again n rest some few =
     let bounds : (eqb n 0 || ltb MOST_PUT_POINTS n) ≡ false = grind (arith, nat_tests) in
     rw (first, bounds) refl
 
-pub sequence_takes : (bytes : List ℕ) (x : Sequence × List ℕ) → IsBytes bytes → sequence_at bytes ≡ Ok x → Took sequence_bytes SequenceFits bytes x
+pub sequence_takes : (bytes : List ℕ) (x : Sequence × List ℕ) → IsBytes bytes → sequence_at bytes ≡ Ok x
+    → Took sequence_bytes SequenceFits bytes x
 unfolding sequence_at
 sequence_takes bytes x fits e =
     let a = bind_ok (interp_at bytes) _ x e in
@@ -358,8 +385,14 @@ sequence_takes bytes x fits e =
     let three = Takes-then bytes (interp_bytes a.0.0) a.0.1 (big_bytes 2 b.0.0 ++ flat_map triple_bytes c.0.0) c.0.1 t.takes two in
     let made : Sequence = record { interp = a.0.0; points = c.0.0 } in
     let it : Took sequence_bytes SequenceFits bytes (made, c.0.1) = record {
-      takes = subst (λ (n : ℕ). Takes bytes (interp_byte a.0.0 ∷ (big_bytes 2 n ++ flat_map triple_bytes c.0.0)) c.0.1) (sym v.counted) three;
-      fits = record { not_empty = subst (λ (n : ℕ). 1 ≤ n) (sym v.counted) some; not_too_many = subst (λ (n : ℕ). n ≤ MOST_PUT_POINTS) (sym v.counted) few; triples = v.fits };
+      takes = subst (λ (n : ℕ). Takes bytes (interp_byte a.0.0 ∷ (big_bytes 2 n ++ flat_map triple_bytes c.0.0)) c.0.1) (sym v.counted)
+          three;
+      fits = record {
+        not_empty = subst (λ (n : ℕ). 1 ≤ n) (sym v.counted) some;
+        not_too_many = subst
+            (λ (n : ℕ). n ≤ MOST_PUT_POINTS) (sym v.counted) few;
+        triples = v.fits;
+      };
     } in
     subst (Took sequence_bytes SequenceFits bytes) (ok_is _ _ c.2) it
 
@@ -371,4 +404,9 @@ sequence_again s rest fits =
     let regrouped : sequence_bytes s ++ rest ≡ interp_bytes s.interp ++ counted =
     ap (λ (xs : List ℕ). interp_byte s.interp ∷ xs) (append_assoc (big_bytes 2 (length s.points)) (flat_map triple_bytes s.points) rest) in
     ap sequence_at regrouped
-    ∙ rw (interp_again s.interp counted, count_again (length s.points) triples fits.not_empty fits.not_too_many, triples_again 0 s.points rest fits.triples) refl
+    ∙ rw (
+      interp_again s.interp counted,
+      count_again (length s.points) triples fits.not_empty fits.not_too_many,
+      triples_again 0 s.points
+          rest fits.triples,
+    ) refl

@@ -9,7 +9,8 @@ use Rattle.wire.specs.declared.frames.fault.WireFault.TheVariants as fault
 use Rattle.wire.specs.declared.frames.message.Message.TheVariants.{Prepare, Promise, Nack, Accept, Ask, Decided}
 use Rattle.wire.specs.FrameSpelling.{spelling}
 use Rattle.wire.specs.Reading.{ballot_of, ballot_at, slot_at, command_at, asked_at, request_at, request_number_at, op_at, remove_at, id_at}
-use Rattle.wire.specs.FrameReading.{version_at, kind_at, node_at, ends_at, head_at, range_at, few_at, entries_at, told_at, promise_at, ballot_above, nack_at, vote_at, prepare_at, decided_at, message_at, envelope_at, frame_in}
+use Rattle.wire.specs.FrameReading.{version_at, kind_at, node_at, ends_at, head_at, range_at, few_at, entries_at, told_at, promise_at}
+use Rattle.wire.specs.FrameReading.{ballot_above, nack_at, vote_at, prepare_at, decided_at, message_at, envelope_at, frame_in}
 
 -- an envelope, its bytes, and what three nodes read in them
 record Vector (e : Envelope) (bytes : List ℕ) : Type 0 where
@@ -21,9 +22,15 @@ prepare_vector : Vector (record { from = 0; to = 1; message = Prepare (ballot_of
 unfolding frame_in envelope_at head_at version_at kind_at ends_at node_at message_at prepare_at ballot_at ballot_of slot_at
 prepare_vector = record { spelled = refl; read = refl }
 
-promise_vector : Vector (record { from = 0; to = 0; message = Promise (record { ballot = ballot_of 1 0; first = 0; last = 65535; entries = [] }) })
+promise_vector : Vector (record {
+  from = 0;
+  to = 0;
+  message = Promise
+      (record { ballot = ballot_of 1 0; first = 0; last = 65535; entries = [] });
+})
     (0x4D ∷ 0x50 ∷ 1 ∷ 2 ∷ 0 ∷ 0 ∷ 0 ∷ 0 ∷ 0 ∷ 0 ∷ 0 ∷ 0 ∷ 0 ∷ 1 ∷ 0 ∷ 0 ∷ 0 ∷ 0 ∷ 0 ∷ 0 ∷ 0 ∷ 0xFF ∷ 0xFF ∷ 0 ∷ [])
-unfolding frame_in envelope_at head_at version_at kind_at ends_at node_at message_at promise_at range_at told_at few_at entries_at ballot_at ballot_of slot_at
+unfolding frame_in envelope_at head_at version_at kind_at ends_at node_at message_at promise_at range_at told_at few_at entries_at ballot_at
+    ballot_of slot_at
 promise_vector = record { spelled = refl; read = refl }
 
 nack_vector : Vector (record { from = 0; to = 0; message = Nack (record { ballot = ballot_of 1 0; promised = ballot_of 1 2 }) })
@@ -38,7 +45,8 @@ removal = Request (record { client = 7; number = 1; op = Remove (0x62 ∷ 0x75 �
 accept_vector : Vector (record { from = 0; to = 1; message = Accept (record { slot = 0; ballot = ballot_of 1 0; command = removal }) })
     (0x4D ∷ 0x50 ∷ 1 ∷ 4 ∷ 0 ∷ 1 ∷ 0 ∷ 0 ∷ 0 ∷ 0 ∷ 0 ∷ 0 ∷ 0 ∷ 1 ∷ 0 ∷ 0 ∷ 0 ∷ 0 ∷ 0
     ∷ 1 ∷ 7 ∷ 0 ∷ 0 ∷ 0 ∷ 0 ∷ 0 ∷ 0 ∷ 0 ∷ 1 ∷ 3 ∷ 5 ∷ 0x62 ∷ 0x75 ∷ 0x73 ∷ 0x2D ∷ 0x37 ∷ [])
-unfolding removal frame_in envelope_at head_at version_at kind_at ends_at node_at message_at vote_at ballot_at ballot_of slot_at command_at asked_at request_at request_number_at op_at remove_at id_at
+unfolding removal frame_in envelope_at head_at version_at kind_at ends_at node_at message_at vote_at ballot_at ballot_of slot_at command_at
+    asked_at request_at request_number_at op_at remove_at id_at
 accept_vector = record { spelled = refl; read = refl }
 
 ask_vector : Vector (record { from = 0; to = 1; message = Ask 0 }) (0x4D ∷ 0x50 ∷ 1 ∷ 6 ∷ 0 ∷ 1 ∷ 0 ∷ 0 ∷ 0 ∷ 0 ∷ [])
@@ -47,7 +55,8 @@ ask_vector = record { spelled = refl; read = refl }
 
 decided_vector : Vector (record { from = 1; to = 0; message = Decided 0 removal })
     (0x4D ∷ 0x50 ∷ 1 ∷ 7 ∷ 1 ∷ 0 ∷ 0 ∷ 0 ∷ 0 ∷ 0 ∷ 1 ∷ 7 ∷ 0 ∷ 0 ∷ 0 ∷ 0 ∷ 0 ∷ 0 ∷ 0 ∷ 1 ∷ 3 ∷ 5 ∷ 0x62 ∷ 0x75 ∷ 0x73 ∷ 0x2D ∷ 0x37 ∷ [])
-unfolding removal frame_in envelope_at head_at version_at kind_at ends_at node_at message_at decided_at slot_at command_at asked_at request_at request_number_at op_at remove_at id_at
+unfolding removal frame_in envelope_at head_at version_at kind_at ends_at node_at message_at decided_at slot_at command_at asked_at
+    request_at request_number_at op_at remove_at id_at
 decided_vector = record { spelled = refl; read = refl }
 
 -- ---- faults

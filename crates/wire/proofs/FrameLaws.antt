@@ -1,5 +1,6 @@
 -- What is read of a frame was spelled so, and may be sent; and what may be sent is read from its spelling.
-use Rattle.std.proofs.Common.{◌≡◌, ℕ, zero, suc, ◌+◌, ◌<◌, ◌≤◌, Bool, true, false, cond, eqb, leb, ltb, not, ◌&&◌, ◌||◌, List, [], ◌∷◌, ◌++◌, length, Option, Some, None, Ok, Err, refl, sym, ap, subst, ◌∙◌, append_assoc, arith, inl, inr}
+use Rattle.std.proofs.Common.{◌≡◌, ℕ, zero, suc, ◌+◌, ◌<◌, ◌≤◌, Bool, true, false, cond, eqb, leb, ltb, not, ◌&&◌, ◌||◌, List, [], ◌∷◌}
+use Rattle.std.proofs.Common.{◌++◌, length, Option, Some, None, Ok, Err, refl, sym, ap, subst, ◌∙◌, append_assoc, arith, inl, inr}
 use Rattle.std.specs.List.{flat_map, AllByRecursion}
 use Rattle.std.proofs.lemmas.Bool.Decides.{nat_tests}
 use Rattle.std.proofs.lemmas.Bool.{cases_Bool}
@@ -20,10 +21,14 @@ use Rattle.wire.specs.declared.frames.message.Message.TheVariants.{Prepare, Prom
 use Rattle.wire.specs.declared.frames.promise.TheConstants.{MOST_ENTRIES}
 use Rattle.wire.specs.Promises.{Promised, Refused, IsTold, AreTold, IsPromise}
 use Rattle.wire.specs.Spelling.{ballot_bytes, BallotFits, slot_bytes, SlotFits, command_bytes, CommandFits}
-use Rattle.wire.specs.FrameSpelling.{version_of, byte_of, kinds, kind_of, vote_bytes, entry_bytes, promise_bytes, body_bytes, head_bytes, spelling, VoteFits, PromiseFits, NackFits, MessageFits, Fits, IsFrame}
+use Rattle.wire.specs.FrameSpelling.{version_of, byte_of, kinds, kind_of, vote_bytes, entry_bytes, promise_bytes, body_bytes, head_bytes}
+use Rattle.wire.specs.FrameSpelling.{spelling, VoteFits, PromiseFits, NackFits, MessageFits, Fits, IsFrame}
 use Rattle.wire.specs.Reading.{number_at, byte_at, ballot_at, slot_at, command_at}
-use Rattle.wire.specs.FrameReading.{is_version, version_at, found_among, known, kind_at, node_at, ends_at, Head, head_at, range_at, few_at, slot_within, ballot_up_to, entry_at, entries_at, told_at, promise_at, ballot_above, nack_at, vote_at, prepare_at, decided_at, message_at, envelope_at, frame_in}
-use Rattle.wire.proofs.FieldLemmas.{IsBytes, bind_ok, guard_ok, ok_is, Takes, Takes-then, Took, number_takes, number_again, back2, byte_takes, below, at_most, is_number, is_equal}
+use Rattle.wire.specs.FrameReading.{is_version, version_at, found_among, known, kind_at, node_at, ends_at, Head, head_at, range_at, few_at}
+use Rattle.wire.specs.FrameReading.{slot_within, ballot_up_to, entry_at, entries_at, told_at, promise_at, ballot_above, nack_at, vote_at}
+use Rattle.wire.specs.FrameReading.{prepare_at, decided_at, message_at, envelope_at, frame_in}
+use Rattle.wire.proofs.FieldLemmas.{IsBytes, bind_ok, guard_ok, ok_is, Takes, Takes-then, Took, number_takes, number_again, back2}
+use Rattle.wire.proofs.FieldLemmas.{byte_takes, below, at_most, is_number, is_equal}
 use Rattle.wire.proofs.FieldLaws.{ballot_takes, ballot_again, slot_takes, slot_again}
 use Rattle.wire.proofs.CommandLaws.{command_takes, command_again}
 
@@ -40,7 +45,8 @@ above : (k n : ℕ) → leb n k ≡ false → k < n
 above k n e = grind (arith, nat_tests)
 
 -- ---- heads
-version_takes : (bytes : List ℕ) (x : ℕ × List ℕ) → IsBytes bytes → version_at bytes ≡ Ok x → Takes bytes (big_bytes 2 MAGIC ++ x.0 ∷ []) x.1
+version_takes : (bytes : List ℕ) (x : ℕ × List ℕ) → IsBytes bytes → version_at bytes ≡ Ok x
+    → Takes bytes (big_bytes 2 MAGIC ++ x.0 ∷ []) x.1
 unfolding version_at
 version_takes bytes x fits e =
     let m = bind_ok (number_at 2 bytes) _ x e in
@@ -50,11 +56,13 @@ version_takes bytes x fits e =
     let u = byte_takes m.0.1 v.0.0 v.0.1 t.0.rest_fits v.1 in
     let h = guard_ok (not (is_version v.0.0)) Version _ x v.2 in
     let both = Takes-then bytes (big_bytes 2 m.0.0) m.0.1 (v.0.0 ∷ []) v.0.1 t.0 u.0 in
-    let it : Takes bytes (big_bytes 2 MAGIC ++ v.0.0 ∷ []) v.0.1 = subst (λ (n : ℕ). Takes bytes (big_bytes 2 n ++ v.0.0 ∷ []) v.0.1) (is_number m.0.0 MAGIC g.0) both in
+    let it : Takes bytes (big_bytes 2 MAGIC ++ v.0.0 ∷ []) v.0.1 = subst
+    (λ (n : ℕ). Takes bytes (big_bytes 2 n ++ v.0.0 ∷ []) v.0.1) (is_number m.0.0 MAGIC g.0) both in
     subst (λ (y : ℕ × List ℕ). Takes bytes (big_bytes 2 MAGIC ++ y.0 ∷ []) y.1) (ok_is _ _ h.1) it
 
 -- a kind that is found has the version and the byte
-found_is : (ks : List Kind) (version byte : ℕ) (k : Kind) → found_among ks version byte ≡ Some k → (version ≡ version_of k) × (byte ≡ byte_of k)
+found_is : (ks : List Kind) (version byte : ℕ) (k : Kind) → found_among ks version byte ≡ Some k → (version ≡ version_of k)
+    × (byte ≡ byte_of k)
 found_is [] version byte k e = absurd cc
 found_is (k0 ∷ ks) version byte k e =
     elim (cases_Bool (eqb version (version_of k0) && eqb byte (byte_of k0))) [
@@ -89,7 +97,8 @@ kind_takes version bytes x fits e =
 abbrev node_bytes : ℕ → List ℕ
 node_bytes n = n ∷ []
 
-node_takes : (nodes : ℕ) (bytes : List ℕ) (x : ℕ × List ℕ) → IsBytes bytes → node_at nodes bytes ≡ Ok x → Took node_bytes (λ n. n < nodes) bytes x
+node_takes : (nodes : ℕ) (bytes : List ℕ) (x : ℕ × List ℕ) → IsBytes bytes → node_at nodes bytes ≡ Ok x → Took node_bytes
+    (λ n. n < nodes) bytes x
 unfolding node_at
 node_takes nodes bytes x fits e =
     let b = bind_ok (byte_at bytes) _ x e in
@@ -104,7 +113,8 @@ ends_bytes n = n.0 ∷ n.1 ∷ []
 abbrev EndsFit : ℕ → ℕ × ℕ → Type 0
 EndsFit nodes n = (n.0 < nodes) × (n.1 < nodes)
 
-ends_takes : (nodes : ℕ) (bytes : List ℕ) (x : (ℕ × ℕ) × List ℕ) → IsBytes bytes → ends_at nodes bytes ≡ Ok x → Took ends_bytes (EndsFit nodes) bytes x
+ends_takes : (nodes : ℕ) (bytes : List ℕ) (x : (ℕ × ℕ) × List ℕ) → IsBytes bytes → ends_at nodes bytes ≡ Ok x
+    → Took ends_bytes (EndsFit nodes) bytes x
 unfolding ends_at
 ends_takes nodes bytes x fits e =
     let f = bind_ok (node_at nodes bytes) _ x e in
@@ -123,7 +133,8 @@ record HeadFits (nodes : ℕ) (h : Head) : Type 0 where
   pub from : h.from < nodes
   pub to : h.to < nodes
 
-head_takes : (nodes : ℕ) (bytes : List ℕ) (x : Head × List ℕ) → IsBytes bytes → head_at nodes bytes ≡ Ok x → Took head_text (HeadFits nodes) bytes x
+head_takes : (nodes : ℕ) (bytes : List ℕ) (x : Head × List ℕ) → IsBytes bytes → head_at nodes bytes ≡ Ok x
+    → Took head_text (HeadFits nodes) bytes x
 unfolding head_at
 head_takes nodes bytes x fits e =
     let v = bind_ok (version_at bytes) _ x e in
@@ -133,10 +144,12 @@ head_takes nodes bytes x fits e =
     let n = bind_ok (ends_at nodes k.0.1) _ x k.2 in
     let tn = ends_takes nodes k.0.1 n.0 tk.takes.rest_fits n.1 in
     let later = Takes-then v.0.1 (byte_of k.0.0 ∷ []) k.0.1 (ends_bytes n.0.0) n.0.1 tk.takes tn.takes in
-    let opening : Takes bytes (big_bytes 2 MAGIC ++ version_of k.0.0 ∷ []) v.0.1 = subst (λ (w : ℕ). Takes bytes (big_bytes 2 MAGIC ++ w ∷ []) v.0.1) tk.of_version tv in
+    let opening : Takes bytes (big_bytes 2 MAGIC ++ version_of k.0.0 ∷ []) v.0.1 = subst
+    (λ (w : ℕ). Takes bytes (big_bytes 2 MAGIC ++ w ∷ []) v.0.1) tk.of_version tv in
     let all = Takes-then bytes (big_bytes 2 MAGIC ++ version_of k.0.0 ∷ []) v.0.1 (byte_of k.0.0 ∷ ends_bytes n.0.0) n.0.1 opening later in
     let made : Head = record { kind = k.0.0; from = n.0.0.0; to = n.0.0.1 } in
-    let it : Took head_text (HeadFits nodes) bytes (made, n.0.1) = record { takes = all; fits = record { from = tn.fits.0; to = tn.fits.1 } } in
+    let it : Took head_text (HeadFits nodes) bytes (made, n.0.1) = record
+    { takes = all; fits = record { from = tn.fits.0; to = tn.fits.1 } } in
     subst (Took head_text (HeadFits nodes) bytes) (ok_is _ _ n.2) it
 
 version_one_again : (rest : List ℕ) → version_at (big_bytes 2 MAGIC ++ 1 ∷ rest) ≡ Ok (1, rest)
@@ -178,7 +191,8 @@ head_again nodes h rest fits =
     rw (first, kind_again h.kind (h.from ∷ h.to ∷ rest), ends_again nodes h.from h.to rest fits.from fits.to) refl
 
 -- ---- votes
-pub vote_takes : (nodes : ℕ) → nodes ≤ 7 → (bytes : List ℕ) (x : Vote Command × List ℕ) → IsBytes bytes → vote_at nodes bytes ≡ Ok x → Took vote_bytes (VoteFits nodes) bytes x
+pub vote_takes : (nodes : ℕ) → nodes ≤ 7 → (bytes : List ℕ) (x : Vote Command × List ℕ) → IsBytes bytes → vote_at nodes bytes ≡ Ok x
+    → Took vote_bytes (VoteFits nodes) bytes x
 unfolding vote_at
 vote_takes nodes few bytes x fits e =
     let b = bind_ok (ballot_at nodes bytes) _ x e in
@@ -203,23 +217,31 @@ unfolding vote_at
 vote_again nodes v rest fits =
     let command = command_bytes v.command ++ rest in
     ap (vote_at nodes) (three (ballot_bytes v.ballot) (slot_bytes v.slot) (command_bytes v.command) rest)
-    ∙ rw (ballot_again nodes v.ballot (slot_bytes v.slot ++ command) fits.ballot, slot_again v.slot command fits.slot, command_again v.command rest fits.command) refl
+    ∙ rw (
+      ballot_again nodes v.ballot (slot_bytes v.slot ++ command) fits.ballot,
+      slot_again v.slot command fits.slot,
+      command_again
+          v.command rest fits.command,
+    ) refl
 
 -- ---- what promises tell
 abbrev Within : ℕ → ℕ → ℕ → Type 0
 Within from last s = SlotFits s × (from ≤ s) × (s ≤ last)
 
-slot_within_takes : (from last : ℕ) (bytes : List ℕ) (x : ℕ × List ℕ) → IsBytes bytes → slot_within from last bytes ≡ Ok x → Took slot_bytes (Within from last) bytes x
+slot_within_takes : (from last : ℕ) (bytes : List ℕ) (x : ℕ × List ℕ) → IsBytes bytes → slot_within from last bytes ≡ Ok x
+    → Took slot_bytes (Within from last) bytes x
 unfolding slot_within
 slot_within_takes from last bytes x fits e =
     let s = bind_ok (slot_at bytes) _ x e in
     let t = slot_takes bytes s.0 fits s.1 in
     let g = guard_ok (ltb s.0.0 from || ltb last s.0.0) Field _ x s.2 in
     let n = neither _ _ g.0 in
-    let it : Took slot_bytes (Within from last) bytes s.0 = record { takes = t.takes; fits = (t.fits, at_most s.0.0 from n.0, at_most last s.0.0 n.1) } in
+    let it : Took slot_bytes (Within from last) bytes s.0 = record
+    { takes = t.takes; fits = (t.fits, at_most s.0.0 from n.0, at_most last s.0.0 n.1) } in
     subst (Took slot_bytes (Within from last) bytes) (ok_is _ _ g.1) it
 
-slot_within_again : (from last n : ℕ) (rest : List ℕ) → SlotFits n → from ≤ n → n ≤ last → slot_within from last (slot_bytes n ++ rest) ≡ Ok (n, rest)
+slot_within_again : (from last n : ℕ) (rest : List ℕ) → SlotFits n → from ≤ n → n ≤ last → slot_within from last (slot_bytes n ++ rest)
+    ≡ Ok (n, rest)
 unfolding slot_within
 slot_within_again from last n rest fits low high =
     let one : ltb n from ≡ false = grind (arith, nat_tests) in
@@ -229,16 +251,19 @@ slot_within_again from last n rest fits low high =
 abbrev UpTo : ℕ → Ballot → Ballot → Type 0
 UpTo nodes limit b = BallotFits nodes b × (rank b ≤ rank limit)
 
-ballot_up_to_takes : (nodes : ℕ) → nodes ≤ 7 → (limit : Ballot) (bytes : List ℕ) (x : Ballot × List ℕ) → IsBytes bytes → ballot_up_to nodes limit bytes ≡ Ok x → Took ballot_bytes (UpTo nodes limit) bytes x
+ballot_up_to_takes : (nodes : ℕ) → nodes ≤ 7 → (limit : Ballot) (bytes : List ℕ) (x : Ballot × List ℕ) → IsBytes bytes
+    → ballot_up_to nodes limit bytes ≡ Ok x → Took ballot_bytes (UpTo nodes limit) bytes x
 unfolding ballot_up_to
 ballot_up_to_takes nodes few limit bytes x fits e =
     let b = bind_ok (ballot_at nodes bytes) _ x e in
     let t = ballot_takes nodes few bytes b.0 fits b.1 in
     let g = guard_ok (ltb (rank limit) (rank b.0.0)) Field _ x b.2 in
-    let it : Took ballot_bytes (UpTo nodes limit) bytes b.0 = record { takes = t.takes; fits = (t.fits, at_most (rank limit) (rank b.0.0) g.0) } in
+    let it : Took ballot_bytes (UpTo nodes limit) bytes b.0 = record
+    { takes = t.takes; fits = (t.fits, at_most (rank limit) (rank b.0.0) g.0) } in
     subst (Took ballot_bytes (UpTo nodes limit) bytes) (ok_is _ _ g.1) it
 
-ballot_up_to_again : (nodes : ℕ) (limit b : Ballot) (rest : List ℕ) → BallotFits nodes b → rank b ≤ rank limit → ballot_up_to nodes limit (ballot_bytes b ++ rest) ≡ Ok (b, rest)
+ballot_up_to_again : (nodes : ℕ) (limit b : Ballot) (rest : List ℕ) → BallotFits nodes b → rank b ≤ rank limit
+    → ballot_up_to nodes limit (ballot_bytes b ++ rest) ≡ Ok (b, rest)
 unfolding ballot_up_to
 ballot_up_to_again nodes limit b rest fits low =
     let right : ltb (rank limit) (rank b) ≡ false = grind (arith, nat_tests) in
@@ -263,10 +288,12 @@ entry_takes nodes few limit from last bytes x fits e =
     let made : Vote Command = record { slot = s.0.0; ballot = b.0.0; command = c.0.0 } in
     let fit : VoteFits nodes made = record { slot = ts.fits.0; ballot = tb.fits.0; command = tc.fits } in
     let told : IsTold limit from last made = record { not_before = ts.fits.1; not_after = ts.fits.2; not_above = tb.fits.1 } in
-    let it : Took entry_bytes (EntryFits nodes limit from last) bytes (made, c.0.1) = record { takes = all; fits = record { vote = fit; told = told } } in
+    let it : Took entry_bytes (EntryFits nodes limit from last) bytes (made, c.0.1) = record
+    { takes = all; fits = record { vote = fit; told = told } } in
     subst (Took entry_bytes (EntryFits nodes limit from last) bytes) (ok_is _ _ c.2) it
 
-entry_again : (nodes : ℕ) (limit : Ballot) (from last : ℕ) (v : Vote Command) (rest : List ℕ) → VoteFits nodes v → IsTold limit from last v → entry_at nodes limit from last (entry_bytes v ++ rest) ≡ Ok (v, rest)
+entry_again : (nodes : ℕ) (limit : Ballot) (from last : ℕ) (v : Vote Command) (rest : List ℕ) → VoteFits nodes v → IsTold limit from last v
+    → entry_at nodes limit from last (entry_bytes v ++ rest) ≡ Ok (v, rest)
 unfolding entry_at
 entry_again nodes limit from last v rest fits told =
     let command = command_bytes v.command ++ rest in
@@ -283,12 +310,14 @@ pub record TookEntries (nodes : ℕ) (limit : Ballot) (last count from : ℕ) (b
   pub votes : AllByRecursion (VoteFits nodes) x.0
   pub told : AreTold limit from last x.0
 
-entries_take : (nodes : ℕ) → nodes ≤ 7 → (limit : Ballot) (last count from : ℕ) (bytes : List ℕ) (x : List (Vote Command) × List ℕ) → IsBytes bytes
+entries_take : (nodes : ℕ) → nodes ≤ 7 → (limit : Ballot) (last count from : ℕ) (bytes : List ℕ) (x : List (Vote Command) × List ℕ)
+    → IsBytes bytes
     → entries_at nodes limit last count from bytes ≡ Ok x → TookEntries nodes limit last count from bytes x
 unfolding entries_at
 entries_take nodes few limit last zero from bytes x fits e =
     let none : AllByRecursion (VoteFits nodes) [] = tt in
-    let it : TookEntries nodes limit last 0 from bytes ([], bytes) = record { takes = record { parts = refl; rest_fits = fits }; counted = refl; votes = none; told = tt } in
+    let it : TookEntries nodes limit last 0 from bytes ([], bytes) = record
+    { takes = record { parts = refl; rest_fits = fits }; counted = refl; votes = none; told = tt } in
     subst (TookEntries nodes limit last 0 from bytes) (ok_is _ _ e) it
 entries_take nodes few limit last (suc count) from bytes x fits e =
     let a = bind_ok (entry_at nodes limit from last bytes) _ x e in
@@ -301,7 +330,8 @@ entries_take nodes few limit last (suc count) from bytes x fits e =
     record { takes = rw flat_map-cons both; counted = ap suc u.counted; votes = (t.fits.vote, u.votes); told = (t.fits.told, u.told) } in
     subst (TookEntries nodes limit last (suc count) from bytes) (ok_is _ _ b.2) it
 
-entries_again : (nodes : ℕ) (limit : Ballot) (last from : ℕ) (vs : List (Vote Command)) (rest : List ℕ) → AllByRecursion (VoteFits nodes) vs → AreTold limit from last vs
+entries_again : (nodes : ℕ) (limit : Ballot) (last from : ℕ) (vs : List (Vote Command)) (rest : List ℕ) → AllByRecursion (VoteFits nodes) vs
+    → AreTold limit from last vs
     → entries_at nodes limit last (length vs) from (flat_map entry_bytes vs ++ rest) ≡ Ok (vs, rest)
 unfolding entries_at
 entries_again nodes limit last from [] rest fits told = refl
@@ -309,7 +339,11 @@ entries_again nodes limit last from (v ∷ vs) rest fits told =
     let regrouped : flat_map entry_bytes (v ∷ vs) ++ rest ≡ entry_bytes v ++ (flat_map entry_bytes vs ++ rest) =
     ap (λ (x : List ℕ). x ++ rest) (flat_map-cons entry_bytes v vs) ∙ append_assoc (entry_bytes v) (flat_map entry_bytes vs) rest in
     ap (entries_at nodes limit last (suc (length vs)) from) regrouped
-    ∙ rw (entry_again nodes limit from last v (flat_map entry_bytes vs ++ rest) fits.0 told.0, entries_again nodes limit last (v.slot + 1) vs rest fits.1 told.1) refl
+    ∙ rw (
+      entry_again nodes limit from last v (flat_map entry_bytes vs ++ rest) fits.0 told.0,
+      entries_again nodes limit last (v.slot + 1)
+          vs rest fits.1 told.1,
+    ) refl
 
 abbrev range_bytes : ℕ × ℕ → List ℕ
 range_bytes r = slot_bytes r.0 ++ slot_bytes r.1
@@ -329,14 +363,20 @@ range_takes bytes x fits e =
     let g = guard_ok (ltb l.0.0 f.0.0) Field _ x l.2 in
     let both = Takes-then bytes (slot_bytes f.0.0) f.0.1 (slot_bytes l.0.0) l.0.1 tf.takes tl.takes in
     let made : (ℕ × ℕ) × List ℕ = ((f.0.0, l.0.0), l.0.1) in
-    let it : Took range_bytes RangeFits bytes made = record { takes = both; fits = record { first = tf.fits; last = tl.fits; in_order = at_most l.0.0 f.0.0 g.0 } } in
+    let it : Took range_bytes RangeFits bytes made = record {
+      takes = both;
+      fits = record
+          { first = tf.fits; last = tl.fits; in_order = at_most l.0.0 f.0.0 g.0 };
+    } in
     subst (Took range_bytes RangeFits bytes) (ok_is _ _ g.1) it
 
-range_again : (first last : ℕ) (rest : List ℕ) → SlotFits first → SlotFits last → first ≤ last → range_at ((slot_bytes first ++ slot_bytes last) ++ rest) ≡ Ok ((first, last), rest)
+range_again : (first last : ℕ) (rest : List ℕ) → SlotFits first → SlotFits last → first ≤ last
+    → range_at ((slot_bytes first ++ slot_bytes last) ++ rest) ≡ Ok ((first, last), rest)
 unfolding range_at
 range_again first last rest low high order =
     let right : ltb last first ≡ false = grind (arith, nat_tests) in
-    ap range_at (append_assoc (slot_bytes first) (slot_bytes last) rest) ∙ rw (slot_again first (slot_bytes last ++ rest) low, slot_again last rest high, right) refl
+    ap range_at (append_assoc (slot_bytes first) (slot_bytes last) rest)
+    ∙ rw (slot_again first (slot_bytes last ++ rest) low, slot_again last rest high, right) refl
 
 abbrev told_bytes : List (Vote Command) → List ℕ
 told_bytes vs = length vs ∷ flat_map entry_bytes vs
@@ -364,14 +404,16 @@ told_takes nodes few limit range bytes x fits e =
       fits = record { few = subst (λ (m : ℕ). m ≤ MOST_ENTRIES) (sym u.counted) low; votes = u.votes; told = u.told };
     }
 
-told_again : (nodes : ℕ) (limit : Ballot) (range : ℕ × ℕ) (vs : List (Vote Command)) (rest : List ℕ) → ToldFits nodes limit range vs → told_at nodes limit range (told_bytes vs ++ rest) ≡ Ok (vs, rest)
+told_again : (nodes : ℕ) (limit : Ballot) (range : ℕ × ℕ) (vs : List (Vote Command)) (rest : List ℕ) → ToldFits nodes limit range vs
+    → told_at nodes limit range (told_bytes vs ++ rest) ≡ Ok (vs, rest)
 unfolding told_at few_at
 told_again nodes limit range vs rest fits =
     let low : length vs ≤ MOST_ENTRIES = fits.few in
     let right : ltb MOST_ENTRIES (length vs) ≡ false = grind (arith, nat_tests) in
     rw right (entries_again nodes limit range.1 range.0 vs rest fits.votes fits.told)
 
-pub promise_takes : (nodes : ℕ) → nodes ≤ 7 → (bytes : List ℕ) (x : Promised × List ℕ) → IsBytes bytes → promise_at nodes bytes ≡ Ok x → Took promise_bytes (PromiseFits nodes) bytes x
+pub promise_takes : (nodes : ℕ) → nodes ≤ 7 → (bytes : List ℕ) (x : Promised × List ℕ) → IsBytes bytes → promise_at nodes bytes ≡ Ok x
+    → Took promise_bytes (PromiseFits nodes) bytes x
 unfolding promise_at
 promise_takes nodes few bytes x fits e =
     let b = bind_ok (ballot_at nodes bytes) _ x e in
@@ -384,15 +426,24 @@ promise_takes nodes few bytes x fits e =
     let all = Takes-then bytes (ballot_bytes b.0.0) b.0.1 (range_bytes r.0.0 ++ told_bytes v.0.0) v.0.1 tb.takes later in
     let made : Promised = record { ballot = b.0.0; first = r.0.0.0; last = r.0.0.1; entries = v.0.0 } in
     let promise : IsPromise made = record { in_order = tr.fits.in_order; few = tv.fits.few; told = tv.fits.told } in
-    let fit : PromiseFits nodes made = record { ballot = tb.fits; first = tr.fits.first; last = tr.fits.last; promise = promise; entries = tv.fits.votes } in
+    let fit : PromiseFits nodes made = record {
+      ballot = tb.fits;
+      first = tr.fits.first;
+      last = tr.fits.last;
+      promise = promise;
+      entries =
+          tv.fits.votes;
+    } in
     let it : Took promise_bytes (PromiseFits nodes) bytes (made, v.0.1) = record { takes = all; fits = fit } in
     subst (Took promise_bytes (PromiseFits nodes) bytes) (ok_is _ _ v.2) it
 
-pub promise_again : (nodes : ℕ) (p : Promised) (rest : List ℕ) → PromiseFits nodes p → promise_at nodes (promise_bytes p ++ rest) ≡ Ok (p, rest)
+pub promise_again : (nodes : ℕ) (p : Promised) (rest : List ℕ) → PromiseFits nodes p → promise_at nodes (promise_bytes p ++ rest)
+    ≡ Ok (p, rest)
 unfolding promise_at
 promise_again nodes p rest fits =
     let told = told_bytes p.entries ++ rest in
-    let fit : ToldFits nodes p.ballot (p.first, p.last) p.entries = record { few = fits.promise.few; votes = fits.entries; told = fits.promise.told } in
+    let fit : ToldFits nodes p.ballot (p.first, p.last) p.entries = record
+    { few = fits.promise.few; votes = fits.entries; told = fits.promise.told } in
     ap (promise_at nodes) (three (ballot_bytes p.ballot) (slot_bytes p.first ++ slot_bytes p.last) (told_bytes p.entries) rest)
     ∙ rw (
       ballot_again nodes p.ballot ((slot_bytes p.first ++ slot_bytes p.last) ++ told) fits.ballot,
@@ -407,7 +458,8 @@ nack_bytes n = ballot_bytes n.ballot ++ ballot_bytes n.promised
 abbrev refused_by : Ballot → Ballot × List ℕ → Refused × List ℕ
 refused_by ballot x = (record { ballot = ballot; promised = x.0 }, x.1)
 
-nack_takes : (nodes : ℕ) → nodes ≤ 7 → (bytes : List ℕ) (x : Refused × List ℕ) → IsBytes bytes → nack_at nodes bytes ≡ Ok x → Took nack_bytes (NackFits nodes) bytes x
+nack_takes : (nodes : ℕ) → nodes ≤ 7 → (bytes : List ℕ) (x : Refused × List ℕ) → IsBytes bytes → nack_at nodes bytes ≡ Ok x
+    → Took nack_bytes (NackFits nodes) bytes x
 unfolding nack_at ballot_above
 nack_takes nodes few bytes x fits e =
     let b = bind_ok (ballot_at nodes bytes) _ x e in
@@ -430,7 +482,11 @@ nack_again nodes n rest fits =
     let low : rank n.ballot < rank n.promised = fits.refusal in
     let right : leb (rank n.promised) (rank n.ballot) ≡ false = grind (arith, nat_tests) in
     ap (nack_at nodes) (append_assoc (ballot_bytes n.ballot) (ballot_bytes n.promised) rest)
-    ∙ rw (ballot_again nodes n.ballot (ballot_bytes n.promised ++ rest) fits.ballot, ballot_again nodes n.promised rest fits.promised, right) refl
+    ∙ rw (
+      ballot_again nodes n.ballot (ballot_bytes n.promised ++ rest) fits.ballot,
+      ballot_again nodes n.promised rest fits.promised,
+      right,
+    ) refl
 
 -- ---- messages
 pub record TookBody (nodes : ℕ) (k : Kind) (bytes : List ℕ) (x : Message × List ℕ) : Type 0 where
@@ -438,7 +494,8 @@ pub record TookBody (nodes : ℕ) (k : Kind) (bytes : List ℕ) (x : Message × 
   pub fits : MessageFits nodes x.0
   pub kind : kind_of x.0 ≡ k
 
-prepare_takes : (nodes : ℕ) → nodes ≤ 7 → (bytes : List ℕ) (x : Message × List ℕ) → IsBytes bytes → prepare_at nodes bytes ≡ Ok x → TookBody nodes kind.Prepare bytes x
+prepare_takes : (nodes : ℕ) → nodes ≤ 7 → (bytes : List ℕ) (x : Message × List ℕ) → IsBytes bytes → prepare_at nodes bytes ≡ Ok x
+    → TookBody nodes kind.Prepare bytes x
 unfolding prepare_at
 prepare_takes nodes few bytes x fits e =
     let b = bind_ok (ballot_at nodes bytes) _ x e in
@@ -446,10 +503,12 @@ prepare_takes nodes few bytes x fits e =
     let s = bind_ok (slot_at b.0.1) _ x b.2 in
     let ts = slot_takes b.0.1 s.0 tb.takes.rest_fits s.1 in
     let both = Takes-then bytes (ballot_bytes b.0.0) b.0.1 (slot_bytes s.0.0) s.0.1 tb.takes ts.takes in
-    let it : TookBody nodes kind.Prepare bytes (Prepare b.0.0 s.0.0, s.0.1) = record { takes = both; fits = (tb.fits, ts.fits); kind = refl } in
+    let it : TookBody nodes kind.Prepare bytes (Prepare b.0.0 s.0.0, s.0.1) = record
+    { takes = both; fits = (tb.fits, ts.fits); kind = refl } in
     subst (TookBody nodes kind.Prepare bytes) (ok_is _ _ s.2) it
 
-decided_takes : (nodes : ℕ) (bytes : List ℕ) (x : Message × List ℕ) → IsBytes bytes → decided_at bytes ≡ Ok x → TookBody nodes kind.Decided bytes x
+decided_takes : (nodes : ℕ) (bytes : List ℕ) (x : Message × List ℕ) → IsBytes bytes → decided_at bytes ≡ Ok x
+    → TookBody nodes kind.Decided bytes x
 unfolding decided_at
 decided_takes nodes bytes x fits e =
     let s = bind_ok (slot_at bytes) _ x e in
@@ -457,10 +516,12 @@ decided_takes nodes bytes x fits e =
     let c = bind_ok (command_at s.0.1) _ x s.2 in
     let tc = command_takes s.0.1 c.0 ts.takes.rest_fits c.1 in
     let both = Takes-then bytes (slot_bytes s.0.0) s.0.1 (command_bytes c.0.0) c.0.1 ts.takes tc.takes in
-    let it : TookBody nodes kind.Decided bytes (Decided s.0.0 c.0.0, c.0.1) = record { takes = both; fits = (ts.fits, tc.fits); kind = refl } in
+    let it : TookBody nodes kind.Decided bytes (Decided s.0.0 c.0.0, c.0.1) = record
+    { takes = both; fits = (ts.fits, tc.fits); kind = refl } in
     subst (TookBody nodes kind.Decided bytes) (ok_is _ _ c.2) it
 
-pub message_takes : (k : Kind) (nodes : ℕ) → nodes ≤ 7 → (bytes : List ℕ) (x : Message × List ℕ) → IsBytes bytes → message_at k nodes bytes ≡ Ok x → TookBody nodes k bytes x
+pub message_takes : (k : Kind) (nodes : ℕ) → nodes ≤ 7 → (bytes : List ℕ) (x : Message × List ℕ) → IsBytes bytes → message_at k nodes bytes
+    ≡ Ok x → TookBody nodes k bytes x
 unfolding message_at
 message_takes kind.Prepare nodes few bytes x fits e = prepare_takes nodes few bytes x fits e
 message_takes kind.Promise nodes few bytes x fits e =
@@ -490,19 +551,22 @@ message_takes kind.Ask nodes few bytes x fits e =
     subst (TookBody nodes kind.Ask bytes) (ok_is _ _ p.2) it
 message_takes kind.Decided nodes few bytes x fits e = decided_takes nodes bytes x fits e
 
-prepare_again : (nodes : ℕ) (b : Ballot) (first : ℕ) (rest : List ℕ) → BallotFits nodes b → SlotFits first → prepare_at nodes ((ballot_bytes b ++ slot_bytes first) ++ rest) ≡ Ok (Prepare b first, rest)
+prepare_again : (nodes : ℕ) (b : Ballot) (first : ℕ) (rest : List ℕ) → BallotFits nodes b → SlotFits first
+    → prepare_at nodes ((ballot_bytes b ++ slot_bytes first) ++ rest) ≡ Ok (Prepare b first, rest)
 unfolding prepare_at
 prepare_again nodes b first rest fits low =
     ap (prepare_at nodes) (append_assoc (ballot_bytes b) (slot_bytes first) rest)
     ∙ rw (ballot_again nodes b (slot_bytes first ++ rest) fits, slot_again first rest low) refl
 
-decided_again : (slot : ℕ) (c : Command) (rest : List ℕ) → SlotFits slot → CommandFits c → decided_at ((slot_bytes slot ++ command_bytes c) ++ rest) ≡ Ok (Decided slot c, rest)
+decided_again : (slot : ℕ) (c : Command) (rest : List ℕ) → SlotFits slot → CommandFits c
+    → decided_at ((slot_bytes slot ++ command_bytes c) ++ rest) ≡ Ok (Decided slot c, rest)
 unfolding decided_at
 decided_again slot c rest low fits =
     ap decided_at (append_assoc (slot_bytes slot) (command_bytes c) rest)
     ∙ rw (slot_again slot (command_bytes c ++ rest) low, command_again c rest fits) refl
 
-pub message_again : (nodes : ℕ) (m : Message) (rest : List ℕ) → MessageFits nodes m → message_at (kind_of m) nodes (body_bytes m ++ rest) ≡ Ok (m, rest)
+pub message_again : (nodes : ℕ) (m : Message) (rest : List ℕ) → MessageFits nodes m → message_at (kind_of m) nodes (body_bytes m ++ rest)
+    ≡ Ok (m, rest)
 unfolding message_at
 message_again nodes (Prepare b first) rest fits = prepare_again nodes b first rest fits.0 fits.1
 message_again nodes (Promise p) rest fits = rw (promise_again nodes p rest fits) refl
@@ -513,7 +577,8 @@ message_again nodes (Ask slot) rest fits = rw (slot_again slot rest fits) refl
 message_again nodes (Decided slot c) rest fits = decided_again slot c rest fits.0 fits.1
 
 -- ---- envelopes
-pub envelope_takes : (nodes : ℕ) → nodes ≤ 7 → (bytes : List ℕ) (x : Envelope × List ℕ) → IsBytes bytes → envelope_at nodes bytes ≡ Ok x → Took spelling (Fits nodes) bytes x
+pub envelope_takes : (nodes : ℕ) → nodes ≤ 7 → (bytes : List ℕ) (x : Envelope × List ℕ) → IsBytes bytes → envelope_at nodes bytes ≡ Ok x
+    → Took spelling (Fits nodes) bytes x
 unfolding envelope_at
 envelope_takes nodes few bytes x fits e =
     let h = bind_ok (head_at nodes bytes) _ x e in
@@ -539,10 +604,13 @@ envelope_again nodes e rest fits =
 
 -- ---- frames
 -- no frame is a proper beginning of another, and no bytes spell two envelopes
-pub no_beginning : (nodes : ℕ) (a b rest : List ℕ) (e f : Envelope) → IsFrame nodes a e → IsFrame nodes b f → a ++ rest ≡ b → (e ≡ f) × (rest ≡ [])
+pub no_beginning : (nodes : ℕ) (a b rest : List ℕ) (e f : Envelope) → IsFrame nodes a e → IsFrame nodes b f → a ++ rest ≡ b → (e ≡ f)
+    × (rest ≡ [])
 no_beginning nodes a b rest e f fa fb whole =
-    let same : spelling e ++ rest ≡ spelling f ++ [] = ap (λ (x : List ℕ). x ++ rest) (sym fa.spelled) ∙ whole ∙ fb.spelled ∙ sym (append-nil (spelling f)) in
-    let both : (e, rest) ≡ (f, []) = ok_is _ _ (sym (envelope_again nodes e rest fa.fits) ∙ ap (envelope_at nodes) same ∙ envelope_again nodes f [] fb.fits) in
+    let same : spelling e ++ rest ≡ spelling f ++ [] = ap (λ (x : List ℕ). x ++ rest) (sym fa.spelled) ∙ whole ∙ fb.spelled
+    ∙ sym (append-nil (spelling f)) in
+    let both : (e, rest) ≡ (f, []) = ok_is _ _ (sym (envelope_again nodes e rest fa.fits) ∙ ap (envelope_at nodes) same
+    ∙ envelope_again nodes f [] fb.fits) in
     (ap (λ (p : Envelope × List ℕ). p.0) both, ap (λ (p : Envelope × List ℕ). p.1) both)
 
 empty_list : (xs : List ℕ) → eqb (length xs) 0 ≡ true → xs ≡ []
@@ -556,7 +624,8 @@ ending x e h =
       | inr more ↦ absurd (let bad = rw more at h in cc)
     ]
 
-pub frame_found : (nodes : ℕ) → nodes ≤ 7 → (bytes : List ℕ) (e : Envelope) → IsBytes bytes → frame_in nodes bytes ≡ Ok e → IsFrame nodes bytes e
+pub frame_found : (nodes : ℕ) → nodes ≤ 7 → (bytes : List ℕ) (e : Envelope) → IsBytes bytes → frame_in nodes bytes ≡ Ok e
+    → IsFrame nodes bytes e
 unfolding frame_in
 frame_found nodes few bytes e fits is =
     let g = guard_ok (ltb LONGEST_FRAME (length bytes)) Long _ e is in
@@ -566,7 +635,8 @@ frame_found nodes few bytes e fits is =
     let spelled : bytes ≡ spelling x.0.0 = t.takes.parts ∙ ap (λ (r : List ℕ). spelling x.0.0 ++ r) end.1 ∙ append-nil (spelling x.0.0) in
     subst (IsFrame nodes bytes) end.0 (record { fits = t.fits; spelled = spelled })
 
-pub frame_only : (nodes : ℕ) (bytes : List ℕ) (e : Envelope) → IsFrame nodes bytes e → length bytes ≤ LONGEST_FRAME → frame_in nodes bytes ≡ Ok e
+pub frame_only : (nodes : ℕ) (bytes : List ℕ) (e : Envelope) → IsFrame nodes bytes e → length bytes ≤ LONGEST_FRAME → frame_in nodes bytes
+    ≡ Ok e
 unfolding frame_in
 frame_only nodes bytes e f short =
     let right : ltb LONGEST_FRAME (length bytes) ≡ false = grind (arith, nat_tests) in

@@ -30,7 +30,8 @@ choice_takes bytes x fits e =
     subst (TookChoice bytes) (ok_is made x b.2) it
 
 -- what is read up to the last byte is the record
-pub choice_is_record : (bytes : List ℕ) (b : Ballot) (c : Command) (rest : List ℕ) → IsBytes bytes → choice_at bytes ≡ Ok ((b, c), rest) → rest ≡ [] → IsVoteRecord bytes b c
+pub choice_is_record : (bytes : List ℕ) (b : Ballot) (c : Command) (rest : List ℕ) → IsBytes bytes → choice_at bytes ≡ Ok ((b, c), rest)
+    → rest ≡ [] → IsVoteRecord bytes b c
 choice_is_record bytes b c rest fits e ends =
     let t = choice_takes bytes ((b, c), rest) fits e in
     let spelled : bytes ≡ ballot_bytes b ++ command_bytes c =
@@ -41,11 +42,13 @@ choice_is_record bytes b c rest fits e ends =
 pub record_is_choice : (bytes : List ℕ) (b : Ballot) (c : Command) → IsVoteRecord bytes b c → choice_at bytes ≡ Ok ((b, c), [])
 unfolding choice_at
 record_is_choice bytes b c is =
-    let regrouped : bytes ≡ ballot_bytes b ++ (command_bytes c ++ []) = is.spelled ∙ ap (λ (r : List ℕ). ballot_bytes b ++ r) (sym (append-nil (command_bytes c))) in
+    let regrouped : bytes ≡ ballot_bytes b ++ (command_bytes c ++ []) = is.spelled ∙ ap
+    (λ (r : List ℕ). ballot_bytes b ++ r) (sym (append-nil (command_bytes c))) in
     ap choice_at regrouped ∙ rw (ballot_again 7 b (command_bytes c ++ []) is.ballot, command_again c [] is.command) refl
 
 -- a fault that is not for memory is the fault of the bytes, so they are no record
-pub fault_is_no_record : (e : WireFault) → ¬ (e ≡ Memory) → (bytes : List ℕ) → Fails e (choice_at bytes) → (b : Ballot) (c : Command) → IsVoteRecord bytes b c → ⊥
+pub fault_is_no_record : (e : WireFault) → ¬ (e ≡ Memory) → (bytes : List ℕ) → Fails e (choice_at bytes) → (b : Ballot) (c : Command)
+    → IsVoteRecord bytes b c → ⊥
 fault_is_no_record Memory other bytes fails b c is = other refl
 fault_is_no_record Short other bytes fails b c is = let read = record_is_choice bytes b c is in cc
 fault_is_no_record Magic other bytes fails b c is = let read = record_is_choice bytes b c is in cc
@@ -56,13 +59,15 @@ fault_is_no_record Trailing other bytes fails b c is = let read = record_is_choi
 fault_is_no_record Long other bytes fails b c is = let read = record_is_choice bytes b c is in cc
 
 -- where bytes are left, they are no record
-pub rest_is_no_record : (bytes : List ℕ) (v : Ballot × Command) (rest : List ℕ) → choice_at bytes ≡ Ok (v, rest) → ¬ (rest ≡ []) → (b : Ballot) (c : Command) → IsVoteRecord bytes b c → ⊥
+pub rest_is_no_record : (bytes : List ℕ) (v : Ballot × Command) (rest : List ℕ) → choice_at bytes ≡ Ok (v, rest) → ¬ (rest ≡ [])
+    → (b : Ballot) (c : Command) → IsVoteRecord bytes b c → ⊥
 rest_is_no_record bytes v rest e left b c is =
     let same : (v, rest) ≡ ((b, c), []) = ok_is (v, rest) ((b, c), []) (sym e ∙ record_is_choice bytes b c is) in
     left (ap (λ (p : (Ballot × Command) × List ℕ). p.1) same)
 
 -- the record is of no other ballot and command
-pub one_record : (bytes : List ℕ) (v : Ballot × Command) (rest : List ℕ) → choice_at bytes ≡ Ok (v, rest) → (b : Ballot) (c : Command) → IsVoteRecord bytes b c → v ≡ (b, c)
+pub one_record : (bytes : List ℕ) (v : Ballot × Command) (rest : List ℕ) → choice_at bytes ≡ Ok (v, rest) → (b : Ballot) (c : Command)
+    → IsVoteRecord bytes b c → v ≡ (b, c)
 one_record bytes v rest e b c is =
     let same : (v, rest) ≡ ((b, c), []) = ok_is (v, rest) ((b, c), []) (sym e ∙ record_is_choice bytes b c is) in
     ap (λ (p : (Ballot × Command) × List ℕ). p.0) same

@@ -1,5 +1,6 @@
 -- Triples that are read make a valid sequence, and the points of a valid sequence fit as triples.
-use Rattle.std.proofs.Common.{◌≡◌, ℕ, zero, suc, ◌+◌, ◌<◌, ◌≤◌, ltb, not, List, [], ◌∷◌, length, slice_get, Some, Ok, refl, sym, ap, subst, arith}
+use Rattle.std.proofs.Common.{◌≡◌, ℕ, zero, suc, ◌+◌, ◌<◌, ◌≤◌, ltb, not, List, [], ◌∷◌, length, slice_get, Some, Ok, refl, sym, ap, subst}
+use Rattle.std.proofs.Common.{arith}
 use Rattle.std.specs.Prelude.{ℤ, pos}
 use Rattle.tpoint.specs.Coordinates.{InRange}
 use Rattle.std.specs.Int.{cast_signed, w64}
@@ -44,7 +45,11 @@ triple_fits bytes x e =
     let c = bind_ok (coordinate_at b.0.1) _ x b.2 in
     let made : Point × List ℕ = (record { t = a.0.0; x = b.0.0; y = c.0.0 }, c.0.1) in
     let it : TripleFits made.0 =
-    record { instant = instant_fits bytes a.0 a.1; in_bounds = record { x_fits = coordinate_fits a.0.1 b.0 b.1; y_fits = coordinate_fits b.0.1 c.0 c.1 } } in
+    record {
+      instant = instant_fits bytes a.0 a.1;
+      in_bounds = record
+          { x_fits = coordinate_fits a.0.1 b.0 b.1; y_fits = coordinate_fits b.0.1 c.0 c.1 };
+    } in
     subst (λ (y : Point × List ℕ). TripleFits y.0) (ok_is made x c.2) it
 
 triple_from_fits : (from : ℕ) (bytes : List ℕ) (x : Point × List ℕ) → triple_from from bytes ≡ Ok x → TripleFits x.0 × (from ≤ x.0.t)
@@ -54,7 +59,8 @@ triple_from_fits from bytes x e =
     let g = guard_ok (ltb a.0.0.t from) Field _ x a.2 in
     subst (λ (y : Point × List ℕ). TripleFits y.0 × (from ≤ y.0.t)) (ok_is _ _ g.1) (triple_fits bytes a.0 a.1, at_most a.0.0.t from g.0)
 
-pub triples_fit : (count from : ℕ) (bytes : List ℕ) (x : List Point × List ℕ) → triples_at count from bytes ≡ Ok x → TriplesFit from x.0 × (length x.0 ≡ count)
+pub triples_fit : (count from : ℕ) (bytes : List ℕ) (x : List Point × List ℕ) → triples_at count from bytes ≡ Ok x → TriplesFit from x.0
+    × (length x.0 ≡ count)
 unfolding triples_at
 triples_fit zero from bytes x e = subst (λ (y : List Point × List ℕ). TriplesFit from y.0 × (length y.0 ≡ 0)) (ok_is _ _ e) (tt, refl)
 triples_fit (suc count) from bytes x e =
@@ -66,10 +72,16 @@ triples_fit (suc count) from bytes x e =
     subst (λ (y : List Point × List ℕ). TriplesFit from y.0 × (length y.0 ≡ suc count)) (ok_is made x b.2) ((t.0, t.1, u.0), ap suc u.1)
 
 -- so many triples that are read make a sequence
-pub sequence_fits : (interp : Interp) (count : ℕ) (bytes rest : List ℕ) (ps : List Point) → triples_at count 0 bytes ≡ Ok (ps, rest) → 1 ≤ count → count ≤ MOST_PUT_POINTS → SequenceFits (record { interp = interp; points = ps })
+pub sequence_fits : (interp : Interp) (count : ℕ) (bytes rest : List ℕ) (ps : List Point) → triples_at count 0 bytes ≡ Ok (ps, rest)
+    → 1 ≤ count → count ≤ MOST_PUT_POINTS → SequenceFits (record { interp = interp; points = ps })
 sequence_fits interp count bytes rest ps e some few =
     let all = triples_fit count 0 bytes (ps, rest) e in
-    record { not_empty = subst (λ (n : ℕ). 1 ≤ n) (sym all.1) some; not_too_many = subst (λ (n : ℕ). n ≤ MOST_PUT_POINTS) (sym all.1) few; triples = all.0 }
+    record {
+      not_empty = subst (λ (n : ℕ). 1 ≤ n) (sym all.1) some;
+      not_too_many = subst
+          (λ (n : ℕ). n ≤ MOST_PUT_POINTS) (sym all.1) few;
+      triples = all.0;
+    }
 
 -- ---- sequences that fit, and valid ones
 next_place : (k : ℕ) → suc k + 1 ≡ suc (k + 1)
@@ -102,18 +114,22 @@ valid_from_fit s fits =
     }
 
 -- the points of a valid sequence fit as triples, where each has an instant
-fit_from_valid : (from : ℕ) (ps : List Point) → ((k : ℕ) → Rises ps k) → ((k : ℕ) → EachAt ps InBounds k) → AllByRecursion (λ p. IsInstant (pos p.t)) ps
+fit_from_valid : (from : ℕ) (ps : List Point) → ((k : ℕ) → Rises ps k) → ((k : ℕ) → EachAt ps InBounds k) → AllByRecursion
+    (λ p. IsInstant (pos p.t)) ps
     → ((p : Point) → slice_get ps 0 ≡ Some p → from ≤ p.t) → TriplesFit from ps
 fit_from_valid from [] rises bounds instants first = tt
 fit_from_valid from (p ∷ ps) rises bounds instants first = (
   record { instant = instants.0; in_bounds = bounds 0 p refl },
   first p refl,
-  fit_from_valid (p.t + 1) ps (λ k a b e f. rises (suc k) a b e (subst (λ (n : ℕ). slice_get (p ∷ ps) n ≡ Some b) (sym (next_place k)) f)) (λ k. bounds (suc k)) instants.1 (λ q e. let later : p.t < q.t = rises 0 p q refl e in omega arith),
+  fit_from_valid (p.t + 1) ps (λ k a b e f. rises (suc k) a b e (subst (λ (n : ℕ). slice_get (p ∷ ps) n ≡ Some b) (sym (next_place k)) f))
+      (λ k. bounds (suc k)) instants.1 (λ q e. let later : p.t < q.t = rises 0 p q refl e in omega arith),
 )
 
-pub sequence_from_valid : (s : Sequence) → IsValid s → length s.points ≤ MOST_PUT_POINTS → All (λ p. IsInstant (pos p.t)) s.points → SequenceFits s
+pub sequence_from_valid : (s : Sequence) → IsValid s → length s.points ≤ MOST_PUT_POINTS → All (λ p. IsInstant (pos p.t)) s.points
+    → SequenceFits s
 sequence_from_valid s valid few instants = record {
   not_empty = valid.not_empty;
   not_too_many = few;
-  triples = fit_from_valid 0 s.points valid.increasing valid.in_range (recursion_from_All (λ p. IsInstant (pos p.t)) s.points instants) (λ p e. omega arith);
+  triples = fit_from_valid 0 s.points valid.increasing valid.in_range (recursion_from_All (λ p. IsInstant (pos p.t)) s.points instants)
+      (λ p e. omega arith);
 }

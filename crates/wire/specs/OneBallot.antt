@@ -15,7 +15,8 @@ same_round : (b : Ballot) (round : ℕ) → b.round ≡ round → (begun : 1 ≤
 same_round b round e =
     subst (λ (r : ℕ). (begun : 1 ≤ r) → made r b.node begun b.of_a_node ≡ b) e (same_begun b)
 
-pub same_node : (b : Ballot) (round node : ℕ) → b.round ≡ round → b.node ≡ node → (begun : 1 ≤ round) (of_a_node : node < 7) → made round node begun of_a_node ≡ b
+pub same_node : (b : Ballot) (round node : ℕ) → b.round ≡ round → b.node ≡ node → (begun : 1 ≤ round) (of_a_node : node < 7)
+    → made round node begun of_a_node ≡ b
 same_node b round node e f begun =
     subst (λ (n : ℕ). (h : n < 7) → made round n begun h ≡ b) f
     (λ h. subst (λ (q : b.node < 7). made round b.node begun q ≡ b) (le_prop b.of_a_node h) (same_round b round e begun))

@@ -15,8 +15,6 @@ mod reading;
 mod records;
 mod spelling;
 mod telling;
-#[cfg(test)]
-mod tests;
 
 pub use decoding::{decode, no_frame_begins_another};
 pub use encoding::encode;

@@ -69,10 +69,14 @@ module _ {S : Type 0} (storages : Ghosts S) (stores : List S) (plan : Plan) wher
       → (fault.cause ≢ cause.NotEmpty → HasLine fault failure) → StopsOver storages stores plan failure
   by_cause fault cause.NotEmpty failure is ends named used line =
       subst (λ (f : Failure). StopsOver storages stores plan f) (sym (used is)) (record { fault = fault; ends = ends; used = is })
-  by_cause fault (cause.Schedule which) failure is ends named used line = with_line fault failure ends named line (λ e. let both = sym is ∙ e in cc)
-  by_cause fault cause.NoSuchMessage failure is ends named used line = with_line fault failure ends named line (λ e. let both = sym is ∙ e in cc)
-  by_cause fault cause.NoSuchNode failure is ends named used line = with_line fault failure ends named line (λ e. let both = sym is ∙ e in cc)
-  by_cause fault cause.FlushLimit failure is ends named used line = with_line fault failure ends named line (λ e. let both = sym is ∙ e in cc)
+  by_cause fault (cause.Schedule which) failure is ends named used line = with_line fault failure ends named line
+      (λ e. let both = sym is ∙ e in cc)
+  by_cause fault cause.NoSuchMessage failure is ends named used line = with_line fault failure ends named line
+      (λ e. let both = sym is ∙ e in cc)
+  by_cause fault cause.NoSuchNode failure is ends named used line = with_line fault failure ends named line
+      (λ e. let both = sym is ∙ e in cc)
+  by_cause fault cause.FlushLimit failure is ends named used line = with_line fault failure ends named line
+      (λ e. let both = sym is ∙ e in cc)
   by_cause fault cause.Memory failure is ends named used line = absurd (named is)
 
   pub stops_over : (fault : ReplayFault) (failure : Failure) → EndsOver storages stores plan fault

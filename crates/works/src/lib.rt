@@ -7,11 +7,7 @@
 //! program and its examples make the same. What a work makes stands in `specs/Works.antt`.
 #![tactic(auto)]
 
-#[cfg(test)]
-mod documents;
 mod failures;
 mod making;
-#[cfg(test)]
-mod schedules;
 
 pub use making::{made, made_over, planned};

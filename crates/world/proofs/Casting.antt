@@ -54,7 +54,8 @@ module _ {C : Type 0} (f : Fleet C) (i : ℕ) (input : Input C) where
   act_stands x (act.Promises b) v came m low e = e
   act_stands x (act.Tells to b first last told) v came m low e = e
   act_stands x (act.Votes u) v came m low e =
-      subst (λ (w : Vote C). Stands (acted i x (act.Votes w)) v) (sym (one_brought input u v m.0 came)) (put_same x.records.vote v.slot (Some v))
+      subst (λ (w : Vote C). Stands (acted i x (act.Votes w)) v) (sym (one_brought input u v m.0 came))
+      (put_same x.records.vote v.slot (Some v))
   act_stands x (act.Confirms to u) v came m low e = e
   act_stands x (act.Checkpoints floor) v came m low e = e
   act_stands x act.Trims v came m low e = rw (le-ltb v.slot x.records.floor (omega (arith, low))) e
@@ -78,7 +79,8 @@ module _ {C : Type 0} (f : Fleet C) (i : ℕ) (input : Input C) where
   lowest_before : (m n : ℕ) → m ≤ n → n ≡ 0 → m ≡ 0
   lowest_before m n le e = omega (arith, le, e)
 
-  done_stands : (x : Local C) (acts : List (Act C)) (v : Vote C) → Brings input (Accept v) → MayDo f i input x acts → (done i x acts).records.floor ≡ 0
+  done_stands : (x : Local C) (acts : List (Act C)) (v : Vote C) → Brings input (Accept v) → MayDo f i input x acts
+      → (done i x acts).records.floor ≡ 0
       → Stands x v → Stands (done i x acts) v
   done_stands x [] v came m low e = e
   done_stands x (a ∷ acts) v came m low e =
@@ -90,17 +92,20 @@ module _ {C : Type 0} (f : Fleet C) (i : ℕ) (input : Input C) where
   abbrev Casts : Local C → Local C → Vote C → Type 0
   Casts x y v = Contains x.records.writes (VoteWrite v) ⊎ (Brings input (Accept v) × Stands y v)
 
-  another_write : (ws : List (Write C)) (w : Write C) (v : Vote C) → (w ≡ VoteWrite v → ⊥) → Contains (ws ++ w ∷ []) (VoteWrite v) → Contains ws (VoteWrite v)
+  another_write : (ws : List (Write C)) (w : Write C) (v : Vote C) → (w ≡ VoteWrite v → ⊥) → Contains (ws ++ w ∷ []) (VoteWrite v)
+      → Contains ws (VoteWrite v)
   another_write ws w v apart c = elim (Contains-push_cases ws w (VoteWrite v) c) [ inl old ↦ old | inr new ↦ absurd (apart new) ]
 
-  act_casts : (x : Local C) (a : Act C) (v : Vote C) → MayAct f i input x a → Contains (acted i x a).records.writes (VoteWrite v) → Casts x (acted i x a) v
+  act_casts : (x : Local C) (a : Act C) (v : Vote C) → MayAct f i input x a → Contains (acted i x a).records.writes (VoteWrite v)
+      → Casts x (acted i x a) v
   act_casts x (act.Promises b) v m c = inl (another_write x.records.writes (PromiseWrite b) v (λ e. cc) c)
   act_casts x (act.Tells to b first last told) v m c = inl c
   act_casts x (act.Votes u) v m c = elim (Contains-push_cases x.records.writes (VoteWrite u) (VoteWrite v) c) [
     | inl old ↦ inl old
     | inr new ↦
         let same : u ≡ v = cc in
-        inr (subst (λ (w : Vote C). Brings input (Accept w) × Stands (acted i x (act.Votes u)) w) same (m.0, put_same x.records.vote u.slot (Some u)))
+        inr (subst (λ (w : Vote C). Brings input (Accept w) × Stands (acted i x (act.Votes u)) w) same
+        (m.0, put_same x.records.vote u.slot (Some u)))
   ]
   act_casts x (act.Confirms to u) v m c = inl c
   act_casts x (act.Checkpoints floor) v m c = inl (another_write x.records.writes (CheckpointWrite floor) v (λ e. cc) c)
@@ -134,8 +139,10 @@ module _ {C : Type 0} (f : Fleet C) (i : ℕ) (input : Input C) where
   ]
 
   -- what was voted before stays so; a vote that is new stands, where no checkpoint was written
-  pub does_votes : (x y : Local C) → Does f i input x y → (v : Vote C) → Contains x.records.writes (VoteWrite v) → Contains y.records.writes (VoteWrite v)
-  does_votes x y d v c = subst (λ (z : Local C). Contains z.records.writes (VoteWrite v)) (sym d.leaves) (done_writes i x d.acts (VoteWrite v) c)
+  pub does_votes : (x y : Local C) → Does f i input x y → (v : Vote C) → Contains x.records.writes (VoteWrite v)
+      → Contains y.records.writes (VoteWrite v)
+  does_votes x y d v c = subst (λ (z : Local C). Contains z.records.writes (VoteWrite v)) (sym d.leaves)
+      (done_writes i x d.acts (VoteWrite v) c)
 
   pub does_casts : (x y : Local C) → Does f i input x y → y.records.floor ≡ 0 → (v : Vote C) → Contains y.records.writes (VoteWrite v)
       → Contains x.records.writes (VoteWrite v) ⊎ (y.records.vote v.slot ≡ Some v)

@@ -1,5 +1,7 @@
 -- At most one armed fault comes in a step, so a u64 counts them as long as it counts the steps.
-use Rattle.std.proofs.Common.{◌≡◌, ◌⊎◌, ℕ, ◌+◌, ◌^◌, ◌<◌, ◌≤◌, inl, inr, List, [], ◌∷◌, ◌++◌, length, slice_get, slice_set, Bool, true, false, Option, Some, None, IsSome, IfSome, IfOk, IfErr, OnOk, OnErr, IsErrOf, Result, Ok, Err, MatchBool, refl, sym, ap, subst, ◌∙◌, arith, rules, length-append}
+use Rattle.std.proofs.Common.{◌≡◌, ◌⊎◌, ℕ, ◌+◌, ◌^◌, ◌<◌, ◌≤◌, inl, inr, List, [], ◌∷◌, ◌++◌, length, slice_get, slice_set, Bool, true}
+use Rattle.std.proofs.Common.{false, Option, Some, None, IsSome, IfSome, IfOk, IfErr, OnOk, OnErr, IsErrOf, Result, Ok, Err, MatchBool}
+use Rattle.std.proofs.Common.{refl, sym, ap, subst, ◌∙◌, arith, rules, length-append}
 use Rattle.stable.specs.Script.{Script, counted}
 use Rattle.stable.specs.ScriptLaws.{read_fails_fired}
 use Rattle.stable.specs.declared.key.Key.{Key}
@@ -28,7 +30,8 @@ use Rattle.node.specs.Nodes.{NodeState, NodeSteps, TakesInput, RefusesInput, Sto
 use Rattle.node.specs.Outputs.{Response}
 use Rattle.world.specs.Reaching.{AreHonest}
 use Rattle.world.specs.Safety.{honest_inside}
-use Rattle.world.specs.Worlds.{WorldState, run_of, TakesAt, ReceivesAt, DeliversFrame, Steps, recorded, with_node, with_outcome, with_submission, answered, without_wait}
+use Rattle.world.specs.Worlds.{WorldState, run_of, TakesAt, ReceivesAt, DeliversFrame, Steps, recorded, with_node, with_outcome}
+use Rattle.world.specs.Worlds.{with_submission, answered, without_wait}
 use Rattle.world.specs.Rounds.{RoundEnds, IsPartOfRound}
 use Rattle.world.specs.declared.round_end.RoundEnd.{RoundEnd}
 use Rattle.world.proofs.FleetSteps.{set_at}
@@ -75,7 +78,8 @@ counts_on most (Some n) after (inr e) small h =
 
 module _ {S : Type 0} where
   -- one node is another, or none is
-  one_counted : (most : ℕ) (nodes : List (NodeState (Script S))) (i : ℕ) (before after : NodeState (Script S)) → slice_get nodes i ≡ Some before
+  one_counted : (most : ℕ) (nodes : List (NodeState (Script S))) (i : ℕ) (before after : NodeState (Script S))
+      → slice_get nodes i ≡ Some before
       → CountsOn before.storage after.storage → most + 1 < 2 ^ 64 → AreCounted most nodes → AreCounted (most + 1) (slice_set nodes i after)
   one_counted most nodes i before after here on small h j n e = elim (set_at nodes i j after n e) [
     | inl this ↦ subst (λ (x : NodeState (Script S)). IsCounted (most + 1) x.storage.fired) this.1
@@ -112,14 +116,16 @@ module _ {S : Type 0} where
   changed_none : (old new : WorldState S) → new.nodes ≡ old.nodes → length new.outcomes ≡ length old.outcomes + 1 → CountsStep old new
   changed_none old new nodes more = record {
     more = more;
-    counts = λ most small h. subst (λ (x : List (NodeState (Script S))). AreCounted (most + 1) x) (sym nodes) (none_counted most old.nodes small h);
+    counts = λ most small h. subst (λ (x : List (NodeState (Script S))). AreCounted (most + 1) x) (sym nodes)
+        (none_counted most old.nodes small h);
   }
 
   -- an outcome is listed
   abbrev outcome_count : WorldState S → ℕ
   outcome_count w = length w.outcomes
 
-  one_outcome : (outcomes : List Outcome) (o : Outcome) (w : WorldState S) → w.outcomes ≡ outcomes ++ o ∷ [] → outcome_count w ≡ length outcomes + 1
+  one_outcome : (outcomes : List Outcome) (o : Outcome) (w : WorldState S) → w.outcomes ≡ outcomes ++ o ∷ []
+      → outcome_count w ≡ length outcomes + 1
   one_outcome outcomes o w e = ap length e ∙ length-append outcomes (o ∷ [])
 
   recorded_nodes : (w : WorldState S) (node : ℕ) (r : Result Response NodeFault) → (recorded w node r).nodes ≡ w.nodes

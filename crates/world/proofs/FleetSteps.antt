@@ -1,5 +1,6 @@
 -- Every step leaves the nodes their names, and all frames between them.
-use Rattle.std.proofs.Common.{◌≡◌, ℕ, zero, suc, ◌<◌, ◌⊎◌, inl, inr, List, [], ◌∷◌, ◌++◌, All, Bool, true, false, length, slice_get, slice_set, map, Option, Some, None, IsSome, IfOk, Result, Ok, Err, refl, sym, ap, subst, ◌∙◌, arith}
+use Rattle.std.proofs.Common.{◌≡◌, ℕ, zero, suc, ◌<◌, ◌⊎◌, inl, inr, List, [], ◌∷◌, ◌++◌, All, Bool, true, false, length, slice_get}
+use Rattle.std.proofs.Common.{slice_set, map, Option, Some, None, IsSome, IfOk, Result, Ok, Err, refl, sym, ap, subst, ◌∙◌, arith}
 use Rattle.std.proofs.Math.ListN.{get_or, length-set}
 use Rattle.std.proofs.lemmas.List.{length-map}
 use Rattle.std.proofs.lemmas.List.Elements.{All-append}
@@ -22,7 +23,8 @@ use Rattle.node.specs.Nodes.{NodeState, NodeSteps, state_of}
 use Rattle.node.specs.Outputs.{Response}
 use Rattle.node.specs.Sending.{IsBetween}
 use Rattle.world.specs.Fleets.{IsFleet}
-use Rattle.world.specs.Worlds.{WorldState, TakesAt, ReceivesAt, DeliversFrame, Steps, with_node, recorded, with_submission, answered, without_wait}
+use Rattle.world.specs.Worlds.{WorldState, TakesAt, ReceivesAt, DeliversFrame, Steps, with_node, recorded, with_submission, answered}
+use Rattle.world.specs.Worlds.{without_wait}
 use Rattle.world.proofs.WorldLemmas.{lent_at, shown_set}
 use Rattle.world.proofs.FleetLemmas.{NodeLeaves, node_leaves, restart_leaves}
 

@@ -9,7 +9,8 @@ use Rattle.world.specs.Worlds.{WorldState, DeliversFrame}
 
 module _ {S : Type 0} (storages : Ghosts (Script S)) where
   -- the same world, and the same number
-  pub as_delivered : (old now seen : WorldState S) (n k : ℕ) → Delivers storages old n now → seen ≡ now → n ≡ k → Delivers storages old k seen
+  pub as_delivered : (old now seen : WorldState S) (n k : ℕ) → Delivers storages old n now → seen ≡ now → n ≡ k
+      → Delivers storages old k seen
   as_delivered old now seen n k delivers same count =
       subst (λ m. Delivers storages old m seen) count (subst (λ (w : WorldState S). Delivers storages old n w) (sym same) delivers)
 

@@ -1,5 +1,6 @@
 -- Frames are never taken back: whatever is done in a world, those that were sent stay where they are.
-use Rattle.std.proofs.Common.{◌≡◌, ◌⊎◌, ℕ, List, ◌++◌, append_assoc, append-nil, Bool, true, false, Option, Some, None, IsSome, IfOk, IfErr, IsErrOf, Result, Ok, Err, refl, sym, ap, subst, ◌∙◌, inl, inr}
+use Rattle.std.proofs.Common.{◌≡◌, ◌⊎◌, ℕ, List, ◌++◌, append_assoc, append-nil, Bool, true, false, Option, Some, None, IsSome, IfOk, IfErr}
+use Rattle.std.proofs.Common.{IsErrOf, Result, Ok, Err, refl, sym, ap, subst, ◌∙◌, inl, inr}
 use Rattle.stable.specs.Script.{Script}
 use Rattle.stable.specs.declared.stable.Stable.{Ghosts}
 use Rattle.sessions.specs.Asked.{Asked}
@@ -17,7 +18,8 @@ use Rattle.world.specs.declared.fault.WorldFault.TheVariants as world_fault
 use Rattle.world.specs.declared.lists.Outcome.{Outcome}
 use Rattle.world.specs.declared.round_end.RoundEnd.{RoundEnd}
 use Rattle.world.specs.Rounds.{RoundEnds, IsPartOfRound}
-use Rattle.world.specs.Worlds.{WorldState, TakesAt, SubmitsAt, ReceivesAt, DeliversFrame, Steps, with_node, with_outcome, recorded, with_submission, answered, without_wait}
+use Rattle.world.specs.Worlds.{WorldState, TakesAt, SubmitsAt, ReceivesAt, DeliversFrame, Steps, with_node, with_outcome, recorded}
+use Rattle.world.specs.Worlds.{with_submission, answered, without_wait}
 use Rattle.world.proofs.RoundLemmas.{call_keeps}
 
 -- the frames of a world begin with these
@@ -44,7 +46,8 @@ module _ {S : Type 0} (frames : List Envelope) where
   record_grows w node (Ok said) h = longer (recorded w node (Ok said)) w said.sends refl h
   record_grows w node (Err f) h = same (recorded w node (Err f)) w refl h
 
-  submission_grows : (w : WorldState S) (taken : Bool) (node : ℕ) (r : Asked) → BeginWith frames w → BeginWith frames (with_submission w taken node r)
+  submission_grows : (w : WorldState S) (taken : Bool) (node : ℕ) (r : Asked) → BeginWith frames w
+      → BeginWith frames (with_submission w taken node r)
   submission_grows w true node r h = same (with_submission w true node r) w refl h
   submission_grows w false node r h = h
 
@@ -70,9 +73,11 @@ module _ {S : Type 0} (storages : Ghosts (Script S)) (frames : List Envelope) wh
   pub delivery_grows : (old : WorldState S) (k : ℕ) (new : WorldState S) → DeliversFrame storages old k new → BeginWith frames old
       → BeginWith frames new
   delivery_grows old k new h before =
-      receiving_grows (without_wait old k) h.frame new h.receives.receiver.up h.receives refl (same frames (without_wait old k) old refl before)
+      receiving_grows (without_wait old k) h.frame new h.receives.receiver.up h.receives refl
+      (same frames (without_wait old k) old refl before)
 
-  pub step_grows : (old : WorldState S) (e : Event) (new : WorldState S) → Steps storages old e new → BeginWith frames old → BeginWith frames new
+  pub step_grows : (old : WorldState S) (e : Event) (new : WorldState S) → Steps storages old e new → BeginWith frames old
+      → BeginWith frames new
   step_grows old (event.Submit node client number op) new h before =
       another frames new (with_submission h.between h.taken node (record { client = client; number = number; op = op })) h.leaves
       (submission_grows frames h.between h.taken node (record { client = client; number = number; op = op })

@@ -1,5 +1,7 @@
 -- What a node makes of an input that it takes, and frames that are handed on one after the other.
-use Rattle.std.proofs.Common.{◌≡◌, ◌≢◌, ◌⊎◌, inl, inr, ℕ, zero, suc, ◌-◌, ◌<◌, ◌≤◌, List, [], ◌∷◌, ◌++◌, length, take, drop, slice_get, slice_set, Contains, Bool, true, false, Option, Some, None, IsSome, IfSome, MatchBool, Result, Ok, Err, refl, sym, ap, subst, ◌∙◌, arith, rules}
+use Rattle.std.proofs.Common.{◌≡◌, ◌≢◌, ◌⊎◌, inl, inr, ℕ, zero, suc, ◌-◌, ◌<◌, ◌≤◌, List, [], ◌∷◌, ◌++◌, length, take, drop, slice_get}
+use Rattle.std.proofs.Common.{slice_set, Contains, Bool, true, false, Option, Some, None, IsSome, IfSome, MatchBool, Result, Ok, Err, refl}
+use Rattle.std.proofs.Common.{sym, ap, subst, ◌∙◌, arith, rules}
 use Rattle.std.specs.Prelude.{is_some}
 use Rattle.std.proofs.Math.Seq.{take-length}
 use Rattle.std.proofs.lemmas.List.{length-drop, append_assoc}
@@ -108,7 +110,8 @@ module _ {S : Type 0} (storages : Ghosts (Script S)) (old : WorldState S) (node 
       }
 
   -- what a node that is up, and that takes the input, makes of it
-  pub took_of : (before after : NodeState (Script S)) (m : Mind) (said : Response) (new : WorldState S) → slice_get old.nodes node ≡ Some before
+  pub took_of : (before after : NodeState (Script S)) (m : Mind) (said : Response) (new : WorldState S)
+      → slice_get old.nodes node ≡ Some before
       → before.up ≡ Some m → NodeSteps storages before i (Ok said) after → new ≡ with_response (with_node old node after) node said
       → TookAt old node i new
   took_of before after m said new here up steps leaves =
@@ -148,7 +151,8 @@ module _ {S : Type 0} (storages : Ghosts (Script S)) where
       → is_up new e.to ≡ true → Took old e new
   took_at old e receiver m b new here up h stays =
       let same : receiver ≡ h.before = same_Some receiver h.before (sym here ∙ h.here) in
-      took_result old e h.before h.after m h.result new h.here (sym (ap (λ (n : NodeState (Script S)). n.up) same) ∙ up) h.steps h.leaves stays
+      took_result old e h.before h.after m h.result new h.here (sym (ap (λ (n : NodeState (Script S)). n.up) same)
+      ∙ up) h.steps h.leaves stays
 
   took_up : (old : WorldState S) (e : Envelope) (new : WorldState S) (o : Option Mind) (h : ReceivesAt storages old e new)
       → h.receiver.up ≡ o → is_up new e.to ≡ true → Took old e new
@@ -219,8 +223,11 @@ module _ {S : Type 0} (receivers : List ℕ) where
   frames_more _ w new (ends w_) = ([], search rules)
   frames_more _ w new (skips e es w_ new_ not h) = frames_more es w new h
   frames_more _ w new (takes e es w_ mid new_ among took h) =
-      let rest = frames_more es mid new h in
-      (took.said.sends ++ rest.0, rest.1 ∙ (ap (λ (fs : List Envelope). fs ++ rest.0) took.frames_ ∙ append_assoc w.frames took.said.sends rest.0))
+      let rest = frames_more es mid new h in (
+        took.said.sends ++ rest.0,
+        rest.1 ∙ (ap (λ (fs : List Envelope). fs ++ rest.0) took.frames_
+            ∙ append_assoc w.frames took.said.sends rest.0),
+      )
 
 module _ {S : Type 0} (storages : Ghosts (Script S)) (receivers : List ℕ) (old : WorldState S) (first : ℕ) where
   not_before : (k : ℕ) (new : WorldState S) → DeliversTo storages receivers old first k new → first ≤ k
@@ -290,7 +297,8 @@ module _ {S : Type 0} (nodes : ℕ) where
   abbrev pub AreMembers : WorldState S → Type 0
   AreMembers w = (j : ℕ) (m : Mind) → mind_at w j ≡ Some m → IsMindOf j nodes m
 
-  pub stay_members : (old : WorldState S) (node : ℕ) (i : Input) (new : WorldState S) → TookAt old node i new → AreMembers old → AreMembers new
+  pub stay_members : (old : WorldState S) (node : ℕ) (i : Input) (new : WorldState S) → TookAt old node i new → AreMembers old
+      → AreMembers new
   stay_members old node i new took known j m here = elim (same_or_not j node) [
     | inl same ↦
         let is : took.mind_then ≡ m =

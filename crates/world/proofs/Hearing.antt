@@ -1,5 +1,6 @@
 -- A node hears of a majority's votes for one command, and learns it.
-use Rattle.std.proofs.Common.{◌≡◌, ◌≢◌, ◌⊎◌, ℕ, suc, ◌<◌, ◌≤◌, ◌&&◌, inl, inr, List, length, nat_eq, Bool, true, false, Option, Some, None, AllPairs, Contains, refl, sym, ap, subst, ◌∙◌, arith}
+use Rattle.std.proofs.Common.{◌≡◌, ◌≢◌, ◌⊎◌, ℕ, suc, ◌<◌, ◌≤◌, ◌&&◌, inl, inr, List, length, nat_eq, Bool, true, false, Option, Some, None}
+use Rattle.std.proofs.Common.{AllPairs, Contains, refl, sym, ap, subst, ◌∙◌, arith}
 use Rattle.std.proofs.lemmas.Bool.{cond-true, cond-false, cases_lt, and_from, and_right, eq-eqb, ne_eqb}
 use Rattle.synod.specs.Majorities.{IsMajority, Majority, counted}
 use Rattle.synod.specs.declared.ballot.Ballot.{Ballot}

@@ -1,5 +1,6 @@
 -- Whatever was learnt was learnt at a slot of the log.
-use Rattle.std.proofs.Common.{◌≡◌, ◌<◌, ℕ, inl, inr, List, [], ◌++◌, Bool, true, false, Option, Some, None, IsSome, IfSome, IfOk, Contains, Result, Ok, Err, refl, sym, ap, ◌∙◌, subst}
+use Rattle.std.proofs.Common.{◌≡◌, ◌<◌, ℕ, inl, inr, List, [], ◌++◌, Bool, true, false, Option, Some, None, IsSome, IfSome, IfOk, Contains}
+use Rattle.std.proofs.Common.{Result, Ok, Err, refl, sym, ap, ◌∙◌, subst}
 use Rattle.std.proofs.lemmas.List.Elements.{Contains-append_cases, Contains-push_cases}
 use Rattle.stable.specs.Script.{Script}
 use Rattle.stable.specs.declared.stable.Stable.{Ghosts}
@@ -34,10 +35,11 @@ learnt_more learnt node None within log t c = elim (Contains-append_cases learnt
   | inl before ↦ log t before
   | inr none ↦ absurd (none_in t none)
 ]
-learnt_more learnt node (Some e) within log t c = elim (Contains-push_cases learnt (record { node = node; slot = e.slot; command = e.command }) t c) [
-  | inl before ↦ log t before
-  | inr same ↦ subst (λ (x : Learnt). x.slot < SLOTS) same (within e refl)
-]
+learnt_more learnt node (Some e) within log t c =
+    elim (Contains-push_cases learnt (record { node = node; slot = e.slot; command = e.command }) t c) [
+      | inl before ↦ log t before
+      | inr same ↦ subst (λ (x : Learnt). x.slot < SLOTS) same (within e refl)
+    ]
 
 -- nothing is learnt yet
 pub start_in_log : (learnt : List Learnt) → learnt ≡ [] → LearntInLog learnt
@@ -84,7 +86,8 @@ module _ {S : Type 0} (storages : Ghosts (Script S)) where
       let takes = h.taken (subst (λ (o : Option Mind). IsSome o) (sym up) refl) in
       takes_in_log old frame.to (input.Message frame) takes.0 new takes.1 fits.message
 
-  answered_learnt : (w : WorldState S) (node : ℕ) (query : Query) (r : Result (ℕ × List ℕ) NodeFault) → (answered w node query r).learnt ≡ w.learnt
+  answered_learnt : (w : WorldState S) (node : ℕ) (query : Query) (r : Result (ℕ × List ℕ) NodeFault)
+      → (answered w node query r).learnt ≡ w.learnt
   answered_learnt w node query (Ok answer) = refl
   answered_learnt w node query (Err f) = refl
 

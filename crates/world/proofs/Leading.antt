@@ -1,5 +1,7 @@
 -- A node gathers promises under its ballot, and leads when a majority has promised: it then proposes something for its position.
-use Rattle.std.proofs.Common.{◌≡◌, ◌≢◌, ◌⊎◌, ℕ, zero, suc, ◌+◌, ◌-◌, ◌*◌, ◌<◌, ◌≤◌, ◌==◌, ◌&&◌, ◌||◌, inl, inr, List, [], ◌∷◌, ◌++◌, length, nat_lt, nat_le, not, Bool, true, false, cond, Option, Some, None, is_some, All, AllPairs, Contains, refl, sym, ap, subst, ◌∙◌, arith, append_assoc, append-nil}
+use Rattle.std.proofs.Common.{◌≡◌, ◌≢◌, ◌⊎◌, ℕ, zero, suc, ◌+◌, ◌-◌, ◌*◌, ◌<◌, ◌≤◌, ◌==◌, ◌&&◌, ◌||◌, inl, inr, List, [], ◌∷◌, ◌++◌, length}
+use Rattle.std.proofs.Common.{nat_lt, nat_le, not, Bool, true, false, cond, Option, Some, None, is_some, All, AllPairs, Contains, refl, sym}
+use Rattle.std.proofs.Common.{ap, subst, ◌∙◌, arith, append_assoc, append-nil}
 use Rattle.std.specs.Prelude.{⊤, filter}
 use Rattle.std.specs.List.{list_any}
 use Rattle.std.proofs.lemmas.Bool.{cond_both, cond-true, cond-false, and_from, and_left, not_from_false, eq-eqb, lt-ltb, le-ltb}
@@ -22,7 +24,9 @@ use Rattle.wire.specs.Promises.{Promised}
 use Rattle.wire.specs.Same.{same_ballot, same_ballot_Decides}
 use Rattle.wire.specs.declared.frames.envelope.Envelope.{Envelope}
 use Rattle.wire.specs.declared.frames.message.Message.TheVariants.{Prepare, Accept}
-use Rattle.proposer.specs.Campaigning.{is_most, Campaigning, Filling, is_at, accept, choice, command_or, free_choice, first_free, is_told_after, told_at, noop_where, request_or, with_proposal, proposing, stepped, going_on, filled, window_limit, window_filled, counts, with_promise, closed_below, prepare}
+use Rattle.proposer.specs.Campaigning.{is_most, Campaigning, Filling, is_at, accept, choice, command_or, free_choice, first_free}
+use Rattle.proposer.specs.Campaigning.{is_told_after, told_at, noop_where, request_or, with_proposal, proposing, stepped, going_on, filled}
+use Rattle.proposer.specs.Campaigning.{window_limit, window_filled, counts, with_promise, closed_below, prepare}
 use Rattle.proposer.specs.declared.outgoing.Outgoing.{Outgoing}
 use Rattle.proposer.specs.declared.window.Proposal.{Proposal}
 use Rattle.proposer.specs.declared.window.TheConstants.{MOST_OPEN}

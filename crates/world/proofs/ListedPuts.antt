@@ -1,5 +1,6 @@
 -- What calls make of a storage's list of writes.
-use Rattle.std.proofs.Common.{◌≡◌, ◌⊎◌, ℕ, List, [], ◌∷◌, ◌++◌, Bool, true, false, IsTrue, Option, Some, None, Contains, inl, inr, refl, sym, ap, subst, ◌∙◌, rules, eq-eqb}
+use Rattle.std.proofs.Common.{◌≡◌, ◌⊎◌, ℕ, List, [], ◌∷◌, ◌++◌, Bool, true, false, IsTrue, Option, Some, None, Contains, inl, inr, refl}
+use Rattle.std.proofs.Common.{sym, ap, subst, ◌∙◌, rules, eq-eqb}
 use Rattle.std.proofs.lemmas.Bool.Decides.{eqb_tells}
 use Rattle.std.proofs.lemmas.List.Elements.{Contains-append_left, Contains-push, Contains-push_cases}
 use Rattle.std.proofs.lemmas.Option.{same_Some, none-some}
@@ -40,7 +41,8 @@ module _ {S : Type 0} (contents : Script S → Records) where
     shown = λ put w shows. s.to w (put w (subst (λ (r : Records). Shows r w) s.records shows));
   }
 
-  pub took_over : (a b : Script S) → contents b ≡ contents a → b.writes ≡ a.writes → b.unsure ≡ a.unsure → (w : Write) → TookEffect contents a w
+  pub took_over : (a b : Script S) → contents b ≡ contents a → b.writes ≡ a.writes → b.unsure ≡ a.unsure → (w : Write)
+      → TookEffect contents a w
       → TookEffect contents b w
   took_over a b e list unsure w (inl c) = inl (subst (λ (ws : List Write). Contains ws w) (sym list) c)
   took_over a b e list unsure w (inr t) = inr (unsure ∙ t.0, subst (λ (r : Records). Shows r w) (sym e) t.1)
@@ -70,13 +72,15 @@ noted_cases false ws (Some u) w c = inl c
 
 module _ {S : Type 0} {contents : S → Records} {IsHonest : S → Type 0} (a b : Script S) (same : contents b.inner ≡ contents a.inner)
     (honest : IsHonest b.inner) where
-  settled_to : Settles contents IsHonest a b → (w : Write) → TookEffect (contents_inside contents) a w → TookEffect (contents_inside contents) b w
+  settled_to : Settles contents IsHonest a b → (w : Write) → TookEffect (contents_inside contents) a w
+      → TookEffect (contents_inside contents) b w
   settled_to s w (inl c) = inl (subst (λ (ws : List Write). Contains ws w) (sym s.writes) (noted_keeps s.found a.writes a.unsure w c))
   settled_to s w (inr t) =
       let list : b.writes ≡ noted s.found a.writes (Some w) = s.writes ∙ ap (noted s.found a.writes) t.0 in
       inl (subst (λ (ws : List Write). Contains ws w) (sym list) (noted_finds s.found a.writes w ((s.shown honest w t.0).1 t.1)))
 
-  settled_from : Settles contents IsHonest a b → (w : Write) → TookEffect (contents_inside contents) b w → TookEffect (contents_inside contents) a w
+  settled_from : Settles contents IsHonest a b → (w : Write) → TookEffect (contents_inside contents) b w
+      → TookEffect (contents_inside contents) a w
   settled_from s w (inl c) = elim (noted_cases s.found a.writes a.unsure w (subst (λ (ws : List Write). Contains ws w) s.writes c)) [
     | inl old ↦ inl old
     | inr t ↦ inr (t.0, (s.shown honest w t.0).0 t.1)
@@ -153,8 +157,10 @@ module _ {S : Type 0} (contents : S → Records) where
 pub record KeepsPuts {S : Type 0} (storages : Ghosts (Script S)) : Type 0 where
   pub reads_on : (a b : Script S) → storages.reads a b → storages.IsHonest b → GoesOn storages.contents a b
   pub read_fails_on : (a b : Script S) → storages.read_fails a b → storages.IsHonest b → GoesOn storages.contents a b
-  pub puts_on : (a b : Script S) (key : Key) (bytes : List ℕ) → storages.puts a key bytes b → storages.IsHonest b → GoesOn storages.contents a b
-  pub fails_on : (a b : Script S) (key : Key) (bytes : List ℕ) → storages.fails a key bytes b → storages.IsHonest b → GoesOn storages.contents a b
+  pub puts_on : (a b : Script S) (key : Key) (bytes : List ℕ) → storages.puts a key bytes b → storages.IsHonest b
+      → GoesOn storages.contents a b
+  pub fails_on : (a b : Script S) (key : Key) (bytes : List ℕ) → storages.fails a key bytes b → storages.IsHonest b
+      → GoesOn storages.contents a b
   -- whether a put is unsure
   pub reads_unsure : (a b : Script S) → storages.reads a b → (b.unsure ≡ None) ⊎ ((b.writes ≡ a.writes) × (b.unsure ≡ a.unsure))
   pub read_fails_unsure : (a b : Script S) → storages.read_fails a b → (b.unsure ≡ None) ⊎ ((b.writes ≡ a.writes) × (b.unsure ≡ a.unsure))
@@ -176,11 +182,13 @@ module _ {S : Type 0} (storages : Ghosts S) (laws : IsLawful storages) where
   read_failed_same a b f honest =
       let before : storages.IsHonest f.between.inner = laws.read_fails_honest f.between.inner b.inner f.inner honest in
       let s : Same a f.between = read_same a f.between f.before before in
-      let t : Same f.between b = same_lists (contents_inside storages.contents) f.between b (laws.read_fails_contents f.between.inner b.inner f.inner honest)
+      let t : Same f.between b = same_lists (contents_inside storages.contents) f.between b
+      (laws.read_fails_contents f.between.inner b.inner f.inner honest)
       (ap (λ (x : Script S). x.writes) f.after) (ap (λ (x : Script S). x.unsure) f.after) in
       record { records = t.records ∙ s.records; to = λ w x. t.to w (s.to w x); from = λ w x. s.from w (t.from w x) }
 
-  adds_on : (a between b : Script S) (key : Key) (bytes : List ℕ) → (scripted storages).reads a between → Adds storages.puts between key bytes b
+  adds_on : (a between b : Script S) (key : Key) (bytes : List ℕ) → (scripted storages).reads a between
+      → Adds storages.puts between key bytes b
       → storages.IsHonest b.inner → Goes a b
   adds_on a between b key bytes before adds honest =
       let was : storages.IsHonest between.inner = laws.puts_honest between.inner b.inner key bytes adds.inner honest in
@@ -191,21 +199,27 @@ module _ {S : Type 0} (storages : Ghosts S) (laws : IsLawful storages) where
   fails_old_on a b f honest =
       let inner : b.inner ≡ f.between.inner = ap (λ (x : Script S). x.inner) f.after in
       let s : Same a f.between = read_same a f.between f.before (subst storages.IsHonest inner honest) in
-      same_then (contents_inside storages.contents) a f.between b s (same_goes (contents_inside storages.contents) f.between b (same_lists (contents_inside storages.contents) f.between b (ap storages.contents inner) (ap (λ (x : Script S). x.writes) f.after)
+      same_then (contents_inside storages.contents) a f.between b s
+      (same_goes (contents_inside storages.contents) f.between b
+      (same_lists (contents_inside storages.contents) f.between b (ap storages.contents inner)
+      (ap (λ (x : Script S). x.writes) f.after)
       (ap (λ (x : Script S). x.unsure) f.after)))
 
-  fails_inside_on : (a b : Script S) (key : Key) (bytes : List ℕ) → FailsInside storages.contents storages.IsHonest storages.reads storages.fails a key bytes b → storages.IsHonest b.inner → Goes a b
+  fails_inside_on : (a b : Script S) (key : Key) (bytes : List ℕ)
+      → FailsInside storages.contents storages.IsHonest storages.reads storages.fails a key bytes b → storages.IsHonest b.inner → Goes a b
   fails_inside_on a b key bytes f honest =
       let was : storages.IsHonest f.between.inner = laws.fails_honest f.between.inner b.inner key bytes f.inner honest in
       same_then (contents_inside storages.contents) a f.between b (read_same a f.between f.before was)
       (subst (λ (x : Script S). Goes f.between x) (sym f.after)
-      (unsure_then storages.contents f.between b.inner key bytes f.settled (laws.fails_contents f.between.inner b.inner key bytes f.inner honest)))
+      (unsure_then storages.contents f.between b.inner key bytes f.settled
+      (laws.fails_contents f.between.inner b.inner key bytes f.inner honest)))
 
   failed_on : (a b : Script S) (key : Key) (bytes : List ℕ) → (scripted storages).fails a key bytes b → storages.IsHonest b.inner → Goes a b
   failed_on a b key bytes (inl f) honest = fails_old_on a b f honest
   failed_on a b key bytes (inr (inl f)) honest = adds_on a f.between b key bytes f.before f.adds honest
   failed_on a b key bytes (inr (inr (inl f))) honest = fails_inside_on a b key bytes f honest
-  failed_on a b key bytes (inr (inr (inr f))) honest = same_goes (contents_inside storages.contents) a b (read_failed_same a b f.inner honest)
+  failed_on a b key bytes (inr (inr (inr f))) honest = same_goes (contents_inside storages.contents) a b
+      (read_failed_same a b f.inner honest)
 
   read_unsure : (a b : Script S) → ((b.writes ≡ a.writes) × (b.unsure ≡ a.unsure)) ⊎ Settles storages.contents storages.IsHonest a b
       → (b.unsure ≡ None) ⊎ ((b.writes ≡ a.writes) × (b.unsure ≡ a.unsure))
@@ -226,7 +240,8 @@ module _ {S : Type 0} (storages : Ghosts S) (laws : IsLawful storages) where
       → (b.unsure ≡ None) ⊎ (b.writes ≡ a.writes)
   failed_unsure a b key bytes (inl f) sure = inl (ap (λ (x : Script S). x.unsure) f.after ∙ (reads_listed a f.between sure f.before).1)
   failed_unsure a b key bytes (inr (inl f)) sure = inl f.adds.unsure
-  failed_unsure a b key bytes (inr (inr (inl f))) sure = inr (ap (λ (x : Script S). x.writes) f.after ∙ (reads_listed a f.between sure f.before).0)
+  failed_unsure a b key bytes (inr (inr (inl f))) sure = inr (ap (λ (x : Script S). x.writes) f.after
+      ∙ (reads_listed a f.between sure f.before).0)
   failed_unsure a b key bytes (inr (inr (inr f))) sure = elim (read_failed_unsure a b f.inner) [ inl now ↦ inl now | inr same ↦ inr same.0 ]
 
   pub script_puts : KeepsPuts (scripted storages)

@@ -1,5 +1,6 @@
 -- A node's next ballot never falls while it stays up.
-use Rattle.std.proofs.Common.{◌≡◌, ◌≢◌, inl, inr, ℕ, ◌+◌, List, slice_get, slice_set, Bool, true, false, Option, Some, None, IsSome, IfSome, MatchBool, Result, Ok, Err, refl, sym, ap, subst, ◌∙◌, arith}
+use Rattle.std.proofs.Common.{◌≡◌, ◌≢◌, inl, inr, ℕ, ◌+◌, List, slice_get, slice_set, Bool, true, false, Option, Some, None, IsSome, IfSome}
+use Rattle.std.proofs.Common.{MatchBool, Result, Ok, Err, refl, sym, ap, subst, ◌∙◌, arith}
 use Rattle.std.specs.Prelude.{max}
 use Rattle.stable.specs.Script.{Script}
 use Rattle.stable.specs.declared.stable.Stable.{Ghosts}
@@ -56,7 +57,8 @@ module _ {S : Type 0} where
   module _ (storages : Ghosts (Script S)) where
     -- ---- one node takes an input, refuses it or goes down
     failed_grows : (n m : NodeState (Script S)) (x : Mind) (i : Input) (f : NodeFault) (b : Bool) (before after : Mind)
-        → MatchBool b (StopsOnInput storages n x i f m) (RefusesInput n x i f m) → n.up ≡ Some before → m.up ≡ Some after → Grows before after
+        → MatchBool b (StopsOnInput storages n x i f m) (RefusesInput n x i f m) → n.up ≡ Some before → m.up ≡ Some after
+        → Grows before after
     failed_grows n m x i f true before after h here there =
         let down : m.up ≡ None = ap (λ (k : NodeState (Script S)). k.up) h.leaves in absurd (cc)
     failed_grows n m x i f false before after h here there =
@@ -89,7 +91,8 @@ module _ {S : Type 0} where
     submitted_nodes w true node r = refl
     submitted_nodes w false node r = refl
 
-    answered_nodes : (w : WorldState S) (node : ℕ) (query : Query) (r : Result (ℕ × List ℕ) NodeFault) → (answered w node query r).nodes ≡ w.nodes
+    answered_nodes : (w : WorldState S) (node : ℕ) (query : Query) (r : Result (ℕ × List ℕ) NodeFault)
+        → (answered w node query r).nodes ≡ w.nodes
     answered_nodes w node query (Ok told) = refl
     answered_nodes w node query (Err f) = refl
 

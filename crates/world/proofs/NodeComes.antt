@@ -1,5 +1,6 @@
 -- Where a node comes to in the protocol, and what its list of writes tells there.
-use Rattle.std.proofs.Common.{◌≡◌, ◌⊎◌, ℕ, ◌<◌, ◌≤◌, inl, inr, List, [], map, Bool, true, false, Option, Some, None, IfSome, IsSome, IfOk, IfErr, OnOk, OnErr, Contains, MatchBool, Result, Ok, Err, refl, sym, ap, subst, ◌∙◌}
+use Rattle.std.proofs.Common.{◌≡◌, ◌⊎◌, ℕ, ◌<◌, ◌≤◌, inl, inr, List, [], map, Bool, true, false, Option, Some, None, IfSome, IsSome, IfOk}
+use Rattle.std.proofs.Common.{IfErr, OnOk, OnErr, Contains, MatchBool, Result, Ok, Err, refl, sym, ap, subst, ◌∙◌}
 use Rattle.std.specs.Prelude.{◌↔◌}
 use Rattle.std.proofs.lemmas.List.Elements.{Contains-append_left}
 use Rattle.std.proofs.lemmas.Option.{none-some}
@@ -76,12 +77,14 @@ there_placed w i y j other =
     ap (λ (r : synod_records.Records Command). begins r ((placed w i y).mind j)) (put_other w.past.records i y.records j other)
     ∙ ap (λ (m : synod_minds.Mind Command). begins (w.past.records j) m) (put_other w.mind i y.mind j other)
 
-come_longer : (w : synod_runs.World Command) (i : ℕ) (y : Local Command) (input : act.Input Command) → HasCome w.past input → HasCome (placed w i y).past input
+come_longer : (w : synod_runs.World Command) (i : ℕ) (y : Local Command) (input : act.Input Command) → HasCome w.past input
+    → HasCome (placed w i y).past input
 come_longer w i y (act.Came sender m) came = (came.0, Contains-append_left w.past.frames y.sent _ came.1)
 come_longer w i y act.Nothing came = tt
 
 module _ {S : Type 0} (contents : Script S → Records) (nodes : ℕ) (w : synod_runs.World Command) (i : ℕ) (y : Local Command) where
-  stays_standing : (j : ℕ) (x : Local Command) (n : NodeState (Script S)) → StandsAt contents nodes j w.past x n → StandsAt contents nodes j (placed w i y).past x n
+  stays_standing : (j : ℕ) (x : Local Command) (n : NodeState (Script S)) → StandsAt contents nodes j w.past x n
+      → StandsAt contents nodes j (placed w i y).past x n
   stays_standing j x n s = record {
     listed = s.listed;
     input = s.input;
@@ -124,7 +127,8 @@ module _ {S : Type 0} (contents : Script S → Records) (nodes : ℕ) (w : synod
       })
 
 -- a node that does nothing stands where it did
-pub stands_still : {S : Type 0} (contents : Script S → Records) (nodes : ℕ) (w : synod_runs.World Command) (i : ℕ) (n : NodeState (Script S))
+pub stands_still : {S : Type 0} (contents : Script S → Records) (nodes : ℕ) (w : synod_runs.World Command) (i : ℕ)
+    (n : NodeState (Script S))
     → StandsAt contents nodes i w.past (local_of w i) n
     → StandsAt contents nodes i (placed w i (local_of w i)).past (local_of (placed w i (local_of w i)) i) n
 stands_still contents nodes w i n s =
@@ -147,7 +151,8 @@ record WentDown {S : Type 0} (old new : NodeState (Script S)) (r : Result Respon
   down : new.up ≡ None
   list : new.storage.writes ≡ old.storage.writes
 
-record ListGoesOn {S : Type 0} (contents : Script S → Records) (old new : NodeState (Script S)) (r : Result Response NodeFault) : Type 0 where
+record ListGoesOn {S : Type 0} (contents : Script S → Records) (old new : NodeState (Script S))
+    (r : Result Response NodeFault) : Type 0 where
   goes : GoesOn contents old.storage new.storage
   sure : (new.storage.unsure ≡ None) ⊎ WentDown old new r
 
@@ -162,7 +167,8 @@ pub record NodeComes {S : Type 0} (contents : Script S → Records) (nodes i : �
   pub submitted : to.submitted ≡ submitted_of input result
 
 -- it may come there, and tells nothing on the way
-pub record ComesQuietly {S : Type 0} (contents : Script S → Records) (nodes i : ℕ) (w : synod_runs.World Command) (new : NodeState (Script S)) : Type 0 where
+pub record ComesQuietly {S : Type 0} (contents : Script S → Records) (nodes i : ℕ) (w : synod_runs.World Command)
+    (new : NodeState (Script S)) : Type 0 where
   pub input : act.Input Command
   pub came : HasCome w.past input
   pub to : Local Command
@@ -199,7 +205,8 @@ module _ {S : Type 0} {storages : Ghosts (Script S)} (laws : IsLawful storages)
   failed_list a b (Some w) h sure = lists.fails_unsure a b w.0 w.1 h sure
 
   -- ---- an input
-  stopped : (old new : NodeState (Script S)) (m : Mind) (input : Input) (f : NodeFault) → StorageStops storages old.storage m input f new.storage
+  stopped : (old new : NodeState (Script S)) (m : Mind) (input : Input) (f : NodeFault)
+      → StorageStops storages old.storage m input f new.storage
       → new.up ≡ None → old.storage.unsure ≡ None → storages.IsHonest new.storage → ListGoesOn storages.contents old new (Err f)
   stopped old new m input fault.Device h down sure honest = record {
     goes = failed_goes old.storage new.storage h.write h.leaves honest;
@@ -221,10 +228,15 @@ module _ {S : Type 0} {storages : Ghosts (Script S)} (laws : IsLawful storages)
   stopped old new m input fault.TooLong h down sure honest = absurd h
   stopped old new m input fault.Damaged h down sure honest = absurd h
 
-  unchanged : (old new : NodeState (Script S)) (r : Result Response NodeFault) → new ≡ old → old.storage.unsure ≡ None → ListGoesOn storages.contents old new r
+  unchanged : (old new : NodeState (Script S)) (r : Result Response NodeFault) → new ≡ old → old.storage.unsure ≡ None
+      → ListGoesOn storages.contents old new r
   unchanged old new r e sure =
       subst (λ (n : NodeState (Script S)). ListGoesOn storages.contents old n r) (sym e)
-      (record { goes = same_goes storages.contents old.storage old.storage (same_lists storages.contents old.storage old.storage refl refl refl); sure = inl sure })
+      (record {
+        goes = same_goes storages.contents old.storage old.storage
+            (same_lists storages.contents old.storage old.storage refl refl refl);
+        sure = inl sure;
+      })
 
   list_refused : (old new : NodeState (Script S)) (m : Mind) (input : Input) (f : NodeFault) (b : Bool)
       → MatchBool b (StopsOnInput storages old m input f new) (RefusesInput old m input f new) → old.storage.unsure ≡ None
@@ -258,9 +270,11 @@ module _ {S : Type 0} {storages : Ghosts (Script S)} (laws : IsLawful storages)
         })
 
     -- a put is unsure: what stands for the node is kept for the time when that is known
-    waits : (old new : NodeState (Script S)) (input : Input) (r : Result Response NodeFault) (u : script.Write) → new.storage.unsure ≡ Some u
+    waits : (old new : NodeState (Script S)) (input : Input) (r : Result Response NodeFault) (u : script.Write)
+        → new.storage.unsure ≡ Some u
         → HasCome w.past (input_of i nodes input) → StandsAt storages.contents nodes i w.past (local_of w i) old
-        → (m : NodeMoves storages.contents nodes i input (local_of w i) new r) → PutsStand storages.contents new.storage m.after.records → WentDown old new r
+        → (m : NodeMoves storages.contents nodes i input (local_of w i) new r) → PutsStand storages.contents new.storage m.after.records
+        → WentDown old new r
         → NodeComes storages.contents nodes i input w new r
     waits old new input r u unsure came s m stand d = rests input new r d.fault_ d.failed (record {
       listed = λ (v : Vote Command).
@@ -278,7 +292,8 @@ module _ {S : Type 0} {storages : Ghosts (Script S)} (laws : IsLawful storages)
       up = λ up. absurd (none_is_not_some new.up d.down up);
     })
 
-    arrives : (old new : NodeState (Script S)) (input : Input) (r : Result Response NodeFault) (o : Option script.Write) → new.storage.unsure ≡ o
+    arrives : (old new : NodeState (Script S)) (input : Input) (r : Result Response NodeFault) (o : Option script.Write)
+        → new.storage.unsure ≡ o
         → HasCome w.past (input_of i nodes input) → StandsAt storages.contents nodes i w.past (local_of w i) old
         → (m : NodeMoves storages.contents nodes i input (local_of w i) new r) → PutsStand storages.contents new.storage m.after.records
         → (new.storage.unsure ≡ None) ⊎ WentDown old new r → NodeComes storages.contents nodes i input w new r
@@ -294,7 +309,8 @@ module _ {S : Type 0} {storages : Ghosts (Script S)} (laws : IsLawful storages)
     arrives old new input r (Some u) unsure came s m stand (inr d) = waits old new input r u unsure came s m stand d
 
     by_mind : (old new : NodeState (Script S)) (input : Input) (r : Result Response NodeFault) (o : Option Mind) → old.up ≡ o
-        → HasCome w.past (input_of i nodes input) → NodeSteps storages old input r new → StandsAt storages.contents nodes i w.past (local_of w i) old
+        → HasCome w.past (input_of i nodes input) → NodeSteps storages old input r new
+        → StandsAt storages.contents nodes i w.past (local_of w i) old
         → IsMember i nodes old → InputFits input → storages.IsHonest new.storage → NodeComes storages.contents nodes i input w new r
     by_mind old new input r None up came h s member fits honest =
         rests input new r fault.Down (h.down up).0
@@ -317,7 +333,8 @@ module _ {S : Type 0} {storages : Ghosts (Script S)} (laws : IsLawful storages)
         (sound_after nodes w i (input_of i nodes input) moves.after reached came moves.does) stand) on.sure
 
     -- a node comes to what stands for it after an input
-    pub node_comes : (old new : NodeState (Script S)) (input : Input) (r : Result Response NodeFault) → HasCome w.past (input_of i nodes input)
+    pub node_comes : (old new : NodeState (Script S)) (input : Input) (r : Result Response NodeFault)
+        → HasCome w.past (input_of i nodes input)
         → NodeSteps storages old input r new → StandsAt storages.contents nodes i w.past (local_of w i) old
         → IsMember i nodes old → InputFits input → storages.IsHonest new.storage → NodeComes storages.contents nodes i input w new r
     node_comes old new input r came h s member fits honest = by_mind old new input r old.up refl came h s member fits honest
@@ -339,12 +356,14 @@ module _ {S : Type 0} {storages : Ghosts (Script S)} (laws : IsLawful storages)
       | inr other ↦ lists.reads_unsure old.storage new.storage other.1
     ]
 
-    sure_again : (new : NodeState (Script S)) (r : Result (Unit {0}) NodeFault) → OnOk r (new.storage.unsure ≡ None) → OnErr r (new.up ≡ None)
+    sure_again : (new : NodeState (Script S)) (r : Result (Unit {0}) NodeFault) → OnOk r (new.storage.unsure ≡ None)
+        → OnErr r (new.up ≡ None)
         → IsSome new.up → new.storage.unsure ≡ None
     sure_again new (Ok x) settled down up = settled
     sure_again new (Err f) settled down up = absurd (none_is_not_some new.up down up)
 
-    restarted : (old new : NodeState (Script S)) (o : Option script.Write) → new.storage.unsure ≡ o → (s : StandsAt storages.contents nodes i w.past (local_of w i) old)
+    restarted : (old new : NodeState (Script S)) (o : Option script.Write) → new.storage.unsure ≡ o
+        → (s : StandsAt storages.contents nodes i w.past (local_of w i) old)
         → NodeStands storages.contents new (act.acted i s.after act.Forgets) → PutsStand storages.contents new.storage s.after.records
         → (new.storage.unsure ≡ None) ⊎ ((new.storage.writes ≡ old.storage.writes) × (new.storage.unsure ≡ old.storage.unsure))
         → (IsSome new.up → new.storage.unsure ≡ None) → ComesQuietly storages.contents nodes i w new
@@ -393,7 +412,9 @@ module _ {S : Type 0} {storages : Ghosts (Script S)} (laws : IsLawful storages)
         let y : Local Command = act.acted i s.after act.Forgets in
         let forgets : Does (fleet nodes) i s.input s.after y = does_one (fleet nodes) i s.input s.after act.Forgets tt in
         let stands : NodeStands storages.contents new y = restart_stands laws old new r s.after h honest s.stands in
-        let sound : AreSound y.records = sound_after nodes w i s.input y reached s.came (does_then (fleet nodes) i s.input s.does forgets) in
+        let sound : AreSound y.records = sound_after nodes w i s.input y reached s.came
+        (does_then (fleet nodes) i s.input s.does forgets) in
         restarted old new new.storage.unsure refl s stands
-        (puts_go_on storages.contents (fleet nodes) i s.input s.after y old.storage new forgets (restart_goes old new r h honest) stands sound s.puts)
+        (puts_go_on storages.contents (fleet nodes) i s.input s.after y old.storage new forgets
+        (restart_goes old new r h honest) stands sound s.puts)
         (restart_list old new r h) (sure_again new r settled h.down)

@@ -1,5 +1,6 @@
 -- Whatever a node makes of an input is a list of acts that the protocol allows.
-use Rattle.std.proofs.Common.{◌≡◌, ◌⊎◌, ℕ, ◌<◌, ◌≤◌, inl, inr, List, [], ◌++◌, map, Bool, true, false, Option, Some, None, IfSome, IfOk, IfErr, MatchBool, Result, Ok, Err, refl, sym, ap, subst, ◌∙◌, arith, append-nil}
+use Rattle.std.proofs.Common.{◌≡◌, ◌⊎◌, ℕ, ◌<◌, ◌≤◌, inl, inr, List, [], ◌++◌, map, Bool, true, false, Option, Some, None, IfSome, IfOk}
+use Rattle.std.proofs.Common.{IfErr, MatchBool, Result, Ok, Err, refl, sym, ap, subst, ◌∙◌, arith, append-nil}
 use Rattle.synod.specs.History as history
 use Rattle.synod.specs.Acts.{Local, Does}
 use Rattle.synod.proofs.Doing.{does_nothing}
@@ -19,7 +20,8 @@ use Rattle.node.specs.Loading.{IsMember, IsMindOf}
 use Rattle.node.specs.Minds.{Mind, refuses}
 use Rattle.node.specs.Nodes.{NodeState, NodeSteps, TakesInput, RefusesInput, StopsOnInput, StorageStops}
 use Rattle.node.specs.Outputs.{Response}
-use Rattle.node.specs.Protocol.{fleet, frame_of, input_of, learnings, submissions, InputFits, MindStands, MayTake, MayStop, RecordsHold, HoldsRecords, accepting_after, round_after}
+use Rattle.node.specs.Protocol.{fleet, frame_of, input_of, learnings, submissions, InputFits, MindStands, MayTake, MayStop, RecordsHold}
+use Rattle.node.specs.Protocol.{HoldsRecords, accepting_after, round_after}
 use Rattle.node.specs.Taking.{Writes}
 use Rattle.node.proofs.AllowedStopping.{unwritten_allowed, written_allowed}
 use Rattle.node.proofs.AllowedTaking.{taking_allowed}
@@ -58,7 +60,8 @@ abbrev took : Response → Result Response NodeFault
 took said = Ok said
 
 -- by other names of the same records
-pub other_records : {a b : Records} {accepting : Accepting} {round : ℕ} → b ≡ a → RecordsHold a accepting round → RecordsHold b accepting round
+pub other_records : {a b : Records} {accepting : Accepting} {round : ℕ} → b ≡ a → RecordsHold a accepting round
+    → RecordsHold b accepting round
 other_records {a} {b} {accepting} {round} e h = subst (λ (r : Records). RecordsHold r accepting round) (sym e) h
 
 module _ {S : Type 0} {storages : Ghosts (Script S)} (laws : IsLawful storages)
@@ -84,7 +87,8 @@ module _ {S : Type 0} {storages : Ghosts (Script S)} (laws : IsLawful storages)
     does = s.does;
     stands = record {
       records = record { accepting = a; round = round; holds = holds; stands = s.stands };
-      up = subst (λ (o : Option Mind). IfSome o (λ m. HoldsRecords m (storages.contents new.storage) × MindStands m (stopping x s.records))) (sym down) tt;
+      up = subst (λ (o : Option Mind). IfSome o (λ m. HoldsRecords m (storages.contents new.storage) × MindStands m (stopping x s.records)))
+          (sym down) tt;
     };
     sent = sym (append-nil x.sent);
     learnt = sym (append-nil x.learnt);
@@ -96,13 +100,15 @@ module _ {S : Type 0} {storages : Ghosts (Script S)} (laws : IsLawful storages)
     holds : HoldsRecords m (storages.contents old.storage)
     mind : MindStands m x
 
-  stands_up : (old : NodeState (Script S)) (m : Mind) (x : Local Command) → old.up ≡ Some m → NodeStands storages.contents old x → StandsUp old m x
+  stands_up : (old : NodeState (Script S)) (m : Mind) (x : Local Command) → old.up ≡ Some m → NodeStands storages.contents old x
+      → StandsUp old m x
   stands_up old m x up stands =
       let both : HoldsRecords m (storages.contents old.storage) × MindStands m x =
       subst (λ (o : Option Mind). IfSome o (λ n. HoldsRecords n (storages.contents old.storage) × MindStands n x)) up stands.up in
       record { holds = both.0; mind = both.1 }
 
-  takes : (old new : NodeState (Script S)) (m : Mind) (input : Input) (said : Response) (x : Local Command) → StandsUp old m x → IsMindOf i nodes m
+  takes : (old new : NodeState (Script S)) (m : Mind) (input : Input) (said : Response) (x : Local Command) → StandsUp old m x
+      → IsMindOf i nodes m
       → InputFits input → refuses m input ≡ None → TakesInput storages old m input said new
       → storages.IsHonest new.storage → NodeMoves storages.contents nodes i input x new (Ok said)
   takes old new m input said x up mind fits none h honest =
@@ -110,13 +116,15 @@ module _ {S : Type 0} {storages : Ghosts (Script S)} (laws : IsLawful storages)
       let kept : storages.contents new.storage ≡ records_after (storages.contents old.storage) h.made.write =
       written_contents laws old.storage new.storage h.made.write h.made.leaves honest in
       let holds : HoldsRecords h.mind (storages.contents new.storage) =
-      other_records kept (taken_holds m input h.mind said (storages.contents old.storage) h.made.write none h.takes h.made.made fits up.holds) in
+      other_records kept (taken_holds m input h.mind said (storages.contents old.storage) h.made.write none h.takes h.made.made fits
+      up.holds) in
       record {
         after = t.after;
         does = t.does;
         stands = record {
           records = record { accepting = h.mind.accepting; round = h.mind.proposing.round; holds = holds; stands = t.stands.records };
-          up = subst (λ (n : NodeState (Script S)). IfSome n.up (λ k. HoldsRecords k (storages.contents new.storage) × MindStands k t.after))
+          up = subst (λ (n : NodeState (Script S)). IfSome n.up (λ k. HoldsRecords k (storages.contents new.storage)
+              × MindStands k t.after))
               (sym h.leaves) (holds, t.stands);
         };
         sent = t.sent;
@@ -132,9 +140,11 @@ module _ {S : Type 0} {storages : Ghosts (Script S)} (laws : IsLawful storages)
       stops input x new f m.accepting m.proposing.round down (other_records same up.holds)
       (unwritten_allowed nodes i m (input_of i nodes input) x mind up.mind)
 
-  stops_with : (old new : NodeState (Script S)) (m : Mind) (input : Input) (f : NodeFault) (w : Write) (x : Local Command) → StandsUp old m x
+  stops_with : (old new : NodeState (Script S)) (m : Mind) (input : Input) (f : NodeFault) (w : Write) (x : Local Command)
+      → StandsUp old m x
       → IsMindOf i nodes m → InputFits input → refuses m input ≡ None → Writes m input w → new.up ≡ None
-      → (storages.contents new.storage ≡ storages.contents old.storage) ⊎ (storages.contents new.storage ≡ records_after (storages.contents old.storage) w)
+      → (storages.contents new.storage ≡ storages.contents old.storage)
+      ⊎ (storages.contents new.storage ≡ records_after (storages.contents old.storage) w)
       → NodeMoves storages.contents nodes i input x new (Err f)
   stops_with old new m input f w x up mind fits none made down (inl same) = stops_as_it_was old new m input f x up mind down same
   stops_with old new m input f w x up mind fits none made down (inr written) =
@@ -143,7 +153,8 @@ module _ {S : Type 0} {storages : Ghosts (Script S)} (laws : IsLawful storages)
       (written_allowed nodes i m input x (omega (arith, there, few)) mind up.mind)
 
   stops_by : (old new : NodeState (Script S)) (m : Mind) (input : Input) (f : NodeFault) (x : Local Command) → StandsUp old m x
-      → IsMindOf i nodes m → InputFits input → refuses m input ≡ None → StorageStops storages old.storage m input f new.storage → new.up ≡ None
+      → IsMindOf i nodes m → InputFits input → refuses m input ≡ None → StorageStops storages old.storage m input f new.storage
+      → new.up ≡ None
       → storages.IsHonest new.storage → NodeMoves storages.contents nodes i input x new (Err f)
   stops_by old new m input fault.Device x up mind fits none h down honest =
       stops_with old new m input fault.Device h.write x up mind fits none h.made down
@@ -195,7 +206,8 @@ module _ {S : Type 0} {storages : Ghosts (Script S)} (laws : IsLawful storages)
   by_result old new m input (Err f) x stands up mind fits taken refused_ none honest =
       refused old new m input f x (is_stop_fault f) refl stands up mind fits none refused_ honest
 
-  by_mind : (old new : NodeState (Script S)) (input : Input) (r : Result Response NodeFault) (x : Local Command) (o : Option Mind) → old.up ≡ o
+  by_mind : (old new : NodeState (Script S)) (input : Input) (r : Result Response NodeFault) (x : Local Command) (o : Option Mind)
+      → old.up ≡ o
       → NodeSteps storages old input r new → NodeStands storages.contents old x → IsMember i nodes old → InputFits input
       → storages.IsHonest new.storage → NodeMoves storages.contents nodes i input x new r
   by_mind old new input r x None up h stands member fits honest =
@@ -227,7 +239,8 @@ module _ {S : Type 0} {storages : Ghosts (Script S)} (laws : IsLawful storages)
   honest_stopped old new m input fault.Damaged h honest = absurd h
 
   honest_refused : (old new : NodeState (Script S)) (m : Mind) (input : Input) (f : NodeFault) (b : Bool)
-      → MatchBool b (StopsOnInput storages old m input f new) (RefusesInput old m input f new) → storages.IsHonest new.storage → storages.IsHonest old.storage
+      → MatchBool b (StopsOnInput storages old m input f new) (RefusesInput old m input f new) → storages.IsHonest new.storage
+      → storages.IsHonest old.storage
   honest_refused old new m input f true h honest = honest_stopped old new m input f h.storage honest
   honest_refused old new m input f false h honest = subst (λ (n : NodeState (Script S)). storages.IsHonest n.storage) h.leaves honest
 

@@ -1,5 +1,6 @@
 -- The greatest round of any refusal that a node was told is forgotten by a restart alone.
-use Rattle.std.proofs.Common.{◌≡◌, inl, inr, ℕ, ◌+◌, ◌<◌, ◌≤◌, List, [], ◌∷◌, Contains, Bool, true, false, Option, Some, None, refl, sym, ap, subst, ◌∙◌, arith}
+use Rattle.std.proofs.Common.{◌≡◌, inl, inr, ℕ, ◌+◌, ◌<◌, ◌≤◌, List, [], ◌∷◌, Contains, Bool, true, false, Option, Some, None, refl, sym}
+use Rattle.std.proofs.Common.{ap, subst, ◌∙◌, arith}
 use Rattle.std.specs.Prelude.{nat_lt, max}
 use Rattle.std.proofs.lemmas.Bool.{cond_both}
 use Rattle.synod.specs.declared.ballot.Ballot.{Ballot}
@@ -17,7 +18,8 @@ use Rattle.wire.specs.declared.frames.message.Message.TheVariants.{Prepare, Prom
 use Rattle.node.specs.Inputs.{concerns, names_run}
 use Rattle.node.specs.Minds.{Mind, asked, waits}
 use Rattle.node.specs.Outputs.{Response}
-use Rattle.node.specs.Taking.{Takes, TakesEnvelope, TakesMessage, Hears, begins_to_lead, after_counting, proposer_of, proposed, execution, with_request}
+use Rattle.node.specs.Taking.{Takes, TakesEnvelope, TakesMessage, Hears, begins_to_lead, after_counting, proposer_of, proposed, execution}
+use Rattle.node.specs.Taking.{with_request}
 use Rattle.node.specs.declared.input.Input.{Input}
 use Rattle.node.specs.declared.input.Input.TheVariants as input
 use Rattle.world.specs.Progress.{mind_at, IsAbove}
@@ -78,7 +80,8 @@ hears_grows : (old : Mind) (c : Command) (learned : Option Learned) (l : Learnin
 hears_grows old c None l asks new said h = with_grows old new (record old { learning = l }) h.0 refl (same_rounds old.proposing)
 hears_grows old c (Some learned) l asks new said h =
     let p : Proposing = proposer_of old learned.slot (execution old l) in
-    with_grows old new _ h.leaves refl (over old.proposing p (proposed p l) (record { refused_ = refl; round_ = refl }) (proposes_keeps p p.campaign l))
+    with_grows old new _ h.leaves refl (over old.proposing p (proposed p l) (record { refused_ = refl; round_ = refl })
+    (proposes_keeps p p.campaign l))
 
 message_grows : (old : Mind) (from : ℕ) (message : Message) (new : Mind) (said : Response) → TakesMessage old from message new said
     → Grows old new

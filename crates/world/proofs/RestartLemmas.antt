@@ -46,7 +46,8 @@ module _ {S : Type 0} {storages : Ghosts (Script S)} (laws : IsLawful storages) 
   SameAndHonest : NodeState (Script S) → NodeState (Script S) → Type 0
   SameAndHonest old new = (storages.contents new.storage ≡ storages.contents old.storage) × storages.IsHonest old.storage
 
-  read_only : (old new : NodeState (Script S)) → storages.reads old.storage new.storage → storages.IsHonest new.storage → SameAndHonest old new
+  read_only : (old new : NodeState (Script S)) → storages.reads old.storage new.storage → storages.IsHonest new.storage
+      → SameAndHonest old new
   unfolding SameAndHonest
   read_only old new h honest = (laws.reads_contents old.storage new.storage h honest, laws.reads_honest old.storage new.storage h honest)
 
@@ -69,9 +70,11 @@ module _ {S : Type 0} {storages : Ghosts (Script S)} (laws : IsLawful storages) 
   loads_or_down : (old new : NodeState (Script S)) (result : Result (Unit {0}) NodeFault) → Restarts storages old result new
       → storages.IsHonest new.storage → IfSome new.up (IsLoaded (storages.contents old.storage) old.id old.nodes)
   loads_or_down old new (Ok x) h honest = h.loads honest
-  loads_or_down old new (Err f) h honest = subst (λ (o : Option Mind). IfSome o (IsLoaded (storages.contents old.storage) old.id old.nodes)) (sym h.down) tt
+  loads_or_down old new (Err f) h honest = subst (λ (o : Option Mind). IfSome o (IsLoaded (storages.contents old.storage) old.id old.nodes))
+      (sym h.down) tt
 
-  pub restart_stands : (old new : NodeState (Script S)) (result : Result (Unit {0}) NodeFault) (x : Local Command) → Restarts storages old result new
+  pub restart_stands : (old new : NodeState (Script S)) (result : Result (Unit {0}) NodeFault) (x : Local Command)
+      → Restarts storages old result new
       → storages.IsHonest new.storage → NodeStands storages.contents old x → NodeStands storages.contents new (record x { mind = blank })
   unfolding SameAndHonest
   restart_stands old new result x h honest stands =

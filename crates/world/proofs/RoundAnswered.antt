@@ -1,5 +1,6 @@
 -- The second phase of a round: the members' promises come to the node, which leads by them, and asks all for their votes.
-use Rattle.std.proofs.Common.{◌≡◌, ◌≢◌, ◌⊎◌, inl, inr, ℕ, zero, suc, ◌<◌, ◌≤◌, List, [], ◌∷◌, ◌++◌, All, AllPairs, length, Contains, Bool, true, false, Some, None, refl, sym, ap, subst, ◌∙◌, arith}
+use Rattle.std.proofs.Common.{◌≡◌, ◌≢◌, ◌⊎◌, inl, inr, ℕ, zero, suc, ◌<◌, ◌≤◌, List, [], ◌∷◌, ◌++◌, All, AllPairs, length, Contains, Bool}
+use Rattle.std.proofs.Common.{true, false, Some, None, refl, sym, ap, subst, ◌∙◌, arith}
 use Rattle.std.specs.List.{list_all}
 use Rattle.std.specs.Prelude.{replicate}
 use Rattle.std.proofs.lemmas.List.{append_assoc, append-nil}
@@ -29,7 +30,8 @@ use Rattle.world.specs.Progress.{mind_at}
 use Rattle.world.specs.Worlds.{WorldState}
 use Rattle.world.proofs.Handing.{Took, HandsOn, ends, skips, takes, hands_apart, same_or_not}
 use Rattle.world.proofs.Leading.{Gathers, LeadsNow, AsksForVote, AsksAll, counts_one, counts_no_more, cannot_gather}
-use Rattle.world.proofs.RoundAsked.{takes_message, it_concerns, is_below, both, IsAnswer, promises, declines, Answers, none, passed, answered}
+use Rattle.world.proofs.RoundAsked.{takes_message, it_concerns, is_below, both, IsAnswer, promises, declines, Answers, none, passed}
+use Rattle.world.proofs.RoundAsked.{answered}
 
 -- ---- sets of nodes
 set_flag : (set : List Bool) (i j : ℕ) → has_node set j ≡ true → has_node (with_node set i) j ≡ true
@@ -135,9 +137,11 @@ module _ {S : Type 0} (w start : WorldState S) (nodes node : ℕ) (members : Lis
     pub asks : Asks sends
 
   -- a promise comes while it gathers
-  module _ (node_there : node < nodes) (owner_there : ballot.node < nodes) (few : nodes ≤ 7) (at : slot ≡ position mind) (in_log : slot < SLOTS)
+  module _ (node_there : node < nodes) (owner_there : ballot.node < nodes) (few : nodes ≤ 7) (at : slot ≡ position mind)
+      (in_log : slot < SLOTS)
       (unlearnt : mind.learning.learnt slot ≡ None) where
-    asks_so : (m : Mind) (sends says : List Envelope) → AsksAll m ballot slot says → sends ≡ says → m.id ≡ node → m.nodes ≡ nodes → Asks sends
+    asks_so : (m : Mind) (sends says : List Envelope) → AsksAll m ballot slot says → sends ≡ says → m.id ≡ node → m.nodes ≡ nodes
+        → Asks sends
     asks_so m sends says a same number of_all = record {
       command = a.command;
       more = a.more;
@@ -173,7 +177,8 @@ module _ {S : Type 0} (w start : WorldState S) (nodes node : ℕ) (members : Lis
           })
         ]
 
-    leads_on : (k : ℕ) (p : Promised) (m new : Mind) (said : Response) (sends : List Envelope) → Leading m sends → Counts node k p m new said
+    leads_on : (k : ℕ) (p : Promised) (m new : Mind) (said : Response) (sends : List Envelope) → Leading m sends
+        → Counts node k p m new said
         → Leading new (sends ++ said.sends)
     leads_on k p m new said sends l c =
         let none : after_promise m k p ≡ (m.proposing, []) = counts_no_more m k p l.leads in
@@ -291,7 +296,8 @@ module _ {S : Type 0} (w start : WorldState S) (nodes node : ℕ) (members : Lis
           passed_on k now not (counted_below k es a (omega (arith, within)) now hands)
       counted_below _ _ (answered k es e m among known answer a) within now hands =
           let two = hands_apart (node ∷ []) es (e ∷ []) start now hands in
-          counted_answer k e m two.mid now (counted_below k es a (omega (arith, within)) two.mid two.first) (omega (arith, within)) among known
+          counted_answer k e m two.mid now (counted_below k es a (omega (arith, within)) two.mid two.first)
+          (omega (arith, within)) among known
           answer two.then
 
       -- once all of a quorum's have come it leads
@@ -311,7 +317,8 @@ module _ {S : Type 0} (w start : WorldState S) (nodes node : ℕ) (members : Lis
             frames_ = h.frames_;
             asks = elim h.so_far [
               | inl g ↦
-                  let all : is_most nodes g.set ≡ true = cannot_gather nodes members g.set most apart there (λ m among. g.counted_ m (there m among) among) in
+                  let all : is_most nodes g.set ≡ true = cannot_gather nodes members g.set most apart there
+                  (λ m among. g.counted_ m (there m among) among) in
                   let few_ : is_most nodes g.set ≡ false =
                   subst (λ (n : ℕ). is_most n g.set ≡ false) h.is.proposing.1 g.gathers.too_few in
                   absurd cc

@@ -1,5 +1,6 @@
 -- The first phase of a round: the campaign begins, and its prepares come to the members, who answer.
-use Rattle.std.proofs.Common.{◌≡◌, inl, inr, ℕ, zero, suc, ◌<◌, ◌≤◌, List, [], ◌∷◌, ◌++◌, Contains, Bool, true, false, Option, Some, None, MatchOption, refl, sym, ap, subst, ◌∙◌, arith, rules}
+use Rattle.std.proofs.Common.{◌≡◌, inl, inr, ℕ, zero, suc, ◌<◌, ◌≤◌, List, [], ◌∷◌, ◌++◌, Contains, Bool, true, false, Option, Some, None}
+use Rattle.std.proofs.Common.{MatchOption, refl, sym, ap, subst, ◌∙◌, arith, rules}
 use Rattle.std.specs.Prelude.{◌==◌, ◌&&◌, nat_lt}
 use Rattle.std.proofs.lemmas.List.{append_assoc}
 use Rattle.std.proofs.lemmas.List.Elements.{Contains-append_left, Contains-append_right, Contains-append_cases}
@@ -38,7 +39,8 @@ both true b x y = y
 both false b x y = absurd cc
 
 -- it is addressed to the node, and names nodes of the run
-pub it_concerns : (to nodes : ℕ) (m : Mind) (e : Envelope) → IsMindOf to nodes m → e.to ≡ to → e.from < nodes → names_run nodes e.message ≡ true
+pub it_concerns : (to nodes : ℕ) (m : Mind) (e : Envelope) → IsMindOf to nodes m → e.to ≡ to → e.from < nodes
+    → names_run nodes e.message ≡ true
     → concerns m.id m.nodes e ≡ true
 it_concerns to nodes m e is to_ from names =
     let here : e.to == m.id ≡ true =

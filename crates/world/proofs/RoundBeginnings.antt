@@ -1,5 +1,6 @@
 -- How a round begins: the node begins a campaign, goes down on it, or refuses.
-use Rattle.std.proofs.Common.{◌≡◌, ℕ, zero, suc, ◌<◌, ◌≤◌, ◌↔◌, List, [], ◌∷◌, Bool, true, false, Option, Some, None, IsSome, IfSome, Err, MatchBool, MatchOption, slice_get, slice_set, refl, sym, ap, subst, ◌∙◌, arith, rules}
+use Rattle.std.proofs.Common.{◌≡◌, ℕ, zero, suc, ◌<◌, ◌≤◌, ◌↔◌, List, [], ◌∷◌, Bool, true, false, Option, Some, None, IsSome, IfSome, Err}
+use Rattle.std.proofs.Common.{MatchBool, MatchOption, slice_get, slice_set, refl, sym, ap, subst, ◌∙◌, arith, rules}
 use Rattle.std.specs.Prelude.{is_some}
 use Rattle.synod.specs.declared.slot.TheConstants.{SLOTS}
 use Rattle.stable.specs.Script.{Script}
@@ -31,7 +32,8 @@ up_mind : (o : Option Mind) → is_some o ≡ true → (m : Mind) × (o ≡ Some
 up_mind None e = absurd cc
 up_mind (Some m) e = (m, refl)
 
-pub mind_of_up : {S : Type 0} (w : WorldState S) (node : ℕ) (n : NodeState (Script S)) → slice_get w.nodes node ≡ Some n → is_up w node ≡ true
+pub mind_of_up : {S : Type 0} (w : WorldState S) (node : ℕ) (n : NodeState (Script S)) → slice_get w.nodes node ≡ Some n
+    → is_up w node ≡ true
     → (m : Mind) × (n.up ≡ Some m)
 mind_of_up w node n here up =
     up_mind n.up (subst (λ (o : Option (NodeState (Script _))). is_up_node o ≡ true) here up)
@@ -120,7 +122,8 @@ module _ {S : Type 0} (storages : Ghosts (Script S)) (old : WorldState S) (node 
   by_fault false h told = subst (λ e. MeetingEnds storages old node members e new) (sym told) h
 
 -- a round ends at once whose node has not begun a campaign
-pub without : {S : Type 0} (storages : Ghosts (Script S)) (old mid : WorldState S) (node : ℕ) (members : List ℕ) (f : NodeFault) (end : RoundEnd)
+pub without : {S : Type 0} (storages : Ghosts (Script S)) (old mid : WorldState S) (node : ℕ) (members : List ℕ) (f : NodeFault)
+    (end : RoundEnd)
     (new : WorldState S) → mid ≡ old
     → MatchBool (is_stop_fault f) (FailsToBegin storages mid node new) (RefusesToBegin mid node f × (new ≡ mid))
     → MatchBool (is_stop_fault f) (end ≡ Stopped node) (end ≡ Refused f) → MeetingEnds storages old node members end new

@@ -1,5 +1,6 @@
 -- A round that comes through all its phases decides: its node has learnt what its slot holds.
-use Rattle.std.proofs.Common.{◌≡◌, inl, inr, ℕ, zero, ◌-◌, ◌<◌, ◌≤◌, List, [], ◌∷◌, ◌++◌, length, drop, slice_get, Contains, true, Option, Some, None, IsSome, Result, Ok, Err, refl, sym, ap, subst, ◌∙◌, arith}
+use Rattle.std.proofs.Common.{◌≡◌, inl, inr, ℕ, zero, ◌-◌, ◌<◌, ◌≤◌, List, [], ◌∷◌, ◌++◌, length, drop, slice_get, Contains, true, Option}
+use Rattle.std.proofs.Common.{Some, None, IsSome, Result, Ok, Err, refl, sym, ap, subst, ◌∙◌, arith}
 use Rattle.std.specs.Prelude.{is_ok}
 use Rattle.std.proofs.Math.Seq.{drop-append_seam}
 use Rattle.std.proofs.lemmas.Bool.{cases_lt}
@@ -29,9 +30,11 @@ use Rattle.node.specs.declared.fault.NodeFault.{NodeFault}
 use Rattle.node.specs.declared.input.Input.{Input}
 use Rattle.node.specs.declared.input.Input.TheVariants as input
 use Rattle.world.specs.Progress.{mind_in, mind_at}
-use Rattle.world.specs.Rounds.{IsQuorum, NoneRefuses, refusal_in, begun, asked, answered, voted, heard, ComesThrough, begins, asks, answers, votes, hears}
+use Rattle.world.specs.Rounds.{IsQuorum, NoneRefuses, refusal_in, begun, asked, answered, voted, heard, ComesThrough, begins, asks, answers}
+use Rattle.world.specs.Rounds.{votes, hears}
 use Rattle.world.specs.Worlds.{WorldState, TakesAt, recorded, with_node}
-use Rattle.world.proofs.Handing.{TookAt, HandsOn, hands_all, hands_apart, frames_more, same_or_not, took_of, AreMembers, same_mind, stays_up, stay_members, hands_members}
+use Rattle.world.proofs.Handing.{TookAt, HandsOn, hands_all, hands_apart, frames_more, same_or_not, took_of, AreMembers, same_mind}
+use Rattle.world.proofs.Handing.{stays_up, stay_members, hands_members}
 use Rattle.world.proofs.Hearing.{HasHeard, none_heard, heard_all}
 use Rattle.world.proofs.Leading.{Gathers, timeout_gathers, timeout_asks}
 use Rattle.world.proofs.RoundAsked.{IsAnswer, promises, declines, AskedBelow, asked_below, asked_mind, answer_of_each}
@@ -44,11 +47,13 @@ module _ {S : Type 0} (storages : Ghosts (Script S)) (old : WorldState S) (node 
   took_input : (before after : NodeState (Script S)) (m : Mind) (r : Result Response NodeFault) (new : WorldState S)
       → slice_get old.nodes node ≡ Some before → before.up ≡ Some m → NodeSteps storages before i r after → true ≡ is_ok r
       → new ≡ recorded (with_node old node after) node r → TookAt old node i new
-  took_input before after m (Ok said) new here up steps taken leaves = took_of storages old node i before after m said new here up steps leaves
+  took_input before after m (Ok said) new here up steps taken leaves =
+      took_of storages old node i before after m said new here up steps leaves
   took_input before after m (Err f) new here up steps taken leaves = absurd (cc)
 
   -- a node that is up has taken the input
-  pub took_taken : (new : WorldState S) (m : Mind) → mind_at old node ≡ Some m → TakesAt storages old node i true new → TookAt old node i new
+  pub took_taken : (new : WorldState S) (m : Mind) → mind_at old node ≡ Some m → TakesAt storages old node i true new
+      → TookAt old node i new
   took_taken new m here h =
       took_input h.before h.after m h.result new h.here
       (sym (ap (λ (o : Option (NodeState (Script S))). mind_in o) h.here) ∙ here) h.steps h.taken_ h.leaves
@@ -184,7 +189,8 @@ module _ {S : Type 0} (storages : Ghosts (Script S)) (old : WorldState S) (node 
   pub asked_lem : (first : ℕ) (w : WorldState S) → ComesThrough storages old node members asked first w → IsAsked first w
   asked_lem _ w (asks first between w_ comes delivers) =
       let b = begun_lem first between comes in
-      let hands = subst (λ (es : List Envelope). HandsOn members es between w) b.prepares (hands_all storages members between first w delivers) in
+      let hands = subst (λ (es : List Envelope). HandsOn members es between w) b.prepares
+      (hands_all storages members between first w delivers) in
       let below = asked_below between nodes node members ballot slot node_there owner_there b.known nodes w hands in
       record {
         before = first;
@@ -227,8 +233,10 @@ module _ {S : Type 0} (storages : Ghosts (Script S)) (old : WorldState S) (node 
 
   willing : (first : ℕ) (w : WorldState S) (h : IsAsked first w) → NoneRefuses (drop first w.frames) → IsWilling h.between
   willing first w h none j m among here =
-      let one = answer_of_each h.between nodes node members ballot slot nodes h.below.answers h.below.are j m (member_there j among) among here in
-      willing_one m j one.envelope one.is (All-contains (λ (e : Envelope). refusal_in e.message ≡ None) (drop first w.frames) one.envelope none
+      let one = answer_of_each h.between nodes node members ballot slot nodes h.below.answers h.below.are j m
+      (member_there j among) among here in
+      willing_one m j one.envelope one.is (All-contains (λ (e : Envelope). refusal_in e.message ≡ None)
+      (drop first w.frames) one.envelope none
       (subst (λ (es : List Envelope). Contains es one.envelope) (sym h.answers_) one.among))
 
   voted_of_run : (first : ℕ) (w : WorldState S) → IsBegun first w → (j : ℕ) (m : Mind) → mind_at w j ≡ Some m → (s : ℕ) (v : Vote Command)

@@ -1,5 +1,7 @@
 -- A round by hand, phase by phase.
-use Rattle.std.proofs.Common.{◌≡◌, ◌⊎◌, ℕ, ◌+◌, ◌≤◌, inl, inr, List, [], ◌∷◌, Bool, true, false, Option, Some, None, IsSome, IfOk, IfErr, OnErr, IsErrOf, MatchOption, drop, take, ◌-◌, rules, Result, Ok, Err, length, slice_get, Contains, refl, sym, ap, subst, ◌∙◌, length-append, add-one, arith}
+use Rattle.std.proofs.Common.{◌≡◌, ◌⊎◌, ℕ, ◌+◌, ◌≤◌, inl, inr, List, [], ◌∷◌, Bool, true, false, Option, Some, None, IsSome, IfOk, IfErr}
+use Rattle.std.proofs.Common.{OnErr, IsErrOf, MatchOption, drop, take, ◌-◌, rules, Result, Ok, Err, length, slice_get, Contains, refl, sym}
+use Rattle.std.proofs.Common.{ap, subst, ◌∙◌, length-append, add-one, arith}
 use Rattle.std.proofs.Math.Seq.{take-length}
 use Rattle.std.proofs.lemmas.List.{length-drop}
 use Rattle.stable.specs.Script.{Script}
@@ -18,7 +20,9 @@ use Rattle.world.specs.declared.lists.Outcome.{Outcome}
 use Rattle.world.specs.declared.lists.Outcome.TheVariants as outcome
 use Rattle.world.specs.declared.round_end.RoundEnd.{RoundEnd}
 use Rattle.world.specs.declared.round_end.RoundEnd.TheVariants.{NotAQuorum, Down, Refused, Stopped, TooLow, Decided}
-use Rattle.world.specs.Rounds.{is_up, DeliversTo, nothing, elsewhere, there, GoesDownOn, DeliversPart, NoneRefuses, IsInterrupted, CanMeet, MeetingEnds, Phase, begun, asked, answered, voted, heard, receivers_after, ComesThrough, begins, asks, answers, votes, hears, GoesDown, at_once, on_the_way, EndsIn, RoundEnds, IsPartOfRound, none, some, untold}
+use Rattle.world.specs.Rounds.{is_up, DeliversTo, nothing, elsewhere, there, GoesDownOn, DeliversPart, NoneRefuses, IsInterrupted, CanMeet}
+use Rattle.world.specs.Rounds.{MeetingEnds, Phase, begun, asked, answered, voted, heard, receivers_after, ComesThrough, begins, asks}
+use Rattle.world.specs.Rounds.{answers, votes, hears, GoesDown, at_once, on_the_way, EndsIn, RoundEnds, IsPartOfRound, none, some, untold}
 use Rattle.world.specs.Worlds.{WorldState, TakesAt, ReceivesAt, DeliversFrame, Steps, recorded, with_node, with_outcome, without_wait}
 
 abbrev failed : WorldFault → Result RoundEnd WorldFault
@@ -95,14 +99,16 @@ module _ {S : Type 0} (storages : Ghosts (Script S)) (Kept : WorldState S → Ty
   same_keeps : (old new : WorldState S) → new ≡ old → Kept old → Kept new
   same_keeps old new e kept = subst (λ (w : WorldState S). Kept w) (sym e) kept
 
-  delivers_keep : (receivers : List ℕ) (old : WorldState S) (first k : ℕ) (new : WorldState S) → DeliversTo storages receivers old first k new
+  delivers_keep : (receivers : List ℕ) (old : WorldState S) (first k : ℕ) (new : WorldState S)
+      → DeliversTo storages receivers old first k new
       → Kept old → Kept new
   delivers_keep receivers old first _ new nothing kept = kept
   delivers_keep receivers old first _ new (elsewhere k e new_ before is not) kept = delivers_keep receivers old first k new before kept
   delivers_keep receivers old first _ new (there k e between new_ before is among delivers up) kept =
       step_keeps between (event.Deliver k) new delivers (delivers_keep receivers old first k between before kept)
 
-  goes_down_keeps : (receivers : List ℕ) (old : WorldState S) (first m : ℕ) (new : WorldState S) → GoesDownOn storages receivers old first m new
+  goes_down_keeps : (receivers : List ℕ) (old : WorldState S) (first m : ℕ) (new : WorldState S)
+      → GoesDownOn storages receivers old first m new
       → Kept old → Kept new
   goes_down_keeps receivers old first m new h kept =
       step_keeps h.between (event.Deliver h.frame) new h.delivers (delivers_keep receivers old first h.frame h.between h.before kept)
@@ -145,7 +151,8 @@ module _ {S : Type 0} (storages : Ghosts (Script S)) (Kept : WorldState S → Ty
     part_keeps new (untold end h) = ends_keep end new h
 
     -- whatever a round answers
-    pub call_keeps : (new : WorldState S) (result : Result RoundEnd WorldFault) → IfOk result (λ end. RoundEnds storages old node members end new)
+    pub call_keeps : (new : WorldState S) (result : Result RoundEnd WorldFault)
+        → IfOk result (λ end. RoundEnds storages old node members end new)
         → (IsErrOf result fault.NoSuchNode → new ≡ old) → (IsErrOf result fault.Memory → IsPartOfRound storages old node members new)
         → IfErr result (λ f. (f ≡ fault.NoSuchNode) ⊎ (f ≡ fault.Memory)) → Kept new
     call_keeps new (Ok end) ends unchanged part faults = round_keeps end new ends
@@ -154,7 +161,8 @@ module _ {S : Type 0} (storages : Ghosts (Script S)) (Kept : WorldState S → Ty
 
 module _ {S : Type 0} (storages : Ghosts (Script S)) where
   -- the same frames, by other names of their numbers
-  pub moved : (receivers : List ℕ) (old new : WorldState S) (p q n : ℕ) → q ≡ p → n ≡ length old.frames → DeliversTo storages receivers old q n new
+  pub moved : (receivers : List ℕ) (old new : WorldState S) (p q n : ℕ) → q ≡ p → n ≡ length old.frames
+      → DeliversTo storages receivers old q n new
       → DeliversTo storages receivers old p (length old.frames) new
   moved receivers old new p q n from to h =
       subst (λ k. DeliversTo storages receivers old p k new) to (subst (λ k. DeliversTo storages receivers old k n new) from h)
@@ -167,7 +175,8 @@ module _ {S : Type 0} (storages : Ghosts (Script S)) (old : WorldState S) (node 
   pub begun_by : (mid new : WorldState S) (p : ℕ) → mid ≡ old → p ≡ length old.frames → TakesAt storages mid node input.Timeout true new
       → Comes begun p new
   begun_by mid new p same here takes =
-      subst (λ k. Comes begun k new) (sym here) (begins new (subst (λ (w : WorldState S). TakesAt storages w node input.Timeout true new) same takes))
+      subst (λ k. Comes begun k new) (sym here)
+      (begins new (subst (λ (w : WorldState S). TakesAt storages w node input.Timeout true new) same takes))
 
   pub asked_by : (p q n : ℕ) (between new : WorldState S) → Comes begun p between → q ≡ p → DeliversTo storages members between q n new
       → n ≡ length between.frames → Comes asked n new
@@ -177,7 +186,8 @@ module _ {S : Type 0} (storages : Ghosts (Script S)) (old : WorldState S) (node 
   pub answered_by : (p q n : ℕ) (between new : WorldState S) → Comes asked p between → NoneRefuses (drop p between.frames) → q ≡ p
       → DeliversTo storages (node ∷ []) between q n new → n ≡ length between.frames → Comes answered n new
   answered_by p q n between new before willing from delivers to =
-      subst (λ k. Comes answered k new) (sym to) (answers p between new before willing (moved storages (node ∷ []) between new p q n from to delivers))
+      subst (λ k. Comes answered k new) (sym to) (answers p between new before willing
+      (moved storages (node ∷ []) between new p q n from to delivers))
 
   pub voted_by : (p q n : ℕ) (between new : WorldState S) → Comes answered p between → q ≡ p → DeliversTo storages members between q n new
       → n ≡ length between.frames → Comes voted n new

@@ -1,5 +1,7 @@
 -- The members of a round, and what they refuse.
-use Rattle.std.proofs.Common.{◌≡◌, ◌≢◌, ℕ, suc, ◌+◌, ◌-◌, ◌≤◌, ◌<◌, List, [], ◌∷◌, length, take, drop, Bool, true, false, Option, Some, None, IfSome, MatchBool, MatchOption, All, AllPairs, Contains, get_or, refl, sym, ap, subst, ◌∙◌, arith, rules, inl, inr}
+use Rattle.std.proofs.Common.{◌≡◌, ◌≢◌, ℕ, suc, ◌+◌, ◌-◌, ◌≤◌, ◌<◌, List, [], ◌∷◌, length, take, drop, Bool, true, false, Option, Some}
+use Rattle.std.proofs.Common.{None, IfSome, MatchBool, MatchOption, All, AllPairs, Contains, get_or, refl, sym, ap, subst, ◌∙◌, arith}
+use Rattle.std.proofs.Common.{rules, inl, inr}
 use Rattle.std.specs.Prelude.{nat_lt, if◌then◌else◌}
 use Rattle.std.proofs.Math.Seq.{take-length}
 use Rattle.std.proofs.lemmas.Bool.{cases_Bool}
@@ -58,7 +60,8 @@ later_told e es g most h = record {
   most = All-cons (IsAtMost g) e es most h.most;
 }
 
-first_told : (e : Envelope) (es : List Envelope) (g : Ballot) → refusal_in e.message ≡ Some g → All (IsAtMost g) es → IsGreatestTold (e ∷ es) g
+first_told : (e : Envelope) (es : List Envelope) (g : Ballot) → refusal_in e.message ≡ Some g → All (IsAtMost g) es
+    → IsGreatestTold (e ∷ es) g
 first_told e es g tells most = record {
   frame = e;
   among = (0, omega arith, refl);

@@ -107,17 +107,6 @@ module _ {S : Type 0} (contents : Script S → Records) (w : WorldState S) (flee
       from_below (length w.nodes) w.frames fleet.between r
       (subst (λ (frames : List (Frame Command)). Contains frames r) sound.allowed.stands.frames_ sent.1)
 
-  -- each vote that a node holds is of a node of the run
-  pub votes_of_run : (i : ℕ) (m : Mind) → mind_at w i ≡ Some m → (slot : ℕ) (v : Vote Command) → m.accepting.vote slot ≡ Some v
-      → v.ballot.node < length w.nodes
-  votes_of_run i m e slot v is =
-      let kept = (holds.past.records i).kept slot v ((stands_up i m e).records.vote slot ∙ is) in
-      let proposed = holds.past.backed i v kept.1 in
-      let own : v.ballot.node ≡ proposed.0 =
-      own_ballots (protocol.fleet (length w.nodes)) state sound.allowed.reached proposed.0 v proposed.1 in
-      let below = proposer_below proposed.0 v proposed.1 in
-      omega (arith, own, below)
-
   -- who is up holds what its records say
   holds_records : (i : ℕ) (m : Mind) → mind_at w i ≡ Some m → (n : NodeState (Script S)) × (slice_get w.nodes i ≡ Some n)
       × HoldsRecords m (contents n.storage)
@@ -125,6 +114,18 @@ module _ {S : Type 0} (contents : Script S → Records) (w : WorldState S) (flee
       let n = node_of (slice_get w.nodes i) m e in
       let at = sound.allowed.stands.node i n.0 n.1 in
       (n.0, n.1, (held (λ (k : Mind). HoldsRecords k (contents n.0.storage) × MindStands k at.after) n.0.up m n.2 at.stands.up).0)
+
+  -- each vote that a node holds is of a node of the run
+  pub votes_of_run : (i : ℕ) (m : Mind) → mind_at w i ≡ Some m → (slot : ℕ) (v : Vote Command) → m.accepting.vote slot ≡ Some v
+      → v.ballot.node < length w.nodes
+  votes_of_run i m e slot v is =
+      let low : m.accepting.floor ≤ slot = omega (arith, (holds_records i m e).2.acceptor.floor) in
+      let kept = (holds.past.records i).kept slot v ((stands_up i m e).records.vote slot low ∙ is) in
+      let proposed = holds.past.backed i v kept.1 in
+      let own : v.ballot.node ≡ proposed.0 =
+      own_ballots (protocol.fleet (length w.nodes)) state sound.allowed.reached proposed.0 v proposed.1 in
+      let below = proposer_below proposed.0 v proposed.1 in
+      omega (arith, own, below)
 
   -- what a node has promised is a ballot of a node of the run: it was put, or it is that of a vote
   pub promise_of_run : (i : ℕ) (m : Mind) → mind_at w i ≡ Some m → (b : Ballot) → promised m ≡ Some b → b.node < length w.nodes

@@ -1,5 +1,6 @@
 -- What a round comes to: what it tells is so, and which end it has where nothing disturbs it.
-use Rattle.std.proofs.Common.{◌≡◌, ◌⊎◌, inl, inr, ℕ, ◌^◌, ◌<◌, List, [], ◌∷◌, ◌++◌, drop, slice_get, slice_set, Contains, Bool, true, false, Option, Some, None, IsSome, IfSome, MatchBool, Result, Ok, Err, refl, sym, ap, subst, ◌∙◌, arith}
+use Rattle.std.proofs.Common.{◌≡◌, ◌⊎◌, inl, inr, ℕ, ◌^◌, ◌<◌, List, [], ◌∷◌, ◌++◌, drop, slice_get, slice_set, Contains, Bool, true, false}
+use Rattle.std.proofs.Common.{Option, Some, None, IsSome, IfSome, MatchBool, Result, Ok, Err, refl, sym, ap, subst, ◌∙◌, arith}
 use Rattle.std.specs.Prelude.{is_some, nat_lt, nat_le}
 use Rattle.std.proofs.lemmas.Bool.{cases_Bool}
 use Rattle.std.proofs.lemmas.Option.{same_Some}
@@ -21,7 +22,8 @@ use Rattle.node.specs.declared.fault.NodeFault.TheVariants as fault
 use Rattle.node.specs.declared.input.Input.{Input}
 use Rattle.node.specs.declared.input.Input.TheVariants as input
 use Rattle.world.specs.Progress.{mind_in, mind_at, HasStopped}
-use Rattle.world.specs.Rounds.{is_up, is_up_node, Phase, begun, asked, answered, voted, heard, receivers_after, ComesThrough, begins, asks, answers, votes, hears, GoesDown, at_once, on_the_way}
+use Rattle.world.specs.Rounds.{is_up, is_up_node, Phase, begun, asked, answered, voted, heard, receivers_after, ComesThrough, begins, asks}
+use Rattle.world.specs.Rounds.{answers, votes, hears, GoesDown, at_once, on_the_way}
 use Rattle.world.specs.Worlds.{WorldState, TakesAt, ReceivesAt, DeliversFrame, recorded, with_node, outcome_of, without_wait}
 use Rattle.world.specs.declared.lists.Outcome.{Outcome}
 use Rattle.world.specs.declared.lists.Outcome.TheVariants as outcome
@@ -196,7 +198,8 @@ module _ {S : Type 0} (storages : Ghosts (Script S)) (old : WorldState S) (node 
     goes_down m new (on_the_way phase first between comes down) =
         let among = is_member_of phase down.envelope.to down.receiver in
         let there = hands_up (receivers_after phase node members) (part between.frames first down.frame) between down.between
-        (hands_part storages (receivers_after phase node members) between first down.frame down.between down.before (omega (arith, down.sent)))
+        (hands_part storages (receivers_after phase node members) between first down.frame down.between down.before
+        (omega (arith, down.sent)))
         down.envelope.to (comes_up phase first between comes down.envelope.to (up down.envelope.to among)) in
         let t = stops_on storages down.between down.frame down.envelope new down.delivers down.is there
         (subst (λ (i : ℕ). is_up new i ≡ false) down.named down.down) in

@@ -1,5 +1,6 @@
 -- What a round comes to, by how it ends: the promise of progress.
-use Rattle.std.proofs.Common.{◌≡◌, inl, inr, ℕ, ◌<◌, ◌≤◌, List, [], ◌∷◌, length, drop, slice_get, Contains, true, false, Option, Some, None, IsSome, IfSome, Err, refl, sym, ap, subst, ◌∙◌, arith}
+use Rattle.std.proofs.Common.{◌≡◌, inl, inr, ℕ, ◌<◌, ◌≤◌, List, [], ◌∷◌, length, drop, slice_get, Contains, true, false, Option, Some, None}
+use Rattle.std.proofs.Common.{IsSome, IfSome, Err, refl, sym, ap, subst, ◌∙◌, arith}
 use Rattle.std.specs.Prelude.{is_ok}
 use Rattle.std.proofs.lemmas.List.Elements.{All-contains}
 use Rattle.synod.specs.Ballots.{rank, rank_of}
@@ -21,8 +22,10 @@ use Rattle.proposer.specs.Proposing.{next_round}
 use Rattle.node.specs.declared.fault.NodeFault.{NodeFault}
 use Rattle.node.specs.declared.input.Input.TheVariants as input
 use Rattle.world.specs.Fleets.{IsFleet}
-use Rattle.world.specs.Progress.{mind_in, mind_at, IsUndisturbed, NoneAbove, IsGreatestAbove, HasLearnt, IsAbove, HasStopped, Progresses, MakesProgress}
-use Rattle.world.specs.Rounds.{is_up, CanMeet, RefusesToBegin, IsGreatestTold, refusal_in, Phase, begun, asked, answered, voted, heard, ComesThrough, begins, asks, answers, votes, hears, IsRefused, IsDecided, EndsIn, RoundEnds}
+use Rattle.world.specs.Progress.{mind_in, mind_at, IsUndisturbed, NoneAbove, IsGreatestAbove, HasLearnt, IsAbove, HasStopped, Progresses}
+use Rattle.world.specs.Progress.{MakesProgress}
+use Rattle.world.specs.Rounds.{is_up, CanMeet, RefusesToBegin, IsGreatestTold, refusal_in, Phase, begun, asked, answered, voted, heard}
+use Rattle.world.specs.Rounds.{ComesThrough, begins, asks, answers, votes, hears, IsRefused, IsDecided, EndsIn, RoundEnds}
 use Rattle.world.specs.Safety.{IsSound}
 use Rattle.world.specs.Worlds.{WorldState, TakesAt}
 use Rattle.world.specs.declared.round_end.RoundEnd.{RoundEnd}
@@ -118,7 +121,8 @@ module _ {S : Type 0} (storages : Ghosts (Script S)) (contents : Script S → Re
     ballot : Ballot
     facts : Facts old node members (position mind) ballot mind
 
-  meets_by : (phase : Phase) (first : ℕ) (w : WorldState S) → CanMeet old node members → ComesThrough storages old node members phase first w
+  meets_by : (phase : Phase) (first : ℕ) (w : WorldState S) → CanMeet old node members
+      → ComesThrough storages old node members phase first w
       → Meets phase first w
   meets_by phase first w meets comes =
       let up = some_of (mind_at old node) (up_some (slice_get old.nodes node) (meets.up node meets.quorum.own)) in

@@ -1,5 +1,6 @@
 -- What is allowed is safe.
-use Rattle.std.proofs.Common.{◌≡◌, ◌⊎◌, ℕ, zero, suc, ◌<◌, inl, inr, List, [], ◌∷◌, map, length, slice_get, Bool, Option, Some, None, IfSome, Contains, option_map, refl, sym, ap, subst, ◌∙◌, arith}
+use Rattle.std.proofs.Common.{◌≡◌, ◌⊎◌, ℕ, zero, suc, ◌<◌, inl, inr, List, [], ◌∷◌, map, length, slice_get, Bool, Option, Some, None}
+use Rattle.std.proofs.Common.{IfSome, Contains, option_map, refl, sym, ap, subst, ◌∙◌, arith}
 use Rattle.std.proofs.Math.ListN.{get_or}
 use Rattle.std.proofs.lemmas.List.{length-map}
 use Rattle.std.proofs.lemmas.Option.{slice_get_read, slice_get-get_or, slice_get-map, slice_get_within, get_or_from_slice_get, none-some}
@@ -51,8 +52,10 @@ submitted_in submitted (Request r) (inr c) =
     let lt : c.0 < length submitted = omega (arith, c.1, length-map submitted command_of) in
     let s : Submission = get_or submitted c.0 (submission_of 0 r) in
     let here : slice_get submitted c.0 ≡ Some s = slice_get-get_or submitted c.0 (submission_of 0 r) lt in
-    let mapped : slice_get (map command_of submitted) c.0 ≡ Some (command_of s) = slice_get-map command_of submitted c.0 ∙ ap (option_map command_of) here in
-    let named : command_of s ≡ Request r = sym (get_or_from_slice_get (map command_of submitted) c.0 (command_of s) (Request r) mapped) ∙ c.2 in
+    let mapped : slice_get (map command_of submitted) c.0 ≡ Some (command_of s) = slice_get-map command_of submitted c.0
+    ∙ ap (option_map command_of) here in
+    let named : command_of s ≡ Request r = sym (get_or_from_slice_get (map command_of submitted) c.0 (command_of s) (Request r) mapped)
+    ∙ c.2 in
     record {
       submission = s;
       taken = (c.0, lt, get_or_from_slice_get submitted c.0 s s here);
@@ -60,11 +63,13 @@ submitted_in submitted (Request r) (inr c) =
     }
 
 module _ {S : Type 0} where
-  chosen_of : (w : WorldState S) (h : HasAgreed w) (t : Learnt) → Contains w.learnt t → Chosen (length w.nodes) h.state.past t.slot t.command
+  chosen_of : (w : WorldState S) (h : HasAgreed w) (t : Learnt) → Contains w.learnt t
+      → Chosen (length w.nodes) h.state.past t.slot t.command
   chosen_of w h t c = h.agreed.learnt (learning_of t) (subst (λ (l : List (Learning Command)). Contains l (learning_of t)) (sym h.learnt)
       (map_contains learning_of w.learnt t c))
 
-  grounded_of : (w : WorldState S) (h : HasAgreed w) (slot : ℕ) (c : Command) → Chosen (length w.nodes) h.state.past slot c → IsGrounded w.submitted c
+  grounded_of : (w : WorldState S) (h : HasAgreed w) (slot : ℕ) (c : Command) → Chosen (length w.nodes) h.state.past slot c
+      → IsGrounded w.submitted c
   grounded_of w h slot c chosen = submitted_in w.submitted c (elim (h.agreed.submitted slot c chosen) [
     | inl none ↦ inl none
     | inr asked ↦ inr (subst (λ (l : List Command). Contains l c) h.submitted asked)
@@ -93,7 +98,8 @@ module _ {S : Type 0} where
   writes_at : (nodes : List (NodeState (Script S))) (i : ℕ) (n : NodeState (Script S)) → slice_get nodes i ≡ Some n
       → slice_get (writes_of nodes) i ≡ Some n.storage.writes
   writes_at nodes i n e =
-      slice_get-map (λ (m : NodeState (Script S)). m.storage.writes) nodes i ∙ ap (option_map (λ (m : NodeState (Script S)). m.storage.writes)) e
+      slice_get-map (λ (m : NodeState (Script S)). m.storage.writes) nodes i
+      ∙ ap (option_map (λ (m : NodeState (Script S)). m.storage.writes)) e
 
   length-writes : (nodes : List (NodeState (Script S))) → length (writes_of nodes) ≡ length nodes
   length-writes nodes = length-map nodes (λ (m : NodeState (Script S)). m.storage.writes)
@@ -116,7 +122,8 @@ module _ {S : Type 0} (w : WorldState S) (h : HasAgreed w) where
       each = λ a lt e.
           let below : a < length w.nodes = subst (λ n. a < n) (length-writes w.nodes) lt in
           let n = one_there w.nodes a below in
-          subst (λ (o : Option (List Write)). IfSome o (λ writes. HasVote writes (voted slot chosen.0 c))) (sym (writes_at w.nodes a n.0 n.1))
+          subst (λ (o : Option (List Write)). IfSome o (λ writes. HasVote writes (voted slot chosen.0 c)))
+          (sym (writes_at w.nodes a n.0 n.1))
           ((h.votes a n.0 n.1 (voted slot chosen.0 c)).0 (chosen.1.each a below e));
     },
   )
@@ -164,7 +171,7 @@ nothing_agrees records e = subst (λ (c : Records). RecordsAgree c nothing_writt
   accepting = nothing_held;
   round = zero;
   holds = record { acceptor = RecordsSay-nothing; proposer = refl };
-  stands = record { promise = refl; vote = λ s. refl; round_ = refl; floor_ = refl };
+  stands = record { promise = refl; vote = λ s from. refl; round_ = refl; floor_ = refl };
 })
 
 module _ {S : Type 0} {storages : Ghosts (Script S)} where

@@ -44,7 +44,8 @@ sound_is_safe w sound =
       valid = sound.valid;
     }
 
-pub safe_if_honest : {S : Type 0} {contents : Script S → Records} {IsHonest : Script S → Type 0} (w : WorldState S) → IsSoundIfHonest contents IsHonest w
+pub safe_if_honest : {S : Type 0} {contents : Script S → Records} {IsHonest : Script S → Type 0} (w : WorldState S)
+    → IsSoundIfHonest contents IsHonest w
     → AreHonest IsHonest w.nodes → IsSafe w
 safe_if_honest w h honest = sound_is_safe w (h.sound honest)
 
@@ -72,7 +73,8 @@ module _ {S : Type 0} {storages : Ghosts (Script S)} (laws : IsLawful storages)
   same_nodes : (old new : WorldState S) → new.nodes ≡ old.nodes → Honest new → Honest old
   same_nodes old new e honest = subst (λ (x : List (NodeState (Script S))). AreHonest storages.IsHonest x) e honest
 
-  received_honest : (old : WorldState S) (frame : _) (new : WorldState S) (o : Option Mind) (h : ReceivesAt storages old frame new) → h.receiver.up ≡ o
+  received_honest : (old : WorldState S) (frame : _) (new : WorldState S) (o : Option Mind) (h : ReceivesAt storages old frame new)
+      → h.receiver.up ≡ o
       → IsFleet old.nodes old.frames → Honest new → Honest old
   received_honest old frame new None h up fleet honest = same_nodes old new (ap (λ (w : WorldState S). w.nodes) (h.lost up)) honest
   received_honest old frame new (Some m) h up fleet honest =
@@ -84,25 +86,31 @@ module _ {S : Type 0} {storages : Ghosts (Script S)} (laws : IsLawful storages)
   step_honest old (event.Submit node client number op) new h fleet honest =
       let r : Asked = record { client = client; number = number; op = op } in
       let then : Honest h.between = same_nodes h.between new
-      (ap (λ (w : WorldState S). w.nodes) h.leaves ∙ submission_nodes laws armed_honest armed_contents lists h.between h.taken node r) honest in
+      (ap (λ (w : WorldState S). w.nodes) h.leaves ∙ submission_nodes laws armed_honest armed_contents lists h.between h.taken node r)
+      honest in
       honest_took laws armed_honest armed_contents lists old node (input.Submit client number op) h.taken h.between h.takes fleet then
   step_honest old (event.Deliver k) new h fleet honest =
       received_honest (without_wait old k) h.frame new h.receives.receiver.up h.receives refl fleet honest
   step_honest old (event.Drop k) new h fleet honest = same_nodes old new (ap (λ (w : WorldState S). w.nodes) h) honest
-  step_honest old (event.Timeout node) new h fleet honest = honest_took laws armed_honest armed_contents lists old node input.Timeout h.0 new h.1 fleet honest
-  step_honest old (event.Tick node) new h fleet honest = honest_took laws armed_honest armed_contents lists old node input.Tick h.0 new h.1 fleet honest
+  step_honest old (event.Timeout node) new h fleet honest = honest_took laws armed_honest armed_contents lists old node input.Timeout h.0
+      new h.1 fleet honest
+  step_honest old (event.Tick node) new h fleet honest = honest_took laws armed_honest armed_contents lists old node input.Tick h.0 new h.1
+      fleet honest
   step_honest old (event.Restart node) new h fleet honest =
-      honest_nodes laws armed_honest armed_contents lists old.nodes node h.before h.after h.here (restart_honest laws h.before h.after h.result h.restarts)
+      honest_nodes laws armed_honest armed_contents lists old.nodes node h.before h.after h.here
+      (restart_honest laws h.before h.after h.result h.restarts)
       (subst (λ (x : List (NodeState (Script S))). AreHonest storages.IsHonest x) (ap (λ (w : WorldState S). w.nodes) h.leaves) honest)
   step_honest old (event.Fault node failing) new h fleet honest =
       honest_nodes laws armed_honest armed_contents lists old.nodes node h.before _ h.here (armed_honest h.before.storage failing)
       (subst (λ (x : List (NodeState (Script S))). AreHonest storages.IsHonest x) (ap (λ (w : WorldState S). w.nodes) h.leaves) honest)
   step_honest old (event.Query node query) new h fleet honest =
-      same_nodes old new (ap (λ (w : WorldState S). w.nodes) h.leaves ∙ answered_nodes laws armed_honest armed_contents lists old node query h.result) honest
+      same_nodes old new (ap (λ (w : WorldState S). w.nodes) h.leaves
+      ∙ answered_nodes laws armed_honest armed_contents lists old node query h.result) honest
 
   -- ---- a step
   pub step_sound : (old : WorldState S) (e : Event) (new : WorldState S) → Steps storages old e new
-      → IsFleet old.nodes old.frames → IsSoundIfHonest storages.contents storages.IsHonest old → IsSoundIfHonest storages.contents storages.IsHonest new
+      → IsFleet old.nodes old.frames → IsSoundIfHonest storages.contents storages.IsHonest old
+      → IsSoundIfHonest storages.contents storages.IsHonest new
   step_sound old e new h fleet before = record {
     sound = λ honest.
         let was = before.sound (step_honest old e new h fleet honest) in

@@ -1,5 +1,6 @@
 -- Every step keeps the lists as long as the outcomes say.
-use Rattle.std.proofs.Common.{◌≡◌, ℕ, List, [], ◌∷◌, ◌++◌, length, sum_by, Bool, true, false, Option, Some, None, IsSome, Result, Ok, Err, if◌then◌else◌, refl, sym, subst, arith}
+use Rattle.std.proofs.Common.{◌≡◌, ℕ, List, [], ◌∷◌, ◌++◌, length, sum_by, Bool, true, false, Option, Some, None, IsSome, Result, Ok, Err}
+use Rattle.std.proofs.Common.{if◌then◌else◌, refl, sym, subst, arith}
 use Rattle.std.proofs.lemmas.List.{length-append, length-map}
 use Rattle.std.proofs.lemmas.List.Sums.{sum_by-append}
 use Rattle.stable.specs.Script.{Script}
@@ -20,7 +21,8 @@ use Rattle.node.specs.Minds.{Mind}
 use Rattle.node.specs.Outputs.{Response}
 use Rattle.node.specs.States.{NodeState}
 use Rattle.world.specs.Tallies.{learnt_told, replies_told, answers_told, IsTallied, StepsTally}
-use Rattle.world.specs.Worlds.{WorldState, TakesAt, ReceivesAt, Steps, with_node, with_response, with_outcome, recorded, with_submission, answered, restart_outcome, without_wait, learnt_by}
+use Rattle.world.specs.Worlds.{WorldState, TakesAt, ReceivesAt, Steps, with_node, with_response, with_outcome, recorded, with_submission}
+use Rattle.world.specs.Worlds.{answered, restart_outcome, without_wait, learnt_by}
 use Rattle.world.specs.Outputs.{replied_at, replied_by}
 
 -- entries join a list, and an outcome tells of as many
@@ -70,7 +72,8 @@ module _ {S : Type 0} where
   submitted_tallied w true node r t = record { learnt = t.learnt; replies = t.replies; answers = t.answers }
   submitted_tallied w false node r t = t
 
-  answered_tallied : (w : WorldState S) (node : ℕ) (query : Query) (r : Result (ℕ × List ℕ) NodeFault) → IsTallied w → IsTallied (answered w node query r)
+  answered_tallied : (w : WorldState S) (node : ℕ) (query : Query) (r : Result (ℕ × List ℕ) NodeFault) → IsTallied w
+      → IsTallied (answered w node query r)
   answered_tallied w node query (Ok told) t = record {
     learnt = stays w.learnt learnt_told w.outcomes Answered t.learnt refl;
     replies = stays w.replies replies_told w.outcomes Answered t.replies refl;

@@ -1,5 +1,6 @@
 -- Storages over which no run begins.
-use Rattle.std.proofs.Common.{◌≡◌, ◌==◌, ◌↔◌, ◌⊎◌, inl, inr, ℕ, zero, List, [], ◌∷◌, ◌++◌, length, false, Option, None, IsSome, Contains, All, Result, Ok, Err, IfErr, refl, sym, ap, subst, arith, true≢false}
+use Rattle.std.proofs.Common.{◌≡◌, ◌==◌, ◌↔◌, ◌⊎◌, inl, inr, ℕ, zero, List, [], ◌∷◌, ◌++◌, length, false, Option, None, IsSome, Contains}
+use Rattle.std.proofs.Common.{All, Result, Ok, Err, IfErr, refl, sym, ap, subst, arith, true≢false}
 use Rattle.std.proofs.lemmas.List.Elements.{All-contains, Contains-append_right}
 use Rattle.stable.specs.Memory.{in_memory, stored}
 use Rattle.stable.specs.Records.{Records, no_records}

@@ -1,5 +1,6 @@
 -- What was submitted stays valid.
-use Rattle.std.proofs.Common.{◌≡◌, ℕ, inl, inr, List, [], ◌∷◌, ◌++◌, Bool, true, false, Option, Some, None, IsSome, Contains, Result, Ok, Err, refl, sym, ap, ◌∙◌, subst}
+use Rattle.std.proofs.Common.{◌≡◌, ℕ, inl, inr, List, [], ◌∷◌, ◌++◌, Bool, true, false, Option, Some, None, IsSome, Contains, Result, Ok}
+use Rattle.std.proofs.Common.{Err, refl, sym, ap, ◌∙◌, subst}
 use Rattle.std.proofs.lemmas.List.Elements.{Contains-push_cases}
 use Rattle.stable.specs.Script.{Script}
 use Rattle.stable.specs.declared.stable.Stable.{Ghosts}
@@ -45,7 +46,8 @@ module _ {S : Type 0} where
   recorded_same w node (Ok said) = refl
   recorded_same w node (Err f) = refl
 
-  answered_same : (w : WorldState S) (node : ℕ) (query : Query) (r : Result (ℕ × List ℕ) NodeFault) → (answered w node query r).submitted ≡ w.submitted
+  answered_same : (w : WorldState S) (node : ℕ) (query : Query) (r : Result (ℕ × List ℕ) NodeFault)
+      → (answered w node query r).submitted ≡ w.submitted
   answered_same w node query (Ok told) = refl
   answered_same w node query (Err f) = refl
 

@@ -1,5 +1,6 @@
 -- The protocol's votes are those that the list of writes tells, and stay so.
 use Rattle.std.proofs.Common.{◌≡◌, ℕ, List, Option, Some, None, IfSome, Contains, option_map, inl, inr, refl, sym, ap, subst, ◌∙◌}
+use Rattle.std.proofs.Common.{◌≤◌, arith}
 use Rattle.std.proofs.lemmas.Option.{none-some}
 use Rattle.synod.specs.Records as synod_records
 use Rattle.synod.specs.Acts as act
@@ -38,24 +39,33 @@ module _ {S : Type 0} (contents : Script S → Records) where
   pub each_held : (s : Script S) → ((w : Write) → Shows (contents s) w → TookEffect contents s w) → (key : Key) → HoldsPut contents s key
   each_held s shown key = if_some (contents s key) (λ bytes here. shown (key, bytes) here)
 
+  -- what a node's records tell of reaches down to each slot
+  from_the_floor : (n : NodeState (Script S)) (y : Local Command) → (stands : NodeStands contents n y) → (s : ℕ)
+      → stands.records.accepting.floor ≤ s
+  from_the_floor n y stands s = omega (arith, stands.records.holds.acceptor.floor)
+
   -- what a node's records hold at a vote's slot
   vote_shows : (n : NodeState (Script S)) (y : Local Command) → (stands : NodeStands contents n y) → (v : Vote Command)
       → y.records.vote v.slot ≡ Some v → Shows (contents n.storage) (vote_put v)
   vote_shows n y stands v e =
-      stands.records.holds.acceptor.vote_record v.slot ∙ ap (option_map vote_bytes) (sym (stands.records.stands.vote v.slot) ∙ e)
+      let low = from_the_floor n y stands v.slot in
+      stands.records.holds.acceptor.vote_record v.slot low ∙ ap (option_map vote_bytes) (sym (stands.records.stands.vote v.slot low) ∙ e)
 
   vote_fits : (n : NodeState (Script S)) (y : Local Command) → (stands : NodeStands contents n y) → (v : Vote Command)
       → y.records.vote v.slot ≡ Some v → VoteFits v
   vote_fits n y stands v e =
-      subst (λ (o : Option (Vote Command)). IfSome o VoteFits) (sym (stands.records.stands.vote v.slot) ∙ e)
-      (stands.records.holds.acceptor.votes_fit v.slot)
+      let low = from_the_floor n y stands v.slot in
+      subst (λ (o : Option (Vote Command)). IfSome o VoteFits) (sym (stands.records.stands.vote v.slot low) ∙ e)
+      (stands.records.holds.acceptor.votes_fit v.slot low)
 
   vote_stands : (n : NodeState (Script S)) (y : Local Command) → (stands : NodeStands contents n y) → (v : Vote Command) → VoteFits v
       → Shows (contents n.storage) (vote_put v) → y.records.vote v.slot ≡ Some v
   vote_stands n y stands v fits shows =
       let says = stands.records.holds.acceptor in
-      stands.records.stands.vote v.slot
-      ∙ one_spelled (stands.records.accepting.vote v.slot) v (says.at_its_slot v.slot) (says.votes_fit v.slot) fits (sym (says.vote_record v.slot) ∙ shows)
+      let low = from_the_floor n y stands v.slot in
+      stands.records.stands.vote v.slot low
+      ∙ one_spelled (stands.records.accepting.vote v.slot) v (says.at_its_slot v.slot low) (says.votes_fit v.slot low) fits
+      (sym (says.vote_record v.slot low) ∙ shows)
 
   -- what acts of a node make of its votes, and what became of its storage
   pub puts_go_on : (f : Fleet Command) (i : ℕ) (input : act.Input Command) (x y : Local Command) (a : Script S) (n : NodeState (Script S))
@@ -78,7 +88,8 @@ module _ {S : Type 0} (contents : Script S → Records) where
   }
 
   -- of a storage that is the same
-  pub puts_same : (a b : Script S) (r : synod_records.Records Command) → IsSame contents a b → PutsStand contents a r → PutsStand contents b r
+  pub puts_same : (a b : Script S) (r : synod_records.Records Command) → IsSame contents a b → PutsStand contents a r
+      → PutsStand contents b r
   puts_same a b r same puts = record {
     held = each_held b (λ w shows. same.to w (held_shown a puts.held w (subst (λ (c : Records). Shows c w) same.records shows)));
     fit = puts.fit;

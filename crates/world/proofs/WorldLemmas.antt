@@ -1,5 +1,6 @@
 -- One node of a world is changed.
-use Rattle.std.proofs.Common.{◌≡◌, ℕ, ◌<◌, List, map, length, slice_get, slice_set, Option, Some, None, IsSome, option_map, sym, ap, ◌∙◌, subst, rules, arith}
+use Rattle.std.proofs.Common.{◌≡◌, ℕ, ◌<◌, List, map, length, slice_get, slice_set, Option, Some, None, IsSome, option_map, sym, ap, ◌∙◌}
+use Rattle.std.proofs.Common.{subst, rules, arith}
 use Rattle.std.proofs.lemmas.List.{map-set}
 use Rattle.std.proofs.lemmas.Option.{slice_get-map, slice_get_read}
 use Rattle.std.proofs.Math.ListN.{get_or}

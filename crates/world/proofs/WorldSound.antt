@@ -30,7 +30,8 @@ abbrev failed : WorldFault → Result ℕ WorldFault
 failed f = Err f
 
 -- what is sound is safe, where every storage is honest
-pub safe_where_honest : {S : Type 0} {contents : Script S → Records} {IsHonest : Script S → Type 0} (w : WorldState S) → ∥ IsSoundIfHonest contents IsHonest w ∥₁
+pub safe_where_honest : {S : Type 0} {contents : Script S → Records} {IsHonest : Script S → Type 0} (w : WorldState S)
+    → ∥ IsSoundIfHonest contents IsHonest w ∥₁
     → AreHonest IsHonest w.nodes → ∥ IsSafe w ∥₁
 safe_where_honest w sound honest = ∥∥₁_map sound (λ h. safe_if_honest w h honest)
 
@@ -42,7 +43,8 @@ stays_safe storages r few sound inside =
     let honest = honest_outside storages.IsHonest r few inside in
     record {
       honest = honest;
-      safe = safe_where_honest {contents = contents_inside storages.contents} {IsHonest = honest_inside storages.IsHonest} (run_of r) sound honest;
+      safe = safe_where_honest {contents = contents_inside storages.contents} {IsHonest = honest_inside storages.IsHonest}
+          (run_of r) sound honest;
     }
 
 -- what a round comes to

@@ -91,7 +91,8 @@ pub record Progresses {S : Type 0} (old : WorldState S) (node : ℕ) (members : 
       → IsGreatestAbove old members ballot greatest → (end ≡ TooLow greatest) ⊎ IsStopped end
 
 -- the round has made progress, up to the world to which its end is told
-pub record MakesProgress {S : Type 0} (old : WorldState S) (node : ℕ) (members : List ℕ) (end : RoundEnd) (new : WorldState S) : Type 0 where
+pub record MakesProgress {S : Type 0} (old : WorldState S) (node : ℕ) (members : List ℕ) (end : RoundEnd)
+    (new : WorldState S) : Type 0 where
   pub reached : WorldState S
   pub leaves : new ≡ with_outcome reached (outcome.Round node end)
   pub progresses : Progresses old node members end reached

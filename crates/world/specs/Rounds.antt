@@ -1,6 +1,7 @@
 -- A round by hand: a node's campaign among some members alone. Each phase hands on what was sent in the phase before; how the
 -- round ends, and what it leaves.
-use Rattle.std.specs.Prelude.{◌≡◌, ◌≢◌, ◌⊎◌, ℕ, suc, ◌<◌, ◌≤◌, List, [], ◌∷◌, length, drop, slice_get, All, AllPairs, Any, Contains, Bool, true, false, Option, Some, None, IfSome, is_some, nat_lt, if◌then◌else◌}
+use Rattle.std.specs.Prelude.{◌≡◌, ◌≢◌, ◌⊎◌, ℕ, suc, ◌<◌, ◌≤◌, List, [], ◌∷◌, length, drop, slice_get, All, AllPairs, Any, Contains, Bool}
+use Rattle.std.specs.Prelude.{true, false, Option, Some, None, IfSome, is_some, nat_lt, if◌then◌else◌}
 use Rattle.stable.specs.Script.{Script}
 use Rattle.stable.specs.declared.stable.Stable.{Ghosts}
 use Rattle.synod.specs.Ballots.{rank}

@@ -1,5 +1,6 @@
 -- The world: all nodes, everything that was sent, and everything that came of it.
-use Rattle.std.specs.Prelude.{◌≡◌, ℕ, ◌+◌, ◌≤◌, List, [], ◌∷◌, ◌++◌, length, replicate, map, slice_get, slice_set, Bool, true, false, Option, Some, None, is_ok, Result, Ok, Err, IsSome, OnOk, vec_len, vec_capacity, if◌then◌else◌}
+use Rattle.std.specs.Prelude.{◌≡◌, ℕ, ◌+◌, ◌≤◌, List, [], ◌∷◌, ◌++◌, length, replicate, map, slice_get, slice_set, Bool, true, false}
+use Rattle.std.specs.Prelude.{Option, Some, None, is_ok, Result, Ok, Err, IsSome, OnOk, vec_len, vec_capacity, if◌then◌else◌}
 use Rattle.stable.specs.Script.{Script}
 use Rattle.stable.specs.declared.scripted.Failing.{Failing}
 use Rattle.stable.specs.declared.stable.Stable.{Ghosts}

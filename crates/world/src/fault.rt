@@ -5,6 +5,8 @@ ghost use Rattle.world.specs.Faults.{world_code};
 ghost use Rattle.world.specs.declared.fault.WorldFault.TheVariants as world_fault;
 
 use std::alloc::{AllocError, AllocFailed};
+use std::error::Error;
+use std::fmt;
 
 /// Why a world does not do what it is asked. A step leaves it as it was; what a flush has delivered stays delivered.
 #[derive(Clone, Copy, Debug, PartialEq, Eq)]
@@ -35,6 +37,20 @@ impl WorldFault {
         }
     }
 }
+
+impl fmt::Display for WorldFault {
+    fn fmt<W: fmt::Write>(&self, f: &mut fmt::Formatter<W>) -> fmt::Result {
+        f.write_str(match self {
+            WorldFault::NoSuchMessage => "no frame of this number was sent",
+            WorldFault::NoSuchNode => "the run has no such node",
+            WorldFault::FlushLimit => "a frame still waits after the most that a flush delivers",
+            WorldFault::Memory => "out of memory",
+            WorldFault::NotEmpty => "a storage holds a record already",
+        })
+    }
+}
+
+impl Error for WorldFault {}
 
 impl From<AllocError> for WorldFault {
     ghost from_gives = { λ _ fault. fault ≡ world_fault.Memory };

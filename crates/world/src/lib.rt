@@ -12,8 +12,6 @@ mod round_end;
 mod rounds;
 mod run;
 mod start;
-#[cfg(test)]
-mod tests;
 mod world;
 
 pub use event::Event;

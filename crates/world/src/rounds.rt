@@ -1,6 +1,7 @@
 //! A round by hand: a node's campaign among some members alone.
 
-ghost use Rattle.std.specs.Prelude.{◌≡◌, ◌≢◌, ◌≤◌, ◌<◌, ◌↔◌, ◌⊎◌, ℕ, All, AllPairs, Any, Contains, length, drop, vec_len, true, IfErr, IfOk, IfSome, Ok, Err, IsErrOf, IsTrue, MatchBool, MatchOption, OnErr, OnOk};
+ghost use Rattle.std.specs.Prelude.{◌≡◌, ◌≢◌, ◌≤◌, ◌<◌, ◌↔◌, ◌⊎◌, ℕ, All, AllPairs, Any, Contains, length, drop, vec_len, true, IfErr};
+ghost use Rattle.std.specs.Prelude.{IfOk, IfSome, Ok, Err, IsErrOf, IsTrue, MatchBool, MatchOption, OnErr, OnOk};
 ghost use Rattle.node.specs.Faults.{is_stop_fault};
 ghost use Rattle.world.specs.Rounds.{IsGreatestTold, IsQuorum, NoneRefuses, greater, refusal_in};
 ghost use Rattle.world.specs.declared.round_end.RoundEnd.TheVariants as end;
@@ -16,7 +17,8 @@ use wire::{Envelope, Frame, Message, NodeId};
 
 impl<S: Stable> Run<S> {
     ghost use Rattle.world.specs.Worlds.{run_of};
-    ghost use Rattle.world.specs.Rounds.{NamesNoMember, IsLowestDown, CanMeet, IsAt, DeliversTo, DeliversPart, GoesDownOn, EndsIn, MeetingEnds, IsInterrupted, RoundEnds, IsPartOfRound, is_up};
+    ghost use Rattle.world.specs.Rounds.{NamesNoMember, IsLowestDown, CanMeet, IsAt, DeliversTo, DeliversPart, GoesDownOn, EndsIn};
+    ghost use Rattle.world.specs.Rounds.{MeetingEnds, IsInterrupted, RoundEnds, IsPartOfRound, is_up};
 
     /// A round of a node with these members, by hand, and how it ended.
     pub fn round(

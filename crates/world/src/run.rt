@@ -1,6 +1,8 @@
 //! The world: all nodes, everything that was sent, and everything that came of it.
 
-ghost use Rattle.std.specs.Prelude.{◌≡◌, ◌≤◌, ◌<◌, ◌+◌, ◌++◌, ◌∷◌, [], ◌↔◌, ℕ, true, length, vec_len, vec_capacity, Some, None, IsNone, OnOk, OnErr, IsOk, IsErrOf, ◌⊎◌, Bool, IfOk, IfErr, IfSome, IsTrue, is_ok, slice_get, MatchBool, MatchOption, All, map};
+ghost use Rattle.std.specs.Prelude.{◌≡◌, ◌≤◌, ◌<◌, ◌+◌, ◌++◌, ◌∷◌, [], ◌↔◌, ℕ, true, length, vec_len, vec_capacity, Some, None, IsNone};
+ghost use Rattle.std.specs.Prelude.{OnOk, OnErr, IsOk, IsErrOf, ◌⊎◌, Bool, IfOk, IfErr, IfSome, IsTrue, is_ok, slice_get, MatchBool};
+ghost use Rattle.std.specs.Prelude.{MatchOption, All, map};
 ghost use Rattle.store.specs.Operations.{IsSound};
 ghost use Rattle.node.specs.Faults.{is_stop_fault};
 ghost use Rattle.node.specs.Nodes.{state_of};
@@ -78,7 +80,8 @@ impl<S: Stable + Drop> Run<S> {
 }
 
 impl<S: Stable> Run<S> {
-    ghost use Rattle.world.specs.Worlds.{run_of, with_response, with_outcome, outcome_of, TakesAt, SubmitsAt, ArmsAt, AsksAt, ReceivesAt, DeliversFrame, RestartsAt, Steps, with_answer, quiet, without_wait, HasRoom};
+    ghost use Rattle.world.specs.Worlds.{run_of, with_response, with_outcome, outcome_of, TakesAt, SubmitsAt, ArmsAt, AsksAt, ReceivesAt};
+    ghost use Rattle.world.specs.Worlds.{DeliversFrame, RestartsAt, Steps, with_answer, quiet, without_wait, HasRoom};
     ghost use Rattle.world.specs.Events.{NamesNoFrame, NamesNoNode};
     ghost use Rattle.world.specs.Flushing.{Delivers, DeliversSome};
     ghost use Rattle.world.specs.Rounds.{is_up, IsAt, RefusesToBegin, FailsToBegin};

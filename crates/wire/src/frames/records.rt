@@ -114,6 +114,3 @@ fn read_choice(alloc: Global, input: &mut Input) -> Result<(Ballot, Command), Wi
     let command = read_command(alloc, input)?;
     Ok((ballot, command))
 }
-
-#[cfg(test)]
-mod tests;

@@ -5,4 +5,5 @@ pub returns-clause-write : goal.returns-clause-write
 returns-clause-write c = λ f i input x a round b stands. prepare_writes f i input x a round stands b
 
 pub returns-clause-answer : goal.returns-clause-answer
-returns-clause-answer c = λ f i input x a round nodes to first b answer stands answers. prepare_answers f i input x a round stands nodes to first b answer answers
+returns-clause-answer c = λ f i input x a round nodes to first b answer stands answers. prepare_answers f i input x a round stands nodes to
+    first b answer answers

@@ -1,6 +1,6 @@
 use Rattle.std.proofs.Common.{◌≡◌, ◌∙◌, ap, arith}
 use Rattle.timeindex.specs.Entries.{with_entry}
-use Rattle.timeindex.specs.declared.entry.Entry.{Entry}
+use Rattle.timeindex.specs.Entries.{Entry}
 use Rattle.benchmarks.specs.Indexes.{entry_at}
 use Rattle.benchmarks.proofs.Indexing.{entries_none, entries_more}
 use Rattle.benchmarks.proofs.indexes.index_of.Goals as goal

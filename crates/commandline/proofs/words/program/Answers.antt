@@ -46,6 +46,8 @@ returns c =
     let first_is : app_of c.in_ok-subcommand.field-0 ≡ with_subcommand (with_names_alone (without_help (new_app (codes "mfpx"))))
     replay_form.top =
     c.in_ok-subcommand.ensures.shape
-    (rw (c.in_ok-replay.ensures.globals, c.in_ok-arg.ensures.globals, folder_local, file_local) (neither _ (rw (c.disable_help_flag.ensures) c.new.ensures.local))) ∙ ap₂ with_subcommand top_is (ap (λ (a : App). a.top) replay_is) in
+    (rw (c.in_ok-replay.ensures.globals, c.in_ok-arg.ensures.globals, folder_local, file_local)
+    (neither _ (rw (c.disable_help_flag.ensures) c.new.ensures.local)))
+    ∙ ap₂ with_subcommand top_is (ap (λ (a : App). a.top) replay_is) in
     IfOk-weaker c.subcommand-2.result _ _
     (λ r h. h.shape (search rules) ∙ ap₂ with_subcommand first_is (ap (λ (a : App). a.top) check_is)) c.subcommand-2.ensures

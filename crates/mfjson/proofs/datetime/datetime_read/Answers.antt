@@ -28,4 +28,5 @@ returns-in_ok-second_of-in-20 c t =
 pub returns-in_ok-number-in-24 : goal.returns-in_ok-number-in-24
 returns-in_ok-number-in-24 c t =
     let is = (c.in_ok-number-in-24.ensures.exact _).1 refl in
-    rw c.instant-in-24.ensures (long_exact c.args.text.now _ _ (search rules) (search rules) (search rules) is (search rules) c.in_ok-second-in-24.ensures.exact t)
+    rw c.instant-in-24.ensures (long_exact c.args.text.now _ _ (search rules) (search rules) (search rules) is
+    (search rules) c.in_ok-second-in-24.ensures.exact t)

@@ -14,7 +14,8 @@ returns-clause-text c =
     let is_civil : IsCivilDate (pos c.year_of-year.result) date.month date.day = rw year at (civil date) in
     let number : days_from_civil (pos c.year_of-year.result) date.month date.day ≡ pos (c.args.t / 1000 / 86400) =
     let counted = c.date_of-date.ensures in rw (year, t_is) at counted in
-    datetime_made c.text_of.result c.args.t c.year_of-year.result date.month date.day is_civil number (rw (c.from-month.ensures, c.from-day.ensures, t_is) at c.text_of.ensures)
+    datetime_made c.text_of.result c.args.t c.year_of-year.result date.month date.day is_civil number
+    (rw (c.from-month.ensures, c.from-day.ensures, t_is) at c.text_of.ensures)
 
 pub returns-clause-only : goal.returns-clause-only
 returns-clause-only c text is = datetime_one text _ c.args.t is (returns-clause-text c)

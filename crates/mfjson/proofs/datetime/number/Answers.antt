@@ -13,7 +13,8 @@ returns-then-not-is_ascii_digit-clause-exact c n =
 pub loop-byte-preserved : goal.loop-byte-preserved
 loop-byte-preserved c =
     let digit : IsAsciiDigit (get_or c.args.text.now c.loop-byte.byte-index 0) = search rules in
-    rw c.from.ensures (number_step c.args.text.now c.loop-byte.byte-index c.loop-byte.n (omega arith) digit c.loop-byte.invariant.below c.loop-byte.invariant.read)
+    rw c.from.ensures (number_step c.args.text.now c.loop-byte.byte-index c.loop-byte.n
+    (omega arith) digit c.loop-byte.invariant.below c.loop-byte.invariant.read)
 
 pub returns-clause-exact : goal.returns-clause-exact
 returns-clause-exact c n =

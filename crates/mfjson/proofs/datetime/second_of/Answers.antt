@@ -21,4 +21,5 @@ returns-in_err-second-clause-exact c n =
 
 pub returns-clause-exact : goal.returns-clause-exact
 returns-clause-exact c n =
-    rw (c.from.ensures, c.from-2.ensures) (second_exact c.args.text.now _ _ c.requires (search rules) c.in_ok-second.ensures.bound c.in_ok-day.ensures.exact c.in_ok-second.ensures.exact n)
+    rw (c.from.ensures, c.from-2.ensures) (second_exact c.args.text.now _ _ c.requires
+    (search rules) c.in_ok-second.ensures.bound c.in_ok-day.ensures.exact c.in_ok-second.ensures.exact n)

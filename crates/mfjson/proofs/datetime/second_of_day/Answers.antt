@@ -14,7 +14,8 @@ returns-clause-exact c n =
       minute_end = search rules;
       last = (c.in_ok-second.ensures.exact c.in_ok-second.second).1 refl;
     } in
-    clock_exact c.args.text.now c.in_ok-hour.hour c.in_ok-minute.minute c.in_ok-second.second read (omega arith) (omega arith) (omega arith) n
+    clock_exact c.args.text.now c.in_ok-hour.hour c.in_ok-minute.minute c.in_ok-second.second read (omega arith) (omega arith)
+    (omega arith) n
 
 pub returns-in_err-hour-clause-exact : goal.returns-in_err-hour-clause-exact
 returns-in_err-hour-clause-exact c n =
@@ -46,4 +47,5 @@ returns-then-hour-gt23-clause-exact c n =
       last = (c.in_ok-second.ensures.exact c.in_ok-second.second).1 refl;
     } in
     none_exact _ n (λ is.
-    let r = clock_range c.args.text.now c.in_ok-hour.hour c.in_ok-minute.minute c.in_ok-second.second read n is in omega (arith, c.then-hour-gt23.either, r.hours, r.minutes, r.seconds))
+    let r = clock_range c.args.text.now c.in_ok-hour.hour c.in_ok-minute.minute c.in_ok-second.second read n is in
+    omega (arith, c.then-hour-gt23.either, r.hours, r.minutes, r.seconds))

@@ -12,4 +12,5 @@ returns c =
     let parts : c.args.points.now ≡ first ∷ rest = cc (c.in-Some.ensures.cases.0) in
     let written = c.in_ok-push_position.ensures ∙ ap (λ s. old ++ 91 ∷ s) (position_spelled first) in
     subst (λ ps. Lists WritesWhere ps old c.push.new.self.items) (sym parts)
-    (all_listed WritesWhere first rest old _ _ _ (position first.x first.y) refl written c.in_ok-push_positions.ensures c.in_ok-push.ensures.items)
+    (all_listed WritesWhere first rest old _ _ _ (position first.x first.y) refl written c.in_ok-push_positions.ensures
+    c.in_ok-push.ensures.items)

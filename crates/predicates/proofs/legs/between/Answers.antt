@@ -3,7 +3,7 @@ use Rattle.std.proofs.lemmas.Int.{ints}
 use mir.Syntax.{w64}
 use Rattle.tpoint.specs.Fraction.{whole}
 use Rattle.tpoint.specs.Ways.{way}
-use Rattle.predicates.specs.Bounds.{Before}
+use Rattle.tpoint.specs.Extents.{Before}
 use Rattle.predicates.proofs.LegLemmas.{part_of_part, no_part, between_both}
 use Rattle.predicates.proofs.legs.between.Goals as goal
 

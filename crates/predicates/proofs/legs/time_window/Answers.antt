@@ -1,8 +1,8 @@
-use Rattle.std.proofs.Common.{◌≡◌, pos, to_z, of_z, arith, true}
+use Rattle.std.proofs.Common.{◌≡◌, pos, to_z, of_z, arith}
 use Rattle.std.proofs.lemmas.Int.{ints}
 use mir.Syntax.{w64}
 use Rattle.tpoint.specs.Moving.{moment}
-use Rattle.predicates.specs.Bounds.{Before}
+use Rattle.tpoint.specs.Extents.{Before}
 use Rattle.predicates.specs.Windows.{instant_at}
 use Rattle.predicates.proofs.LegLemmas.{part_of_part, no_part, in_time_both, timed}
 use Rattle.predicates.proofs.legs.time_window.Goals as goal
@@ -15,9 +15,11 @@ returns-in_err-begun c =
     let from : to_z w64 (of_z w64 c.ms-from.result) ≡ pos a.t = omega (arith, ints) in
     let to : to_z w64 (of_z w64 c.ms-to.result) ≡ pos b.t = omega (arith, ints) in
     let begin : to_z w64 (of_z w64 c.ms.result) ≡ pos p.begin = omega (arith, ints) in
+    let begin_in = c.begin_in.ensures.value in
     rw c.from_residual.ensures
     (λ u at.
-    no_part c.whole.result (λ u. Before true (moment p.begin) (instant_at a b u)) _ (rw (from, to, begin) at c.in_err-begun.ensures)
+    no_part c.whole.result (λ u. Before p.begin_in (moment p.begin) (instant_at a b u)) _
+    (rw (from, to, begin, begin_in) at c.in_err-begun.ensures)
     (λ u l. ((in_time_both a b p u).1 l).0)
     u
     ((c.whole.ensures u).1 at.in_leg, at.in_period))
@@ -30,9 +32,11 @@ returns c =
     let from : to_z w64 (of_z w64 c.ms-from.result) ≡ pos a.t = omega (arith, ints) in
     let to : to_z w64 (of_z w64 c.ms-to.result) ≡ pos b.t = omega (arith, ints) in
     let begin : to_z w64 (of_z w64 c.ms.result) ≡ pos p.begin = omega (arith, ints) in
+    let begin_in = c.begin_in.ensures.value in
     let end : to_z w64 (of_z w64 c.ms-2.result) ≡ pos p.end = omega (arith, ints) in
+    let end_in = c.end_in.ensures.value in
     timed a b p c.whole.result _ c.whole.ensures
     (part_of_part c.whole.result c.in_ok-begun.begun _ _ _ _
-    (rw (from, to, begin) at c.in_ok-begun.ensures)
+    (rw (from, to, begin, begin_in) at c.in_ok-begun.ensures)
     (in_time_both a b p)
-    (rw (from, to, end) at c.at_most.ensures))
+    (rw (from, to, end, end_in) at c.at_most.ensures))

@@ -1,5 +1,6 @@
 use Rattle.std.proofs.Common.{◌+◌, ◌≤◌, refl, length, IsTrue, rules, arith}
 use Rattle.std.proofs.lemmas.Option.{slice_get_read}
+use Rattle.tpoint.specs.Extents.{last_whole}
 use Rattle.predicates.proofs.SequenceLemmas.{first_inside, stayed_more}
 use Rattle.predicates.proofs.runs.first_left.Goals as goal
 
@@ -19,8 +20,9 @@ loop-k-preserved c =
     let k = c.loop-k.k in
     let b = c.index-points-k.result in
     let f = slice_get_read ps (length ps) (k + 1) b refl (omega arith) c.index-points-k.is in
-    let over : b.t ≤ p.end = search rules in
+    let has = c.last_whole.ensures.has_instant in
+    let over : b.t ≤ last_whole p = search rules in
     let inside : IsTrue c.contains-in-loop-k.result = let g = c.if-not-contains-2.false in search rules in
-    stayed_more ps p r c.args.from k b c.requires.increasing c.requires.begun (omega arith) f over
+    stayed_more ps p r c.args.from k b has c.requires.increasing c.requires.begun (omega arith) f over
     (c.contains-in-loop-k.ensures.0 inside)
     c.loop-k.invariant.0 c.loop-k.invariant.1

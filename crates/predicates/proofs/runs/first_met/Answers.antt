@@ -1,5 +1,6 @@
 use Rattle.std.proofs.Common.{◌+◌, ◌≤◌, refl, length, rules, arith}
 use Rattle.std.proofs.lemmas.Option.{slice_get_read}
+use Rattle.tpoint.specs.Extents.{last_whole}
 use Rattle.tpoint.specs.Pieces.{Piece}
 use Rattle.tpoint.specs.declared.interp.Interp.TheVariants.{Linear}
 use Rattle.predicates.specs.Questions.{Answers}
@@ -32,9 +33,10 @@ loop-k-preserved c =
     let b = c.index-points-k-in-loop-k.result in
     let e = slice_get_read ps (length ps) k a refl (omega arith) c.index-points-k.is in
     let f = slice_get_read ps (length ps) (k + 1) b refl (omega arith) c.index-points-k-in-loop-k.is in
-    let over : b.t ≤ p.end = search rules in
+    let has = c.last_whole.ensures.has_instant in
+    let over : b.t ≤ last_whole p = search rules in
     one_more (λ j. Answers Ever (Piece Linear ps j) p r No) c.args.from k c.loop-k.invariant
-    (passes_by ps p r c.args.from k a b c.requires.increasing c.requires.begun (omega arith) e f over
+    (passes_by ps p r c.args.from k a b has c.requires.increasing c.requires.begun (omega arith) e f over
     (λ h. let t = c.comes_in.ensures.1 h in let n = c.if-comes_in.false in absurd (cc)))
 
 -- the loop went up to the last point

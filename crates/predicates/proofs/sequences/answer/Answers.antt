@@ -1,6 +1,7 @@
 use Rattle.std.proofs.Common.{ℕ, List, sym, subst, refl, length, ◌<◌, arith, rules}
 use Rattle.std.proofs.lemmas.Option.{slice_get_read}
 use Rattle.tpoint.specs.Places.{EachAt}
+use Rattle.tpoint.specs.Extents.{last_whole}
 use Rattle.tpoint.specs.Moving.{Rises, InBounds}
 use Rattle.tpoint.specs.declared.point.Point.{Point}
 use Rattle.predicates.proofs.SequenceLemmas.{so_far_none, next_none, next_some, decided}
@@ -29,10 +30,10 @@ returns-then-lt c =
     let i = c.loop-i.i in
     let point = c.index-points-i.result in
     let there = slice_get_read ps (length ps) i point refl (omega arith) c.index-points-i.is in
-    let after : c.args.period.now.end < point.t = search rules in
+    let after : last_whole c.args.period.now < point.t = search rules in
     of_sequence c.args.question c.args.seq.now interp ps _ _ _ c.interp-interp.ensures.value c.points-points.ensures.value
     (answered c.args.question interp ps _ _ i _ c.loop-i.invariant
-    (λ j h. begins_after interp ps c.args.period.now i j point rise there after h))
+    (λ j h. begins_after interp ps c.args.period.now i j point c.last_whole.ensures.has_instant rise there after h))
 
 pub run_from-run-requires-clause-in_range : goal.run_from-run-requires-clause-in_range
 run_from-run-requires-clause-in_range c =

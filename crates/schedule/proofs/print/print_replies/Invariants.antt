@@ -4,4 +4,5 @@ use Rattle.schedule.proofs.print.print_replies.Given as goal
 
 -- what is written, and the lines that are left, make the whole
 abbrev pub invariant-loop-replied : goal.invariant-loop-replied
-invariant-loop-replied l = l.text.items ++ flat_map reply_line (drop l.replied-index l.replies) ≡ l.initial.text.items ++ flat_map reply_line l.replies
+invariant-loop-replied l = l.text.items ++ flat_map reply_line (drop l.replied-index l.replies) ≡ l.initial.text.items
+    ++ flat_map reply_line l.replies

@@ -26,7 +26,8 @@ returns-in_err-do_line-clause-ends g c =
     let at = c.loop-line in
     let steps = c.in-Some.ensures.steps.0 in
     let p = err_from_is_err_and c.from_residual.result c.from_residual.ensures.1 in
-    rw (p.1, p.2) (ends_here (scripted.ghosts g.row.S g.S.Stable g.S.Stable-dict) _ at.yielded _ _ _ _ _ _ _ (at.invariant.parts ∙ c.into_iter-line-iterator.ensures.into_iter_gives.0) steps
+    rw (p.1, p.2) (ends_here (scripted.ghosts g.row.S g.S.Stable g.S.Stable-dict) _ at.yielded _ _ _ _ _ _ _
+    (at.invariant.parts ∙ c.into_iter-line-iterator.ensures.into_iter_gives.0) steps
     at.invariant.led c.in_err-do_line.ensures.done)
 
 pub returns-clause-ends : goal.returns-clause-ends
@@ -35,4 +36,5 @@ returns-clause-ends g c =
     let none = c.in-None.ensures.steps in
     let empty : into_iter_items at.line-iterator ≡ [] = nothing_left _ (sym at.invariant.counted ∙ none.0) in
     let all = sym (append-nil at.yielded) ∙ rw empty at at.invariant.parts ∙ c.into_iter-line-iterator.ensures.into_iter_gives.0 in
-    subst (λ ls. Leads (scripted.ghosts g.row.S g.S.Stable g.S.Stable-dict) ls (world_of c.args.world.now) (world_of at.world)) all at.invariant.led
+    subst (λ ls. Leads (scripted.ghosts g.row.S g.S.Stable g.S.Stable-dict) ls (world_of c.args.world.now) (world_of at.world)) all
+    at.invariant.led

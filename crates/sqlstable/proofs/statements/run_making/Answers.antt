@@ -14,5 +14,6 @@ returns g c =
         omega (arith, c.execute.ensures.survives.clean, usable.0),
         executes_open old new c.args.sql.now [] c.execute.result (c.execute.ensures.runs usable.0) usable.1,
       );
-      made = λ clean. create_sound old new c.args.sql.now c.requires.making c.execute.result c.requires.blank c.requires.autocommit (c.execute.ensures.runs clean);
+      made = λ clean. create_sound old new c.args.sql.now c.requires.making c.execute.result c.requires.blank c.requires.autocommit
+          (c.execute.ensures.runs clean);
     }

@@ -11,6 +11,6 @@ returns-in-Some-2 c =
     IfOk-weaker c.part_text.result _ _ (λ text spelled.
     let told : SaysCut c.in-Some.feature.now.seq c.args.period.now text.items =
     cut_told c.in-Some.feature.now.seq c.args.period.now _ c.in-Some-2.part c.in_ok-part.ensures.cut
-    c.in-Some-2.is _ c.deref.ensures.value text.items spelled in
+    c.in-Some-2.is text.items spelled in
     subst (λ found. OfKnown (option_copied found) (λ f. SaysCut f.seq c.args.period.now text.items) text.items) (sym c.in-Some.is) told)
     c.part_text.ensures

@@ -28,4 +28,5 @@ write_text-requires-clause-room c =
 pub returns-clause-written : goal.returns-clause-written
 returns-clause-written c =
     fix_spelled c.args.fix.now _ _ _ _ _ _ c.write_text.ensures.written c.write_digits-start.ensures.written
-    c.write_byte-start.ensures.written c.write_place-start.ensures.written (drop_all 147 c.args.line.now (omega arith)) c.milliseconds.ensures
+    c.write_byte-start.ensures.written c.write_place-start.ensures.written
+    (drop_all 147 c.args.line.now (omega arith)) c.milliseconds.ensures

@@ -53,8 +53,10 @@ loop-key-preserved g c =
           let still = law.reads_honest _ _ c.in_ok-take_in.ensures.reads honest in
           let listed = law.reads_honest _ _ c.loop-key.invariant.0 still in
           let same = law.reads_contents _ _ read still in
-          let sorted = subst (λ (xs : List Key). IsAscending xs) (sym c.deref-key-items.ensures.value) (c.in_ok-keys.ensures.ascending listed) in
-          says_more _ _ keys i c.key-item.result _ _ sorted lt c.key-item.is same (c.in_ok-take_in.ensures.told honest) (c.loop-key.invariant.1 still),
+          let sorted = subst (λ (xs : List Key). IsAscending xs) (sym c.deref-key-items.ensures.value)
+          (c.in_ok-keys.ensures.ascending listed) in
+          says_more _ _ keys i c.key-item.result _ _ sorted lt c.key-item.is same (c.in_ok-take_in.ensures.told honest)
+          (c.loop-key.invariant.1 still),
       λ honest.
           let still = law.reads_honest _ _ c.in_ok-take_in.ensures.reads honest in
           let same = law.reads_contents _ _ read still in

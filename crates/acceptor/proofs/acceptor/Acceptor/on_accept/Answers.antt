@@ -12,8 +12,11 @@ pub returns-in_err-cast-clause-device : goal.returns-in_err-cast-clause-device
 returns-in_err-cast-clause-device g c = λ device.
     let a = accepting_of c.args.self.now in
     let vote = c.args.vote in
-    let taken : refusing a.promise vote.ballot ≡ None = search rules in
-    (Some (key.Vote vote.slot, vote_bytes vote), cast_write a vote taken (λ told. let has = c.has.ensures.1 told in search rules), search rules)
+    let taken : refusing a.promise vote.ballot ≡ None = search rules in (
+      Some (key.Vote vote.slot, vote_bytes vote),
+      cast_write a vote taken (λ told. let has = c.has.ensures.1 told in search rules),
+      search rules,
+    )
 
 -- the vote was written, or stood there already
 pub returns-clause-written : goal.returns-clause-written
@@ -22,6 +25,10 @@ returns-clause-written g c =
     let vote = c.args.vote in
     let taken : refusing a.promise vote.ballot ≡ None = search rules in
     elim c.if-not-has.branch [
-      | then-not-has+in_ok-cast w ↦ (Some (key.Vote vote.slot, vote_bytes vote), cast_write a vote taken (λ told. let has = c.has.ensures.1 told in search rules), search rules)
+      | then-not-has+in_ok-cast w ↦ (
+        Some (key.Vote vote.slot, vote_bytes vote),
+        cast_write a vote taken (λ told. let has = c.has.ensures.1 told in search rules),
+        search rules,
+      )
       | else-not-has w ↦ (None, no_write a vote (c.has.ensures.0 (search rules)), search rules)
     ]

@@ -11,5 +11,6 @@ returns-in-Some c = λ seen fresh says.
     let a = accepting_of c.args.self.now in
     let ballot = c.in-Some.ballot in
     let there = RecordsSay-see_promise seen a ballot (rw c.in-Some.is at c.requires) fresh says in
-    rw c.in-Some.is (RecordsSay-holds _ (record a { promise = raised a.promise ballot }) (accepting_of c.raise.new.self) c.raise.ensures.promise refl
+    rw c.in-Some.is (RecordsSay-holds _ (record a { promise = raised a.promise ballot })
+    (accepting_of c.raise.new.self) c.raise.ensures.promise refl
     (λ s. ap (λ votes. vote_held votes s) c.raise.ensures.votes) there)

@@ -14,4 +14,5 @@ returns-in_ok-insert c = λ seen fresh says.
     let there = RecordsSay-see_vote seen a vote (rw c.in-Some.is at c.requires) fresh says in
     let votes = rw c.raise.ensures.votes at c.in_ok-insert.ensures.votes in
     rw c.in-Some.is (RecordsSay-holds _ (record a { promise = raised a.promise vote.ballot; vote = put a.vote vote.slot (Some vote) })
-    (record { promise = c.raise.new.self.promise; floor = 0; vote = λ s. vote_held c.insert.new.self s }) c.raise.ensures.promise refl votes there)
+    (record { promise = c.raise.new.self.promise; floor = 0; vote = λ s. vote_held c.insert.new.self s }) c.raise.ensures.promise refl votes
+    there)

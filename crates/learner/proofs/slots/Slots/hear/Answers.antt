@@ -30,4 +30,5 @@ pub returns-clause-unlearnt : goal.returns-clause-unlearnt
 returns-clause-unlearnt c = unlearnt_before _ c.or_insert-place.result.now (alike c) c.hear.result c.hear.ensures.unlearnt
 
 pub returns-clause-once : goal.returns-clause-once
-returns-clause-once c = unheard_before _ c.or_insert-place.result.now (alike c) c.args.vote.ballot c.args.from c.hear.result c.hear.ensures.once
+returns-clause-once c = unheard_before _ c.or_insert-place.result.now (alike c) c.args.vote.ballot c.args.from c.hear.result
+    c.hear.ensures.once

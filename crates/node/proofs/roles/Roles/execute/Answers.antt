@@ -30,21 +30,26 @@ loop-number-preserved c =
     let next : Mind = mind_of c.execute_at.new.self in
     let at : c.unwrap-slot.result ≡ c.loop-number.number = search rules in
     let there : cur.learning.learnt c.unwrap-slot.result ≡ m.learning.learnt c.loop-number.number =
-    learnt_there m c.args.from c.position-number-end.ensures.counted c.requires.kept cur c.unwrap-slot.result c.loop-number.number at c.loop-number.invariant.only in
+    learnt_there m c.args.from c.position-number-end.ensures.counted c.requires.kept cur c.unwrap-slot.result c.loop-number.number at
+    c.loop-number.invariant.only in
     let did = c.in_ok-execute_at.ensures in
     record {
       only = only_done m c.args.from c.position-number-end.ensures.counted c.requires.kept cur next c.loop-number.invariant.only did.only;
-      rest = rest_done m c.args.from c.position-number-end.ensures.counted c.requires.kept c.loop-number.number (executing_of cur c.loop-number.replies.items)
+      rest = rest_done m c.args.from c.position-number-end.ensures.counted c.requires.kept c.loop-number.number
+          (executing_of cur c.loop-number.replies.items)
           (executing_of next c.execute_at.new.replies.items) c.loop-number.invariant.above (search rules)
           (did.executes
           ∙ ap (λ (s : ℕ). executed (executing_of cur c.loop-number.replies.items) s
           (with_command (cur.learning.learnt c.unwrap-slot.result) [])) at
-          ∙ ap (λ (o : Option Command). executed (executing_of cur c.loop-number.replies.items) c.loop-number.number (with_command o [])) there)
+          ∙ ap (λ (o : Option Command). executed (executing_of cur c.loop-number.replies.items) c.loop-number.number (with_command o []))
+          there)
           ∙ c.loop-number.invariant.rest;
-      stands = stands_done m c.args.from c.position-number-end.ensures.counted c.requires.kept c.loop-number.number m.machine cur.machine next.machine c.loop-number.invariant.above
+      stands = stands_done m c.args.from c.position-number-end.ensures.counted c.requires.kept c.loop-number.number m.machine cur.machine
+          next.machine c.loop-number.invariant.above
           c.loop-number.invariant.stands
           (subst (λ (o : Option Command). StandsForMore cur.machine next.machine (with_command o [])) there did.stands);
-      replies = replies_done m c.args.from c.position-number-end.ensures.counted c.requires.kept c.loop-number.number m.machine cur.machine c.loop-number.replies.items
+      replies = replies_done m c.args.from c.position-number-end.ensures.counted c.requires.kept c.loop-number.number m.machine cur.machine
+          c.loop-number.replies.items
           c.execute_at.new.replies.items c.loop-number.invariant.above (search rules) c.loop-number.invariant.stands
           c.loop-number.invariant.replies
           (subst (λ (s : ℕ). AddsReplies cur.machine s (with_command (m.learning.learnt c.loop-number.number) [])
@@ -64,10 +69,12 @@ returns-clause-executes c =
 
 pub returns-clause-stands : goal.returns-clause-stands
 returns-clause-stands c = subst (λ (cs : List Command). StandsForMore c.args.self.now.machine c.loop-number.self.machine cs)
-    (all_done (mind_of c.args.self.now) c.args.from c.position-number-end.ensures.counted c.requires.kept c.loop-number.number c.loop-number.invariant.above (search rules)
+    (all_done (mind_of c.args.self.now) c.args.from c.position-number-end.ensures.counted c.requires.kept c.loop-number.number
+    c.loop-number.invariant.above (search rules)
     (search rules)) c.loop-number.invariant.stands
 
 pub returns-clause-replies : goal.returns-clause-replies
 returns-clause-replies c = subst (λ (cs : List Command). RepliesToMore c.args.self.now.machine c.args.from cs c.loop-number.replies.items)
-    (all_done (mind_of c.args.self.now) c.args.from c.position-number-end.ensures.counted c.requires.kept c.loop-number.number c.loop-number.invariant.above (search rules)
+    (all_done (mind_of c.args.self.now) c.args.from c.position-number-end.ensures.counted c.requires.kept c.loop-number.number
+    c.loop-number.invariant.above (search rules)
     (search rules)) c.loop-number.invariant.replies

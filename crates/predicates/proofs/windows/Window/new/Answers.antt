@@ -1,5 +1,6 @@
 use Rattle.std.proofs.Common.{◌≡◌, ◌&&◌}
-use Rattle.predicates.specs.Bounds.{Before, parameter}
+use Rattle.tpoint.specs.Extents.{Before}
+use Rattle.predicates.specs.Bounds.{parameter}
 use Rattle.predicates.proofs.BoundLemmas.{ends_in_order}
 use Rattle.predicates.proofs.windows.Window.new.Goals as goal
 use Rattle.predicates.proofs.windows.Window.new.Goals.{then-low, else-low}

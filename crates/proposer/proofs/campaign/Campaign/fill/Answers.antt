@@ -39,7 +39,8 @@ loop-number-preserved c =
     let at : c.unwrap-slot.result ≡ c.loop-number.number = search rules in
     let going : c.in_ok-goes_on.goes_on ≡ true = search rules in
     record {
-      only = c.in_ok-goes_on.ensures.only ∙ ap (λ (k : Campaigning). record k { proposals = c.step.new.self.proposals }) c.loop-number.invariant.only;
+      only = c.in_ok-goes_on.ensures.only ∙ ap (λ (k : Campaigning). record k { proposals = c.step.new.self.proposals })
+          c.loop-number.invariant.only;
       rest = goes_on c.args.self.now c.args.waiting.now c.args.learnt_to learnt c.loop-number.self c.loop-number.self.proposals
           c.unwrap-slot.result c.loop-number.number c.window_limit-limit.result c.is_settled-settled.result c.in_ok-goes_on.goes_on f g
           c.loop-number.invariant.only at

@@ -12,7 +12,8 @@ pub send_from-requires : goal.send_from-requires
 send_from-requires g c =
     subst (λ fs. length fs ≤ length (world_of c.round-ended.new.self).frames) (sym c.frames-first.ensures)
     (round_frames (scripted in_memory) (world_of c.args.self.now.world) (world_of c.round-ended.new.self) c.args.node c.args.members.now
-    c.round-ended.result c.round-ended.ensures.ends c.round-ended.ensures.unchanged c.round-ended.ensures.memory c.round-ended.ensures.faults)
+    c.round-ended.result c.round-ended.ensures.ends c.round-ended.ensures.unchanged c.round-ended.ensures.memory
+    c.round-ended.ensures.faults)
 
 -- sending changes nothing in the world
 pub returns-clause-ends : goal.returns-clause-ends

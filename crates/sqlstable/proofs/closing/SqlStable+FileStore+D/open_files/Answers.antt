@@ -4,7 +4,8 @@ use Rattle.sqlstable.proofs.FoundLemmas.{if_ok, those_held}
 use Rattle.sqlstable.proofs.closing.SqlStable+FileStore+D.open_files.Goals as goal
 
 pub returns-in-Ok-clause-clean : goal.returns-in-Ok-clause-clean
-returns-in-Ok-clause-clean g c = if_ok c.over.result c.over.ensures.found (λ s finds honest. (c.in-Ok.ensures.found (finds honest).was_clean).honest)
+returns-in-Ok-clause-clean g c = if_ok c.over.result c.over.ensures.found
+    (λ s finds honest. (c.in-Ok.ensures.found (finds honest).was_clean).honest)
 
 pub returns-in-Ok-clause-found : goal.returns-in-Ok-clause-found
 returns-in-Ok-clause-found g c = if_ok c.over.result c.over.ensures.found (λ s finds honest.

@@ -7,9 +7,11 @@ use Rattle.sqlstable.proofs.opening.SqlStable+MemStore.open_in_memory.Goals as g
 
 pub returns-in-Ok-clause-honest : goal.returns-in-Ok-clause-honest
 returns-in-Ok-clause-honest c = record {
-  usable = subst (λ held. IsUsable (state over_memory held)) (sym c.holding.ensures.connection) (memory_is_clean c.create.new.connection, refl);
+  usable = subst (λ held. IsUsable (state over_memory held)) (sym c.holding.ensures.connection)
+      (memory_is_clean c.create.new.connection, refl);
   counts = subst IsSome (sym c.holding.ensures.unfailed) refl;
 }
 
 pub returns-in-Ok-clause-empty : goal.returns-in-Ok-clause-empty
-returns-in-Ok-clause-empty c = ap (λ held. table (state over_memory held)) c.holding.ensures.connection ∙ (c.in-Ok.ensures.made (memory_is_clean c.create.new.connection)).1
+returns-in-Ok-clause-empty c = ap (λ held. table (state over_memory held)) c.holding.ensures.connection
+    ∙ (c.in-Ok.ensures.made (memory_is_clean c.create.new.connection)).1

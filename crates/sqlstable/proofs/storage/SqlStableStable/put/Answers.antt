@@ -11,14 +11,18 @@ invariant_of-self g c = record { settled = ∥∥₁_map c.args.self.now.settled
 
 pub returns-in-Ok-clause-ok : goal.returns-in-Ok-clause-ok
 returns-in-Ok-clause-ok g c =
-    put_made g.S.Store c.args.self.now c.write.new.connection c.args.key c.args.bytes.now _ c.spelling-length.ensures.valid c.write.ensures.follows
-    (λ usable sound. subst (λ k. PutsRow k c.args.bytes.now (table (state g.S.Store c.args.self.now.connection)) (table (state g.S.Store c.write.new.connection))) c.spelling-length.ensures.spelled
+    put_made g.S.Store c.args.self.now c.write.new.connection c.args.key c.args.bytes.now _ c.spelling-length.ensures.valid
+    c.write.ensures.follows
+    (λ usable sound. subst (λ k. PutsRow k c.args.bytes.now (table (state g.S.Store c.args.self.now.connection))
+    (table (state g.S.Store c.write.new.connection))) c.spelling-length.ensures.spelled
     (c.in-Ok.ensures.wrote usable sound)) refl refl
 
 pub returns-in-Err-clause-device : goal.returns-in-Err-clause-device
 returns-in-Err-clause-device g c is =
-    read_failed g.S.Store c.args.self.now c.write.new.connection c.blame.new.self c.write.ensures.follows c.in-Err.ensures.refused c.blame.ensures.same (c.blame.ensures.device (search rules))
+    read_failed g.S.Store c.args.self.now c.write.new.connection c.blame.new.self c.write.ensures.follows c.in-Err.ensures.refused
+    c.blame.ensures.same (c.blame.ensures.device (search rules))
 
 pub returns-in-Err-clause-memory : goal.returns-in-Err-clause-memory
 returns-in-Err-clause-memory g c is =
-    read_made g.S.Store c.args.self.now c.write.new.connection c.blame.new.self c.write.ensures.follows c.in-Err.ensures.refused c.blame.ensures.same (c.blame.ensures.memory (search rules))
+    read_made g.S.Store c.args.self.now c.write.new.connection c.blame.new.self c.write.ensures.follows c.in-Err.ensures.refused
+    c.blame.ensures.same (c.blame.ensures.memory (search rules))

@@ -4,7 +4,7 @@ use Rattle.tpoint.specs.Moving.{Sequence}
 use Rattle.tpoint.specs.Extents.{Span}
 use Rattle.tpoint.specs.Spans.{span_of}
 use Rattle.mfjson.specs.declared.feature.Feature.{Feature}
-use Rattle.timeindex.specs.declared.entry.Entry.{Entry}
+use Rattle.timeindex.specs.Entries.{Entry}
 use Rattle.store.specs.Places.{IsGap}
 use Rattle.store.specs.Indexed.{entry_of}
 use Rattle.store.specs.declared.db.TheConstants.{MOST_FEATURES}

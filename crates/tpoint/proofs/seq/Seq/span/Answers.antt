@@ -1,5 +1,5 @@
 use Rattle.std.proofs.Common.{◌≡◌, ℕ, ◌≤◌, List, length, IfSome, sym, subst, ap, ◌∙◌}
-use Rattle.tpoint.specs.Extents.{Span}
+use Rattle.tpoint.specs.Extents.{Span, closed}
 use Rattle.tpoint.specs.Moving.{Rises}
 use Rattle.tpoint.specs.Spans.{span_of}
 use Rattle.tpoint.specs.declared.point.Point.{Point}
@@ -21,6 +21,6 @@ returns c =
     let first = c.index-points-0.result in
     let last = c.index-points-points.result in
     let some = subst (λ (qs : List Point). 1 ≤ length qs) (sym c.points-points.ensures.value) c.points-points.ensures.valid.not_empty in
-    let made : Span = record { begin = first.t; end = last.t } in
+    let made : Span = closed first.t last.t in
     let it : c.unwrap.result ≡ made = subst (λ o. IfSome o (λ p. p ≡ made)) c.unwrap.ensures c.new.ensures.value in
     it ∙ span_read ps first last some c.index-points-0.is c.index-points-points.is ∙ ap span_of c.points-points.ensures.value

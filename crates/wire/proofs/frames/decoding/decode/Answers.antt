@@ -11,7 +11,8 @@ use Rattle.wire.proofs.FrameLaws.{frame_found, frame_only}
 use Rattle.wire.proofs.FrameLengths.{frame_most}
 use Rattle.wire.proofs.frames.decoding.decode.Goals as goal
 
-told : (nodes : ℕ) → nodes ≤ 7 → (bytes : List ℕ) (r : Result Envelope WireFault) → IsBytes bytes → Gives (λ x. x) r (frame_in nodes bytes) → IfOk r (λ e. IsFrame nodes bytes e)
+told : (nodes : ℕ) → nodes ≤ 7 → (bytes : List ℕ) (r : Result Envelope WireFault) → IsBytes bytes → Gives (λ x. x) r (frame_in nodes bytes)
+    → IfOk r (λ e. IsFrame nodes bytes e)
 told nodes few bytes (Ok e) fits h = frame_found nodes few bytes e fits h
 told nodes few bytes (Err e) fits h = tt
 

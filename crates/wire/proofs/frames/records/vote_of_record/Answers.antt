@@ -23,7 +23,8 @@ returns-then-not-is_empty-clause-read c = λ b command is.
 pub returns-clause-spelled : goal.returns-clause-spelled
 returns-clause-spelled c =
     let none : length c.read_choice.new.input ≡ 0 = search rules in
-    choice_is_record c.args.bytes.now c.in-Ok.choice.0 c.in-Ok.choice.1 c.read_choice.new.input (λ i. omega (arith, c.type_inv.bytes i)) (search rules) (nil_from_length c.read_choice.new.input none)
+    choice_is_record c.args.bytes.now c.in-Ok.choice.0 c.in-Ok.choice.1 c.read_choice.new.input
+    (λ i. omega (arith, c.type_inv.bytes i)) (search rules) (nil_from_length c.read_choice.new.input none)
 
 pub returns-clause-read : goal.returns-clause-read
 returns-clause-read c = λ b command is.

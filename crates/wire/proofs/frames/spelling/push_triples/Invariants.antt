@@ -7,4 +7,5 @@ use Rattle.wire.proofs.frames.spelling.push_triples.Given as goal
 
 abbrev pub invariant-loop-point : goal.invariant-loop-point
 invariant-loop-point l =
-    (l.out.items ≡ l.initial.out.items ++ flat_map triple_bytes (take l.point-index l.points)) × All (λ p. IsInstant (pos p.t)) (take l.point-index l.points)
+    (l.out.items ≡ l.initial.out.items ++ flat_map triple_bytes (take l.point-index l.points)) × All
+    (λ p. IsInstant (pos p.t)) (take l.point-index l.points)

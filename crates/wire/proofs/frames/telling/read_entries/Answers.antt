@@ -9,7 +9,9 @@ use Rattle.wire.proofs.frames.telling.read_entries.Goals as goal
 pub returns-in_err-vote-clause-read : goal.returns-in_err-vote-clause-read
 returns-in_err-vote-clause-read c =
     let p = err_from_is_err_and c.from_residual-in_err-vote.result c.from_residual-in_err-vote.ensures.1 in
-    rw (p.1, p.2) (entries_end c.args.nodes c.args.ballot c.args.last c.in_err-vote.field-0.0 c.loop.entries.items c.args.count c.loop.counter c.loop.from c.loop.input (entries_at c.args.nodes c.args.ballot c.args.last c.args.count c.args.first c.args.input.now) c.loop-test.true c.in_err-vote.ensures.read c.loop.invariant.so_far)
+    rw (p.1, p.2) (entries_end c.args.nodes c.args.ballot c.args.last c.in_err-vote.field-0.0 c.loop.entries.items c.args.count
+    c.loop.counter c.loop.from c.loop.input (entries_at c.args.nodes c.args.ballot c.args.last c.args.count c.args.first
+    c.args.input.now) c.loop-test.true c.in_err-vote.ensures.read c.loop.invariant.so_far)
 
 pub returns-in_err-vote-clause-memory : goal.returns-in_err-vote-clause-memory
 returns-in_err-vote-clause-memory c = λ wanted.

@@ -42,9 +42,11 @@ returns-then-is_stop-clause-fails g c =
     ≡ with_outcome (with_node (run_of c.args.self.now) c.args.node (state_of c.step.new.self)) (outcome_of c.args.node c.in-Err.fault) =
     left_by _ (run_of c.args.self.now) c.args.self.now.nodes.items c.args.node c.step.new.self
     (λ w. with_outcome w (outcome_of c.args.node c.in-Err.fault)) (rw named at c.fail.ensures.lists) refl in
-    let steps : NodeSteps (scripted g.S.Stable) (state_of c.index_mut-at.result.now) input.Timeout (Err c.in-Err.fault) (state_of c.step.new.self) =
+    let steps : NodeSteps (scripted g.S.Stable) (state_of c.index_mut-at.result.now) input.Timeout (Err c.in-Err.fault)
+    (state_of c.step.new.self) =
     rw (← c.in-Err.is) c.step.ensures.steps in
-    fails_to_begin (scripted g.S.Stable) (run_of c.args.self.now) c.args.node (state_of c.index_mut-at.result.now) (state_of c.step.new.self)
+    fails_to_begin (scripted g.S.Stable) (run_of c.args.self.now) c.args.node (state_of c.index_mut-at.result.now)
+    (state_of c.step.new.self)
     c.in-Err.fault _ here steps c.requires.up leaves
     (record {
       before = state_of c.index_mut-at.result.now;
@@ -66,9 +68,11 @@ returns-else-is_stop-clause-fails g c =
     (search rules) (omega (arith, named, c.requires.there)) c.index_mut-at.ensures.value in
     let place : slice_get c.args.self.now.nodes.items c.args.node ≡ Some c.index_mut-at.result.now = rw (← named) read in
     let here = shown_at c.args.self.now.nodes.items c.args.node c.index_mut-at.result.now place in
-    let steps : NodeSteps (scripted g.S.Stable) (state_of c.index_mut-at.result.now) input.Timeout (Err c.in-Err.fault) (state_of c.step.new.self) =
+    let steps : NodeSteps (scripted g.S.Stable) (state_of c.index_mut-at.result.now) input.Timeout (Err c.in-Err.fault)
+    (state_of c.step.new.self) =
     rw (← c.in-Err.is) c.step.ensures.steps in
-    refuses_to_begin (scripted g.S.Stable) (run_of c.args.self.now) c.args.node (state_of c.index_mut-at.result.now) (state_of c.step.new.self)
+    refuses_to_begin (scripted g.S.Stable) (run_of c.args.self.now) c.args.node (state_of c.index_mut-at.result.now)
+    (state_of c.step.new.self)
     c.in-Err.fault _ here steps c.requires.up
     (left_by _ (run_of c.args.self.now) c.args.self.now.nodes.items c.args.node c.step.new.self (λ w. w) (search (rules, named)) refl)
     (search rules)

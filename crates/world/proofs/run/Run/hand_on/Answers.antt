@@ -23,7 +23,8 @@ returns-in_err-deliver-clause-part g c =
     record {
       end = c.loop-index.index;
       within = search (rules, arith);
-      delivers = subst (λ w. DeliversTo (scripted g.S.Stable) c.args.receivers.now (run_of c.args.self.now) c.args.first c.loop-index.index w)
+      delivers = subst (λ w. DeliversTo (scripted g.S.Stable) c.args.receivers.now
+          (run_of c.args.self.now) c.args.first c.loop-index.index w)
           (sym c.in_err-deliver.ensures.err) c.loop-index.invariant.0;
     } in
     on_err _ part
@@ -58,18 +59,22 @@ loop-index-preserved g c =
     subst (λ fs. slice_get fs c.loop-index.index ≡ Some c.index-frames-index.result) c.frames.ensures read in
     elim c.if-is_among.branch [
       | then-is_among+in_ok-deliver+else-not-is_up w ↦
-          came (scripted g.S.Stable) c.args.receivers.now (run_of c.args.self.now) c.args.first c.loop-index.index c.receiver-receiver.result
+          came (scripted g.S.Stable) c.args.receivers.now (run_of c.args.self.now) c.args.first c.loop-index.index
+          c.receiver-receiver.result
           c.index-frames-index.result (run_of c.loop-index.self) (run_of w.deliver.new.self) (run_of c.if-is_among.self)
           c.loop-index.invariant.0 here c.receiver-receiver.ensures (search rules) (search rules) (search rules) (search rules)
           c.loop-index.invariant.1
       | else-is_among w ↦
           passed_by (scripted g.S.Stable) c.args.receivers.now (run_of c.args.self.now) c.args.first c.loop-index.index
           c.index-frames-index.result (run_of c.loop-index.self) (run_of c.if-is_among.self) c.loop-index.invariant.0 here
-          (λ among. let e : false ≡ true = w.if-is_among.ensures.1 (subst (λ j. Contains c.args.receivers.now j) (sym c.receiver-receiver.ensures) among) in absurd (cc)) (search rules) c.loop-index.invariant.1
+          (λ among. let e : false ≡ true = w.if-is_among.ensures.1
+          (subst (λ j. Contains c.args.receivers.now j) (sym c.receiver-receiver.ensures) among) in absurd (cc))
+          (search rules) c.loop-index.invariant.1
     ]
 
 pub returns-clause-delivers : goal.returns-clause-delivers
 returns-clause-delivers g c =
     let over : c.loop-index.index ≡ vec_len c.args.self.now.frames = search (rules, arith) in
-    subst (λ k. DeliversTo (scripted g.S.Stable) c.args.receivers.now (run_of c.args.self.now) c.args.first k (run_of c.loop-index.self)) over
+    subst (λ k. DeliversTo (scripted g.S.Stable) c.args.receivers.now (run_of c.args.self.now) c.args.first k (run_of c.loop-index.self))
+    over
     c.loop-index.invariant.0

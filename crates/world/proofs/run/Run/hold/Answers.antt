@@ -4,7 +4,8 @@ use Rattle.stable.specs.Storages.{scripted}
 use Rattle.world.specs.Rounds.{NoneRefuses, IsGreatestTold}
 use Rattle.world.specs.Rounds as rounds
 use Rattle.world.specs.Worlds.{run_of}
-use Rattle.world.proofs.RoundLemmas.{on_err, at_none, sliced, moved, begun_by, asked_by, answered_by, voted_by, heard_by, down_by, broken_by}
+use Rattle.world.proofs.RoundLemmas.{on_err, at_none, sliced, moved, begun_by, asked_by, answered_by, voted_by, heard_by, down_by}
+use Rattle.world.proofs.RoundLemmas.{broken_by}
 use Rattle.world.proofs.RoundBeginnings.{without}
 use Rattle.world.proofs.run.Run.hold.Goals as goal
 
@@ -20,9 +21,11 @@ returns-in_err-down-clause-part g c =
     let st = scripted g.S.Stable in
     let w0 = run_of c.args.self.now in
     let members = c.args.members.now in
-    let begun = begun_by st w0 c.args.node members (run_of c.reserve.new.self) (run_of c.begin.new.self) (length c.frames-prepares.result.now)
+    let begun = begun_by st w0 c.args.node members (run_of c.reserve.new.self) (run_of c.begin.new.self)
+    (length c.frames-prepares.result.now)
     c.reserve.ensures.same (search rules) c.in_default.ensures.begins in
-    on_err _ (broken_by st w0 c.args.node members rounds.begun (length c.frames-prepares.result.now) (length c.frames-prepares.result.now) (run_of c.begin.new.self) (run_of c.hand_on.new.self) begun (search rules) c.in_err-down.ensures.part)
+    on_err _ (broken_by st w0 c.args.node members rounds.begun (length c.frames-prepares.result.now) (length c.frames-prepares.result.now)
+    (run_of c.begin.new.self) (run_of c.hand_on.new.self) begun (search rules) c.in_err-down.ensures.part)
 
 -- the prepares: a receiver goes down
 pub returns-in-Some-clause-ends : goal.returns-in-Some-clause-ends
@@ -30,9 +33,11 @@ returns-in-Some-clause-ends g c =
     let st = scripted g.S.Stable in
     let w0 = run_of c.args.self.now in
     let members = c.args.members.now in
-    let begun = begun_by st w0 c.args.node members (run_of c.reserve.new.self) (run_of c.begin.new.self) (length c.frames-prepares.result.now)
+    let begun = begun_by st w0 c.args.node members (run_of c.reserve.new.self) (run_of c.begin.new.self)
+    (length c.frames-prepares.result.now)
     c.reserve.ensures.same (search rules) c.in_default.ensures.begins in
-    down_by st w0 c.args.node members rounds.begun (length c.frames-prepares.result.now) (length c.frames-prepares.result.now) c.in-Some.down (run_of c.begin.new.self) (run_of c.hand_on.new.self) begun (search rules)
+    down_by st w0 c.args.node members rounds.begun (length c.frames-prepares.result.now)
+    (length c.frames-prepares.result.now) c.in-Some.down (run_of c.begin.new.self) (run_of c.hand_on.new.self) begun (search rules)
     (MatchOption-at_some _ _ c.in-Some.down c.in-Some.is c.in_ok-down.ensures.delivers)
 
 -- what they refuse: memory is wanting
@@ -41,7 +46,8 @@ returns-in_err-refusal-clause-part g c =
     let st = scripted g.S.Stable in
     let w0 = run_of c.args.self.now in
     let members = c.args.members.now in
-    let begun = begun_by st w0 c.args.node members (run_of c.reserve.new.self) (run_of c.begin.new.self) (length c.frames-prepares.result.now)
+    let begun = begun_by st w0 c.args.node members (run_of c.reserve.new.self) (run_of c.begin.new.self)
+    (length c.frames-prepares.result.now)
     c.reserve.ensures.same (search rules) c.in_default.ensures.begins in
     let asked = asked_by st w0 c.args.node members (length c.frames-prepares.result.now) (length c.frames-prepares.result.now)
     (vec_len c.begin.new.self.frames) (run_of c.begin.new.self) (run_of c.hand_on.new.self) begun refl
@@ -59,12 +65,14 @@ returns-in_err-down-2-clause-part g c =
     let st = scripted g.S.Stable in
     let w0 = run_of c.args.self.now in
     let members = c.args.members.now in
-    let begun = begun_by st w0 c.args.node members (run_of c.reserve.new.self) (run_of c.begin.new.self) (length c.frames-prepares.result.now)
+    let begun = begun_by st w0 c.args.node members (run_of c.reserve.new.self) (run_of c.begin.new.self)
+    (length c.frames-prepares.result.now)
     c.reserve.ensures.same (search rules) c.in_default.ensures.begins in
     let asked = asked_by st w0 c.args.node members (length c.frames-prepares.result.now) (length c.frames-prepares.result.now)
     (vec_len c.begin.new.self.frames) (run_of c.begin.new.self) (run_of c.hand_on.new.self) begun refl
     (at_none _ _ c.in_ok-down.field-0 (search rules) c.in_ok-down.ensures.delivers) (search rules) in
-    on_err _ (broken_by st w0 c.args.node members rounds.asked (vec_len c.begin.new.self.frames) (length c.frames-answers.result.now) (run_of c.hand_on.new.self) (run_of c.hand_on-2.new.self) asked (search rules) c.in_err-down-2.ensures.part)
+    on_err _ (broken_by st w0 c.args.node members rounds.asked (vec_len c.begin.new.self.frames) (length c.frames-answers.result.now)
+    (run_of c.hand_on.new.self) (run_of c.hand_on-2.new.self) asked (search rules) c.in_err-down-2.ensures.part)
 
 -- the answers: a receiver goes down
 pub returns-in-Some-2-clause-ends : goal.returns-in-Some-2-clause-ends
@@ -72,12 +80,14 @@ returns-in-Some-2-clause-ends g c =
     let st = scripted g.S.Stable in
     let w0 = run_of c.args.self.now in
     let members = c.args.members.now in
-    let begun = begun_by st w0 c.args.node members (run_of c.reserve.new.self) (run_of c.begin.new.self) (length c.frames-prepares.result.now)
+    let begun = begun_by st w0 c.args.node members (run_of c.reserve.new.self) (run_of c.begin.new.self)
+    (length c.frames-prepares.result.now)
     c.reserve.ensures.same (search rules) c.in_default.ensures.begins in
     let asked = asked_by st w0 c.args.node members (length c.frames-prepares.result.now) (length c.frames-prepares.result.now)
     (vec_len c.begin.new.self.frames) (run_of c.begin.new.self) (run_of c.hand_on.new.self) begun refl
     (at_none _ _ c.in_ok-down.field-0 (search rules) c.in_ok-down.ensures.delivers) (search rules) in
-    down_by st w0 c.args.node members rounds.asked (vec_len c.begin.new.self.frames) (length c.frames-answers.result.now) c.in-Some-2.down (run_of c.hand_on.new.self) (run_of c.hand_on-2.new.self) asked (search rules)
+    down_by st w0 c.args.node members rounds.asked (vec_len c.begin.new.self.frames) (length c.frames-answers.result.now) c.in-Some-2.down
+    (run_of c.hand_on.new.self) (run_of c.hand_on-2.new.self) asked (search rules)
     (MatchOption-at_some _ _ c.in-Some-2.down c.in-Some-2.is c.in_ok-down-2.ensures.delivers)
 
 -- some refuse
@@ -86,7 +96,8 @@ returns-in-Some-refusal-clause-ends g c =
     let st = scripted g.S.Stable in
     let w0 = run_of c.args.self.now in
     let members = c.args.members.now in
-    let begun = begun_by st w0 c.args.node members (run_of c.reserve.new.self) (run_of c.begin.new.self) (length c.frames-prepares.result.now)
+    let begun = begun_by st w0 c.args.node members (run_of c.reserve.new.self) (run_of c.begin.new.self)
+    (length c.frames-prepares.result.now)
     c.reserve.ensures.same (search rules) c.in_default.ensures.begins in
     let asked = asked_by st w0 c.args.node members (length c.frames-prepares.result.now) (length c.frames-prepares.result.now)
     (vec_len c.begin.new.self.frames) (run_of c.begin.new.self) (run_of c.hand_on.new.self) begun refl
@@ -110,7 +121,8 @@ returns-in_err-down-3-clause-part g c =
     let st = scripted g.S.Stable in
     let w0 = run_of c.args.self.now in
     let members = c.args.members.now in
-    let begun = begun_by st w0 c.args.node members (run_of c.reserve.new.self) (run_of c.begin.new.self) (length c.frames-prepares.result.now)
+    let begun = begun_by st w0 c.args.node members (run_of c.reserve.new.self) (run_of c.begin.new.self)
+    (length c.frames-prepares.result.now)
     c.reserve.ensures.same (search rules) c.in_default.ensures.begins in
     let asked = asked_by st w0 c.args.node members (length c.frames-prepares.result.now) (length c.frames-prepares.result.now)
     (vec_len c.begin.new.self.frames) (run_of c.begin.new.self) (run_of c.hand_on.new.self) begun refl
@@ -122,7 +134,8 @@ returns-in_err-down-3-clause-part g c =
     let answered = answered_by st w0 c.args.node members (vec_len c.begin.new.self.frames) (length c.frames-answers.result.now)
     (vec_len c.hand_on.new.self.frames) (run_of c.hand_on.new.self) (run_of c.hand_on-2.new.self) asked willing (search rules)
     (at_none _ _ c.in_ok-down-2.field-0 (search rules) c.in_ok-down-2.ensures.delivers) (search rules) in
-    on_err _ (broken_by st w0 c.args.node members rounds.answered (vec_len c.hand_on.new.self.frames) (length c.frames-accepts.result.now) (run_of c.hand_on-2.new.self) (run_of c.hand_on-3.new.self) answered (search rules) c.in_err-down-3.ensures.part)
+    on_err _ (broken_by st w0 c.args.node members rounds.answered (vec_len c.hand_on.new.self.frames) (length c.frames-accepts.result.now)
+    (run_of c.hand_on-2.new.self) (run_of c.hand_on-3.new.self) answered (search rules) c.in_err-down-3.ensures.part)
 
 -- the accepts: a receiver goes down
 pub returns-in-Some-3-clause-ends : goal.returns-in-Some-3-clause-ends
@@ -130,7 +143,8 @@ returns-in-Some-3-clause-ends g c =
     let st = scripted g.S.Stable in
     let w0 = run_of c.args.self.now in
     let members = c.args.members.now in
-    let begun = begun_by st w0 c.args.node members (run_of c.reserve.new.self) (run_of c.begin.new.self) (length c.frames-prepares.result.now)
+    let begun = begun_by st w0 c.args.node members (run_of c.reserve.new.self) (run_of c.begin.new.self)
+    (length c.frames-prepares.result.now)
     c.reserve.ensures.same (search rules) c.in_default.ensures.begins in
     let asked = asked_by st w0 c.args.node members (length c.frames-prepares.result.now) (length c.frames-prepares.result.now)
     (vec_len c.begin.new.self.frames) (run_of c.begin.new.self) (run_of c.hand_on.new.self) begun refl
@@ -142,7 +156,9 @@ returns-in-Some-3-clause-ends g c =
     let answered = answered_by st w0 c.args.node members (vec_len c.begin.new.self.frames) (length c.frames-answers.result.now)
     (vec_len c.hand_on.new.self.frames) (run_of c.hand_on.new.self) (run_of c.hand_on-2.new.self) asked willing (search rules)
     (at_none _ _ c.in_ok-down-2.field-0 (search rules) c.in_ok-down-2.ensures.delivers) (search rules) in
-    down_by st w0 c.args.node members rounds.answered (vec_len c.hand_on.new.self.frames) (length c.frames-accepts.result.now) c.in-Some-3.down (run_of c.hand_on-2.new.self) (run_of c.hand_on-3.new.self) answered (search rules)
+    down_by st w0 c.args.node members rounds.answered (vec_len c.hand_on.new.self.frames)
+    (length c.frames-accepts.result.now) c.in-Some-3.down (run_of c.hand_on-2.new.self) (run_of c.hand_on-3.new.self) answered
+    (search rules)
     (MatchOption-at_some _ _ c.in-Some-3.down c.in-Some-3.is c.in_ok-down-3.ensures.delivers)
 
 -- the votes: memory is wanting
@@ -151,7 +167,8 @@ returns-in_err-down-4-clause-part g c =
     let st = scripted g.S.Stable in
     let w0 = run_of c.args.self.now in
     let members = c.args.members.now in
-    let begun = begun_by st w0 c.args.node members (run_of c.reserve.new.self) (run_of c.begin.new.self) (length c.frames-prepares.result.now)
+    let begun = begun_by st w0 c.args.node members (run_of c.reserve.new.self) (run_of c.begin.new.self)
+    (length c.frames-prepares.result.now)
     c.reserve.ensures.same (search rules) c.in_default.ensures.begins in
     let asked = asked_by st w0 c.args.node members (length c.frames-prepares.result.now) (length c.frames-prepares.result.now)
     (vec_len c.begin.new.self.frames) (run_of c.begin.new.self) (run_of c.hand_on.new.self) begun refl
@@ -166,7 +183,8 @@ returns-in_err-down-4-clause-part g c =
     let voted = voted_by st w0 c.args.node members (vec_len c.hand_on.new.self.frames) (length c.frames-accepts.result.now)
     (vec_len c.hand_on-2.new.self.frames) (run_of c.hand_on-2.new.self) (run_of c.hand_on-3.new.self) answered (search rules)
     (at_none _ _ c.in_ok-down-3.field-0 (search rules) c.in_ok-down-3.ensures.delivers) (search rules) in
-    on_err _ (broken_by st w0 c.args.node members rounds.voted (vec_len c.hand_on-2.new.self.frames) (length c.frames-votes.result.now) (run_of c.hand_on-3.new.self) (run_of c.hand_on-4.new.self) voted (search rules) c.in_err-down-4.ensures.part)
+    on_err _ (broken_by st w0 c.args.node members rounds.voted (vec_len c.hand_on-2.new.self.frames) (length c.frames-votes.result.now)
+    (run_of c.hand_on-3.new.self) (run_of c.hand_on-4.new.self) voted (search rules) c.in_err-down-4.ensures.part)
 
 -- the votes: a receiver goes down
 pub returns-in-Some-4-clause-ends : goal.returns-in-Some-4-clause-ends
@@ -174,7 +192,8 @@ returns-in-Some-4-clause-ends g c =
     let st = scripted g.S.Stable in
     let w0 = run_of c.args.self.now in
     let members = c.args.members.now in
-    let begun = begun_by st w0 c.args.node members (run_of c.reserve.new.self) (run_of c.begin.new.self) (length c.frames-prepares.result.now)
+    let begun = begun_by st w0 c.args.node members (run_of c.reserve.new.self) (run_of c.begin.new.self)
+    (length c.frames-prepares.result.now)
     c.reserve.ensures.same (search rules) c.in_default.ensures.begins in
     let asked = asked_by st w0 c.args.node members (length c.frames-prepares.result.now) (length c.frames-prepares.result.now)
     (vec_len c.begin.new.self.frames) (run_of c.begin.new.self) (run_of c.hand_on.new.self) begun refl
@@ -189,7 +208,8 @@ returns-in-Some-4-clause-ends g c =
     let voted = voted_by st w0 c.args.node members (vec_len c.hand_on.new.self.frames) (length c.frames-accepts.result.now)
     (vec_len c.hand_on-2.new.self.frames) (run_of c.hand_on-2.new.self) (run_of c.hand_on-3.new.self) answered (search rules)
     (at_none _ _ c.in_ok-down-3.field-0 (search rules) c.in_ok-down-3.ensures.delivers) (search rules) in
-    down_by st w0 c.args.node members rounds.voted (vec_len c.hand_on-2.new.self.frames) (length c.frames-votes.result.now) c.in-Some-4.down (run_of c.hand_on-3.new.self) (run_of c.hand_on-4.new.self) voted (search rules)
+    down_by st w0 c.args.node members rounds.voted (vec_len c.hand_on-2.new.self.frames) (length c.frames-votes.result.now) c.in-Some-4.down
+    (run_of c.hand_on-3.new.self) (run_of c.hand_on-4.new.self) voted (search rules)
     (MatchOption-at_some _ _ c.in-Some-4.down c.in-Some-4.is c.in_ok-down-4.ensures.delivers)
 
 -- all of it has come
@@ -198,7 +218,8 @@ returns-clause-ends g c =
     let st = scripted g.S.Stable in
     let w0 = run_of c.args.self.now in
     let members = c.args.members.now in
-    let begun = begun_by st w0 c.args.node members (run_of c.reserve.new.self) (run_of c.begin.new.self) (length c.frames-prepares.result.now)
+    let begun = begun_by st w0 c.args.node members (run_of c.reserve.new.self) (run_of c.begin.new.self)
+    (length c.frames-prepares.result.now)
     c.reserve.ensures.same (search rules) c.in_default.ensures.begins in
     let asked = asked_by st w0 c.args.node members (length c.frames-prepares.result.now) (length c.frames-prepares.result.now)
     (vec_len c.begin.new.self.frames) (run_of c.begin.new.self) (run_of c.hand_on.new.self) begun refl

@@ -13,5 +13,6 @@ invariant_of-result g c = record {
 
 pub returns-clause-safe : goal.returns-clause-safe
 returns-clause-safe g c =
-    stays_safe g.S.Stable c.in_ok-run.run' (start_few (scripted g.S.Stable) c.args.count (run_of c.in_ok-run.run') c.in_ok-run.ensures.start)
+    stays_safe g.S.Stable c.in_ok-run.run' (start_few (scripted g.S.Stable) c.args.count
+    (run_of c.in_ok-run.run') c.in_ok-run.ensures.start)
     (started c.args.count (run_of c.in_ok-run.run') c.in_ok-run.ensures.start)

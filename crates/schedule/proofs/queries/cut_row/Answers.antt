@@ -1,0 +1,6 @@
+use Rattle.schedule.proofs.RowLemmas.{no_period_to_cut}
+use Rattle.schedule.proofs.queries.cut_row.Goals as goal
+
+pub returns-in_default-period : goal.returns-in_default-period
+returns-in_default-period c =
+    rw (c.in_ok-name.ensures, c.in_ok-datetimes.ensures, c.in_ok-end.ensures) (λ n. no_period_to_cut n _ _ _ c.in_default-period.ensures)

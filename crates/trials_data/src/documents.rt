@@ -1,0 +1,156 @@
+//! Worked rows: datetimes from RFC 3339 and the calendar, and one whole document.
+
+use mfjson::{Feature, MfFault, datetime_read, datetime_text, write};
+use std::alloc::Global;
+use std::test::Fail;
+use tpoint::{Id, Instant, Interp, Point, Seq};
+
+// a text, and its milliseconds since 1970-01-01T00:00:00.000Z
+const READ: [(&str, i64); 12] = [
+    ("1970-01-01T00:00:00.000Z", 0),
+    ("1970-01-01T00:00:00Z", 0),
+    ("1970-01-01T00:00:00.001Z", 1),
+    ("1985-04-12T23:20:50.520Z", 482_196_050_520),
+    ("1990-12-31T23:59:59.000Z", 662_687_999_000),
+    ("2000-02-29T00:00:00Z", 951_782_400_000),
+    ("2020-01-01T00:00:00.000Z", 1_577_836_800_000),
+    ("2020-01-01T00:00:03Z", 1_577_836_803_000),
+    ("2020-02-29T23:59:59.999Z", 1_583_020_799_999),
+    ("2020-03-01T00:00:00.000Z", 1_583_020_800_000),
+    ("2100-02-28T23:59:59.999Z", 4_107_542_399_999),
+    ("9999-12-31T23:59:59.999Z", 253_402_300_799_999),
+];
+
+const REFUSED: [&str; 28] = [
+    "",
+    "Z",
+    "1969-12-31T23:59:59.999Z",
+    "10000-01-01T00:00:00.000Z",
+    "2019-02-29T00:00:00.000Z",
+    "2100-02-29T00:00:00.000Z",
+    "2020-02-30T00:00:00.000Z",
+    "2020-00-01T00:00:00.000Z",
+    "2020-13-01T00:00:00.000Z",
+    "2020-04-31T00:00:00.000Z",
+    "2020-01-00T00:00:00.000Z",
+    "2020-01-01T24:00:00.000Z",
+    "2020-01-01T00:60:00.000Z",
+    "1990-12-31T23:59:60Z",
+    "2020-01-01T00:00:60.000Z",
+    "2020-01-01T00:00:00.0Z",
+    "2020-01-01T00:00:00.00Z",
+    "2020-01-01T00:00:00.0000Z",
+    "2020-01-01T00:00:00.Z",
+    "2020-01-01T00:00:00,000Z",
+    "2020-01-01t00:00:00.000Z",
+    "2020-01-01 00:00:00.000Z",
+    "2020-01-01T00:00:00.000z",
+    "2020-01-01T00:00:00.000",
+    "2020-01-01T00:00:00+00:00",
+    "1996-12-19T16:39:57-08:00",
+    "2020-1-01T00:00:00.0000Z",
+    "+020-01-01T00:00:00.000Z",
+];
+
+#[test]
+fn reads_datetimes(rt: HostRuntime) {
+    for (text, ms) in READ {
+        let read = datetime_read(text.as_bytes()).map(Instant::ms);
+        assert_eq!(rt; read, Some(ms), "{text}");
+    }
+    for text in REFUSED {
+        let read = datetime_read(text.as_bytes()).map(Instant::ms);
+        assert_eq!(rt; read, None, "{text}");
+    }
+}
+
+/// Whether the instant's datetime text is read as it, and is this text where that has all its digits.
+fn is_written(text: &str, ms: i64) -> bool {
+    let Some(t) = Instant::new(ms) else {
+        return false;
+    };
+    let written = datetime_text(t);
+    let same = text.len() < 24 || written.as_slice() == text.as_bytes();
+    same && datetime_read(&written) == Some(t)
+}
+
+#[test]
+fn writes_datetimes(rt: HostRuntime) {
+    for (text, ms) in READ {
+        assert!(rt; is_written(text, ms), "{text}");
+    }
+}
+
+const DOCUMENT: &str =
+    r#"{"id":"bus-7","temporalGeometry":{"coordinates":[[0,0],[10,5]],"datetimes":["2020-01-01T00:00:00.000Z","2020-01-01T00:00:03.000Z"],"interpolation":"Linear","type":"MovingPoint"},"type":"Feature"}"#;
+
+/// A Linear feature of two points.
+fn bus(alloc: Global, name: &[u8]) -> Result<Feature, Fail> {
+    let mut points = Vec::new(alloc);
+    for (ms, x, y) in [(1_577_836_800_000, 0, 0), (1_577_836_803_000, 10, 5)] {
+        let t = Instant::new(ms).ok_or("an instant")?;
+        points.push(Point { t, x, y })?;
+    }
+    let id = Id::new(name).ok_or("an id")?;
+    let seq = Seq::new(Interp::Linear, points)?;
+    Ok(Feature { id, seq })
+}
+
+#[test]
+fn writes_a_document(rt: HostRuntime) -> Result<(), Fail> {
+    let seven = bus(rt.alloc(), b"bus-7")?;
+    let text = write(rt.alloc(), &seven)?;
+    assert!(rt; text.len() == 195 && text.as_slice() == DOCUMENT.as_bytes());
+    Ok(())
+}
+
+/// Whether the copy of a feature is the same feature.
+fn is_copied(feature: &Feature) -> Result<bool, Fail> {
+    let copy = feature.clone()?;
+    Ok(copy == *feature)
+}
+
+#[test]
+fn copies_a_feature(rt: HostRuntime) -> Result<(), Fail> {
+    let seven = bus(rt.alloc(), b"bus-7")?;
+    assert!(rt; is_copied(&seven)?);
+    let eight = bus(rt.alloc(), b"bus-8")?;
+    assert!(rt; seven != eight);
+    Ok(())
+}
+
+const FAULTS: [(MfFault, &str); 13] = [
+    (MfFault::NotJson, "the bytes are no JSON text"),
+    (
+        MfFault::Members,
+        "the value hasn't exactly a feature's members",
+    ),
+    (MfFault::NotFeature, "the type is not Feature"),
+    (MfFault::Id, "the id is no id"),
+    (MfFault::Geometry, "the geometry is no moving point's"),
+    (MfFault::Interpolation, "the interpolation is unknown"),
+    (MfFault::Datetime(2), "datetime 2 is none"),
+    (
+        MfFault::Coordinates(0),
+        "coordinates 0 are no whole numbers in range",
+    ),
+    (
+        MfFault::Lengths,
+        "there are not as many datetimes as coordinates",
+    ),
+    (MfFault::Empty, "there are no datetimes"),
+    (MfFault::TooMany, "there are too many datetimes"),
+    (
+        MfFault::Order(1),
+        "datetime 1 is not later than the one before it",
+    ),
+    (MfFault::Memory, "out of memory"),
+];
+
+#[test]
+fn faults_as_texts(rt: HostRuntime) -> Result<(), Fail> {
+    for (fault, want) in FAULTS {
+        assert_eq!(rt; format!(in rt.alloc(); "{fault}")?.as_str(), want);
+    }
+    Ok(())
+}

@@ -1,0 +1,39 @@
+//! Texts at the ends of what 64 bits hold, against their digits.
+
+use backward::{LONGEST_WIDE, write_byte, write_text, write_wide};
+use std::process::Abort;
+
+// a number, and its text
+const WIDE: [(i128, &str); 8] = [
+    (0, "0"),
+    (-1, "-1"),
+    (9_223_372_036_854_775_807, "9223372036854775807"),
+    (9_223_372_036_854_775_808, "9223372036854775808"),
+    (-9_223_372_036_854_775_808, "-9223372036854775808"),
+    (-9_223_372_036_854_775_809, "-9223372036854775809"),
+    (
+        170_141_183_460_469_231_731_687_303_715_884_105_727,
+        "170141183460469231731687303715884105727",
+    ),
+    (
+        -170_141_183_460_469_231_731_687_303_715_884_105_728,
+        "-170141183460469231731687303715884105728",
+    ),
+];
+
+#[test]
+fn wide_numbers(rt: HostRuntime) {
+    for (n, want) in WIDE {
+        let mut line = [0; LONGEST_WIDE];
+        let start = write_wide(n, &mut line, LONGEST_WIDE);
+        assert_eq!(rt; &line[start..], want.as_bytes());
+    }
+}
+
+#[test]
+fn parts(rt: HostRuntime) {
+    let mut line = [0; 8];
+    let start = write_byte(b'!', &mut line, 8);
+    let start = write_text(b"here", &mut line, start);
+    assert_eq!(rt; &line[start..], b"here!".as_slice());
+}

@@ -1,0 +1,269 @@
+//! What no clause says: that the definitions give the frames that were worked out by hand, and that calls which take
+//! memory succeed.
+
+use sessions::{Command, MOST_PUT_POINTS, Number, Request};
+use std::alloc::Global;
+use std::test::Fail;
+use store::Op;
+use synod::{Ballot, Slot, Vote};
+use tpoint::{Id, Instant, Interp, LONGEST_ID, Point, Seq};
+use wire::{
+    Entry, Envelope, LONGEST_FRAME, Message, Nack, NodeId, Nodes, Promise, WireFault, decode,
+    encode,
+};
+
+/// Prepare (1, 0) from slot 0 on, from 0 to 1.
+const PREPARE: [u8; 19] = [
+    0x4D, 0x50, 1, 1, 0, 1, 0, 0, 0, 0, 0, 0, 0, 1, 0, 0, 0, 0, 0,
+];
+
+/// Promise (1, 0) of the slots 0 to 65,535 without an entry, from 0 to 0.
+const PROMISE: [u8; 24] = [
+    0x4D, 0x50, 1, 2, 0, 0, 0, 0, 0, 0, 0, 0, 0, 1, 0, 0, 0, 0, 0, 0, 0, 0xFF, 0xFF, 0,
+];
+
+/// Nack of (1, 0), since (1, 2) is promised, from 0 to 0.
+const NACK: [u8; 24] = [
+    0x4D, 0x50, 1, 3, 0, 0, 0, 0, 0, 0, 0, 0, 0, 1, 0, 0, 0, 0, 0, 0, 0, 0, 1, 2,
+];
+
+/// Accept under (1, 0) at slot 0: request 7:1 removes `bus-7`; from 0 to 1.
+const ACCEPT: [u8; 36] = [
+    0x4D, 0x50, 1, 4, 0, 1, 0, 0, 0, 0, 0, 0, 0, 1, 0, 0, 0, 0, 0, 1, 7, 0, 0, 0, 0, 0, 0, 0, 1, 3,
+    5, 0x62, 0x75, 0x73, 0x2D, 0x37,
+];
+
+/// Ask for slot 0, from 0 to 1.
+const ASK: [u8; 10] = [0x4D, 0x50, 1, 6, 0, 1, 0, 0, 0, 0];
+
+/// Decided at slot 0: the same request; from 1 to 0.
+const DECIDED: [u8; 27] = [
+    0x4D, 0x50, 1, 7, 1, 0, 0, 0, 0, 0, 1, 7, 0, 0, 0, 0, 0, 0, 0, 1, 3, 5, 0x62, 0x75, 0x73, 0x2D,
+    0x37,
+];
+
+/// What three nodes read.
+fn read(alloc: Global, bytes: &[u8]) -> Result<Envelope, Fail> {
+    let nodes = Nodes::new(3).ok_or("three nodes")?;
+    Ok(decode(alloc, bytes, nodes)?)
+}
+
+/// The number of the fault that three nodes find, or 0 for a frame.
+fn fault(alloc: Global, bytes: &[u8]) -> Result<u8, Fail> {
+    let nodes = Nodes::new(3).ok_or("three nodes")?;
+    match decode(alloc, bytes, nodes) {
+        Ok(_) => Ok(0),
+        Err(fault) => Ok(fault.code()),
+    }
+}
+
+/// Whether three nodes read a frame, whose copy is the same and is spelled again so.
+fn is_frame(alloc: Global, bytes: &[u8]) -> Result<bool, Fail> {
+    let envelope = read(alloc, bytes)?;
+    let copy = envelope.clone()?;
+    let spelled = encode(alloc, &copy)?;
+    Ok(copy == envelope && spelled.as_slice() == bytes)
+}
+
+/// Whether these bytes are a frame, no proper beginning of them is, and none with a byte more.
+fn stands_alone(alloc: Global, bytes: &[u8]) -> Result<bool, Fail> {
+    for len in 0..bytes.len() {
+        if fault(alloc, &bytes[..len])? != 1 {
+            return Ok(false);
+        }
+    }
+    let mut longer = bytes.to_vec(alloc)?;
+    longer.push(0)?;
+    let after = fault(alloc, longer.as_slice())?;
+    let whole = is_frame(alloc, bytes)?;
+    Ok(after == 6 && whole)
+}
+
+/// Whether each change of one byte is either refused or spelled again so.
+fn survives_changes(alloc: Global, bytes: &[u8]) -> Result<bool, Fail> {
+    let nodes = Nodes::new(3).ok_or("three nodes")?;
+    let mut changed = bytes.to_vec(alloc)?;
+    for at in 0..bytes.len() {
+        for byte in 0..=255u8 {
+            if at < changed.len() {
+                changed[at] = byte;
+            }
+            let Ok(envelope) = decode(alloc, changed.as_slice(), nodes) else {
+                continue;
+            };
+            let spelled = encode(alloc, &envelope)?;
+            if spelled.as_slice() != changed.as_slice() {
+                return Ok(false);
+            }
+        }
+        if at < changed.len() {
+            changed[at] = bytes[at];
+        }
+    }
+    Ok(true)
+}
+
+#[test]
+fn frames_stand_alone(rt: HostRuntime) -> Result<(), Fail> {
+    assert!(rt; stands_alone(rt.alloc(), &PREPARE)?);
+    assert!(rt; stands_alone(rt.alloc(), &PROMISE)?);
+    assert!(rt; stands_alone(rt.alloc(), &NACK)?);
+    assert!(rt; stands_alone(rt.alloc(), &ACCEPT)?);
+    assert!(rt; stands_alone(rt.alloc(), &ASK)?);
+    assert!(rt; stands_alone(rt.alloc(), &DECIDED)?);
+    Ok(())
+}
+
+#[test]
+fn changed_prepares(rt: HostRuntime) -> Result<(), Fail> {
+    assert!(rt; survives_changes(rt.alloc(), &PREPARE)?);
+    Ok(())
+}
+
+#[test]
+fn changed_promises(rt: HostRuntime) -> Result<(), Fail> {
+    assert!(rt; survives_changes(rt.alloc(), &PROMISE)?);
+    Ok(())
+}
+
+#[test]
+fn changed_nacks(rt: HostRuntime) -> Result<(), Fail> {
+    assert!(rt; survives_changes(rt.alloc(), &NACK)?);
+    Ok(())
+}
+
+#[test]
+fn changed_accepts(rt: HostRuntime) -> Result<(), Fail> {
+    assert!(rt; survives_changes(rt.alloc(), &ACCEPT)?);
+    Ok(())
+}
+
+#[test]
+fn changed_decisions(rt: HostRuntime) -> Result<(), Fail> {
+    assert!(rt; survives_changes(rt.alloc(), &ASK)?);
+    assert!(rt; survives_changes(rt.alloc(), &DECIDED)?);
+    Ok(())
+}
+
+#[test]
+fn a_fault_in_words(rt: HostRuntime) -> Result<(), Fail> {
+    let text = format!(in rt.alloc(); "{}", WireFault::Short)?;
+    assert!(rt; text.as_str() == "the frame ends too early");
+    Ok(())
+}
+
+#[test]
+fn too_long(rt: HostRuntime) -> Result<(), Fail> {
+    let mut bytes = Vec::new(rt.alloc());
+    bytes.resize(LONGEST_FRAME + 1, 0)?;
+    assert_eq!(rt; fault(rt.alloc(), bytes.as_slice())?, 7);
+    bytes.truncate(LONGEST_FRAME);
+    assert_eq!(rt; fault(rt.alloc(), bytes.as_slice())?, 2);
+    Ok(())
+}
+
+/// A message from one node to node 0.
+fn sent(from: u8, message: Message) -> Result<Envelope, Fail> {
+    Ok(Envelope {
+        from: NodeId::new(from).ok_or("node")?,
+        to: NodeId::new(0).ok_or("node")?,
+        message,
+    })
+}
+
+#[test]
+fn seven_nodes_and_three(rt: HostRuntime) -> Result<(), Fail> {
+    let slot = Slot::first();
+    let seven = Nodes::new(7).ok_or("seven nodes")?;
+    let envelope = sent(6, Message::Ask { slot })?;
+    let bytes = encode(rt.alloc(), &envelope)?;
+    assert_eq!(rt; fault(rt.alloc(), bytes.as_slice())?, 5);
+    let read = decode(rt.alloc(), bytes.as_slice(), seven)?;
+    assert_eq!(rt; read.from.value(), 6);
+    Ok(())
+}
+
+/// A request that puts the longest sequence under the longest id.
+fn largest(alloc: Global) -> Result<Command, Fail> {
+    let id = Id::new(&[b'a'; LONGEST_ID]).ok_or("id")?;
+    let mut points = Vec::with_capacity(alloc, MOST_PUT_POINTS)?;
+    for ms in 0..MOST_PUT_POINTS as i64 {
+        let t = Instant::new(ms).ok_or("instant")?;
+        points.push(Point { t, x: -1, y: 1 })?;
+    }
+    let seq = Seq::new(Interp::Linear, points)?;
+    let number = Number::new(1).ok_or("number")?;
+    let request = Request::new(7, number, Op::Put(id, seq))?;
+    Ok(Command::Request(request))
+}
+
+/// A promise that tells four votes for it.
+fn largest_promise(alloc: Global) -> Result<Promise, Fail> {
+    let ballot = Ballot::new(1, 0).ok_or("ballot")?;
+    let last = Slot::new(3).ok_or("slot")?;
+    let mut entries = Vec::new(alloc);
+    for slot in 0..4 {
+        let vote = Vote {
+            slot: Slot::new(slot).ok_or("slot")?,
+            ballot,
+            command: largest(alloc)?,
+        };
+        entries.push(Entry::new(vote))?;
+    }
+    Ok(Promise::new(ballot, Slot::first(), last, entries).ok_or("promise")?)
+}
+
+#[test]
+fn largest_frames(rt: HostRuntime) -> Result<(), Fail> {
+    let promise = largest_promise(rt.alloc())?;
+    let envelope = sent(0, Message::Promise(promise))?;
+    let bytes = encode(rt.alloc(), &envelope)?;
+    assert_eq!(rt; bytes.len(), 49_544);
+    assert!(rt; is_frame(rt.alloc(), bytes.as_slice())?);
+    Ok(())
+}
+
+#[test]
+fn largest_command(rt: HostRuntime) -> Result<(), Fail> {
+    let slot = Slot::first();
+    let command = largest(rt.alloc())?;
+    let envelope = sent(0, Message::Decided { slot, command })?;
+    let bytes = encode(rt.alloc(), &envelope)?;
+    assert_eq!(rt; bytes.len(), 10 + 12_367);
+    Ok(())
+}
+
+#[test]
+fn refusals_and_promises(rt: HostRuntime) -> Result<(), Fail> {
+    let low = Ballot::new(1, 0).ok_or("ballot")?;
+    let high = Ballot::new(1, 2).ok_or("ballot")?;
+    assert!(rt; Nack::new(high, low).is_none());
+    assert!(rt; Nack::new(low, low).is_none());
+    let nack = Nack::new(low, high).ok_or("refusal")?;
+    assert_eq!(rt; nack.promised(), high);
+    let first = Slot::first();
+    let last = Slot::new(1).ok_or("slot")?;
+    assert!(rt; Promise::new(low, last, first, Vec::new(rt.alloc())).is_none());
+    Ok(())
+}
+
+/// Whether two frames are of equal envelopes, and whether of equal messages.
+fn are_equal(alloc: Global, bytes: &[u8], others: &[u8]) -> Result<(bool, bool), Fail> {
+    let envelope = read(alloc, bytes)?;
+    let other = read(alloc, others)?;
+    Ok((envelope == other, envelope.message == other.message))
+}
+
+#[test]
+fn different_frames_are_different_envelopes(rt: HostRuntime) -> Result<(), Fail> {
+    let mut other_slot = ASK;
+    other_slot[9] = 1;
+    let mut other_node = ASK;
+    other_node[5] = 2;
+    let alloc = rt.alloc();
+    assert_eq!(rt; are_equal(alloc, &ASK, &ASK)?, (true, true));
+    assert_eq!(rt; are_equal(alloc, &ASK, &PREPARE)?, (false, false));
+    assert_eq!(rt; are_equal(alloc, &ASK, &other_slot)?, (false, false));
+    assert_eq!(rt; are_equal(alloc, &ASK, &other_node)?, (false, true));
+    Ok(())
+}

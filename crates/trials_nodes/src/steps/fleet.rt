@@ -1,0 +1,271 @@
+//! Nodes over records in memory, and each frame that they sent.
+
+use super::letters::{Said, envelope, node_id, number, removal};
+use super::telling::{tell_fault, tell_learnt, tell_replies, tell_sends, tell_writes};
+use node::{Input, Node, NodeFault, Outputs};
+use stable::{Failing, MemStable, Scripted};
+use std::alloc::Global;
+use std::fmt::Write;
+use std::test::Fail;
+use store::{Op, Query};
+use wire::{Envelope, Frame, Id, Instant, Interp, Nodes, Point, Seq};
+
+/// A step. The number of a node comes first, where there is one.
+#[derive(Clone, Copy, Debug)]
+pub enum Step {
+    /// The client and the number of a request that removes `bus-7`.
+    Submit(u8, u8, u64),
+    /// The same of one that puts `bus-7` at so many instants.
+    Put(u8, u8, u64, u16),
+    Timeout(u8),
+    Tick(u8),
+    /// It hears from another node, which comes next.
+    Hear(u8, u8, Said),
+    /// The same of what is addressed to that other node.
+    Overhear(u8, u8, Said),
+    /// The frame of this number comes to whom it is addressed, again or for the first time.
+    Deliver(usize),
+    /// The frame of this number waits no more.
+    Lose(usize),
+    /// Frames are delivered, the lowest that waits first, until none waits. What is sent then isn't told.
+    Flush,
+    /// The next put fails.
+    Arm(u8, Failing),
+    Stop(u8),
+    Restart(u8),
+    /// How many features there are.
+    Count(u8),
+    /// Whether it is up, its position, and the keys of the puts that took effect.
+    Look(u8),
+}
+
+// No table sends more frames.
+const MOST_FLUSHED: usize = 300;
+
+/// A node whose puts are listed, and can be made to fail.
+type Member = Node<Scripted<MemStable>>;
+
+/// A frame that was sent, and whether it waits to be delivered.
+#[derive(Drop)]
+struct Sent {
+    frame: Frame,
+    waits: bool,
+}
+
+/// Nodes, and what they sent, in order.
+#[derive(Drop)]
+pub struct Fleet {
+    members: Vec<Member>,
+    sent: Vec<Sent>,
+}
+
+impl Fleet {
+    /// So many nodes, none of which has a record.
+    pub fn new(alloc: Global, count: u8) -> Result<Fleet, Fail> {
+        let nodes = Nodes::new(count).ok_or("nodes")?;
+        let mut members = Vec::new(alloc);
+        for value in 0..count {
+            let storage = Scripted::new(alloc, MemStable::new(alloc));
+            members.push(Node::start(alloc, storage, node_id(value)?, nodes))?;
+        }
+        Ok(Fleet {
+            members,
+            sent: Vec::new(alloc),
+        })
+    }
+
+    /// Takes a step: what is told of it.
+    pub fn take(&mut self, alloc: Global, step: Step) -> Result<String, Fail> {
+        match step {
+            Step::Submit(to, client, value) => self.submit(alloc, to, client, value, removal()?),
+            Step::Put(to, client, value, instants) => {
+                self.submit(alloc, to, client, value, ride(alloc, instants)?)
+            }
+            Step::Timeout(to) => self.give(alloc, to, Input::Timeout),
+            Step::Tick(to) => self.give(alloc, to, Input::Tick),
+            Step::Hear(to, from, said) => {
+                self.give(alloc, to, Input::Message(envelope(alloc, from, to, said)?))
+            }
+            Step::Overhear(to, from, said) => {
+                self.give(
+                    alloc,
+                    to,
+                    Input::Message(envelope(alloc, from, from, said)?),
+                )
+            }
+            Step::Deliver(at) => self.deliver(alloc, at),
+            Step::Flush => self.flush(alloc),
+            _ => self.act(alloc, step),
+        }
+    }
+
+    fn submit(
+        &mut self,
+        alloc: Global,
+        to: u8,
+        client: u8,
+        value: u64,
+        op: Op,
+    ) -> Result<String, Fail> {
+        let number = number(value)?;
+        self.give(alloc, to, Input::Submit { client, number, op })
+    }
+
+    /// Gives an input to a node: what it tells, and then what it sends.
+    fn give(&mut self, alloc: Global, to: u8, input: Input) -> Result<String, Fail> {
+        let mut text = String::new(alloc);
+        let sends = self.hear(alloc, &mut text, to, input)?;
+        tell_sends(alloc, &mut text, sends.as_slice())?;
+        self.keep(sends)?;
+        Ok(text)
+    }
+
+    /// Gives an input to a node, which tells what it does: what it sends.
+    fn hear(
+        &mut self,
+        alloc: Global,
+        text: &mut String,
+        to: u8,
+        input: Input,
+    ) -> Result<Vec<Frame>, Fail> {
+        let Some(member) = self.members.get_mut(usize::from(to)) else {
+            return Err("member".into());
+        };
+        match member.step(alloc, input) {
+            Ok(outputs) => {
+                let Outputs {
+                    learnt,
+                    replies,
+                    sends,
+                } = outputs;
+                if let Some(entry) = &learnt {
+                    tell_learnt(alloc, text, to, entry)?;
+                }
+                tell_replies(text, to, replies.as_slice())?;
+                Ok(sends)
+            }
+            Err(fault) => {
+                tell_fault(text, to, fault)?;
+                Ok(Vec::new(alloc))
+            }
+        }
+    }
+
+    /// What is sent waits to be delivered.
+    fn keep(&mut self, sends: Vec<Frame>) -> Result<(), Fail> {
+        for frame in sends {
+            self.sent.push(Sent { frame, waits: true })?;
+        }
+        Ok(())
+    }
+
+    /// The frame of this number, which waits no more, where there is one: its envelope.
+    fn open(&mut self, alloc: Global, at: usize) -> Result<Option<Envelope>, Fail> {
+        let Some(sent) = self.sent.get_mut(at) else {
+            return Ok(None);
+        };
+        sent.waits = false;
+        Ok(Some(sent.frame.open(alloc)?))
+    }
+
+    fn deliver(&mut self, alloc: Global, at: usize) -> Result<String, Fail> {
+        let envelope = self.open(alloc, at)?.ok_or("frame")?;
+        let to = envelope.to.value();
+        self.give(alloc, to, Input::Message(envelope))
+    }
+
+    fn waits(&self, at: usize) -> bool {
+        match self.sent.get(at) {
+            Some(sent) => sent.waits,
+            None => false,
+        }
+    }
+
+    fn flush(&mut self, alloc: Global) -> Result<String, Fail> {
+        let mut text = String::new(alloc);
+        for at in 0..MOST_FLUSHED {
+            if self.waits(at) {
+                let envelope = self.open(alloc, at)?.ok_or("frame")?;
+                let to = envelope.to.value();
+                let sends = self.hear(alloc, &mut text, to, Input::Message(envelope))?;
+                self.keep(sends)?;
+            }
+        }
+        if self.sent.len() > MOST_FLUSHED {
+            return Err("more frames".into());
+        }
+        Ok(text)
+    }
+
+    /// A step that is no input.
+    fn act(&mut self, alloc: Global, step: Step) -> Result<String, Fail> {
+        match step {
+            Step::Lose(at) => {
+                let _ = self.open(alloc, at)?.ok_or("frame")?;
+                Ok(String::new(alloc))
+            }
+            Step::Arm(to, failing) => {
+                self.member(to)?.arm(failing);
+                Ok(String::new(alloc))
+            }
+            Step::Stop(to) => {
+                self.member(to)?.stop();
+                Ok(String::new(alloc))
+            }
+            Step::Restart(to) => {
+                let result = self.member(to)?.restart(alloc);
+                restarted(alloc, to, result)
+            }
+            Step::Count(to) => counted(alloc, to, self.member(to)?),
+            Step::Look(to) => seen(alloc, to, self.member(to)?),
+            _ => Err("step".into()),
+        }
+    }
+
+    fn member(&mut self, to: u8) -> Result<&mut Member, Fail> {
+        let member = self.members.get_mut(usize::from(to)).ok_or("member")?;
+        Ok(member)
+    }
+}
+
+/// What is told of a restart: nothing where it succeeds.
+fn restarted(alloc: Global, of: u8, outcome: Result<(), NodeFault>) -> Result<String, Fail> {
+    let mut text = String::new(alloc);
+    if let Err(fault) = outcome {
+        tell_fault(&mut text, of, fault)?;
+    }
+    Ok(text)
+}
+
+/// How many features a node has.
+fn counted(alloc: Global, of: u8, member: &Member) -> Result<String, Fail> {
+    let mut text = String::new(alloc);
+    match member.query(alloc, &Query::Count) {
+        Ok((position, answer)) => {
+            let answer = str::from_utf8(answer.as_bytes())?;
+            write!(text, "answer {of} {position} {answer}")?;
+        }
+        Err(fault) => tell_fault(&mut text, of, fault)?,
+    }
+    Ok(text)
+}
+
+/// What is seen of a node from outside.
+fn seen(alloc: Global, of: u8, member: &Member) -> Result<String, Fail> {
+    let stands = if member.is_up() { "up" } else { "down" };
+    let position = member.position();
+    let mut text = format!(in alloc; "{of} {stands} {position}")?;
+    tell_writes(&mut text, member.writes())?;
+    Ok(text)
+}
+
+/// The operation that puts `bus-7` at so many instants, a millisecond apart.
+pub fn ride(alloc: Global, instants: u16) -> Result<Op, Fail> {
+    let id = Id::new(b"bus-7").ok_or("id")?;
+    let mut points = Vec::new(alloc);
+    for ms in 0..instants {
+        let t = Instant::new(i64::from(ms)).ok_or("instant")?;
+        points.push(Point { t, x: 0, y: 0 })?;
+    }
+    Ok(Op::Put(id, Seq::new(Interp::Step, points)?))
+}

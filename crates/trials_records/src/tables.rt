@@ -1,0 +1,270 @@
+//! Records in a table: in memory, over disks that fail, and in a file.
+
+use sqlite::{Connection, Error, FileStore, Files, MemStore, Options, params};
+use sqlite_disk::{Fuse, Memory};
+use sqlstable::SqlStable;
+use stable::{Failing, Key, Scripted, Stable, StableFault};
+use std::alloc::Global;
+use std::fs;
+use synod::Slot;
+
+// The key of the vote at a slot. No test names a slot beyond the log, of which Round would be told.
+fn vote(slot: u32) -> Key {
+    match Slot::new(slot) {
+        Some(slot) => Key::Vote(slot),
+        None => Key::Round,
+    }
+}
+
+// Whether the key holds these bytes.
+fn holds<S: Stable>(
+    alloc: Global,
+    storage: &mut S,
+    key: Key,
+    bytes: &[u8],
+) -> Result<bool, StableFault> {
+    Ok(match storage.get(alloc, key)? {
+        Some(found) => found.as_slice() == bytes,
+        None => false,
+    })
+}
+
+// Puts five records, the last in the place of the first.
+fn fill<S: Stable>(alloc: Global, storage: &mut S) -> Result<(), StableFault> {
+    storage.put(alloc, vote(700), b"de")?;
+    storage.put(alloc, Key::Round, b"")?;
+    storage.put(alloc, vote(0), b"f")?;
+    storage.put(alloc, Key::Promise, b"abc")?;
+    storage.put(alloc, vote(700), b"g")
+}
+
+// Whether a storage holds what `fill` puts, under ascending keys.
+fn is_filled<S: Stable>(alloc: Global, storage: &mut S) -> Result<bool, StableFault> {
+    let keys = storage.keys(alloc)?;
+    let ascending = keys.as_slice() == [Key::Promise, Key::Round, vote(0), vote(700)].as_slice();
+    let absent = storage.get(alloc, vote(65_535))?.is_none();
+    Ok(
+        ascending
+            && absent
+            && holds(alloc, storage, Key::Promise, b"abc")?
+            && holds(alloc, storage, Key::Round, b"")?
+            && holds(alloc, storage, vote(0), b"f")?
+            && holds(alloc, storage, vote(700), b"g")?,
+    )
+}
+
+// Whether a storage that is empty keeps what is put.
+fn keeps_records<S: Stable>(alloc: Global, storage: &mut S) -> Result<bool, StableFault> {
+    let empty = storage.keys(alloc)?.is_empty();
+    fill(alloc, storage)?;
+    Ok(empty && is_filled(alloc, storage)?)
+}
+
+#[test]
+fn memory_keeps_records(rt: HostRuntime) {
+    let alloc = rt.alloc();
+    let Ok(mut storage) = SqlStable::open_in_memory(alloc) else {
+        assert!(rt; false);
+        return;
+    };
+    assert_eq!(rt; keeps_records(alloc, &mut storage), Ok(true));
+    assert!(rt; storage.can_count());
+}
+
+#[test]
+fn an_armed_put_over_it_writes(rt: HostRuntime) {
+    let alloc = rt.alloc();
+    let Ok(inner) = SqlStable::open_in_memory(alloc) else {
+        assert!(rt; false);
+        return;
+    };
+    let mut storage = Scripted::new(alloc, inner);
+    storage.arm(Failing::New);
+    assert_eq!(rt; storage.put(alloc, vote(1), b"h"), Err(StableFault::Device));
+    assert_eq!(rt; holds(alloc, &mut storage, vote(1), b"h"), Ok(true));
+}
+
+#[test]
+fn a_closed_storage_has_its_records_again(rt: HostRuntime) {
+    let alloc = rt.alloc();
+    let files = Files {
+        log: Memory::new(alloc),
+        db: Memory::new(alloc),
+    };
+    let Ok(mut storage) = SqlStable::open_files(alloc, files, Options::new(1)) else {
+        assert!(rt; false);
+        return;
+    };
+    assert_eq!(rt; keeps_records(alloc, &mut storage), Ok(true));
+    let Ok(mut again) = storage.reopen(alloc, Options::new(2)) else {
+        assert!(rt; false);
+        return;
+    };
+    assert_eq!(rt; is_filled(alloc, &mut again), Ok(true));
+}
+
+// A storage over files that fail from a call of theirs on.
+fn over_a_fuse(
+    alloc: Global,
+    calls: u64,
+) -> Result<SqlStable<FileStore<Fuse<Memory>>>, StableFault> {
+    let files = Files {
+        log: Fuse::new(Memory::new(alloc), calls),
+        db: Fuse::new(Memory::new(alloc), calls),
+    };
+    SqlStable::open_files(alloc, files, Options::new(1))
+}
+
+#[test]
+fn a_write_that_the_disk_refuses_is_told(rt: HostRuntime) {
+    let alloc = rt.alloc();
+    let Ok(mut storage) = over_a_fuse(alloc, 100) else {
+        assert!(rt; false);
+        return;
+    };
+    for slot in 0..200 {
+        if let Err(fault) = storage.put(alloc, vote(slot), b"a") {
+            assert_eq!(rt; fault, StableFault::Device);
+            return;
+        }
+    }
+    assert!(rt; false, "the disk never failed");
+}
+
+// A database in memory, made by these two texts.
+fn database(alloc: Global, table: &str, row: &str) -> Result<Connection<MemStore>, Error> {
+    let mut connection = Connection::open_in_memory(alloc)?;
+    connection.execute(table, params![])?;
+    connection.execute(row, params![])?;
+    Ok(connection)
+}
+
+const TABLE: &str = "CREATE TABLE record (k BLOB PRIMARY KEY NOT NULL, v BLOB NOT NULL) STRICT";
+
+// No letter, a letter that is none, a slot beyond the log, a byte more.
+const STRAYS: [&str; 4] = [
+    "INSERT INTO record VALUES (X'', X'00')",
+    "INSERT INTO record VALUES (X'51', X'00')",
+    "INSERT INTO record VALUES (X'5600010000', X'00')",
+    "INSERT INTO record VALUES (X'5000', X'00')",
+];
+
+#[test]
+fn a_key_of_no_record_is_damage(rt: HostRuntime) {
+    let alloc = rt.alloc();
+    for row in STRAYS {
+        let Ok(connection) = database(alloc, TABLE, row) else {
+            assert!(rt; false, "{row}");
+            return;
+        };
+        let Ok(mut storage) = SqlStable::over(connection) else {
+            assert!(rt; false, "{row}");
+            return;
+        };
+        assert_eq!(rt; storage.keys(alloc), Err(StableFault::Damaged), "{row}");
+    }
+}
+
+// Another name, values of any kind, keys that may come twice, a column more.
+const OTHERS: [(&str, &str); 4] = [
+    (
+        "CREATE TABLE records (k BLOB PRIMARY KEY NOT NULL, v BLOB NOT NULL) STRICT",
+        "INSERT INTO records VALUES (X'50', X'00')",
+    ),
+    (
+        "CREATE TABLE record (k BLOB PRIMARY KEY NOT NULL, v BLOB NOT NULL)",
+        "INSERT INTO record VALUES ('P', 80)",
+    ),
+    (
+        "CREATE TABLE record (k BLOB NOT NULL, v BLOB NOT NULL) STRICT",
+        "INSERT INTO record VALUES (X'50', X'00')",
+    ),
+    (
+        "CREATE TABLE record (k BLOB PRIMARY KEY NOT NULL, v BLOB NOT NULL, w BLOB) STRICT",
+        "INSERT INTO record VALUES (X'50', X'00', X'00')",
+    ),
+];
+
+#[test]
+fn another_table_is_refused(rt: HostRuntime) {
+    let alloc = rt.alloc();
+    for (table, row) in OTHERS {
+        let Ok(connection) = database(alloc, table, row) else {
+            assert!(rt; false, "{table}");
+            return;
+        };
+        let fault = match SqlStable::over(connection) {
+            Ok(_storage) => None,
+            Err(fault) => Some(fault),
+        };
+        assert_eq!(rt; fault, Some(StableFault::Device), "{table}");
+    }
+}
+
+const FOLDER: &str = "sqlstable_test";
+
+const PATH: &str = "sqlstable_test/node0.db";
+
+#[test]
+fn a_file_keeps_records(rt: HostRuntime) {
+    let alloc = rt.alloc();
+    let _ = fs::remove_dir_all(&rt, FOLDER);
+    assert!(rt; fs::create_dir(&rt, FOLDER).is_ok());
+    let Ok(mut storage) = SqlStable::open(&rt, PATH) else {
+        assert!(rt; false);
+        return;
+    };
+    assert_eq!(rt; keeps_records(alloc, &mut storage), Ok(true));
+    assert_eq!(rt; storage.close(), Ok(()));
+    let Ok(mut again) = SqlStable::open(&rt, PATH) else {
+        assert!(rt; false);
+        return;
+    };
+    assert_eq!(rt; is_filled(alloc, &mut again), Ok(true));
+    assert!(rt; SqlStable::open(&rt, "sqlstable_test").is_err());
+    drop(again);
+    assert!(rt; fs::remove_dir_all(&rt, FOLDER).is_ok());
+}
+
+const RUN_FOLDER: &str = "sqlstable_run_test";
+
+const RUN_PATH: &str = "sqlstable_run_test/node0.db";
+
+const RUN_LOG: &str = "sqlstable_run_test/node0.db-wal";
+
+// What a run leaves: its storage is dropped and not closed.
+fn leave_a_file(rt: &HostRuntime) -> Result<(), StableFault> {
+    let mut storage = SqlStable::open(rt, RUN_PATH)?;
+    fill(rt.alloc(), &mut storage)
+}
+
+// Settles the file, and reads its bytes.
+fn settled_bytes(rt: &HostRuntime) -> Result<Vec<u8>, StableFault> {
+    SqlStable::settle(rt, RUN_PATH)?;
+    match fs::read(rt, RUN_PATH) {
+        Ok(bytes) => Ok(bytes),
+        Err(_) => Err(StableFault::Device),
+    }
+}
+
+// Whether a file that is opened holds what `fill` puts.
+fn is_file_filled(rt: &HostRuntime) -> Result<bool, StableFault> {
+    let mut storage = SqlStable::open(rt, RUN_PATH)?;
+    is_filled(rt.alloc(), &mut storage)
+}
+
+#[test]
+fn a_settled_file_is_alone(rt: HostRuntime) {
+    let _ = fs::remove_dir_all(&rt, RUN_FOLDER);
+    assert!(rt; fs::create_dir(&rt, RUN_FOLDER).is_ok());
+    assert_eq!(rt; leave_a_file(&rt), Ok(()));
+    assert!(rt; fs::symlink_metadata(&rt, RUN_LOG).is_ok());
+    let (Ok(first), Ok(again)) = (settled_bytes(&rt), settled_bytes(&rt)) else {
+        assert!(rt; false);
+        return;
+    };
+    assert!(rt; fs::symlink_metadata(&rt, RUN_LOG).is_err());
+    assert_eq!(rt; first.as_slice(), again.as_slice());
+    assert_eq!(rt; is_file_filled(&rt), Ok(true));
+    assert!(rt; fs::remove_dir_all(&rt, RUN_FOLDER).is_ok());
+}
