@@ -1,0 +1,221 @@
+//! A run of the program over any streams.
+
+ghost use Rattle.std.specs.Prelude.{◌≡◌, ◌≢◌, ◌≤◌, ◌⊎◌, ℕ, List, map};
+ghost use Rattle.std.specs.Prelude.{string_bytes, true, IfOk, IfErr, IfSome, OnErr, OnOk};
+ghost use Rattle.endings.specs.Failures.{line_text, status_of};
+ghost use Rattle.commandline.specs.Forms.{AskFor, NameInput, text_of as name_text};
+ghost use Rattle.console.specs.Jobs.{EndsIn, IsAnswer, IsFaulty, IsKept, MakesIn, Stops};
+ghost use Rattle.schedule.specs.Runs.{IsRunOver};
+ghost use Rattle.works.specs.Works.{IsUnread, StopsOver};
+ghost use Rattle.endings.specs.Streams.{Takes, Tells};
+
+use crate::failures::words_failure;
+use crate::records::{has_logs, open_all, settle_all};
+use commandline::job_of;
+use endings::{Failure, Tracked, device_failure};
+use jobs::{Source, Work};
+use schedule::Schedule;
+use sqlite::{File, FileStore};
+use sqlstable::SqlStable;
+use stable::{MemStable, Scripted, Stable};
+use std::alloc::Global;
+use std::fs;
+use std::io::{Read, Write};
+use works::{made, made_over, planned};
+
+/// Runs the program on the words after its name, and answers its exit status. What it makes, a
+/// transcript or a document, goes to `out`, and only once all of it is made; why there is nothing
+/// goes to `err`.
+///
+/// | Status | When | `err` |
+/// |---|---|---|
+/// | 0 | done | nothing |
+/// | 1 | line L of a schedule has the fault F | `mfpx: line L fault F` |
+/// | 1 | a file that is to keep records holds one | `mfpx: fault 55` |
+/// | 1 | a document has the fault F | `mfpx: document fault F` |
+/// | 1 | element I of a document's list has it | `mfpx: document fault F at I` |
+/// | 2 | the words are none of the forms | `mfpx: usage` |
+/// | 3 | a file or a stream fails | `mfpx: device` |
+/// | 3 | memory is refused | `mfpx: out of memory` |
+///
+/// Faults are found in this order: the words, reading the file, parsing, opening the files for records, the run, writing. An
+/// `err` that fails changes nothing else.
+pub fn command<R: Read, O: Write, E: Write>(
+    rt: &HostRuntime,
+    words: Vec<String>,
+    input: &mut R,
+    out: &mut Tracked<O>,
+    err: &mut Tracked<E>,
+) -> u8
+    ensures statuses { result ≤ 3 }
+    ensures words_come_first { result ≡ 2 → input.new ≡ input.old }
+    ensures file_alone { ¬ NameInput (map string_bytes words.items) → input.new ≡ input.old }
+
+    // What goes to `out`: the whole text, or nothing, or what a stream took before it failed.
+    ensures done { result ≡ 0 → (text : List ℕ)
+        × IsAnswer (⟦<Scripted<MemStable> as Stable>⟧) (⟦<SqlStable<FileStore<File>> as Stable>⟧)
+        (map string_bytes words.items) (R.remaining input.old) text
+        × Takes O.contents out.old out.new text }
+    ensures faulty_unprinted { result ≡ 1 → out.new ≡ out.old }
+    ensures usage_unprinted { result ≡ 2 → out.new ≡ out.old }
+    ensures failed_unprinted { result ≡ 3 → (out.new ≡ out.old) ⊎ ((text : List ℕ)
+        × IsAnswer (⟦<Scripted<MemStable> as Stable>⟧) (⟦<SqlStable<FileStore<File>> as Stable>⟧)
+        (map string_bytes words.items) (R.remaining input.old) text
+        × (out.new.has_failed ≡ true)) }
+
+    // Why, and what goes to `err`: the line of that failure.
+    ensures done_silently { result ≡ 0 → err.new ≡ err.old }
+    ensures faulty { result ≡ 1 → (failure : Failure)
+        × IsFaulty (⟦<Scripted<MemStable> as Stable>⟧) (⟦<SqlStable<FileStore<File>> as Stable>⟧)
+        (map string_bytes words.items) (R.remaining input.old) failure
+        × Tells E.contents err.old err.new (line_text failure) }
+    ensures usage { result ≡ 2 → (work : Work) → ¬ AskFor (map string_bytes words.items) work }
+    ensures usage_told { result ≡ 2 → Tells E.contents err.old err.new (line_text Failure.Usage) }
+    ensures failed_told { result ≡ 3 → Tells E.contents err.old err.new (line_text Failure.Device)
+        ⊎ Tells E.contents err.old err.new (line_text Failure.Memory) }
+{
+    match run(rt, words.as_slice(), input, out) {
+        Ok(()) => 0,
+        Err(failure) => {
+            err.tell(failure);
+            failure.status()
+        }
+    }
+}
+
+/// Writes what the words ask for.
+fn run<R: Read, O: Write>(
+    rt: &HostRuntime,
+    words: &[String],
+    input: &mut R,
+    out: &mut Tracked<O>,
+) -> Result<(), Failure>
+    ensures done { OnOk result ((text : List ℕ)
+        × IsAnswer (⟦<Scripted<MemStable> as Stable>⟧) (⟦<SqlStable<FileStore<File>> as Stable>⟧)
+        (map string_bytes words.now) (R.remaining input.old) text
+        × Takes O.contents out.old out.new text) }
+    ensures faulty { IfErr result (λ failure. status_of failure ≡ 1
+        → IsFaulty (⟦<Scripted<MemStable> as Stable>⟧) (⟦<SqlStable<FileStore<File>> as Stable>⟧)
+        (map string_bytes words.now) (R.remaining input.old) failure) }
+    ensures usage { IfErr result (λ failure. failure ≡ Failure.Usage
+        → (work : Work) → ¬ AskFor (map string_bytes words.now) work) }
+    ensures untouched { IfErr result (λ failure. failure ≢ Failure.Device
+        → out.new ≡ out.old) }
+    ensures unprinted { OnErr result ((out.new ≡ out.old) ⊎ ((text : List ℕ)
+        × IsAnswer (⟦<Scripted<MemStable> as Stable>⟧) (⟦<SqlStable<FileStore<File>> as Stable>⟧)
+        (map string_bytes words.now) (R.remaining input.old) text
+        × (out.new.has_failed ≡ true))) }
+    ensures words_come_first { IfErr result (λ failure. failure ≡ Failure.Usage
+        → input.new ≡ input.old) }
+    ensures file_alone { ¬ NameInput (map string_bytes words.now) → input.new ≡ input.old }
+{
+    let job = match job_of(rt.alloc(), words) {
+        Ok(job) => job,
+        Err(fault) => return Err(words_failure(fault)),
+    };
+    let bytes = content(rt, &job.source, input)?;
+    let text = text_of(rt, job.work, job.folder, bytes.as_slice())?;
+    match out.print(text.as_slice()) {
+        Ok(()) => Ok(()),
+        Err(_) => Err(Failure::Device),
+    }
+}
+
+/// What the work makes of the bytes: with its records in memory, or in files where a folder is given for them.
+fn text_of(
+    rt: &HostRuntime,
+    work: Work,
+    folder: Option<&str>,
+    bytes: &[u8],
+) -> Result<Vec<u8>, Failure>
+    ensures makes { IfOk result (λ text. MakesIn (⟦<Scripted<MemStable> as Stable>⟧) (⟦<SqlStable<FileStore<File>> as Stable>⟧)
+        work (name_text folder.entry) bytes.now text.items) }
+    ensures ends { IfErr result (λ failure. failure ≢ Failure.Memory → failure ≢ Failure.Device
+        → EndsIn (⟦<Scripted<MemStable> as Stable>⟧) (⟦<SqlStable<FileStore<File>> as Stable>⟧)
+        work (name_text folder.entry) bytes.now failure) }
+    ensures no_usage { IfErr result (λ failure. failure ≢ Failure.Usage) }
+{
+    match folder {
+        None => made(rt.alloc(), work, bytes),
+        Some(folder) => kept(rt, folder, bytes),
+    }
+}
+
+/// The transcript of the schedule that the bytes spell, whose nodes keep their records in files of the folder.
+///
+/// The schedule is parsed before a file is opened. Where a file holds a record nothing is written. However the run ends, the
+/// files are closed in order; one that can't be keeps its log beside it, and nothing else is told of that.
+fn kept(rt: &HostRuntime, folder: &str, bytes: &[u8]) -> Result<Vec<u8>, Failure>
+    ensures kept { IfOk result (λ text. IsKept (⟦<SqlStable<FileStore<File>> as Stable>⟧) bytes.now text.items) }
+    ensures ends { IfErr result (λ failure. failure ≢ Failure.Memory → failure ≢ Failure.Device
+        → IsUnread bytes.now failure ⊎ Stops (⟦<SqlStable<FileStore<File>> as Stable>⟧) bytes.now failure) }
+    ensures no_usage { IfErr result (λ failure. failure ≢ Failure.Usage) }
+{
+    let schedule = planned(rt.alloc(), bytes)?;
+    let count = schedule.nodes();
+    let had_logs = has_logs(rt, folder, count)?;
+    match made_in(rt, folder, schedule) {
+        Ok(text) => {
+            let _settled = settle_all(rt, folder, count);
+            Ok(text)
+        }
+        Err(failure) => {
+            // A log that a crash has left beside records stays: nothing is to be changed there.
+            if !had_logs || failure != Failure::NotEmpty {
+                let _settled = settle_all(rt, folder, count);
+            }
+            Err(failure)
+        }
+    }
+}
+
+/// The transcript of the schedule's run over files of the folder.
+fn made_in(rt: &HostRuntime, folder: &str, schedule: Schedule) -> Result<Vec<u8>, Failure>
+    ensures made { IfOk result (λ text. (stores : _)
+        × IsRunOver (⟦<SqlStable<FileStore<File>> as Stable>⟧) stores schedule text.items) }
+    ensures ends { IfErr result (λ failure. failure ≢ Failure.Memory → failure ≢ Failure.Device
+        → (stores : _) × StopsOver (⟦<SqlStable<FileStore<File>> as Stable>⟧) stores schedule failure) }
+    ensures no_usage { IfErr result (λ failure. failure ≢ Failure.Usage) }
+{
+    let stores = open_all(rt, folder, schedule.nodes())?;
+    made_over(rt.alloc(), schedule, stores)
+}
+
+/// The bytes of the source.
+fn content<R: Read>(rt: &HostRuntime, source: &Source, input: &mut R) -> Result<Vec<u8>, Failure>
+    ensures input { source.now ≡ Source.Input → IfOk result (λ bytes.
+        IfSome (R.remaining input.old) (λ left. bytes.items ≡ left)) }
+    ensures file_alone { source.now ≢ Source.Input → input.new ≡ input.old }
+    ensures err { IfErr result (λ failure. (failure ≡ Failure.Device)
+        ⊎ (failure ≡ Failure.Memory)) }
+{
+    match source {
+        Source::Input => input_bytes(rt.alloc(), input),
+        Source::File(path) => file_bytes(rt, path),
+    }
+}
+
+/// All that is left of the input.
+fn input_bytes<R: Read>(alloc: Global, input: &mut R) -> Result<Vec<u8>, Failure>
+    ensures ok { IfOk result (λ bytes. IfSome (R.remaining input.old)
+        (λ left. bytes.items ≡ left)) }
+    ensures err { IfErr result (λ failure. (failure ≡ Failure.Device)
+        ⊎ (failure ≡ Failure.Memory)) }
+{
+    let mut bytes = Vec::new(alloc);
+    match input.read_to_end(&mut bytes) {
+        Ok(_) => Ok(bytes),
+        Err(error) => Err(device_failure(&error)),
+    }
+}
+
+/// The content of the file. Nothing is known of it, as it lies outside of the program.
+fn file_bytes(rt: &HostRuntime, path: &str) -> Result<Vec<u8>, Failure>
+    ensures { IfErr result (λ failure. (failure ≡ Failure.Device)
+        ⊎ (failure ≡ Failure.Memory)) }
+{
+    match fs::read(rt, path) {
+        Ok(bytes) => Ok(bytes),
+        Err(error) => Err(device_failure(&error)),
+    }
+}

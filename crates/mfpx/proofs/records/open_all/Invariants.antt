@@ -1,6 +1,0 @@
-use Rattle.std.proofs.Common.{◌≡◌, vec_len}
-use Rattle.mfpx.proofs.records.open_all.Given as goal
-
--- as many files were opened
-abbrev pub invariant-loop-number : goal.invariant-loop-number
-invariant-loop-number l = vec_len l.stores ≡ l.number

@@ -1,0 +1,86 @@
+//! Whole checks of documents: what goes in, and all that comes out. Further ones are the examples.
+
+use crate::streams::{Unwritable, answer, told_over};
+use std::io::{self, Error, ErrorKind, Read};
+use std::test::Fail;
+
+/// A reader that gives the beginning of a document, and then fails.
+#[derive(Debug, Drop)]
+struct Broken {
+    begun: bool,
+}
+
+impl Read for Broken {
+    fn read(&mut self, buf: &mut [u8]) -> io::Result<usize> {
+        if self.begun || buf.is_empty() {
+            return Err(Error::from(ErrorKind::BrokenPipe));
+        }
+        self.begun = true;
+        buf[0] = b'{';
+        Ok(1)
+    }
+}
+
+// in the canonical order, with no blanks: 195 bytes
+const CANONICAL: &str =
+    r#"{"id":"bus-7","temporalGeometry":{"coordinates":[[0,0],[10,5]],"datetimes":["2020-01-01T00:00:00.000Z","2020-01-01T00:00:03.000Z"],"interpolation":"Linear","type":"MovingPoint"},"type":"Feature"}"#;
+
+/// It comes back with a line feed, whichever of its forms asks for it.
+#[test]
+fn a_document_and_its_line(rt: HostRuntime) -> Result<(), Fail> {
+    for words in [["check", "-"].as_slice(), &["check", "--", "-"]] {
+        let (status, out, err) = answer(&rt, words, CANONICAL.as_bytes())?;
+        assert_eq!(rt; status, 0, "{words:?}");
+        assert_eq!(rt; out.strip_suffix('\n'), Some(CANONICAL));
+        assert_eq!(rt; err.as_str(), "");
+    }
+    Ok(())
+}
+
+#[test]
+fn documents_that_are_none(rt: HostRuntime) -> Result<(), Fail> {
+    // a text, and the line that tells what is wrong with it
+    let cases = [
+        ("{}", "mfpx: document fault 2\n"),
+        (
+            r#"{"type":"Feature","id":"a","temporalGeometry":{"type":"MovingPoint","datetimes":["2020-01-01T00:00:00Z","2020-02-30T00:00:00Z"],"coordinates":[],"interpolation":"Step"}}"#,
+            "mfpx: document fault 7 at 1\n",
+        ),
+    ];
+    for (document, line) in cases {
+        let (status, out, err) = answer(&rt, &["check", "-"], document.as_bytes())?;
+        assert_eq!(rt; status, 1, "{document}");
+        assert_eq!(rt; out.as_str(), "");
+        assert_eq!(rt; err.as_str(), line);
+    }
+    Ok(())
+}
+
+#[test]
+fn checks_whose_streams_fail(rt: HostRuntime) -> Result<(), Fail> {
+    let words = ["check", "-"];
+    let device = "mfpx: device\n";
+    // what came before the failure isn't told as a fault of the document
+    let mut input = Broken { begun: false };
+    let (status, err) = told_over(&rt, &words, &mut input, Vec::new(rt.alloc()))?;
+    assert_eq!(rt; (status, err.as_str()), (3, device));
+    let mut input = CANONICAL.as_bytes();
+    let (status, err) = told_over(&rt, &words, &mut input, Unwritable)?;
+    assert_eq!(rt; (status, err.as_str()), (3, device));
+    // room for all but the line feed
+    let mut input = CANONICAL.as_bytes();
+    let mut room = [0u8; 195];
+    let (status, err) = told_over(&rt, &words, &mut input, room.as_mut_slice())?;
+    assert_eq!(rt; (status, err.as_str()), (3, device));
+    Ok(())
+}
+
+/// A file that can't be read is told, whatever standard input holds.
+#[test]
+fn files_come_before_documents(rt: HostRuntime) -> Result<(), Fail> {
+    let (status, out, err) = answer(&rt, &["check", "no such file"], b"{}")?;
+    assert_eq!(rt; status, 3);
+    assert_eq!(rt; out.as_str(), "");
+    assert_eq!(rt; err.as_str(), "mfpx: device\n");
+    Ok(())
+}
