@@ -20,6 +20,9 @@ pub enum Fault {
     /// A growth was refused.
     #[error("out of memory")]
     Memory,
+    /// A stream failed.
+    #[error("device")]
+    Device,
 }
 
 impl Fault {
@@ -29,7 +32,7 @@ impl Fault {
     {
         match self {
             Fault::Usage => 2,
-            Fault::Memory => 3,
+            Fault::Memory | Fault::Device => 3,
         }
     }
 }

@@ -2,7 +2,8 @@
 //!
 //! `benchmarks WORK SIZE ROUNDS` asks for one work in so many rounds, of a moving point with so many
 //! points or of a part of a node that holds so many things, and prints the sum of what was answered,
-//! which is the same on every machine. It reads no clock: the scripts in `bench/` do.
+//! which is the same on every machine. It reads no clock: the scripts in `bench/` do. Without words it does so for each line of
+//! the input; the sums in `stdout` were computed from the definitions by other programs.
 //!
 //! `task` reads the words, and `scene` makes a moving point and what is asked of it. `numbers` has
 //! the answers of one moving point as numbers, `queries` and `operations` those of a full database,
@@ -30,14 +31,13 @@ mod requests;
 mod rounds;
 mod scene;
 mod task;
-#[cfg(test)]
-mod tests;
 
-ghost use Rattle.std.specs.Prelude.{◌≡◌, ◌≢◌, IfOk};
+ghost use Rattle.std.specs.Prelude.{◌≡◌, ◌≢◌, IfOk, map, string_bytes};
 ghost use Rattle.std.specs.IoError.{error_kind};
 ghost use Rattle.std.specs.Process.{exit_status};
 ghost use Rattle.benchmarks.specs.Faults.{status_of};
 ghost use Rattle.benchmarks.specs.Rounds.{IsSumOf};
+ghost use Rattle.benchmarks.specs.Tasks.{Asks};
 
 use crate::fault::Fault;
 use crate::parts::part_total;
@@ -45,25 +45,32 @@ use crate::rounds::scene_total;
 use crate::scene::Scene;
 use crate::task::{Task, Work, task_of};
 use std::env;
-use std::io::{self, ErrorKind};
+use std::io::{self, ErrorKind, Read};
 use std::process::ExitCode;
 
 fn main(rt: HostRuntime) -> ExitCode {
-    let task = match own_task(&rt) {
-        Ok(task) => task,
-        Err(fault) => return told(&rt, fault),
-    };
-    match sum(&rt, task) {
-        Ok(sum) => match println!(rt; "{sum}") {
-            Ok(()) => ExitCode::SUCCESS,
-            Err(_) => ExitCode::from(3),
-        },
+    match answered(&rt) {
+        Ok(()) => ExitCode::SUCCESS,
         Err(fault) => told(&rt, fault),
     }
 }
 
-/// What the words after the program's name ask for.
-fn own_task(rt: &HostRuntime) -> Result<Task, Fault> {
+/// Prints the sum of the task that the words after the program's name ask for, or where there are none, what each line of the
+/// input comes to.
+fn answered(rt: &HostRuntime) -> Result<(), Fault> {
+    let words = own_words(rt)?;
+    if words.is_empty() {
+        return answer_lines(rt);
+    }
+    let sum = sum_of(rt, words.as_slice())?;
+    match println!(rt; "{sum}") {
+        Ok(()) => Ok(()),
+        Err(_) => Err(Fault::Device),
+    }
+}
+
+/// The words after the program's name.
+fn own_words(rt: &HostRuntime) -> Result<Vec<String>, Fault> {
     let all = match env::args(rt) {
         Ok(all) => all,
         Err(error) => return Err(words_fault(&error)),
@@ -72,7 +79,44 @@ fn own_task(rt: &HostRuntime) -> Result<Task, Fault> {
     for word in all.skip(1) {
         words.push(word)?;
     }
-    task_of(words.as_slice()).ok_or(Fault::Usage)
+    Ok(words)
+}
+
+/// Prints for each line of the input the sum of the task that its words ask for, or why there is none.
+fn answer_lines(rt: &HostRuntime) -> Result<(), Fault> {
+    let mut lines = String::new(rt.alloc());
+    if rt.stdin().read_to_string(&mut lines).is_err() {
+        return Err(Fault::Device);
+    }
+    for line in lines.lines() {
+        let told = match answer(rt, line) {
+            Ok(sum) => println!(rt; "{sum}"),
+            Err(fault) => println!(rt; "{fault}"),
+        };
+        if told.is_err() {
+            return Err(Fault::Device);
+        }
+    }
+    Ok(())
+}
+
+/// The sum of the task that the words of the line ask for, which lie apart by blanks.
+fn answer(rt: &HostRuntime, line: &str) -> Result<u64, Fault> {
+    let mut words = Vec::new(rt.alloc());
+    for word in line.split(' ') {
+        words.push(String::from_str(rt.alloc(), word)?)?;
+    }
+    sum_of(rt, words.as_slice())
+}
+
+/// The sum of the task that the words ask for.
+fn sum_of(rt: &HostRuntime, words: &[String]) -> Result<u64, Fault>
+    ensures { IfOk result (λ n. (task : Task) × Asks (map string_bytes words.now) task × IsSumOf task n) }
+{
+    match task_of(words) {
+        Some(task) => sum(rt, task),
+        None => Err(Fault::Usage),
+    }
 }
 
 /// What words that can't be had are to the program: those that are no text ask for nothing.

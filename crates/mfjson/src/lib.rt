@@ -6,8 +6,6 @@
 #![tactic(auto)]
 
 mod datetime;
-#[cfg(test)]
-mod documents;
 mod fault;
 mod feature;
 mod laws;

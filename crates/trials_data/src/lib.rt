@@ -15,6 +15,8 @@ mod lines;
 #[cfg(test)]
 mod overlaps;
 #[cfg(test)]
+mod profile;
+#[cfg(test)]
 mod regions;
 #[cfg(test)]
 mod requests;

@@ -1,6 +1,6 @@
-//! Documents and their faults, written from RFC 8259, RFC 3339 and the profile.
+//! Documents and their faults, written from RFC 8259, RFC 3339 and the profile of moving points.
 
-use crate::{MfFault, datetime_text, read, write};
+use mfjson::{MfFault, datetime_text, read, write};
 use std::alloc::Global;
 use std::test::Fail;
 use tpoint::{Instant, Interp};
