@@ -1,4 +1,3 @@
-pub mod Clustering
 pub mod PeriodMarks
 pub mod OneMark
 pub mod Coordinates

@@ -1,6 +1,4 @@
 pub mod Causes
-pub mod Clusters
-pub mod ClusterViews
 pub mod Codes
 pub mod Entries
 pub mod Extents
@@ -8,8 +6,6 @@ pub mod Keywords
 pub mod Laws
 pub mod Lines
 pub mod Numbers
-pub mod Passages
-pub mod Queues
 pub mod Reading
 pub mod Rows
 pub mod Runs

@@ -6,7 +6,6 @@
 #![tactic(auto)]
 
 mod action;
-mod cluster;
 mod cut;
 mod entry_lines;
 mod fault;
@@ -19,26 +18,21 @@ mod parse;
 mod plan;
 mod print;
 mod queries;
-mod queues;
 mod reading;
 mod replay_fault;
 mod replaying;
 mod report;
 mod rows;
 mod submits;
-mod transport;
 mod unread;
 mod words;
 
 pub use action::Action;
-pub use cluster::Cluster;
 pub use fault::{LineFault, ParseFault, ScheduleFault};
 pub use laws::{faulty_is_no_schedule, first_faults_are_one, schedules_are_one};
 pub use members::Members;
 pub use parse::parse_schedule;
 pub use plan::{Schedule, ScheduleLine};
-pub use queues::{Passed, Queues};
 pub use replay_fault::{ReplayCause, ReplayFault};
 pub use replaying::{replay, run, run_lines};
 pub use report::transcript;
-pub use transport::{Transport, TransportFault};

@@ -2,7 +2,7 @@
 
 ghost use Rattle.std.specs.Prelude.{[]};
 
-use schedule::{Cluster, Queues, Transport, TransportFault};
+use cluster::{Cluster, Queues, Transport, TransportFault};
 use std::alloc::Global;
 use std::test::Fail;
 use synod::Slot;
@@ -60,7 +60,7 @@ fn queues_hand_over(rt: HostRuntime) -> Result<(), Fail> {
 fn clusters_send(rt: HostRuntime) -> Result<(), Fail> {
     let alloc = rt.alloc();
     let world = World::new(alloc, Nodes::new(3).ok_or("nodes")?)?;
-    let mut cluster = Cluster::new(world, Lossy);
+    let mut cluster = Cluster::new(alloc, world, Lossy)?;
     cluster.step(alloc, Event::Timeout(node(1)?))?;
     assert_eq!(rt; cluster.failed_sends(), 3);
     let end = cluster.round(alloc, node(0)?, &[node(0)?, node(2)?])?;

@@ -1,8 +1,8 @@
 -- What queues in memory tell of what passed through them.
 use Rattle.std.specs.Prelude.{List, map, option_map}
-use Rattle.schedule.specs.Passages.{Passage, Sent as SentPassage, Polled as PolledPassage}
-use Rattle.schedule.specs.declared.queues.Passed.{Passed}
-use Rattle.schedule.specs.declared.queues.Passed.TheVariants.{Sent, Polled}
+use Rattle.cluster.specs.Passages.{Passage, Sent as SentPassage, Polled as PolledPassage}
+use Rattle.cluster.specs.declared.queues.Passed.{Passed}
+use Rattle.cluster.specs.declared.queues.Passed.TheVariants.{Sent, Polled}
 
 abbrev pub passage_of : Passed → Passage
 passage_of (Sent from to bytes) = SentPassage from to bytes.items

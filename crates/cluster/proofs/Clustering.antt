@@ -13,9 +13,9 @@ use Rattle.world.specs.declared.round_end.RoundEnd.{RoundEnd}
 use Rattle.world.specs.Rounds.{RoundEnds, IsPartOfRound}
 use Rattle.world.specs.Worlds.{WorldState, Steps}
 use Rattle.world.proofs.FramesGrow.{BeginWith, step_grows, round_grows}
-use Rattle.schedule.specs.Clusters.{HasPassed, sending}
-use Rattle.schedule.specs.Passages.{Passage}
-use Rattle.schedule.specs.declared.transport.Transport.{Ghosts as Transports}
+use Rattle.cluster.specs.Clusters.{HasPassed, sending}
+use Rattle.cluster.specs.Passages.{Passage}
+use Rattle.cluster.specs.declared.transport.Transport.{Ghosts as Transports}
 
 -- ---- what passes
 module _ {T : Type 0} (transport : Transports T) where

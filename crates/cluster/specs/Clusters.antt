@@ -1,10 +1,10 @@
 -- A cluster: a world whose frames go through a transport.
-use Rattle.std.specs.Prelude.{◌≡◌, List, ◌++◌, length, map, drop}
+use Rattle.std.specs.Prelude.{◌≡◌, ℕ, List, ◌++◌, length, map, drop}
 use Rattle.wire.specs.FrameSpelling.{spelling}
 use Rattle.wire.specs.declared.frames.envelope.Envelope.{Envelope}
 use Rattle.world.specs.Worlds.{WorldState}
-use Rattle.schedule.specs.Passages.{Passage, Sent}
-use Rattle.schedule.specs.declared.transport.Transport.{Ghosts as Transports}
+use Rattle.cluster.specs.Passages.{Passage, Sent}
+use Rattle.cluster.specs.declared.transport.Transport.{Ghosts as Transports}
 
 -- ---- what is given to the transport
 -- a frame, as its bytes
@@ -21,6 +21,11 @@ pub record HasPassed {T : Type 0} (transport : Transports T) (old : T) (passed :
   pub tape : transport.Tells new → transport.tape new ≡ transport.tape old ++ passed
 
 -- ---- what a cluster is seen as
-pub record ClusterState (S T : Type 0) : Type 0 where
+-- what a pump changes: the world, and how many strangers came, as far as a u64 goes
+pub record Pumped (S : Type 0) : Type 0 where
   pub world : WorldState S
+  pub strangers : ℕ
+
+pub record ClusterState (S T : Type 0) : Type 0 where
+  pub pumped : Pumped S
   pub transport : T

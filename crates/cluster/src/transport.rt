@@ -1,7 +1,7 @@
 //! What carries frames from node to node.
 
 ghost use Rattle.std.specs.Prelude.{◌≡◌, ◌++◌, ◌∷◌, [], List};
-ghost use Rattle.schedule.specs.Passages.{Passage, Sent, Polled, handed_over};
+ghost use Rattle.cluster.specs.Passages.{Passage, Sent, Polled, handed_over};
 
 use std::alloc::{AllocError, AllocFailed, Global};
 use std::error::Error;

@@ -1,8 +1,8 @@
 //! A transport in memory.
 
 ghost use Rattle.std.specs.Prelude.{◌≡◌, ◌++◌, ◌∷◌, [], true, IsTrue, IsOk, IfOk, option_map};
-ghost use Rattle.schedule.specs.Passages.{Passage, Sent, Polled, handed_over};
-ghost use Rattle.schedule.specs.Queues.{passage_of, passages};
+ghost use Rattle.cluster.specs.Passages.{Passage, Sent, Polled, handed_over};
+ghost use Rattle.cluster.specs.Queues.{passage_of, passages};
 
 use super::transport::{Transport, TransportFault};
 use std::alloc::{AllocError, Global};

@@ -1,0 +1,3 @@
+pub mod Clustering
+pub mod Indexing
+pub mod Pumping
