@@ -1,6 +1,6 @@
 -- A cluster: what passed through its transport.
 use Rattle.std.proofs.Common.{◌≡◌, ◌⊎◌, inl, inr, ℕ, ◌+◌, ◌<◌, ◌≤◌, List, [], ◌∷◌, ◌++◌, length, map, drop, slice_get, Option, IfSome, IfOk}
-use Rattle.std.proofs.Common.{IfErr, IsErrOf, OnOk, Result, Ok, refl, sym, ap, subst, ◌∙◌, append_assoc, append-nil, arith}
+use Rattle.std.proofs.Common.{IfErr, IsErrOf, Result, refl, sym, ap, subst, ◌∙◌, append_assoc, append-nil, arith}
 use Rattle.std.proofs.lemmas.List.{length-append, map-append, drop_more, drop_all}
 use Rattle.std.proofs.lemmas.Option.{slice_get_cases}
 use Rattle.stable.specs.Script.{Script}

@@ -1,6 +1,8 @@
 -- The index of a cluster: it stays right as frames are sent, and as one more is entered; what it has is what a datagram is.
-use Rattle.std.proofs.Common.{◌≡◌, ◌≢◌, ℕ, zero, suc, ◌+◌, ◌<◌, ◌≤◌, List, [], ◌∷◌, ◌++◌, length, map, nat_eq, Bool, true, false, cond, slice_get, slice_index_or}
-use Rattle.std.proofs.Common.{◌⊎◌, Result, Ok, Err, OnOk, OnErr, IfOk, IfErr, IsErrOf, append-nil, is_some, Option, Some, None, IfSome, option_map, refl, sym, ap, subst, ◌∙◌, inl, inr, arith}
+use Rattle.std.proofs.Common.{◌≡◌, ◌≢◌, ℕ, zero, suc, ◌+◌, ◌<◌, ◌≤◌, List, [], ◌∷◌, ◌++◌, length, nat_eq, Bool, false, cond, slice_get}
+use Rattle.std.proofs.Common.{slice_index_or}
+use Rattle.std.proofs.Common.{◌⊎◌, Result, Ok, Err, OnOk, OnErr, IfOk, IfErr, IsErrOf, append-nil, is_some, Option, Some, None, IfSome}
+use Rattle.std.proofs.Common.{option_map, refl, sym, ap, subst, ◌∙◌, inl, inr, arith}
 use Rattle.std.proofs.Math.Nat.{eq-or-lt_of_le}
 use Rattle.std.proofs.lemmas.Bool.{cases_Bool, cond-true, cond-false, false_from_ne_true}
 use Rattle.std.proofs.lemmas.List.{map-append, length-map, length-append}
@@ -87,9 +89,12 @@ module _ {S : Type 0} (spelled : List (List ℕ)) (numbers : HashMap (Vec ℕ) �
       | inr another ↦ h.found other k (sym (entered other ∙ cond-false (pointwise nat_eq bytes other) _ _ another) ∙ e)
     ];
     absent = λ other none i less e. elim (cases_Bool (pointwise nat_eq bytes other)) [
-      | inl same ↦ absurd (let here : number_of more other ≡ Some n = entered other ∙ cond-true (pointwise nat_eq bytes other) _ _ same in cc)
+      | inl same ↦ absurd (
+          let here : number_of more other ≡ Some n = entered other ∙ cond-true (pointwise nat_eq bytes other) _ _ same in
+          cc)
       | inr another ↦
-          let before : number_of numbers other ≡ None = sym (entered other ∙ cond-false (pointwise nat_eq bytes other) _ _ another) ∙ none in
+          let before : number_of numbers other ≡ None =
+          sym (entered other ∙ cond-false (pointwise nat_eq bytes other) _ _ another) ∙ none in
           elim (eq-or-lt_of_le (let l : i ≤ n = omega (arith, less) in l)) [
             | inl last ↦ absurd (
                 let one : Some bytes ≡ Some other = sym next ∙ sym (ap (λ j. slice_get spelled j) last) ∙ e in
@@ -146,7 +151,8 @@ goes_on old new numbers n grown h =
 
 -- ---- what a datagram is
 -- a frame that is read at its number
-pub frame_at : (read frames : List Envelope) (k : ℕ) (frame : Envelope) → read ≡ frames → k < length frames → frame ≡ slice_index_or read k frame
+pub frame_at : (read frames : List Envelope) (k : ℕ) (frame : Envelope) → read ≡ frames → k < length frames
+    → frame ≡ slice_index_or read k frame
     → slice_get frames k ≡ Some frame
 frame_at read frames k frame same less is =
     subst (λ (fs : List Envelope). slice_get fs k ≡ Some frame) same
@@ -223,7 +229,8 @@ module _ {S : Type 0} (frames : List Envelope) (numbers : HashMap (Vec ℕ) ℕ 
 
 -- ---- calls
 -- a step, whatever it answered
-pub stepped_index : {S M : Type 0} (storages : Ghosts (Script S)) (old new : WorldState S) (e : Event) (result : Result (Unit {0}) WorldFault)
+pub stepped_index : {S M : Type 0} (storages : Ghosts (Script S)) (old new : WorldState S) (e : Event)
+    (result : Result (Unit {0}) WorldFault)
     (numbers : HashMap (Vec ℕ) ℕ M) (n : ℕ) → OnOk result (Steps storages old e new) → OnErr result (new ≡ old)
     → Indexes (spellings old.frames) numbers n → Indexes (spellings new.frames) numbers n
 stepped_index storages old new e (Ok x) numbers n steps same h =

@@ -1,19 +1,19 @@
 -- A pump: polls, passes, and how they end.
-use Rattle.std.proofs.Common.{◌≡◌, ◌⊎◌, ◌↔◌, ℕ, zero, suc, ◌+◌, ◌-◌, ◌<◌, ◌≤◌, List, [], ◌∷◌, ◌++◌, length, map, drop, slice_get, Option, Some, None, MatchOption}
-use Rattle.std.proofs.Common.{Result, Ok, Err, OnOk, OnErr, IfOk, IfErr, IsErrOf, refl, sym, ap, subst, ◌∙◌, inl, inr, add-one, append_assoc, append-nil, arith}
+use Rattle.std.proofs.Common.{◌≡◌, ◌⊎◌, ℕ, zero, suc, ◌+◌, ◌-◌, ◌<◌, ◌≤◌, List, [], ◌∷◌, ◌++◌, length, map, Option, Some, None, MatchOption}
+use Rattle.std.proofs.Common.{Result, Ok, Err, IfErr, refl, sym, ap, subst, ◌∙◌, inl, inr, add-one, arith}
 use Rattle.std.proofs.lemmas.List.{drop_all}
 use Rattle.std.proofs.lemmas.Option.{slice_get_within}
 use Rattle.stable.specs.Script.{Script}
 use Rattle.stable.specs.declared.stable.Stable.{Ghosts}
-use Rattle.world.specs.declared.event.Event.TheVariants as event
 use Rattle.world.specs.declared.fault.WorldFault.{WorldFault}
 use Rattle.world.specs.declared.fault.WorldFault.TheVariants as fault
 use Rattle.world.specs.Worlds.{WorldState, DeliversFrame}
 use Rattle.cluster.specs.Clusters.{HasPassed, Pumped, sending, sendings}
 use Rattle.cluster.specs.Lowest.{IsLowest, IsStranger}
 use Rattle.cluster.specs.Passages.{Passage, Polled}
-use Rattle.cluster.specs.Pumps.{Polls, PollsBelow, IsPass, Passes, IsPartOfPass, HitsLimit, WantsMemory, BreaksOff, BreaksPump, Pumps, OnlyDelivers}
-use Rattle.cluster.specs.Pumps.{poll_passed, with_stranger, nothing_came, stranger_came, frame_came, no_poll, one_poll, no_pass, idle_pass, busy_pass, no_deliver, one_deliver}
+use Rattle.cluster.specs.Pumps.{Polls, PollsBelow, IsPass, Passes, BreaksOff, BreaksPump, Pumps, OnlyDelivers}
+use Rattle.cluster.specs.Pumps.{poll_passed, with_stranger, nothing_came, stranger_came, frame_came, no_poll, one_poll, no_pass}
+use Rattle.cluster.specs.Pumps.{idle_pass, busy_pass, no_deliver, one_deliver}
 use Rattle.cluster.specs.declared.cluster.TheConstants.{MOST_IDLE_PASSES, MOST_PUMPED}
 use Rattle.cluster.specs.declared.transport.Transport.{Ghosts as Transports}
 use Rattle.cluster.proofs.Clustering.{nothing_passes, then_passes}
@@ -64,7 +64,8 @@ module _ {S T : Type 0} (storages : Ghosts (Script S)) (transport : Transports T
       )
   polled_stranger old new t u node datagram bytes (Some k) some strange none same h = absurd (cc)
 
-  pub polled_frame : (old new : Pumped S) (t between u : T) (node : ℕ) (datagram : Option (List ℕ)) (bytes : List ℕ) (found : Option ℕ) (k : ℕ)
+  pub polled_frame : (old new : Pumped S) (t between u : T) (node : ℕ) (datagram : Option (List ℕ)) (bytes : List ℕ)
+      (found : Option ℕ) (k : ℕ)
       → datagram ≡ Some bytes
       → MatchOption found (IsStranger old.world.frames node bytes) (IsLowest old.world.frames node bytes) → found ≡ Some k
       → DeliversFrame storages old.world k new.world → new.strangers ≡ old.strangers
@@ -136,7 +137,8 @@ module _ {S T : Type 0} (storages : Ghosts (Script S)) (transport : Transports T
         then_passes transport t between u before.0 (poll_passed storages k poll.0 now.world new.world) before.2 poll.2,
       )
 
-  pub wants_memory : (old now new : Pumped S) (t between u : T) (k made left : ℕ) (f : WorldFault) → k < length old.world.nodes → made < left
+  pub wants_memory : (old now new : Pumped S) (t between u : T) (k made left : ℕ) (f : WorldFault) → k < length old.world.nodes
+      → made < left
       → f ≡ fault.Memory → new ≡ now
       → ((passed : List Passage) × PollsBelow storages old k passed made now × HasPassed transport t passed between)
       → ((bytes : List ℕ) × HasPassed transport between (Polled k (Some bytes) ∷ []) u)

@@ -108,4 +108,5 @@ module _ {S : Type 0} (storages : Ghosts (Script S)) where
   -- frames are delivered, one after the other, and nothing else
   pub data OnlyDelivers (old : WorldState S) : WorldState S → Type 0 where
     no_deliver : OnlyDelivers old old
-    one_deliver : (k : ℕ) (between new : WorldState S) → OnlyDelivers old between → DeliversFrame storages between k new → OnlyDelivers old new
+    one_deliver : (k : ℕ) (between new : WorldState S) → OnlyDelivers old between → DeliversFrame storages between k new
+        → OnlyDelivers old new

@@ -1,6 +1,7 @@
 //! A cluster: a world whose frames go through a transport.
 
-ghost use Rattle.std.specs.Prelude.{◌≡◌, ◌<◌, ◌≤◌, ◌↔◌, ◌⊎◌, ◌∷◌, ◌+◌, [], List, length, drop, map, slice_get, IfErr, IfOk, IfSome, IsErrOf};
+ghost use Rattle.std.specs.Prelude.{◌≡◌, ◌<◌, ◌≤◌, ◌↔◌, ◌⊎◌, ◌∷◌, ◌+◌, [], List, length, drop, map, slice_get, IfErr, IfOk, IfSome};
+ghost use Rattle.std.specs.Prelude.{IsErrOf};
 ghost use Rattle.std.specs.Prelude.{OnErr, OnOk, Option, Some, ℕ, option_map};
 ghost use Rattle.world.specs.Events.{NamesNoFrame, NamesNoNode};
 ghost use Rattle.world.specs.Rounds.{IsPartOfRound, NamesNoMember, RoundEnds};

@@ -1,4 +1,4 @@
-use Rattle.std.proofs.Common.{rules, arith, ◌≡◌, ◌<◌, ◌≤◌, ◌+◌, List, [], ◌∷◌, Option, Some, ℕ, length, sym, ap, subst, ◌∙◌}
+use Rattle.std.proofs.Common.{rules, arith, ◌<◌, List, [], ◌∷◌, Option, Some, ℕ, length, ap, subst, ◌∙◌}
 use Rattle.std.proofs.lemmas.Result.{err_from_is_err_and}
 use Rattle.stable.specs.Memory.{in_memory}
 use Rattle.stable.specs.Storages.{scripted}
@@ -49,7 +49,8 @@ loop-number-preserved g c =
           c.loop-number.number c.loop-number.made c.in_ok-made.field-0 c.loop-number.invariant.1
           (subst (λ n. (d : Option (List ℕ)) × Polls (scripted in_memory) (pumped_of c.loop-number.self) n d c.in_ok-made.field-0
           (pumped_of c.poll_node.new.self) × HasPassed g.T.Transport c.loop-number.self.transport
-          (poll_passed (scripted in_memory) n d (world_in c.loop-number.self) (world_in c.poll_node.new.self)) c.poll_node.new.self.transport)
+          (poll_passed (scripted in_memory) n d (world_in c.loop-number.self) (world_in c.poll_node.new.self))
+          c.poll_node.new.self.transport)
           c.node_of.ensures c.in_ok-made.ensures.polls),
     )
 
@@ -58,6 +59,7 @@ pub returns-clause-passes : goal.returns-clause-passes
 returns-clause-passes g c = (
   c.loop-number.invariant.0,
   all_polled (scripted in_memory) g.T.Transport (pumped_of c.args.self.now) (pumped_of c.loop-number.self) c.args.self.now.transport
-      c.loop-number.self.transport c.loop-number.number c.count-number-end.result c.loop-number.made (search (rules, arith)) (c.count-number-end.ensures.count ∙ ap (λ w. length w.nodes) c.world.ensures)
+      c.loop-number.self.transport c.loop-number.number c.count-number-end.result c.loop-number.made
+      (search (rules, arith)) (c.count-number-end.ensures.count ∙ ap (λ w. length w.nodes) c.world.ensures)
       c.loop-number.invariant.1,
 )

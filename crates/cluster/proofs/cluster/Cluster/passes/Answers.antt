@@ -1,9 +1,9 @@
-use Rattle.std.proofs.Common.{rules, arith, ◌≡◌, ◌<◌, ◌≤◌, ◌-◌, ◌+◌, ◌*◌, List, ℕ}
+use Rattle.std.proofs.Common.{rules, arith, ◌<◌, ◌+◌}
 use Rattle.std.proofs.lemmas.Result.{err_from_is_err_and}
 use Rattle.stable.specs.Memory.{in_memory}
 use Rattle.stable.specs.Storages.{scripted}
 use Rattle.cluster.specs.ClusterViews.{pumped_of}
-use Rattle.cluster.specs.declared.cluster.TheConstants.{MOST_IDLE_PASSES, MOST_PUMPED}
+use Rattle.cluster.specs.declared.cluster.TheConstants.{MOST_PUMPED}
 use Rattle.cluster.proofs.Pumping.{none_passed, one_passed, broken_off, all_passed}
 use Rattle.cluster.proofs.cluster.Cluster.passes.Goals as goal
 

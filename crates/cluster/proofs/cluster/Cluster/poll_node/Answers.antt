@@ -1,4 +1,4 @@
-use Rattle.std.proofs.Common.{rules, Err, ◌≡◌, ◌⊎◌, ◌+◌, ◌-◌, ◌^◌, List, ℕ, length, map, option_map, MatchOption, min, sym, ap, subst, ◌∙◌, inl, inr}
+use Rattle.std.proofs.Common.{Err, ◌+◌, ◌-◌, ◌^◌, option_map, MatchOption, min, sym, ap, subst, ◌∙◌, inl, inr}
 use Rattle.std.proofs.lemmas.Result.{err_from_is_err_and}
 use Rattle.stable.specs.Memory.{in_memory}
 use Rattle.stable.specs.Storages.{scripted}
@@ -7,7 +7,6 @@ use Rattle.world.specs.Worlds.{DeliversFrame}
 use Rattle.cluster.specs.Clusters.{HasPassed, sendings}
 use Rattle.cluster.specs.ClusterViews.{pumped_of, world_in}
 use Rattle.cluster.specs.Lowest.{IsLowest, IsStranger}
-use Rattle.cluster.specs.Pumps.{Polls, poll_passed}
 use Rattle.cluster.proofs.Pumping.{polled_nothing, polled_stranger, polled_frame, same_pumped, was_sent}
 use Rattle.cluster.proofs.cluster.Cluster.poll_node.Goals as goal
 

@@ -10,9 +10,11 @@ use Rattle.cluster.proofs.cluster.Cluster.round.Goals as goal
 -- the frames that were sent before are still there
 pub send_from-requires : goal.send_from-requires
 send_from-requires g c =
-    subst (λ fs. length fs ≤ length (world_of c.round-ended.new.self.world).frames) (sym (c.frames-first.ensures ∙ ap (λ w. w.frames) c.world.ensures))
-    (round_frames (scripted in_memory) (world_of c.args.self.now.indexed.world) (world_of c.round-ended.new.self.world) c.args.node c.args.members.now
-    c.round-ended.result c.round-ended.ensures.ends c.round-ended.ensures.unchanged c.round-ended.ensures.memory
+    subst (λ fs. length fs ≤ length (world_of c.round-ended.new.self.world).frames)
+    (sym (c.frames-first.ensures ∙ ap (λ w. w.frames) c.world.ensures))
+    (round_frames (scripted in_memory) (world_of c.args.self.now.indexed.world) (world_of c.round-ended.new.self.world)
+    c.args.node c.args.members.now c.round-ended.result c.round-ended.ensures.ends c.round-ended.ensures.unchanged
+    c.round-ended.ensures.memory
     c.round-ended.ensures.faults)
 
 -- sending changes nothing in the world

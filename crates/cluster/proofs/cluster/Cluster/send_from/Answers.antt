@@ -1,7 +1,7 @@
-use Rattle.std.proofs.Common.{◌<◌, ◌≤◌, ◌∷◌, [], length, slice_get, IfSome, rules, arith, subst, ◌∙◌}
+use Rattle.std.proofs.Common.{◌<◌, ◌∷◌, [], length, slice_get, IfSome, rules, arith, subst, ◌∙◌}
 use Rattle.world.specs.Seen.{world_of}
 use Rattle.cluster.specs.Clusters.{HasPassed, sending}
-use Rattle.cluster.proofs.Clustering.{sends_none, sends_one, sends_all}
+use Rattle.cluster.proofs.Clustering.{sends_one, sends_all}
 use Rattle.cluster.proofs.cluster.Cluster.send_from.Goals as goal
 
 -- one frame more is sent

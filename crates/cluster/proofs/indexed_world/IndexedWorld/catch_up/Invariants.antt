@@ -1,4 +1,4 @@
-use Rattle.std.proofs.Common.{◌≡◌, length}
+use Rattle.std.proofs.Common.{◌≡◌}
 use Rattle.world.specs.Seen.{world_of}
 use Rattle.cluster.proofs.indexed_world.IndexedWorld.catch_up.Given as goal
 

@@ -1,4 +1,4 @@
-use Rattle.std.proofs.Common.{rules, arith, ◌≡◌, ◌<◌, length, sym, ap, subst, ◌∙◌}
+use Rattle.std.proofs.Common.{rules, arith, ◌<◌, length, sym, ap, subst, ◌∙◌}
 use Rattle.world.specs.Seen.{world_of}
 use Rattle.cluster.specs.Indexes.{Indexes, spellings}
 use Rattle.cluster.proofs.Indexing.{none_found, another_receives, lowest_found, found_within, frame_at}
@@ -39,7 +39,8 @@ returns-then-ne-clause-found c =
     (subst (λ fs. Indexes (spellings fs) c.catch_up.new.self.numbers c.catch_up.new.self.indexed) same c.catch_up.new.self.exact)
     c.in_ok-catch_up.ensures.all c.args.node c.args.datagram.now.items c.in-Some.number c.index-frames-number.result
     (sym c.number.ensures ∙ c.in-Some.is)
-    (frame_at c.frames.result.now (world_of c.args.self.now.world).frames c.in-Some.number c.index-frames-number.result (c.frames.ensures ∙ same)
+    (frame_at c.frames.result.now (world_of c.args.self.now.world).frames c.in-Some.number c.index-frames-number.result
+    (c.frames.ensures ∙ same)
     (found_within (world_of c.args.self.now.world).frames c.catch_up.new.self.numbers c.catch_up.new.self.indexed
     (subst (λ fs. Indexes (spellings fs) c.catch_up.new.self.numbers c.catch_up.new.self.indexed) same c.catch_up.new.self.exact)
     c.in_ok-catch_up.ensures.all c.args.node c.args.datagram.now.items c.in-Some.number (sym c.number.ensures ∙ c.in-Some.is))
@@ -54,7 +55,8 @@ returns-clause-found c =
     (subst (λ fs. Indexes (spellings fs) c.catch_up.new.self.numbers c.catch_up.new.self.indexed) same c.catch_up.new.self.exact)
     c.in_ok-catch_up.ensures.all c.args.node c.args.datagram.now.items c.in-Some.number c.index-frames-number.result
     (sym c.number.ensures ∙ c.in-Some.is)
-    (frame_at c.frames.result.now (world_of c.args.self.now.world).frames c.in-Some.number c.index-frames-number.result (c.frames.ensures ∙ same)
+    (frame_at c.frames.result.now (world_of c.args.self.now.world).frames c.in-Some.number c.index-frames-number.result
+    (c.frames.ensures ∙ same)
     (found_within (world_of c.args.self.now.world).frames c.catch_up.new.self.numbers c.catch_up.new.self.indexed
     (subst (λ fs. Indexes (spellings fs) c.catch_up.new.self.numbers c.catch_up.new.self.indexed) same c.catch_up.new.self.exact)
     c.in_ok-catch_up.ensures.all c.args.node c.args.datagram.now.items c.in-Some.number (sym c.number.ensures ∙ c.in-Some.is))
