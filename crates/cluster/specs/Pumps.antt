@@ -8,7 +8,6 @@ use Rattle.world.specs.Worlds.{WorldState, DeliversFrame}
 use Rattle.cluster.specs.Clusters.{Pumped, sendings}
 use Rattle.cluster.specs.Lowest.{IsLowest, IsStranger}
 use Rattle.cluster.specs.Passages.{Passage, Polled}
-use Rattle.cluster.specs.declared.cluster.TheConstants.{MOST_IDLE_PASSES, MOST_PUMPED}
 
 module _ {S : Type 0} (storages : Ghosts (Script S)) where
   -- ---- one poll
@@ -46,9 +45,9 @@ module _ {S : Type 0} (storages : Ghosts (Script S)) where
   pub data Passes (old : Pumped S) : ℕ → List Passage → ℕ → Pumped S → Type 0 where
     no_pass : Passes old zero [] 0 old
     idle_pass : (idle made : ℕ) (passed more : List Passage) (between new : Pumped S) → Passes old idle passed made between
-        → idle < MOST_IDLE_PASSES → IsPass between more 0 new → Passes old (suc idle) (passed ++ more) made new
+        → idle < 100 → IsPass between more 0 new → Passes old (suc idle) (passed ++ more) made new
     busy_pass : (idle made more : ℕ) (passed further : List Passage) (between new : Pumped S) → Passes old idle passed made between
-        → idle < MOST_IDLE_PASSES → IsPass between further more new → 0 < more → made + more < MOST_PUMPED
+        → idle < 100 → IsPass between further more new → 0 < more → made + more < 10000
         → Passes old zero (passed ++ further) (made + more) new
 
   -- ---- ends
@@ -94,14 +93,14 @@ module _ {S : Type 0} (storages : Ghosts (Script S)) where
     pub made : ℕ
     pub between : Pumped S
     pub passes : Passes old idle before made between
-    pub goes_on : idle < MOST_IDLE_PASSES
+    pub goes_on : idle < 100
     pub last : List Passage
-    pub breaks : BreaksOff (MOST_PUMPED - made) between last why new
+    pub breaks : BreaksOff (10000 - made) between last why new
     pub passed_ : passed ≡ before ++ last
 
   -- a pump ends with the first so many passes in a row that made no Deliver, and tells how many it made; or it breaks off
   abbrev pub Pumps : Pumped S → List Passage → Result ℕ WorldFault → Pumped S → Type 0
-  Pumps old passed (Ok made) new = Passes old MOST_IDLE_PASSES passed made new
+  Pumps old passed (Ok made) new = Passes old 100 passed made new
   Pumps old passed (Err why) new = BreaksPump old passed why new
 
   -- ---- the world alone
