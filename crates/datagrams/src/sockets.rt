@@ -1,0 +1,95 @@
+//! The sockets.
+
+ghost use Rattle.std.specs.Prelude.{[]};
+
+use cluster::{Transport, TransportFault};
+use std::alloc::Global;
+use std::io::{self, ErrorKind};
+use std::net::{Ipv4Addr, Net, SocketAddr, UdpSocket};
+use wire::{NodeId, Nodes};
+
+/// A datagram of UDP has no more bytes, so none is cut short.
+const MOST_BYTES: usize = 65_535;
+
+/// A UDP socket for each node of a run, on 127.0.0.1, on a port that the system picks. No call waits.
+///
+/// It never tells: what becomes of a datagram is the system's affair. What doesn't fit its buffers is lost, without an error.
+#[derive(Drop)]
+pub struct Sockets {
+    ends: Vec<End>,
+    // What comes is received here.
+    room: Vec<u8>,
+}
+
+// One node's socket, and where it is found.
+#[derive(Drop)]
+struct End {
+    socket: UdpSocket,
+    address: SocketAddr,
+}
+
+impl Sockets {
+    /// Sockets for so many nodes. An error is the system's, where it has none left, or no memory.
+    pub fn bind<N: Net>(net: &N, alloc: Global, count: Nodes) -> io::Result<Sockets> {
+        let mut ends = Vec::with_capacity(alloc, usize::from(count.count()))?;
+        for _ in 0..count.count() {
+            ends.push(End::bind(net)?)?;
+        }
+        let mut room = Vec::new(alloc);
+        room.resize(MOST_BYTES, 0)?;
+        Ok(Sockets { ends, room })
+    }
+
+    /// Where a node's socket is found, or None where there is no such node.
+    pub fn address(&self, node: NodeId) -> Option<SocketAddr> {
+        Some(self.ends.get(usize::from(node.value()))?.address)
+    }
+}
+
+impl End {
+    fn bind<N: Net>(net: &N) -> io::Result<End> {
+        let socket = UdpSocket::bind(net, SocketAddr::from((Ipv4Addr::LOCALHOST, 0)))?;
+        socket.set_nonblocking(true)?;
+        let address = socket.local_addr()?;
+        Ok(End { socket, address })
+    }
+}
+
+impl Transport for Sockets {
+    ghost tape = { λ _. [] };
+
+    ghost Tells = { λ _. ⊥ };
+
+    fn send(
+        &mut self,
+        _alloc: Global,
+        from: NodeId,
+        to: NodeId,
+        bytes: &[u8],
+    ) -> Result<(), TransportFault> {
+        let address = self.address(to).ok_or(TransportFault)?;
+        let end = self
+            .ends
+            .get(usize::from(from.value()))
+            .ok_or(TransportFault)?;
+        match end.socket.send_to(bytes, address) {
+            Ok(sent) if sent == bytes.len() => Ok(()),
+            _ => Err(TransportFault),
+        }
+    }
+
+    fn poll(&mut self, alloc: Global, node: NodeId) -> Result<Option<Vec<u8>>, TransportFault> {
+        let end = self
+            .ends
+            .get(usize::from(node.value()))
+            .ok_or(TransportFault)?;
+        match end.socket.recv_from(self.room.as_mut_slice()) {
+            Ok((length, _from)) => {
+                let datagram = self.room.get(..length).ok_or(TransportFault)?;
+                Ok(Some(datagram.to_vec(alloc)?))
+            }
+            Err(error) if error.kind() == ErrorKind::WouldBlock => Ok(None),
+            Err(_) => Err(TransportFault),
+        }
+    }
+}
