@@ -9,7 +9,7 @@ use Rattle.clap.specs.declared.parser.matches.ArgMatches.{ArgMatches}
 use Rattle.clap.specs.declared.parser.matches.ArgMatches.TheViews.{out-ArgMatches, out-SubCommand}
 use Rattle.clap.specs.declared.parser.matches.Found.{Found}
 use Rattle.jobs.specs.declared.job.Work.{Work}
-use Rattle.jobs.specs.declared.job.Work.TheVariants.{Replay, Check}
+use Rattle.jobs.specs.declared.job.Work.TheVariants.{Replay, Loopback, Check}
 use Rattle.commandline.specs.Forms.{IsFolderOf, given_file, given_folder, given_name}
 
 -- only the values of a command count
@@ -36,6 +36,7 @@ pub folder_is_found : (given : Option (Text × List Row)) (found : Found) (work 
     → Some (rows_of found) ≡ option_map (λ p. p.1) given → IsFolderOf work (first_value found (codes "DIR")) folder
     → IsFolderOf work (given_folder given) folder
 folder_is_found given found Replay folder rows is = sym (value_is_found (codes "DIR") given found folder rows is)
+folder_is_found given found Loopback folder rows is = is
 folder_is_found given found Check folder rows is = is
 
 -- so is the name

@@ -1,5 +1,5 @@
 -- What words name, and which words are refused.
-use Rattle.std.proofs.Common.{◌≡◌, ◌≢◌, ◌⊎◌, ◌∙◌, ap, ap₂, sym, refl, inl, inr, ℕ, arith, length, List, [], ◌∷◌, Option, Some, None, codes}
+use Rattle.std.proofs.Common.{◌≡◌, ◌≢◌, ◌⊎◌, ◌∙◌, ap, ap₂, sym, refl, inl, inr, ℕ, drop, List, [], ◌∷◌, Option, Some, None, codes}
 use Rattle.std.proofs.Common.{true, false}
 use Rattle.std.proofs.Common.{map, IsSome, IsNone, IfErr, IfSome, MatchResult, unwrap_or, subst, Bor}
 use Rattle.std.specs.Option.{ok_or}
@@ -11,7 +11,7 @@ use Rattle.jobs.specs.declared.job.Job.{Job}
 use Rattle.jobs.specs.declared.job.Source.{Source}
 use Rattle.jobs.specs.declared.job.Source.TheVariants.{Input, File}
 use Rattle.jobs.specs.declared.job.Work.{Work}
-use Rattle.jobs.specs.declared.job.Work.TheVariants.{Replay, Check}
+use Rattle.jobs.specs.declared.job.Work.TheVariants.{Replay, Loopback, Check}
 use Rattle.commandline.specs.Forms.{AskFor, IsFolderOf, IsForm, NameInput, NameSource, Names, file_of, forms, given_file, given_folder}
 use Rattle.commandline.specs.Forms.{given_name, name_of, text_of}
 
@@ -50,6 +50,7 @@ pub ask_for_nothing : (words : List Text) (given : Option (Text × List Row)) (w
     → given ≡ subcommand_of forms words → GiveNothing given → AskFor words work → ⊥
 ask_for_nothing words given Replay some same nothing (inl none) = some none
 ask_for_nothing words given Replay some same nothing (inr form) = no_form words given Replay same nothing form
+ask_for_nothing words given Loopback some same nothing form = no_form words given Loopback same nothing form
 ask_for_nothing words given Check some same nothing form = no_form words given Check same nothing form
 
 -- words that are refused for another cause than memory are none of the forms
@@ -63,6 +64,8 @@ pub refused_ask_for_nothing : (words : List Text) (work : Work) (refusal : Error
 refused_ask_for_nothing words Replay refusal some kinds other (inl none) = some none
 refused_ask_for_nothing words Replay refusal some kinds other (inr form) =
     other (accepted_has_no_kind words Replay refusal kinds form)
+refused_ask_for_nothing words Loopback refusal some kinds other form =
+    other (accepted_has_no_kind words Loopback refusal kinds form)
 refused_ask_for_nothing words Check refusal some kinds other form =
     other (accepted_has_no_kind words Check refusal kinds form)
 
@@ -79,14 +82,23 @@ no_job (Some job) words given some same none = tt
 no_job None words given some same none = λ e work. ask_for_nothing words given work some same (none refl)
 
 -- ---- a name and a dash
-differ : (m n : ℕ) → m ≡ 6 → n ≡ 5 → m ≡ n → ⊥
-differ m n six five e = omega arith
+-- names of works differ in their lengths
+by_rest : List ℕ → Work
+by_rest [] = Check
+by_rest (a ∷ []) = Replay
+by_rest (a ∷ b ∷ rest) = Loopback
+
+named : List ℕ → Work
+named name = by_rest (drop 5 name)
+
+found : (work : Work) → named (name_of work) ≡ work
+unfolding named by_rest
+found Replay = refl
+found Loopback = refl
+found Check = refl
 
 same_name : (a b : Work) → name_of a ≡ name_of b → a ≡ b
-same_name Replay Replay e = refl
-same_name Check Check e = refl
-same_name Replay Check e = absurd (differ (length (name_of Replay)) (length (name_of Check)) refl refl (ap length e))
-same_name Check Replay e = absurd (differ (length (name_of Replay)) (length (name_of Check)) refl refl (sym (ap length e)))
+same_name a b e = sym (found a) ∙ ap named e ∙ found b
 
 dash_is_input : (source : Source) (given : Option Text) (text : Text) → given ≡ Some text → given ≡ Some (codes "-")
     → Names text source → source ≡ Input
@@ -107,6 +119,7 @@ no_text (Some name) e = cc
 no_folder : (work : Work) (given : Option Text) (folder : Option (Bor Text)) → given ≡ None → IsFolderOf work given (text_of folder)
     → folder ≡ None
 no_folder Replay given folder none is = no_text folder (is ∙ none)
+no_folder Loopback given folder none is = no_text folder is
 no_folder Check given folder none is = no_text folder is
 
 -- a job of these parts

@@ -5,7 +5,7 @@ use Rattle.std.specs.Borrow.{Bor}
 use Rattle.clap.specs.Words.{App, Row, Rule, Text, fault_of, first_of, new_app, new_rule, subcommand_of}
 use Rattle.clap.specs.Words.{with_rule, with_subcommand}
 use Rattle.jobs.specs.declared.job.Work.{Work}
-use Rattle.jobs.specs.declared.job.Work.TheVariants.{Replay, Check}
+use Rattle.jobs.specs.declared.job.Work.TheVariants.{Replay, Loopback, Check}
 use Rattle.jobs.specs.declared.job.Source.{Source}
 use Rattle.jobs.specs.declared.job.Source.TheVariants.{Input, File}
 
@@ -38,15 +38,16 @@ folder = record (new_rule (codes "DIR")) { long = Some (codes "db") }
 
 abbrev pub name_of : Work → Text
 name_of Replay = codes "replay"
+name_of Loopback = codes "loopback"
 name_of Check = codes "check"
 
 abbrev pub replay_form : App
 replay_form = with_rule (file_form (name_of Replay)) folder
 
--- `replay FILE`, which may have `--db DIR`, and `check FILE`, which is all that the program does
+-- `replay FILE`, which may have `--db DIR`, `loopback FILE` and `check FILE`, which is all that the program does
 abbrev pub forms : App
-forms = with_subcommand (with_subcommand (with_names_alone (without_help (new_app (codes "mfpx"))))
-    replay_form.top) (file_form (name_of Check)).top
+forms = with_subcommand (with_subcommand (with_subcommand (with_names_alone (without_help (new_app (codes "mfpx"))))
+    replay_form.top) (file_form (name_of Loopback)).top) (file_form (name_of Check)).top
 
 -- ---- what words give
 -- the name of the command that was given
@@ -75,6 +76,7 @@ pub record IsForm (words : List Text) (work : Work) : Type 0 where
 -- the words ask for this work; no words ask for a replay
 abbrev pub AskFor : List Text → Work → Type 0
 AskFor words Replay = (words ≡ []) ⊎ IsForm words Replay
+AskFor words Loopback = IsForm words Loopback
 AskFor words Check = IsForm words Check
 
 -- the words name standard input: by a dash, or by saying nothing
@@ -95,6 +97,7 @@ Names text (File path) = (text ≢ codes "-") × (path.now ≡ text)
 -- the folder of a work, of which this one was given: only a replay has one
 abbrev pub IsFolderOf : Work → Option Text → Option Text → Type 0
 IsFolderOf Replay given folder = folder ≡ given
+IsFolderOf Loopback given folder = folder ≡ None
 IsFolderOf Check given folder = folder ≡ None
 
 -- the words name this folder for the records, or none

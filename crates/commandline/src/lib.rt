@@ -1,6 +1,6 @@
 //! What the words of a command line ask for: a work, and the source of the bytes that it is done on.
 //!
-//! The forms are `replay FILE` and `check FILE`, where a FILE of `-` is standard input; no words at
+//! The forms are `replay FILE`, `loopback FILE` and `check FILE`, where a FILE of `-` is standard input; no words at
 //! all stand for `replay -`. Words are read by `clap`, whose first check is dear: so they have a
 //! crate of their own, and whatever is done with a job is checked apart from it.
 #![tactic(auto)]

@@ -1,10 +1,11 @@
 //! From words to a job.
 
 ghost use Rattle.std.specs.Prelude.{◌≡◌, ◌≢◌, ◌⊎◌, ◌∷◌, [], ℕ, List, map, codes, string_bytes};
-ghost use Rattle.std.specs.Prelude.{IfErr, IfOk, IfSome, IsNone, MatchOption, MatchResult, None, Some};
+ghost use Rattle.std.specs.Prelude.{IfErr, IfOk, IfSome, IsNone, MatchOption, MatchResult, None, Some, false};
 ghost use Rattle.clap.specs.Words.{app_of, first_value, found_of, kind_of, subcommand_rows_of};
+ghost use Rattle.clap.specs.declared.builder.command.Command.TheViews.{out-Command};
 ghost use Rattle.commandline.specs.Forms.{AskFor, IsFolderOf, NameFolder, NameSource, Names};
-ghost use Rattle.commandline.specs.Forms.{forms, given_file, given_folder, given_name, name_of, text_of};
+ghost use Rattle.commandline.specs.Forms.{file_form, forms, given_file, given_folder, given_name, name_of, text_of};
 
 use crate::fault::WordsFault;
 use clap::error::ErrorKind;
@@ -46,20 +47,27 @@ pub fn job_of<'a>(alloc: Global, words: &'a [String]) -> Result<Job<'a>, WordsFa
 fn program<'a>(alloc: Global) -> Result<Command<'a>, AllocError>
     ensures { IfOk result (λ command. app_of command ≡ forms) }
 {
-    let replay = Command::new(alloc, "replay")
-        .disable_help_flag(true)
-        .arg(Arg::new(alloc, "FILE").required(true))?
-        .arg(Arg::new(alloc, "DIR").long("db"))?;
-    let check = Command::new(alloc, "check")
-        .disable_help_flag(true)
-        .arg(Arg::new(alloc, "FILE").required(true))?;
+    let replay = file_command(alloc, "replay")?.arg(Arg::new(alloc, "DIR").long("db"))?;
+    let loopback = file_command(alloc, "loopback")?;
+    let check = file_command(alloc, "check")?;
     Command::new(alloc, "mfpx")
         .no_binary_name(true)
         .disable_help_flag(true)
         .disable_help_subcommand(true)
         .subcommand_required(true)
         .subcommand(replay)?
+        .subcommand(loopback)?
         .subcommand(check)
+}
+
+/// The form of a work of this name, with a FILE.
+fn file_command<'a>(alloc: Global, name: &'static str) -> Result<Command<'a>, AllocError>
+    ensures app { IfOk result (λ command. app_of command ≡ file_form name.now) }
+    ensures local { IfOk result (λ command. (out-Command command).has_globals ≡ false) }
+{
+    Command::new(alloc, name)
+        .disable_help_flag(true)
+        .arg(Arg::new(alloc, "FILE").required(true))
 }
 
 /// The job of words that were accepted.
@@ -89,7 +97,7 @@ fn folder_in<'a>(work: Work, inner: &ArgMatches<'a>) -> Option<&'a str>
 {
     match work {
         Work::Replay => inner.get_str("DIR"),
-        Work::Check => None,
+        Work::Loopback | Work::Check => None,
     }
 }
 
@@ -100,6 +108,7 @@ fn work_named(name: &str) -> Option<Work>
 {
     match name {
         "replay" => Some(Work::Replay),
+        "loopback" => Some(Work::Loopback),
         "check" => Some(Work::Check),
         _ => None,
     }

@@ -4,10 +4,12 @@ use Rattle.stable.specs.Script.{Script}
 use Rattle.stable.specs.declared.stable.Stable.{Ghosts}
 use Rattle.commandline.specs.Forms.{AskFor, NameFolder, NameInput}
 use Rattle.jobs.specs.declared.job.Work.{Work}
+use Rattle.jobs.specs.declared.job.Work.TheVariants.{Replay, Loopback, Check}
 use Rattle.endings.specs.declared.failure.Failure.{Failure}
-use Rattle.schedule.specs.Runs.{IsRunOver}
+use Rattle.cluster.specs.declared.transport.Transport.{Ghosts as Transports}
+use Rattle.schedule.specs.Runs.{IsReplay, IsRunOver}
 use Rattle.schedule.specs.Schedules.{IsScheduleOf, Plan}
-use Rattle.works.specs.Works.{EndsWith, IsUnread, Makes, StopsOver}
+use Rattle.works.specs.Works.{CheckStops, IsChecked, IsLooped, IsUnread, LoopStops, ReplayStops, StopsOver}
 
 -- these may be the bytes that the words name: of the input all that it has left, where that is known; of a file nothing
 -- is known
@@ -30,17 +32,21 @@ module _ {F : Type 0} (files : Ghosts F) where
     pub stores : List F
     pub stops : StopsOver files stores plan failure
 
--- and over storages in memory
-module _ {S F : Type 0} (storages : Ghosts (Script S)) (files : Ghosts F) where
-  -- the text is what the work makes of the bytes, with its records in memory or in files of a folder
+-- over storages in memory, and a transport for each run that goes through one
+module _ {S F T : Type 0} (storages : Ghosts (Script S)) (files : Ghosts F) (transport : Transports T) where
+  -- the text is what the work makes of the bytes; a replay has its records in memory, or in files of a folder
   abbrev pub MakesIn : Work → Option (List ℕ) → List ℕ → List ℕ → Type 0
-  MakesIn work None bytes text = Makes storages work bytes text
-  MakesIn work (Some folder) bytes text = IsKept files bytes text
+  MakesIn Replay None bytes text = IsReplay storages bytes text
+  MakesIn Replay (Some folder) bytes text = IsKept files bytes text
+  MakesIn Loopback folder bytes text = IsLooped transport bytes text
+  MakesIn Check folder bytes text = IsChecked bytes text
 
   -- so it ends, and makes nothing
   abbrev pub EndsIn : Work → Option (List ℕ) → List ℕ → Failure → Type 0
-  EndsIn work None bytes failure = EndsWith storages work bytes failure
-  EndsIn work (Some folder) bytes failure = IsUnread bytes failure ⊎ Stops files bytes failure
+  EndsIn Replay None bytes failure = ReplayStops storages bytes failure
+  EndsIn Replay (Some folder) bytes failure = IsUnread bytes failure ⊎ Stops files bytes failure
+  EndsIn Loopback folder bytes failure = IsUnread bytes failure ⊎ LoopStops transport bytes failure
+  EndsIn Check folder bytes failure = CheckStops bytes failure
 
   -- the text is what the work that the words ask for makes of the bytes that they name, with the records where they say
   pub record IsAnswer (words : List (List ℕ)) (left : Option (List ℕ)) (text : List ℕ) : Type 0 where

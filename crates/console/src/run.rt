@@ -11,7 +11,9 @@ ghost use Rattle.endings.specs.Streams.{Takes, Tells};
 
 use crate::failures::words_failure;
 use crate::records::{has_logs, open_all, settle_all};
+use cluster::Transport;
 use commandline::job_of;
+use datagrams::Sockets;
 use endings::{Failure, Tracked, device_failure};
 use jobs::{Source, Work};
 use schedule::Schedule;
@@ -21,7 +23,7 @@ use stable::{MemStable, Scripted, Stable};
 use std::alloc::Global;
 use std::fs;
 use std::io::{Read, Write};
-use works::{made, made_over, planned};
+use works::{checked, looped, made_over, planned, transcript};
 
 /// Runs the program on the words after its name, and answers its exit status. What it makes, a
 /// transcript or a document, goes to `out`, and only once all of it is made; why there is nothing
@@ -53,20 +55,20 @@ pub fn command<R: Read, O: Write, E: Write>(
 
     // What goes to `out`: the whole text, or nothing, or what a stream took before it failed.
     ensures done { result ≡ 0 → (text : List ℕ)
-        × IsAnswer (⟦<Scripted<MemStable> as Stable>⟧) (⟦<SqlStable<FileStore<File>> as Stable>⟧)
+        × IsAnswer (⟦<Scripted<MemStable> as Stable>⟧) (⟦<SqlStable<FileStore<File>> as Stable>⟧) (⟦<Sockets as Transport>⟧)
         (map string_bytes words.items) (R.remaining input.old) text
         × Takes O.contents out.old out.new text }
     ensures faulty_unprinted { result ≡ 1 → out.new ≡ out.old }
     ensures usage_unprinted { result ≡ 2 → out.new ≡ out.old }
     ensures failed_unprinted { result ≡ 3 → (out.new ≡ out.old) ⊎ ((text : List ℕ)
-        × IsAnswer (⟦<Scripted<MemStable> as Stable>⟧) (⟦<SqlStable<FileStore<File>> as Stable>⟧)
+        × IsAnswer (⟦<Scripted<MemStable> as Stable>⟧) (⟦<SqlStable<FileStore<File>> as Stable>⟧) (⟦<Sockets as Transport>⟧)
         (map string_bytes words.items) (R.remaining input.old) text
         × (out.new.has_failed ≡ true)) }
 
     // Why, and what goes to `err`: the line of that failure.
     ensures done_silently { result ≡ 0 → err.new ≡ err.old }
     ensures faulty { result ≡ 1 → (failure : Failure)
-        × IsFaulty (⟦<Scripted<MemStable> as Stable>⟧) (⟦<SqlStable<FileStore<File>> as Stable>⟧)
+        × IsFaulty (⟦<Scripted<MemStable> as Stable>⟧) (⟦<SqlStable<FileStore<File>> as Stable>⟧) (⟦<Sockets as Transport>⟧)
         (map string_bytes words.items) (R.remaining input.old) failure
         × Tells E.contents err.old err.new (line_text failure) }
     ensures usage { result ≡ 2 → (work : Work) → ¬ AskFor (map string_bytes words.items) work }
@@ -91,18 +93,18 @@ fn run<R: Read, O: Write>(
     out: &mut Tracked<O>,
 ) -> Result<(), Failure>
     ensures done { OnOk result ((text : List ℕ)
-        × IsAnswer (⟦<Scripted<MemStable> as Stable>⟧) (⟦<SqlStable<FileStore<File>> as Stable>⟧)
+        × IsAnswer (⟦<Scripted<MemStable> as Stable>⟧) (⟦<SqlStable<FileStore<File>> as Stable>⟧) (⟦<Sockets as Transport>⟧)
         (map string_bytes words.now) (R.remaining input.old) text
         × Takes O.contents out.old out.new text) }
     ensures faulty { IfErr result (λ failure. status_of failure ≡ 1
-        → IsFaulty (⟦<Scripted<MemStable> as Stable>⟧) (⟦<SqlStable<FileStore<File>> as Stable>⟧)
+        → IsFaulty (⟦<Scripted<MemStable> as Stable>⟧) (⟦<SqlStable<FileStore<File>> as Stable>⟧) (⟦<Sockets as Transport>⟧)
         (map string_bytes words.now) (R.remaining input.old) failure) }
     ensures usage { IfErr result (λ failure. failure ≡ Failure.Usage
         → (work : Work) → ¬ AskFor (map string_bytes words.now) work) }
     ensures untouched { IfErr result (λ failure. failure ≢ Failure.Device
         → out.new ≡ out.old) }
     ensures unprinted { OnErr result ((out.new ≡ out.old) ⊎ ((text : List ℕ)
-        × IsAnswer (⟦<Scripted<MemStable> as Stable>⟧) (⟦<SqlStable<FileStore<File>> as Stable>⟧)
+        × IsAnswer (⟦<Scripted<MemStable> as Stable>⟧) (⟦<SqlStable<FileStore<File>> as Stable>⟧) (⟦<Sockets as Transport>⟧)
         (map string_bytes words.now) (R.remaining input.old) text
         × (out.new.has_failed ≡ true))) }
     ensures words_come_first { IfErr result (λ failure. failure ≡ Failure.Usage
@@ -121,23 +123,25 @@ fn run<R: Read, O: Write>(
     }
 }
 
-/// What the work makes of the bytes: with its records in memory, or in files where a folder is given for them.
+/// What the work makes of the bytes: a replay with its records in memory, or in files where a folder is given for them.
 fn text_of(
     rt: &HostRuntime,
     work: Work,
     folder: Option<&str>,
     bytes: &[u8],
 ) -> Result<Vec<u8>, Failure>
-    ensures makes { IfOk result (λ text. MakesIn (⟦<Scripted<MemStable> as Stable>⟧) (⟦<SqlStable<FileStore<File>> as Stable>⟧)
+    ensures makes { IfOk result (λ text. MakesIn (⟦<Scripted<MemStable> as Stable>⟧) (⟦<SqlStable<FileStore<File>> as Stable>⟧) (⟦<Sockets as Transport>⟧)
         work (name_text folder.entry) bytes.now text.items) }
     ensures ends { IfErr result (λ failure. failure ≢ Failure.Memory → failure ≢ Failure.Device
-        → EndsIn (⟦<Scripted<MemStable> as Stable>⟧) (⟦<SqlStable<FileStore<File>> as Stable>⟧)
+        → EndsIn (⟦<Scripted<MemStable> as Stable>⟧) (⟦<SqlStable<FileStore<File>> as Stable>⟧) (⟦<Sockets as Transport>⟧)
         work (name_text folder.entry) bytes.now failure) }
     ensures no_usage { IfErr result (λ failure. failure ≢ Failure.Usage) }
 {
-    match folder {
-        None => made(rt.alloc(), work, bytes),
-        Some(folder) => kept(rt, folder, bytes),
+    match (work, folder) {
+        (Work::Replay, None) => transcript(rt.alloc(), bytes),
+        (Work::Replay, Some(folder)) => kept(rt, folder, bytes),
+        (Work::Loopback, _) => looped(rt, rt.alloc(), bytes),
+        (Work::Check, _) => checked(rt.alloc(), bytes),
     }
 }
 

@@ -8,7 +8,7 @@
 
 mod outcome;
 
-use crate::outcome::{Outcome, outcome_of, work_of};
+use crate::outcome::{Outcome, kind_of, outcome_of};
 use anyhow::{Result, bail};
 use std::fs;
 
@@ -43,11 +43,11 @@ fn is_example(rt: &HostRuntime, name: &str) -> Result<bool> {
     let Some((stem, ending)) = name.rsplit_once('.') else {
         return Ok(false);
     };
-    let Some(work) = work_of(ending) else {
+    let Some(kind) = kind_of(ending) else {
         return Ok(false);
     };
     let bytes = fs::read(rt, name)?;
-    let Outcome { ending, text } = outcome_of(rt.alloc(), work, bytes.as_slice())?;
+    let Outcome { ending, text } = outcome_of(rt.alloc(), kind, bytes.as_slice())?;
     let beside = format!(in rt.alloc(); "{stem}.{ending}")?;
     let wanted = fs::read(rt, beside.as_str())?;
     if text.as_slice() != wanted.as_slice() {

@@ -2,13 +2,21 @@
 
 ghost use Rattle.std.specs.Prelude.{◌≡◌, ◌≢◌, codes, IfErr, IfOk, MatchOption, OnOk};
 ghost use Rattle.endings.specs.Failures.{line_text};
-ghost use Rattle.examples.specs.Outcomes.{IsOutcome, input_ending, text_ending};
+ghost use Rattle.examples.specs.Outcomes.{EndsWith, IsOutcome, Makes, input_ending, text_ending};
 
 use endings::Failure;
-use jobs::Work;
 use stable::{MemStable, Scripted, Stable};
 use std::alloc::Global;
-use works::made;
+use works::{checked, transcript};
+
+/// What a file that goes into a run holds.
+#[derive(Clone, Copy, Debug, PartialEq, Eq)]
+pub(crate) enum Kind {
+    /// A schedule, which is run.
+    Schedule,
+    /// A document, whose canonical form is made.
+    Document,
+}
 
 /// What comes of a run, and the ending of the file that has it.
 #[derive(Debug, Drop)]
@@ -18,41 +26,53 @@ pub(crate) struct Outcome {
     pub(crate) text: Vec<u8>,
 }
 
-/// The work that takes files of this ending, where one does.
-pub(crate) fn work_of(ending: &str) -> Option<Work>
-    ensures { MatchOption result ((work : Work) → ending.now ≢ input_ending work)
-        (λ work. ending.now ≡ input_ending work) }
+/// What files of this ending hold, where they go into a run.
+pub(crate) fn kind_of(ending: &str) -> Option<Kind>
+    ensures { MatchOption result ((kind : Kind) → ending.now ≢ input_ending kind)
+        (λ kind. ending.now ≡ input_ending kind) }
 {
     match ending {
-        "schedule" => Some(Work::Replay),
-        "json" => Some(Work::Check),
+        "schedule" => Some(Kind::Schedule),
+        "json" => Some(Kind::Document),
         _ => None,
     }
 }
 
-/// What the program prints where it does this work on the bytes: to standard output what is made of
+/// What the program prints where it replays or checks the bytes: to standard output what is made of
 /// them, or to standard error why nothing is. Want of memory is an error, as it tells nothing of
 /// the bytes.
-pub(crate) fn outcome_of(alloc: Global, work: Work, bytes: &[u8]) -> Result<Outcome, Failure>
-    ensures ok { IfOk result (IsOutcome (⟦<Scripted<MemStable> as Stable>⟧) work bytes.now) }
+pub(crate) fn outcome_of(alloc: Global, kind: Kind, bytes: &[u8]) -> Result<Outcome, Failure>
+    ensures ok { IfOk result (IsOutcome (⟦<Scripted<MemStable> as Stable>⟧) kind bytes.now) }
     ensures err { IfErr result (λ refusal. refusal ≡ Failure.Memory) }
 {
-    match made(alloc, work, bytes) {
+    match made(alloc, kind, bytes) {
         Ok(text) => Ok(Outcome {
-            ending: ending_of(work),
+            ending: ending_of(kind),
             text,
         }),
         Err(failure) => told(alloc, failure),
     }
 }
 
-/// The ending of the file with what the work makes.
-fn ending_of(work: Work) -> &'static str
-    ensures { result.now ≡ text_ending work }
+/// What is made of such a file.
+fn made(alloc: Global, kind: Kind, bytes: &[u8]) -> Result<Vec<u8>, Failure>
+    ensures makes { IfOk result (λ text. Makes (⟦<Scripted<MemStable> as Stable>⟧) kind bytes.now text.items) }
+    ensures ends { IfErr result (λ failure. failure ≢ Failure.Memory
+        → EndsWith (⟦<Scripted<MemStable> as Stable>⟧) kind bytes.now failure) }
 {
-    match work {
-        Work::Replay => "transcript",
-        Work::Check => "canonical",
+    match kind {
+        Kind::Schedule => transcript(alloc, bytes),
+        Kind::Document => checked(alloc, bytes),
+    }
+}
+
+/// The ending of the file with what is made.
+fn ending_of(kind: Kind) -> &'static str
+    ensures { result.now ≡ text_ending kind }
+{
+    match kind {
+        Kind::Schedule => "transcript",
+        Kind::Document => "canonical",
     }
 }
 

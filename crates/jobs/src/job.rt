@@ -5,6 +5,8 @@
 pub enum Work {
     /// The schedule is run, and its transcript printed.
     Replay,
+    /// The schedule is run over UDP sockets of 127.0.0.1, and its transcript printed, and how many datagrams were strangers.
+    Loopback,
     /// The document is read, and its canonical form printed.
     Check,
 }

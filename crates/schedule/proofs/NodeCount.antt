@@ -22,7 +22,8 @@ use Rattle.world.specs.declared.event.Event.TheVariants.{Submit, Deliver, Drop, 
 use Rattle.node.specs.declared.fault.NodeFault.{NodeFault}
 use Rattle.node.specs.declared.input.Input.{Input}
 use Rattle.schedule.specs.Lines.{NumberedText}
-use Rattle.schedule.specs.Runs.{IsDone, IsRefused, Leads, RunEnds, at_a_line, at_the_last, ReplayEnds, not_read, not_begun, not_run}
+use Rattle.schedule.specs.LineByLine.{at_a_line, at_the_last}
+use Rattle.schedule.specs.Runs.{IsDone, IsRefused, Leads, RunEnds, ReplayEnds, not_read, not_begun, not_run}
 use Rattle.schedule.specs.Schedules.{Plan, SpellEach}
 use Rattle.schedule.specs.Spelling.{Spells, SpellsRound, WordsSpell}
 use Rattle.schedule.specs.Table.{NameEach}

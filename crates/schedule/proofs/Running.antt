@@ -17,17 +17,14 @@ use Rattle.world.specs.Staying.{StaysSafe}
 use Rattle.world.specs.Worlds.{WorldState}
 use Rattle.schedule.specs.Causes.{cause_of}
 use Rattle.schedule.specs.declared.action.Action.TheVariants.{Flush, Round}
-use Rattle.schedule.specs.Runs.{IsDone, IsRefused, IsStopped, Leads, EndsAt, RunsTo, RunFails, at_a_line, at_the_last, IsReplay, ReplayEnds}
+use Rattle.schedule.proofs.LineByLine.{ends_at_a_line, ends_at_the_last}
+use Rattle.schedule.specs.Runs.{IsDone, IsRefused, Leads, EndsAt, RunsTo, RunFails, IsReplay, ReplayEnds}
 use Rattle.schedule.specs.Runs.{not_begun, not_run, told_of, IsRunOver, EndsOver, is_used, no_world, no_end}
 use Rattle.schedule.specs.Schedules.{Plan, IsScheduleOf, last_number}
 use Rattle.schedule.specs.declared.plan.ScheduleLine.{ScheduleLine}
 use Rattle.schedule.specs.declared.replay_fault.ReplayCause.{ReplayCause}
 use Rattle.schedule.specs.declared.replay_fault.ReplayFault.{ReplayFault}
 use Rattle.schedule.specs.declared.replay_fault.ReplayCause.TheVariants.{Memory}
-
-pub nothing_left : {T : Type 0} (l : List T) → length l ≡ 0 → l ≡ []
-nothing_left [] h = refl
-nothing_left (x ∷ xs) h = absurd (omega arith)
 
 abbrev failed : WorldFault → Result ℕ WorldFault
 failed fault = Err fault
@@ -68,39 +65,6 @@ module _ {S : Type 0} (storages : Ghosts (Script S)) where
   round_refused old new node handed members fault same no_node unchanged memory (inr e) =
       subst (λ (f : WorldFault). IsRefused storages (Round node members) old (cause_of f) new) (sym e)
       (subst (λ (ms : List ℕ). IsPartOfRound storages old node ms new) same (memory (ap broken_off e)))
-
-  -- a line is stopped for the cause that the world's fault is
-  pub stopped : (line : ScheduleLine) (old new : WorldState S) (fault : WorldFault) (cause : ReplayCause) → cause ≡ cause_of fault
-      → IsRefused storages line.action old (cause_of fault) new
-      → IsStopped storages line old (record { line = line.number; cause = cause }) new
-  stopped line old new fault cause same refused = record {
-    number = refl;
-    refused = subst (λ (why : ReplayCause). IsRefused storages line.action old why new) (sym same) refused;
-  }
-
-  -- one line more
-  pub led_on : (lines : List ScheduleLine) (line : ScheduleLine) (old between new : WorldState S)
-      → Leads storages lines old between → IsDone storages line.action between new
-      → Leads storages (lines ++ line ∷ []) old new
-  led_on [] line old between new led done =
-      (new, subst (λ (w : WorldState S). IsDone storages line.action w new) led done, refl)
-  led_on (first ∷ lines) line old between new (w, done_first, led) done =
-      (w, done_first, led_on lines line w between new led done)
-
-  -- a line that isn't done, after those that are
-  pub ends_here : (all done_lines left rest : List ScheduleLine) (line : ScheduleLine) (old reached new : WorldState S)
-      (fault : ReplayFault) → done_lines ++ left ≡ all → left ≡ line ∷ rest
-      → Leads storages done_lines old reached → IsStopped storages line reached fault new
-      → EndsAt storages all old fault new
-  ends_here all done_lines left rest line old reached new fault parts next led stopped = record {
-    before = done_lines;
-    line = line;
-    after = rest;
-    parts = sym parts ∙ ap (λ (ls : List ScheduleLine). done_lines ++ ls) next;
-    reached = reached;
-    led = led;
-    stopped = stopped;
-  }
 
   -- the transcript after all lines
   pub runs_to : (IsHonest : S → Type 0) (plan : Plan) (lines : List ScheduleLine) (start end : WorldState S) (text : List ℕ) → lines
@@ -143,7 +107,7 @@ module _ {S : Type 0} (storages : Ghosts (Script S)) where
       → RunFails storages IsHonest plan start fault
   run_ends_at IsHonest plan lines start end fault same ends safe = record {
     end = end;
-    ends = at_a_line (subst (λ (ls : List ScheduleLine). EndsAt storages ls start fault end) same ends);
+    ends = ends_at_a_line (IsDone storages) (IsRefused storages) plan lines start end fault same ends;
     safe = safe;
   }
 
@@ -153,7 +117,7 @@ module _ {S : Type 0} (storages : Ghosts (Script S)) where
       → RunFails storages IsHonest plan start (record { line = last; cause = Memory })
   run_ends_last IsHonest plan lines start end last same led is_last safe = record {
     end = end;
-    ends = at_the_last (subst (λ (ls : List ScheduleLine). Leads storages ls start end) same led) refl is_last;
+    ends = ends_at_the_last (IsDone storages) (IsRefused storages) plan lines start end last same led is_last;
     safe = safe;
   }
 

@@ -4,6 +4,7 @@ pub mod Entries
 pub mod Extents
 pub mod Keywords
 pub mod Laws
+pub mod LineByLine
 pub mod Lines
 pub mod Numbers
 pub mod Reading

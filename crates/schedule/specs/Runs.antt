@@ -1,5 +1,5 @@
 -- Runs: what the lines of a schedule do to a world, one after another, and where they end.
-use Rattle.std.specs.Prelude.{◌≡◌, ℕ, ◌≤◌, List, [], ◌∷◌, ◌++◌, length}
+use Rattle.std.specs.Prelude.{◌≡◌, ℕ, ◌≤◌, List, length}
 use Rattle.stable.specs.Script.{Script}
 use Rattle.stable.specs.Storages.{scripted}
 use Rattle.stable.specs.declared.stable.Stable.{Ghosts}
@@ -14,7 +14,8 @@ use Rattle.world.specs.declared.event.Event.{Event}
 use Rattle.world.specs.declared.round_end.RoundEnd.{RoundEnd}
 use Rattle.world.specs.declared.log.TheConstants.{MOST_DELIVERIES}
 use Rattle.schedule.specs.Causes.{fault_of}
-use Rattle.schedule.specs.Schedules.{Plan, last_number, IsScheduleOf, IsRefusal}
+use Rattle.schedule.specs.LineByLine.{AllDone, EndsWithout, LineStops, StopsAtOne}
+use Rattle.schedule.specs.Schedules.{Plan, IsScheduleOf, IsRefusal}
 use Rattle.schedule.specs.Transcripts.{transcript_of}
 use Rattle.schedule.specs.declared.action.Action.{Action}
 use Rattle.schedule.specs.declared.action.Action.TheVariants.{Step, Flush, Round}
@@ -47,9 +48,7 @@ module _ {S : Type 0} (storages : Ghosts (Script S)) where
 
   -- the lines are done, one after another
   abbrev pub Leads : List ScheduleLine → WorldState S → WorldState S → Type 0
-  Leads [] old new = new ≡ old
-  Leads (line ∷ lines) old new =
-      (between : WorldState S) × IsDone line.action old between × Leads lines between new
+  Leads = AllDone IsDone
 
   -- as many frames are delivered as one flush may, and one still waits
   pub record MeetsLimit (old new : WorldState S) : Type 0 where
@@ -74,26 +73,17 @@ module _ {S : Type 0} (storages : Ghosts (Script S)) where
   IsRefused _ old _ new = ⊥
 
   -- a line isn't done
-  pub record IsStopped (line : ScheduleLine) (old : WorldState S) (fault : ReplayFault) (new : WorldState S) : Type 0 where
-    pub number : fault.line ≡ line.number
-    pub refused : IsRefused line.action old fault.cause new
+  abbrev pub IsStopped : ScheduleLine → WorldState S → ReplayFault → WorldState S → Type 0
+  IsStopped = LineStops IsRefused
 
   -- the lines before one are done, and it is not
-  pub record EndsAt (lines : List ScheduleLine) (old : WorldState S) (fault : ReplayFault) (new : WorldState S) : Type 0 where
-    pub before : List ScheduleLine
-    pub line : ScheduleLine
-    pub after : List ScheduleLine
-    pub parts : lines ≡ before ++ line ∷ after
-    pub reached : WorldState S
-    pub led : Leads before old reached
-    pub stopped : IsStopped line reached fault new
+  abbrev pub EndsAt : List ScheduleLine → WorldState S → ReplayFault → WorldState S → Type 0
+  EndsAt = StopsAtOne IsDone IsRefused
 
   -- why a run has no transcript, and the world in which it ends: a line isn't done, or at the last one memory is wanting
   -- for the text
-  pub data RunEnds (plan : Plan) (start : WorldState S) (fault : ReplayFault) (end : WorldState S) : Type 0 where
-    at_a_line : EndsAt plan.lines start fault end → RunEnds plan start fault end
-    at_the_last : Leads plan.lines start end → fault.cause ≡ Memory → fault.line ≡ last_number plan
-        → RunEnds plan start fault end
+  abbrev pub RunEnds : Plan → WorldState S → ReplayFault → WorldState S → Type 0
+  RunEnds = EndsWithout IsDone IsRefused
 
   -- the lines lead to a world of which the text is the transcript
   pub record RunsTo (IsHonest : S → Type 0) (plan : Plan) (start : WorldState S) (text : List ℕ) : Type 0 where

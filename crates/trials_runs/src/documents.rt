@@ -1,9 +1,8 @@
 //! Documents, and what a check makes of them.
 
 use endings::{Failure, FaultyDocument};
-use jobs::Work;
 use std::test::Fail;
-use works::made;
+use works::checked;
 
 // in the canonical order, with no blanks: 195 bytes
 const CANONICAL: &str =
@@ -26,7 +25,7 @@ fn documents_and_their_canonical_line(rt: HostRuntime) -> Result<(), Fail> {
     line.push('\n')?;
     assert_eq!(rt; line.len(), 196);
     for document in documents {
-        let text = made(rt.alloc(), Work::Check, document.as_bytes())?;
+        let text = checked(rt.alloc(), document.as_bytes())?;
         assert_eq!(rt; text.as_slice(), line.as_bytes(), "{document}");
     }
     Ok(())
@@ -35,9 +34,9 @@ fn documents_and_their_canonical_line(rt: HostRuntime) -> Result<(), Fail> {
 /// The canonical document comes back as it is, and once more so, with its line feed.
 #[test]
 fn canonical_documents_stay(rt: HostRuntime) -> Result<(), Fail> {
-    let line = made(rt.alloc(), Work::Check, CANONICAL.as_bytes())?;
+    let line = checked(rt.alloc(), CANONICAL.as_bytes())?;
     assert_eq!(rt; line.len(), 196);
-    let again = made(rt.alloc(), Work::Check, line.as_slice())?;
+    let again = checked(rt.alloc(), line.as_slice())?;
     assert_eq!(rt; again.as_slice(), line.as_slice());
     Ok(())
 }
@@ -101,7 +100,7 @@ const FAULTS: [(&str, u8, Option<usize>); 14] = [
 #[test]
 fn documents_that_are_none(rt: HostRuntime) -> Result<(), Fail> {
     for (document, fault, index) in FAULTS {
-        let failure = made(rt.alloc(), Work::Check, document.as_bytes()).err();
+        let failure = checked(rt.alloc(), document.as_bytes()).err();
         let wanted = Failure::Document(FaultyDocument { fault, index });
         assert_eq!(rt; failure, Some(wanted), "{document}");
     }
@@ -123,7 +122,7 @@ fn documents_that_are_too_long(rt: HostRuntime) -> Result<(), Fail> {
         document.extend_from_slice(b",[0,0]")?;
     }
     document.extend_from_slice(b"]}}")?;
-    let failure = made(rt.alloc(), Work::Check, document.as_slice()).err();
+    let failure = checked(rt.alloc(), document.as_slice()).err();
     let too_many = FaultyDocument {
         fault: 11,
         index: None,

@@ -1,9 +1,8 @@
 //! Schedules, and what a replay makes of them. Further ones are the examples.
 
 use endings::{Failure, FaultyLine};
-use jobs::Work;
 use std::test::Fail;
-use works::made;
+use works::transcript;
 
 // a schedule, and its transcript
 const RUNS: [(&str, &str); 2] = [
@@ -16,9 +15,9 @@ const RUNS: [(&str, &str); 2] = [
 
 #[test]
 fn schedules_and_their_transcripts(rt: HostRuntime) -> Result<(), Fail> {
-    for (schedule, transcript) in RUNS {
-        let text = made(rt.alloc(), Work::Replay, schedule.as_bytes())?;
-        assert_eq!(rt; text.as_slice(), transcript.as_bytes());
+    for (schedule, wanted) in RUNS {
+        let text = transcript(rt.alloc(), schedule.as_bytes())?;
+        assert_eq!(rt; text.as_slice(), wanted.as_bytes());
     }
     Ok(())
 }
@@ -34,7 +33,7 @@ const FAULTS: [(&str, u64, u8); 4] = [
 #[test]
 fn schedules_that_are_none(rt: HostRuntime) -> Result<(), Fail> {
     for (schedule, line, fault) in FAULTS {
-        let failure = made(rt.alloc(), Work::Replay, schedule.as_bytes()).err();
+        let failure = transcript(rt.alloc(), schedule.as_bytes()).err();
         let wanted = Failure::Schedule(FaultyLine { line, fault });
         assert_eq!(rt; failure, Some(wanted), "{schedule}");
     }
@@ -50,7 +49,7 @@ fn a_flush_that_would_not_end(rt: HostRuntime) -> Result<(), Fail> {
         schedule.extend_from_slice(b"timeout 0\n")?;
     }
     schedule.extend_from_slice(b"flush\n")?;
-    let failure = made(rt.alloc(), Work::Replay, schedule.as_slice()).err();
+    let failure = transcript(rt.alloc(), schedule.as_slice()).err();
     let too_many = FaultyLine {
         line: 3336,
         fault: 53,
@@ -83,7 +82,7 @@ fn a_put_is_too_long_from_513_points_on(rt: HostRuntime) -> Result<(), Fail> {
 \"type\":\"MovingPoint\",\"datetimes\":[{datetimes}],\"coordinates\":[{coordinates}],\
 \"interpolation\":\"Step\"}}}}\n"
         )?;
-        let text = made(rt.alloc(), Work::Replay, schedule.as_bytes())?;
+        let text = transcript(rt.alloc(), schedule.as_bytes())?;
         assert_eq!(rt; text.as_slice(), told.as_bytes(), "{count}");
     }
     Ok(())

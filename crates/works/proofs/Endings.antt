@@ -4,7 +4,11 @@ use Rattle.stable.specs.Script.{Script}
 use Rattle.stable.specs.declared.stable.Stable.{Ghosts}
 use Rattle.schedule.specs.Causes.{cause_code, fault_of}
 use Rattle.schedule.specs.Runs.{EndsOver, ReplayEnds}
-use Rattle.schedule.specs.Schedules.{IsRefusal, Plan}
+use Rattle.schedule.specs.Schedules.{IsRefusal, IsScheduleOf, Plan}
+use Rattle.stable.specs.declared.memory.MemStable.{MemStable}
+use Rattle.cluster.specs.Clusters.{ClusterState}
+use Rattle.cluster.specs.declared.transport.Transport.{Ghosts as Transports}
+use Rattle.loopback.specs.Loops.{RunFails}
 use Rattle.schedule.specs.declared.fault.ParseFault.{ParseFault}
 use Rattle.schedule.specs.declared.replay_fault.ReplayCause.{ReplayCause}
 use Rattle.schedule.specs.declared.replay_fault.ReplayCause.TheVariants as cause
@@ -12,10 +16,9 @@ use Rattle.schedule.specs.declared.replay_fault.ReplayFault.{ReplayFault}
 use Rattle.mfjson.specs.Faults.{IsFaultOf, code_of, index_of}
 use Rattle.mfjson.specs.declared.fault.MfFault.{MfFault}
 use Rattle.mfjson.specs.declared.fault.MfFault.TheVariants as document
-use Rattle.works.specs.Works.{EndsWith, IsUnread, StopsOver}
+use Rattle.works.specs.Works.{CheckStops, IsUnread, IsJoined, LoopStops, ReplayStops, StopsOver}
 use Rattle.endings.specs.declared.failure.Failure.{Failure}
 use Rattle.endings.specs.declared.failure.Failure.TheVariants.{Schedule, Document, NotEmpty, Memory}
-use Rattle.jobs.specs.declared.job.Work.TheVariants.{Replay, Check}
 
 -- a fault of a schedule has a line, but for want of memory
 abbrev HasLine : ReplayFault → Failure → Type 0
@@ -25,24 +28,24 @@ HasLine fault failure = failure ≡ Schedule (record { line = fault.line; fault 
 abbrev HasPlace : MfFault → Failure → Type 0
 HasPlace fault failure = failure ≡ Document (record { fault = code_of fault; index = index_of fault })
 
+-- what a document's fault is to the program
+pub check_ends : (bytes : List ℕ) (fault : MfFault) (failure : Failure) → IsFaultOf bytes fault
+    → (fault ≡ document.Memory → failure ≡ Memory) → (fault ≢ document.Memory → HasPlace fault failure)
+    → failure ≢ Memory → CheckStops bytes failure
+check_ends bytes fault failure is_fault memory place other =
+    let named : fault ≢ document.Memory = λ e. other (memory e) in
+    subst (λ (f : Failure). CheckStops bytes f) (sym (place named))
+    (record { fault = fault; is_fault = is_fault; cause = named; told = refl })
+
 module _ {S : Type 0} (storages : Ghosts (Script S)) where
   -- what the end of a replay is to the program
   pub replay_ends : (bytes : List ℕ) (fault : ReplayFault) (failure : Failure) → ReplayEnds storages bytes fault
       → (fault.cause ≡ cause.Memory → failure ≡ Memory) → (fault.cause ≢ cause.Memory → HasLine fault failure)
-      → failure ≢ Memory → EndsWith storages Replay bytes failure
+      → failure ≢ Memory → ReplayStops storages bytes failure
   replay_ends bytes fault failure ends memory line other =
       let named : fault.cause ≢ cause.Memory = λ e. other (memory e) in
-      subst (λ (f : Failure). EndsWith storages Replay bytes f) (sym (line named))
+      subst (λ (f : Failure). ReplayStops storages bytes f) (sym (line named))
       (record { fault = fault; ends = ends; cause = named; told = refl })
-
-  -- what a document's fault is to the program
-  pub check_ends : (bytes : List ℕ) (fault : MfFault) (failure : Failure) → IsFaultOf bytes fault
-      → (fault ≡ document.Memory → failure ≡ Memory) → (fault ≢ document.Memory → HasPlace fault failure)
-      → failure ≢ Memory → EndsWith storages Check bytes failure
-  check_ends bytes fault failure is_fault memory place other =
-      let named : fault ≢ document.Memory = λ e. other (memory e) in
-      subst (λ (f : Failure). EndsWith storages Check bytes f) (sym (place named))
-      (record { fault = fault; is_fault = is_fault; cause = named; told = refl })
 
 -- what bytes that are no schedule are to the program
 pub unread_ends : (bytes : List ℕ) (refusal : ParseFault) (fault : ReplayFault) (failure : Failure) → IsRefusal bytes refusal
@@ -86,3 +89,22 @@ module _ {S : Type 0} (storages : Ghosts S) (stores : List S) (plan : Plan) wher
   stops_over fault failure ends memory used line other =
       let named : fault.cause ≢ cause.Memory = λ e. other (memory e) in
       by_cause fault fault.cause failure refl ends named used (line named)
+
+-- what the end of a run through a transport is to the program
+module _ {T : Type 0} (transport : Transports T) where
+  pub loop_stops : (bytes : List ℕ) (plan : Plan) (start : ClusterState MemStable T) (fault : ReplayFault) (failure : Failure)
+      → IsScheduleOf bytes plan → IsJoined plan.nodes start → RunFails transport plan start fault
+      → (fault.cause ≡ cause.Memory → failure ≡ Memory) → (fault.cause ≢ cause.Memory → HasLine fault failure)
+      → failure ≢ Memory → LoopStops transport bytes failure
+  loop_stops bytes plan start fault failure spelled joined fails memory line other =
+      let named : fault.cause ≢ cause.Memory = λ e. other (memory e) in
+      subst (λ (f : Failure). LoopStops transport bytes f) (sym (line named)) (record {
+        plan = plan;
+        spelled = spelled;
+        start = start;
+        joined = joined;
+        fault = fault;
+        fails = fails;
+        cause = named;
+        told = refl;
+      })

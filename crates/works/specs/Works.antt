@@ -5,16 +5,21 @@ use Rattle.mfjson.specs.Faults.{IsFaultOf, code_of, index_of}
 use Rattle.mfjson.specs.declared.fault.MfFault.{MfFault}
 use Rattle.mfjson.specs.declared.fault.MfFault.TheVariants as document
 use Rattle.mfjson.specs.declared.feature.Feature.{Feature}
+use Rattle.stable.specs.Memory.{in_memory}
 use Rattle.stable.specs.Script.{Script}
+use Rattle.stable.specs.Storages.{scripted}
+use Rattle.stable.specs.declared.memory.MemStable.{MemStable}
 use Rattle.stable.specs.declared.stable.Stable.{Ghosts}
 use Rattle.schedule.specs.Causes.{cause_code, fault_of}
-use Rattle.schedule.specs.Runs.{EndsOver, IsReplay, ReplayEnds}
-use Rattle.schedule.specs.Schedules.{IsRefusal, Plan}
+use Rattle.schedule.specs.Runs.{EndsOver, ReplayEnds}
+use Rattle.schedule.specs.Schedules.{IsRefusal, IsScheduleOf, Plan}
 use Rattle.schedule.specs.declared.fault.ParseFault.{ParseFault}
 use Rattle.schedule.specs.declared.replay_fault.ReplayCause.TheVariants as cause
 use Rattle.schedule.specs.declared.replay_fault.ReplayFault.{ReplayFault}
-use Rattle.jobs.specs.declared.job.Work.{Work}
-use Rattle.jobs.specs.declared.job.Work.TheVariants.{Replay, Check}
+use Rattle.world.specs.Flushing.{IsStart}
+use Rattle.cluster.specs.Clusters.{ClusterState}
+use Rattle.cluster.specs.declared.transport.Transport.{Ghosts as Transports}
+use Rattle.loopback.specs.Loops.{RunFails, RunsTo}
 use Rattle.endings.specs.declared.failure.Failure.{Failure}
 use Rattle.endings.specs.declared.failure.Failure.TheVariants as failure
 use Rattle.endings.specs.declared.failure.FaultyDocument.{FaultyDocument}
@@ -36,6 +41,11 @@ pub record IsNoDocument (bytes : List ℕ) (at : FaultyDocument) : Type 0 where
   pub cause : fault ≢ document.Memory
   pub told : at ≡ record { fault = code_of fault; index = index_of fault }
 
+-- a check ends so on these bytes, and makes nothing of them
+abbrev pub CheckStops : List ℕ → Failure → Type 0
+CheckStops bytes (failure.Document at) = IsNoDocument bytes at
+CheckStops bytes other = ⊥
+
 -- over storages of which it is known what their calls may do
 module _ {S : Type 0} (storages : Ghosts (Script S)) where
   -- ---- a replay
@@ -46,17 +56,10 @@ module _ {S : Type 0} (storages : Ghosts (Script S)) where
     pub cause : fault.cause ≢ cause.Memory
     pub told : at ≡ record { line = fault.line; fault = cause_code fault.cause }
 
-  -- ---- both
-  -- the text is what the work makes of these bytes
-  abbrev pub Makes : Work → List ℕ → List ℕ → Type 0
-  Makes Replay bytes text = IsReplay storages bytes text
-  Makes Check bytes text = IsChecked bytes text
-
-  -- the work ends so on these bytes, and makes nothing of them
-  abbrev pub EndsWith : Work → List ℕ → Failure → Type 0
-  EndsWith Replay bytes (failure.Schedule at) = EndsAtLine bytes at
-  EndsWith Check bytes (failure.Document at) = IsNoDocument bytes at
-  EndsWith work bytes other = ⊥
+  -- it ends so, and makes nothing of them
+  abbrev pub ReplayStops : List ℕ → Failure → Type 0
+  ReplayStops bytes (failure.Schedule at) = EndsAtLine bytes at
+  ReplayStops bytes other = ⊥
 
 -- ---- a replay in two parts
 -- the replay of the bytes ended as they were read, at this line, with this number, and not for want of memory
@@ -90,3 +93,34 @@ module _ {S : Type 0} (storages : Ghosts S) (stores : List S) (plan : Plan) wher
   StopsOver (failure.Schedule at) = StopsAtLine at
   StopsOver failure.NotEmpty = StopsAtOnce
   StopsOver other = ⊥
+
+-- ---- a run through a transport
+-- a fresh world of so many nodes, with records in memory, and no stranger yet
+pub record IsJoined {T : Type 0} (nodes : ℕ) (c : ClusterState MemStable T) : Type 0 where
+  pub starts : IsStart (scripted in_memory) nodes c.pumped.world
+  pub no_strangers : c.pumped.strangers ≡ 0
+
+-- one of which it is known what its calls may do
+module _ {T : Type 0} (transport : Transports T) where
+  -- the bytes spell a schedule, and the text is what its lines lead a fresh cluster to tell
+  pub record IsLooped (bytes text : List ℕ) : Type 0 where
+    pub plan : Plan
+    pub spelled : IsScheduleOf bytes plan
+    pub start : ClusterState MemStable T
+    pub joined : IsJoined plan.nodes start
+    pub runs : RunsTo transport plan start text
+
+  -- they spell one whose run ends at this line, with this number, and not for want of memory
+  pub record LoopStopsAtLine (bytes : List ℕ) (at : FaultyLine) : Type 0 where
+    pub plan : Plan
+    pub spelled : IsScheduleOf bytes plan
+    pub start : ClusterState MemStable T
+    pub joined : IsJoined plan.nodes start
+    pub fault : ReplayFault
+    pub fails : RunFails transport plan start fault
+    pub cause : fault.cause ≢ cause.Memory
+    pub told : at ≡ record { line = fault.line; fault = cause_code fault.cause }
+
+  abbrev pub LoopStops : List ℕ → Failure → Type 0
+  LoopStops bytes (failure.Schedule at) = LoopStopsAtLine bytes at
+  LoopStops bytes other = ⊥

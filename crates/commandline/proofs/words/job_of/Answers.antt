@@ -7,7 +7,7 @@ use Rattle.clap.specs.declared.error.kind.ErrorKind.TheVariants.{OutOfMemory}
 use Rattle.commandline.proofs.Naming.{dash_job, map-none, no_job, refused_ask_for_nothing}
 use Rattle.commandline.specs.declared.fault.WordsFault.TheVariants.{Memory, NoForm}
 use Rattle.jobs.specs.declared.job.Work.{Work}
-use Rattle.jobs.specs.declared.job.Work.TheVariants.{Replay, Check}
+use Rattle.jobs.specs.declared.job.Work.TheVariants.{Replay, Loopback, Check}
 use Rattle.commandline.specs.Forms.{forms, given_file, given_folder, given_name, name_of}
 use Rattle.commandline.proofs.words.job_of.Goals as goal
 
@@ -17,21 +17,25 @@ dash work = name_of work ∷ codes "-" ∷ []
 is_taken : (work : Work) → takes forms (dash work) ≡ true
 unfolding clap_on_literals
 is_taken Replay = refl
+is_taken Loopback = refl
 is_taken Check = refl
 
 gives_its_name : (work : Work) → given_name (subcommand_of forms (dash work)) ≡ Some (name_of work)
 unfolding clap_on_literals
 gives_its_name Replay = refl
+gives_its_name Loopback = refl
 gives_its_name Check = refl
 
 gives_a_dash : (work : Work) → given_file (subcommand_of forms (dash work)) ≡ Some (codes "-")
 unfolding clap_on_literals
 gives_a_dash Replay = refl
+gives_a_dash Loopback = refl
 gives_a_dash Check = refl
 
 gives_no_folder : (work : Work) → given_folder (subcommand_of forms (dash work)) ≡ None
 unfolding clap_on_literals
 gives_no_folder Replay = refl
+gives_no_folder Loopback = refl
 gives_no_folder Check = refl
 
 no_words_give_none : None ≡ given_folder (subcommand_of forms [])

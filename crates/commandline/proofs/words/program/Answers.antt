@@ -3,8 +3,8 @@ use Rattle.std.proofs.Common.{rules, ◌≡◌, ◌∙◌, ◌||◌, ap, ap₂, 
 use Rattle.std.proofs.lemmas.Result.{IfOk-weaker}
 use Rattle.clap.specs.Simple.{app_of_fields}
 use Rattle.clap.specs.Words.{App, app_of, new_app, rule_of, with_rule, with_subcommand}
-use Rattle.jobs.specs.declared.job.Work.TheVariants.{Replay, Check}
-use Rattle.commandline.specs.Forms.{file, folder, name_of, file_form, replay_form, with_names_alone, without_help}
+use Rattle.jobs.specs.declared.job.Work.TheVariants.{Loopback}
+use Rattle.commandline.specs.Forms.{folder, name_of, file_form, replay_form, with_names_alone, without_help}
 use Rattle.commandline.proofs.words.program.Goals as goal
 
 abbrev without_name : App → App
@@ -17,37 +17,30 @@ abbrev with_command : App → App
 with_command a = record a { top = record a.top { subcommand_required = true } }
 
 -- nor does an argument add one
-neither : (a : Bool) → a ≡ false → ((a || false) || false) ≡ false
+neither : (a : Bool) → a ≡ false → (a || false) ≡ false
 neither true e = e
 neither false e = refl
 
 pub returns : goal.returns
 returns c =
-    let replay_file : rule_of c.required.result ≡ file = search rules in
-    let bare_replay : app_of c.disable_help_flag.result ≡ without_help (new_app (name_of Replay)) =
-    ap app_of_fields c.disable_help_flag.ensures ∙ ap without_help c.new.ensures.app in
-    let filed_replay : app_of c.in_ok-arg.field-0 ≡ file_form (name_of Replay) =
-    c.in_ok-arg.ensures.shape (search rules) ∙ ap₂ with_rule bare_replay replay_file in
     let replay_folder : rule_of c.long.result ≡ folder = search rules in
     let replay_is : app_of c.in_ok-replay.replay ≡ replay_form =
-    c.in_ok-replay.ensures.shape (search rules) ∙ ap₂ with_rule filed_replay replay_folder in
-    let file_local : c.required.result.global ≡ false = search rules in
+    c.in_ok-replay.ensures.shape (search rules) ∙ ap₂ with_rule c.in_ok-file_command.ensures.app replay_folder in
     let folder_local : c.long.result.global ≡ false = search rules in
-    let check_file : rule_of c.required-2.result ≡ file = search rules in
-    let bare_check : app_of c.disable_help_flag-2.result ≡ without_help (new_app (name_of Check)) =
-    ap app_of_fields c.disable_help_flag-2.ensures ∙ ap without_help c.new-4.ensures.app in
-    let check_is : app_of c.in_ok-check.check ≡ file_form (name_of Check) =
-    c.in_ok-check.ensures.shape (search rules) ∙ ap₂ with_rule bare_check check_file in
     let top_is : app_of c.subcommand_required.result ≡ with_names_alone (without_help (new_app (codes "mfpx"))) =
     ap app_of_fields c.subcommand_required.ensures ∙ ap with_command
     (ap app_of_fields c.disable_help_subcommand.ensures ∙ ap without_help_command
-    (ap app_of_fields c.disable_help_flag-3.ensures ∙ ap without_help
-    (ap app_of_fields c.no_binary_name.ensures ∙ ap without_name c.new-6.ensures.app))) in
+    (ap app_of_fields c.disable_help_flag.ensures ∙ ap without_help
+    (ap app_of_fields c.no_binary_name.ensures ∙ ap without_name c.new-2.ensures.app))) in
     let first_is : app_of c.in_ok-subcommand.field-0 ≡ with_subcommand (with_names_alone (without_help (new_app (codes "mfpx"))))
     replay_form.top =
     c.in_ok-subcommand.ensures.shape
-    (rw (c.in_ok-replay.ensures.globals, c.in_ok-arg.ensures.globals, folder_local, file_local)
-    (neither _ (rw (c.disable_help_flag.ensures) c.new.ensures.local)))
+    (rw (c.in_ok-replay.ensures.globals, folder_local) (neither _ c.in_ok-file_command.ensures.local))
     ∙ ap₂ with_subcommand top_is (ap (λ (a : App). a.top) replay_is) in
-    IfOk-weaker c.subcommand-2.result _ _
-    (λ r h. h.shape (search rules) ∙ ap₂ with_subcommand first_is (ap (λ (a : App). a.top) check_is)) c.subcommand-2.ensures
+    let second_is : app_of c.in_ok-subcommand-2.field-0 ≡ with_subcommand (with_subcommand (with_names_alone (without_help
+    (new_app (codes "mfpx")))) replay_form.top) (file_form (name_of Loopback)).top =
+    c.in_ok-subcommand-2.ensures.shape c.in_ok-loopback.ensures.local
+    ∙ ap₂ with_subcommand first_is (ap (λ (a : App). a.top) c.in_ok-loopback.ensures.app) in
+    IfOk-weaker c.subcommand-3.result _ _
+    (λ r h. h.shape c.in_ok-check.ensures.local ∙ ap₂ with_subcommand second_is (ap (λ (a : App). a.top) c.in_ok-check.ensures.app))
+    c.subcommand-3.ensures

@@ -3,8 +3,8 @@ use Rattle.std.proofs.lemmas.Result.{err_from_is_err_and}
 use Rattle.std.specs.Vec.Iter.{into_iter_items}
 use Rattle.stable.specs.contracts.scripted.ScriptedStable.TheImpl as scripted
 use Rattle.world.specs.Seen.{world_of}
-use Rattle.schedule.specs.Runs.{Leads}
-use Rattle.schedule.proofs.Running.{nothing_left, led_on, ends_here}
+use Rattle.schedule.specs.Runs.{IsDone, IsRefused, Leads}
+use Rattle.schedule.proofs.LineByLine.{nothing_left, one_more_done, stops_here}
 use Rattle.schedule.proofs.replaying.do_lines.Goals as goal
 
 pub loop-line-preserved : goal.loop-line-preserved
@@ -18,7 +18,7 @@ loop-line-preserved g c =
           let gone = c.in-Some.ensures.steps.1 in
           let short = ap length steps in
           omega arith;
-      led = led_on (scripted.ghosts g.row.S g.S.Stable g.S.Stable-dict) at.yielded line _ _ _ at.invariant.led c.in_ok-do_line.ensures.done;
+      led = one_more_done (IsDone (scripted.ghosts g.row.S g.S.Stable g.S.Stable-dict)) at.yielded line _ _ _ at.invariant.led c.in_ok-do_line.ensures.done;
     }
 
 pub returns-in_err-do_line-clause-ends : goal.returns-in_err-do_line-clause-ends
@@ -26,7 +26,8 @@ returns-in_err-do_line-clause-ends g c =
     let at = c.loop-line in
     let steps = c.in-Some.ensures.steps.0 in
     let p = err_from_is_err_and c.from_residual.result c.from_residual.ensures.1 in
-    rw (p.1, p.2) (ends_here (scripted.ghosts g.row.S g.S.Stable g.S.Stable-dict) _ at.yielded _ _ _ _ _ _ _
+    let storages = scripted.ghosts g.row.S g.S.Stable g.S.Stable-dict in
+    rw (p.1, p.2) (stops_here (IsDone storages) (IsRefused storages) _ at.yielded _ _ _ _ _ _ _
     (at.invariant.parts ∙ c.into_iter-line-iterator.ensures.into_iter_gives.0) steps
     at.invariant.led c.in_err-do_line.ensures.done)
 

@@ -1,10 +1,7 @@
-use Rattle.stable.specs.contracts.memory.MemStable as memory
-use Rattle.stable.specs.contracts.memory.MemStableStable.TheImpl as memory_stable
-use Rattle.stable.specs.contracts.scripted.ScriptedStable.TheImpl as scripted
 use Rattle.works.proofs.Endings.{check_ends}
 use Rattle.works.proofs.making.checked.Goals as goal
 
 pub returns-in-Err-clause-ends : goal.returns-in-Err-clause-ends
 returns-in-Err-clause-ends c =
-    check_ends (scripted.ghosts memory.the_row memory_stable.ghosts memory_stable.dict) _ c.in-Err.fault
-    c.document_failure.result c.in-Err.ensures.err c.document_failure.ensures.memory c.document_failure.ensures.told
+    check_ends _ c.in-Err.fault c.document_failure.result c.in-Err.ensures.err c.document_failure.ensures.memory
+    c.document_failure.ensures.told

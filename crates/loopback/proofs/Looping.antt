@@ -1,0 +1,57 @@
+-- Doing a schedule's lines to a cluster.
+use Rattle.std.proofs.Common.{◌≡◌, ◌⊎◌, inl, inr, ℕ, List, sym, ap, subst, length, Result, Ok, Err, IsErrOf}
+use Rattle.stable.specs.declared.memory.MemStable.{MemStable}
+use Rattle.world.specs.Events.{NamesNoFrame, NamesNoNode}
+use Rattle.world.specs.Rounds.{IsPartOfRound, NamesNoMember, RoundEnds}
+use Rattle.world.specs.declared.event.Event.{Event}
+use Rattle.world.specs.declared.fault.WorldFault.{WorldFault}
+use Rattle.world.specs.declared.fault.WorldFault.TheVariants as world_fault
+use Rattle.world.specs.declared.round_end.RoundEnd.{RoundEnd}
+use Rattle.cluster.specs.Clusters.{ClusterState}
+use Rattle.cluster.specs.declared.transport.Transport.{Ghosts as Transports}
+use Rattle.schedule.specs.Causes.{cause_of}
+use Rattle.schedule.specs.LineByLine.{AllDone}
+use Rattle.schedule.specs.Schedules.{Plan}
+use Rattle.schedule.specs.declared.action.Action.TheVariants.{Flush, Round}
+use Rattle.schedule.specs.declared.plan.ScheduleLine.{ScheduleLine}
+use Rattle.loopback.specs.Loops.{IsDone, IsRefused, PumpsTo, RunsTo, SendsOn, storages, text_of}
+
+abbrev failed : WorldFault → Result ℕ WorldFault
+failed fault = Err fault
+
+abbrev broken_off : WorldFault → Result RoundEnd WorldFault
+broken_off fault = Err fault
+
+module _ {T : Type 0} (transport : Transports T) where
+  -- what a pump that fails is refused for
+  pub pump_refused : (old new : ClusterState MemStable T) (fault : WorldFault) → PumpsTo transport old (failed fault) new
+      → (fault ≡ world_fault.FlushLimit) ⊎ (fault ≡ world_fault.Memory)
+      → IsRefused transport Flush old (cause_of fault) new
+  pump_refused old new fault pumps (inl e) =
+      subst (λ (f : WorldFault). IsRefused transport Flush old (cause_of f) new) (sym e)
+      (subst (λ (f : WorldFault). PumpsTo transport old (failed f) new) e pumps)
+  pump_refused old new fault pumps (inr e) =
+      subst (λ (f : WorldFault). IsRefused transport Flush old (cause_of f) new) (sym e)
+      (subst (λ (f : WorldFault). PumpsTo transport old (failed f) new) e pumps)
+
+  -- a round of the members that it was handed
+  pub round_done : (old new : ClusterState MemStable T) (node : ℕ) (handed members : List ℕ) (end : RoundEnd) → handed ≡ members
+      → RoundEnds storages old.pumped.world node handed end new.pumped.world → SendsOn transport old new
+      → IsDone transport (Round node members) old new
+  round_done old new node handed members end same ends sends =
+      (end, subst (λ (ms : List ℕ). RoundEnds storages old.pumped.world node ms end new.pumped.world) same ends, sends)
+
+  -- what it is refused for
+  pub round_refused : (old new : ClusterState MemStable T) (node : ℕ) (handed members : List ℕ) (fault : WorldFault) → handed ≡ members
+      → (IsErrOf (broken_off fault) world_fault.NoSuchNode → NamesNoMember (length old.pumped.world.nodes) node handed)
+      → (IsErrOf (broken_off fault) world_fault.NoSuchNode → new.pumped.world ≡ old.pumped.world)
+      → (IsErrOf (broken_off fault) world_fault.Memory → IsPartOfRound storages old.pumped.world node handed new.pumped.world)
+      → (fault ≡ world_fault.NoSuchNode) ⊎ (fault ≡ world_fault.Memory) → SendsOn transport old new
+      → IsRefused transport (Round node members) old (cause_of fault) new
+  round_refused old new node handed members fault same no_node unchanged memory (inl e) sends =
+      subst (λ (f : WorldFault). IsRefused transport (Round node members) old (cause_of f) new) (sym e)
+      (subst (λ (ms : List ℕ). NamesNoMember (length old.pumped.world.nodes) node ms) same (no_node (ap broken_off e)),
+      unchanged (ap broken_off e), sends)
+  round_refused old new node handed members fault same no_node unchanged memory (inr e) sends =
+      subst (λ (f : WorldFault). IsRefused transport (Round node members) old (cause_of f) new) (sym e)
+      (subst (λ (ms : List ℕ). IsPartOfRound storages old.pumped.world node ms new.pumped.world) same (memory (ap broken_off e)), sends)
