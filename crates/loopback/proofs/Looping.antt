@@ -10,11 +10,15 @@ use Rattle.world.specs.declared.round_end.RoundEnd.{RoundEnd}
 use Rattle.cluster.specs.Clusters.{ClusterState}
 use Rattle.cluster.specs.declared.transport.Transport.{Ghosts as Transports}
 use Rattle.schedule.specs.Causes.{cause_of}
-use Rattle.schedule.specs.LineByLine.{AllDone}
-use Rattle.schedule.specs.Schedules.{Plan}
+use Rattle.schedule.proofs.LineByLine.{ends_at_a_line, ends_at_the_last}
+use Rattle.schedule.specs.LineByLine.{AllDone, StopsAtOne}
+use Rattle.schedule.specs.Schedules.{Plan, last_number}
 use Rattle.schedule.specs.declared.action.Action.TheVariants.{Flush, Round}
 use Rattle.schedule.specs.declared.plan.ScheduleLine.{ScheduleLine}
-use Rattle.loopback.specs.Loops.{IsDone, IsRefused, PumpsTo, RunsTo, SendsOn, storages, text_of}
+use Rattle.schedule.specs.declared.replay_fault.ReplayCause.TheVariants.{Memory}
+use Rattle.schedule.specs.declared.replay_fault.ReplayFault.{ReplayFault}
+use Rattle.world.specs.Staying.{IsSafeOver}
+use Rattle.loopback.specs.Loops.{IsDone, IsRefused, PumpsTo, RunFails, RunsTo, SendsOn, storages, text_of}
 
 abbrev failed : WorldFault → Result ℕ WorldFault
 failed fault = Err fault
@@ -49,9 +53,42 @@ module _ {T : Type 0} (transport : Transports T) where
       → (fault ≡ world_fault.NoSuchNode) ⊎ (fault ≡ world_fault.Memory) → SendsOn transport old new
       → IsRefused transport (Round node members) old (cause_of fault) new
   round_refused old new node handed members fault same no_node unchanged memory (inl e) sends =
-      subst (λ (f : WorldFault). IsRefused transport (Round node members) old (cause_of f) new) (sym e)
-      (subst (λ (ms : List ℕ). NamesNoMember (length old.pumped.world.nodes) node ms) same (no_node (ap broken_off e)),
-      unchanged (ap broken_off e), sends)
+      subst (λ (f : WorldFault). IsRefused transport (Round node members) old (cause_of f) new) (sym e) (
+        subst (λ (ms : List ℕ). NamesNoMember (length old.pumped.world.nodes) node ms) same (no_node (ap broken_off e)),
+        unchanged (ap broken_off e),
+        sends,
+      )
   round_refused old new node handed members fault same no_node unchanged memory (inr e) sends =
       subst (λ (f : WorldFault). IsRefused transport (Round node members) old (cause_of f) new) (sym e)
       (subst (λ (ms : List ℕ). IsPartOfRound storages old.pumped.world node ms new.pumped.world) same (memory (ap broken_off e)), sends)
+
+  -- the text after all lines
+  pub runs_to : (plan : Plan) (lines : List ScheduleLine) (start end : ClusterState MemStable T) (text : List ℕ) → lines ≡ plan.lines
+      → AllDone (IsDone transport) lines start end → text ≡ text_of end → IsSafeOver storages end.pumped.world
+      → RunsTo transport plan start text
+  runs_to plan lines start end text same led told safe = record {
+    end = end;
+    led = subst (λ (ls : List ScheduleLine). AllDone (IsDone transport) ls start end) same led;
+    told = told;
+    safe = safe;
+  }
+
+  -- a line isn't done
+  pub run_ends_at : (plan : Plan) (lines : List ScheduleLine) (start end : ClusterState MemStable T) (fault : ReplayFault)
+      → lines ≡ plan.lines → StopsAtOne (IsDone transport) (IsRefused transport) lines start fault end
+      → IsSafeOver storages end.pumped.world → RunFails transport plan start fault
+  run_ends_at plan lines start end fault same ends safe = record {
+    end = end;
+    ends = ends_at_a_line (IsDone transport) (IsRefused transport) plan lines start end fault same ends;
+    safe = safe;
+  }
+
+  -- there is no text after all lines
+  pub run_ends_last : (plan : Plan) (lines : List ScheduleLine) (start end : ClusterState MemStable T) (last : ℕ)
+      → lines ≡ plan.lines → AllDone (IsDone transport) lines start end → last ≡ last_number plan
+      → IsSafeOver storages end.pumped.world → RunFails transport plan start (record { line = last; cause = Memory })
+  run_ends_last plan lines start end last same led is_last safe = record {
+    end = end;
+    ends = ends_at_the_last (IsDone transport) (IsRefused transport) plan lines start end last same led is_last;
+    safe = safe;
+  }

@@ -36,12 +36,12 @@ text_of c = told_of c.pumped.world ++ strangers_line c.pumped.strangers
 
 -- ---- what the lines do
 -- the storages of a cluster's world
-abbrev storages : Ghosts (Script MemStable)
+abbrev pub storages : Ghosts (Script MemStable)
 storages = scripted in_memory
 
 -- over a transport of which it is known what its calls may do
 module _ {T : Type 0} (transport : Transports T) where
-  abbrev At : Type 0
+  abbrev pub At : Type 0
   At = ClusterState MemStable T
 
   -- the frames that the world sent on the way went through the transport, in order, and nothing else; no stranger came

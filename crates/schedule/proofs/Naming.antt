@@ -1,5 +1,5 @@
 -- Naming node by node.
-use Rattle.std.proofs.Common.{◌≡◌, ◌≢◌, ℕ, List, [], ◌∷◌, ◌++◌, append_assoc, append-nil, refl, sym, ◌∙◌, ap, subst}
+use Rattle.std.proofs.Common.{◌≡◌, ℕ, List, [], ◌∷◌, ◌++◌, append_assoc, append-nil, sym, ◌∙◌, ap, subst}
 use Rattle.schedule.specs.Table.{IsNode, NameEach}
 
 -- the first words of the list name these nodes, and the others are left

@@ -1,5 +1,5 @@
 -- Doing line by line.
-use Rattle.std.proofs.Common.{◌≡◌, ◌⊎◌, inl, inr, ℕ, List, [], ◌∷◌, ◌++◌, length, refl, sym, ap, ◌∙◌, subst, arith, Result, Ok, Err, IfOk}
+use Rattle.std.proofs.Common.{◌≡◌, ◌⊎◌, inl, inr, ℕ, List, length, sym, ap, ◌∙◌, subst, Result, Ok, Err, IfOk}
 use Rattle.std.proofs.Common.{IfErr, IsErrOf}
 use Rattle.std.specs.Global.{Vec}
 use Rattle.stable.specs.Script.{Script}
