@@ -8,7 +8,11 @@ use Rattle.schedule.specs.Schedules.{IsRefusal, IsScheduleOf, Plan}
 use Rattle.stable.specs.declared.memory.MemStable.{MemStable}
 use Rattle.cluster.specs.Clusters.{ClusterState}
 use Rattle.cluster.specs.declared.transport.Transport.{Ghosts as Transports}
-use Rattle.loopback.specs.Loops.{RunFails}
+use Rattle.loopback.specs.Loops.{RunFails, RunsTo}
+use Rattle.stable.specs.Memory.{in_memory}
+use Rattle.stable.specs.Storages.{scripted}
+use Rattle.world.specs.Flushing.{IsStart}
+use Rattle.world.specs.Worlds.{WorldState}
 use Rattle.schedule.specs.declared.fault.ParseFault.{ParseFault}
 use Rattle.schedule.specs.declared.replay_fault.ReplayCause.{ReplayCause}
 use Rattle.schedule.specs.declared.replay_fault.ReplayCause.TheVariants as cause
@@ -16,7 +20,7 @@ use Rattle.schedule.specs.declared.replay_fault.ReplayFault.{ReplayFault}
 use Rattle.mfjson.specs.Faults.{IsFaultOf, code_of, index_of}
 use Rattle.mfjson.specs.declared.fault.MfFault.{MfFault}
 use Rattle.mfjson.specs.declared.fault.MfFault.TheVariants as document
-use Rattle.works.specs.Works.{CheckStops, IsUnread, IsJoined, LoopStops, ReplayStops, StopsOver}
+use Rattle.works.specs.Works.{CheckStops, IsJoined, IsLooped, IsUnread, LoopStops, ReplayStops, StopsOver}
 use Rattle.endings.specs.declared.failure.Failure.{Failure}
 use Rattle.endings.specs.declared.failure.Failure.TheVariants.{Schedule, Document, NotEmpty, Memory}
 
@@ -90,19 +94,36 @@ module _ {S : Type 0} (storages : Ghosts S) (stores : List S) (plan : Plan) wher
       let named : fault.cause ≢ cause.Memory = λ e. other (memory e) in
       by_cause fault fault.cause failure refl ends named used (line named)
 
+-- a fresh world that a transport has joined
+pub is_joined : {T : Type 0} (nodes : ℕ) (w : WorldState MemStable) (transport : T) (c : ClusterState MemStable T)
+    → c ≡ record { pumped = record { world = w; strangers = 0 }; transport = transport }
+    → IsStart (scripted in_memory) nodes w → IsJoined nodes c
+is_joined {T} nodes w transport c same starts =
+    subst (λ (x : ClusterState MemStable T). IsJoined nodes x) (sym same) (record { starts = starts; no_strangers = refl })
+
 -- what the end of a run through a transport is to the program
 module _ {T : Type 0} (transport : Transports T) where
-  pub loop_stops : (bytes : List ℕ) (plan : Plan) (start : ClusterState MemStable T) (fault : ReplayFault) (failure : Failure)
-      → IsScheduleOf bytes plan → IsJoined plan.nodes start → RunFails transport plan start fault
+  pub is_looped : (bytes text : List ℕ) (plan : Plan) (nodes : ℕ) (start : ClusterState MemStable T) → IsScheduleOf bytes plan
+      → nodes ≡ plan.nodes → IsJoined nodes start → RunsTo transport plan start text → IsLooped transport bytes text
+  is_looped bytes text plan nodes start spelled same joined runs = record {
+    plan = plan;
+    spelled = spelled;
+    start = start;
+    joined = subst (λ (n : ℕ). IsJoined n start) same joined;
+    runs = runs;
+  }
+
+  pub loop_stops : (bytes : List ℕ) (plan : Plan) (nodes : ℕ) (start : ClusterState MemStable T) (fault : ReplayFault)
+      (failure : Failure) → IsScheduleOf bytes plan → nodes ≡ plan.nodes → IsJoined nodes start → RunFails transport plan start fault
       → (fault.cause ≡ cause.Memory → failure ≡ Memory) → (fault.cause ≢ cause.Memory → HasLine fault failure)
       → failure ≢ Memory → LoopStops transport bytes failure
-  loop_stops bytes plan start fault failure spelled joined fails memory line other =
+  loop_stops bytes plan nodes start fault failure spelled same joined fails memory line other =
       let named : fault.cause ≢ cause.Memory = λ e. other (memory e) in
       subst (λ (f : Failure). LoopStops transport bytes f) (sym (line named)) (record {
         plan = plan;
         spelled = spelled;
         start = start;
-        joined = joined;
+        joined = subst (λ (n : ℕ). IsJoined n start) same joined;
         fault = fault;
         fails = fails;
         cause = named;
