@@ -1,6 +1,6 @@
 //! The sockets.
 
-ghost use Rattle.std.specs.Prelude.{[]};
+ghost use Rattle.std.specs.Prelude.{◌≡◌, [], IfOk, option_map, slice_get, vec_len};
 
 use cluster::{Transport, TransportFault};
 use std::alloc::Global;
@@ -30,7 +30,9 @@ struct End {
 
 impl Sockets {
     /// Sockets for so many nodes. An error is the system's, where it has none left, or no memory.
-    pub fn bind<N: Net>(net: &N, alloc: Global, count: Nodes) -> io::Result<Sockets> {
+    pub fn bind<N: Net>(net: &N, alloc: Global, count: Nodes) -> io::Result<Sockets>
+        ensures { IfOk result (λ sockets. vec_len sockets.ends ≡ count) }
+    {
         let mut ends = Vec::with_capacity(alloc, usize::from(count.count()))?;
         for _ in 0..count.count() {
             ends.push(End::bind(net)?)?;
@@ -41,8 +43,13 @@ impl Sockets {
     }
 
     /// Where a node's socket is found, or None where there is no such node.
-    pub fn address(&self, node: NodeId) -> Option<SocketAddr> {
-        Some(self.ends.get(usize::from(node.value()))?.address)
+    pub fn address(&self, node: NodeId) -> Option<SocketAddr>
+        ensures { result ≡ option_map (λ end. end.address) (slice_get self.now.ends.items node) }
+    {
+        match self.ends.get(usize::from(node.value())) {
+            Some(end) => Some(end.address),
+            None => None,
+        }
     }
 }
 
