@@ -20,6 +20,25 @@ fn schedules_and_their_transcripts(rt: HostRuntime) -> Result<(), Fail> {
     Ok(())
 }
 
+/// Through sockets the order of the lines isn't fixed, but for the last.
+#[test]
+fn schedules_through_sockets(rt: HostRuntime) -> Result<(), Fail> {
+    let (status, out, err) = answer(&rt, &["loopback", "-"], FIRST_RUN)?;
+    assert_eq!(rt; (status, err.as_str()), (0, ""));
+    assert_eq!(rt;
+        out.as_str().len(),
+        FIRST_LINES.len() + "strangers 0\n".len()
+    );
+    assert!(rt; out.as_str().ends_with("\nstrangers 0\n"));
+    for line in FIRST_LINES.lines() {
+        assert!(rt; out.as_str().contains(line), "{line}");
+    }
+    let (status, out, err) = answer(&rt, &["loopback", "-"], b"nodes 3\nflash\n")?;
+    assert_eq!(rt; (status, out.as_str()), (1, ""));
+    assert_eq!(rt; err.as_str(), "mfpx: line 2 fault 4\n");
+    Ok(())
+}
+
 /// A writer to `out` that fails is told even though the run succeeded.
 #[test]
 fn a_transcript_that_can_not_be_written(rt: HostRuntime) -> Result<(), Fail> {

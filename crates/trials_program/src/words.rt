@@ -13,7 +13,7 @@ fn owned(rt: &HostRuntime, words: &[&str]) -> Result<Vec<String>, Fail> {
 }
 
 // words, their work, and the file that they name, if they name one
-const JOBS: [(&[&str], Work, Option<&str>); 10] = [
+const JOBS: [(&[&str], Work, Option<&str>); 12] = [
     (&[], Work::Replay, None),
     (&["replay", "-"], Work::Replay, None),
     (&["replay", "--", "-"], Work::Replay, None),
@@ -25,7 +25,9 @@ const JOBS: [(&[&str], Work, Option<&str>); 10] = [
         Some("run.schedule"),
     ),
     (&["check", "bus-7.json"], Work::Check, Some("bus-7.json")),
+    (&["loopback", "-"], Work::Loopback, None),
     // names that are also something else
+    (&["loopback", "replay"], Work::Loopback, Some("replay")),
     (&["check", "replay"], Work::Check, Some("replay")),
     (&["replay", "--", "-x"], Work::Replay, Some("-x")),
     (&["replay", ""], Work::Replay, Some("")),
@@ -45,7 +47,7 @@ fn words_and_their_jobs(rt: HostRuntime) -> Result<(), Fail> {
     Ok(())
 }
 
-const NONE: [&[&str]; 37] = [
+const NONE: [&[&str]; 38] = [
     &[""],
     &["-"],
     &["--"],
@@ -75,7 +77,9 @@ const NONE: [&[&str]; 37] = [
     &["replay", "--d=records", "-"],
     &["--db=records", "replay", "-"],
     &["--db=records"],
-    &["loopback", "-"],
+    // nor does a loopback
+    &["loopback", "-", "--db", "records"],
+    &["loopback"],
     // calls for help and for the version
     &["--help"],
     &["-h"],

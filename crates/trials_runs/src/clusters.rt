@@ -13,7 +13,7 @@ use tpoint::Id;
 use wire::{NodeId, Nodes};
 use world::{Event, RoundEnd, World, WorldFault};
 
-fn node(value: u8) -> Result<NodeId, Fail> {
+pub(crate) fn node(value: u8) -> Result<NodeId, Fail> {
     Ok(NodeId::new(value).ok_or("a node")?)
 }
 
@@ -169,13 +169,16 @@ fn troubled(alloc: Global, trouble: Trouble) -> Result<Net, AllocError> {
     Ok(Net { queues, trouble })
 }
 
-fn three_nodes<T: Transport + Drop>(alloc: Global, transport: T) -> Result<Cluster<T>, Fail> {
+pub(crate) fn three_nodes<T: Transport + Drop>(
+    alloc: Global,
+    transport: T,
+) -> Result<Cluster<T>, Fail> {
     let world = World::new(alloc, Nodes::new(3).ok_or("nodes")?)?;
     Ok(Cluster::new(alloc, world, transport)?)
 }
 
 // Node 0 is asked to remove bus-7, and leads.
-fn asked<T: Transport + Drop>(alloc: Global, transport: T) -> Result<Cluster<T>, Fail> {
+pub(crate) fn asked<T: Transport + Drop>(alloc: Global, transport: T) -> Result<Cluster<T>, Fail> {
     let submission = Event::Submit {
         node: node(0)?,
         client: 7,
@@ -202,13 +205,17 @@ fn told<T: Transport>(alloc: Global, cluster: &Cluster<T>) -> Result<Vec<u8>, Al
 }
 
 // Whether its transcript has these lines, in some order.
-fn tells<T: Transport>(alloc: Global, cluster: &Cluster<T>, lines: &[&str]) -> Result<bool, Fail> {
+pub(crate) fn tells<T: Transport>(
+    alloc: Global,
+    cluster: &Cluster<T>,
+    lines: &[&str],
+) -> Result<bool, Fail> {
     let text = told(alloc, cluster)?;
     has_lines(alloc, str::from_utf8(text.as_slice())?, lines)
 }
 
 // Whether a text has these lines, in some order.
-fn has_lines(alloc: Global, text: &str, lines: &[&str]) -> Result<bool, Fail> {
+pub(crate) fn has_lines(alloc: Global, text: &str, lines: &[&str]) -> Result<bool, Fail> {
     let mut found = Vec::new(alloc);
     for line in text.lines() {
         found.push(line)?;
@@ -218,7 +225,7 @@ fn has_lines(alloc: Global, text: &str, lines: &[&str]) -> Result<bool, Fail> {
 }
 
 // What is told of one request, where all nodes learn what came of it.
-const REMOVED: [&str; 4] = [
+pub(crate) const REMOVED: [&str; 4] = [
     "learn 0 0 7:1",
     "learn 1 0 7:1",
     "learn 2 0 7:1",
