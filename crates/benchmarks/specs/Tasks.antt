@@ -16,7 +16,7 @@ use Rattle.benchmarks.specs.declared.task.ApplyWork.TheVariants as apply_work
 use Rattle.benchmarks.specs.declared.task.Sent.{Sent}
 use Rattle.benchmarks.specs.declared.task.Sent.TheVariants as sent
 use Rattle.benchmarks.specs.declared.task.PartWork.{PartWork}
-use Rattle.benchmarks.specs.declared.task.PartWork.TheVariants.{Tellings, Promises, Proposals, Overlapping}
+use Rattle.benchmarks.specs.declared.task.PartWork.TheVariants.{Tellings, Promises, Proposals, Overlapping, Flushed, Pumped}
 
 -- the word for a work
 abbrev pub point_name : PointWork → List ℕ
@@ -72,6 +72,8 @@ part_name Tellings = codes "tellings"
 part_name Promises = codes "promises"
 part_name Proposals = codes "proposals"
 part_name Overlapping = codes "overlapping"
+part_name Flushed = codes "flushed"
+part_name Pumped = codes "pumped"
 
 abbrev pub name_of : Work → List ℕ
 name_of (Scene work) = scene_name work

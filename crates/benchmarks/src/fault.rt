@@ -10,6 +10,7 @@ use stable::StableFault;
 use std::alloc::{AllocError, AllocFailed};
 use thiserror::Error;
 use tpoint::SeqFault;
+use world::WorldFault;
 
 /// Why a task is not done.
 #[derive(Clone, Copy, Debug, Drop, PartialEq, Eq, Error)]
@@ -83,6 +84,15 @@ impl From<TimeoutFault> for Fault {
     ghost from_gives = { λ _ fault. fault ≡ Memory };
 
     fn from(_refused: TimeoutFault) -> Fault {
+        Fault::Memory
+    }
+}
+
+// A world whose nodes and frames are all there, and whose flushes are short, is refused memory alone.
+impl From<WorldFault> for Fault {
+    ghost from_gives = { λ _ fault. fault ≡ Memory };
+
+    fn from(_refused: WorldFault) -> Fault {
         Fault::Memory
     }
 }

@@ -15,6 +15,7 @@
 #![tactic(auto)]
 
 mod acceptors;
+mod carrying;
 mod documents;
 mod execution;
 mod fault;

@@ -2,10 +2,11 @@
 
 ghost use Rattle.std.specs.Prelude.{IfOk};
 ghost use Rattle.benchmarks.specs.Sums.{SumsTo};
-ghost use Rattle.benchmarks.specs.Parts.{PartAnswers};
+ghost use Rattle.benchmarks.specs.Parts.{IsCarried, PartAnswers};
 ghost use Rattle.benchmarks.specs.declared.task.PartWork.TheVariants.{Tellings, Promises, Proposals, Overlapping};
 
 use crate::acceptors::{acceptor_of, promise_number};
+use crate::carrying::{flushed_number, pumped_number};
 use crate::fault::Fault;
 use crate::indexes::{index_of, overlap_number};
 use crate::leader::Leader;
@@ -23,6 +24,8 @@ pub fn part_total(alloc: Global, work: PartWork, size: u16, rounds: u32) -> Resu
         PartWork::Promises => promises_total(alloc, size, rounds),
         PartWork::Proposals => proposals_total(alloc, size, rounds),
         PartWork::Overlapping => overlapping_total(alloc, size, rounds),
+        PartWork::Flushed => flushed_total(alloc, size, rounds),
+        PartWork::Pumped => pumped_total(alloc, size, rounds),
     }
 }
 
@@ -70,6 +73,28 @@ fn overlapping_total(alloc: Global, entries: u16, rounds: u32) -> Result<u64, Fa
     let mut total = 0u64;
     for round in 0..rounds {
         let number = overlap_number(alloc, &index, entries, round)?;
+        total = total.wrapping_add(number);
+    }
+    Ok(total)
+}
+
+fn flushed_total(alloc: Global, requests: u16, rounds: u32) -> Result<u64, Fault>
+    ensures { IfOk result (SumsTo (IsCarried requests) rounds) }
+{
+    let mut total = 0u64;
+    for _ in 0..rounds {
+        let number = flushed_number(alloc, requests)?;
+        total = total.wrapping_add(number);
+    }
+    Ok(total)
+}
+
+fn pumped_total(alloc: Global, requests: u16, rounds: u32) -> Result<u64, Fault>
+    ensures { IfOk result (SumsTo (IsCarried requests) rounds) }
+{
+    let mut total = 0u64;
+    for _ in 0..rounds {
+        let number = pumped_number(alloc, requests)?;
         total = total.wrapping_add(number);
     }
     Ok(total)

@@ -113,6 +113,10 @@ pub enum PartWork {
     Proposals,
     /// Which of so many entries of a time index overlap a period.
     Overlapping,
+    /// Three nodes carry so many requests out, one after another; their frames are flushed.
+    Flushed,
+    /// The same through queues, which are pumped.
+    Pumped,
 }
 
 /// A work, how large that is on which it is done, and how many times.
@@ -282,6 +286,8 @@ fn part_work_of(name: &str) -> Option<PartWork>
         "promises" => Some(PartWork::Promises),
         "proposals" => Some(PartWork::Proposals),
         "overlapping" => Some(PartWork::Overlapping),
+        "flushed" => Some(PartWork::Flushed),
+        "pumped" => Some(PartWork::Pumped),
         _ => None,
     }
 }

@@ -1,0 +1,57 @@
+//! Requests that three nodes carry out, frame by frame.
+
+ghost use Rattle.std.specs.Prelude.{◌≤◌};
+
+use crate::fault::Fault;
+use crate::fleet::name;
+use crate::requests::CLIENT;
+use cluster::{Cluster, Queues};
+use sessions::Number;
+use std::alloc::Global;
+use store::Op;
+use wire::{NodeId, Nodes};
+use world::{Event, World};
+
+/// How many frames are delivered where a client asks for so much, one thing after another, and all frames are flushed each time.
+///
+/// Its feature is removed, again and again; as there is none, nothing but the log grows.
+pub fn flushed_number(alloc: Global, requests: u16) -> Result<u64, Fault> {
+    let mut world = World::new(alloc, Nodes::new(3).unwrap())?;
+    world.step(alloc, Event::Timeout(leader()))?;
+    let mut delivered = u64::from(world.flush(alloc)?);
+    for earlier in 0..requests {
+        world.step(alloc, submission(u64::from(earlier) + 1))?;
+        delivered = delivered.wrapping_add(u64::from(world.flush(alloc)?));
+    }
+    Ok(delivered)
+}
+
+/// The same through queues, which are pumped each time.
+pub fn pumped_number(alloc: Global, requests: u16) -> Result<u64, Fault> {
+    let world = World::new(alloc, Nodes::new(3).unwrap())?;
+    let mut cluster = Cluster::new(alloc, world, Queues::new(alloc)?)?;
+    cluster.step(alloc, Event::Timeout(leader()))?;
+    let mut delivered = u64::from(cluster.pump(alloc)?);
+    for earlier in 0..requests {
+        cluster.step(alloc, submission(u64::from(earlier) + 1))?;
+        delivered = delivered.wrapping_add(u64::from(cluster.pump(alloc)?));
+    }
+    Ok(delivered)
+}
+
+/// The node that leads.
+fn leader() -> NodeId {
+    NodeId::new(0).unwrap()
+}
+
+/// The client's request of a number.
+fn submission(number: u64) -> Event
+    requires { 1 ≤ number }
+{
+    Event::Submit {
+        node: leader(),
+        client: CLIENT,
+        number: Number::new(number).unwrap(),
+        op: Op::Remove(name(0)),
+    }
+}
