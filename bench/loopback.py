@@ -4,9 +4,9 @@
     bench/loopback.py [BENCHMARKS [MFPX]]    the two programs; where none is given, `rt run` in crates/benchmarks proves
                                              and builds the first, and the second is crates/mfpx/out/mfpx
 
-A client asks for so many things, one after another, and all frames are delivered after each: 6 for the campaign and 12 for
-each request. `flushed` and `pumped` are words of `benchmarks`, and are told in frames a second of processor time; so the
-two differ by what the index, the queues and the 100 idle passes of a pump cost. Through sockets the same is a schedule that
+A client asks for so many things, 64 at a time, as many as may wait, and all frames are delivered then: 18 for the campaign and its no-op,
+and 12 for each request. `flushed` and `pumped` are words of `benchmarks`, and are told in frames a second of processor time;
+so the two differ by what the index, the queues and the 100 idle passes of a pump cost. Through sockets the same is a schedule that
 `mfpx loopback` runs, told in frames a second of processor time and of the clock, beside `mfpx replay`.
 """
 
@@ -23,7 +23,7 @@ THROUGH_SOCKETS = (10, 1000)
 
 
 def frames(requests):
-    return 6 + 12 * requests
+    return 18 + 12 * requests
 
 
 def through_program(path, requests):
@@ -37,7 +37,8 @@ def through_program(path, requests):
 def schedule(requests):
     lines = ["nodes 3", "timeout 0", "flush"]
     for number in range(1, requests + 1):
-        lines += ["submit 0 7 %d remove bus-7" % number, "flush"]
+        lines += ["submit 0 7 %d remove bus-7" % number] + ["flush"] * (number % 64 == 0)
+    lines.append("flush")
     return "\n".join(lines) + "\n"
 
 

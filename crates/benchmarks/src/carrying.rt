@@ -12,18 +12,23 @@ use store::Op;
 use wire::{NodeId, Nodes};
 use world::{Event, World};
 
-/// How many frames are delivered where a client asks for so much, one thing after another, and all frames are flushed each time.
+/// So many requests of the client are made at a time, as many as may wait.
+const BATCH: u16 = 64;
+
+/// How many frames are delivered where a client asks for so much, one batch after another, and all frames are flushed each time.
 ///
 /// Its feature is removed, again and again; as there is none, nothing but the log grows.
 pub fn flushed_number(alloc: Global, requests: u16) -> Result<u64, Fault> {
     let mut world = World::new(alloc, Nodes::new(3).unwrap())?;
     world.step(alloc, Event::Timeout(leader()))?;
-    let mut delivered = u64::from(world.flush(alloc)?);
+    let mut delivered = 0u64;
     for earlier in 0..requests {
+        if earlier % BATCH == 0 {
+            delivered = delivered.wrapping_add(u64::from(world.flush(alloc)?));
+        }
         world.step(alloc, submission(u64::from(earlier) + 1))?;
-        delivered = delivered.wrapping_add(u64::from(world.flush(alloc)?));
     }
-    Ok(delivered)
+    Ok(delivered.wrapping_add(u64::from(world.flush(alloc)?)))
 }
 
 /// The same through queues, which are pumped each time.
@@ -31,12 +36,14 @@ pub fn pumped_number(alloc: Global, requests: u16) -> Result<u64, Fault> {
     let world = World::new(alloc, Nodes::new(3).unwrap())?;
     let mut cluster = Cluster::new(alloc, world, Queues::new(alloc)?)?;
     cluster.step(alloc, Event::Timeout(leader()))?;
-    let mut delivered = u64::from(cluster.pump(alloc)?);
+    let mut delivered = 0u64;
     for earlier in 0..requests {
+        if earlier % BATCH == 0 {
+            delivered = delivered.wrapping_add(u64::from(cluster.pump(alloc)?));
+        }
         cluster.step(alloc, submission(u64::from(earlier) + 1))?;
-        delivered = delivered.wrapping_add(u64::from(cluster.pump(alloc)?));
     }
-    Ok(delivered)
+    Ok(delivered.wrapping_add(u64::from(cluster.pump(alloc)?)))
 }
 
 /// The node that leads.
