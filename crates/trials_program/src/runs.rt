@@ -35,7 +35,7 @@ fn schedules_through_sockets(rt: HostRuntime) -> Result<(), Fail> {
     }
     let (status, out, err) = answer(&rt, &["loopback", "-"], b"nodes 3\nflash\n")?;
     assert_eq!(rt; (status, out.as_str()), (1, ""));
-    assert_eq!(rt; err.as_str(), "mfpx: line 2 fault 4\n");
+    assert_eq!(rt; err.as_str(), "mfpx: line 2 fault 2\n");
     Ok(())
 }
 
