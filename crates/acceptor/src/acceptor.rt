@@ -152,7 +152,7 @@ impl Acceptor {
     /// A promise tells four votes at most. Its range ends right before the first that finds no room, or with the log.
     ///
     /// A promise is written before it is told. `storage` is the one that was loaded. After `Device` only another load
-    /// tells what is promised. After `Memory` nothing is written or changed.
+    /// tells what is promised: here it is what it was. After `Memory` nothing is written or changed.
     pub fn on_prepare<S: Stable>(
         &mut self,
         alloc: Global,
@@ -176,8 +176,7 @@ impl Acceptor {
             → HasFailed S.fails storage.old storage.new
             (prepare_write (accepting_of self.old) ballot) }
         ensures memory { IsErrOf result StableFault.Memory → S.reads storage.old storage.new }
-        ensures memory_state { IsErrOf result StableFault.Memory
-            → accepting_of self.new ≡ accepting_of self.old }
+        ensures err_state { OnErr result (accepting_of self.new ≡ accepting_of self.old) }
         ensures not_damaged { ¬ IsErrOf result StableFault.Damaged }
     {
         if let Some(promised) = self.refusing(ballot) {
@@ -194,7 +193,7 @@ impl Acceptor {
     /// Answers an accept: the vote is cast, or refused since a greater ballot is promised.
     ///
     /// A vote is written before it is told. `storage` is the one that was loaded. After `Device` only another load
-    /// tells what is voted for. After `Memory` nothing is written or changed.
+    /// tells what is voted for: here it is what it was. After `Memory` nothing is written or changed.
     pub fn on_accept<S: Stable>(
         &mut self,
         alloc: Global,
@@ -215,8 +214,7 @@ impl Acceptor {
             × HasFailed S.fails storage.old storage.new w }
         ensures device_fits { IsErrOf result StableFault.Device → VoteFits vote }
         ensures memory { IsErrOf result StableFault.Memory → S.reads storage.old storage.new }
-        ensures memory_state { IsErrOf result StableFault.Memory
-            → accepting_of self.new ≡ accepting_of self.old }
+        ensures err_state { OnErr result (accepting_of self.new ≡ accepting_of self.old) }
         ensures not_damaged { ¬ IsErrOf result StableFault.Damaged }
     {
         if let Some(promised) = self.refusing(vote.ballot) {

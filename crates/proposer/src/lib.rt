@@ -8,6 +8,7 @@ mod allowed;
 mod campaign;
 mod choice;
 mod fault;
+mod limits;
 mod name;
 mod outgoing;
 mod proposer;
@@ -20,6 +21,7 @@ pub use allowed::{
     tick_is_allowed, timeout_is_allowed,
 };
 pub use fault::{SubmitFault, TimeoutFault};
+pub use limits::limits;
 pub use outgoing::{Outgoing, Recipients};
 pub use proposer::Proposer;
 pub use waiting::MOST_WAITING;

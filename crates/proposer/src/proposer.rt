@@ -165,7 +165,7 @@ impl Proposer {
             → (2 ^ 64 ≤ next_round self.old) × (self.new ≡ self.old) × (storage.new ≡ storage.old) }
         ensures used_up_refused { 2 ^ 64 ≤ next_round self.old → IsErrOf result TimeoutFault.RoundsUsedUp }
         ensures device { IsErrOf result TimeoutFault.Device
-            → S.fails storage.old key.Round (big_bytes 8 (next_round self.old)) storage.new }
+            → S.fails storage.old key.Round (big_bytes 8 (next_round self.old)) storage.new × (self.new ≡ self.old) }
         ensures memory { IsErrOf result TimeoutFault.Memory → S.reads storage.old storage.new × (self.new ≡ self.old) }
     {
         let first = Slot::new(learner.prefix()).unwrap();
@@ -195,12 +195,13 @@ impl Proposer {
         to_all(Message::Prepare { ballot, first })
     }
 
-    /// A promise has come. After `AllocError` the proposer must be dropped, and loaded again.
+    /// A promise has come. After `AllocError` the proposer must be dropped, and loaded again: its campaign holds part of what came.
     pub fn on_promise(&mut self, from: NodeId, promise: Promise) -> Result<(), AllocError>
         ensures counted { OnOk result (self.new ≡ with_promised self.old from promise) }
 
         // Only a promise that counts, and of whose votes one is kept, can be refused memory.
         ensures brings { OnErr result (IsSomeAnd self.old.campaign (λ k. BringsVotes k from promise)) }
+        ensures rest { OnErr result (self.new ≡ record self.old { campaign = self.new.campaign }) }
     {
         let Some(campaign) = &mut self.campaign else {
             return Ok(());
@@ -250,6 +251,7 @@ impl Proposer {
 
         // Only a leader that has something to send can be refused memory.
         ensures sending { OnErr result ((proposes self.old self.old.campaign (learning_of learner.now)).1 ≢ []) }
+        ensures rest { OnErr result (self.new ≡ record self.old { campaign = self.new.campaign }) }
     {
         let Some(campaign) = &mut self.campaign else {
             return Ok(Vec::new(alloc));
@@ -269,6 +271,7 @@ impl Proposer {
         ensures gathers { IfOk result (λ sends. (self.new, sends.items)
             ≡ gathers_on self.old self.old.campaign (prefix (learning_of learner.now))) }
         ensures sending { OnErr result ((gathers_on self.old self.old.campaign (prefix (learning_of learner.now))).1 ≢ []) }
+        ensures rest { OnErr result (self.new ≡ record self.old { campaign = self.new.campaign }) }
     {
         let mut sends = Vec::new(alloc);
         let Some(campaign) = &mut self.campaign else {

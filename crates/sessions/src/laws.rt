@@ -7,6 +7,8 @@ ghost use Rattle.sessions.specs.Asked.{Asked};
 ghost use Rattle.sessions.specs.Meaning.{Execution, RepliesAt, Answers, AreSound};
 ghost use Rattle.sessions.specs.declared.command.Command.{Command};
 
+use crate::request::MOST_PUT_POINTS;
+
 /// A list of commands can be executed, and in one way: it is settled which of its places count, and which database is
 /// there before each.
 pub fn one_execution()
@@ -30,4 +32,9 @@ pub fn one_answer_to_each_query()
 /// At each place of a list of commands the features are a database: at most 256, ascending by their ids.
 pub fn each_place_has_a_database()
     ensures { (l : List Command) (e : Execution l) (i : ℕ) → IsDatabase (e.before i) }
+{}
+
+/// A Put has at most 512 points.
+pub fn limits()
+    ensures { MOST_PUT_POINTS ≡ 512 }
 {}

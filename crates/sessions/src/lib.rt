@@ -16,7 +16,8 @@ mod session;
 
 pub use command::Command;
 pub use laws::{
-    each_place_has_a_database, one_answer_to_each_query, one_execution, one_reply_at_each_place,
+    each_place_has_a_database, limits, one_answer_to_each_query, one_execution,
+    one_reply_at_each_place,
 };
 pub use machine::Machine;
 pub use number::Number;

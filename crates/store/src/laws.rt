@@ -10,6 +10,8 @@ ghost use Rattle.store.specs.Features.{AreValid, IsDatabase};
 ghost use Rattle.store.specs.Operations.{effect, IsSound};
 ghost use Rattle.store.specs.declared.op.Op.{Op};
 
+use crate::db::MOST_FEATURES;
+
 /// Two texts that answer one query over the same features are equal, byte for byte.
 pub fn an_answer_is_one()
     ensures { (fs : List Feature) (q : Query) (a b : List ℕ) → AreValid fs → IsAnswer fs q a → IsAnswer fs q b → a ≡ b }
@@ -25,4 +27,9 @@ pub fn features_stay_valid()
 pub fn features_stay_a_database()
     ensures start { IsDatabase [] }
     ensures kept { (fs : List Feature) (op : Op) → IsDatabase fs → IsDatabase (effect fs op) }
+{}
+
+/// A database has at most 256 features.
+pub fn limits()
+    ensures { MOST_FEATURES ≡ 256 }
 {}

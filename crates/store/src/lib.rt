@@ -18,7 +18,7 @@ mod query;
 mod reply;
 
 pub use db::{Db, MOST_FEATURES};
-pub use laws::{an_answer_is_one, features_stay_a_database, features_stay_valid};
+pub use laws::{an_answer_is_one, features_stay_a_database, features_stay_valid, limits};
 pub use op::{Addition, Op};
 pub use query::Query;
 pub use reply::Reply;

@@ -3,7 +3,7 @@
 ghost use Rattle.std.specs.Prelude.{◌≡◌, ◌<◌, [], length, slice_get, slice_set, Some, IsTrue, IfOk, IfErr, OnOk, OnErr, IsOk};
 ghost use Rattle.std.specs.List.{remove};
 ghost use Rattle.timeindex.specs.Ascending.{IsAt, IsGap};
-ghost use Rattle.timeindex.specs.Entries.{Entry, overlaps, id_of, is_known, with_entry, without_entry, ids_overlapping};
+ghost use Rattle.timeindex.specs.Entries.{Entry, IsSet, overlaps, id_of, is_known, with_entry, without_entry, ids_overlapping};
 
 use crate::kept::Kept;
 use std::alloc::{AllocError, Global};
@@ -47,6 +47,7 @@ impl TimeIndex {
             (self.new ≡ with_entry self.old (record { id = id; first = first; last = last })) }
         ensures known { IsTrue (is_known self.old id) → IsOk result }
         ensures err { OnErr result (self.new ≡ self.old) }
+        ensures set { IsSet self.new }
     {
         match self.place(&id) {
             Ok(at) => self.entries[at].replace(first, last),
@@ -62,8 +63,9 @@ impl TimeIndex {
     /// takes no memory.
     pub fn replace(&mut self, place: usize, first: Instant, last: Instant)
         requires { place < length self.old }
-        ensures { (e : Entry) → slice_get self.old place ≡ Some e
+        ensures value { (e : Entry) → slice_get self.old place ≡ Some e
             → self.new ≡ slice_set self.old place (record e { first = first; last = last }) }
+        ensures set { IsSet self.new }
     {
         self.entries[place].replace(first, last);
     }
@@ -72,6 +74,7 @@ impl TimeIndex {
     pub fn remove(&mut self, id: &Id) -> bool
         ensures told { result ≡ is_known self.old id.now }
         ensures value { self.new ≡ without_entry self.old id.now }
+        ensures set { IsSet self.new }
     {
         let Ok(at) = self.place(id) else {
             return false;
@@ -83,7 +86,8 @@ impl TimeIndex {
     /// Takes out the entry at a place, in the byte order of ids.
     pub fn remove_at(&mut self, place: usize)
         requires { place < length self.old }
-        ensures { self.new ≡ remove self.old place }
+        ensures value { self.new ≡ remove self.old place }
+        ensures set { IsSet self.new }
     {
         self.entries.remove(place);
     }
@@ -96,9 +100,10 @@ impl TimeIndex {
         self.entries[place].overlaps(period)
     }
 
-    /// The ids of the entries that have an instant in the period, in byte order.
+    /// The ids of the entries that have an instant in the period, in byte order. Only where there is one is memory taken.
     pub fn overlapping(&self, alloc: Global, period: &Period) -> Result<Vec<Id>, AllocError>
-        ensures { IfOk result (λ ids. ids.items ≡ ids_overlapping self.now period.now) }
+        ensures value { IfOk result (λ ids. ids.items ≡ ids_overlapping self.now period.now) }
+        ensures none { ids_overlapping self.now period.now ≡ [] → IsOk result }
     {
         let mut ids = Vec::new(alloc);
         for entry in &self.entries {

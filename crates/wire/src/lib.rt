@@ -5,6 +5,7 @@
 #![tactic(auto)]
 
 mod frames;
+mod limits;
 mod node_set;
 mod nodes;
 
@@ -13,6 +14,7 @@ pub use frames::{
     Promise, WireFault, ballot_of_record, ballot_record, decode, encode, no_frame_begins_another,
     round_of_record, round_record, vote_of_record, vote_record,
 };
+pub use limits::limits;
 pub use node_set::NodeSet;
 pub use nodes::{NodeId, Nodes};
 

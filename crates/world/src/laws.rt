@@ -7,6 +7,7 @@ ghost use Rattle.world.specs.Tallies.{StepsTally};
 ghost use Rattle.world.specs.Worlds.{WorldState};
 ghost use Rattle.world.specs.declared.lists.Answered.{Answered};
 
+use super::log::MOST_DELIVERIES;
 use stable::{Scripted, Stable};
 
 /// As many learnt slots, replies and answers are listed as outcomes tell of: at the start, and after every step.
@@ -24,4 +25,9 @@ pub fn answers_are_one<S>()
 /// No step but its restart makes the next ballot of a node lower, as long as it stays up: what a round was told of stays below it.
 pub fn ballots_never_fall<S: Stable>()
     ensures { BallotsNeverFall (⟦<Scripted<S> as Stable>⟧) }
+{}
+
+/// A flush delivers at most 10,000 frames.
+pub fn limits()
+    ensures { MOST_DELIVERIES ≡ 10000 }
 {}

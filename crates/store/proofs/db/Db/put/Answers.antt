@@ -75,4 +75,4 @@ invariant_of-self c =
     replaced_kept c.self.inside.features.items _ c.self.inside.index c.replace.new.self f c.index_mut.result.now
     c.begin.result c.end.result c.in-Ok.at c.self.invariant within refl (ap (λ (g : Feature). g.id) c.index_mut.ensures.value)
     (c.begin.ensures.value ∙ ap (λ (s : Span). s.begin) spans) (c.end.ensures.value ∙ ap (λ (s : Span). s.end) spans)
-    c.replace.ensures
+    c.replace.ensures.value

@@ -24,4 +24,4 @@ pub invariant_of-self : goal.invariant_of-self
 invariant_of-self c =
     let at = subst (λ fs. IsAt fs c.args.id.now c.in-Ok.at) (sym c.self.view_is) c.in-Ok.ensures.found in
     removed_kept c.self.inside.features.items c.remove.new.self.items c.self.inside.index c.remove_at.new.self c.args.id.now c.in-Ok.at
-    c.self.invariant at c.remove.ensures.items c.remove_at.ensures
+    c.self.invariant at c.remove.ensures.items c.remove_at.ensures.value
