@@ -8,10 +8,10 @@ mod allowed;
 mod campaign;
 mod choice;
 mod fault;
-mod limits;
 mod name;
 mod outgoing;
 mod proposer;
+mod sizes;
 mod waiting;
 mod window;
 
@@ -21,8 +21,8 @@ pub use allowed::{
     tick_is_allowed, timeout_is_allowed,
 };
 pub use fault::{SubmitFault, TimeoutFault};
-pub use limits::limits;
 pub use outgoing::{Outgoing, Recipients};
 pub use proposer::Proposer;
+pub use sizes::limits;
 pub use waiting::MOST_WAITING;
 pub use window::MOST_OPEN;

@@ -5,18 +5,18 @@
 #![tactic(auto)]
 
 mod frames;
-mod limits;
 mod node_set;
 mod nodes;
+mod sizes;
 
 pub use frames::{
     Entries, Entry, Envelope, Frame, Kind, LONGEST_FRAME, MAGIC, MOST_ENTRIES, Message, Nack,
     Promise, WireFault, ballot_of_record, ballot_record, decode, encode, no_frame_begins_another,
     round_of_record, round_record, vote_of_record, vote_record,
 };
-pub use limits::limits;
 pub use node_set::NodeSet;
 pub use nodes::{NodeId, Nodes};
+pub use sizes::limits;
 
 // What the values above are made of.
 pub use sessions::{Command, MOST_PUT_POINTS, Number, Request, TooLong};
