@@ -72,6 +72,7 @@ impl Queues {
         ensures tape { IsTrue self.new.tells → IfOk passed (λ p. self.new.tape.items ≡ self.old.tape.items ++ p ∷ []) }
         ensures ok { IsTrue self.new.tells → IsOk passed }
         ensures told { IsTrue self.new.tells → IsTrue self.old.tells }
+        ensures kept { ¬ IsTrue self.new.tells → self.new.tape.items ≡ self.old.tape.items }
     {
         if !self.tells {
             return;

@@ -36,7 +36,8 @@ impl<T: Drop> From<AllocFailed<T>> for TransportFault {
 /// assumed of what a poll hands over.
 ///
 /// Its meaning is a tape, and whether it tells. A transport that tells lists on its tape whatever is sent and polled, in the
-/// order of the calls, and also where these fail. One that tells no more never tells again.
+/// order of the calls, and also where these fail. One that tells no more never tells again, and its tape stays as it is: what
+/// is missing is missing at the end.
 pub trait Transport {
     /// What was sent and polled, the oldest first.
     ghost tape: { Self → List Passage };
@@ -53,10 +54,12 @@ pub trait Transport {
         bytes: &[u8],
     ) -> Result<(), TransportFault>
         ensures tape { Tells self.new → tape self.new ≡ tape self.old ++ Sent from to bytes.now ∷ [] }
-        ensures told { Tells self.new → Tells self.old };
+        ensures told { Tells self.new → Tells self.old }
+        ensures kept { ¬ Tells self.new → tape self.new ≡ tape self.old };
 
     /// A datagram that has come to the node, or None where none has.
     fn poll(&mut self, alloc: Global, node: NodeId) -> Result<Option<Vec<u8>>, TransportFault>
         ensures tape { Tells self.new → tape self.new ≡ tape self.old ++ Polled node (handed_over result) ∷ [] }
-        ensures told { Tells self.new → Tells self.old };
+        ensures told { Tells self.new → Tells self.old }
+        ensures kept { ¬ Tells self.new → tape self.new ≡ tape self.old };
 }
