@@ -7,9 +7,11 @@ use Rattle.jobs.specs.declared.job.Work.{Work}
 use Rattle.jobs.specs.declared.job.Work.TheVariants.{Replay, Loopback, Check}
 use Rattle.endings.specs.declared.failure.Failure.{Failure}
 use Rattle.cluster.specs.declared.transport.Transport.{Ghosts as Transports}
+use Rattle.datagrams.specs.Counts.{socket_count}
+use Rattle.datagrams.specs.declared.sockets.Sockets.{Sockets}
 use Rattle.schedule.specs.Runs.{IsReplay, IsRunOver}
 use Rattle.schedule.specs.Schedules.{IsScheduleOf, Plan}
-use Rattle.works.specs.Works.{CheckStops, IsChecked, IsLooped, IsUnread, LoopStops, ReplayStops, StopsOver}
+use Rattle.works.specs.Works.{CheckStops, IsChecked, IsLoopedOver, IsUnread, LoopStopsOver, ReplayStops, StopsOver}
 
 -- these may be the bytes that the words name: of the input all that it has left, where that is known; of a file nothing
 -- is known
@@ -32,8 +34,26 @@ module _ {F : Type 0} (files : Ghosts F) where
     pub stores : List F
     pub stops : StopsOver files stores plan failure
 
--- over storages in memory, and a transport for each run that goes through one
-module _ {S F T : Type 0} (storages : Ghosts (Script S)) (files : Ghosts F) (transport : Transports T) where
+-- through sockets of which it is known what their calls may do
+module _ (transport : Transports Sockets) where
+  -- the bytes spell a schedule, and the text is that of its run through as many sockets as it has nodes
+  pub record IsLooped (bytes text : List ℕ) : Type 0 where
+    pub plan : Plan
+    pub spelled : IsScheduleOf bytes plan
+    pub sockets : Sockets
+    pub one_each : socket_count sockets ≡ plan.nodes
+    pub runs : IsLoopedOver transport sockets plan text
+
+  -- they spell one whose run ends so
+  pub record LoopStops (bytes : List ℕ) (failure : Failure) : Type 0 where
+    pub plan : Plan
+    pub spelled : IsScheduleOf bytes plan
+    pub sockets : Sockets
+    pub one_each : socket_count sockets ≡ plan.nodes
+    pub stops : LoopStopsOver transport sockets plan failure
+
+-- over storages in memory, and in files, and through sockets
+module _ {S F : Type 0} (storages : Ghosts (Script S)) (files : Ghosts F) (transport : Transports Sockets) where
   -- the text is what the work makes of the bytes; a replay has its records in memory, or in files of a folder
   abbrev pub MakesIn : Work → Option (List ℕ) → List ℕ → List ℕ → Type 0
   MakesIn Replay None bytes text = IsReplay storages bytes text

@@ -4,7 +4,8 @@ ghost use Rattle.std.specs.Prelude.{◌≡◌, ◌≢◌, ◌≤◌, ◌⊎◌, 
 ghost use Rattle.std.specs.Prelude.{string_bytes, true, IfOk, IfErr, IfSome, OnErr, OnOk};
 ghost use Rattle.endings.specs.Failures.{line_text, status_of};
 ghost use Rattle.commandline.specs.Forms.{AskFor, NameInput, text_of as name_text};
-ghost use Rattle.console.specs.Jobs.{EndsIn, IsAnswer, IsFaulty, IsKept, MakesIn, Stops};
+ghost use Rattle.console.specs.Jobs.{EndsIn, IsAnswer, IsFaulty, IsKept, IsLooped, LoopStops, MakesIn, Stops};
+ghost use Rattle.datagrams.specs.Counts.{socket_count};
 ghost use Rattle.schedule.specs.Runs.{IsRunOver};
 ghost use Rattle.works.specs.Works.{IsUnread, StopsOver};
 ghost use Rattle.endings.specs.Streams.{Takes, Tells};
@@ -23,7 +24,8 @@ use stable::{MemStable, Scripted, Stable};
 use std::alloc::Global;
 use std::fs;
 use std::io::{Read, Write};
-use works::{checked, looped, made_over, planned, transcript};
+use wire::Nodes;
+use works::{checked, looped_over, made_over, planned, transcript};
 
 /// Runs the program on the words after its name, and answers its exit status. What it makes, a
 /// transcript or a document, goes to `out`, and only once all of it is made; why there is nothing
@@ -140,7 +142,7 @@ fn text_of(
     match (work, folder) {
         (Work::Replay, None) => transcript(rt.alloc(), bytes),
         (Work::Replay, Some(folder)) => kept(rt, folder, bytes),
-        (Work::Loopback, _) => looped(rt, rt.alloc(), bytes),
+        (Work::Loopback, _) => looped(rt, bytes),
         (Work::Check, _) => checked(rt.alloc(), bytes),
     }
 }
@@ -183,6 +185,30 @@ fn made_in(rt: &HostRuntime, folder: &str, schedule: Schedule) -> Result<Vec<u8>
 {
     let stores = open_all(rt, folder, schedule.nodes())?;
     made_over(rt.alloc(), schedule, stores)
+}
+
+/// The text of the schedule that the bytes spell, run over UDP: each node has a socket of 127.0.0.1, through which the frames to
+/// it go. A socket that can't be had is a device that fails.
+fn looped(rt: &HostRuntime, bytes: &[u8]) -> Result<Vec<u8>, Failure>
+    ensures looped { IfOk result (λ text. IsLooped (⟦<Sockets as Transport>⟧) bytes.now text.items) }
+    ensures ends { IfErr result (λ failure. failure ≢ Failure.Memory → failure ≢ Failure.Device
+        → IsUnread bytes.now failure ⊎ LoopStops (⟦<Sockets as Transport>⟧) bytes.now failure) }
+    ensures no_usage { IfErr result (λ failure. failure ≢ Failure.Usage) }
+{
+    let schedule = planned(rt.alloc(), bytes)?;
+    let sockets = bound(rt, schedule.nodes())?;
+    looped_over(rt.alloc(), schedule, sockets)
+}
+
+/// A socket for each node.
+fn bound(rt: &HostRuntime, count: Nodes) -> Result<Sockets, Failure>
+    ensures one_each { IfOk result (λ sockets. socket_count sockets ≡ count) }
+    ensures err { IfErr result (λ failure. (failure ≡ Failure.Device) ⊎ (failure ≡ Failure.Memory)) }
+{
+    match Sockets::bind(rt, rt.alloc(), count) {
+        Ok(sockets) => Ok(sockets),
+        Err(error) => Err(device_failure(&error)),
+    }
 }
 
 /// The bytes of the source.

@@ -1,6 +1,7 @@
 //! The sockets.
 
-ghost use Rattle.std.specs.Prelude.{◌≡◌, [], IfOk, option_map, slice_get, vec_len};
+ghost use Rattle.std.specs.Prelude.{◌≡◌, [], IfOk, option_map, slice_get};
+ghost use Rattle.datagrams.specs.Counts.{socket_count};
 
 use cluster::{Transport, TransportFault};
 use std::alloc::Global;
@@ -31,7 +32,7 @@ struct End {
 impl Sockets {
     /// Sockets for so many nodes. An error is the system's, where it has none left, or no memory.
     pub fn bind<N: Net>(net: &N, alloc: Global, count: Nodes) -> io::Result<Sockets>
-        ensures { IfOk result (λ sockets. vec_len sockets.ends ≡ count) }
+        ensures { IfOk result (λ sockets. socket_count sockets ≡ count) }
     {
         let mut ends = Vec::with_capacity(alloc, usize::from(count.count()))?;
         for _ in 0..count.count() {

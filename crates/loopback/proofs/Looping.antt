@@ -65,9 +65,8 @@ module _ {T : Type 0} (transport : Transports T) where
   -- the text after all lines
   pub runs_to : (plan : Plan) (lines : List ScheduleLine) (start end : ClusterState MemStable T) (text : List ℕ) → lines ≡ plan.lines
       → AllDone (IsDone transport) lines start end → text ≡ text_of end → IsSafeOver storages end.pumped.world
-      → RunsTo transport plan start text
+      → RunsTo transport plan start text end
   runs_to plan lines start end text same led told safe = record {
-    end = end;
     led = subst (λ (ls : List ScheduleLine). AllDone (IsDone transport) ls start end) same led;
     told = told;
     safe = safe;
@@ -76,9 +75,8 @@ module _ {T : Type 0} (transport : Transports T) where
   -- a line isn't done
   pub run_ends_at : (plan : Plan) (lines : List ScheduleLine) (start end : ClusterState MemStable T) (fault : ReplayFault)
       → lines ≡ plan.lines → StopsAtOne (IsDone transport) (IsRefused transport) lines start fault end
-      → IsSafeOver storages end.pumped.world → RunFails transport plan start fault
+      → IsSafeOver storages end.pumped.world → RunFails transport plan start fault end
   run_ends_at plan lines start end fault same ends safe = record {
-    end = end;
     ends = ends_at_a_line (IsDone transport) (IsRefused transport) plan lines start end fault same ends;
     safe = safe;
   }
@@ -86,9 +84,8 @@ module _ {T : Type 0} (transport : Transports T) where
   -- there is no text after all lines
   pub run_ends_last : (plan : Plan) (lines : List ScheduleLine) (start end : ClusterState MemStable T) (last : ℕ)
       → lines ≡ plan.lines → AllDone (IsDone transport) lines start end → last ≡ last_number plan
-      → IsSafeOver storages end.pumped.world → RunFails transport plan start (record { line = last; cause = Memory })
+      → IsSafeOver storages end.pumped.world → RunFails transport plan start (record { line = last; cause = Memory }) end
   run_ends_last plan lines start end last same led is_last safe = record {
-    end = end;
     ends = ends_at_the_last (IsDone transport) (IsRefused transport) plan lines start end last same led is_last;
     safe = safe;
   }

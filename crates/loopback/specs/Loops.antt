@@ -79,14 +79,12 @@ module _ {T : Type 0} (transport : Transports T) where
 
   -- ---- runs
   -- the lines lead to a cluster of which this is the text; its world is safe
-  pub record RunsTo (plan : Plan) (start : At) (text : List ℕ) : Type 0 where
-    pub end : At
+  pub record RunsTo (plan : Plan) (start : At) (text : List ℕ) (end : At) : Type 0 where
     pub led : AllDone IsDone plan.lines start end
     pub told : text ≡ text_of end
     pub safe : IsSafeOver storages end.pumped.world
 
   -- the run ends without a text, in a world that is safe as well
-  pub record RunFails (plan : Plan) (start : At) (fault : ReplayFault) : Type 0 where
-    pub end : At
+  pub record RunFails (plan : Plan) (start : At) (fault : ReplayFault) (end : At) : Type 0 where
     pub ends : EndsWithout IsDone IsRefused plan start fault end
     pub safe : IsSafeOver storages end.pumped.world

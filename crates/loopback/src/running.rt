@@ -22,19 +22,21 @@ use world::WorldFault;
 /// which order things are learnt, and whether they are, is the transport's affair; whatever it does, what is told is true.
 ///
 /// The world may have any past, which stands in the transcript too. An error is the first line that can't be done, as for a
-/// replay; `FlushLimit` comes where a pump has made as many Delivers as it may.
-pub fn run_through<T: Transport + Drop>(
+/// replay; `FlushLimit` comes where a pump has made as many Delivers as it may. The cluster is left as the lines made it, up to
+/// the one that can't be done.
+pub fn run_through<T: Transport>(
     alloc: Global,
     schedule: Schedule,
-    cluster: Cluster<T>,
+    cluster: &mut Cluster<T>,
 ) -> Result<Vec<u8>, ReplayFault>
-    ensures text { IfOk result (λ text. RunsTo (⟦<T as Transport>⟧) schedule (cluster_of cluster) text.items) }
-    ensures fault { IfErr result (RunFails (⟦<T as Transport>⟧) schedule (cluster_of cluster)) }
+    ensures text { IfOk result (λ text. RunsTo (⟦<T as Transport>⟧) schedule
+        (cluster_of cluster.old) text.items (cluster_of cluster.new)) }
+    ensures fault { IfErr result (λ fault. RunFails (⟦<T as Transport>⟧) schedule
+        (cluster_of cluster.old) fault (cluster_of cluster.new)) }
 {
-    let mut cluster = cluster;
     let last = schedule.last();
-    do_lines(alloc, &mut cluster, schedule.into_lines())?;
-    match cluster_text(alloc, &cluster) {
+    do_lines(alloc, cluster, schedule.into_lines())?;
+    match cluster_text(alloc, cluster) {
         Ok(text) => Ok(text),
         Err(_) => Err(ReplayFault {
             line: last,

@@ -20,7 +20,7 @@ use Rattle.schedule.specs.declared.replay_fault.ReplayFault.{ReplayFault}
 use Rattle.mfjson.specs.Faults.{IsFaultOf, code_of, index_of}
 use Rattle.mfjson.specs.declared.fault.MfFault.{MfFault}
 use Rattle.mfjson.specs.declared.fault.MfFault.TheVariants as document
-use Rattle.works.specs.Works.{CheckStops, IsJoined, IsLooped, IsUnread, LoopStops, ReplayStops, StopsOver}
+use Rattle.works.specs.Works.{CheckStops, IsJoined, IsLoopedOver, IsUnread, LoopStopsOver, ReplayStops, StopsOver}
 use Rattle.endings.specs.declared.failure.Failure.{Failure}
 use Rattle.endings.specs.declared.failure.Failure.TheVariants.{Schedule, Document, NotEmpty, Memory}
 
@@ -94,37 +94,36 @@ module _ {S : Type 0} (storages : Ghosts S) (stores : List S) (plan : Plan) wher
       let named : fault.cause ≢ cause.Memory = λ e. other (memory e) in
       by_cause fault fault.cause failure refl ends named used (line named)
 
--- a fresh world that a transport has joined
+-- a fresh world whose frames go through a transport
 pub is_joined : {T : Type 0} (nodes : ℕ) (w : WorldState MemStable) (transport : T) (c : ClusterState MemStable T)
     → c ≡ record { pumped = record { world = w; strangers = 0 }; transport = transport }
-    → IsStart (scripted in_memory) nodes w → IsJoined nodes c
+    → IsStart (scripted in_memory) nodes w → IsJoined nodes transport c
 is_joined {T} nodes w transport c same starts =
-    subst (λ (x : ClusterState MemStable T). IsJoined nodes x) (sym same) (record { starts = starts; no_strangers = refl })
+    subst (λ (x : ClusterState MemStable T). IsJoined nodes transport x) (sym same)
+    (record { starts = starts; no_strangers = refl; through = refl })
 
 -- what the end of a run through a transport is to the program
-module _ {T : Type 0} (transport : Transports T) where
-  pub is_looped : (bytes text : List ℕ) (plan : Plan) (nodes : ℕ) (start : ClusterState MemStable T) → IsScheduleOf bytes plan
-      → nodes ≡ plan.nodes → IsJoined nodes start → RunsTo transport plan start text → IsLooped transport bytes text
-  is_looped bytes text plan nodes start spelled same joined runs = record {
-    plan = plan;
-    spelled = spelled;
+module _ {T : Type 0} (transports : Transports T) (transport : T) (plan : Plan) where
+  pub is_looped : (text : List ℕ) (nodes : ℕ) (start end : ClusterState MemStable T) → nodes ≡ plan.nodes
+      → IsJoined nodes transport start → RunsTo transports plan start text end → IsLoopedOver transports transport plan text
+  is_looped text nodes start end same joined runs = record {
     start = start;
-    joined = subst (λ (n : ℕ). IsJoined n start) same joined;
+    joined = subst (λ (n : ℕ). IsJoined n transport start) same joined;
+    end = end;
     runs = runs;
   }
 
-  pub loop_stops : (bytes : List ℕ) (plan : Plan) (nodes : ℕ) (start : ClusterState MemStable T) (fault : ReplayFault)
-      (failure : Failure) → IsScheduleOf bytes plan → nodes ≡ plan.nodes → IsJoined nodes start → RunFails transport plan start fault
+  pub loop_stops : (nodes : ℕ) (start : ClusterState MemStable T) (fault : ReplayFault) (end : ClusterState MemStable T)
+      (failure : Failure) → nodes ≡ plan.nodes → IsJoined nodes transport start → RunFails transports plan start fault end
       → (fault.cause ≡ cause.Memory → failure ≡ Memory) → (fault.cause ≢ cause.Memory → HasLine fault failure)
-      → failure ≢ Memory → LoopStops transport bytes failure
-  loop_stops bytes plan nodes start fault failure spelled same joined fails memory line other =
+      → failure ≢ Memory → LoopStopsOver transports transport plan failure
+  loop_stops nodes start fault end failure same joined fails memory line other =
       let named : fault.cause ≢ cause.Memory = λ e. other (memory e) in
-      subst (λ (f : Failure). LoopStops transport bytes f) (sym (line named)) (record {
-        plan = plan;
-        spelled = spelled;
+      subst (λ (f : Failure). LoopStopsOver transports transport plan f) (sym (line named)) (record {
         start = start;
-        joined = subst (λ (n : ℕ). IsJoined n start) same joined;
+        joined = subst (λ (n : ℕ). IsJoined n transport start) same joined;
         fault = fault;
+        end = end;
         fails = fails;
         cause = named;
         told = refl;

@@ -95,32 +95,31 @@ module _ {S : Type 0} (storages : Ghosts S) (stores : List S) (plan : Plan) wher
   StopsOver other = ⊥
 
 -- ---- a run through a transport
--- a fresh world of so many nodes, with records in memory, and no stranger yet
-pub record IsJoined {T : Type 0} (nodes : ℕ) (c : ClusterState MemStable T) : Type 0 where
+-- a fresh world of so many nodes, with records in memory, whose frames go through this transport, and no stranger yet
+pub record IsJoined {T : Type 0} (nodes : ℕ) (transport : T) (c : ClusterState MemStable T) : Type 0 where
   pub starts : IsStart (scripted in_memory) nodes c.pumped.world
   pub no_strangers : c.pumped.strangers ≡ 0
+  pub through : c.transport ≡ transport
 
--- one of which it is known what its calls may do
-module _ {T : Type 0} (transport : Transports T) where
-  -- the bytes spell a schedule, and the text is what its lines lead a fresh cluster to tell
-  pub record IsLooped (bytes text : List ℕ) : Type 0 where
-    pub plan : Plan
-    pub spelled : IsScheduleOf bytes plan
+-- one that is handed over, which is known by what its calls may do
+module _ {T : Type 0} (transports : Transports T) (transport : T) (plan : Plan) where
+  -- the text is what the lines lead a fresh cluster to tell
+  pub record IsLoopedOver (text : List ℕ) : Type 0 where
     pub start : ClusterState MemStable T
-    pub joined : IsJoined plan.nodes start
-    pub runs : RunsTo transport plan start text
+    pub joined : IsJoined plan.nodes transport start
+    pub end : ClusterState MemStable T
+    pub runs : RunsTo transports plan start text end
 
-  -- they spell one whose run ends at this line, with this number, and not for want of memory
-  pub record LoopStopsAtLine (bytes : List ℕ) (at : FaultyLine) : Type 0 where
-    pub plan : Plan
-    pub spelled : IsScheduleOf bytes plan
+  -- the run ends at this line, with this number, and not for want of memory
+  pub record LoopStopsAtLine (at : FaultyLine) : Type 0 where
     pub start : ClusterState MemStable T
-    pub joined : IsJoined plan.nodes start
+    pub joined : IsJoined plan.nodes transport start
     pub fault : ReplayFault
-    pub fails : RunFails transport plan start fault
+    pub end : ClusterState MemStable T
+    pub fails : RunFails transports plan start fault end
     pub cause : fault.cause ≢ cause.Memory
     pub told : at ≡ record { line = fault.line; fault = cause_code fault.cause }
 
-  abbrev pub LoopStops : List ℕ → Failure → Type 0
-  LoopStops bytes (failure.Schedule at) = LoopStopsAtLine bytes at
-  LoopStops bytes other = ⊥
+  abbrev pub LoopStopsOver : Failure → Type 0
+  LoopStopsOver (failure.Schedule at) = LoopStopsAtLine at
+  LoopStopsOver other = ⊥

@@ -1,22 +1,20 @@
 //! What a work makes of bytes.
 
-ghost use Rattle.std.specs.Prelude.{◌≡◌, ◌≢◌, ◌⊎◌, [], ◌∷◌, ◌++◌, ℕ, List, IfErr, IfOk, vec_len};
+ghost use Rattle.std.specs.Prelude.{◌≡◌, ◌≢◌, [], ◌∷◌, ◌++◌, ℕ, List, IfErr, IfOk, vec_len};
 ghost use Rattle.cluster.specs.ClusterViews.{cluster_of};
 ghost use Rattle.schedule.specs.Runs.{IsReplay, IsRunOver};
 ghost use Rattle.schedule.specs.Schedules.{IsScheduleOf};
 ghost use Rattle.mfjson.specs.Document.{IsCanonical};
-ghost use Rattle.works.specs.Works.{CheckStops, IsChecked, IsJoined, IsLooped, IsUnread, LoopStops, ReplayStops, StopsOver};
+ghost use Rattle.works.specs.Works.{CheckStops, IsChecked, IsJoined, IsLoopedOver, IsUnread, LoopStopsOver, ReplayStops, StopsOver};
 
 use crate::failures::{document_failure, replay_failure, run_failure};
 use cluster::{Cluster, Transport};
-use datagrams::Sockets;
-use endings::{Failure, device_failure};
+use endings::Failure;
 use loopback::run_through;
 use mfjson::Feature;
 use schedule::{ReplayFault, Schedule, parse_schedule, replay, run};
 use stable::{MemStable, Scripted, Stable};
 use std::alloc::{AllocError, Global};
-use std::net::Net;
 use wire::Nodes;
 use world::World;
 
@@ -31,38 +29,6 @@ pub fn transcript(alloc: Global, bytes: &[u8]) -> Result<Vec<u8>, Failure>
         Ok(text) => Ok(text),
         Err(fault) => Err(replay_failure(fault)),
     }
-}
-
-/// The transcript of the schedule that the bytes spell, run over UDP: each node has a socket of 127.0.0.1, through which the
-/// frames to it go. Behind it stands how many datagrams were strangers. A socket that can't be had is a device that fails.
-pub fn looped<N: Net>(net: &N, alloc: Global, bytes: &[u8]) -> Result<Vec<u8>, Failure>
-    ensures looped { IfOk result (λ text. IsLooped (⟦<Sockets as Transport>⟧) bytes.now text.items) }
-    ensures ends { IfErr result (λ failure. failure ≢ Failure.Memory → failure ≢ Failure.Device
-        → IsUnread bytes.now failure ⊎ LoopStops (⟦<Sockets as Transport>⟧) bytes.now failure) }
-    ensures no_usage { IfErr result (λ failure. failure ≢ Failure.Usage) }
-{
-    let schedule = planned(alloc, bytes)?;
-    let cluster = joined(net, alloc, schedule.nodes())?;
-    match run_through(alloc, schedule, cluster) {
-        Ok(text) => Ok(text),
-        Err(fault) => Err(replay_failure(fault)),
-    }
-}
-
-/// A fresh world of so many nodes, whose frames go through sockets.
-fn joined<N: Net>(net: &N, alloc: Global, count: Nodes) -> Result<Cluster<Sockets>, Failure>
-    ensures fresh { IfOk result (λ cluster. IsJoined count (cluster_of cluster)) }
-    ensures err { IfErr result (λ failure. (failure ≡ Failure.Device) ⊎ (failure ≡ Failure.Memory)) }
-{
-    let sockets = match Sockets::bind(net, alloc, count) {
-        Ok(sockets) => sockets,
-        Err(error) => return Err(device_failure(&error)),
-    };
-    let world = match World::new(alloc, count) {
-        Ok(world) => world,
-        Err(_) => return Err(Failure::Memory),
-    };
-    Ok(Cluster::new(alloc, world, sockets)?)
 }
 
 /// The canonical form of the document that the bytes are, as a line.
@@ -102,6 +68,39 @@ pub fn made_over<S: Stable + Drop>(
     match run(alloc, schedule, stores) {
         Ok(text) => Ok(text),
         Err(fault) => Err(run_failure(fault)),
+    }
+}
+
+/// The transcript of the schedule's run over a fresh cluster whose frames go through this transport, and behind it how many datagrams
+/// were strangers.
+pub fn looped_over<T: Transport + Drop>(
+    alloc: Global,
+    schedule: Schedule,
+    transport: T,
+) -> Result<Vec<u8>, Failure>
+    ensures makes { IfOk result (λ text. IsLoopedOver T.Transport transport schedule text.items) }
+    ensures ends { IfErr result (λ failure. failure ≢ Failure.Memory
+        → LoopStopsOver T.Transport transport schedule failure) }
+{
+    let mut cluster = joined(alloc, schedule.nodes(), transport)?;
+    match run_through(alloc, schedule, &mut cluster) {
+        Ok(text) => Ok(text),
+        Err(fault) => Err(replay_failure(fault)),
+    }
+}
+
+/// A fresh world of so many nodes, whose frames go through the transport.
+fn joined<T: Transport + Drop>(
+    alloc: Global,
+    count: Nodes,
+    transport: T,
+) -> Result<Cluster<T>, Failure>
+    ensures fresh { IfOk result (λ cluster. IsJoined count transport (cluster_of cluster)) }
+    ensures memory { IfErr result (λ failure. failure ≡ Failure.Memory) }
+{
+    match World::new(alloc, count) {
+        Ok(world) => Ok(Cluster::new(alloc, world, transport)?),
+        Err(_) => Err(Failure::Memory),
     }
 }
 
