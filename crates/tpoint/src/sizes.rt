@@ -1,6 +1,6 @@
 //! How large things may be, as numbers. Nothing runs.
 
-ghost use Rattle.std.specs.Prelude.{◌≡◌};
+ghost use Rattle.std.specs.Prelude.{◌≡◌, pos};
 
 use super::coordinate::FURTHEST;
 use super::id::LONGEST_ID;
@@ -12,6 +12,6 @@ use super::seq::MOST_POINTS;
 pub fn limits()
     ensures id { LONGEST_ID ≡ 64 }
     ensures points { MOST_POINTS ≡ 1024 }
-    ensures coordinate { FURTHEST ≡ 10000000000 }
-    ensures instant { LAST_MS ≡ 253402300799999 }
+    ensures coordinate { FURTHEST ≡ pos 10000000000 }
+    ensures instant { LAST_MS ≡ pos 253402300799999 }
 {}
