@@ -19,6 +19,18 @@ invariant_of-self-in-Continue-branch-2 c =
           (with_element_ascending id_of c.self.inside.entries.items e c.self.invariant.ascending);
     }
 
+pub returns-in_ok-insert-in-Err-clause-set : goal.returns-in_ok-insert-in-Err-clause-set
+returns-in_ok-insert-in-Err-clause-set c =
+    let e : Entry = record { id = c.args.id; first = c.args.first; last = c.args.last } in
+    let gap = subst (λ es. IsGap id_of es c.args.id c.in-Err.at) (sym c.self.view_is) c.in-Err.ensures.absent in
+    let grown = c.in_ok-insert-in-Err.ensures.items ∙ ap (λ x. insert c.self.inside.entries.items c.in-Err.at x)
+    c.in_ok-entry-in-Err.ensures
+    ∙ insert-gap id_of c.self.inside.entries.items e c.in-Err.at gap in
+    record {
+      ascending = subst (IsAscending id_of) (sym grown)
+          (with_element_ascending id_of c.self.inside.entries.items e c.self.invariant.ascending);
+    }
+
 pub returns-in_err-entry-in-Err-clause-known : goal.returns-in_err-entry-in-Err-clause-known
 returns-in_err-entry-in-Err-clause-known c =
     let none = element_of-gap id_of _ _ _ c.in-Err.ensures.absent in
