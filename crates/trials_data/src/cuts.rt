@@ -52,9 +52,19 @@ fn found(
     (begin, end): (i64, i64),
     (begin_in, end_in): (bool, bool),
 ) -> Result<Option<Cut>, Fail> {
-    let period = Period::with(instant(begin)?, instant(end)?, begin_in, end_in).ok_or("period")?;
-    let seq = sequence(alloc, interp, listed)?;
-    Ok(cut(alloc, &seq, &period)?)
+    let period = period(instant(begin)?, instant(end)?, begin_in, end_in)?;
+    cut_of(alloc, sequence(alloc, interp, listed)?, period)
+}
+
+fn period(begin: Instant, end: Instant, begin_in: bool, end_in: bool) -> Result<Period, Fail> {
+    Ok(Period::with(begin, end, begin_in, end_in).ok_or("period")?)
+}
+
+fn cut_of(alloc: Global, seq: Seq, period: Period) -> Result<Option<Cut>, Fail> {
+    match cut(alloc, &seq, &period) {
+        Ok(found) => Ok(found),
+        Err(refused) => Err(refused.into()),
+    }
 }
 
 /// The same as text.

@@ -51,9 +51,14 @@ fn rect(x0: i64, y0: i64, x1: i64, y1: i64) -> Result<Rect, Fail> {
 fn filled(alloc: Global, features: &[(&str, Interp, &[(i64, i64, i64)])]) -> Result<Db, Fail> {
     let mut db = Db::new(alloc);
     for &(name, interp, listed) in features {
-        db.apply(&Op::Put(id(name)?, seq(alloc, interp, listed)?))?;
+        put(&mut db, id(name)?, seq(alloc, interp, listed)?)?;
     }
     Ok(db)
+}
+
+fn put(db: &mut Db, id: Id, seq: Seq) -> Result<(), Fail> {
+    let _done = db.apply(&Op::Put(id, seq))?;
+    Ok(())
 }
 
 const BUS: [(i64, i64, i64); 2] = [(0, 0, 0), (3000, 10, 5)];
@@ -263,11 +268,14 @@ fn is_copied(op: &Op) -> Result<bool, Fail> {
 
 #[test]
 fn copies_an_operation(rt: HostRuntime) -> Result<(), Fail> {
-    let append = operation(rt.alloc(), "append")?;
-    assert!(rt; is_copied(&append)?);
-    let remove = operation(rt.alloc(), "remove")?;
-    assert!(rt; append != remove);
+    assert!(rt; is_copied(&operation(rt.alloc(), "append")?)?);
+    assert!(rt; differ(rt.alloc(), "append", "remove")?);
     Ok(())
+}
+
+fn differ(alloc: Global, word: &str, other: &str) -> Result<bool, Fail> {
+    let op = operation(alloc, word)?;
+    Ok(op != operation(alloc, other)?)
 }
 
 #[test]
