@@ -5,6 +5,7 @@ use proposer::{Outgoing, Proposer, Recipients, SubmitFault, TimeoutFault};
 use sessions::{Command, Number, Request};
 use stable::{Key, MemStable, Stable, StableFault};
 use std::alloc::Global;
+use std::process::Abort;
 use std::test::Fail;
 use store::Op;
 use synod::{Ballot, Slot, Vote};
@@ -267,19 +268,28 @@ fn promise(
     last: u32,
     told: &[Told],
 ) -> Result<Promise, Fail> {
-    let mut entries = Entries::new(alloc);
-    for (at, under, client, number) in told {
-        let vote = Vote {
-            slot: slot(*at)?,
-            ballot: ballot(*under)?,
-            command: Command::Request(request(*client, *number)?),
-        };
-        entries.push(Entry::new(vote))?;
+    let (ballot, first, last) = (ballot(round)?, slot(first)?, slot(last)?);
+    match Promise::new(ballot, first, last, entries(alloc, told)?) {
+        Some(promise) => Ok(promise),
+        None => Err("promise".into()),
     }
-    let promise = Promise::new(ballot(round)?, slot(first)?, slot(last)?, entries).ok_or(
-        "promise",
-    )?;
-    Ok(promise)
+}
+
+fn entries(alloc: Global, told: &[Told]) -> Result<Entries, Fail> {
+    let mut entries = Entries::new(alloc);
+    for one in told {
+        entries.push(Entry::new(vote(*one)?))?;
+    }
+    Ok(entries)
+}
+
+fn vote((at, under, client, number): Told) -> Result<Vote<Command>, Fail> {
+    let (slot, ballot) = (slot(at)?, ballot(under)?);
+    Ok(Vote {
+        slot,
+        ballot,
+        command: Command::Request(request(client, number)?),
+    })
 }
 
 /// A node's proposer, with what is lent to it.
@@ -441,14 +451,17 @@ fn calls_send_what_the_tables_say(rt: HostRuntime) -> Result<(), Fail> {
 
 #[test]
 fn a_window_ends_with_the_log(rt: HostRuntime) -> Result<(), Fail> {
-    let alloc = rt.alloc();
-    let mut node = first_state(alloc, 3)?;
-    for at in 0..65_533 {
-        let _sends = made(alloc, &mut node, Call::Learn(at))?;
-    }
-    let wrong = first_wrong(alloc, &mut node, &LAST_THREE)?;
+    let mut node = first_state(rt.alloc(), 3)?;
+    let wrong = first_wrong_at_the_end(rt.alloc(), &mut node)?;
     assert!(rt; wrong.is_none(), "at {wrong:?}");
     Ok(())
+}
+
+fn first_wrong_at_the_end(alloc: Global, node: &mut Fixture) -> Result<Option<Call>, Fail> {
+    for at in 0..65_533 {
+        told(alloc, node, Call::Learn(at))?;
+    }
+    first_wrong(alloc, node, &LAST_THREE)
 }
 
 // How many nodes there are, and how many promises make a leader.
@@ -458,74 +471,117 @@ const MAJORITIES: [(u8, u8); 3] = [(3, 2), (5, 3), (7, 4)];
 fn majorities_lead(rt: HostRuntime) -> Result<(), Fail> {
     for (nodes, needed) in MAJORITIES {
         let mut node = first_state(rt.alloc(), nodes)?;
-        let _ = made(rt.alloc(), &mut node, Call::Timeout)?;
-        for from in 0..needed {
-            let early = made(rt.alloc(), &mut node, Call::Propose)?;
-            assert!(rt; early.is_empty(), "{from} of {nodes}");
-            assert_eq!(rt; node.proposer.open(), 0, "{from} of {nodes}");
-            let _ = made(
-                rt.alloc(),
-                &mut node,
-                Call::Promise(from, 1, 0, 65_535, &[]),
-            )?;
-        }
-        let sends = made(rt.alloc(), &mut node, Call::Propose)?;
-        assert_eq!(rt; sends.len(), 1, "{needed} of {nodes}");
-        assert_eq!(rt; node.proposer.open(), 1, "{needed} of {nodes}");
+        leads_after(&rt, rt.alloc(), &mut node, needed)?;
     }
     Ok(())
+}
+
+/// With so many promises the node leads, and not before.
+fn leads_after(rt: &impl Abort, alloc: Global, node: &mut Fixture, needed: u8) -> Result<(), Fail> {
+    sent_count(alloc, node, Call::Timeout)?;
+    for from in 0..needed {
+        assert_eq!(rt;
+            sent_count(alloc, node, Call::Propose)?,
+            0,
+            "{from} of {needed}"
+        );
+        assert_eq!(rt; node.proposer.open(), 0, "{from} of {needed}");
+        told(alloc, node, Call::Promise(from, 1, 0, 65_535, &[]))?;
+    }
+    assert_eq!(rt; sent_count(alloc, node, Call::Propose)?, 1, "{needed}");
+    assert_eq!(rt; node.proposer.open(), 1, "{needed}");
+    Ok(())
+}
+
+/// How much a call sends.
+fn sent_count(alloc: Global, node: &mut Fixture, call: Call) -> Result<usize, Fail> {
+    let sends = made(alloc, node, call)?;
+    Ok(sends.len())
 }
 
 #[test]
 fn sixty_four_requests_wait(rt: HostRuntime) -> Result<(), Fail> {
     let mut node = first_state(rt.alloc(), 3)?;
+    sixty_four_wait(&rt, &mut node.proposer)
+}
+
+fn sixty_four_wait(rt: &impl Abort, proposer: &mut Proposer) -> Result<(), Fail> {
     for number in 1..65 {
-        assert_eq!(rt;
-            node.proposer.submit(request(7, number)?),
-            Ok(()),
-            "at {number}"
-        );
+        assert_eq!(rt; asked(proposer, number)?, Ok(()), "at {number}");
     }
-    assert_eq!(rt; node.proposer.waiting(), 64);
-    assert_eq!(rt;
-        node.proposer.submit(request(7, 65)?),
-        Err(SubmitFault::QueueFull)
-    );
-    assert_eq!(rt; node.proposer.submit(request(7, 1)?), Ok(()));
+    assert_eq!(rt; proposer.waiting(), 64);
+    assert_eq!(rt; asked(proposer, 65)?, Err(SubmitFault::QueueFull));
+    assert_eq!(rt; asked(proposer, 1)?, Ok(()));
     let first = Number::new(1).ok_or("number")?;
-    assert!(rt; node.proposer.executed(7, first));
-    assert!(rt; !node.proposer.executed(7, first));
-    assert_eq!(rt; node.proposer.submit(request(7, 65)?), Ok(()));
+    assert!(rt; proposer.executed(7, first));
+    assert!(rt; !proposer.executed(7, first));
+    assert_eq!(rt; asked(proposer, 65)?, Ok(()));
     Ok(())
+}
+
+/// Client 7 asks under this number.
+fn asked(proposer: &mut Proposer, number: u64) -> Result<Result<(), SubmitFault>, Fail> {
+    Ok(proposer.submit(request(7, number)?))
 }
 
 #[test]
 fn rounds_outlive_a_restart(rt: HostRuntime) -> Result<(), Fail> {
-    let alloc = rt.alloc();
-    let mut node = first_state(alloc, 3)?;
-    let _ = made(alloc, &mut node, Call::Nack(1, 258))?;
-    let _ = made(alloc, &mut node, Call::Timeout)?;
-    let held = node.storage.get(alloc, Key::Round)?.ok_or("record")?;
+    let mut node = first_state(rt.alloc(), 3)?;
+    rounds_go_on(&rt, rt.alloc(), &mut node)
+}
+
+fn rounds_go_on(rt: &impl Abort, alloc: Global, node: &mut Fixture) -> Result<(), Fail> {
+    told(alloc, node, Call::Nack(1, 258))?;
+    sent_count(alloc, node, Call::Timeout)?;
     let spelled = b"\x00\x00\x00\x00\x00\x00\x01\x03";
-    assert!(rt; held.as_slice() == spelled.as_slice());
+    assert!(rt; round_is(alloc, &mut node.storage, spelled)?);
+    reload(alloc, node)?;
+    assert_eq!(rt;
+        first_sent(alloc, node, Call::Timeout)?,
+        Some(Sent::Prepare(260, 0))
+    );
+    told(alloc, node, Call::Nack(1, u64::MAX))?;
+    assert_eq!(rt;
+        refused_timeout(alloc, node)?,
+        Some(TimeoutFault::RoundsUsedUp)
+    );
+    Ok(())
+}
+
+/// Whether the record of the round has these bytes.
+fn round_is(alloc: Global, storage: &mut MemStable, bytes: &[u8]) -> Result<bool, Fail> {
+    match storage.get(alloc, Key::Round)? {
+        Some(held) => Ok(held.as_slice() == bytes),
+        None => Ok(false),
+    }
+}
+
+/// The node is loaded again from its records.
+fn reload(alloc: Global, node: &mut Fixture) -> Result<(), Fail> {
     let id = NodeId::new(0).ok_or("node")?;
     let nodes = Nodes::new(3).ok_or("nodes")?;
     node.proposer = Proposer::load(alloc, &mut node.storage, id, nodes)?;
-    let sends = made(alloc, &mut node, Call::Timeout)?;
-    assert_eq!(rt;
-        sends.first().and_then(|outgoing| shown(outgoing)),
-        Some(Sent::Prepare(260, 0))
-    );
-    let _ = made(alloc, &mut node, Call::Nack(1, u64::MAX))?;
+    Ok(())
+}
+
+/// The first of what a call sends.
+fn first_sent(alloc: Global, node: &mut Fixture, call: Call) -> Result<Option<Sent>, Fail> {
+    let sends = made(alloc, node, call)?;
+    Ok(sends.first().and_then(|outgoing| shown(outgoing)))
+}
+
+/// Why no campaign begins.
+fn refused_timeout(alloc: Global, node: &mut Fixture) -> Result<Option<TimeoutFault>, Fail> {
     if node.learner.prefix() >= 65_536 {
         return Err("log".into());
     }
-    let used_up = node
+    match node
         .proposer
         .timeout(alloc, &mut node.storage, &node.learner)
-        .err();
-    assert_eq!(rt; used_up, Some(TimeoutFault::RoundsUsedUp));
-    Ok(())
+    {
+        Ok(_) => Ok(None),
+        Err(fault) => Ok(Some(fault)),
+    }
 }
 
 // Bytes that are the record of no round.
@@ -542,8 +598,18 @@ fn damaged_rounds_are_refused(rt: HostRuntime) -> Result<(), Fail> {
     for bytes in DAMAGED {
         let mut storage = MemStable::new(rt.alloc());
         storage.put(rt.alloc(), Key::Round, bytes)?;
-        let fault = Proposer::load(rt.alloc(), &mut storage, id, nodes).err();
+        let fault = load_fault(rt.alloc(), &mut storage, id, nodes);
         assert_eq!(rt; fault, Some(StableFault::Damaged), "at {bytes:?}");
     }
     Ok(())
+}
+
+/// Why no proposer is loaded.
+fn load_fault(
+    alloc: Global,
+    storage: &mut MemStable,
+    id: NodeId,
+    nodes: Nodes,
+) -> Option<StableFault> {
+    Proposer::load(alloc, storage, id, nodes).err()
 }

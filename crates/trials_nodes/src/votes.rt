@@ -4,6 +4,7 @@ use acceptor::{Acceptor, Answer};
 use sessions::{Command, Number, Request};
 use stable::{Key, MemStable, Stable, StableFault};
 use std::alloc::Global;
+use std::process::Abort;
 use std::test::Fail;
 use store::Op;
 use synod::{Ballot, Slot, Vote};
@@ -148,32 +149,39 @@ fn tells(
 
 #[test]
 fn a_promise_tells_a_range(rt: HostRuntime) -> Result<(), Fail> {
-    let alloc = rt.alloc();
-    let mut storage = MemStable::new(alloc);
-    let mut acceptor = Acceptor::load(alloc, &mut storage)?;
+    let mut storage = MemStable::new(rt.alloc());
+    let mut acceptor = Acceptor::load(rt.alloc(), &mut storage)?;
+    tells_ranges_of_five(&rt, rt.alloc(), &mut storage, &mut acceptor)?;
+    acceptor = Acceptor::load(rt.alloc(), &mut storage)?;
+    tells_ranges(&rt, rt.alloc(), &mut storage, &mut acceptor, &RANGES_OF_SIX)
+}
+
+/// Five votes, and behind their ranges one at the last slot.
+fn tells_ranges_of_five(
+    rt: &impl Abort,
+    alloc: Global,
+    storage: &mut MemStable,
+    acceptor: &mut Acceptor,
+) -> Result<(), Fail> {
     for slot in 0..5 {
-        let cast = made(alloc, &mut storage, &mut acceptor, Call::Accept(1, 0, slot));
+        let cast = made(alloc, storage, acceptor, Call::Accept(1, 0, slot));
         assert_eq!(rt; cast, Some(("accepted", 1, 0, 1)), "at {slot}");
     }
-    for range in RANGES_OF_FIVE {
-        assert!(rt;
-            tells(alloc, &mut storage, &mut acceptor, range)?,
-            "at {range:?}"
-        );
-    }
-    let last = made(
-        alloc,
-        &mut storage,
-        &mut acceptor,
-        Call::Accept(2, 1, 65_535),
-    );
+    tells_ranges(rt, alloc, storage, acceptor, &RANGES_OF_FIVE)?;
+    let last = made(alloc, storage, acceptor, Call::Accept(2, 1, 65_535));
     assert_eq!(rt; last, Some(("accepted", 2, 1, 1)));
-    let mut loaded = Acceptor::load(alloc, &mut storage)?;
-    for range in RANGES_OF_SIX {
-        assert!(rt;
-            tells(alloc, &mut storage, &mut loaded, range)?,
-            "at {range:?}"
-        );
+    Ok(())
+}
+
+fn tells_ranges(
+    rt: &impl Abort,
+    alloc: Global,
+    storage: &mut MemStable,
+    acceptor: &mut Acceptor,
+    ranges: &[Range],
+) -> Result<(), Fail> {
+    for range in ranges {
+        assert!(rt; tells(alloc, storage, acceptor, *range)?, "at {range:?}");
     }
     Ok(())
 }
@@ -242,23 +250,40 @@ fn append() -> Result<Op, Fail> {
 
 /// Whether a vote for this is told by a promise, once it is cast and its record is loaded.
 fn is_told_again(alloc: Global, op: Op) -> Result<bool, Fail> {
-    let ballot = Ballot::new(1, 0).ok_or("ballot")?;
     let command = asked(op).ok_or("request")?;
     let mut storage = MemStable::new(alloc);
-    let mut acceptor = Acceptor::load(alloc, &mut storage)?;
+    cast_first(alloc, &mut storage, &command)?;
+    let mut loaded = Acceptor::load(alloc, &mut storage)?;
+    tells_first(alloc, &mut storage, &mut loaded, &command)
+}
+
+/// A vote for the command is cast at the first slot.
+fn cast_first(alloc: Global, storage: &mut MemStable, command: &Command) -> Result<(), Fail> {
+    let ballot = Ballot::new(1, 0).ok_or("ballot")?;
+    let mut acceptor = Acceptor::load(alloc, storage)?;
     let vote = Vote {
         slot: Slot::first(),
         ballot,
         command: command.clone()?,
     };
-    let _ = acceptor.on_accept(alloc, &mut storage, vote)?;
-    let mut loaded = Acceptor::load(alloc, &mut storage)?;
-    let answer = loaded.on_prepare(alloc, &mut storage, ballot, Slot::first())?;
-    match answer {
-        Answer::Promise(promise) => match promise.entries() {
-            [entry] => Ok(entry.vote().command == command),
-            _ => Ok(false),
-        },
+    let _cast = acceptor.on_accept(alloc, storage, vote)?;
+    Ok(())
+}
+
+/// Whether the vote that is told of the first slot is for the command.
+fn tells_first(
+    alloc: Global,
+    storage: &mut MemStable,
+    acceptor: &mut Acceptor,
+    command: &Command,
+) -> Result<bool, Fail> {
+    let ballot = Ballot::new(1, 0).ok_or("ballot")?;
+    let Answer::Promise(promise) = acceptor.on_prepare(alloc, storage, ballot, Slot::first())?
+    else {
+        return Ok(false);
+    };
+    match promise.entries() {
+        [entry] => Ok(entry.vote().command == *command),
         _ => Ok(false),
     }
 }
@@ -266,10 +291,8 @@ fn is_told_again(alloc: Global, op: Op) -> Result<bool, Fail> {
 #[test]
 fn votes_are_told_again(rt: HostRuntime) -> Result<(), Fail> {
     let alloc = rt.alloc();
-    let put = put(alloc)?;
-    let append = append()?;
-    assert!(rt; is_told_again(alloc, put)?, "a put");
-    assert!(rt; is_told_again(alloc, append)?, "an append");
+    assert!(rt; is_told_again(alloc, put(alloc)?)?, "a put");
+    assert!(rt; is_told_again(alloc, append()?)?, "an append");
     Ok(())
 }
 
