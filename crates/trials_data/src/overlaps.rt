@@ -2,6 +2,7 @@
 //! answer when it is made again, and long runs against a list that is searched from the front.
 
 use std::alloc::{AllocError, Global};
+use std::process::Abort;
 use std::test::Fail;
 use timeindex::TimeIndex;
 use tpoint::{Id, Instant, Period};
@@ -96,16 +97,23 @@ fn periods_without_ends(rt: HostRuntime) -> Result<(), Fail> {
 /// A growth that is refused leaves the set, and the same call again has its answer.
 #[test]
 fn calls_again(rt: HostRuntime) -> Result<(), Fail> {
-    let alloc = rt.alloc();
-    let mut index = TimeIndex::new(alloc);
-    let bus = id("bus-7")?;
-    let mut answer = index.insert(bus, instant(1)?, instant(2)?);
+    let mut index = TimeIndex::new(rt.alloc());
+    answers_again(&rt, rt.alloc(), &mut index, id("bus-7")?)
+}
+
+fn answers_again(
+    rt: &impl Abort,
+    alloc: Global,
+    index: &mut TimeIndex,
+    bus: Id,
+) -> Result<(), Fail> {
+    let (first, last, span) = (instant(1)?, instant(2)?, period(2, 3)?);
+    let mut answer = index.insert(bus, first, last);
     if answer == Err(AllocError) {
         assert!(rt; !index.remove(&bus));
-        answer = index.insert(bus, instant(1)?, instant(2)?);
+        answer = index.insert(bus, first, last);
     }
     assert!(rt; answer.is_ok());
-    let span = period(2, 3)?;
     let ids = match index.overlapping(alloc, &span) {
         Ok(ids) => ids,
         Err(_) => index.overlapping(alloc, &span)?,
