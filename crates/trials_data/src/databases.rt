@@ -115,15 +115,21 @@ fn values(rt: HostRuntime) -> Result<(), Fail> {
         ("bus", 1000, "absent"),
     ];
     for (name, ms, want) in rows {
-        says(
-            &rt,
-            &db,
-            rt.alloc(),
-            Query::At(id(name)?, instant(ms)?),
-            want,
-        )?;
+        tells_at(&rt, &db, rt.alloc(), name, ms, want)?;
     }
     Ok(())
+}
+
+fn tells_at(
+    rt: &impl Abort,
+    db: &Db,
+    alloc: Global,
+    name: &str,
+    ms: i64,
+    want: &str,
+) -> Result<(), Fail> {
+    let (id, at) = (id(name)?, instant(ms)?);
+    says(rt, db, alloc, Query::At(id, at), want)
 }
 
 #[test]

@@ -64,15 +64,23 @@ fn code(machine: &mut Machine, client: u8, value: u64, op: Op) -> Result<u8, Fai
 #[test]
 fn five_requests_of_one_client(rt: HostRuntime) -> Result<(), Fail> {
     let mut machine = Machine::new(rt.alloc());
-    let put = put(rt.alloc(), "a", 0, 2)?;
-    assert_eq!(rt; code(&mut machine, 7, 2, remove("a")?)?, 32);
-    assert_eq!(rt; code(&mut machine, 7, 1, remove("a")?)?, 21);
-    assert_eq!(rt; code(&mut machine, 7, 2, remove("a")?)?, 21);
-    assert_eq!(rt; code(&mut machine, 7, 1, remove("a")?)?, 31);
-    assert_eq!(rt; code(&mut machine, 7, 2, put)?, 21);
+    five_requests(&rt, rt.alloc(), &mut machine)
+}
+
+fn five_requests(rt: &impl Abort, alloc: Global, machine: &mut Machine) -> Result<(), Fail> {
+    assert_eq!(rt; removal(machine, 7, 2)?, 32);
+    assert_eq!(rt; removal(machine, 7, 1)?, 21);
+    assert_eq!(rt; removal(machine, 7, 2)?, 21);
+    assert_eq!(rt; removal(machine, 7, 1)?, 31);
+    assert_eq!(rt; code(machine, 7, 2, put(alloc, "a", 0, 2)?)?, 21);
     assert!(rt; machine.kept(7, number(1)?).is_none());
     assert_eq!(rt; machine.kept(7, number(2)?), Some(Reply::Unknown));
     Ok(())
+}
+
+/// The reply to a client's request of this number, which removes `a`.
+fn removal(machine: &mut Machine, client: u8, value: u64) -> Result<u8, Fail> {
+    code(machine, client, value, remove("a")?)
 }
 
 #[test]
@@ -96,34 +104,57 @@ fn requests_of_two_clients(rt: HostRuntime) -> Result<(), Fail> {
     ];
     let mut machine = Machine::new(alloc);
     for (client, value, word, ms, want) in rows {
-        let op = operation(alloc, word, ms)?;
-        assert_eq!(rt;
-            code(&mut machine, client, value, op)?,
-            want,
-            "{client}:{value}"
-        );
-        let done = machine.execute(&Command::NoOp)?;
-        assert_eq!(rt; done, Outcome::Applied(Reply::Done));
-        assert_eq!(rt; done.code(), 0);
+        let told = code_of_word(alloc, &mut machine, client, value, word, ms)?;
+        assert_eq!(rt; told, want, "{client}:{value}");
+        does_nothing(&rt, &mut machine)?;
     }
-    let at = Query::At(id("a")?, Instant::new(2500).ok_or("an instant")?);
-    assert_eq!(rt; machine.answer(alloc, &at)?.as_slice(), "at 1 2".as_bytes());
-    assert_eq!(rt;
-        machine.answer(alloc, &Query::Count)?.as_slice(),
-        "count 1".as_bytes()
-    );
+    told_in_the_end(&rt, alloc, &machine)
+}
+
+/// The reply to a client's request for what a word does.
+fn code_of_word(
+    alloc: Global,
+    machine: &mut Machine,
+    client: u8,
+    value: u64,
+    word: &str,
+    ms: u32,
+) -> Result<u8, Fail> {
+    code(machine, client, value, operation(alloc, word, ms)?)
+}
+
+fn does_nothing(rt: &impl Abort, machine: &mut Machine) -> Result<(), Fail> {
+    let done = machine.execute(&Command::NoOp)?;
+    assert_eq!(rt; done, Outcome::Applied(Reply::Done));
+    assert_eq!(rt; done.code(), 0);
     Ok(())
+}
+
+fn told_in_the_end(rt: &impl Abort, alloc: Global, machine: &Machine) -> Result<(), Fail> {
+    let at = Query::At(id("a")?, Instant::new(2500).ok_or("an instant")?);
+    assert!(rt; says(alloc, machine, &at, "at 1 2")?);
+    assert!(rt; says(alloc, machine, &Query::Count, "count 1")?);
+    Ok(())
+}
+
+fn says(alloc: Global, machine: &Machine, query: &Query, want: &str) -> Result<bool, Fail> {
+    let told = machine.answer(alloc, query)?;
+    Ok(told.as_slice() == want.as_bytes())
 }
 
 /// The greatest number is a number like any other.
 #[test]
 fn the_greatest_number(rt: HostRuntime) -> Result<(), Fail> {
-    let mut machine = Machine::new(rt.alloc());
     assert!(rt; Number::new(0).is_none());
     assert_eq!(rt; number(u64::MAX)?.value(), u64::MAX);
-    assert_eq!(rt; code(&mut machine, 0, u64::MAX, remove("a")?)?, 32);
-    assert_eq!(rt; code(&mut machine, 0, 1, remove("a")?)?, 21);
-    assert_eq!(rt; code(&mut machine, 0, u64::MAX, remove("a")?)?, 32);
+    let mut machine = Machine::new(rt.alloc());
+    greatest_numbers(&rt, &mut machine)
+}
+
+fn greatest_numbers(rt: &impl Abort, machine: &mut Machine) -> Result<(), Fail> {
+    assert_eq!(rt; removal(machine, 0, u64::MAX)?, 32);
+    assert_eq!(rt; removal(machine, 0, 1)?, 21);
+    assert_eq!(rt; removal(machine, 0, u64::MAX)?, 32);
     assert!(rt; machine.kept(0, number(u64::MAX)?).is_none());
     assert_eq!(rt; machine.kept(0, number(1)?), Some(Reply::Unknown));
     Ok(())
@@ -133,14 +164,20 @@ fn the_greatest_number(rt: HostRuntime) -> Result<(), Fail> {
 fn every_client(rt: HostRuntime) -> Result<(), Fail> {
     let mut machine = Machine::new(rt.alloc());
     for client in 0..=u8::MAX {
-        assert_eq!(rt; code(&mut machine, client, 1, remove("a")?)?, 21);
+        assert_eq!(rt; removal(&mut machine, client, 1)?, 21);
     }
     for client in 0..=u8::MAX {
-        assert_eq!(rt; code(&mut machine, client, 3, remove("a")?)?, 32);
-        assert_eq!(rt; code(&mut machine, client, 2, remove("a")?)?, 21);
-        assert_eq!(rt; code(&mut machine, client, 1, remove("a")?)?, 31);
-        assert_eq!(rt; machine.kept(client, number(2)?), Some(Reply::Unknown));
+        later_requests(&rt, &mut machine, client)?;
     }
+    Ok(())
+}
+
+/// Of a client whose first request has counted.
+fn later_requests(rt: &impl Abort, machine: &mut Machine, client: u8) -> Result<(), Fail> {
+    assert_eq!(rt; removal(machine, client, 3)?, 32);
+    assert_eq!(rt; removal(machine, client, 2)?, 21);
+    assert_eq!(rt; removal(machine, client, 1)?, 31);
+    assert_eq!(rt; machine.kept(client, number(2)?), Some(Reply::Unknown));
     Ok(())
 }
 
@@ -216,39 +253,74 @@ fn drawn(alloc: Global, seed: &mut u64, ms: u32) -> Result<Op, Fail> {
     }
 }
 
+/// A machine, beside the list that it has executed and the database that the list makes.
+#[derive(Drop)]
+struct Beside {
+    machine: Machine,
+    db: Db,
+    places: Vec<Place>,
+}
+
 /// A few hundred requests of three clients, each replied as the definition says, computed from the list.
 #[test]
 fn as_the_list_says(rt: HostRuntime) -> Result<(), Fail> {
     let alloc = rt.alloc();
-    let mut machine = Machine::new(alloc);
-    let mut db = Db::new(alloc);
-    let mut places = Vec::new(alloc);
+    let mut beside = Beside {
+        machine: Machine::new(alloc),
+        db: Db::new(alloc),
+        places: Vec::new(alloc),
+    };
     let mut seed = 2026;
     for k in 0..300_u16 {
         let client = (draw(&mut seed) % 3) as u8;
         let value = 1 + draw(&mut seed) % (2 + u64::from(k) / 16);
         let op = drawn(alloc, &mut seed, u32::from(k))?;
-        let once = counted(&places, client, value).is_none();
-        let in_turn = value == 1 || counted(&places, client, value - 1).is_some();
-        let reply = if once && in_turn {
-            Some(db.apply(&op)?)
-        } else {
-            None
-        };
-        places.push(Place {
-            client,
-            number: value,
-            counted: reply,
-        })?;
-        let want = code_at_end(&places, client, value);
-        assert_eq!(rt; code(&mut machine, client, value, op)?, want, "{k}");
-        kept_as_the_list_says(&rt, &machine, &places, client, value)?;
-        let told = machine.answer(alloc, &Query::Count)?;
-        assert_eq!(rt;
-            told.as_slice(),
-            db.answer(alloc, &Query::Count)?.as_slice()
-        );
+        replied_as_the_list_says(&rt, &mut beside, client, value, op)?;
+        kept_as_the_list_says(&rt, &beside.machine, &beside.places, client, value)?;
+        counted_as_the_list_says(&rt, alloc, &beside)?;
     }
+    Ok(())
+}
+
+/// The same request goes to the machine and to the end of the list.
+fn replied_as_the_list_says(
+    rt: &impl Abort,
+    beside: &mut Beside,
+    client: u8,
+    number: u64,
+    op: Op,
+) -> Result<(), Fail> {
+    let counted = listed(beside, client, number, &op)?;
+    beside.places.push(Place {
+        client,
+        number,
+        counted,
+    })?;
+    let want = code_at_end(&beside.places, client, number);
+    assert_eq!(rt;
+        code(&mut beside.machine, client, number, op)?,
+        want,
+        "{client}:{number}"
+    );
+    Ok(())
+}
+
+/// What the database replies, where the request counts.
+fn listed(beside: &mut Beside, client: u8, value: u64, op: &Op) -> Result<Option<Reply>, Fail> {
+    let once = counted(&beside.places, client, value).is_none();
+    let in_turn = value <= 1 || counted(&beside.places, client, value - 1).is_some();
+    if once && in_turn {
+        Ok(Some(beside.db.apply(op)?))
+    } else {
+        Ok(None)
+    }
+}
+
+/// The machine has as many features as the database.
+fn counted_as_the_list_says(rt: &impl Abort, alloc: Global, beside: &Beside) -> Result<(), Fail> {
+    let told = beside.machine.answer(alloc, &Query::Count)?;
+    let want = beside.db.answer(alloc, &Query::Count)?;
+    assert_eq!(rt; told.as_slice(), want.as_slice());
     Ok(())
 }
 

@@ -13,7 +13,7 @@ returns-in-Ok-clause-text g c =
     runs_to g.T.Transport _ _ _ _ _ c.into_lines.ensures c.in_ok-do_lines.ensures.ends c.in-Ok.ensures.told
     c.cluster_text.ensures.safe
 
-pub returns-clause-fault : goal.returns-clause-fault
-returns-clause-fault g c =
+pub returns-in-Err-clause-fault : goal.returns-in-Err-clause-fault
+returns-in-Err-clause-fault g c =
     run_ends_last g.T.Transport _ _ _ _ _ c.into_lines.ensures c.in_ok-do_lines.ensures.ends c.last-last.ensures
     c.cluster_text.ensures.safe
