@@ -39,8 +39,7 @@ fn index_of_three(alloc: Global) -> Result<TimeIndex, Fail> {
 
 #[test]
 fn periods(rt: HostRuntime) -> Result<(), Fail> {
-    let alloc = rt.alloc();
-    let mut index = index_of_three(alloc)?;
+    let mut index = index_of_three(rt.alloc())?;
     let rows = [
         (0, 4, ""),
         (0, 5, " c"),
@@ -53,13 +52,28 @@ fn periods(rt: HostRuntime) -> Result<(), Fail> {
         (0, 99, " a b c"),
     ];
     for (begin, end, want) in rows {
-        let told = found(alloc, &index, &period(begin, end)?)?;
-        assert_eq!(rt; told.as_str(), want, "{begin} to {end}");
+        assert!(rt;
+            tells(rt.alloc(), &index, begin, end, want)?,
+            "{begin} to {end}"
+        );
     }
-    index.insert(id("b")?, instant(60)?, instant(70)?)?;
-    assert_eq!(rt; found(alloc, &index, &period(31, 59)?)?.as_str(), "");
-    assert!(rt; index.remove(&id("b")?) && !index.remove(&id("b")?));
-    assert_eq!(rt; found(alloc, &index, &period(0, 99)?)?.as_str(), " a c");
+    changes(&rt, rt.alloc(), &mut index)
+}
+
+/// Whether these are found between two instants.
+fn tells(alloc: Global, index: &TimeIndex, begin: u64, end: u64, want: &str) -> Result<bool, Fail> {
+    let span = period(begin, end)?;
+    let told = found(alloc, index, &span)?;
+    Ok(told.as_str() == want)
+}
+
+/// An entry is replaced, and removed.
+fn changes(rt: &impl Abort, alloc: Global, index: &mut TimeIndex) -> Result<(), Fail> {
+    let (b, first, last) = (id("b")?, instant(60)?, instant(70)?);
+    index.insert(b, first, last)?;
+    assert!(rt; tells(alloc, index, 31, 59, "")?);
+    assert!(rt; index.remove(&b) && !index.remove(&b));
+    assert!(rt; tells(alloc, index, 0, 99, " a c")?);
     Ok(())
 }
 

@@ -235,7 +235,14 @@ fn extents(rt: HostRuntime) -> Result<(), Fail> {
     );
     assert!(rt; Period::new(last, first).is_none());
     assert!(rt; Period::new(last, last).is_some());
+    Ok(())
+}
+
+#[test]
+fn whole_instants_of_periods(rt: HostRuntime) -> Result<(), Fail> {
+    let first = Instant::new(0).ok_or("first")?;
     let second = Instant::new(1).ok_or("second")?;
+    let last = Instant::new(253_402_300_799_999).ok_or("last")?;
     // Begin, end, which of them is in, and the first and the last whole millisecond.
     let ends = [
         (first, second, true, true, Some((0, 1))),
@@ -260,7 +267,11 @@ fn extents(rt: HostRuntime) -> Result<(), Fail> {
             "from {begin:?} {begin_in} to {end:?} {end_in}"
         );
     }
+    Ok(())
+}
 
+#[test]
+fn rectangles(rt: HostRuntime) -> Result<(), Fail> {
     let far = 10_000_000_000;
     let all = Rect::new(-far, -far, far, far).ok_or("all")?;
     assert_eq!(rt;
