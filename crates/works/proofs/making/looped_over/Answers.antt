@@ -6,7 +6,7 @@ returns-in-Ok-clause-makes g c =
     is_looped g.T.Transport c.args.transport c.args.schedule _ _ _ _ c.nodes.ensures c.in_ok-cluster.ensures.fresh
     c.in-Ok.ensures.text
 
-pub returns-in-Err-clause-ends : goal.returns-in-Err-clause-ends
-returns-in-Err-clause-ends g c = λ other.
+pub returns-clause-ends : goal.returns-clause-ends
+returns-clause-ends g c = λ other.
     loop_stops g.T.Transport c.args.transport c.args.schedule _ _ _ _ _ c.nodes.ensures c.in_ok-cluster.ensures.fresh
     c.in-Err.ensures.fault c.replay_failure.ensures.memory c.replay_failure.ensures.line other
