@@ -1,5 +1,6 @@
 //! Nodes that go down, and what a restart finds.
 
+use super::fleet::Member;
 use super::fleet::Step::{Arm, Count, Deliver, Hear, Look, Restart, Stop, Submit, Tick, Timeout};
 use super::letters::Said::{Accept, Prepare};
 use super::letters::node_id;
@@ -7,6 +8,8 @@ use super::{Row, rows_hold};
 use node::{Input, Node, NodeFault};
 use stable::Failing::{New, Old};
 use stable::{Key, MemStable, Scripted, Stable};
+use std::alloc::Global;
+use std::process::Abort;
 use std::test::Fail;
 use synod::Slot;
 use wire::Nodes;
@@ -142,25 +145,31 @@ fn armed_faults_wait_for_a_put(rt: HostRuntime) -> Result<(), Fail> {
 
 #[test]
 fn damaged_records_keep_a_node_down(rt: HostRuntime) -> Result<(), Fail> {
-    let alloc = rt.alloc();
-    let nodes = Nodes::new(3).ok_or("nodes")?;
     for key in [Key::Promise, Key::Round, Key::Vote(Slot::first())] {
-        let mut records = MemStable::new(alloc);
-        records.put(alloc, key, b"\x00\x00\x00\x00\x00\x00\x00\x00")?;
-        let storage = Scripted::new(alloc, records);
-        let mut member = Node::start(alloc, storage, node_id(0)?, nodes);
-        assert!(rt; !member.is_up(), "at {key:?}");
-        assert_eq!(rt; member.position(), 0, "at {key:?}");
-        assert_eq!(rt; member.waiting(), 0, "at {key:?}");
-        assert_eq!(rt;
-            member.restart(alloc),
-            Err(NodeFault::Damaged),
-            "at {key:?}"
-        );
-        assert!(rt; !member.is_up(), "at {key:?}");
-        let fault = member.step(alloc, Input::Tick).err();
-        assert_eq!(rt; fault, Some(NodeFault::Down), "at {key:?}");
-        assert!(rt; member.writes().is_empty(), "at {key:?}");
+        let mut member = damaged(rt.alloc(), key)?;
+        stays_down(&rt, rt.alloc(), &mut member);
     }
     Ok(())
+}
+
+/// A node one of whose records is of no form.
+fn damaged(alloc: Global, key: Key) -> Result<Member, Fail> {
+    let nodes = Nodes::new(3).ok_or("nodes")?;
+    let id = node_id(0)?;
+    let mut records = MemStable::new(alloc);
+    records.put(alloc, key, b"\x00\x00\x00\x00\x00\x00\x00\x00")?;
+    Ok(Node::start(alloc, Scripted::new(alloc, records), id, nodes))
+}
+
+fn stays_down(rt: &impl Abort, alloc: Global, member: &mut Member) {
+    assert!(rt; !member.is_up());
+    assert_eq!(rt; member.position(), 0);
+    assert_eq!(rt; member.waiting(), 0);
+    assert_eq!(rt; member.restart(alloc), Err(NodeFault::Damaged));
+    assert!(rt; !member.is_up());
+    assert_eq!(rt;
+        member.step(alloc, Input::Tick).err(),
+        Some(NodeFault::Down)
+    );
+    assert!(rt; member.writes().is_empty());
 }

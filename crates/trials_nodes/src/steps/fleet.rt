@@ -43,7 +43,7 @@ pub enum Step {
 const MOST_FLUSHED: usize = 300;
 
 /// A node whose puts are listed, and can be made to fail.
-type Member = Node<Scripted<MemStable>>;
+pub type Member = Node<Scripted<MemStable>>;
 
 /// A frame that was sent, and whether it waits to be delivered.
 #[derive(Drop)]
