@@ -99,6 +99,7 @@ class Reading(NamedTuple):
     line: int           # how many lines are read
     down: int           # nodes that are down, as bits
     armed: int          # nodes whose next put fails, as bits
+    unread: int         # nodes whose records can't be read at the next restart, as bits
     learnt: tuple       # of each node, the slots that it has learnt in this life, as bits
     waiting: tuple      # of each node, the requests that wait there
     accepted: int       # chain of the submissions that were accepted, by their lines of the schedule
@@ -167,7 +168,7 @@ class Reader:
         """All nodes are up, or, where memory may be refused, some are not."""
         empty = (0,) * self.nodes, (frozenset(),) * self.nodes
         downs = range(2 ** self.nodes) if self.memory else (0,)
-        return {Reading(0, down, 0, *empty, 0, 0, 0) for down in downs}
+        return {Reading(0, down, 0, 0, *empty, 0, 0, 0) for down in downs}
 
     def collect(self):
         """The command of each slot that any node has learnt: there is one."""
@@ -256,12 +257,22 @@ class Reader:
         return [reading]
 
     def fault(self, reading, event):
-        return [reading._replace(armed=reading.armed | 1 << event.node)]
+        """One is armed at a time: a later one takes the place of an earlier one."""
+        bit = 1 << event.node
+        if event.what == "read":
+            return [reading._replace(armed=reading.armed & ~bit, unread=reading.unread | bit)]
+        return [reading._replace(armed=reading.armed | bit, unread=reading.unread & ~bit)]
 
     def restart(self, reading, event):
         up = reading._replace(down=reading.down & ~(1 << event.node), learnt=changed(reading.learnt, event.node, 0),
                               waiting=changed(reading.waiting, event.node, frozenset()))
-        return [up] + (self.stopped(up, [event.node]) if self.memory else [])
+        if not reading.unread >> event.node & 1:
+            return [up] + (self.stopped(up, [event.node]) if self.memory else [])
+        line = self.next(up)
+        if line and (line.kind, line.node, line.number) == ("stop", event.node, 46):
+            bit = 1 << event.node
+            return [up._replace(line=up.line + 1, down=up.down | bit, unread=up.unread & ~bit)]
+        return self.stopped(up, [event.node]) if self.memory else []
 
     def submit(self, reading, event):
         """Refused at a full log (42), as too long (45) or where 64 others wait (44); else the request waits."""

@@ -186,7 +186,7 @@ class Drawing:
         if kind == "query":
             return "query %d %s" % (node, self.query())
         if kind == "fault":
-            return "fault %d %s" % (node, draw.choice(("old", "new")))
+            return "fault %d %s" % (node, draw.choice(("old", "new", "read")))
         if kind == "round":
             members = draw.sample(range(nodes), draw.randrange(nodes // 2 + 1, nodes + 1))
             members = members if draw.random() < 0.1 or node in members else [node] + members[1:]

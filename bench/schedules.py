@@ -154,7 +154,7 @@ def event(line, words, nodes):
     if first == "round":
         return Event(line, first, node, what=[number(word, 0, nodes - 1) for word in words[2:]])
     if first == "fault":
-        if words[2] not in ("old", "new"):
+        if words[2] not in ("old", "new", "read"):
             raise Fault(5)
         return Event(line, first, node, what=words[2])
     return Event(line, first, node)

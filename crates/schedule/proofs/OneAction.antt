@@ -16,12 +16,13 @@ use Rattle.store.specs.declared.op.Op.TheVariants as op
 use Rattle.store.specs.declared.query.Query.{Query}
 use Rattle.store.specs.declared.query.Query.TheVariants as query
 use Rattle.stable.specs.declared.scripted.Failing.{Failing}
-use Rattle.stable.specs.declared.scripted.Failing.TheVariants.{Old, New}
+use Rattle.stable.specs.declared.scripted.Failing.TheVariants.{Old, New, Read}
 use Rattle.world.specs.declared.event.Event.TheVariants as event
 use Rattle.schedule.specs.Extents.{IsPeriod, IsRect}
+use Rattle.schedule.specs.Keywords.{failing_text}
 use Rattle.schedule.specs.Numbers.{Writes, IsCoordinate}
 use Rattle.schedule.specs.Spelling.{WordsSpell, SpellsOp, SpellsAddition, SpellsInstant, SpellsPeriod, SpellsVisit, SpellsQuery, OfFeature}
-use Rattle.schedule.specs.Spelling.{BeginsWith, IsOneWord, ArmsNode, SpellsRound, Submits, Asks, operation_of, question_of, failing_text}
+use Rattle.schedule.specs.Spelling.{BeginsWith, IsOneWord, ArmsNode, SpellsRound, Submits, Asks, operation_of, question_of}
 use Rattle.schedule.specs.Table.{Row, line_of, submit_of, query_of, NameEach}
 use Rattle.schedule.specs.Words.{blank, words_of}
 use Rattle.schedule.specs.declared.action.Action.{Action}
@@ -272,11 +273,12 @@ one_numbered least limit first words m n small (xs, ex, (v, ev, a)) (ys, ey, (w,
 
 -- the two ways to fail have two texts
 abbrev failing_back : List ℕ → Failing
-failing_back word = cond (bytes_eq word (codes "old")) Old New
+failing_back word = cond (bytes_eq word (codes "old")) Old (cond (bytes_eq word (codes "new")) New Read)
 
 failing_is_back : (failing : Failing) → failing_back (failing_text failing) ≡ failing
 failing_is_back Old = refl
 failing_is_back New = refl
+failing_is_back Read = refl
 
 failing_text-injective : (a b : Failing) → failing_text a ≡ failing_text b → a ≡ b
 failing_text-injective a b same = sym (failing_is_back a) ∙ ap failing_back same ∙ failing_is_back b

@@ -12,14 +12,13 @@ use Rattle.store.specs.declared.op.Op.TheVariants as op
 use Rattle.store.specs.declared.query.Query.{Query}
 use Rattle.store.specs.declared.query.Query.TheVariants as query
 use Rattle.stable.specs.declared.scripted.Failing.{Failing}
-use Rattle.stable.specs.declared.scripted.Failing.TheVariants.{Old, New}
 use Rattle.world.specs.declared.event.Event.TheVariants as event
 use Rattle.schedule.specs.Codes.{code_of, IsLowest}
-use Rattle.schedule.specs.Keywords.{text_of, operation_text}
+use Rattle.schedule.specs.Keywords.{text_of, failing_text, operation_text}
 use Rattle.schedule.specs.Lines.{NumberedText}
 use Rattle.schedule.specs.Reading.{IsLineRefusal}
 use Rattle.schedule.specs.Rows.{IsWordsFault, in_first_line}
-use Rattle.schedule.specs.Spelling.{Spells, SpellsOp, SpellsQuery, SpellsRound, Submits, WordsSpell, failing_text, operation_of}
+use Rattle.schedule.specs.Spelling.{Spells, SpellsOp, SpellsQuery, SpellsRound, Submits, WordsSpell, operation_of}
 use Rattle.schedule.specs.Spelling.{question_of}
 use Rattle.schedule.specs.Table.{a_failing, line_of, submit_of, query_of, IsOfForm, HasItsCount, HasFault, HasFirstFault, HasUnknownWord}
 use Rattle.schedule.specs.Table.{HasWrongDocument, IsPrintable, keyword_places, operation_places, question_places}
@@ -96,8 +95,7 @@ one_row_of n key words others other e fit its_count = rw e (record {
 })
 
 a_failing_text : (failing : Failing) → IsOfForm 0 a_failing (failing_text failing ∷ [])
-a_failing_text Old = inl refl
-a_failing_text New = inr refl
+a_failing_text failing = (failing, refl)
 
 pub row_of : (n : ℕ) (words : List (List ℕ)) (action : Action) → WordsSpell n words action → IsRowOf n words
 row_of n words (Step (event.Submit node client number asked)) (others, s, spells) =

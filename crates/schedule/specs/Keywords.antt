@@ -1,5 +1,7 @@
 -- The words that say what a line is.
 use Rattle.std.specs.Prelude.{ℕ, List, codes}
+use Rattle.stable.specs.declared.scripted.Failing.{Failing}
+use Rattle.stable.specs.declared.scripted.Failing.TheVariants.{Old, New, Read}
 use Rattle.schedule.specs.declared.keyword.Keyword.{Keyword}
 use Rattle.schedule.specs.declared.keyword.Keyword.TheVariants.{Nodes, Deliver, Drop, Flush, Timeout, Tick, Restart, Fault, Round}
 use Rattle.schedule.specs.declared.keyword.Operation.{Operation}
@@ -24,6 +26,12 @@ abbrev pub operation_text : Operation → List ℕ
 operation_text Put = codes "put"
 operation_text Append = codes "append"
 operation_text Remove = codes "remove"
+
+-- the word after `fault NODE`
+abbrev pub failing_text : Failing → List ℕ
+failing_text Old = codes "old"
+failing_text New = codes "new"
+failing_text Read = codes "read"
 
 -- the word after `query NODE`
 abbrev pub question_text : Question → List ℕ

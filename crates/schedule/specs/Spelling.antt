@@ -10,10 +10,9 @@ use Rattle.store.specs.declared.op.Op.TheVariants as op
 use Rattle.store.specs.declared.query.Query.{Query}
 use Rattle.store.specs.declared.query.Query.TheVariants as query
 use Rattle.stable.specs.declared.scripted.Failing.{Failing}
-use Rattle.stable.specs.declared.scripted.Failing.TheVariants.{Old, New}
 use Rattle.world.specs.declared.event.Event.TheVariants as event
 use Rattle.schedule.specs.Extents.{IsPeriod, IsRect}
-use Rattle.schedule.specs.Keywords.{operation_text, question_text}
+use Rattle.schedule.specs.Keywords.{failing_text, operation_text, question_text}
 use Rattle.schedule.specs.Numbers.{IsCoordinate}
 use Rattle.schedule.specs.Table.{IsNode, NameEach, IsClient, IsRequestNumber, IsFrameNumber, IsPrintable}
 use Rattle.schedule.specs.Words.{words_of}
@@ -118,10 +117,6 @@ pub record Asks (n : ℕ) (question : Question) (words others : List (List ℕ))
 -- there is one word, of which P holds
 abbrev pub IsOneWord : (List ℕ → Type 0) → List (List ℕ) → Type 0
 IsOneWord P words = (word : List ℕ) × (words ≡ word ∷ []) × P word
-
-abbrev pub failing_text : Failing → List ℕ
-failing_text Old = codes "old"
-failing_text New = codes "new"
 
 -- the words after `fault` arm the node's storage
 abbrev pub ArmsNode : ℕ → List (List ℕ) → ℕ → Failing → Type 0

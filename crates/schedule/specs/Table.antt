@@ -5,8 +5,9 @@ use Rattle.mfjson.specs.Document.{IsDocumentOf}
 use Rattle.mfjson.specs.declared.feature.Feature.{Feature}
 use Rattle.tpoint.specs.Extents.{Span, Area}
 use Rattle.tpoint.specs.Ids.{IsId}
+use Rattle.stable.specs.declared.scripted.Failing.{Failing}
 use Rattle.schedule.specs.Extents.{IsPeriod, IsRect}
-use Rattle.schedule.specs.Keywords.{text_of, operation_text, question_text}
+use Rattle.schedule.specs.Keywords.{text_of, failing_text, operation_text, question_text}
 use Rattle.schedule.specs.Numbers.{Writes, IsCoordinate}
 use Rattle.schedule.specs.Words.{words_of}
 use Rattle.schedule.specs.declared.keyword.Keyword.{Keyword}
@@ -131,7 +132,7 @@ IsOfForm n a_node (word ∷ []) = (node : ℕ) × IsNode n word node
 IsOfForm n a_client (word ∷ []) = (client : ℕ) × IsClient word client
 IsOfForm n a_request_number (word ∷ []) = (number : ℕ) × IsRequestNumber word number
 IsOfForm n a_frame_number (word ∷ []) = (frame : ℕ) × IsFrameNumber word frame
-IsOfForm n a_failing (word ∷ []) = (word ≡ codes "old") ⊎ (word ≡ codes "new")
+IsOfForm n a_failing (word ∷ []) = (failing : Failing) × (word ≡ failing_text failing)
 IsOfForm n an_id (word ∷ []) = IsId word
 IsOfForm n a_datetime (word ∷ []) = (t : ℕ) × ReadsAs word t
 IsOfForm n a_coordinate (word ∷ []) = (value : ℤ) × IsCoordinate word value

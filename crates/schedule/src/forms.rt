@@ -6,7 +6,8 @@ ghost use Rattle.tpoint.specs.Ids.{IsId};
 ghost use Rattle.mfjson.specs.Datetime.{ReadsAs};
 ghost use Rattle.schedule.specs.Extents.{IsBegin, IsEnd, IsPeriod, IsRect};
 ghost use Rattle.schedule.specs.Numbers.{Writes, IsCoordinate, IsPlain, IsSize};
-ghost use Rattle.schedule.specs.Spelling.{failing_text};
+ghost use Rattle.stable.specs.declared.scripted.Failing.{Failing};
+ghost use Rattle.schedule.specs.Keywords.{failing_text};
 ghost use Rattle.schedule.specs.declared.forms.TheConstants.{SIZES};
 ghost use Rattle.schedule.specs.Table.{IsNode, IsClient, IsRequestNumber, IsFrameNumber};
 
@@ -43,14 +44,15 @@ pub(crate) fn request_number(word: &[u8]) -> Option<Number>
     Number::new(decimal(word)?)
 }
 
-/// How a put is to fail, as the word says.
+/// How a put or a reading of the keys is to fail, as the word says.
 pub(crate) fn failing(word: &[u8]) -> Option<Failing>
-    ensures { MatchOption result ((word.now ≢ codes "old") × (word.now ≢ codes "new"))
+    ensures { MatchOption result ((failing : Failing) → word.now ≢ failing_text failing)
         (λ failing. word.now ≡ failing_text failing) }
 {
     match word {
         b"old" => Some(Failing::Old),
         b"new" => Some(Failing::New),
+        b"read" => Some(Failing::Read),
         _ => None,
     }
 }

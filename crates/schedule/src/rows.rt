@@ -32,7 +32,7 @@ pub(crate) fn node_row(nodes: Nodes, words: Words) -> Result<NodeId, ScheduleFau
     node(nodes, words.only()?).ok_or(ScheduleFault::WordForm)
 }
 
-/// After `fault`: a node, and how its next put fails.
+/// After `fault`: a node, and how its next put, or its next reading of the keys, fails.
 pub(crate) fn fault_row(nodes: Nodes, words: Words) -> Result<Event, ScheduleFault>
     ensures { MatchResult result
         (λ event. WordsSpell nodes (text_of Keyword.Fault ∷ words.entry) (Step event))

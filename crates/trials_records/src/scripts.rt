@@ -103,6 +103,35 @@ fn armed_puts_fail_once(rt: HostRuntime) {
     }
 }
 
+// How many keys are listed.
+fn listed<S: Stable>(alloc: Global, storage: &mut S) -> Result<usize, StableFault> {
+    Ok(storage.keys(alloc)?.len())
+}
+
+#[test]
+fn an_armed_read_fails_once_and_a_put_leaves_it(rt: HostRuntime) {
+    let alloc = rt.alloc();
+    let mut storage = Scripted::new(alloc, MemStable::new(alloc));
+    storage.arm(Failing::Old);
+    storage.arm(Failing::Read);
+    assert_eq!(rt; storage.put(alloc, Key::Round, b"a"), Ok(()));
+    assert_eq!(rt; holds(alloc, &mut storage, Key::Round, b"a"), Ok(true));
+    assert_eq!(rt; listed(alloc, &mut storage), Err(StableFault::Device));
+    assert_eq!(rt; listed(alloc, &mut storage), Ok(1));
+    assert_eq!(rt; storage.puts().len(), 1);
+}
+
+#[test]
+fn keys_leave_an_armed_put(rt: HostRuntime) {
+    let alloc = rt.alloc();
+    let mut storage = Scripted::new(alloc, MemStable::new(alloc));
+    storage.arm(Failing::Read);
+    storage.arm(Failing::Old);
+    assert_eq!(rt; listed(alloc, &mut storage), Ok(0));
+    assert_eq!(rt; storage.put(alloc, Key::Round, b"a"), DEVICE);
+    assert_eq!(rt; storage.put(alloc, Key::Round, b"a"), Ok(()));
+}
+
 // How the storage inside fails, and how many puts are listed after the next load.
 const UNSURE: [(Failing, usize); 2] = [(Failing::Old, 0), (Failing::New, 1)];
 

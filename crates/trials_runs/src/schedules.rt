@@ -254,7 +254,7 @@ submit 0 7 1 remove bus-7\n\
 submit 2 255 18446744073709551615 remove _.Z9\n\
 \n\
 deliver 0\ndrop 18446744073709551615\nflush\n\n\n\
-timeout 1\ntick 2\nrestart 0\nfault 1 old\nfault 2 new\nquery 0 count\nround 2 1 0 1";
+timeout 1\ntick 2\nrestart 0\nfault 1 old\nfault 2 new\nquery 0 count\nfault 0 read\nround 2 1 0 1";
 
 // the action of the one line after `nodes 3`
 fn only_action(alloc: Global, line: &[u8]) -> Result<Action, Fail> {
@@ -294,6 +294,7 @@ fn asked_for(alloc: Global, line: u64) -> Result<Action, Fail> {
         15 => Event::Fault(node(1)?, Failing::Old),
         16 => Event::Fault(node(2)?, Failing::New),
         17 => Event::Query(node(0)?, Query::Count),
+        18 => Event::Fault(node(0)?, Failing::Read),
         _ => {
             let members = Vec::from_array(alloc, [node(1)?, node(0)?, node(1)?])?;
             return Ok(Action::Round {
@@ -310,13 +311,13 @@ fn whole_schedule(rt: HostRuntime) -> Result<(), Fail> {
     let schedule = parse_schedule(rt.alloc(), WHOLE).ok().ok_or("a schedule")?;
     let nodes = schedule.nodes();
     assert_eq!(rt; nodes.count(), 3);
-    assert_eq!(rt; (schedule.first(), schedule.last()), (3, 18));
+    assert_eq!(rt; (schedule.first(), schedule.last()), (3, 19));
     for line in schedule.lines() {
         let wanted = asked_for(rt.alloc(), line.number)?;
         assert!(rt; line.action == wanted, "at line {}", line.number);
     }
     let taken = schedule.into_lines();
-    assert_eq!(rt; taken.len(), 12);
+    assert_eq!(rt; taken.len(), 13);
     Ok(())
 }
 

@@ -3,7 +3,7 @@ use Rattle.std.proofs.Common.{◌≡◌, ◌⊎◌, ℕ, ◌+◌, ◌^◌, ◌<�
 use Rattle.std.proofs.Common.{false, Option, Some, None, IsSome, IfSome, IfOk, IfErr, OnOk, OnErr, IsErrOf, Result, Ok, Err, MatchBool}
 use Rattle.std.proofs.Common.{refl, sym, ap, subst, ◌∙◌, arith, rules, length-append}
 use Rattle.stable.specs.Script.{Script, counted}
-use Rattle.stable.specs.ScriptLaws.{read_fails_fired}
+use Rattle.stable.specs.ScriptLaws.{read_fails_inside_fired, read_fails_fired}
 use Rattle.stable.specs.declared.key.Key.{Key}
 use Rattle.stable.specs.declared.stable.Stable.{Ghosts}
 use Rattle.stable.specs.Storages.{scripted}
@@ -54,12 +54,12 @@ module _ {S : Type 0} (storages : Ghosts S) where
   fails_count a b key bytes (inl f) = inr (ap (λ (t : Script S). t.fired) f.after ∙ ap counted f.before.fired)
   fails_count a b key bytes (inr (inl f)) = inr f.fired
   fails_count a b key bytes (inr (inr (inl f))) = inl (ap (λ (t : Script S). t.fired) f.after ∙ f.before.fired)
-  fails_count a b key bytes (inr (inr (inr f))) = inl (read_fails_fired a b f.inner)
+  fails_count a b key bytes (inr (inr (inr f))) = inl (read_fails_inside_fired a b f.inner)
 
   pub script_counts : CountsCalls (scripted storages)
   script_counts = record {
     reading = λ a b r. inl r.fired;
-    failed_reading = λ a b f. inl (read_fails_fired a b f);
+    failed_reading = read_fails_fired;
     putting = λ a b key bytes p. inl p.fired;
     failed_putting = fails_count;
   }

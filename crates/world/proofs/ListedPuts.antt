@@ -5,7 +5,7 @@ use Rattle.std.proofs.lemmas.Bool.Decides.{eqb_tells}
 use Rattle.std.proofs.lemmas.List.Elements.{Contains-append_left, Contains-push, Contains-push_cases}
 use Rattle.std.proofs.lemmas.Option.{same_Some, none-some}
 use Rattle.stable.specs.Records.{Records, rank, with_record}
-use Rattle.stable.specs.Script.{Script, Write, Shows, noted, Settles, Adds, FailsOld, FailsInside}
+use Rattle.stable.specs.Script.{Script, Write, Shows, noted, Settles, ReadFailsInside, Adds, FailsOld, FailsInside}
 use Rattle.stable.specs.ScriptLaws.{reads_listed}
 use Rattle.stable.specs.declared.key.Key.{Key}
 use Rattle.stable.proofs.KeyLemmas.{same_rank}
@@ -178,14 +178,27 @@ module _ {S : Type 0} (storages : Ghosts S) (laws : IsLawful storages) where
   read_same : (a b : Script S) → (scripted storages).reads a b → storages.IsHonest b.inner → Same a b
   read_same a b r honest = listed_same a b (laws.reads_contents a.inner b.inner r.inner honest) honest r.list
 
-  read_failed_same : (a b : Script S) → (scripted storages).read_fails a b → storages.IsHonest b.inner → Same a b
-  read_failed_same a b f honest =
-      let before : storages.IsHonest f.between.inner = laws.read_fails_honest f.between.inner b.inner f.inner honest in
-      let s : Same a f.between = read_same a f.between f.before before in
-      let t : Same f.between b = same_lists (contents_inside storages.contents) f.between b
-      (laws.read_fails_contents f.between.inner b.inner f.inner honest)
-      (ap (λ (x : Script S). x.writes) f.after) (ap (λ (x : Script S). x.unsure) f.after) in
+  -- the lists and the records were left since then
+  left_same : (a between b : Script S) → (scripted storages).reads a between → storages.IsHonest between.inner
+      → storages.contents b.inner ≡ storages.contents between.inner → b.writes ≡ between.writes → b.unsure ≡ between.unsure → Same a b
+  left_same a between b before was records writes unsure =
+      let s : Same a between = read_same a between before was in
+      let t : Same between b = same_lists (contents_inside storages.contents) between b records writes unsure in
       record { records = t.records ∙ s.records; to = λ w x. t.to w (s.to w x); from = λ w x. s.from w (t.from w x) }
+
+  read_failed_inside_same : (a b : Script S) → ReadFailsInside storages.contents storages.IsHonest storages.reads storages.read_fails a b
+      → storages.IsHonest b.inner → Same a b
+  read_failed_inside_same a b f honest =
+      left_same a f.between b f.before (laws.read_fails_honest f.between.inner b.inner f.inner honest)
+      (laws.read_fails_contents f.between.inner b.inner f.inner honest)
+      (ap (λ (x : Script S). x.writes) f.after) (ap (λ (x : Script S). x.unsure) f.after)
+
+  read_failed_same : (a b : Script S) → (scripted storages).read_fails a b → storages.IsHonest b.inner → Same a b
+  read_failed_same a b (inl f) honest =
+      let inner : b.inner ≡ f.between.inner = ap (λ (x : Script S). x.inner) f.after in
+      left_same a f.between b f.before (subst storages.IsHonest inner honest) (ap storages.contents inner)
+      (ap (λ (x : Script S). x.writes) f.after) (ap (λ (x : Script S). x.unsure) f.after)
+  read_failed_same a b (inr f) honest = read_failed_inside_same a b f honest
 
   adds_on : (a between b : Script S) (key : Key) (bytes : List ℕ) → (scripted storages).reads a between
       → Adds storages.puts between key bytes b
@@ -219,22 +232,26 @@ module _ {S : Type 0} (storages : Ghosts S) (laws : IsLawful storages) where
   failed_on a b key bytes (inr (inl f)) honest = adds_on a f.between b key bytes f.before f.adds honest
   failed_on a b key bytes (inr (inr (inl f))) honest = fails_inside_on a b key bytes f honest
   failed_on a b key bytes (inr (inr (inr f))) honest = same_goes (contents_inside storages.contents) a b
-      (read_failed_same a b f.inner honest)
+      (read_failed_inside_same a b f.inner honest)
 
   read_unsure : (a b : Script S) → ((b.writes ≡ a.writes) × (b.unsure ≡ a.unsure)) ⊎ Settles storages.contents storages.IsHonest a b
       → (b.unsure ≡ None) ⊎ ((b.writes ≡ a.writes) × (b.unsure ≡ a.unsure))
   read_unsure a b (inl list) = inr list
   read_unsure a b (inr s) = inl s.unsure
 
+  left_unsure : (a between b : Script S) → (scripted storages).reads a between → b.writes ≡ between.writes → b.unsure ≡ between.unsure
+      → (b.unsure ≡ None) ⊎ ((b.writes ≡ a.writes) × (b.unsure ≡ a.unsure))
+  left_unsure a between b before writes unsure = elim (read_unsure a between before.list) [
+    | inl sure ↦ inl (unsure ∙ sure)
+    | inr same ↦ inr (writes ∙ same.0, unsure ∙ same.1)
+  ]
+
   read_failed_unsure : (a b : Script S) → (scripted storages).read_fails a b
       → (b.unsure ≡ None) ⊎ ((b.writes ≡ a.writes) × (b.unsure ≡ a.unsure))
-  read_failed_unsure a b f =
-      let list : b.writes ≡ f.between.writes = ap (λ (x : Script S). x.writes) f.after in
-      let unsure : b.unsure ≡ f.between.unsure = ap (λ (x : Script S). x.unsure) f.after in
-      elim (read_unsure a f.between f.before.list) [
-        | inl sure ↦ inl (unsure ∙ sure)
-        | inr same ↦ inr (list ∙ same.0, unsure ∙ same.1)
-      ]
+  read_failed_unsure a b (inl f) =
+      left_unsure a f.between b f.before (ap (λ (x : Script S). x.writes) f.after) (ap (λ (x : Script S). x.unsure) f.after)
+  read_failed_unsure a b (inr f) =
+      left_unsure a f.between b f.before (ap (λ (x : Script S). x.writes) f.after) (ap (λ (x : Script S). x.unsure) f.after)
 
   failed_unsure : (a b : Script S) (key : Key) (bytes : List ℕ) → (scripted storages).fails a key bytes b → a.unsure ≡ None
       → (b.unsure ≡ None) ⊎ (b.writes ≡ a.writes)
@@ -242,7 +259,7 @@ module _ {S : Type 0} (storages : Ghosts S) (laws : IsLawful storages) where
   failed_unsure a b key bytes (inr (inl f)) sure = inl f.adds.unsure
   failed_unsure a b key bytes (inr (inr (inl f))) sure = inr (ap (λ (x : Script S). x.writes) f.after
       ∙ (reads_listed a f.between sure f.before).0)
-  failed_unsure a b key bytes (inr (inr (inr f))) sure = elim (read_failed_unsure a b f.inner) [ inl now ↦ inl now | inr same ↦ inr same.0 ]
+  failed_unsure a b key bytes (inr (inr (inr f))) sure = elim (read_failed_unsure a b (inr f.inner)) [ inl now ↦ inl now | inr same ↦ inr same.0 ]
 
   pub script_puts : KeepsPuts (scripted storages)
   script_puts = record {
