@@ -143,7 +143,7 @@ impl<S: Stable> Node<S> {
 impl<S: Stable> Node<Scripted<S>> {
     ghost use Rattle.node.specs.Nodes.{state_of};
 
-    /// The next put fails so.
+    /// The next put, or the reading with which the next restart begins, fails so.
     pub fn arm(&mut self, failing: Failing)
         ensures { state_of self.new ≡ record (state_of self.old) {
           storage = record (state_of self.old).storage { armed = Some failing };

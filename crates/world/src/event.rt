@@ -28,7 +28,7 @@ pub enum Event {
     Tick(NodeId),
     /// A node loses what is not in its records, and starts from these.
     Restart(NodeId),
-    /// The next put of a node fails so.
+    /// A node's next put, or the reading with which its next restart begins, fails so.
     Fault(NodeId, Failing),
     /// A node is asked for what its database holds.
     Query(NodeId, Query),

@@ -365,7 +365,7 @@ impl<S: Stable> Run<S> {
         Ok(())
     }
 
-    // The next put of a node fails so.
+    // A node's next put, or its next reading of the keys, fails so.
     fn arm(&mut self, node: NodeId, failing: Failing) -> Result<(), WorldFault>
         ensures arms { OnOk result (ArmsAt (run_of self.old) node failing (run_of self.new)) }
         ensures err { OnErr result (run_of self.new ≡ run_of self.old) }
@@ -391,7 +391,7 @@ impl<S: Stable> Run<S> {
         Ok(())
     }
 
-    // A node's next put fails so.
+    // A node's next put, or its next reading of the keys, fails so.
     fn arm_node(&mut self, node: NodeId, failing: Failing)
         requires there { node < vec_len self.old.nodes }
         requires room { HasRoom self.old }
