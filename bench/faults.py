@@ -16,6 +16,7 @@ import subprocess
 import sys
 
 import explained
+from failmalloc import afterwards, nodes_of
 
 HERE = os.path.dirname(os.path.abspath(__file__))
 DATA = os.path.join(HERE, "..", "crates", "examples", "data")
@@ -26,12 +27,6 @@ NO_FRAME = re.compile(r"mfpx: line ([0-9]+) fault 51\n")
 def faults(node):
     """The lines that make the records of a node fail, in each of the three ways."""
     return ["fault %d old" % node], ["fault %d new" % node], ["fault %d read" % node, "restart %d" % node]
-
-
-def afterwards(nodes):
-    """What follows the last line of a schedule."""
-    each = range(nodes)
-    return ["restart %d" % node for node in each] + ["tick %d" % node for node in each] + ["flush"] + ["query %d count" % node for node in each]
 
 
 def ended(program, lines):
@@ -58,12 +53,11 @@ def main():
     for file in files:
         with open(file, encoding="utf-8") as it:
             lines = [line for line in it.read().splitlines() if line]
-        nodes = int(lines[0].split()[1])
         counts = {"explained": 0, "no frame": 0}
-        for node in range(nodes):
+        for node in range(nodes_of(lines)):
             for at in range(1, len(lines)):
                 for more in faults(node):
-                    changed = lines[:at] + more + lines[at:] + afterwards(nodes)
+                    changed = lines[:at] + more + lines[at:] + afterwards(lines)
                     end = ended(program, changed)
                     if end in counts:
                         counts[end] += 1

@@ -271,7 +271,7 @@ one_numbered : (least limit : ℕ) (first : List ℕ) (words : List (List ℕ)) 
 one_numbered least limit first words m n small (xs, ex, (v, ev, a)) (ys, ey, (w, ew, b)) =
     let same : v ≡ w = cc in one_number least limit v w m n small same a b
 
--- the two ways to fail have two texts
+-- the three ways to fail have three texts
 abbrev failing_back : List ℕ → Failing
 failing_back word = cond (bytes_eq word (codes "old")) Old (cond (bytes_eq word (codes "new")) New Read)
 
