@@ -1,17 +1,39 @@
 -- How the program ends where nothing is done.
-use Rattle.std.specs.Prelude.{ℕ}
+use Rattle.std.specs.Prelude.{◌≡◌, ℕ, List, Unit, Err}
+use Rattle.hex.specs.declared.error.FromHexError.{FromHexError}
+use Rattle.hex.specs.declared.error.FromHexError.TheVariants as digits
 use Rattle.proposer.specs.declared.fault.SubmitFault.{SubmitFault}
 use Rattle.proposer.specs.declared.fault.SubmitFault.TheVariants as submit
+use Rattle.wire.specs.Faults.{code_of}
+use Rattle.wire.specs.FrameReading.{frame_in}
+use Rattle.wire.specs.declared.frames.fault.WireFault.{WireFault}
+use Rattle.wire.specs.declared.frames.fault.WireFault.TheVariants as wire
 use Rattle.benchmarks.specs.declared.fault.Fault.{Fault}
-use Rattle.benchmarks.specs.declared.fault.Fault.TheVariants.{Usage, Memory, Device}
+use Rattle.benchmarks.specs.declared.fault.Fault.TheVariants.{Usage, Memory, Device, Frame}
 
 -- the exit status
 abbrev pub status_of : Fault → ℕ
 status_of Usage = 2
 status_of Memory = 3
 status_of Device = 3
+status_of (Frame code) = 1
 
 -- more requests than may wait are too many
 abbrev pub of_submit : SubmitFault → Fault
 of_submit submit.QueueFull = Usage
 of_submit submit.Memory = Memory
+
+-- what is no hexadecimal digits asks for nothing
+abbrev pub of_digits : FromHexError → Fault
+of_digits digits.OutOfMemory = Memory
+of_digits fault = Usage
+
+-- why bytes are no frame
+abbrev pub of_wire : WireFault → Fault
+of_wire wire.Memory = Memory
+of_wire fault = Frame (code_of fault)
+
+-- bytes are refused among so many nodes for want of memory, or for the fault that they have
+abbrev pub IsRefusalOf : ℕ → List ℕ → Fault → Type 0
+IsRefusalOf nodes bytes Memory = Unit {0}
+IsRefusalOf nodes bytes fault = (why : WireFault) × (frame_in nodes bytes ≡ Err why) × (fault ≡ of_wire why)

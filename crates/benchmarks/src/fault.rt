@@ -1,15 +1,17 @@
 //! Why nothing is done.
 
 ghost use Rattle.std.specs.Prelude.{◌≡◌};
-ghost use Rattle.benchmarks.specs.Faults.{status_of, of_submit};
+ghost use Rattle.benchmarks.specs.Faults.{status_of, of_submit, of_wire, of_digits};
 ghost use Rattle.benchmarks.specs.declared.fault.Fault.TheVariants.{Usage, Memory};
 
+use hex::FromHexError;
 use proposer::{SubmitFault, TimeoutFault};
 use sessions::TooLong;
 use stable::StableFault;
 use std::alloc::{AllocError, AllocFailed};
 use thiserror::Error;
 use tpoint::SeqFault;
+use wire::WireFault;
 use world::WorldFault;
 
 /// Why a task is not done.
@@ -24,6 +26,9 @@ pub enum Fault {
     /// A stream failed.
     #[error("device")]
     Device,
+    /// The bytes are no frame, for the fault of this number.
+    #[error("fault {0}")]
+    Frame(u8),
 }
 
 impl Fault {
@@ -32,6 +37,7 @@ impl Fault {
         ensures { result ≡ status_of self }
     {
         match self {
+            Fault::Frame(_) => 1,
             Fault::Usage => 2,
             Fault::Memory | Fault::Device => 3,
         }
@@ -104,6 +110,28 @@ impl From<SubmitFault> for Fault {
         match refused {
             SubmitFault::QueueFull => Fault::Usage,
             SubmitFault::Memory => Fault::Memory,
+        }
+    }
+}
+
+impl From<FromHexError> for Fault {
+    ghost from_gives = { λ refused fault. fault ≡ of_digits refused };
+
+    fn from(refused: FromHexError) -> Fault {
+        match refused {
+            FromHexError::OutOfMemory => Fault::Memory,
+            _ => Fault::Usage,
+        }
+    }
+}
+
+impl From<WireFault> for Fault {
+    ghost from_gives = { λ refused fault. fault ≡ of_wire refused };
+
+    fn from(refused: WireFault) -> Fault {
+        match refused {
+            WireFault::Memory => Fault::Memory,
+            _ => Fault::Frame(refused.code()),
         }
     }
 }

@@ -3,7 +3,8 @@
 //! `benchmarks WORK SIZE ROUNDS` asks for one work in so many rounds, of a moving point with so many
 //! points or of a part of a node that holds so many things, and prints the sum of what was answered,
 //! which is the same on every machine. It reads no clock: the scripts in `bench/` do. Without words it does so for each line of
-//! the input; the sums in `stdout` were computed from the definitions by other programs.
+//! the input; the sums in `stdout` were computed from the definitions by other programs. There a line `frame NODES FRAME`, whose frame is in
+//! hexadecimal digits, is answered with the frame, read and spelled again, or with its fault.
 //!
 //! `task` reads the words, and `scene` makes a moving point and what is asked of it. `numbers` has
 //! the answers of one moving point as numbers, `queries` and `operations` those of a full database,
@@ -20,6 +21,7 @@ mod documents;
 mod execution;
 mod fault;
 mod fleet;
+mod frames;
 mod indexes;
 mod leader;
 mod learners;
@@ -41,11 +43,13 @@ ghost use Rattle.benchmarks.specs.Rounds.{IsSumOf};
 ghost use Rattle.benchmarks.specs.Tasks.{Asks};
 
 use crate::fault::Fault;
+use crate::frames::read_again;
 use crate::parts::part_total;
 use crate::rounds::scene_total;
 use crate::scene::Scene;
 use crate::task::{Task, Work, task_of};
 use std::env;
+use std::fmt::Display;
 use std::io::{self, ErrorKind, Read};
 use std::process::ExitCode;
 
@@ -64,10 +68,7 @@ fn answered(rt: &HostRuntime) -> Result<(), Fault> {
         return answer_lines(rt);
     }
     let sum = sum_of(rt, words.as_slice())?;
-    match println!(rt; "{sum}") {
-        Ok(()) => Ok(()),
-        Err(_) => Err(Fault::Device),
-    }
+    print(rt, Ok(sum))
 }
 
 /// The words after the program's name.
@@ -83,22 +84,32 @@ fn own_words(rt: &HostRuntime) -> Result<Vec<String>, Fault> {
     Ok(words)
 }
 
-/// Prints for each line of the input the sum of the task that its words ask for, or why there is none.
+/// Prints for each line of the input the sum of the task that its words ask for, or a frame that is read again, or why
+/// there is none.
 fn answer_lines(rt: &HostRuntime) -> Result<(), Fault> {
     let mut lines = String::new(rt.alloc());
     if rt.stdin().read_to_string(&mut lines).is_err() {
         return Err(Fault::Device);
     }
     for line in lines.lines() {
-        let told = match answer(rt, line) {
-            Ok(sum) => println!(rt; "{sum}"),
-            Err(fault) => println!(rt; "{fault}"),
-        };
-        if told.is_err() {
-            return Err(Fault::Device);
+        match line.strip_prefix("frame ") {
+            Some(words) => print(rt, read_again(rt.alloc(), words))?,
+            None => print(rt, answer(rt, line))?,
         }
     }
     Ok(())
+}
+
+/// Prints what a line of the input comes to, or why it comes to nothing.
+fn print<T: Display>(rt: &HostRuntime, told: Result<T, Fault>) -> Result<(), Fault> {
+    let printed = match told {
+        Ok(answer) => println!(rt; "{answer}"),
+        Err(fault) => println!(rt; "{fault}"),
+    };
+    match printed {
+        Ok(()) => Ok(()),
+        Err(_) => Err(Fault::Device),
+    }
 }
 
 /// The sum of the task that the words of the line ask for, which lie apart by blanks.
