@@ -1,5 +1,5 @@
 -- How the program ends where nothing is done.
-use Rattle.std.specs.Prelude.{◌≡◌, ℕ, List, Unit, Err}
+use Rattle.std.specs.Prelude.{◌≡◌, ℕ, List, Err}
 use Rattle.hex.specs.declared.error.FromHexError.{FromHexError}
 use Rattle.hex.specs.declared.error.FromHexError.TheVariants as digits
 use Rattle.proposer.specs.declared.fault.SubmitFault.{SubmitFault}

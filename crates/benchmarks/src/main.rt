@@ -101,7 +101,7 @@ fn answer_lines(rt: &HostRuntime) -> Result<(), Fault> {
 }
 
 /// Prints what a line of the input comes to, or why it comes to nothing.
-fn print<T: Display>(rt: &HostRuntime, told: Result<T, Fault>) -> Result<(), Fault> {
+fn print<T: Display + Drop>(rt: &HostRuntime, told: Result<T, Fault>) -> Result<(), Fault> {
     let printed = match told {
         Ok(answer) => println!(rt; "{answer}"),
         Err(fault) => println!(rt; "{fault}"),
