@@ -20,8 +20,9 @@ from killed import NODES, left_by, records
 
 REQUESTS = 40
 KILOBYTE = 1024
-# The limits of a file's size, in kilobytes. A new file of a node and its log take some ten.
-LIMITS = range(8, 264, 8)
+# The limits of a file's size, in kilobytes. A log is given room for 256 when its file is made, so that none can be made below 272, and as
+# much again, then 128 more, whenever that is full.
+LIMITS = [8, 64, 128, 192, 256, *range(272, 848, 16)]
 
 
 def whole_run():
@@ -86,7 +87,7 @@ def cases(folder):
         else:
             for name in os.listdir(folder):
                 os.remove(os.path.join(folder, name))
-            room = shutil.disk_usage(folder).free - limit * KILOBYTE
+            room = shutil.disk_usage(folder).free - limit * KILOBYTE * NODES
             with open(os.path.join(folder, "ballast"), "wb") as ballast:
                 ballast.write(b"\0" * max(room, 0))
             yield folder, None

@@ -353,6 +353,8 @@ class Runs:
             return self.replayed(data, *end)
         if words == ["check", "-"]:
             return self.checked(data, *end)
+        if words == ["loopback", "-"]:
+            return self.looped(data, *end)
         return self.refused(words, *end)
 
     def compare(self, words, data, end):
@@ -365,15 +367,31 @@ class Runs:
 
     def replayed(self, data, status, out, err):
         """How a replay ended."""
-        try:
-            nodes, events = schedules.read(data)
-        except schedules.Faulty as faulty:
-            if (status, err) != (1, b"mfpx: line %d fault %d\n" % (faulty.line, faulty.fault)):
-                raise Failed("not the first faulty line with its lowest fault") from None
-            return "fault %d" % faulty.fault
+        events, fault = self.first_fault(data, status, err)
+        if fault is not None:
+            return "fault %d" % fault
         if status != 0:
             return self.ended_at(events, status, err)
         return self.explained(data, events, out)
+
+    def looped(self, data, status, out, err):
+        """How a loopback of a schedule ended that asks for nothing."""
+        _, fault = self.first_fault(data, status, err)
+        if fault is not None:
+            return "fault %d" % fault
+        if (status, out) != (0, b"strangers 0\n"):
+            raise Failed("a loopback in which nothing is asked ends with status %d and %r" % (status, err))
+        return "looped"
+
+    def first_fault(self, data, status, err):
+        """The events of a schedule and no fault; or the fault of its first faulty line, with which the run has to end."""
+        try:
+            _, events = schedules.read(data)
+        except schedules.Faulty as faulty:
+            if (status, err) != (1, b"mfpx: line %d fault %d\n" % (faulty.line, faulty.fault)):
+                raise Failed("not the first faulty line with its lowest fault") from None
+            return None, faulty.fault
+        return events, None
 
     def ended_at(self, events, status, err):
         """How a replay of a right schedule ended that didn't come to its end."""
@@ -412,7 +430,7 @@ class Runs:
 
     def refused(self, words, status, out, err):
         """How a run of other words ended: a usage, or a file that can't be used."""
-        is_form = len(words) == 2 and words[0] in ("replay", "check") and not words[1].startswith("-")
+        is_form = len(words) == 2 and words[0] in ("replay", "loopback", "check") and not words[1].startswith("-")
         if (status, err) == (3, DEVICE) if is_form else (status, err) in ((2, USAGE), (3, DEVICE)):
             return "usage" if status == 2 else "device"
         raise Failed("other words end with status %d and %r" % (status, err))
@@ -527,7 +545,7 @@ class Fuzzer:
     def words(self):
         """Words that are no form, or that name a file which can't be read."""
         draw = self.draw
-        pool = ("replay", "check", "-", "--", "", "missing/file", os.curdir, "--help", "-h", "--version", "-V", "--db", "loopback", "help",
+        pool = ("replay", "check", "loopback", "-", "--", "", "missing/file", os.curdir, "--help", "-h", "--version", "-V", "help",
                 "REPLAY", "x" * 5000, "caf\u00e9", "-x", "--file=-", "replay=-")
         words = [draw.choice(pool) for _ in range(draw.randrange(5))]
         return words, b"".join(draw.choice((b"nodes 3\n", b"{", b"")) for _ in range(2)) if words else b"nodes 3\n"

@@ -1,5 +1,5 @@
 -- What a run of the program prints, and how one ends that prints nothing.
-use Rattle.std.specs.Prelude.{◌≡◌, ◌⊎◌, ℕ, List, Option, Some, None, IfSome}
+use Rattle.std.specs.Prelude.{◌≡◌, ◌⊎◌, ℕ, List, length, Option, Some, None, IfSome}
 use Rattle.stable.specs.Script.{Script}
 use Rattle.stable.specs.declared.stable.Stable.{Ghosts}
 use Rattle.commandline.specs.Forms.{AskFor, NameFolder, NameInput}
@@ -20,11 +20,12 @@ MayName words left bytes = NameInput words → IfSome left (λ all. bytes ≡ al
 
 -- over files of which it is known what their calls may do
 module _ {F : Type 0} (files : Ghosts F) where
-  -- the bytes spell a schedule, and the text is the transcript of its run over records in files
+  -- the bytes spell a schedule, and the text is the transcript of its run over records in files, one for each node
   pub record IsKept (bytes text : List ℕ) : Type 0 where
     pub plan : Plan
     pub spelled : IsScheduleOf bytes plan
     pub stores : List F
+    pub one_each : length stores ≡ plan.nodes
     pub runs : IsRunOver files stores plan text
 
   -- they spell one whose run ends so
@@ -32,6 +33,7 @@ module _ {F : Type 0} (files : Ghosts F) where
     pub plan : Plan
     pub spelled : IsScheduleOf bytes plan
     pub stores : List F
+    pub one_each : length stores ≡ plan.nodes
     pub stops : StopsOver files stores plan failure
 
 -- through sockets of which it is known what their calls may do

@@ -1,6 +1,6 @@
 //! A run of the program over any streams.
 
-ghost use Rattle.std.specs.Prelude.{◌≡◌, ◌≢◌, ◌≤◌, ◌⊎◌, ℕ, List, map};
+ghost use Rattle.std.specs.Prelude.{◌≡◌, ◌≢◌, ◌≤◌, ◌⊎◌, ℕ, List, length, map};
 ghost use Rattle.std.specs.Prelude.{string_bytes, true, IfOk, IfErr, IfSome, OnErr, OnOk};
 ghost use Rattle.endings.specs.Failures.{line_text, status_of};
 ghost use Rattle.commandline.specs.Forms.{AskFor, NameInput, text_of as name_text};
@@ -55,7 +55,7 @@ pub fn command<R: Read, O: Write, E: Write>(
     ensures words_come_first { result ≡ 2 → input.new ≡ input.old }
     ensures file_alone { ¬ NameInput (map string_bytes words.items) → input.new ≡ input.old }
 
-    // What goes to `out`: the whole text, or nothing, or what a stream took before it failed.
+    // What goes to `out`: the whole text, or nothing. Of what a stream took before it failed no clause speaks.
     ensures done { result ≡ 0 → (text : List ℕ)
         × IsAnswer (⟦<Scripted<MemStable> as Stable>⟧) (⟦<SqlStable<FileStore<File>> as Stable>⟧) (⟦<Sockets as Transport>⟧)
         (map string_bytes words.items) (R.remaining input.old) text
@@ -74,6 +74,8 @@ pub fn command<R: Read, O: Write, E: Write>(
         (map string_bytes words.items) (R.remaining input.old) failure
         × Tells E.contents err.old err.new (line_text failure) }
     ensures usage { result ≡ 2 → (work : Work) → ¬ AskFor (map string_bytes words.items) work }
+    ensures no_form { ((work : Work) → ¬ AskFor (map string_bytes words.items) work)
+        → (result ≡ 2) ⊎ ((result ≡ 3) × Tells E.contents err.old err.new (line_text Failure.Memory)) }
     ensures usage_told { result ≡ 2 → Tells E.contents err.old err.new (line_text Failure.Usage) }
     ensures failed_told { result ≡ 3 → Tells E.contents err.old err.new (line_text Failure.Device)
         ⊎ Tells E.contents err.old err.new (line_text Failure.Memory) }
@@ -103,6 +105,8 @@ fn run<R: Read, O: Write>(
         (map string_bytes words.now) (R.remaining input.old) failure) }
     ensures usage { IfErr result (λ failure. failure ≡ Failure.Usage
         → (work : Work) → ¬ AskFor (map string_bytes words.now) work) }
+    ensures asked { IfErr result (λ failure. failure ≢ Failure.Usage → failure ≢ Failure.Memory
+        → (work : Work) × AskFor (map string_bytes words.now) work) }
     ensures untouched { IfErr result (λ failure. failure ≢ Failure.Device
         → out.new ≡ out.old) }
     ensures unprinted { OnErr result ((out.new ≡ out.old) ⊎ ((text : List ℕ)
@@ -177,10 +181,11 @@ fn kept(rt: &HostRuntime, folder: &str, bytes: &[u8]) -> Result<Vec<u8>, Failure
 
 /// The transcript of the schedule's run over files of the folder.
 fn made_in(rt: &HostRuntime, folder: &str, schedule: Schedule) -> Result<Vec<u8>, Failure>
-    ensures made { IfOk result (λ text. (stores : _)
+    ensures made { IfOk result (λ text. (stores : _) × (length stores ≡ schedule.nodes)
         × IsRunOver (⟦<SqlStable<FileStore<File>> as Stable>⟧) stores schedule text.items) }
     ensures ends { IfErr result (λ failure. failure ≢ Failure.Memory → failure ≢ Failure.Device
-        → (stores : _) × StopsOver (⟦<SqlStable<FileStore<File>> as Stable>⟧) stores schedule failure) }
+        → (stores : _) × (length stores ≡ schedule.nodes)
+        × StopsOver (⟦<SqlStable<FileStore<File>> as Stable>⟧) stores schedule failure) }
     ensures no_usage { IfErr result (λ failure. failure ≢ Failure.Usage) }
 {
     let stores = open_all(rt, folder, schedule.nodes())?;

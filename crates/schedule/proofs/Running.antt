@@ -136,7 +136,7 @@ module _ {S : Type 0} (storages : Ghosts S) (stores : List S) (plan : Plan) wher
   pub begins_none : (fault : WorldFault) (cause : ReplayCause) (line : ℕ) → cause ≡ cause_of fault → line ≡ plan.first
       → (fault ≡ world_fault.NotEmpty → OneIsUsed storages stores) → (fault ≡ world_fault.NotEmpty) ⊎ (fault ≡ world_fault.Memory)
       → EndsOver storages stores plan (record { line = line; cause = cause })
-  begins_none fault cause line same first used (inl e) = is_used (used e) (same ∙ ap cause_of e)
+  begins_none fault cause line same first used (inl e) = is_used (used e) (same ∙ ap cause_of e) first
   begins_none fault cause line same first used (inr e) = no_world (same ∙ ap cause_of e) first
 
   -- a run from where these storages lead
@@ -166,7 +166,7 @@ module _ {S : Type 0} (storages : Ghosts S) (stores : List S) (plan : Plan) wher
       → (OneIsUsed storages stores → ⊥) → IfErr result (EndsOver storages stores plan)
       → IfErr result (ReplayEnds (scripted storages) bytes)
   over_ends bytes (Ok text) always spelled unused ends = ends
-  over_ends bytes (Err fault) always spelled unused (is_used one cause) = absurd (unused one)
+  over_ends bytes (Err fault) always spelled unused (is_used one cause line) = absurd (unused one)
   over_ends bytes (Err fault) always spelled unused (no_world cause line) = not_begun plan spelled cause line
   over_ends bytes (Err fault) always spelled unused (no_end start starts over fails) =
       not_run plan spelled start fails.end starts fails.ends (fails.safe (λ i n e. always n.storage.inner))

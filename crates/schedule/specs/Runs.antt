@@ -113,8 +113,8 @@ module _ {S : Type 0} (storages : Ghosts (Script S)) where
     -- told
     pub safe : IsSafeOver storages end
 
-  -- why there is no transcript of the bytes: they were not read as a schedule, or no world was made at their first
-  -- line, or the run ended, in a world as safe as that of a transcript
+  -- why there is no transcript of the bytes: they were not read as a schedule, or memory was wanting, told at their first
+  -- line, as it is where no world can be made, or the run ended, in a world as safe as that of a transcript
   pub data ReplayEnds (bytes : List ℕ) (fault : ReplayFault) : Type 0 where
     not_read : (refusal : ParseFault) → IsRefusal bytes refusal → fault ≡ fault_of refusal → ReplayEnds bytes fault
     not_begun : (plan : Plan) → IsScheduleOf bytes plan → fault.cause ≡ Memory → fault.line ≡ plan.first
@@ -132,9 +132,10 @@ module _ {S : Type 0} (storages : Ghosts S) where
     pub over : AreOver storages stores start.nodes
     pub runs : RunsTo (scripted storages) storages.IsHonest plan start text
 
-  -- why there is no transcript: a storage holds a record already, or no world was made, or the run ended
+  -- why there is no transcript: a storage holds a record already, or memory was wanting, as where no world can be made, which
+  -- are both told at the first line, or the run ended
   pub data EndsOver (stores : List S) (plan : Plan) (fault : ReplayFault) : Type 0 where
-    is_used : OneIsUsed storages stores → fault.cause ≡ NotEmpty → EndsOver stores plan fault
+    is_used : OneIsUsed storages stores → fault.cause ≡ NotEmpty → fault.line ≡ plan.first → EndsOver stores plan fault
     no_world : fault.cause ≡ Memory → fault.line ≡ plan.first → EndsOver stores plan fault
     no_end : (start : WorldState S) → IsStart (scripted storages) plan.nodes start → AreOver storages stores start.nodes
         → RunFails (scripted storages) storages.IsHonest plan start fault → EndsOver stores plan fault

@@ -17,7 +17,7 @@ mod world;
 pub use event::Event;
 pub use explaining::{a_start_tells, steps_tell, tellings_are_explained};
 pub use fault::WorldFault;
-pub use laws::{answers_are_one, limits, lists_are_as_told};
+pub use laws::{answers_are_one, ballots_never_fall, limits, lists_are_as_told};
 pub use lists::{Answered, Learnt, Outcome, Replied, Submission};
 pub use log::MOST_DELIVERIES;
 pub use node::{NodeFault, Text};
