@@ -1,4 +1,5 @@
-//! The lines of what was learnt and replied, of which a transcript has most. Each is written from its end to its front and moved once.
+//! The lines of what was learnt, replied and answered, of which a transcript has most. Each is written from its end to its front and
+//! moved once, but for the text of an answer, which is moved by itself.
 
 ghost use Rattle.std.specs.Prelude.{◌≡◌, ◌++◌, ◌+◌, ◌≤◌, OnOk, codes, decimal, length, drop};
 ghost use Rattle.schedule.specs.Transcripts.{request_text};
@@ -56,6 +57,27 @@ pub(crate) fn add_reply(
     let start = write_number(u64::from(node), &mut line, start);
     let start = write_text(b"reply ", &mut line, start);
     text.write_all(&line[start..])
+}
+
+/// Adds an answer: `answer 0 1 count 0`.
+pub(crate) fn add_answer(
+    text: &mut Vec<u8>,
+    node: u8,
+    position: u32,
+    answer: &[u8],
+) -> io::Result<()>
+    ensures { OnOk result (text.new.items ≡ text.old.items ++ (codes "answer " ++ decimal node ++ codes " " ++ decimal position
+        ++ codes " " ++ answer.now ++ codes "\n")) }
+{
+    let mut line = [0; LONGEST_LINE];
+    let start = write_byte(b' ', &mut line, LONGEST_LINE);
+    let start = write_number(u64::from(position), &mut line, start);
+    let start = write_byte(b' ', &mut line, start);
+    let start = write_number(u64::from(node), &mut line, start);
+    let start = write_text(b"answer ", &mut line, start);
+    text.write_all(&line[start..])?;
+    text.write_all(answer)?;
+    text.write_all(b"\n")
 }
 
 /// Writes a number in decimal.

@@ -3,7 +3,7 @@
 ghost use Rattle.std.specs.Prelude.{◌≡◌, ◌++◌, OnOk, flat_map};
 ghost use Rattle.schedule.specs.Transcripts.{answer_line, learn_line, refuse_line, reply_line, round_line, stop_line};
 
-use super::entry_lines::{add_learn, add_reply};
+use super::entry_lines::{add_answer, add_learn, add_reply};
 use sessions::Command;
 use std::io::{self, Write};
 use wire::NodeId;
@@ -71,10 +71,7 @@ fn print_answer(text: &mut Vec<u8>, answered: &Answered) -> io::Result<()>
     ensures { OnOk result (text.new.items ≡ text.old.items ++ answer_line answered.now) }
 {
     let node = answered.node.value();
-    let position = answered.position;
-    write!(text, "answer {node} {position} ")?;
-    text.write_all(answered.text.as_bytes())?;
-    text.write_all(b"\n")
+    add_answer(text, node, answered.position, answered.text.as_bytes())
 }
 
 /// Adds the line of a refusal: `refuse 0 41`.
