@@ -74,8 +74,6 @@ pub fn command<R: Read, O: Write, E: Write>(
         (map string_bytes words.items) (R.remaining input.old) failure
         × Tells E.contents err.old err.new (line_text failure) }
     ensures usage { result ≡ 2 → (work : Work) → ¬ AskFor (map string_bytes words.items) work }
-    ensures no_form { ((work : Work) → ¬ AskFor (map string_bytes words.items) work)
-        → (result ≡ 2) ⊎ ((result ≡ 3) × Tells E.contents err.old err.new (line_text Failure.Memory)) }
     ensures usage_told { result ≡ 2 → Tells E.contents err.old err.new (line_text Failure.Usage) }
     ensures failed_told { result ≡ 3 → Tells E.contents err.old err.new (line_text Failure.Device)
         ⊎ Tells E.contents err.old err.new (line_text Failure.Memory) }
@@ -105,8 +103,6 @@ fn run<R: Read, O: Write>(
         (map string_bytes words.now) (R.remaining input.old) failure) }
     ensures usage { IfErr result (λ failure. failure ≡ Failure.Usage
         → (work : Work) → ¬ AskFor (map string_bytes words.now) work) }
-    ensures asked { IfErr result (λ failure. failure ≢ Failure.Usage → failure ≢ Failure.Memory
-        → (work : Work) × AskFor (map string_bytes words.now) work) }
     ensures untouched { IfErr result (λ failure. failure ≢ Failure.Device
         → out.new ≡ out.old) }
     ensures unprinted { OnErr result ((out.new ≡ out.old) ⊎ ((text : List ℕ)

@@ -66,7 +66,10 @@ fn applies(
     after: &str,
 ) -> Result<(), Fail> {
     if db.apply(op).is_err() {
-        assert!(rt; place(alloc, db)?.as_slice() == before.as_bytes(), "{before}");
+        assert!(rt;
+            place(alloc, db)?.as_slice() == before.as_bytes(),
+            "{before}"
+        );
         let _reply = db.apply(op)?;
     }
     assert!(rt; place(alloc, db)?.as_slice() == after.as_bytes(), "{after}");
@@ -78,14 +81,7 @@ fn operations(rt: HostRuntime) -> Result<(), Fail> {
     let mut db = Db::new(rt.alloc());
     let put = Op::Put(id()?, seq(rt.alloc(), &[0, 2])?);
     applies(&rt, rt.alloc(), &mut db, &put, "absent", "at none")?;
-    applies(
-        &rt,
-        rt.alloc(),
-        &mut db,
-        &append()?,
-        "at none",
-        "at 3 0",
-    )?;
+    applies(&rt, rt.alloc(), &mut db, &append()?, "at none", "at 3 0")?;
     let remove = Op::Remove(id()?);
     applies(&rt, rt.alloc(), &mut db, &remove, "at 3 0", "absent")
 }
@@ -110,10 +106,16 @@ fn executes(
 ) -> Result<(), Fail> {
     let command = Command::Request(request);
     if machine.execute(&command).is_err() {
-        assert!(rt; answer(alloc, machine)?.as_slice() == before.as_bytes(), "{before}");
+        assert!(rt;
+            answer(alloc, machine)?.as_slice() == before.as_bytes(),
+            "{before}"
+        );
         let _outcome = machine.execute(&command)?;
     }
-    assert!(rt; answer(alloc, machine)?.as_slice() == after.as_bytes(), "{after}");
+    assert!(rt;
+        answer(alloc, machine)?.as_slice() == after.as_bytes(),
+        "{after}"
+    );
     Ok(())
 }
 
