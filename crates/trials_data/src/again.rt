@@ -1,7 +1,7 @@
 //! Calls that are refused memory: what they were to change is as it was, and the same call again has its answer.
 //!
 //! Where there is memory each call has its answer at once. So these are tried once more with one growth after the other
-//! refused, from the first on (`rt try --test again --fail-alloc N`): whatever is refused before the calls ends a test
+//! refused, from the first on (`rt try --test --fail-alloc N`): whatever is refused before the calls ends a test
 //! for want of memory, and no test may end in another way.
 
 use mfjson::{Feature, MfFault, read, write};
