@@ -1,11 +1,12 @@
 -- The index over time beside the features.
-use Rattle.std.proofs.Common.{◌≡◌, ℕ, suc, ◌<◌, List, ◌∷◌, ◌++◌, length, take, drop, get_or, slice_get, Bool, true, false, nat_le, nat_lt}
-use Rattle.std.proofs.Common.{if◌then◌else◌, Some, refl, sym, ap, ◌∙◌, arith}
+use Rattle.std.proofs.Common.{◌≡◌, ℕ, suc, ◌<◌, ◌≤◌, List, ◌∷◌, ◌++◌, length, take, drop, get_or, slice_get, Bool, true, false, nat_le, nat_lt}
+use Rattle.std.proofs.Common.{if◌then◌else◌, Some, refl, sym, ap, subst, ◌∙◌, arith}
 use Rattle.std.specs.List.{remove}
 use Rattle.std.specs.Option.{option_map}
 use Rattle.std.specs.Ordering.{is_lt, is_gt}
+use Rattle.std.specs.declared.cmp.Ordering.TheVariants.{Less, Greater}
 use Rattle.std.proofs.lemmas.Bool.Decides.{nat_tests}
-use Rattle.std.proofs.lemmas.List.{map-append, take-map, drop-map}
+use Rattle.std.proofs.lemmas.List.{map-append, take-map, drop-map, length-map, get_or-map}
 use Rattle.std.proofs.lemmas.Option.{slice_get-get_or, slice_get-map}
 use Rattle.tpoint.specs.Extents.{Span, Area, Before}
 use Rattle.tpoint.specs.Spans.{span_of, HasValuesIn}
@@ -19,6 +20,7 @@ use Rattle.mfjson.specs.declared.feature.Feature.{Feature}
 use Rattle.timeindex.specs.Ascending as ascending
 use Rattle.timeindex.specs.Entries.{Entry, id_of, overlaps, with_entry}
 use Rattle.store.specs.Features.{id_order, before, after, with_feature}
+use Rattle.store.specs.Places.{IsGap}
 use Rattle.store.specs.Indexed.{entry_of, entries_of}
 
 -- ---- an edit of the features, and the same of their entries
@@ -32,6 +34,19 @@ pub with_feature_indexed : (fs : List Feature) (f : Feature) → with_entry (ent
 with_feature_indexed fs f =
     (λ j. before_indexed fs f.id j ++ entry_of f ∷ after_indexed fs f.id j)
     ∙ sym (map-append entry_of (before fs f.id) (f ∷ after fs f.id))
+
+-- an id that no feature has would go to the same place among the entries
+pub gap_indexed : (fs : List Feature) (f : Feature) (i : ℕ) → IsGap fs f.id i → ascending.IsGap id_of (entries_of fs) f.id i
+gap_indexed fs f i gap =
+    record {
+      in_range = subst (λ (n : ℕ). i ≤ n) (sym (length-map fs entry_of)) gap.in_range;
+      lower = λ k e from to.
+          let within : k < length fs = omega (arith, gap.in_range, to) in
+          subst (λ (x : Entry). id_order x.id f.id ≡ Less) (sym (get_or-map entry_of fs k f e within)) (gap.lower k f from to);
+      higher = λ k e from to.
+          let within : k < length fs = subst (λ (n : ℕ). k < n) (length-map fs entry_of) to in
+          subst (λ (x : Entry). id_order x.id f.id ≡ Greater) (sym (get_or-map entry_of fs k f e within)) (gap.higher k f from within);
+    }
 
 pub remove_indexed : (fs : List Feature) (i : ℕ) → remove (entries_of fs) i ≡ entries_of (remove fs i)
 remove_indexed fs i =

@@ -114,7 +114,7 @@ impl Db {
                 self.features.try_reserve(1)?;
                 let span = seq.span();
                 let seq = seq.clone()?;
-                self.index.insert(*id, span.begin(), span.end())?;
+                self.index.insert_at(at, *id, span.begin(), span.end())?;
                 self.features.insert(at, Feature { id: *id, seq })?;
                 Ok(Reply::Done)
             }

@@ -8,6 +8,7 @@ use Rattle.std.proofs.lemmas.List.{set_split}
 use Rattle.std.proofs.lemmas.List.Elements.{filter_passes}
 use Rattle.std.proofs.lemmas.List.Kept.{AllPairs-cons, AllPairs-filter}
 use Rattle.timeindex.specs.Ascending.{id_order, ComesBefore, IsAscending, before, after, with_element, without, IsAt, IsGap}
+use Rattle.timeindex.specs.Entries.{Entry, IsSet, id_of, with_entry}
 use Rattle.tpoint.proofs.ListLemmas.{AllBoth, all_pairs_append}
 use Rattle.timeindex.proofs.PlaceLemmas.{total, turned, before-at, after-at, before-gap, after-gap}
 
@@ -68,3 +69,7 @@ module _ {X : Type 0} (id_of : X → List ℕ) where
       both : AllBoth (ComesBefore id_of) (before id_of xs (id_of x)) (x ∷ after id_of xs (id_of x))
       both i d in_before zero e in_after = all_before xs (id_of x) i d in_before
       both i d in_before (suc k) e in_after = before_after xs (id_of x) i d in_before k e (omega arith)
+
+-- a set with an entry is a set
+pub with_entry_set : (es : List Entry) (e : Entry) → IsSet es → IsSet (with_entry es e)
+with_entry_set es e set = record { ascending = with_element_ascending id_of es e set.ascending }

@@ -51,11 +51,28 @@ impl TimeIndex {
     {
         match self.place(&id) {
             Ok(at) => self.entries[at].replace(first, last),
-            Err(at) => {
-                let entry = Kept::new(*self.entries.allocator(), id, first, last)?;
-                self.entries.insert(at, entry)?;
-            }
+            Err(at) => self.insert_at(at, id, first, last)?,
         }
+        Ok(())
+    }
+
+    /// Adds the entry of an id that has none, at the place where it goes in the byte order of ids. Where a growth was refused the set
+    /// is as it was.
+    pub fn insert_at(
+        &mut self,
+        place: usize,
+        id: Id,
+        first: Instant,
+        last: Instant,
+    ) -> Result<(), AllocError>
+        requires { IsGap id_of self.old id place }
+        ensures value { OnOk result
+            (self.new ≡ with_entry self.old (record { id = id; first = first; last = last })) }
+        ensures err { OnErr result (self.new ≡ self.old) }
+        ensures set { IsSet self.new }
+    {
+        let entry = Kept::new(*self.entries.allocator(), id, first, last)?;
+        self.entries.insert(place, entry)?;
         Ok(())
     }
 

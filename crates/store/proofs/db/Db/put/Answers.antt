@@ -4,11 +4,13 @@ use Rattle.tpoint.specs.Moving.{Sequence}
 use Rattle.tpoint.specs.Extents.{Span}
 use Rattle.tpoint.specs.Spans.{span_of}
 use Rattle.mfjson.specs.declared.feature.Feature.{Feature}
-use Rattle.timeindex.specs.Entries.{Entry}
+use Rattle.timeindex.specs.Entries.{Entry, id_of}
+use Rattle.timeindex.specs.Ascending as ascending
 use Rattle.store.specs.Places.{IsGap}
 use Rattle.store.specs.Indexed.{entry_of}
 use Rattle.store.specs.declared.db.TheConstants.{MOST_FEATURES}
 use Rattle.store.specs.Operations.{is_done}
+use Rattle.store.proofs.IndexLemmas.{gap_indexed}
 use Rattle.store.proofs.KeptLemmas.{added_kept, replaced_kept}
 use Rattle.store.proofs.EffectLemmas.{put_known-reply, put_known-write, put_new-write, put_full-reply, put_full-effect}
 use Rattle.store.proofs.db.Db.put.Goals as goal
@@ -22,7 +24,15 @@ pub returns-then-len-eq-MOST_FEATURES-clause-effect : goal.returns-then-len-eq-M
 returns-then-len-eq-MOST_FEATURES-clause-effect c =
     sym (put_full-effect c.args.self.now c.args.id.now c.args.seq.now _ c.in-Err.ensures.absent (search rules))
 
--- the id is unknown, and its feature is put in the gap
+-- the id is unknown, and its feature is put in the gap, as its entry is
+pub insert_at-requires : goal.insert_at-requires
+insert_at-requires c =
+    let fs = c.self.inside.features.items in
+    let f : Feature = record { id = c.args.id.now; seq = c.in_ok-seq-in-Err.seq } in
+    let gap = subst (λ (gs : List Feature). IsGap gs c.args.id.now c.in-Err.at) (sym c.self.view_is) c.in-Err.ensures.absent in
+    subst (λ (es : List Entry). ascending.IsGap id_of es c.args.id.now c.in-Err.at) (sym c.self.invariant.indexed)
+    (gap_indexed fs f c.in-Err.at gap)
+
 pub invariant_of-self-in-Err : goal.invariant_of-self-in-Err
 invariant_of-self-in-Err c =
     let fs = c.self.inside.features.items in
@@ -34,14 +44,14 @@ invariant_of-self-in-Err c =
     let entry : e ≡ entry_of f = λ j. record { id = c.args.id.now; first = begins j; last = ends j } in
     let gap = subst (λ (gs : List Feature). IsGap gs c.args.id.now c.in-Err.at) (sym c.self.view_is) c.in-Err.ensures.absent in
     let room : length fs < MOST_FEATURES = search rules in
-    let added = c.in_ok-insert-in-Err-2.ensures.items
+    let added = c.in_ok-insert-in-Err.ensures.items
     ∙ ap (λ (gs : List Feature). insert gs c.in-Err.at f) c.try_reserve.ensures.items in
-    added_kept fs c.insert-in-Err.new.self.items c.self.inside.index c.insert.new.self f e c.in-Err.at c.self.invariant room gap
-    added entry c.in_ok-insert-in-Err.ensures.value
+    added_kept fs c.insert.new.self.items c.self.inside.index c.insert_at.new.self f e c.in-Err.at c.self.invariant room gap
+    added entry c.in_ok-insert_at-in-Err.ensures.value
 
-pub returns-in_ok-insert-in-Err-2-clause-effect : goal.returns-in_ok-insert-in-Err-2-clause-effect
-returns-in_ok-insert-in-Err-2-clause-effect c =
-    c.in_ok-insert-in-Err-2.ensures.items
+pub returns-in_ok-insert-in-Err-clause-effect : goal.returns-in_ok-insert-in-Err-clause-effect
+returns-in_ok-insert-in-Err-clause-effect c =
+    c.in_ok-insert-in-Err.ensures.items
     ∙ put_new-write c.args.self.now _ c.args.id.now c.args.seq.now _ _
     (c.try_reserve.ensures.items ∙ c.self.view_is) refl c.in_ok-seq-in-Err.ensures.cases
     c.in-Err.ensures.absent (search rules)
