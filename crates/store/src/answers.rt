@@ -8,6 +8,7 @@ ghost use Rattle.store.specs.Answers.{OfKnown, SaysValue, SaysCut, SaysEver, Say
 ghost use Rattle.store.specs.Answers.{AreIdsOf, value_text, fix_text, mark_text, part_text, id_text, tri_text};
 ghost use Rattle.store.specs.Indexed.{IsKept};
 
+use crate::held::Held;
 use crate::line::{LONGEST_FIX, write_fix, write_place};
 use backward::write_text;
 use itoa::Buffer;
@@ -104,7 +105,7 @@ pub(crate) fn always_text(
 /// Which features are ever in a rectangle.
 pub(crate) fn within_text(
     alloc: Global,
-    features: &[Feature],
+    features: &[Held],
     index: &TimeIndex,
     period: &Period,
     area: &Rect,
@@ -219,7 +220,7 @@ fn push_fix(
 /// asked of which the index tells that they are there in the period.
 fn ids_within(
     alloc: Global,
-    features: &[Feature],
+    features: &[Held],
     index: &TimeIndex,
     period: &Period,
     area: &Rect,
@@ -230,7 +231,7 @@ fn ids_within(
 {
     let mut ids = Vec::new(alloc);
     for place in 0..features.len() {
-        let feature = &features[place];
+        let feature = features[place].feature();
         feature.seq.values_lie_in_its_span();
         if !index.overlaps(place, period) {
             continue;

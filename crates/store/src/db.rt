@@ -1,16 +1,16 @@
 //! The database.
 
 ghost use Rattle.std.specs.Prelude.{◌≡◌, ◌+◌, ◌∷◌, ◌++◌, [], false, IsTrue, IsOk, IfOk, IfErr, OnOk, OnErr};
-ghost use Rattle.tpoint.specs.Moving.{InBounds};
 ghost use Rattle.std.specs.Option.{option_copied};
 ghost use Rattle.store.specs.Answers.{IsAnswer};
 ghost use Rattle.store.specs.Features.{IsDatabase, feature_of};
-ghost use Rattle.store.specs.Operations.{reply, effect, append_reply, append_effect, is_done, TakesNoMemory};
+ghost use Rattle.store.specs.Operations.{reply, effect, TakesNoMemory};
 ghost use Rattle.store.specs.Places.{IsAt, IsGap};
 
 use crate::answers::{
     always_text, at_text, count_text, cut_text, document_text, ever_text, within_text,
 };
+use crate::held::Held;
 use crate::op::{Addition, Op};
 use crate::query::Query;
 use crate::reply::Reply;
@@ -18,7 +18,7 @@ use mfjson::Feature;
 use std::alloc::{AllocError, Global};
 use std::marker::Model;
 use timeindex::TimeIndex;
-use tpoint::{AppendFault, Id, Point, Seq};
+use tpoint::{Id, Seq};
 
 /// A database has at most this many features.
 pub const MOST_FEATURES: usize = 256;
@@ -29,7 +29,7 @@ pub const MOST_FEATURES: usize = 256;
 /// that lists them needs no sorting. An index tells which of them are there in a period.
 #[derive(Debug, Drop)]
 pub struct Db {
-    features: Vec<Feature>,
+    features: Vec<Held>,
     /// From when to when each feature is.
     index: TimeIndex,
 }
@@ -101,8 +101,9 @@ impl Db {
     {
         match self.place(id) {
             Ok(at) => {
-                self.features[at].seq = seq.clone()?;
+                let seq = seq.clone()?;
                 let span = seq.span();
+                self.features[at].set_seq(seq);
                 self.index.replace(at, span.begin(), span.end());
                 Ok(Reply::Done)
             }
@@ -113,9 +114,13 @@ impl Db {
                 // All that grows is grown before the features change.
                 self.features.try_reserve(1)?;
                 let span = seq.span();
-                let seq = seq.clone()?;
+                let feature = Feature {
+                    id: *id,
+                    seq: seq.clone()?,
+                };
+                let held = Held::new(*self.features.allocator(), feature)?;
                 self.index.insert_at(at, *id, span.begin(), span.end())?;
-                self.features.insert(at, Feature { id: *id, seq })?;
+                self.features.insert(at, held)?;
                 Ok(Reply::Done)
             }
         }
@@ -130,9 +135,9 @@ impl Db {
         let Ok(at) = self.place(addition.id()) else {
             return Ok(Reply::Unknown);
         };
-        let seq = &mut self.features[at].seq;
-        let told = append_to(seq, addition.point())?;
-        let span = seq.span();
+        let held = &mut self.features[at];
+        let told = held.append(addition.point())?;
+        let span = held.feature().seq.span();
         self.index.replace(at, span.begin(), span.end());
         Ok(told)
     }
@@ -154,7 +159,7 @@ impl Db {
         ensures { option_copied result ≡ feature_of self.now id.now }
     {
         match self.place(id) {
-            Ok(at) => Some(&self.features[at]),
+            Ok(at) => Some(self.features[at].feature()),
             Err(_) => None,
         }
     }
@@ -164,23 +169,7 @@ impl Db {
         ensures found { IfOk result (IsAt self.now id.now) }
         ensures absent { IfErr result (IsGap self.now id.now) }
     {
-        self.features.binary_search_by_key(id, |feature| feature.id)
-    }
-}
-
-/// Adds a point to the points of a feature.
-fn append_to(seq: &mut Seq, point: Point) -> Result<Reply, AllocError>
-    requires { InBounds point }
-    ensures reply { IfOk result (λ told. told ≡ append_reply seq.old.points point) }
-    ensures effect { OnOk result (seq.new ≡ append_effect seq.old point) }
-    ensures err { OnErr result (seq.new ≡ seq.old) }
-    ensures in_place { is_done (append_reply seq.old.points point) ≡ false → IsOk result }
-{
-    match seq.append(point) {
-        Ok(()) => Ok(Reply::Done),
-        Err(AppendFault::NotLater) => Ok(Reply::NotLater),
-        Err(AppendFault::Full) => Ok(Reply::Full),
-        Err(AppendFault::Memory) => Err(AllocError),
-        Err(AppendFault::Range) => unreachable!(),
+        self.features
+            .binary_search_by_key(id, |held| held.feature().id)
     }
 }

@@ -11,6 +11,7 @@
 
 mod answers;
 mod db;
+mod held;
 mod laws;
 mod line;
 mod op;

@@ -3,6 +3,7 @@ use Rattle.store.specs.Operations.{append_reply, append_effect, is_done}
 use Rattle.store.specs.Places.{IsAt, IsGap}
 use Rattle.store.proofs.EffectLemmas.{append_known-reply, append_known-write, append_unknown-reply, append_unknown-effect}
 use Rattle.tpoint.specs.Extents.{Span}
+use Rattle.tpoint.specs.Spans.{span_of}
 use Rattle.mfjson.specs.declared.feature.Feature.{Feature}
 use Rattle.store.proofs.KeptLemmas.{replaced_kept}
 use Rattle.store.proofs.db.Db.append.Goals as goal
@@ -21,41 +22,43 @@ returns-in_default-clause-effect c =
 -- the id is known, and its feature gets the point, or refuses it
 pub returns-clause-reply : goal.returns-clause-reply
 returns-clause-reply c =
-    let f = c.index_mut.result.now in
+    let f = c.index_mut-held.result.now in
     let at = subst (λ id. IsAt c.args.self.now id c.in-Ok.at) c.id.ensures c.in-Ok.ensures.found in
     let there : f ≡ get_or c.args.self.now c.in-Ok.at f =
-    c.index_mut.ensures.value ∙ ap (λ fs. get_or fs c.in-Ok.at f) c.self.view_is in
+    c.index_mut-held.ensures.value ∙ ap (λ fs. get_or fs c.in-Ok.at f) c.self.view_is in
     let told = (λ j. append_reply (there j).seq.points (c.point.ensures.value j))
     ∙ append_known-reply c.args.self.now c.args.addition.now c.in-Ok.at at f in
     c.in_ok-told.ensures.reply ∙ told
 
 pub returns-clause-effect : goal.returns-clause-effect
 returns-clause-effect c =
-    let f = c.index_mut.result.now in
+    let f = c.index_mut-held.result.now in
     let at = subst (λ id. IsAt c.args.self.now id c.in-Ok.at) c.id.ensures c.in-Ok.ensures.found in
     let there : f ≡ get_or c.args.self.now c.in-Ok.at f =
-    c.index_mut.ensures.value ∙ ap (λ fs. get_or fs c.in-Ok.at f) c.self.view_is in
+    c.index_mut-held.ensures.value ∙ ap (λ fs. get_or fs c.in-Ok.at f) c.self.view_is in
     append_known-write c.args.self.now c.args.addition.now c.in-Ok.at at f _ _ c.self.view_is
-    (λ j. (there j).id)
-    (c.in_ok-told.ensures.effect ∙ (λ j. append_effect (there j).seq (c.point.ensures.value j)))
+    (ap (λ (g : Feature). g.id) (c.in_ok-told.ensures.effect) ∙ (λ j. (there j).id))
+    (ap (λ (g : Feature). g.seq) c.in_ok-told.ensures.effect ∙ (λ j. append_effect (there j).seq (c.point.ensures.value j)))
 
 pub returns-in_err-told-clause-in_place : goal.returns-in_err-told-clause-in_place
 returns-in_err-told-clause-in_place c = λ refused.
-    let f = c.index_mut.result.now in
+    let f = c.index_mut-held.result.now in
     let at = subst (λ id. IsAt c.args.self.now id c.in-Ok.at) c.id.ensures c.in-Ok.ensures.found in
     let there : f ≡ get_or c.args.self.now c.in-Ok.at f =
-    c.index_mut.ensures.value ∙ ap (λ fs. get_or fs c.in-Ok.at f) c.self.view_is in
+    c.index_mut-held.ensures.value ∙ ap (λ fs. get_or fs c.in-Ok.at f) c.self.view_is in
     let told = (λ j. append_reply (there j).seq.points (c.point.ensures.value j))
     ∙ append_known-reply c.args.self.now c.args.addition.now c.in-Ok.at at f in
-    let kept = c.append_to.ensures.in_place (ap is_done told ∙ refused) in
+    let kept = c.append.ensures.in_place (ap is_done told ∙ refused) in
     absurd (search rules)
 
 -- the index keeps the span of what the feature is now
 pub invariant_of-self-2 : goal.invariant_of-self-2
 invariant_of-self-2 c =
-    let f : Feature = record { id = c.index_mut.result.now.id; seq = c.append_to.new.seq } in
+    let f = c.append.new.self in
+    let spans = c.span-span.ensures ∙ ap (λ (g : Feature). span_of g.seq.points) c.feature.ensures in
     let within = subst (λ (fs : List Feature). c.in-Ok.at < length fs) (sym c.self.view_is) c.in-Ok.ensures.found.in_range in
-    replaced_kept c.self.inside.features.items _ c.self.inside.index c.replace.new.self f c.index_mut.result.now
-    c.begin.result c.end.result c.in-Ok.at c.self.invariant within refl (ap (λ (g : Feature). g.id) c.index_mut.ensures.value)
-    (c.begin.ensures.value ∙ ap (λ (s : Span). s.begin) c.span-span.ensures)
-    (c.end.ensures.value ∙ ap (λ (s : Span). s.end) c.span-span.ensures) c.replace.ensures.value
+    replaced_kept c.self.inside.features.items _ c.self.inside.index c.replace.new.self f c.index_mut-held.result.now
+    c.begin.result c.end.result c.in-Ok.at c.self.invariant within refl
+    (ap (λ (g : Feature). g.id) c.in_ok-told.ensures.effect ∙ ap (λ (g : Feature). g.id) c.index_mut-held.ensures.value)
+    (c.begin.ensures.value ∙ ap (λ (s : Span). s.begin) spans) (c.end.ensures.value ∙ ap (λ (s : Span). s.end) spans)
+    c.replace.ensures.value

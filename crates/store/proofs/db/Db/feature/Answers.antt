@@ -8,7 +8,7 @@ returns-in-Ok c =
     let f = c.index.result.now in
     let there : f ≡ get_or c.args.self.now c.in-Ok.at f =
     c.index.ensures ∙ ap (λ fs. get_or fs c.in-Ok.at f) c.self.view_is in
-    ap Some there ∙ sym (feature_of-at c.args.self.now c.args.id.now c.in-Ok.at c.in-Ok.ensures.found f)
+    ap Some (c.feature.ensures ∙ there) ∙ sym (feature_of-at c.args.self.now c.args.id.now c.in-Ok.at c.in-Ok.ensures.found f)
 
 -- none has the id
 pub returns-in-Err : goal.returns-in-Err
