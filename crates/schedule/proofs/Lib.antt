@@ -5,6 +5,7 @@ pub mod Cuts
 pub mod Decimals
 pub mod Faults
 pub mod FirstLines
+pub mod FirstPlaces
 pub mod LineByLine
 pub mod Naming
 pub mod NoSchedule

@@ -4,6 +4,11 @@ ghost use Rattle.std.specs.Prelude.{◌≡◌, ◌==◌, ◌∷◌, Some, positi
 ghost use Rattle.std.specs.Option.{option_copied};
 ghost use Rattle.schedule.specs.Lines.{pieces};
 
+use memchr::memchr;
+
+/// From so many bytes on a text is long.
+const LONG: usize = 32;
+
 /// The bytes before the first mark, and those after it; without a mark, all bytes and None.
 pub(crate) fn cut(bytes: &[u8], mark: u8) -> (&[u8], Option<&[u8]>)
     ensures { pieces mark (Some bytes.now) ≡ result.0.now ∷ pieces mark (option_copied result.1) }
@@ -14,9 +19,12 @@ pub(crate) fn cut(bytes: &[u8], mark: u8) -> (&[u8], Option<&[u8]>)
     }
 }
 
-/// Where the mark stands first.
+/// Where the mark stands first. Of a long text many bytes are looked at at once, which a short one doesn't repay.
 fn first_place(bytes: &[u8], mark: u8) -> Option<usize>
     ensures { result ≡ position (λ b. b == mark) bytes.now }
 {
-    bytes.iter().position(|byte| *byte == mark)
+    if bytes.len() < LONG {
+        return bytes.iter().position(|byte| *byte == mark);
+    }
+    memchr(mark, bytes)
 }

@@ -1,6 +1,6 @@
 //! What one line spells, but for its document.
 
-ghost use Rattle.std.specs.Prelude.{◌≡◌, ◌∷◌, ℕ, All, MatchBool, MatchOption, MatchResult};
+ghost use Rattle.std.specs.Prelude.{◌≡◌, ◌≤◌, ◌∷◌, ℕ, All, IsTrue, MatchBool, MatchOption, MatchResult};
 ghost use Rattle.schedule.specs.Codes.{IsLowest};
 ghost use Rattle.schedule.specs.Keywords.{text_of};
 ghost use Rattle.schedule.specs.Rows.{IsWordsFault, in_first_line};
@@ -80,7 +80,21 @@ pub(crate) fn later_line<'a>(nodes: Nodes, text: &'a [u8]) -> Result<Unread<'a>,
 fn prints(text: &[u8]) -> bool
     ensures { MatchBool result (All IsPrintable text.now) (IsNotPrintable text.now) }
 {
-    text.iter().all(|byte| 0x20 <= *byte && *byte <= 0x7E)
+    // Few lines don't print, and only of these it matters where.
+    lie_between(text, 0x20, 0x7E) || text.iter().all(|byte| 0x20 <= *byte && *byte <= 0x7E)
+}
+
+/// Whether no byte is below the one or above the other. It doesn't stop early, so many bytes are looked at at once.
+fn lie_between(text: &[u8], low: u8, high: u8) -> bool
+    ensures { IsTrue result → All (λ byte. (low ≤ byte) × (byte ≤ high)) text.now }
+{
+    let mut least = low;
+    let mut greatest = high;
+    for byte in text {
+        least = least.min(*byte);
+        greatest = greatest.max(*byte);
+    }
+    least == low && greatest == high
 }
 
 /// What the words of a line spell.
