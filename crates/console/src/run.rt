@@ -1,7 +1,7 @@
 //! A run of the program over any streams.
 
 ghost use Rattle.std.specs.Prelude.{◌≡◌, ◌≢◌, ◌≤◌, ◌⊎◌, ℕ, List, length, map};
-ghost use Rattle.std.specs.Prelude.{string_bytes, true, IfOk, IfErr, IfSome, OnErr, OnOk};
+ghost use Rattle.std.specs.Prelude.{string_bytes, true, IfOk, IfErr, IfSome, IsErrOf, OnErr, OnOk};
 ghost use Rattle.endings.specs.Failures.{line_text, status_of};
 ghost use Rattle.commandline.specs.Forms.{AskFor, NameInput, text_of as name_text};
 ghost use Rattle.console.specs.Jobs.{EndsIn, IsAnswer, IsFaulty, IsKept, IsLooped, LoopStops, MakesIn, Stops};
@@ -75,6 +75,8 @@ pub fn command<R: Read, O: Write, E: Write>(
         × Tells E.contents err.old err.new (line_text failure) }
     ensures usage { result ≡ 2 → (work : Work) → ¬ AskFor (map string_bytes words.items) work }
     ensures usage_told { result ≡ 2 → Tells E.contents err.old err.new (line_text Failure.Usage) }
+    ensures no_form { ((work : Work) → ¬ AskFor (map string_bytes words.items) work)
+        → (result ≡ 2) ⊎ ((result ≡ 3) × Tells E.contents err.old err.new (line_text Failure.Memory)) }
     ensures failed_told { result ≡ 3 → Tells E.contents err.old err.new (line_text Failure.Device)
         ⊎ Tells E.contents err.old err.new (line_text Failure.Memory) }
 {
@@ -103,6 +105,8 @@ fn run<R: Read, O: Write>(
         (map string_bytes words.now) (R.remaining input.old) failure) }
     ensures usage { IfErr result (λ failure. failure ≡ Failure.Usage
         → (work : Work) → ¬ AskFor (map string_bytes words.now) work) }
+    ensures no_form { ((work : Work) → ¬ AskFor (map string_bytes words.now) work)
+        → IsErrOf result Failure.Usage ⊎ IsErrOf result Failure.Memory }
     ensures untouched { IfErr result (λ failure. failure ≢ Failure.Device
         → out.new ≡ out.old) }
     ensures unprinted { OnErr result ((out.new ≡ out.old) ⊎ ((text : List ℕ)

@@ -6,3 +6,10 @@ returns-in-Ok-clause-done g c = λ e. rw (← c.as_slice.ensures.value) c.in-Ok.
 
 pub returns-clause-file_alone : goal.returns-clause-file_alone
 returns-clause-file_alone g c = rw (← c.as_slice.ensures.value) c.run.ensures.file_alone
+
+pub returns-in-Ok-clause-file_alone : goal.returns-in-Ok-clause-file_alone
+returns-in-Ok-clause-file_alone g c = rw (← c.as_slice.ensures.value) c.run.ensures.file_alone
+
+-- what was left unprinted is what the call's words ask for
+pub returns-clause-failed_unprinted : goal.returns-clause-failed_unprinted
+returns-clause-failed_unprinted g c = λ e. rw (← c.as_slice.ensures.value) c.in-Err.ensures.unprinted
