@@ -248,6 +248,54 @@ fn first_faults_of_files(rt: HostRuntime) -> Result<(), Fail> {
     Ok(())
 }
 
+/// A schedule whose second line has so many bytes, and a third line.
+fn with_long_line(alloc: Global, length: usize) -> Result<Vec<u8>, Fail> {
+    let mut file = b"nodes 3\nsubmit 0 7 1 remove ".to_vec(alloc)?;
+    for _ in 20..length {
+        file.push(b'a')?;
+    }
+    file.extend_from_slice(b"\nflush")?;
+    Ok(file)
+}
+
+/// The same with another byte at a place of the second line.
+fn with_another_byte(
+    alloc: Global,
+    length: usize,
+    place: usize,
+    byte: u8,
+) -> Result<Vec<u8>, Fail> {
+    let mut file = with_long_line(alloc, length)?;
+    let at = file.iter_mut().skip(8).nth(place).ok_or("a place")?;
+    *at = byte;
+    Ok(file)
+}
+
+/// Whether a byte that doesn't print is found at each place of a line of so many bytes, on either side of those that do.
+fn is_looked_at_everywhere(alloc: Global, length: usize) -> Result<bool, Fail> {
+    for place in 0..length {
+        for byte in [0x1F, 0x7F] {
+            let file = with_another_byte(alloc, length, place, byte)?;
+            if refusal(alloc, &file) != Some((2, 1)) {
+                return Ok(false);
+            }
+        }
+    }
+    Ok(true)
+}
+
+// Many bytes are looked at at once: lines as long as that, a little longer and a little shorter.
+#[test]
+fn places_of_long_lines(rt: HostRuntime) -> Result<(), Fail> {
+    for length in 28..70 {
+        let file = with_long_line(rt.alloc(), length)?;
+        let schedule = parse_schedule(rt.alloc(), &file).ok().ok_or("a schedule")?;
+        assert_eq!(rt; schedule.lines().len(), 2, "of {length}");
+        assert!(rt; is_looked_at_everywhere(rt.alloc(), length)?, "of {length}");
+    }
+    Ok(())
+}
+
 // each kind of line, empty ones among them, and the greatest numbers; no line feed ends the last
 const WHOLE: &[u8] = b"\n\nnodes 3\n\
 submit 0 7 1 remove bus-7\n\
