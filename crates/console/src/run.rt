@@ -77,6 +77,7 @@ pub fn command<R: Read, O: Write, E: Write>(
     ensures usage_told { result ≡ 2 → Tells E.contents err.old err.new (line_text Failure.Usage) }
     ensures no_form { ((work : Work) → ¬ AskFor (map string_bytes words.items) work)
         → (result ≡ 2) ⊎ ((result ≡ 3) × Tells E.contents err.old err.new (line_text Failure.Memory)) }
+    ensures no_form_unread { ((work : Work) → ¬ AskFor (map string_bytes words.items) work) → input.new ≡ input.old }
     ensures failed_told { result ≡ 3 → Tells E.contents err.old err.new (line_text Failure.Device)
         ⊎ Tells E.contents err.old err.new (line_text Failure.Memory) }
 {
@@ -107,6 +108,7 @@ fn run<R: Read, O: Write>(
         → (work : Work) → ¬ AskFor (map string_bytes words.now) work) }
     ensures no_form { ((work : Work) → ¬ AskFor (map string_bytes words.now) work)
         → IsErrOf result Failure.Usage ⊎ IsErrOf result Failure.Memory }
+    ensures no_form_unread { ((work : Work) → ¬ AskFor (map string_bytes words.now) work) → input.new ≡ input.old }
     ensures untouched { IfErr result (λ failure. failure ≢ Failure.Device
         → out.new ≡ out.old) }
     ensures unprinted { OnErr result ((out.new ≡ out.old) ⊎ ((text : List ℕ)
