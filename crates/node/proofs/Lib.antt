@@ -7,6 +7,7 @@ pub mod Meanings
 pub mod News
 pub mod LearntSlots
 pub mod Learnt
+pub mod PastVotes
 -- a node stays the node that it is
 pub mod Members
 -- what is sent

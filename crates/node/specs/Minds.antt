@@ -1,5 +1,5 @@
 -- What a node holds while it is up, and which inputs it refuses.
-use Rattle.std.specs.Prelude.{◌≡◌, ℕ, ◌<◌, ◌≤◌, ◌^◌, nat_le, length, not, Bool, true, false, Option, Some, None, IfSome, if◌then◌else◌}
+use Rattle.std.specs.Prelude.{◌≡◌, ℕ, ◌<◌, ◌≤◌, ◌^◌, nat_le, nat_lt, length, not, Bool, true, false, Option, Some, None, IfSome, if◌then◌else◌}
 use Rattle.std.specs.List.{list_any}
 use Rattle.synod.specs.declared.ballot.Ballot.{Ballot}
 use Rattle.synod.specs.declared.ballot.TheConstants.{MOST_NODES}
@@ -14,6 +14,8 @@ use Rattle.proposer.specs.Proposing.{Proposing, next_round}
 use Rattle.proposer.specs.Requests.{is_of}
 use Rattle.proposer.specs.declared.waiting.TheConstants.{MOST_WAITING}
 use Rattle.proposer.specs.declared.window.TheConstants.{MOST_OPEN}
+use Rattle.wire.specs.Framing.{voted_slot}
+use Rattle.wire.specs.declared.frames.message.Message.{Message}
 use Rattle.node.specs.Inputs.{is_short, concerns}
 use Rattle.node.specs.declared.fault.NodeFault.{NodeFault}
 use Rattle.node.specs.declared.fault.NodeFault.TheVariants as fault
@@ -64,6 +66,16 @@ pub record IsSmall (m : Mind) : Type 0 where
   pub of_all : m.nodes ≤ MOST_NODES
   pub waiting : length m.proposing.waiting ≤ MOST_WAITING
   pub proposals : IfSome m.proposing.campaign (λ k. length k.proposals ≤ MOST_OPEN)
+
+-- ---- of which votes nothing comes
+-- there is such a slot, and it is below the position
+abbrev pub is_slot_below : Option ℕ → ℕ → Bool
+is_slot_below None position = false
+is_slot_below (Some slot) position = nat_lt slot position
+
+-- the message tells of a vote for a slot below the position
+abbrev pub is_past : Mind → Message → Bool
+is_past m message = is_slot_below (voted_slot message) (position m)
 
 -- ---- which inputs are refused, and leave the node as it was
 abbrev pub refuses_submit : Mind → Asked → Option NodeFault

@@ -1,6 +1,6 @@
 //! One node: its records, and its roles while it is up.
 
-ghost use Rattle.std.specs.Prelude.{◌≡◌, ◌⊎◌, ◌↔◌, ◌≤◌, ℕ, [], List, length, IfOk, IfSome, OnOk, IsTrue, IsSome, None, MatchOption};
+ghost use Rattle.std.specs.Prelude.{◌≡◌, ◌⊎◌, ◌↔◌, ◌≤◌, ℕ, [], List, length, Ok, IfOk, IfSome, OnOk, IsTrue, false, IsSome, None, MatchOption};
 
 use super::fault::NodeFault;
 use super::input::Input;
@@ -10,7 +10,7 @@ use proposer::MOST_WAITING;
 use stable::{Failing, Put, Scripted, Stable};
 use std::alloc::Global;
 use store::Query;
-use wire::{NodeId, Nodes};
+use wire::{Frame, NodeId, Nodes};
 
 /// A node, which is up or down.
 #[derive(Drop)]
@@ -25,9 +25,10 @@ impl<S: Stable> Node<S> {
     ghost use Rattle.node.specs.Composition.{IsMeaningOf};
     ghost use Rattle.learner.specs.Prefixes.{IsPrefix};
     ghost use Rattle.node.specs.Loading.{IsLoaded, IsFresh, IsDamaged, IsMember, Restarts};
-    ghost use Rattle.node.specs.Minds.{position};
+    ghost use Rattle.node.specs.Minds.{is_past, position};
     ghost use Rattle.node.specs.Nodes.{state_of, NodeSteps, NodeAnswers, StaysMeaning, AnswersMeaning};
-    ghost use Rattle.node.specs.Outputs.{IsFew};
+    ghost use Rattle.node.specs.Outputs.{IsFew, silence};
+    ghost use Rattle.node.specs.declared.input.Input.TheVariants as input;
 
     /// A node over these records, which it loads. It begins down where they can't be loaded.
     pub fn start(alloc: Global, storage: S, id: NodeId, nodes: Nodes) -> Node<S>
@@ -102,6 +103,7 @@ impl<S: Stable> Node<S> {
     }
 
     /// Takes an input, refuses it, or goes down on it.
+    #[inline(always)]
     pub fn step(&mut self, alloc: Global, input: Input) -> Result<Outputs, NodeFault>
         ensures steps { NodeSteps S.Stable (state_of self.old) input result (state_of self.new) }
         ensures meaning { StaysMeaning (state_of self.old) result (state_of self.new) }
@@ -118,6 +120,23 @@ impl<S: Stable> Node<S> {
             }
         }
         result
+    }
+
+    /// Whether it is up and the frame tells of a vote for a slot below its position. Nothing comes of such a frame, so it need not
+    /// even be opened.
+    pub fn is_past(&self, frame: &Frame) -> bool
+        ensures value { MatchOption (state_of self.now).up (result ≡ false) (λ m. result ≡ is_past m frame.now.message) }
+        ensures silent { IsTrue result
+            → NodeSteps S.Stable (state_of self.now) (input.Message frame.now) (Ok silence) (state_of self.now) }
+        ensures meaning { IsTrue result → StaysMeaning (state_of self.now) (Ok silence) (state_of self.now) }
+    {
+        let Some(roles) = &self.roles else {
+            return false;
+        };
+        match frame.voted_slot() {
+            Some(slot) => slot.value() < roles.position(),
+            None => false,
+        }
     }
 
     /// Goes down: what is not in the records is gone.

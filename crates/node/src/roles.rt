@@ -125,6 +125,8 @@ impl Roles {
     ///
     /// After `Device` or `Memory` it must be dropped: the write that the input makes was made or not. Any other fault leaves it
     /// and the storage as they were.
+    // What comes is large: put in place, the calls on its way hand it on without a copy for each.
+    #[inline(always)]
     pub fn take<S: Stable>(
         &mut self,
         alloc: Global,
@@ -226,6 +228,7 @@ impl Roles {
     }
 
     /// An envelope has come. One that doesn't concern the node is ignored.
+    #[inline(always)]
     fn receive<S: Stable>(
         &mut self,
         alloc: Global,
@@ -252,6 +255,7 @@ impl Roles {
     }
 
     /// A message has come that concerns the node.
+    #[inline(always)]
     fn hear<S: Stable>(
         &mut self,
         alloc: Global,

@@ -20,21 +20,15 @@ pub fn send(
 ) -> Result<(), AllocError>
     ensures { OnOk result (sends.new.items ≡ sends.old.items ++ to_one from to message) }
 {
-    let envelope = Envelope { from, to, message };
-    sends.push(Frame::of(alloc, &envelope)?)?;
+    sends.push(framed(alloc, from, to, message)?)?;
     Ok(())
 }
 
-/// The frame of a message to its sender. A message to several nodes is spelled once, and its frame copied for each.
-fn framed(alloc: Global, from: NodeId, message: Message) -> Result<Frame, AllocError>
-    ensures { IfOk result (λ frame. frame ≡ record { from = from; to = from; message = message }) }
+/// The frame of a message. One to several nodes is spelled once, and its frame copied for the others.
+fn framed(alloc: Global, from: NodeId, to: NodeId, message: Message) -> Result<Frame, AllocError>
+    ensures { IfOk result (λ frame. frame ≡ record { from = from; to = to; message = message }) }
 {
-    let envelope = Envelope {
-        from,
-        to: from,
-        message,
-    };
-    Frame::of(alloc, &envelope)
+    Frame::of(alloc, &Envelope { from, to, message })
 }
 
 /// A message from one node to every node, itself included, in order of their numbers.
@@ -47,10 +41,12 @@ pub fn send_to_all(
 ) -> Result<(), AllocError>
     ensures { OnOk result (sends.new.items ≡ sends.old.items ++ to_all from nodes message) }
 {
-    let frame = framed(alloc, from, message)?;
-    for value in 0..nodes.count() {
+    let last = nodes.count() - 1;
+    let frame = framed(alloc, from, nodes.node(last), message)?;
+    for value in 0..last {
         sends.push(frame.to_node(alloc, nodes.node(value))?)?;
     }
+    sends.push(frame)?;
     Ok(())
 }
 
@@ -66,7 +62,7 @@ pub fn send_to_others(
     ensures { OnOk result (sends.new.items
         ≡ sends.old.items ++ filter (λ e. not (has_node set.now e.to)) (to_all from nodes message)) }
 {
-    let frame = framed(alloc, from, message)?;
+    let frame = framed(alloc, from, from, message)?;
     for value in 0..nodes.count() {
         let to = nodes.node(value);
         if !set.contains(to) {

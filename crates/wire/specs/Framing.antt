@@ -1,9 +1,10 @@
--- The envelope that a frame's bytes carry.
-use Rattle.std.specs.Prelude.{ℕ, List, Result, Ok, Err}
+-- The envelope that a frame's bytes carry, and what is read of it alone.
+use Rattle.std.specs.Prelude.{ℕ, List, Result, Ok, Err, Option, Some, None}
 use Rattle.wire.specs.FrameReading.{frame_in}
 use Rattle.wire.specs.declared.frames.envelope.Envelope.{Envelope}
 use Rattle.wire.specs.declared.frames.fault.WireFault.{WireFault}
-use Rattle.wire.specs.declared.frames.message.Message.TheVariants.{Ask}
+use Rattle.wire.specs.declared.frames.message.Message.{Message}
+use Rattle.wire.specs.declared.frames.message.Message.TheVariants.{Prepare, Promise, Nack, Accept, Accepted, Ask, Decided}
 
 -- what was read; where nothing was, a question stands for it
 abbrev pub read_or_ask : Result Envelope WireFault → Envelope
@@ -13,3 +14,13 @@ read_or_ask (Err f) = record { from = 0; to = 0; message = Ask 0 }
 -- the envelope that the bytes spell among the nodes of the largest run
 abbrev pub envelope_in : List ℕ → Envelope
 envelope_in bytes = read_or_ask (frame_in 7 bytes)
+
+-- the slot of the vote of which a message tells that it was cast
+abbrev pub voted_slot : Message → Option ℕ
+voted_slot (Accepted v) = Some v.slot
+voted_slot (Prepare ballot first) = None
+voted_slot (Promise p) = None
+voted_slot (Nack n) = None
+voted_slot (Accept v) = None
+voted_slot (Ask slot) = None
+voted_slot (Decided slot command) = None

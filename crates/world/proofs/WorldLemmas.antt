@@ -1,13 +1,15 @@
 -- One node of a world is changed.
 use Rattle.std.proofs.Common.{◌≡◌, ℕ, ◌<◌, List, map, length, slice_get, slice_set, Option, Some, None, IsSome, option_map, sym, ap, ◌∙◌}
-use Rattle.std.proofs.Common.{subst, rules, arith}
-use Rattle.std.proofs.lemmas.List.{map-set}
-use Rattle.std.proofs.lemmas.Option.{slice_get-map, slice_get_read}
+use Rattle.std.proofs.Common.{subst, refl, rules, arith, append-nil}
+use Rattle.std.proofs.lemmas.List.{map-set, set-get_or}
+use Rattle.std.proofs.lemmas.Option.{slice_get-map, slice_get_read, get_or_from_slice_get}
 use Rattle.std.proofs.Math.ListN.{get_or}
 use Rattle.stable.specs.Script.{Script}
+use Rattle.stable.specs.declared.stable.Stable.{Ghosts}
 use Rattle.node.specs.declared.node.Node.{Node}
 use Rattle.node.specs.Nodes.{NodeState, state_of}
-use Rattle.world.specs.Worlds.{WorldState, with_node}
+use Rattle.node.specs.Outputs.{silence}
+use Rattle.world.specs.Worlds.{WorldState, DeliversFrame, with_node, with_response, quiet}
 
 -- the node at a place, as it shows
 pub shown_at : {S : Type 0} (nodes : List (Node (Script S))) (i : ℕ) (n : Node (Script S)) → slice_get nodes i ≡ Some n
@@ -33,6 +35,23 @@ pub lent_at : {S : Type 0} (nodes : List (Node (Script S))) (len i j : ℕ) (n :
 lent_at nodes len i j n counted named there lent =
     shown_at nodes i n (subst (λ k. slice_get nodes k ≡ Some n) named
     (slice_get_read nodes len j n counted (omega (arith, named, there)) lent))
+
+-- a node is put at its own place, as it is
+set_same : {S : Type 0} (nodes : List (NodeState (Script S))) (i : ℕ) (n : NodeState (Script S)) → slice_get nodes i ≡ Some n
+    → slice_set nodes i n ≡ nodes
+set_same nodes i n here = ap (λ m. slice_set nodes i m) (sym (get_or_from_slice_get nodes i n n here)) ∙ set-get_or nodes i n
+
+-- a step of which nothing comes
+pub nothing_comes : {S : Type 0} (w : WorldState S) (i : ℕ) (n : NodeState (Script S)) → slice_get w.nodes i ≡ Some n
+    → quiet w ≡ with_response (with_node w i n) i silence
+nothing_comes w i n here =
+    rw (set_same w.nodes i n here, append-nil w.frames, append-nil w.waiting, append-nil w.learnt, append-nil w.replies) refl
+
+-- a frame is delivered in a world that is the same, under the same number
+pub delivers_same : {S : Type 0} (storages : Ghosts (Script S)) (v w : WorldState S) (j k : ℕ) (new : WorldState S) → v ≡ w → j ≡ k
+    → DeliversFrame storages v j new → DeliversFrame storages w k new
+delivers_same storages v w j k new same named d =
+    subst (λ i. DeliversFrame storages w i new) named (subst (λ u. DeliversFrame storages u j new) same d)
 
 -- none is not some
 pub none_is_not_some : {A : Type 0} (o : Option A) → o ≡ None → IsSome o → ⊥

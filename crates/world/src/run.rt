@@ -1,6 +1,6 @@
 //! The world: all nodes, everything that was sent, and everything that came of it.
 
-ghost use Rattle.std.specs.Prelude.{◌≡◌, ◌≤◌, ◌<◌, ◌+◌, ◌++◌, ◌∷◌, [], ◌↔◌, ℕ, true, length, vec_len, vec_capacity, Some, None, IsNone};
+ghost use Rattle.std.specs.Prelude.{◌≡◌, ◌≤◌, ◌<◌, ◌+◌, ◌++◌, ◌∷◌, [], ◌↔◌, ℕ, true, false, length, vec_len, vec_capacity, Some, None, IsNone};
 ghost use Rattle.std.specs.Prelude.{OnOk, OnErr, IsOk, IsErrOf, ◌⊎◌, Bool, IfOk, IfErr, IfSome, IsTrue, is_ok, slice_get, MatchBool};
 ghost use Rattle.std.specs.Prelude.{MatchOption, All, map};
 ghost use Rattle.store.specs.Operations.{IsSound};
@@ -327,14 +327,36 @@ impl<S: Stable> Run<S> {
         ensures faults { IfErr result (λ f. (f ≡ WorldFault.NoSuchMessage) ⊎ (f ≡ WorldFault.Memory)) }
     {
         let index = self.sent(frame)?;
-        let envelope = self.frames[index].open(alloc)?;
         self.reserve()?;
+        if self.passes(index) {
+            return Ok(());
+        }
+        let envelope = self.frames[index].open(alloc)?;
         self.stop_waiting(index);
         self.receive(alloc, envelope);
         Ok(())
     }
 
+    // Whether the frame tells its receiver of a vote for a slot that is learnt there, as the third vote of three does, and the
+    // last three of seven. Then it has come, and nothing comes of it.
+    fn passes(&mut self, index: usize) -> bool
+        requires there { index < vec_len self.old.frames }
+        requires room { HasRoom self.old }
+        ensures passes { IsTrue result → DeliversFrame (⟦<Scripted<S> as Stable>⟧) (run_of self.old) index (run_of self.new) }
+        ensures stays { result ≡ false → self.new ≡ self.old }
+    {
+        let frame = &self.frames[index];
+        let at = &self.nodes[usize::from(frame.receiver().value())];
+        if !at.is_past(frame) {
+            return false;
+        }
+        self.waiting[index] = false;
+        let _ = self.outcomes.push(QUIET);
+        true
+    }
+
     // A frame has come: a node that is up takes it, and one that is down loses it.
+    #[inline(always)]
     fn receive(&mut self, alloc: Global, envelope: Envelope)
         requires between { IsBetween (vec_len self.old.nodes) envelope }
         requires fits { Fits 7 envelope }
@@ -502,6 +524,7 @@ impl<S: Stable> Run<S> {
     }
 
     // A node takes an input, and what it tells joins the lists: whether it took it.
+    #[inline(always)]
     fn take(&mut self, alloc: Global, node: NodeId, input: Input) -> bool
         requires there { node < vec_len self.old.nodes }
         requires room { HasRoom self.old }

@@ -1,12 +1,18 @@
 //! A frame: a message on its way, as its bytes.
 
-ghost use Rattle.std.specs.Prelude.{◌≡◌, IfOk};
-ghost use Rattle.wire.specs.FrameSpelling.{IsFrame, Fits};
+ghost use Rattle.std.specs.Prelude.{◌≡◌, Some, IfOk};
+ghost use Rattle.sessions.specs.declared.command.Command.{Command};
+ghost use Rattle.synod.specs.declared.vote.Vote.{Vote};
+ghost use Rattle.wire.specs.FrameSpelling.{IsFrame, Fits, VoteFits, vote_bytes};
+ghost use Rattle.wire.specs.Framing.{voted_slot};
 
 use super::decoding::decode;
 use super::encoding::encode;
 use super::envelope::Envelope;
-use crate::{NodeId, Nodes};
+use super::input::Input;
+use super::kind::Kind;
+use super::reading::read_slot;
+use crate::{NodeId, Nodes, Slot};
 use std::alloc::{AllocError, Global};
 use std::marker::Model;
 use synod::MOST_NODES;
@@ -60,13 +66,30 @@ impl Frame {
 
     /// The node to which it goes, which is read at its place.
     pub fn receiver(&self) -> NodeId
-        ensures { result ≡ self.now.to }
+        ensures receiver { result ≡ self.now.to }
+        ensures fits { Fits 7 self.now }
     {
         match self.bytes() {
             [_, _, _, _, _, to, ..] => match NodeId::new(*to) {
                 Some(node) => node,
                 None => unreachable!(),
             },
+            _ => unreachable!(),
+        }
+    }
+
+    /// The slot of the vote of which it tells that it was cast, which is read at its place. None where it tells of none.
+    pub fn voted_slot(&self) -> Option<Slot>
+        ensures { result ≡ voted_slot self.now.message }
+    {
+        match self.bytes() {
+            [_, _, _, kind, _, _, body @ ..] => {
+                if *kind == Kind::Accepted.byte() {
+                    slot_of_vote(body)
+                } else {
+                    None
+                }
+            }
             _ => unreachable!(),
         }
     }
@@ -81,6 +104,17 @@ impl Frame {
             // Whatever bytes a frame has, they spell its envelope, so only memory can be wanting.
             Err(_fault) => Err(AllocError),
         }
+    }
+}
+
+/// The slot of the vote whose bytes these are, with nothing else of it read.
+fn slot_of_vote(body: &[u8]) -> Option<Slot>
+    ensures { (vote : Vote Command) → VoteFits 7 vote → body.now ≡ vote_bytes vote → result ≡ Some vote.slot }
+{
+    match body {
+        // Nine bytes are the ballot's.
+        [_, _, _, _, _, _, _, _, _, rest @ ..] => read_slot(&mut Input::new(rest)).ok(),
+        _ => None,
     }
 }
 
