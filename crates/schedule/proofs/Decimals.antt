@@ -1,14 +1,18 @@
 -- Which words write a number.
 use Rattle.std.proofs.Common.{◌≡◌, ◌≢◌, ℕ, ◌<◌, ◌≤◌, ◌^◌, zero, suc, List, ◌∷◌, length, get_or, Option, Some, None, Result, Ok, Err}
-use Rattle.std.proofs.Common.{MatchOption, arith, ap, sym, ◌∙◌, refl, ◌↔◌, IsSome, IfSome}
+use Rattle.std.proofs.Common.{take, ◌+◌, ◌*◌, ◌-◌, MatchOption, arith, ap, sym, ◌∙◌, refl, ◌↔◌, IsSome, IfSome}
 use Rattle.std.specs.Fmt.{decimal}
 use Rattle.std.specs.Result.{result_ok}
 use Rattle.std.specs.Str.{IsUtf8}
 use Rattle.std.specs.Str.Parse.{ParsesUnsigned, AllDigits, digits_value}
 use Rattle.std.proofs.lemmas.Fmt.{decimal_is_IsNumeral, parse-decimal, decimal-digits_value, decimal_digit, first_decimal, decimal_nonempty}
 use Rattle.std.proofs.lemmas.Fmt.{decimal_injective, IsAscii-decimal}
-use Rattle.std.proofs.lemmas.Str.{IsUtf8-from_ascii}
-use Rattle.std.proofs.lemmas.Str.Parse.{IsNumeralModel, numerals_by_value, tells_digits, parse_plain, digit_at}
+use Rattle.std.proofs.lemmas.Str.{IsUtf8-from_ascii, digit_value_digit}
+use Rattle.std.proofs.lemmas.Str.Parse.{IsNumeralModel, numerals_by_value, tells_digits, parse_plain, digit_at, digits_value_short}
+use Rattle.std.proofs.lemmas.Int.Digits.{digits_more, digits_value_more}
+use Rattle.std.specs.Char.{digit_value}
+use Rattle.std.specs.Int.{IsInRange}
+use Rattle.std.proofs.lemmas.Grind.{common_steps}
 use Rattle.schedule.specs.Numbers.{Writes, IsPlain}
 
 own : IsNumeralModel (AllDigits 10) (digits_value 10)
@@ -54,6 +58,38 @@ parsed_writes {E = E} word (Ok value) parses plain =
     rw p.1 (record { from = omega arith; below = p.0.2; text = sym text })
 parsed_writes word (Err error) parses plain =
     λ value w. let read = parse-decimal 64 value word (Err error) w.below w.below w.text parses in cc
+
+-- a word that writes a number is digits alone
+writes_digits : (word : List ℕ) (value : ℕ) → Writes 0 (2 ^ 64) word value → AllDigits 10 word
+writes_digits word value w = rw w.text ((decimal_is_IsNumeral value w.below).0.1)
+
+-- what a plain word of few digits is worth is what it writes
+pub small_writes : (word : List ℕ) (read : Option ℕ)
+    → MatchOption read (¬ (AllDigits 10 word)) (λ value. AllDigits 10 word × (value ≡ digits_value 10 word))
+    → length word ≤ 19 → IsPlain word
+    → MatchOption read ((value : ℕ) → ¬ (Writes 0 (2 ^ 64) word value)) (Writes 0 (2 ^ 64) word)
+small_writes word None other short plain = λ value w. other (writes_digits word value w)
+small_writes word (Some value) worth short plain =
+    let small : digits_value 10 word < 2 ^ 64 = omega (arith, digits_value_short own word 19 worth.0 short) in
+    rw worth.1 (record {
+      from = omega arith;
+      below = small;
+      text = sym (decimal-digits_value own word worth.0 plain.not_empty plain.zero_alone small);
+    })
+
+-- the first digits are worth less than 10^18 where one follows of at most 19
+pub digits_below : (word : List ℕ) (i value : ℕ) → i < length word → length word ≤ 19 → AllDigits 10 (take i word)
+    → value ≡ digits_value 10 (take i word) → value < 10 ^ 18
+digits_below word i value inside short all is = rw is (digits_value_short own (take i word) 18 all (grind (arith, common_steps)))
+
+-- one digit more
+pub digit_more : (word : List ℕ) (i byte value : ℕ) → i < length word → byte ≡ get_or word i 0 → IsInRange 48 57 byte
+    → AllDigits 10 (take i word) → value ≡ digits_value 10 (take i word)
+    → AllDigits 10 (take (i + 1) word) × (value * 10 + (byte - 48) ≡ digits_value 10 (take (i + 1) word))
+digit_more word i byte value inside at digit all is =
+    let own_worth : digit_value byte ≡ byte - 48 = omega (arith, digit_value_digit byte digit) in
+    let worth : digit_value (get_or word i 0) ≡ byte - 48 = rw (← at) own_worth in
+    (digits_more 10 word i inside all (omega (arith, worth, digit)), rw (digits_value_more 10 word i inside, worth, ← is) refl)
 
 -- a word writes one number
 pub writes_one : (word : List ℕ) (least limit value other : ℕ) → limit ≤ 2 ^ 64 → Writes 0 (2 ^ 64) word value

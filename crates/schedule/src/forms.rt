@@ -1,6 +1,7 @@
 //! What single words stand for, and words that belong together.
 
-ghost use Rattle.std.specs.Prelude.{◌≡◌, ◌≢◌, ◌^◌, ◌↔◌, ◌++◌, ℕ, ℤ, Bool, List, ◌∷◌, MatchOption, IsTrue, codes};
+ghost use Rattle.std.specs.Prelude.{◌≡◌, ◌≢◌, ◌≤◌, ◌^◌, ◌↔◌, ◌++◌, ℕ, ℤ, Bool, List, ◌∷◌, length, MatchOption, IsTrue, codes};
+ghost use Rattle.std.specs.Str.Parse.{AllDigits, digits_value};
 ghost use Rattle.tpoint.specs.Extents.{Span, Area};
 ghost use Rattle.tpoint.specs.Ids.{IsId};
 ghost use Rattle.mfjson.specs.Datetime.{ReadsAs};
@@ -8,7 +9,7 @@ ghost use Rattle.schedule.specs.Extents.{IsBegin, IsEnd, IsPeriod, IsRect};
 ghost use Rattle.schedule.specs.Numbers.{Writes, IsCoordinate, IsPlain, IsSize};
 ghost use Rattle.stable.specs.declared.scripted.Failing.{Failing};
 ghost use Rattle.schedule.specs.Keywords.{failing_text};
-ghost use Rattle.schedule.specs.declared.forms.TheConstants.{SIZES};
+ghost use Rattle.schedule.specs.declared.forms.TheConstants.{SIZES, SMALL_DIGITS};
 ghost use Rattle.schedule.specs.Table.{IsNode, IsClient, IsRequestNumber, IsFrameNumber};
 
 use super::words::{PeriodWords, RectWords};
@@ -20,6 +21,9 @@ use wire::{NodeId, Nodes};
 
 /// Coordinates are below this number, and so are their negatives.
 const SIZES: u64 = FURTHEST as u64 + 1;
+
+/// Numbers of at most this many digits are below 2^64.
+const SMALL_DIGITS: usize = 19;
 
 /// The node that the word names.
 pub(crate) fn node(nodes: Nodes, word: &[u8]) -> Option<NodeId>
@@ -187,14 +191,33 @@ pub(crate) fn decimal(word: &[u8]) -> Option<u64>
     ensures { MatchOption result ((value : ℕ) → ¬ IsFrameNumber word.now value)
         (IsFrameNumber word.now) }
 {
-    // `parse` would take more than decimal texts.
+    // Both ways would take needless zeros, and `parse` a plus too.
     if !is_plain(word) {
         return None;
+    }
+    if word.len() <= SMALL_DIGITS {
+        return small_decimal(word);
     }
     match str::from_utf8(word) {
         Ok(text) => text.parse().ok(),
         Err(_) => None,
     }
+}
+
+/// The value of so few digits, if all bytes are digits. It has no need of tests against overflow.
+fn small_decimal(word: &[u8]) -> Option<u64>
+    requires { length word.now ≤ SMALL_DIGITS }
+    ensures { MatchOption result (¬ AllDigits 10 word.now)
+        (λ value. AllDigits 10 word.now × (value ≡ digits_value 10 word.now)) }
+{
+    let mut value = 0;
+    for byte in word {
+        if !byte.is_ascii_digit() {
+            return None;
+        }
+        value = value * 10 + u64::from(*byte - b'0');
+    }
+    Some(value)
 }
 
 /// Whether the word is not empty and begins neither with a plus nor with a needless zero.

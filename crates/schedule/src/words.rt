@@ -4,7 +4,7 @@ ghost use Rattle.std.specs.Prelude.{◌≡◌, ◌≢◌, ◌<◌, [], ◌∷◌
 ghost use Rattle.schedule.specs.Words.{words_of};
 ghost use Rattle.schedule.specs.WordLists.{period_words, rect_words};
 
-use super::cut::cut;
+use super::cut::first_end;
 use super::fault::ScheduleFault;
 use std::marker::Model;
 
@@ -53,9 +53,14 @@ impl<'a> Words<'a> {
     pub(crate) fn next(&mut self) -> Option<&'a [u8]>
         ensures { MatchOption result (self.old ≡ []) (λ word. self.old ≡ word.now ∷ self.new) }
     {
-        let (word, rest) = cut(self.rest?, b' ');
-        self.rest = rest;
-        Some(word)
+        let text = self.rest?;
+        let end = first_end(text, b' ');
+        if end < text.len() {
+            self.rest = Some(&text[end + 1..]);
+            return Some(&text[..end]);
+        }
+        self.rest = None;
+        Some(text)
     }
 
     /// Takes the next word, which has to be there.
