@@ -44,7 +44,7 @@ returns-then-not-is_up-clause-delivers g c =
       sent = search (rules, arith);
       is = subst (λ fs. slice_get fs c.loop-index.index ≡ Some c.index-frames-index.result) c.frames.ensures read;
       receiver = search rules;
-      named = c.receiver-receiver.ensures;
+      named = c.receiver-receiver.ensures.receiver;
       delivers = search rules;
       down = search rules;
     }
@@ -62,13 +62,13 @@ loop-index-preserved g c =
           came (scripted g.S.Stable) c.args.receivers.now (run_of c.args.self.now) c.args.first c.loop-index.index
           c.receiver-receiver.result
           c.index-frames-index.result (run_of c.loop-index.self) (run_of w.deliver.new.self) (run_of c.if-is_among.self)
-          c.loop-index.invariant.0 here c.receiver-receiver.ensures (search rules) (search rules) (search rules) (search rules)
+          c.loop-index.invariant.0 here c.receiver-receiver.ensures.receiver (search rules) (search rules) (search rules) (search rules)
           c.loop-index.invariant.1
       | else-is_among w ↦
           passed_by (scripted g.S.Stable) c.args.receivers.now (run_of c.args.self.now) c.args.first c.loop-index.index
           c.index-frames-index.result (run_of c.loop-index.self) (run_of c.if-is_among.self) c.loop-index.invariant.0 here
           (λ among. let e : false ≡ true = w.if-is_among.ensures.1
-          (subst (λ j. Contains c.args.receivers.now j) (sym c.receiver-receiver.ensures) among) in absurd (cc))
+          (subst (λ j. Contains c.args.receivers.now j) (sym c.receiver-receiver.ensures.receiver) among) in absurd (cc))
           (search rules) c.loop-index.invariant.1
     ]
 
