@@ -17,3 +17,7 @@ pub mod PlaceLemmas
 pub mod PartLemmas
 pub mod FeatureLemmas
 pub mod NeverBroken
+pub mod Named
+pub mod WholeNumbers
+pub mod TokenLemmas
+pub mod Objects

@@ -6,3 +6,4 @@ pub mod Document
 pub mod Texts
 pub mod Faults
 pub mod Outline
+pub mod Tokens

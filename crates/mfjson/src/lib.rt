@@ -10,6 +10,7 @@ mod fault;
 mod feature;
 mod laws;
 mod reading;
+mod tokens;
 mod writing;
 
 pub use datetime::{datetime_read, datetime_text};

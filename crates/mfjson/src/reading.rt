@@ -13,6 +13,7 @@ ghost use Rattle.mfjson.specs.Faults.{IsFaultOf, IsFirst, HasFeatureMembers, IsI
 ghost use Rattle.mfjson.specs.Faults.{IsMovingPoint, IsPlace, SaysCoordinate, SaysCoordinates};
 ghost use Rattle.mfjson.specs.Outline.{SaysThisId, HasLists, IsOutline, FailsFirst, AreTogether, list_fault};
 
+use crate::tokens::feature_of_tokens;
 use crate::{Feature, MfFault, datetime_read};
 use serde_json::{Category, Value};
 use std::alloc::{AllocError, Global};
@@ -28,6 +29,10 @@ pub fn read(alloc: Global, bytes: &[u8]) -> Result<Feature, MfFault>
     ensures document { (f : Feature) → IsDocumentOf bytes.now f
         → (result ≡ Ok f) ⊎ (result ≡ Err MfFault.Memory) }
 {
+    // Nearly every document is read so, in half the time; the tree has the last word on the others.
+    if let Some(feature) = feature_of_tokens(alloc, bytes) {
+        return Ok(feature);
+    }
     let value = value_of(alloc, bytes)?;
     feature_of(alloc, &value)
 }
@@ -229,7 +234,7 @@ fn coordinate_of(value: &Value) -> Option<i64>
 }
 
 /// Each instant with its place.
-fn points_of(
+pub(crate) fn points_of(
     alloc: Global,
     instants: &[Instant],
     places: &[(i64, i64)],

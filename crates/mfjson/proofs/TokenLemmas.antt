@@ -1,0 +1,135 @@
+-- What is told of a value by its tokens: texts, numbers, and the lists of a geometry.
+use Rattle.std.proofs.Common.{◌≡◌, ℕ, suc, ℤ, ◌≤◌, List, [], ◌∷◌, ◌++◌, Option, Some, None, option_map, refl, sym, ap, ◌∙◌, subst, arith, Bor}
+use Rattle.std.specs.Prelude.{IfSome, IsSome, ◌↔◌}
+use Rattle.std.proofs.lemmas.Option.{same_Some}
+use Rattle.json.specs.Token.{Token}
+use Rattle.json.specs.Json as json
+use Rattle.json.specs.Tree as tree
+use Rattle.json.specs.Find as find
+use Rattle.json.specs.Find.{BeginsWith}
+use Rattle.serde_json.specs.Data.{Data, string, number, array, item, no_items}
+use Rattle.serde_json.specs.Read.{of_items, number_of}
+use Rattle.serde_json.specs.View.{items_of}
+use Rattle.tpoint.specs.Coordinates.{InRange}
+use Rattle.tpoint.specs.Ids.{IsId}
+use Rattle.mfjson.specs.Datetime.{ReadsAs}
+use Rattle.mfjson.specs.Document.{SaysInstant}
+use Rattle.mfjson.specs.Outline.{SaysThisId}
+use Rattle.mfjson.specs.Pairs.{Pairwise}
+use Rattle.mfjson.specs.Faults.{SaysCoordinate, SaysCoordinates}
+use Rattle.mfjson.specs.Tokens.{Told, Says, SaysEach, IsText, IsWhole}
+
+-- ---- one value
+
+text_told : (j : json.Json) (text : List ℕ) → find.as_str j ≡ Some text → Told 0 IsText j text
+text_told json.null text e = absurd (cc)
+text_told (json.boolean b) text e = absurd (cc)
+text_told (json.number s) text e = absurd (cc)
+text_told (json.string s) text e =
+    record { value = string s; means = record { read = refl; nests = omega arith }; says = ap string (same_Some s text e) }
+text_told (json.array js) text e = absurd (cc)
+text_told (json.object ms) text e = absurd (cc)
+
+pub text_answer : (o : Option (Bor (List ℕ))) (ts : List Token) → ((j : json.Json) → BeginsWith ts j → option_map (λ s. s.now) o ≡ find.as_str j)
+    → IfSome o (λ text. Says 0 IsText ts text.now)
+text_answer None ts found = tt
+text_answer (Some text) ts found = record { told = λ j begins. text_told j text.now (sym (found j begins)) }
+
+coordinate_at : (j : json.Json) (s : List ℕ) (z : ℤ) → find.as_number j ≡ Some s → IsWhole (number_of s) z → InRange z → Told 0 SaysCoordinate j z
+coordinate_at json.null s z e whole fits = absurd (cc)
+coordinate_at (json.boolean b) s z e whole fits = absurd (cc)
+coordinate_at (json.number t) s z e whole fits =
+    record {
+      value = number whole.n;
+      means = record { read = rw (same_Some t s e, whole.is_number) refl; nests = omega arith };
+      says = record { n = whole.n; is_number = refl; whole = whole.whole; fits = fits };
+    }
+coordinate_at (json.string t) s z e whole fits = absurd (cc)
+coordinate_at (json.array js) s z e whole fits = absurd (cc)
+coordinate_at (json.object ms) s z e whole fits = absurd (cc)
+
+pub coordinate_told : (o : Option (Bor (List ℕ))) (text : Bor (List ℕ)) (ts : List Token) (z : ℤ) →
+    ((j : json.Json) → BeginsWith ts j → option_map (λ s. s.now) o ≡ find.as_number j) → o ≡ Some text → IsWhole (number_of text.now) z → InRange z →
+    Says 0 SaysCoordinate ts z
+coordinate_told o text ts z found is whole fits =
+    record { told = λ j begins. coordinate_at j text.now z (sym (found j begins) ∙ ap (option_map (λ s. s.now)) is) whole fits }
+
+-- what one thing says, says another where it follows
+pub says_so : {X Y : Type 0} (n : ℕ) (R : Data → X → Type 0) (S : Data → Y → Type 0) (ts : List Token) (x : X) (y : Y) → ((d : Data) → R d x → S d y) →
+    Says n R ts x → Says n S ts y
+says_so {X} {Y} n R S ts x y so says =
+    record { told = λ j begins. let t = says.told j begins in record { value = t.value; means = t.means; says = so t.value t.says } }
+
+pub id_answer : (o : Option (List ℕ)) (bytes text : List ℕ) (ts : List Token) → bytes ≡ text → (IsSome o → IsId bytes) → IfSome o (λ id. id ≡ bytes) →
+    Says 0 IsText ts text → IfSome o (λ id. Says 0 SaysThisId ts id)
+id_answer None bytes text ts same valid is says = tt
+id_answer (Some id) bytes text ts same valid is says =
+    says_so 0 IsText SaysThisId ts text id (λ d e. record { is_text = e ∙ ap string (sym (is ∙ same)); is_id = subst IsId (sym is) (valid refl) }) says
+
+pub instant_answer : (o : Option ℕ) (bytes text : List ℕ) (ts : List Token) → bytes ≡ text → ((t : ℕ) → ReadsAs bytes t ↔ (o ≡ Some t)) →
+    Says 0 IsText ts text → IfSome o (λ t. Says 0 SaysInstant ts t)
+instant_answer None bytes text ts same reads says = tt
+instant_answer (Some t) bytes text ts same reads says =
+    says_so 0 IsText SaysInstant ts text t (λ d e. record { text = text; is_text = e; read = subst (λ s. ReadsAs s t) same ((reads t).1 refl) }) says
+
+-- ---- an array
+
+pub place_told : (j jx jy : json.Json) (js more last : json.Items) (x y : ℤ) → j ≡ json.array js → js ≡ json.item jx more → more ≡ json.item jy last →
+    last ≡ json.no_items → Told 0 SaysCoordinate jx x → Told 0 SaysCoordinate jy y → Told 1 SaysCoordinates j (x, y)
+place_told j jx jy js more last x y is first second over tx ty =
+    let whole : j ≡ json.array (json.item jx (json.item jy json.no_items)) =
+    is ∙ ap json.array (first ∙ ap (json.item jx) (second ∙ ap (json.item jy) over)) in
+    let deep_x = tx.means.nests in
+    let deep_y = ty.means.nests in
+    let told : Told 1 SaysCoordinates (json.array (json.item jx (json.item jy json.no_items))) (x, y) =
+    record {
+      value = array (item tx.value (item ty.value no_items));
+      means = record { read = rw (tx.means.read, ty.means.read) refl; nests = omega (arith, deep_x, deep_y) };
+      says = record { first = tx.value; second = ty.value; pair = refl; says_x = tx.says; says_y = ty.says };
+    } in
+    subst (λ k. Told 1 SaysCoordinates k (x, y)) (sym whole) told
+
+-- the items begin with some that say the values, one after another, and then come the rest
+abbrev pub GoesOn : {X : Type 0} → ℕ → (Data → X → Type 0) → json.Items → List X → json.Items → Type 0
+GoesOn n R all [] rest = all ≡ rest
+GoesOn n R json.no_items (x ∷ xs) rest = ⊥
+GoesOn n R (json.item j js) (x ∷ xs) rest = Told n R j x × GoesOn n R js xs rest
+
+pub one_more : {X : Type 0} (n : ℕ) (R : Data → X → Type 0) (all : json.Items) (xs : List X) (j : json.Json) (rest : json.Items) (x : X) →
+    GoesOn n R all xs (json.item j rest) → Told n R j x → GoesOn n R all (xs ++ x ∷ []) rest
+one_more {X} n R all [] j rest x on told = subst (λ js. GoesOn n R js (x ∷ []) rest) (sym on) (told, refl)
+one_more {X} n R json.no_items (y ∷ xs) j rest x on told = absurd on
+one_more {X} n R (json.item i js) (y ∷ xs) j rest x on told = (on.0, one_more n R js xs j rest x on.1 told)
+
+pub record EachRead {X : Type 0} (n : ℕ) (R : Data → X → Type 0) (all : json.Items) (xs : List X) : Type 0 where
+  pub elements : List Data
+  pub read : of_items all ≡ Some (items_of elements)
+  pub nests : tree.items_depth all ≤ n
+  pub each : Pairwise R elements xs
+
+each_read : {X : Type 0} (n : ℕ) (R : Data → X → Type 0) (all : json.Items) (xs : List X) → GoesOn n R all xs json.no_items → EachRead n R all xs
+each_read {X} n R json.no_items [] on = record { elements = []; read = refl; nests = omega arith; each = tt }
+each_read {X} n R (json.item j js) [] on = absurd (cc)
+each_read {X} n R json.no_items (x ∷ xs) on = absurd on
+each_read {X} n R (json.item j js) (x ∷ xs) on =
+    let one = on.0 in
+    let more = each_read n R js xs on.1 in
+    let here = one.means.nests in
+    let there = more.nests in
+    record {
+      elements = one.value ∷ more.elements;
+      read = rw (one.means.read, more.read) refl;
+      nests = omega (arith, here, there);
+      each = (one.says, more.each);
+    }
+
+pub array_told : {X : Type 0} (n : ℕ) (R : Data → X → Type 0) (all : json.Items) (xs : List X) → GoesOn n R all xs json.no_items →
+    Told (suc n) (SaysEach R) (json.array all) xs
+array_told {X} n R all xs on =
+    let r = each_read n R all xs on in
+    let deep = r.nests in
+    record {
+      value = array (items_of r.elements);
+      means = record { read = rw r.read refl; nests = omega (arith, deep) };
+      says = record { elements = r.elements; is_array = refl; each = r.each };
+    }

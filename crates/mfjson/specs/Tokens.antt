@@ -1,0 +1,65 @@
+-- What a value says whose tokens stand at some place of a text.
+use Rattle.std.specs.Prelude.{◌≡◌, ℕ, ◌≤◌, ℤ, List, codes, Option, Some, length}
+use Rattle.json.specs.Token.{Token}
+use Rattle.json.specs.Json as json
+use Rattle.json.specs.Tree as tree
+use Rattle.json.specs.Find.{BeginsWith}
+use Rattle.json.specs.Strict.{keys}
+use Rattle.serde_json.specs.Data.{Data, Num, string, array}
+use Rattle.serde_json.specs.Find.{as_i64}
+use Rattle.serde_json.specs.Read.{of_json}
+use Rattle.serde_json.specs.View.{items_of}
+use Rattle.tpoint.specs.declared.interp.Interp.{Interp}
+use Rattle.tpoint.specs.Interps.{interp_name}
+use Rattle.mfjson.specs.Pairs.{Pairwise}
+use Rattle.mfjson.specs.Document.{SaysInstant}
+use Rattle.mfjson.specs.Faults.{SaysCoordinates, part}
+use Rattle.mfjson.specs.Outline.{HasLists}
+
+-- the value of the grammar is read as d, and arrays and objects nest in it no deeper than n
+pub record Means (n : ℕ) (j : json.Json) (d : Data) : Type 0 where
+  pub read : of_json j ≡ Some d
+  pub nests : tree.depth j ≤ n
+
+-- what the value is read as that the tokens begin with, and what it says, by R
+pub record Told {X : Type 0} (n : ℕ) (R : Data → X → Type 0) (j : json.Json) (x : X) : Type 0 where
+  pub value : Data
+  pub means : Means n j value
+  pub says : R value x
+
+-- the value that the tokens begin with says x
+pub record Says {X : Type 0} (n : ℕ) (R : Data → X → Type 0) (ts : List Token) (x : X) : Type 0 where
+  pub told : (j : json.Json) → BeginsWith ts j → Told n R j x
+
+abbrev pub IsText : Data → List ℕ → Type 0
+IsText d text = d ≡ string text
+
+-- a number that is whole and fits 64 bits
+pub record IsWhole (number : Option Num) (z : ℤ) : Type 0 where
+  pub n : Num
+  pub is_number : number ≡ Some n
+  pub whole : as_i64 n ≡ Some z
+
+-- an array whose elements say these, one after another
+pub record SaysEach {X : Type 0} (R : Data → X → Type 0) (d : Data) (xs : List X) : Type 0 where
+  pub elements : List Data
+  pub is_array : d ≡ array (items_of elements)
+  pub each : Pairwise R elements xs
+
+-- an object of so many members
+pub record HasCount (n : ℕ) (j : json.Json) : Type 0 where
+  pub members : json.Members
+  pub is_object : j ≡ json.object members
+  pub count : length (keys members) ≡ n
+
+pub record HasMembers (n : ℕ) (ts : List Token) : Type 0 where
+  pub counted : (j : json.Json) → BeginsWith ts j → HasCount n j
+
+-- the geometry of a moving point: its interpolation, its instants and its places
+pub record SaysCourse (d : Data) (interp : Interp) (instants : List ℕ) (places : List (ℤ × ℤ)) : Type 0 where
+  pub times : List Data
+  pub coordinates : List Data
+  pub lists : HasLists d times coordinates
+  pub named : part (codes "interpolation") d ≡ string (interp_name interp)
+  pub when : Pairwise SaysInstant times instants
+  pub where_to : Pairwise SaysCoordinates coordinates places
