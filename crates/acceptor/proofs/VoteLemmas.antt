@@ -1,10 +1,7 @@
 -- Votes in a map by slot.
-use Rattle.std.proofs.Common.{◌≡◌, ℕ, Option, Some, None, Result, Ok, Err, refl, ap, ◌∙◌, sym, arith, inl, inr, IsSome, IfSome, OnOk, OnErr}
+use Rattle.std.proofs.Common.{◌≡◌, ℕ, Option, Some, None, Result, Ok, Err, refl, ap, subst, ◌∙◌, sym, inl, inr, IsSome, IfSome, OnOk, OnErr}
 use Rattle.std.proofs.Common.{option_map}
-use Rattle.std.specs.Ordering.{nat_cmp}
-use Rattle.std.specs.BTreeMap.{BTreeMap, get, Updates}
-use Rattle.std.proofs.lemmas.Grind.{common_steps}
-use Rattle.std.proofs.lemmas.Bool.Decides.{nat_tests, eqb_tells}
+use Rattle.std.proofs.lemmas.Bool.Decides.{eqb_tells}
 use Rattle.std.proofs.lemmas.Bool.{eq-eqb}
 use Rattle.synod.specs.declared.ballot.Ballot.{Ballot}
 use Rattle.synod.specs.declared.vote.Vote.{Vote}
@@ -24,10 +21,11 @@ pub never_refused : {T E X : Type 0} (r : Result T E) (o : Option X) {P : Type 0
 never_refused (Ok x) o there bad good = good
 never_refused (Err e) o there bad good = absurd (some_not_none o there bad)
 
--- a change of a map at one slot is a change of its votes at that slot
-pub get-updated : {X : Type 0} (m n : BTreeMap ℕ X) (slot : ℕ) (w : Option X) → Updates nat_cmp m n slot w → (s : ℕ)
-    → get nat_cmp n s ≡ put (get nat_cmp m) slot w s
-get-updated m n slot w u s = grind (arith, common_steps, nat_tests, u.0 s)
+-- what is put at a slot is there
+pub put_there : {X : Type 0} (f g : ℕ → Option X) (slot : ℕ) (x : X) → g ≡ put f slot (Some x) → IsSome (g slot)
+put_there f g slot x e =
+    let here : put f slot (Some x) slot ≡ Some x = rw (eq-eqb slot slot refl) refl in
+    subst IsSome (sym (ap (λ h. h slot) e ∙ here)) refl
 
 -- a vote that was cast under this ballot for this command
 pub same_vote : (cast : Cast) (v : Vote Command) → cast.ballot ≡ v.ballot → cast.command ≡ v.command → vote_at v.slot cast ≡ v

@@ -1,7 +1,6 @@
 -- The votes that are held, by slot.
 use Rattle.std.specs.Prelude.{◌≡◌, ℕ, ◌≤◌, Option, Some, option_map}
-use Rattle.std.specs.BTreeMap.{get}
-use Rattle.std.specs.Ordering.{nat_cmp}
+use Rattle.byslot.specs.Values.{value_at}
 use Rattle.synod.specs.Ballots.{rank, rank_of}
 use Rattle.synod.specs.declared.ballot.Ballot.{Ballot}
 use Rattle.synod.specs.declared.vote.Vote.{Vote}
@@ -15,7 +14,7 @@ vote_at s cast = record { slot = s; ballot = cast.ballot; command = cast.command
 
 -- what was cast at a slot
 abbrev pub cast_at : Votes → ℕ → Option Cast
-cast_at votes s = get nat_cmp votes.by_slot s
+cast_at votes = value_at votes.by_slot
 
 -- the vote that is held at a slot
 abbrev pub vote_held : Votes → ℕ → Option (Vote Command)

@@ -8,17 +8,17 @@ ghost use Rattle.acceptor.specs.Forms.{VoteFits};
 ghost use Rattle.acceptor.specs.Spelling.{vote_bytes};
 
 use super::cast::Cast;
+use byslot::BySlot;
 use sessions::Command;
 use stable::{Key, Stable, StableFault};
 use std::alloc::{AllocError, Global};
-use std::collections::BTreeMap;
 use synod::{Ballot, Slot, Vote};
 use wire::{Entries, Entry, MOST_ENTRIES, Promise, vote_record};
 
 /// What was voted for at each slot.
 #[derive(Drop)]
 pub(super) struct Votes {
-    by_slot: BTreeMap<Slot, Cast>,
+    by_slot: BySlot<Cast>,
 }
 
 impl Votes {
@@ -27,7 +27,7 @@ impl Votes {
         ensures { (s : ℕ) → vote_held result s ≡ None }
     {
         Votes {
-            by_slot: BTreeMap::new(alloc),
+            by_slot: BySlot::new(alloc),
         }
     }
 
@@ -35,14 +35,14 @@ impl Votes {
     pub(super) fn has(&self, vote: &Vote<Command>) -> bool
         ensures { IsTrue result ↔ (vote_held self.now vote.now.slot ≡ Some vote.now) }
     {
-        match self.by_slot.get(&vote.slot) {
+        match self.by_slot.get(vote.slot) {
             Some(cast) => cast.ballot == vote.ballot && cast.command == vote.command,
             None => false,
         }
     }
 
     /// The promise of a ballot, which tells the votes from a slot on: four at most, and none behind the fourth is passed
-    /// over. It takes one look-up and at most five steps from there, however many votes are held.
+    /// over. It takes at most five steps from there, however many votes are held, and one for each empty place between them.
     pub(super) fn promise(
         &self,
         alloc: Global,
@@ -54,15 +54,20 @@ impl Votes {
         ensures stands { OnErr result (StandsFrom (λ s. vote_held self.now s) first) }
     {
         let mut entries = Entries::new(alloc);
-        for (slot, cast) in self.by_slot.range(first..) {
+        let mut from = Some(first);
+        while let Some(next) = from {
+            let Some((slot, cast)) = self.by_slot.first_from(next) else {
+                break;
+            };
             if entries.len() == MOST_ENTRIES {
                 return Ok(Promise::new(ballot, first, slot.before().unwrap(), entries).unwrap());
             }
             entries.push(Entry::new(Vote {
-                slot: *slot,
+                slot,
                 ballot: cast.ballot,
                 command: cast.command.clone()?,
             }))?;
+            from = Slot::new(slot.value() + 1);
         }
         Ok(Promise::new(ballot, first, Slot::last(), entries).unwrap())
     }
@@ -125,7 +130,7 @@ impl Votes {
                 let _ = self.by_slot.insert(slot, cast);
             }
             None => {
-                let _ = self.by_slot.remove(&slot);
+                let _ = self.by_slot.remove(slot);
             }
         }
     }

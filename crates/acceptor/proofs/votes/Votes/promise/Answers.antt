@@ -1,94 +1,48 @@
-use Rattle.std.proofs.Common.{rules, ◌≡◌, List, ◌+◌, ◌<◌, ◌++◌, ◌∷◌, [], ℕ, length, map, All, Contains, sym, ap, ◌∙◌, subst, append-nil}
-use Rattle.std.specs.BTreeMap.Range.{entries_between, IsEntryInRange}
-use Rattle.std.specs.Ordering.{nat_cmp}
-use Rattle.std.specs.declared.ops.Bound.TheVariants.{Included, Unbounded}
-use Rattle.synod.specs.declared.vote.Vote.{Vote}
-use Rattle.sessions.specs.declared.command.Command.{Command}
-use Rattle.acceptor.specs.declared.cast.Cast.{Cast}
-use Rattle.acceptor.specs.Casts.{vote_held}
-use Rattle.acceptor.specs.Ranges.{StandsFrom}
-use Rattle.acceptor.proofs.RangeLemmas.{vote_in, none_in_log, one_more_in_log, next_taken, some_slot_before, has_one_before, listed_from}
-use Rattle.acceptor.proofs.RangeLemmas.{full_promise, last_promise}
+use Rattle.std.proofs.Common.{rules, ◌≡◌, ◌+◌, ◌<◌, ◌++◌, ◌∷◌, [], None, MatchOption, length, sym, subst}
+use Rattle.byslot.proofs.ValueLemmas.{where_refused}
+use Rattle.byslot.specs.Values.{value_at, IsEmptyFrom}
+use Rattle.acceptor.specs.Casts.{vote_at}
+use Rattle.acceptor.proofs.RangeLemmas.{IsToldTo, held, so_far, all_looked_at, one_told, nothing_more, told_to_next}
+use Rattle.acceptor.proofs.RangeLemmas.{found_from, has_one_before, full_promise, last_promise}
 use Rattle.acceptor.proofs.votes.Votes.promise.Goals as goal
-
-pub loop-slot-init : goal.loop-slot-init
-loop-slot-init c = (
-  search rules,
-  search rules,
-  subst (λ (l : List (Vote Command)). (v : Vote Command) → Contains l v → v.slot < 65536)
-      (sym c.new-entries.ensures.items) none_in_log,
-)
-
-pub loop-slot-preserved : goal.loop-slot-preserved
-loop-slot-preserved c =
-    let e : ℕ × Cast = (c.in-Some.slot.now, c.in-Some.cast.now) in
-    let entry : c.new-in-loop-slot.result ≡ vote_in e = search rules in
-    let steps : c.loop-slot.slot-iterator ≡ e ∷ c.next.new.self = search rules in
-    let bound : c.in-Some.slot.now < 65536 = search rules in (
-      next_taken c.loop-slot.entries.items _ _ e _ _ _ c.in_ok-push.ensures.items entry steps c.loop-slot.invariant.0,
-      search rules,
-      one_more_in_log c.loop-slot.entries.items _ _ c.in_ok-push.ensures.items c.loop-slot.invariant.2
-          (subst (λ (v : Vote Command). v.slot < 65536) (sym entry) bound),
-    )
+use Rattle.acceptor.proofs.votes.Votes.promise.Goals.{in-Some+in_default-first_from, in_default}
 
 -- the fifth vote has others before it
 pub unwrap-requires : goal.unwrap-requires
 unwrap-requires c =
-    let e : ℕ × Cast = (c.in-Some.slot.now, c.in-Some.cast.now) in
-    let steps : c.loop-slot.slot-iterator ≡ e ∷ c.next.new.self = search rules in
     let votes = c.args.self.now.by_slot in
-    let listed = c.range-slot-items.result in
-    let between : listed ≡ entries_between nat_cmp (Included c.args.first) Unbounded votes.entries = search rules in
-    let each : All (IsEntryInRange nat_cmp (Included c.args.first) Unbounded votes) listed = search rules in
-    let ordered = c.range-slot-items.ensures.ordered in
-    let told = c.loop-slot.entries.items in
-    let whole : told ++ vote_in e ∷ map vote_in c.next.new.self ≡ map vote_in listed =
-    ap (λ (l : List (ℕ × Cast)). told ++ map vote_in l) (sym steps) ∙ c.loop-slot.invariant.0
-    ∙ ap (map vote_in) c.into_iter-slot-iterator.ensures.into_iter_gives in
-    let some : 0 < length told = search rules in
-    let before = some_slot_before votes c.args.first listed ordered between each told (vote_in e)
-    (map vote_in c.next.new.self) whole some in
-    has_one_before c.before-then-len-eq-MOST_ENTRIES.result c.in-Some.slot.now before.0 c.before-then-len-eq-MOST_ENTRIES.ensures.value
-    before.1
+    let slot = c.in-Some-first_from.slot in
+    let told = c.loop-from.entries.items in
+    let four : length told ≡ 4 = search rules in
+    let one_before : MatchOption c.before-then-len-eq-MOST_ENTRIES.result (slot ≡ 0) (λ s. s + 1 ≡ slot) = search rules in
+    let before = so_far votes c.args.first c.loop-from.from c.in-Some.next told c.in-Some.is c.loop-from.invariant in
+    has_one_before votes c.args.first c.before-then-len-eq-MOST_ENTRIES.result c.in-Some.next slot c.in-Some-first_from.cast.now told before
+    c.in-Some-first_from.ensures four one_before
 
 pub unwrap-requires-then-len-eq-MOST_ENTRIES : goal.unwrap-requires-then-len-eq-MOST_ENTRIES
 unwrap-requires-then-len-eq-MOST_ENTRIES c =
-    let e : ℕ × Cast = (c.in-Some.slot.now, c.in-Some.cast.now) in
-    let steps : c.loop-slot.slot-iterator ≡ e ∷ c.next.new.self = search rules in
     let votes = c.args.self.now.by_slot in
-    let listed = c.range-slot-items.result in
-    let between : listed ≡ entries_between nat_cmp (Included c.args.first) Unbounded votes.entries = search rules in
-    let each : All (IsEntryInRange nat_cmp (Included c.args.first) Unbounded votes) listed = search rules in
-    let ordered = c.range-slot-items.ensures.ordered in
-    let told = c.loop-slot.entries.items in
-    let whole : told ++ vote_in e ∷ map vote_in c.next.new.self ≡ map vote_in listed =
-    ap (λ (l : List (ℕ × Cast)). told ++ map vote_in l) (sym steps) ∙ c.loop-slot.invariant.0
-    ∙ ap (map vote_in) c.into_iter-slot-iterator.ensures.into_iter_gives in
+    let slot = c.in-Some-first_from.slot in
+    let told = c.loop-from.entries.items in
     let four : length told ≡ 4 = search rules in
-    let next : c.unwrap.result + 1 ≡ c.in-Some.slot.now = search rules in
-    let bound : c.in-Some.slot.now < 65536 = c.before-then-len-eq-MOST_ENTRIES.ensures.in_log in
-    let promise = full_promise votes c.args.first listed ordered between each c.args.ballot told (vote_in e)
-    (map vote_in c.next.new.self) c.unwrap.result whole four next bound c.requires in
+    let at : c.unwrap.result + 1 ≡ slot = search rules in
+    let low : slot < 65536 = search rules in
+    let before = so_far votes c.args.first c.loop-from.from c.in-Some.next told c.in-Some.is c.loop-from.invariant in
+    let promise = full_promise votes c.args.first c.args.ballot c.in-Some.next slot c.unwrap.result c.in-Some-first_from.cast.now told
+    before c.in-Some-first_from.ensures four at low c.requires in
     c.new.ensures.valid.1 promise.may_be_said
 
 pub returns-then-len-eq-MOST_ENTRIES-clause-tells : goal.returns-then-len-eq-MOST_ENTRIES-clause-tells
 returns-then-len-eq-MOST_ENTRIES-clause-tells c =
-    let e : ℕ × Cast = (c.in-Some.slot.now, c.in-Some.cast.now) in
-    let steps : c.loop-slot.slot-iterator ≡ e ∷ c.next.new.self = search rules in
     let votes = c.args.self.now.by_slot in
-    let listed = c.range-slot-items.result in
-    let between : listed ≡ entries_between nat_cmp (Included c.args.first) Unbounded votes.entries = search rules in
-    let each : All (IsEntryInRange nat_cmp (Included c.args.first) Unbounded votes) listed = search rules in
-    let ordered = c.range-slot-items.ensures.ordered in
-    let told = c.loop-slot.entries.items in
-    let whole : told ++ vote_in e ∷ map vote_in c.next.new.self ≡ map vote_in listed =
-    ap (λ (l : List (ℕ × Cast)). told ++ map vote_in l) (sym steps) ∙ c.loop-slot.invariant.0
-    ∙ ap (map vote_in) c.into_iter-slot-iterator.ensures.into_iter_gives in
+    let slot = c.in-Some-first_from.slot in
+    let told = c.loop-from.entries.items in
     let four : length told ≡ 4 = search rules in
-    let next : c.unwrap.result + 1 ≡ c.in-Some.slot.now = search rules in
-    let bound : c.in-Some.slot.now < 65536 = c.before-then-len-eq-MOST_ENTRIES.ensures.in_log in
-    let promise = full_promise votes c.args.first listed ordered between each c.args.ballot told (vote_in e)
-    (map vote_in c.next.new.self) c.unwrap.result whole four next bound c.requires in
+    let at : c.unwrap.result + 1 ≡ slot = search rules in
+    let low : slot < 65536 = search rules in
+    let before = so_far votes c.args.first c.loop-from.from c.in-Some.next told c.in-Some.is c.loop-from.invariant in
+    let promise = full_promise votes c.args.first c.args.ballot c.in-Some.next slot c.unwrap.result c.in-Some-first_from.cast.now told
+    before c.in-Some-first_from.ensures four at low c.requires in
     let is : c.unwrap-then-len-eq-MOST_ENTRIES.result ≡ record {
       ballot = c.args.ballot;
       first = c.args.first;
@@ -97,73 +51,71 @@ returns-then-len-eq-MOST_ENTRIES-clause-tells c =
     } = search rules in
     rw is promise
 
+-- the vote at hand, for which memory was refused, stands at the first slot or at a later one
+pub returns-in_err-push-clause-stands : goal.returns-in_err-push-clause-stands
+returns-in_err-push-clause-stands c =
+    let votes = c.args.self.now.by_slot in
+    let told = c.loop-from.entries.items in
+    let before = so_far votes c.args.first c.loop-from.from c.in-Some.next told c.in-Some.is c.loop-from.invariant in
+    where_refused c.from_residual-in_err-push.result (found_from votes c.args.first c.in-Some.next c.in-Some-first_from.slot
+    c.in-Some-first_from.cast.now told before c.in-Some-first_from.ensures)
+
+-- the next vote is told
+pub loop-from-preserved : goal.loop-from-preserved
+loop-from-preserved c =
+    let votes = c.args.self.now.by_slot in
+    let slot = c.in-Some-first_from.slot in
+    let cast = c.in-Some-first_from.cast.now in
+    let told = c.loop-from.entries.items in
+    let entry : c.new-in-Some.result ≡ vote_at slot cast = search rules in
+    let room : length told < 4 = search rules in
+    let longer : c.push.new.self.items ≡ told ++ vote_at slot cast ∷ [] = search rules in
+    let number : c.value.result ≡ slot = search rules in
+    let lt : slot < 65536 = search rules in
+    let before = so_far votes c.args.first c.loop-from.from c.in-Some.next told c.in-Some.is c.loop-from.invariant in
+    let more = one_told votes c.args.first c.in-Some.next slot cast told before c.in-Some-first_from.ensures room in
+    told_to_next votes c.args.first c.push.new.self.items slot c.value.result c.new-from.result number lt c.new-from.ensures.valid
+    c.new-from.ensures.value (subst (IsToldTo (held votes c.args.first) c.args.first (slot + 1)) (sym longer) more)
+
+-- no vote is left to tell
 pub unwrap-requires-2 : goal.unwrap-requires-2
 unwrap-requires-2 c =
     let votes = c.args.self.now.by_slot in
-    let listed = c.range-slot-items.result in
-    let between : listed ≡ entries_between nat_cmp (Included c.args.first) Unbounded votes.entries = search rules in
-    let each : All (IsEntryInRange nat_cmp (Included c.args.first) Unbounded votes) listed = search rules in
-    let ordered = c.range-slot-items.ensures.ordered in
-    let told = c.loop-slot.entries.items in
-    let none : c.loop-slot.slot-iterator ≡ [] = search rules in
-    let whole : told ≡ map vote_in listed =
-    sym (append-nil told) ∙ ap (λ (l : List (ℕ × Cast)). told ++ map vote_in l) (sym none) ∙ c.loop-slot.invariant.0
-    ∙ ap (map vote_in) c.into_iter-slot-iterator.ensures.into_iter_gives in
+    let told = c.loop-from.entries.items in
+    let all : IsToldTo (held votes c.args.first) c.args.first 65536 told = elim c.match-from.branch [
+      | in-Some+in_default-first_from w ↦
+          let empty : IsEmptyFrom (value_at votes) w.in-Some.next = search rules in
+          let low : w.in-Some.next < 65536 = search rules in
+          nothing_more votes c.args.first w.in-Some.next told
+          (so_far votes c.args.first c.loop-from.from w.in-Some.next told w.in-Some.is c.loop-from.invariant) empty low
+      | in_default w ↦
+          let none : c.loop-from.from ≡ None = search rules in
+          all_looked_at votes c.args.first c.loop-from.from told none c.loop-from.invariant
+    ] in
     let low : c.args.first < 65536 = search rules in
-    let promise = last_promise votes c.args.first listed ordered between each c.args.ballot told c.last.result whole c.loop-slot.invariant.1
-    c.loop-slot.invariant.2 c.last.ensures low c.requires in
+    let promise = last_promise votes c.args.first c.args.ballot c.last.result told all c.last.ensures low c.requires in
     c.new-2.ensures.valid.1 promise.may_be_said
 
 pub returns-clause-tells : goal.returns-clause-tells
 returns-clause-tells c =
     let votes = c.args.self.now.by_slot in
-    let listed = c.range-slot-items.result in
-    let between : listed ≡ entries_between nat_cmp (Included c.args.first) Unbounded votes.entries = search rules in
-    let each : All (IsEntryInRange nat_cmp (Included c.args.first) Unbounded votes) listed = search rules in
-    let ordered = c.range-slot-items.ensures.ordered in
-    let told = c.loop-slot.entries.items in
-    let none : c.loop-slot.slot-iterator ≡ [] = search rules in
-    let whole : told ≡ map vote_in listed =
-    sym (append-nil told) ∙ ap (λ (l : List (ℕ × Cast)). told ++ map vote_in l) (sym none) ∙ c.loop-slot.invariant.0
-    ∙ ap (map vote_in) c.into_iter-slot-iterator.ensures.into_iter_gives in
+    let told = c.loop-from.entries.items in
+    let all : IsToldTo (held votes c.args.first) c.args.first 65536 told = elim c.match-from.branch [
+      | in-Some+in_default-first_from w ↦
+          let empty : IsEmptyFrom (value_at votes) w.in-Some.next = search rules in
+          let low : w.in-Some.next < 65536 = search rules in
+          nothing_more votes c.args.first w.in-Some.next told
+          (so_far votes c.args.first c.loop-from.from w.in-Some.next told w.in-Some.is c.loop-from.invariant) empty low
+      | in_default w ↦
+          let none : c.loop-from.from ≡ None = search rules in
+          all_looked_at votes c.args.first c.loop-from.from told none c.loop-from.invariant
+    ] in
     let low : c.args.first < 65536 = search rules in
-    let promise = last_promise votes c.args.first listed ordered between each c.args.ballot told c.last.result whole c.loop-slot.invariant.1
-    c.loop-slot.invariant.2 c.last.ensures low c.requires in
-    let is : c.unwrap-2.result ≡ record { ballot = c.args.ballot; first = c.args.first; last = c.last.result; entries = told } =
-    search rules in
+    let promise = last_promise votes c.args.first c.args.ballot c.last.result told all c.last.ensures low c.requires in
+    let is : c.unwrap-2.result ≡ record {
+      ballot = c.args.ballot;
+      first = c.args.first;
+      last = c.last.result;
+      entries = told;
+    } = search rules in
     rw is promise
-
--- the vote at hand, for which memory was refused, stands at the first slot or at a later one
-pub returns-in_err-clone-clause-stands : goal.returns-in_err-clone-clause-stands
-returns-in_err-clone-clause-stands c =
-    let e : ℕ × Cast = (c.in-Some.slot.now, c.in-Some.cast.now) in
-    let steps : c.loop-slot.slot-iterator ≡ e ∷ c.next.new.self = search rules in
-    let votes = c.args.self.now.by_slot in
-    let listed = c.range-slot-items.result in
-    let between : listed ≡ entries_between nat_cmp (Included c.args.first) Unbounded votes.entries = search rules in
-    let each : All (IsEntryInRange nat_cmp (Included c.args.first) Unbounded votes) listed = search rules in
-    let told = c.loop-slot.entries.items in
-    let whole : told ++ vote_in e ∷ map vote_in c.next.new.self ≡ map vote_in listed =
-    ap (λ (l : List (ℕ × Cast)). told ++ map vote_in l) (sym steps) ∙ c.loop-slot.invariant.0
-    ∙ ap (map vote_in) c.into_iter-slot-iterator.ensures.into_iter_gives in
-    let there : StandsFrom (λ s. vote_held c.args.self.now s) c.args.first =
-    listed_from votes c.args.first listed c.range-slot-items.ensures.ordered between each told (vote_in e)
-    (map vote_in c.next.new.self) whole in
-    search rules
-
-pub returns-in_err-push-clause-stands : goal.returns-in_err-push-clause-stands
-returns-in_err-push-clause-stands c =
-    let e : ℕ × Cast = (c.in-Some.slot.now, c.in-Some.cast.now) in
-    let steps : c.loop-slot.slot-iterator ≡ e ∷ c.next.new.self = search rules in
-    let votes = c.args.self.now.by_slot in
-    let listed = c.range-slot-items.result in
-    let between : listed ≡ entries_between nat_cmp (Included c.args.first) Unbounded votes.entries = search rules in
-    let each : All (IsEntryInRange nat_cmp (Included c.args.first) Unbounded votes) listed = search rules in
-    let told = c.loop-slot.entries.items in
-    let whole : told ++ vote_in e ∷ map vote_in c.next.new.self ≡ map vote_in listed =
-    ap (λ (l : List (ℕ × Cast)). told ++ map vote_in l) (sym steps) ∙ c.loop-slot.invariant.0
-    ∙ ap (map vote_in) c.into_iter-slot-iterator.ensures.into_iter_gives in
-    let there : StandsFrom (λ s. vote_held c.args.self.now s) c.args.first =
-    listed_from votes c.args.first listed c.range-slot-items.ensures.ordered between each told (vote_in e)
-    (map vote_in c.next.new.self) whole in
-    search rules

@@ -1,11 +1,10 @@
-use Rattle.std.proofs.Common.{◌≡◌, ◌≤◌, ◌++◌, map, length}
-use Rattle.wire.specs.declared.frames.promise.TheConstants.{MOST_ENTRIES}
-use Rattle.acceptor.proofs.RangeLemmas.{vote_in, AreInLog}
+use Rattle.std.proofs.Common.{◌-◌}
+use Rattle.acceptor.proofs.RangeLemmas.{IsToldTo, held, end_of}
 use Rattle.acceptor.proofs.votes.Votes.promise.Given as goal
 
--- the votes that were taken in and those that are left are those that the map lists from the first slot on
-abbrev pub invariant-loop-slot : goal.invariant-loop-slot
-invariant-loop-slot l =
-    (l.entries.items ++ map vote_in l.slot-iterator ≡ map vote_in l.initial.slot-iterator)
-    × (length l.entries.items ≤ MOST_ENTRIES)
-    × AreInLog l.entries.items
+-- the votes below the next slot to look at were taken in
+abbrev pub invariant-loop-from : goal.invariant-loop-from
+invariant-loop-from l = IsToldTo (held l.fn.self.by_slot l.fn.first) l.fn.first (end_of l.from) l.entries.items
+
+abbrev pub decreases-loop-from : goal.decreases-loop-from
+decreases-loop-from l = 65536 - end_of l.from

@@ -1,0 +1,227 @@
+-- Values by slot, of which the first lie in a row.
+use Rattle.std.proofs.Common.{◌≡◌, ◌≢◌, ℕ, zero, suc, ◌<◌, ◌≤◌, ◌⊎◌, Bool, true, false, List, [], ◌∷◌, ◌++◌, length, filter, All, Contains}
+use Rattle.std.proofs.Common.{Option, Some, None, slice_get, slice_index_or, slice_set, nat_lt, refl, sym, ap, subst}
+use Rattle.std.proofs.Common.{◌∙◌, inl, inr, arith, Result, Ok, Err, OnErr}
+use Rattle.std.specs.BTreeMap.{BTreeMap, get, is_at, Updates, IsOrdered}
+use Rattle.std.specs.BTreeMap.Range.{entries_between, range_contains, IsEntryInRange}
+use Rattle.std.specs.declared.ops.Bound.TheVariants.{Included, Unbounded}
+use Rattle.std.specs.Cmp.{nat_cmp_total, ranks}
+use Rattle.std.specs.Ordering.{nat_cmp, is_gt, is_le, is_eq}
+use Rattle.std.specs.declared.cmp.Ordering.TheVariants.{Less}
+use Rattle.std.specs.Map.{keys_of, lookup}
+use Rattle.std.specs.List.Sorted.{IsStrictlySortedBy}
+use Rattle.std.proofs.lemmas.Bool.{cond_both}
+use Rattle.std.proofs.lemmas.Bool.Decides.{nat_tests, eqb_tells, leb_tells}
+use Rattle.std.proofs.lemmas.Cmp.{by_ranked}
+use Rattle.std.proofs.lemmas.Grind.{common_steps}
+use Rattle.std.proofs.lemmas.List.Elements.{All-contains}
+use Rattle.std.proofs.lemmas.List.Kept.{IsStrictlySortedBy-filter}
+use Rattle.std.proofs.lemmas.Map.Entries.{lookup-filter-keys, lookup_at_gap}
+use Rattle.synod.specs.Records.{put}
+use Rattle.byslot.specs.Values.{in_row, in_log, IsEmptyFrom, IsFirstFrom}
+
+-- a number is below another, or it isn't
+pub tells : (a b : ℕ) → ((nat_lt a b ≡ true) × (a < b)) ⊎ ((nat_lt a b ≡ false) × (b ≤ a))
+tells a b = elim (leb_tells (suc a) b) [
+  | inl lt ↦ inl (lt.0, lt.1)
+  | inr le ↦ inr (le.0, omega (arith, le.1))
+]
+
+pub where_refused : {T E P : Type 0} (r : Result T E) → P → OnErr r P
+where_refused (Ok x) p = tt
+where_refused (Err e) p = p
+
+-- ---- the slots of the log
+module _ {V : Type 0} where
+  pub at_slot : (f : ℕ → Option V) (s : ℕ) → s < 65536 → in_log f s ≡ f s
+  at_slot f s lt = elim (tells s 65536) [
+    | inl here ↦ rw here.0 refl
+    | inr behind ↦ absurd (omega (arith, lt, behind.1))
+  ]
+
+  -- where nothing stands from one slot of the log up to its end
+  pub none_up_to : (f : ℕ → Option V) (first end : ℕ) → 65536 ≤ end → ((s : ℕ) → first ≤ s → s < end → in_log f s ≡ None)
+      → IsEmptyFrom (in_log f) first
+  none_up_to f first end all none s from = elim (tells s 65536) [
+    | inl here ↦ none s from (omega (arith, here.1, all))
+    | inr behind ↦ rw behind.0 refl
+  ]
+
+  -- a change at a slot of the log
+  pub put_in_log : (f : ℕ → Option V) (i : ℕ) (x : Option V) → i < 65536 → in_log (put f i x) ≡ put (in_log f) i x
+  put_in_log f i x lt = λ k s. at s k
+    where
+      at : (s : ℕ) → in_log (put f i x) s ≡ put (in_log f) i x s
+      at s = elim (tells s 65536) [
+        | inl here ↦ rw here.0 refl
+        | inr behind ↦ elim (eqb_tells s i) [
+          | inl same ↦ absurd (omega (arith, lt, behind.1, same.1))
+          | inr other ↦ rw (behind.0, other.0) refl
+        ]
+      ]
+
+-- ---- the row
+module _ {V : Type 0} where
+  -- behind a row there is no place
+  pub none_behind : (row : List (Option V)) (s : ℕ) → length row ≤ s → slice_get row s ≡ None
+  none_behind [] s le = refl
+  none_behind (p ∷ row) zero le = absurd (omega (arith, le))
+  none_behind (p ∷ row) (suc s) le = none_behind row s (omega (arith, le))
+
+  -- what lies at a place of it
+  pub place_there : (row : List (Option V)) (s : ℕ) (p : Option V) → s < length row → p ≡ slice_index_or row s p → slice_get row s ≡ Some p
+  place_there [] s p lt is = absurd (omega (arith, lt))
+  place_there (q ∷ row) zero p lt is = ap Some (sym is)
+  place_there (q ∷ row) (suc s) p lt is = place_there row s p (omega (arith, lt)) is
+
+  -- a place that joins the row is its last
+  last_of : (row : List (Option V)) (p : Option V) → slice_get (row ++ p ∷ []) (length row) ≡ Some p
+  last_of [] p = refl
+  last_of (q ∷ row) p = last_of row p
+
+  -- and nothing else of it changes
+  others_of : (row : List (Option V)) (p : Option V) (s : ℕ) → s ≢ length row → slice_get (row ++ p ∷ []) s ≡ slice_get row s
+  others_of [] p zero apart = absurd (apart refl)
+  others_of [] p (suc s) apart = refl
+  others_of (q ∷ row) p zero apart = refl
+  others_of (q ∷ row) p (suc s) apart = others_of row p s (λ e. apart (ap suc e))
+
+  -- a place that is written has what was written
+  written_of : (row : List (Option V)) (i : ℕ) (p : Option V) → i < length row → slice_get (slice_set row i p) i ≡ Some p
+  written_of [] i p lt = absurd (omega (arith, lt))
+  written_of (q ∷ row) zero p lt = refl
+  written_of (q ∷ row) (suc i) p lt = written_of row i p (omega (arith, lt))
+
+  -- and the other places stay
+  unwritten_of : (row : List (Option V)) (i s : ℕ) (p : Option V) → s ≢ i → slice_get (slice_set row i p) s ≡ slice_get row s
+  unwritten_of [] i s p apart = refl
+  unwritten_of (q ∷ row) zero zero p apart = absurd (apart refl)
+  unwritten_of (q ∷ row) zero (suc s) p apart = refl
+  unwritten_of (q ∷ row) (suc i) zero p apart = refl
+  unwritten_of (q ∷ row) (suc i) (suc s) p apart = unwritten_of row i s p (λ e. apart (ap suc e))
+
+  -- what stands at the next slot joins the row, and all slots read as before
+  pub row_longer : (row more : List (Option V)) (p : Option V) (f g : ℕ → Option V) (n : ℕ) → more ≡ row ++ p ∷ [] → n ≡ length row
+      → p ≡ f n → ((s : ℕ) → g s ≡ put f n None s) → in_log (in_row more g) ≡ in_log (in_row row f)
+  row_longer row more p f g n is there here changed = ap in_log (λ k s. (ap (λ l. in_row l g s) is ∙ at s) k)
+    where
+      at : (s : ℕ) → in_row (row ++ p ∷ []) g s ≡ in_row row f s
+      at s = elim (eqb_tells s n) [
+        | inl same ↦ rw (same.1, there, last_of row p, none_behind row (length row) (omega arith)) (here ∙ ap f there)
+        | inr other ↦ rw (others_of row p s (rw (← there) other.1), changed s, other.0) refl
+      ]
+
+  -- a change behind the row is a change there
+  pub row_put : (row : List (Option V)) (f g : ℕ → Option V) (i : ℕ) (x : Option V) → i < 65536 → length row ≤ i
+      → ((s : ℕ) → g s ≡ put f i x s) → in_log (in_row row g) ≡ put (in_log (in_row row f)) i x
+  row_put row f g i x lt behind changed = ap in_log (λ k s. at s k) ∙ put_in_log (in_row row f) i x lt
+    where
+      at : (s : ℕ) → in_row row g s ≡ put (in_row row f) i x s
+      at s = elim (eqb_tells s i) [
+        | inl same ↦ rw (changed s, same.0, same.1, none_behind row i behind) refl
+        | inr other ↦ rw (changed s, other.0) refl
+      ]
+
+  -- and a change of a place of the row
+  pub row_set : (row more : List (Option V)) (f : ℕ → Option V) (i : ℕ) (x : Option V) → more ≡ slice_set row i x → i < 65536
+      → i < length row → in_log (in_row more f) ≡ put (in_log (in_row row f)) i x
+  row_set row more f i x is lt within = ap in_log (λ k s. (ap (λ l. in_row l f s) is ∙ at s) k) ∙ put_in_log (in_row row f) i x lt
+    where
+      at : (s : ℕ) → in_row (slice_set row i x) f s ≡ put (in_row row f) i x s
+      at s = elim (eqb_tells s i) [
+        | inl same ↦ rw (same.0, same.1, written_of row i x within) refl
+        | inr other ↦ rw (other.0, unwritten_of row i s x other.1) refl
+      ]
+
+  -- behind the row that is read which is kept there
+  pub behind_reads : (row : List (Option V)) (f : ℕ → Option V) (s : ℕ) → s < 65536 → length row ≤ s → in_log (in_row row f) s ≡ f s
+  behind_reads row f s lt le = at_slot (in_row row f) s lt ∙ rw (none_behind row s le) refl
+
+  -- of the row that is read which lies there
+  pub row_reads : (row : List (Option V)) (f : ℕ → Option V) (s : ℕ) (p : Option V) → s < 65536 → s < length row
+      → p ≡ slice_index_or row s p → in_log (in_row row f) s ≡ p
+  row_reads row f s p lt within is = at_slot (in_row row f) s lt ∙ rw (place_there row s p within is) refl
+
+  -- the first behind the row, where nothing stands at the slots of the row from one on
+  module _ (row : List (Option V)) (f : ℕ → Option V) (first next : ℕ) (behind : length row ≤ next) (le : first ≤ next)
+      (none : (s : ℕ) → first ≤ s → s < next → in_log (in_row row f) s ≡ None) where
+    pub first_of_row : (slot : ℕ) (value : V) → slot < 65536 → IsFirstFrom f next slot value
+        → IsFirstFrom (in_log (in_row row f)) first slot value
+    first_of_row slot value lt is = record {
+      from = (let there = is.from in omega arith);
+      stands = behind_reads row f slot lt (let there = is.from in omega arith) ∙ is.stands;
+      none_before = λ s from before. elim (tells s next) [
+        | inl low ↦ none s from low.1
+        | inr high ↦ (let end = high.1 in behind_reads row f s (omega arith) (omega arith) ∙ is.none_before s end before)
+      ];
+    }
+
+    pub none_of_row : IsEmptyFrom f next → IsEmptyFrom (in_log (in_row row f)) first
+    none_of_row is = λ s from. elim (tells s 65536) [
+      | inl here ↦ elim (tells s next) [
+        | inl low ↦ none s from low.1
+        | inr high ↦ (let end = high.1 in behind_reads row f s here.1 (omega arith) ∙ is s end)
+      ]
+      | inr behind ↦ rw behind.0 refl
+    ]
+
+-- ---- what is kept behind it
+-- a change of a map at one slot
+pub get-updated : {X : Type 0} (m n : BTreeMap ℕ X) (slot : ℕ) (w : Option X) → Updates nat_cmp m n slot w → (s : ℕ)
+    → get nat_cmp n s ≡ put (get nat_cmp m) slot w s
+get-updated m n slot w u s = grind (arith, common_steps, nat_tests, u.0 s)
+
+keys_filter : {K X : Type 0} (p : K → Bool) (es : List (K × X)) → keys_of (filter (λ e. p e.0) es) ≡ filter p (keys_of es)
+keys_filter p [] = refl
+keys_filter p (e ∷ es) = cond_both (p e.0) (e ∷ filter (λ e. p e.0) es) (filter (λ e. p e.0) es)
+    (λ l. keys_of l ≡ filter p (keys_of (e ∷ es)))
+    (λ t. rw t (ap (λ l. e.0 ∷ l) (keys_filter p es)))
+    (λ t. rw t (keys_filter p es))
+
+pub less : (a b : ℕ) → a < b → nat_cmp a b ≡ Less
+less a b lt = by_ranked (a < b) (a ≡ b) (b < a) (nat_cmp a b) (ranks a b) (λ o _. o) (λ _ e. absurd (omega (arith, lt, e)))
+    (λ _ gt. absurd (omega (arith, lt, gt)))
+
+not_above : (a b : ℕ) → is_gt (nat_cmp a b) ≡ false → a ≤ b
+not_above a b h = by_ranked (a < b) (a ≡ b) (b < a) (nat_cmp a b) (ranks a b) (λ _ lt. omega arith) (λ _ e. omega arith)
+    (λ o _. let other : true ≡ false = sym (ap is_gt o) ∙ h in absurd cc)
+
+is_from : (a b : ℕ) → a ≤ b → is_le (nat_cmp a b) ≡ true
+is_from a b le = by_ranked (a < b) (a ≡ b) (b < a) (nat_cmp a b) (ranks a b) (λ o _. ap is_le o) (λ o _. ap is_le o)
+    (λ o lt. absurd (omega (arith, le, lt)))
+
+equal : (a b : ℕ) → is_eq (nat_cmp a b) ≡ true → a ≡ b
+equal a b h = by_ranked (a < b) (a ≡ b) (b < a) (nat_cmp a b) (ranks a b)
+    (λ o _. let other : false ≡ true = sym (ap is_eq o) ∙ h in absurd cc) (λ _ e. e)
+    (λ o _. let other : false ≡ true = sym (ap is_eq o) ∙ h in absurd cc)
+
+-- what a map lists from a slot on
+module _ {V : Type 0} (m : BTreeMap ℕ V) (first : ℕ) (listed : List (ℕ × V)) (ordered : IsOrdered nat_cmp m)
+    (between : listed ≡ entries_between nat_cmp (Included first) Unbounded m.entries)
+    (each : All (IsEntryInRange nat_cmp (Included first) Unbounded m) listed) where
+  abbrev lies_there : ℕ → Bool
+  lies_there = range_contains nat_cmp (Included first) Unbounded
+
+  -- from there on a look-up may go through the list
+  found_listed : (s : ℕ) → first ≤ s → lookup (is_at (nat_cmp s)) listed ≡ get nat_cmp m s
+  found_listed s le = rw between (lookup-filter-keys (is_at (nat_cmp s)) lies_there true
+      (λ k at. rw (is_from first k (let same = equal s k at in omega arith)) refl) m.entries)
+
+  pub none_listed : listed ≡ [] → IsEmptyFrom (get nat_cmp m) first
+  none_listed is s le = sym (found_listed s le) ∙ ap (lookup (is_at (nat_cmp s))) is
+
+  sorted : IsStrictlySortedBy nat_cmp (keys_of listed)
+  sorted = rw between (rw (keys_filter lies_there m.entries) (IsStrictlySortedBy-filter nat_cmp lies_there (keys_of m.entries) ordered))
+
+  pub first_listed : (e : ℕ × V) (rest : List (ℕ × V)) → listed ≡ e ∷ rest → IsFirstFrom (get nat_cmp m) first e.0 e.1
+  first_listed e rest is =
+      let there : Contains listed e = subst (λ l. Contains l e) (sym is) (0, omega arith, refl) in
+      let here = All-contains (IsEntryInRange nat_cmp (Included first) Unbounded m) listed e each there in
+      record {
+        from = not_above first e.0 here.0.0;
+        stands = here.1;
+        none_before = λ s le before. sym (found_listed s le) ∙ lookup_at_gap nat_cmp_total s listed 0 sorted
+            (λ j f lt _. absurd (omega (arith, lt)))
+            (λ f at. (let same : Some e ≡ Some f = sym (ap (λ l. slice_get l 0) is) ∙ at in
+            let one : e ≡ f = cc in less s f.0 (subst (λ (x : ℕ × V). s < x.0) one before)));
+      }

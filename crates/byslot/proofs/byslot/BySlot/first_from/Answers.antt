@@ -1,0 +1,13 @@
+use Rattle.std.proofs.Common.{◌≤◌, arith}
+use Rattle.std.specs.BTreeMap.{get}
+use Rattle.std.specs.Ordering.{nat_cmp}
+use Rattle.byslot.specs.Values.{in_row}
+use Rattle.byslot.proofs.ValueLemmas.{none_up_to}
+use Rattle.byslot.proofs.byslot.BySlot.first_from.Goals as goal
+
+-- the whole row has nothing more
+pub returns : goal.returns
+returns g c =
+    let self = c.args.self.now in
+    let all : 65536 ≤ c.loop-value.value = omega (arith, c.loop-value-test.false) in
+    none_up_to (in_row self.row.items (get nat_cmp self.others)) c.args.from c.loop-value.value all c.loop-value.invariant

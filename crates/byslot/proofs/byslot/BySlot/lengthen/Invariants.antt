@@ -1,0 +1,6 @@
+use Rattle.std.proofs.Common.{◌≡◌}
+use Rattle.byslot.specs.Values.{value_at}
+use Rattle.byslot.proofs.byslot.BySlot.lengthen.Given as goal
+
+abbrev pub invariant-loop-next : goal.invariant-loop-next
+invariant-loop-next g l = value_at l.self ≡ value_at l.initial.self

@@ -1,0 +1,33 @@
+-- What stands at each slot.
+use Rattle.std.specs.Prelude.{◌≡◌, ℕ, ◌<◌, ◌≤◌, List, Option, Some, None, slice_get, nat_lt, if◌then◌else◌}
+use Rattle.std.specs.BTreeMap.{get}
+use Rattle.std.specs.Ordering.{nat_cmp}
+use Rattle.synod.specs.declared.slot.TheConstants.{SLOTS}
+use Rattle.byslot.specs.declared.byslot.BySlot.{BySlot}
+
+-- what a place of the row holds; where the row has no such place, what stands there otherwise
+abbrev pub place_or : {V : Type 0} → Option (Option V) → Option V → Option V
+place_or None otherwise = otherwise
+place_or (Some place) otherwise = place
+
+-- what is read of a row, and of the slots behind it what stands there otherwise
+abbrev pub in_row : {V : Type 0} → List (Option V) → (ℕ → Option V) → ℕ → Option V
+in_row row behind s = place_or (slice_get row s) (behind s)
+
+-- the same of the slots of the log, and nothing of others
+abbrev pub in_log : {V : Type 0} → (ℕ → Option V) → ℕ → Option V
+in_log f s = if nat_lt s SLOTS then f s else None
+
+-- the value that stands at each slot
+abbrev pub value_at : {V : Type 0} → BySlot V → ℕ → Option V
+value_at b = in_log (in_row b.row.items (get nat_cmp b.others))
+
+-- nothing stands at a slot, nor at any later one
+abbrev pub IsEmptyFrom : {V : Type 0} → (ℕ → Option V) → ℕ → Type 0
+IsEmptyFrom at first = (s : ℕ) → first ≤ s → at s ≡ None
+
+-- of the slots from one on, this is the first at which something stands, and this is what stands there
+pub record IsFirstFrom {V : Type 0} (at : ℕ → Option V) (first slot : ℕ) (value : V) : Type 0 where
+  pub from : first ≤ slot
+  pub stands : at slot ≡ Some value
+  pub none_before : (s : ℕ) → first ≤ s → s < slot → at s ≡ None

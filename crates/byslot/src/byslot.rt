@@ -1,0 +1,130 @@
+//! Values by slot.
+
+ghost use Rattle.std.specs.Prelude.{◌≡◌, Some, None, IfOk, OnOk, OnErr, MatchOption};
+ghost use Rattle.std.specs.Option.{option_copied};
+ghost use Rattle.std.specs.BTreeMap.{get};
+ghost use Rattle.std.specs.Ordering.{nat_cmp};
+ghost use Rattle.synod.specs.Records.{put};
+ghost use Rattle.byslot.specs.Values.{value_at, IsEmptyFrom, IsFirstFrom};
+
+use std::alloc::{AllocError, Global};
+use std::collections::BTreeMap;
+use synod::{SLOTS, Slot};
+
+// A value less than so many slots behind the row makes it longer: each value adds at most as many places to it.
+const REACH: usize = 64;
+
+/// Values by slot: at each slot at most one.
+///
+/// What stands at the first slots is found by its place. What stands far behind them is searched for, in a number of steps that
+/// grows with the logarithm of the values.
+#[derive(Drop)]
+pub struct BySlot<V> {
+    // What stands at slot 0, 1 and so on.
+    row: Vec<Option<V>>,
+    // What stands behind them.
+    others: BTreeMap<Slot, V>,
+}
+
+impl<V: Drop> BySlot<V> {
+    /// Nothing stands at any slot, and no memory is taken.
+    pub fn new(alloc: Global) -> BySlot<V>
+        ensures { value_at result ≡ (λ _. None) }
+    {
+        BySlot {
+            row: Vec::new(alloc),
+            others: BTreeMap::new(alloc),
+        }
+    }
+
+    /// The value at a slot.
+    #[inline]
+    pub fn get(&self, slot: Slot) -> Option<&V>
+        ensures { option_copied result ≡ value_at self.now slot }
+    {
+        match self.row.get(slot.value() as usize) {
+            Some(place) => place.as_ref(),
+            None => self.others.get(&slot),
+        }
+    }
+
+    /// Of the slots from this one on the first at which a value stands, and the value.
+    pub fn first_from(&self, from: Slot) -> Option<(Slot, &V)>
+        ensures { MatchOption result (IsEmptyFrom (value_at self.now) from)
+            (λ found. IsFirstFrom (value_at self.now) from found.0 found.1.now) }
+    {
+        for value in from.value()..SLOTS {
+            let slot = Slot::new(value).unwrap();
+            match self.row.get(value as usize) {
+                Some(Some(found)) => return Some((slot, found)),
+                Some(None) => {}
+                None => return self.first_behind(slot),
+            }
+        }
+        None
+    }
+
+    // The first of what is searched for, from a slot on.
+    fn first_behind(&self, from: Slot) -> Option<(Slot, &V)>
+        ensures { MatchOption result (IsEmptyFrom (get nat_cmp self.now.others) from)
+            (λ found. IsFirstFrom (get nat_cmp self.now.others) from found.0 found.1.now) }
+    {
+        match self.others.range(from..).next() {
+            Some((slot, found)) => Some((*slot, found)),
+            None => None,
+        }
+    }
+
+    /// Makes a value stand at a slot, and hands out what stood there. Where something does, no memory is wanted.
+    pub fn insert(&mut self, slot: Slot, value: V) -> Result<Option<V>, AllocError>
+        ensures before { IfOk result (λ before. before ≡ value_at self.old slot) }
+        ensures stands { OnOk result (value_at self.new ≡ put (value_at self.old) slot (Some value)) }
+        ensures absent { OnErr result (value_at self.old slot ≡ None) }
+        ensures unchanged { OnErr result (value_at self.new ≡ value_at self.old) }
+    {
+        self.lengthen(slot);
+        match self.row.get_mut(slot.value() as usize) {
+            Some(place) => Ok(place.replace(value)),
+            None => Ok(self.others.insert(slot, value)?),
+        }
+    }
+
+    /// Nothing stands at a slot any more. What stood there is handed out.
+    pub fn remove(&mut self, slot: Slot) -> Option<V>
+        ensures before { result ≡ value_at self.old slot }
+        ensures gone { value_at self.new ≡ put (value_at self.old) slot None }
+    {
+        match self.row.get_mut(slot.value() as usize) {
+            Some(place) => place.take(),
+            None => self.others.remove(&slot),
+        }
+    }
+
+    // Where a slot isn't far behind the row, the row goes on up to it, as far as memory serves.
+    fn lengthen(&mut self, slot: Slot)
+        ensures { value_at self.new ≡ value_at self.old }
+    {
+        let place = slot.value() as usize;
+        let end = self.row.len();
+        if place.saturating_sub(end) >= REACH {
+            return;
+        }
+        for next in end..place + 1 {
+            self.join(Slot::new(next as u32).unwrap());
+        }
+    }
+
+    // Where the slot is the next of the row, it joins it, unless memory is wanting.
+    fn join(&mut self, next: Slot)
+        ensures { value_at self.new ≡ value_at self.old }
+    {
+        if next.value() as usize != self.row.len() {
+            return;
+        }
+        if let Err(_) = self.row.try_reserve(1) {
+            return;
+        }
+        let found = self.others.remove(&next);
+        let _ = self.row.push(found);
+    }
+}

@@ -1,0 +1,16 @@
+use Rattle.std.proofs.Common.{MatchOption, ◌+◌, ◌-◌, ℕ, Option, Some, None}
+use Rattle.stable.specs.Listing.{ListsTo}
+use Rattle.stable.specs.Memory.{stored}
+use Rattle.stable.proofs.memory.MemStableStable.keys.Given as goal
+
+-- the keys below those of the votes that are still to be looked for are listed
+abbrev pub invariant-loop-from : goal.invariant-loop-from
+invariant-loop-from l =
+    MatchOption l.from (ListsTo (stored l.fn.self) 65538 l.keys.items) (λ first. ListsTo (stored l.fn.self) (first + 2) l.keys.items)
+
+abbrev pub left : Option ℕ → ℕ
+left None = 0
+left (Some first) = 65536 - first
+
+abbrev pub decreases-loop-from : goal.decreases-loop-from
+decreases-loop-from l = left l.from
