@@ -74,7 +74,7 @@ impl Leader {
         let slot = Slot::new(place).unwrap();
         let number = 1 + u64::from(place);
         let chosen = Command::Request(request(number)?);
-        let _ = self.learner.on_decided(slot, chosen)?;
+        let _ = self.learner.on_decided(alloc, slot, chosen)?;
         self.proposer.on_learned(slot);
         let waited = self.proposer.executed(CLIENT, Number::new(number).unwrap());
         submit(&mut self.proposer, u64::from(waiting) + number)?;

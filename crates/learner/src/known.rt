@@ -8,6 +8,7 @@ ghost use Rattle.learner.specs.Learning.{unheard};
 ghost use Rattle.learner.specs.Prefixes.{IsLearntTo, IsPrefix};
 ghost use Rattle.learner.specs.Slots.{SlotHears};
 
+use super::held::Held;
 use super::slots::Slots;
 use sessions::Command;
 use std::alloc::{AllocError, Global};
@@ -18,7 +19,7 @@ use wire::{NodeId, Nodes};
 #[derive(Drop)]
 pub(super) struct Known {
     // What is learnt at slot 0, 1 and so on.
-    settled: Vec<Command>,
+    settled: Vec<Held>,
     // What is known of the others.
     others: Slots,
 }
@@ -40,7 +41,7 @@ impl Known {
         ensures { option_copied result ≡ known_learnt self.now slot }
     {
         match self.settled.get(slot.value() as usize) {
-            Some(command) => Some(command),
+            Some(held) => Some(held.command()),
             None => self.others.learnt(slot),
         }
     }
@@ -96,13 +97,13 @@ impl Known {
         alloc: Global,
         nodes: Nodes,
         from: NodeId,
-        vote: Vote<Command>,
+        vote: &Vote<Command>,
     ) -> Result<bool, AllocError>
         ensures hears { IfOk result (λ learns.
-            SlotHears nodes (known_learnt self.old) (known_heard self.old) from vote
+            SlotHears nodes (known_learnt self.old) (known_heard self.old) from vote.now
             learns (known_learnt self.new) (known_heard self.new)) }
-        ensures unlearnt { OnErr result (known_learnt self.old vote.slot ≡ None) }
-        ensures once { OnErr result (known_heard self.old vote.slot vote.ballot from ≡ None) }
+        ensures unlearnt { OnErr result (known_learnt self.old vote.now.slot ≡ None) }
+        ensures once { OnErr result (known_heard self.old vote.now.slot vote.now.ballot from ≡ None) }
         ensures learnt { OnErr result (known_learnt self.new ≡ known_learnt self.old) }
         ensures heard { OnErr result (known_heard self.new ≡ known_heard self.old) }
     {
@@ -113,7 +114,7 @@ impl Known {
     }
 
     /// The slot is learnt, and what was told of it goes.
-    pub(super) fn learn(&mut self, slot: Slot, command: Command) -> Result<(), AllocError>
+    pub(super) fn learn(&mut self, slot: Slot, command: Held) -> Result<(), AllocError>
         requires { known_learnt self.old slot ≡ None }
         ensures learnt { OnOk result
             (known_learnt self.new ≡ put (known_learnt self.old) slot (Some command)) }

@@ -5,6 +5,7 @@ ghost use Rattle.std.specs.Option.{option_copied};
 ghost use Rattle.learner.specs.Prefixes.{IsPrefix};
 ghost use Rattle.learner.specs.Known.{known_learnt};
 
+use super::held::Held;
 use super::known::Known;
 use super::learned::Learned;
 use sessions::Command;
@@ -68,13 +69,13 @@ impl Learner {
         &mut self,
         alloc: Global,
         from: NodeId,
-        vote: Vote<Command>,
+        vote: &Vote<Command>,
     ) -> Result<Option<Learned>, AllocError>
         ensures hears { IfOk result (λ learned.
-            HearsVote (learning_of self.old) from vote learned (learning_of self.new)) }
+            HearsVote (learning_of self.old) from vote.now learned (learning_of self.new)) }
 
         // Only news that counts can be refused memory.
-        ensures counts { OnErr result (Counts (learning_of self.old) from vote) }
+        ensures counts { OnErr result (Counts (learning_of self.old) from vote.now) }
         ensures unchanged { OnErr result (learning_of self.new ≡ learning_of self.old) }
     {
         let slot = vote.slot;
@@ -95,6 +96,7 @@ impl Learner {
     /// After `AllocError` it is as it was.
     pub fn on_decided(
         &mut self,
+        alloc: Global,
         slot: Slot,
         command: Command,
     ) -> Result<Option<Learned>, AllocError>
@@ -108,6 +110,7 @@ impl Learner {
         if slot.value() < self.prefix || self.slots.learnt(slot).is_some() {
             return Ok(None);
         }
+        let command = Held::new(alloc, command)?;
         self.slots.learn(slot, command)?;
         self.prefix = self.slots.first_unlearnt(self.prefix);
         Ok(Some(Learned { slot }))

@@ -4,6 +4,7 @@
 #![tactic(auto)]
 
 mod allowed;
+mod held;
 mod known;
 mod learned;
 mod learner;
@@ -14,6 +15,7 @@ mod tallies;
 mod tally;
 
 pub use allowed::{decided_is_allowed, prefix_never_falls, vote_is_allowed};
+pub use held::Held;
 pub use learned::Learned;
 pub use learner::Learner;
 pub use prefixes::prefix_is_first_unlearnt;

@@ -4,9 +4,10 @@ ghost use Rattle.std.specs.Prelude.{◌≡◌, IfOk, OnErr, Some, None};
 ghost use Rattle.std.specs.Option.{option_copied};
 ghost use Rattle.learner.specs.Places.{place_learnt, place_heard, PlaceHears};
 
+use super::held::Held;
 use super::tallies::Tallies;
 use sessions::Command;
-use std::alloc::AllocError;
+use std::alloc::{AllocError, Global};
 use synod::Ballot;
 use wire::{NodeId, Nodes};
 
@@ -15,7 +16,7 @@ use wire::{NodeId, Nodes};
 pub(super) enum Place {
     /// It isn't learnt, and this was told of it.
     Told(Tallies),
-    Learnt(Command),
+    Learnt(Held),
 }
 
 impl Place {
@@ -25,20 +26,21 @@ impl Place {
     {
         match self {
             Place::Told(_) => None,
-            Place::Learnt(command) => Some(command),
+            Place::Learnt(held) => Some(held.command()),
         }
     }
 
     /// A node tells that it voted so. Whether the slot is newly learnt by it.
     pub(super) fn hear(
         &mut self,
+        alloc: Global,
         nodes: Nodes,
         from: NodeId,
         ballot: Ballot,
-        command: Command,
+        command: &Command,
     ) -> Result<bool, AllocError>
         ensures hears { IfOk result (λ learns.
-            PlaceHears nodes (Some self.old) from ballot command learns (Some self.new)) }
+            PlaceHears nodes (Some self.old) from ballot command.now learns (Some self.new)) }
         ensures unlearnt { OnErr result (place_learnt (Some self.old) ≡ None) }
         ensures once { OnErr result (place_heard (Some self.old) ballot from ≡ None) }
         ensures learnt { OnErr result
@@ -52,7 +54,7 @@ impl Place {
         if tallies.has_heard(from, ballot) {
             return Ok(false);
         }
-        let Some(decided) = tallies.count(nodes, from, ballot, command)? else {
+        let Some(decided) = tallies.count(alloc, nodes, from, ballot, command)? else {
             return Ok(false);
         };
         *self = Place::Learnt(decided);

@@ -6,6 +6,7 @@ ghost use Rattle.synod.specs.Records.{put};
 ghost use Rattle.learner.specs.Learning.{unheard};
 ghost use Rattle.learner.specs.Slots.{learnt_of, heard_of, SlotHears};
 
+use super::held::Held;
 use super::place::Place;
 use super::tallies::Tallies;
 use sessions::Command;
@@ -42,7 +43,7 @@ impl Slots {
     }
 
     /// What is learnt at a slot is handed out, and nothing is known of the slot then.
-    pub(super) fn take(&mut self, slot: Slot) -> Option<Command>
+    pub(super) fn take(&mut self, slot: Slot) -> Option<Held>
         ensures is { result ≡ learnt_of self.old slot }
         ensures learnt { learnt_of self.new ≡ put (learnt_of self.old) slot None }
         ensures heard { heard_of self.new ≡ heard_of self.old }
@@ -62,13 +63,13 @@ impl Slots {
         alloc: Global,
         nodes: Nodes,
         from: NodeId,
-        vote: Vote<Command>,
+        vote: &Vote<Command>,
     ) -> Result<bool, AllocError>
         ensures hears { IfOk result (λ learns.
-            SlotHears nodes (learnt_of self.old) (heard_of self.old) from vote
+            SlotHears nodes (learnt_of self.old) (heard_of self.old) from vote.now
             learns (learnt_of self.new) (heard_of self.new)) }
-        ensures unlearnt { OnErr result (learnt_of self.old vote.slot ≡ None) }
-        ensures once { OnErr result (heard_of self.old vote.slot vote.ballot from ≡ None) }
+        ensures unlearnt { OnErr result (learnt_of self.old vote.now.slot ≡ None) }
+        ensures once { OnErr result (heard_of self.old vote.now.slot vote.now.ballot from ≡ None) }
         ensures learnt { OnErr result (learnt_of self.new ≡ learnt_of self.old) }
         ensures heard { OnErr result (heard_of self.new ≡ heard_of self.old) }
     {
@@ -76,11 +77,11 @@ impl Slots {
             .by_slot
             .entry(vote.slot)?
             .or_insert(Place::Told(Tallies::new(alloc)));
-        place.hear(nodes, from, vote.ballot, vote.command)
+        place.hear(alloc, nodes, from, vote.ballot, &vote.command)
     }
 
     /// The slot is learnt, and what was told of it goes.
-    pub(super) fn learn(&mut self, slot: Slot, command: Command) -> Result<(), AllocError>
+    pub(super) fn learn(&mut self, slot: Slot, command: Held) -> Result<(), AllocError>
         ensures learnt { OnOk result
             (learnt_of self.new ≡ put (learnt_of self.old) slot (Some command)) }
         ensures heard { OnOk result

@@ -1,13 +1,15 @@
 //! What was told of one slot.
 
-ghost use Rattle.std.specs.Prelude.{◌≡◌, ◌≢◌, ℕ, ◌<◌, [], length, IsTrue, IsSome, Some, None, IfSome, IfOk, OnErr, true, false};
+ghost use Rattle.std.specs.Prelude.{◌≡◌, ◌≢◌, ℕ, ◌<◌, [], length, slice_get, IsTrue, IsSome, Some, None, IfSome, IfOk, OnErr, true, false};
 ghost use Rattle.learner.specs.Learning.{told_too, IsDecided};
 ghost use Rattle.learner.specs.Tallies.{AreApart, told_in, IsPlace, voters_at};
 ghost use Rattle.wire.specs.NodeSets.{has_node};
 
+use super::held::Held;
 use super::tally::Tally;
 use sessions::Command;
 use std::alloc::{AllocError, Global};
+use std::mem;
 use synod::Ballot;
 use wire::{NodeId, NodeSet, Nodes};
 
@@ -43,25 +45,29 @@ impl Tallies {
     /// kept. After `AllocError` nothing is changed.
     pub(super) fn count(
         &mut self,
+        alloc: Global,
         nodes: Nodes,
         from: NodeId,
         ballot: Ballot,
-        command: Command,
-    ) -> Result<Option<Command>, AllocError>
+        command: &Command,
+    ) -> Result<Option<Held>, AllocError>
         requires { told_in self.old.tallies.items ballot from ≡ None }
-        ensures decided { IfOk result (λ decided. IfSome decided (λ c. (c ≡ command)
-            × IsDecided nodes (told_in self.old.tallies.items) ballot from command)) }
+        ensures decided { IfOk result (λ decided. IfSome decided (λ c. (c ≡ command.now)
+            × IsDecided nodes (told_in self.old.tallies.items) ballot from command.now)) }
         ensures heard { IfOk result (λ decided. decided ≡ None
-            → (IsDecided nodes (told_in self.old.tallies.items) ballot from command → ⊥)
+            → (IsDecided nodes (told_in self.old.tallies.items) ballot from command.now → ⊥)
             × (told_in self.new.tallies.items
-            ≡ told_too (told_in self.old.tallies.items) ballot from command)) }
+            ≡ told_too (told_in self.old.tallies.items) ballot from command.now)) }
         ensures unchanged { OnErr result
             (told_in self.new.tallies.items ≡ told_in self.old.tallies.items) }
     {
-        let place = self.position(ballot, &command);
+        let place = self.position(ballot, command);
         let voters = self.voters_with(place, from);
         if voters.is_majority_of(nodes) {
-            return Ok(Some(command));
+            return match place {
+                Some(place) => Ok(Some(self.take(alloc, place))),
+                None => Ok(Some(Held::copy_of(alloc, command)?)),
+            };
         }
         match place {
             Some(place) => {
@@ -69,6 +75,7 @@ impl Tallies {
                 Ok(None)
             }
             None => {
+                let command = Held::copy_of(alloc, command)?;
                 self.tallies.push(Tally {
                     ballot,
                     command,
@@ -83,7 +90,18 @@ impl Tallies {
     fn position(&self, ballot: Ballot, command: &Command) -> Option<usize>
         ensures { IsPlace self.now.tallies.items ballot command.now result }
     {
-        self.tallies.iter().position(|tally| tally.ballot == ballot && tally.command == *command)
+        self.tallies.iter().position(|tally| tally.ballot == ballot
+            && tally.command.command() == command)
+    }
+
+    /// The command of a tally is handed out, and nothing is kept.
+    fn take(&mut self, alloc: Global, place: usize) -> Held
+        requires { place < length self.old.tallies.items }
+        ensures { IfSome (slice_get self.old.tallies.items place) (λ tally. result ≡ tally.command) }
+    {
+        let mut tallies = mem::replace(&mut self.tallies, Vec::new(alloc));
+        let Tally { command, .. } = tallies.swap_remove(place);
+        command
     }
 
     /// The voters of a tally, or of none, and one more.

@@ -1,6 +1,6 @@
 //! Who told of one command under one ballot.
 
-use sessions::Command;
+use super::held::Held;
 use synod::Ballot;
 use wire::NodeSet;
 
@@ -8,6 +8,6 @@ use wire::NodeSet;
 #[derive(Debug, Drop)]
 pub(super) struct Tally {
     pub(super) ballot: Ballot,
-    pub(super) command: Command,
+    pub(super) command: Held,
     pub(super) voters: NodeSet,
 }

@@ -1,6 +1,6 @@
 -- A node goes on being the meaning of what it has learnt.
 use Rattle.std.proofs.Common.{◌≡◌, ℕ, ◌+◌, ◌-◌, ◌<◌, ◌≤◌, Bool, true, false, List, [], ◌++◌, length, Option, Some, None, IsSome, IfSome}
-use Rattle.std.proofs.Common.{IfOk, Result, Ok, Err, Contains, inl, inr, refl, sym, ap, ◌∙◌, subst, append_assoc, append-nil, arith}
+use Rattle.std.proofs.Common.{IfOk, OnOk, Result, Ok, Err, Contains, inl, inr, refl, sym, ap, ◌∙◌, subst, append_assoc, append-nil, arith}
 use Rattle.std.proofs.Common.{rules}
 use Rattle.std.proofs.lemmas.List.{length-append}
 use Rattle.std.proofs.lemmas.Bool.Decides.{eqb_tells}
@@ -258,11 +258,11 @@ meaning_begun m nodes e h =
     }
 
 -- one that was up, and took an input or not
-pub meaning_stays : (base : List Command) (input : Input) (o p : Option Mind) (m n : Mind) (r : Result Response NodeFault)
-    → o ≡ Some m → p ≡ Some n → IfOk r (λ said. Takes m input n said)
+pub meaning_stays : (base : List Command) (input : Input) (o p : Option Mind) (m n : Mind) (r : Result Response NodeFault) (Same : Type 0)
+    → o ≡ Some m → OnOk r Same → (Same → p ≡ Some n) → IfOk r (λ said. Takes m input n said)
     → IfSome o (λ (a : Mind). IsMeaningOf base a → IfOk r (λ said. IfSome p (λ (b : Mind). GoesOnFrom base a b said)))
-meaning_stays base input o p m n (Ok said) up still takes = rw up (λ h. rw still (goes_on base m n said h input takes))
-meaning_stays base input o p m n (Err f) up still takes = rw up (λ h. tt)
+meaning_stays base input o p m n (Ok said) Same up same still takes = rw up (λ h. rw (still same) (goes_on base m n said h input takes))
+meaning_stays base input o p m n (Err f) Same up same still takes = rw up (λ h. tt)
 
 -- its answer is that of each list of which it is the meaning
 pub meaning_answers : (base : List Command) (o : Option Mind) (m : Mind) (query : Query) (text : List ℕ) → o ≡ Some m

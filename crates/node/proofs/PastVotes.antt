@@ -84,5 +84,6 @@ pub stays_past : {S : Type 0} (n : NodeState S) (m : Mind) (e : Envelope)
     → n.up ≡ Some m → IsPrefix m.learning.learnt m.learning.first (position m) → is_past m e.message ≡ true
     → StaysMeaning n (Ok silence) n
 stays_past n m e up counted past = record {
-  goes_on = λ base. meaning_stays base (input.Message e) n.up n.up m m (Ok silence) up up (takes_past m counted e past);
+  goes_on = λ base. meaning_stays base (input.Message e) n.up n.up m m (Ok silence) (n.up ≡ Some m) up up (λ still. still)
+      (takes_past m counted e past);
 }

@@ -1,6 +1,6 @@
 //! One node: its records, and its roles while it is up.
 
-ghost use Rattle.std.specs.Prelude.{◌≡◌, ◌⊎◌, ◌↔◌, ◌≤◌, ℕ, [], List, length, Ok, IfOk, IfSome, OnOk, IsTrue, false, IsSome, None, MatchOption};
+ghost use Rattle.std.specs.Prelude.{◌≡◌, ◌⊎◌, ◌↔◌, ◌≤◌, ℕ, [], List, length, Ok, IfErr, IfOk, IfSome, OnOk, IsTrue, true, false, IsSome, None, MatchOption};
 
 use super::fault::NodeFault;
 use super::input::Input;
@@ -10,7 +10,7 @@ use proposer::MOST_WAITING;
 use stable::{Failing, Put, Scripted, Stable};
 use std::alloc::Global;
 use store::Query;
-use wire::{Frame, NodeId, Nodes};
+use wire::{Envelope, Frame, NodeId, Nodes};
 
 /// A node, which is up or down.
 #[derive(Drop)]
@@ -23,6 +23,7 @@ pub struct Node<S> {
 
 impl<S: Stable> Node<S> {
     ghost use Rattle.node.specs.Composition.{IsMeaningOf};
+    ghost use Rattle.node.specs.Faults.{is_stop_fault};
     ghost use Rattle.learner.specs.Prefixes.{IsPrefix};
     ghost use Rattle.node.specs.Loading.{IsLoaded, IsFresh, IsDamaged, IsMember, Restarts};
     ghost use Rattle.node.specs.Minds.{is_past, position};
@@ -114,12 +115,39 @@ impl<S: Stable> Node<S> {
         };
         roles.see_small();
         let result = roles.take(alloc, &mut self.storage, input);
-        if let Err(fault) = &result {
+        self.stop_after(&result);
+        result
+    }
+
+    /// Takes a message as `step` does, and only looks at it: most messages tell of votes, of which little is kept.
+    #[inline(always)]
+    pub fn receive(&mut self, alloc: Global, envelope: &Envelope) -> Result<Outputs, NodeFault>
+        ensures steps { NodeSteps S.Stable (state_of self.old) (input.Message envelope.now) result (state_of self.new) }
+        ensures meaning { StaysMeaning (state_of self.old) result (state_of self.new) }
+        ensures few { IfOk result IsFew }
+    {
+        let Some(roles) = &mut self.roles else {
+            return Err(NodeFault::Down);
+        };
+        roles.see_small();
+        let result = roles.receive(alloc, &mut self.storage, envelope);
+        self.stop_after(&result);
+        result
+    }
+
+    // A fault may stop it.
+    #[inline(always)]
+    fn stop_after(&mut self, outcome: &Result<Outputs, NodeFault>)
+        ensures ok { OnOk outcome.now (self.new ≡ self.old) }
+        ensures goes_on { IfErr outcome.now (λ fault. is_stop_fault fault ≡ false → self.new ≡ self.old) }
+        ensures stops { IfErr outcome.now (λ fault. is_stop_fault fault ≡ true
+            → state_of self.new ≡ record (state_of self.old) { up = None }) }
+    {
+        if let Err(fault) = outcome {
             if fault.is_stop() {
                 self.stop();
             }
         }
-        result
     }
 
     /// Whether it is up and the frame tells of a vote for a slot below its position. Nothing comes of such a frame, so it need not

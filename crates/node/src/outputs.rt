@@ -3,7 +3,8 @@
 ghost use Rattle.std.specs.Prelude.{◌≡◌};
 ghost use Rattle.node.specs.Outputs.{sent, silence};
 
-use sessions::{Command, Number};
+use learner::Held;
+use sessions::Number;
 use std::alloc::Global;
 use std::marker::Model;
 use synod::Slot;
@@ -16,7 +17,7 @@ pub const MOST_SENDS: usize = 62;
 #[derive(Debug, Drop)]
 pub struct LogEntry {
     pub slot: Slot,
-    pub command: Command,
+    pub command: Held,
 }
 
 /// A request that waited at the node was executed, and has this reply. Its position is one more than its slot.

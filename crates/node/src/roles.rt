@@ -20,7 +20,7 @@ use super::input::{Input, concerns};
 use super::outputs::{Executed, LogEntry, Outputs};
 use super::sends::{send, send_answer, send_ask, send_asks, send_each, send_outgoing};
 use acceptor::Acceptor;
-use learner::{Learned, Learner};
+use learner::{Held, Learned, Learner};
 use proposer::{MOST_WAITING, Proposer};
 use sessions::{Command, Machine, Number, Request};
 use stable::{Stable, StableFault};
@@ -155,7 +155,7 @@ impl Roles {
     {
         match input {
             Input::Submit { client, number, op } => self.submit(alloc, client, number, op),
-            Input::Message(envelope) => self.receive(alloc, storage, envelope),
+            Input::Message(envelope) => self.receive(alloc, storage, &envelope),
             Input::Timeout => self.timeout(alloc, storage),
             Input::Tick => self.tick(alloc),
         }
@@ -229,29 +229,28 @@ impl Roles {
 
     /// An envelope has come. One that doesn't concern the node is ignored.
     #[inline(always)]
-    fn receive<S: Stable>(
+    pub fn receive<S: Stable>(
         &mut self,
         alloc: Global,
         storage: &mut S,
-        envelope: Envelope,
+        envelope: &Envelope,
     ) -> Result<Outputs, NodeFault>
         ensures takes { IfOk result (λ said.
-            Takes (mind_of self.old) (input.Message envelope) (mind_of self.new) said) }
-        ensures ignores { concerns self.old.id self.old.nodes envelope ≡ false → (result ≡ Ok silence)
+            Takes (mind_of self.old) (input.Message envelope.now) (mind_of self.new) said) }
+        ensures ignores { concerns self.old.id self.old.nodes envelope.now ≡ false → (result ≡ Ok silence)
             × (mind_of self.new ≡ mind_of self.old) × (storage.new ≡ storage.old) }
         ensures written { OnOk result (HasMade S.Stable storage.old storage.new
-            (Writes (mind_of self.old) (input.Message envelope))) }
+            (Writes (mind_of self.old) (input.Message envelope.now))) }
         ensures err { IfErr result (λ fault. (fault ≡ NodeFault.Device) ⊎ (fault ≡ NodeFault.Memory)) }
         ensures device { IsErrOf result NodeFault.Device
-            → HasFailedToMake S.Stable storage.old storage.new (Writes (mind_of self.old) (input.Message envelope)) }
+            → HasFailedToMake S.Stable storage.old storage.new (Writes (mind_of self.old) (input.Message envelope.now)) }
         ensures memory { IsErrOf result NodeFault.Memory → S.reads storage.old storage.new
-            ⊎ HasMade S.Stable storage.old storage.new (Writes (mind_of self.old) (input.Message envelope)) }
+            ⊎ HasMade S.Stable storage.old storage.new (Writes (mind_of self.old) (input.Message envelope.now)) }
     {
-        if !concerns(self.id, self.nodes, &envelope) {
+        if !concerns(self.id, self.nodes, envelope) {
             return Ok(Outputs::silence(alloc));
         }
-        let Envelope { from, message, .. } = envelope;
-        self.hear(alloc, storage, from, message)
+        self.hear(alloc, storage, envelope.from, &envelope.message)
     }
 
     /// A message has come that concerns the node.
@@ -261,28 +260,30 @@ impl Roles {
         alloc: Global,
         storage: &mut S,
         from: NodeId,
-        message: Message,
+        message: &Message,
     ) -> Result<Outputs, NodeFault>
         ensures takes { IfOk result (λ said.
-            TakesMessage (mind_of self.old) from message (mind_of self.new) said) }
+            TakesMessage (mind_of self.old) from message.now (mind_of self.new) said) }
         ensures written { OnOk result (HasMade S.Stable storage.old storage.new
-            (WritesOnMessage (mind_of self.old) message)) }
+            (WritesOnMessage (mind_of self.old) message.now)) }
         ensures err { IfErr result (λ fault. (fault ≡ NodeFault.Device) ⊎ (fault ≡ NodeFault.Memory)) }
         ensures device { IsErrOf result NodeFault.Device
-            → HasFailedToMake S.Stable storage.old storage.new (WritesOnMessage (mind_of self.old) message) }
+            → HasFailedToMake S.Stable storage.old storage.new (WritesOnMessage (mind_of self.old) message.now) }
         ensures memory { IsErrOf result NodeFault.Memory → S.reads storage.old storage.new
-            ⊎ HasMade S.Stable storage.old storage.new (WritesOnMessage (mind_of self.old) message) }
+            ⊎ HasMade S.Stable storage.old storage.new (WritesOnMessage (mind_of self.old) message.now) }
     {
         match message {
             Message::Prepare { ballot, first } => {
-                self.on_prepare(alloc, storage, from, ballot, first)
+                self.on_prepare(alloc, storage, from, *ballot, *first)
             }
-            Message::Promise(promise) => self.on_promise(alloc, from, promise),
-            Message::Nack(nack) => Ok(self.on_nack(alloc, from, nack)),
-            Message::Accept(vote) => self.on_accept(alloc, storage, from, vote),
+            Message::Promise(promise) => self.on_promise(alloc, from, promise.clone()?),
+            Message::Nack(nack) => Ok(self.on_nack(alloc, from, *nack)),
+            Message::Accept(vote) => self.on_accept(alloc, storage, from, vote.clone()?),
             Message::Accepted(vote) => self.on_accepted(alloc, from, vote),
-            Message::Ask { slot } => self.on_ask(alloc, from, slot),
-            Message::Decided { slot, command } => self.on_decided(alloc, from, slot, command),
+            Message::Ask { slot } => self.on_ask(alloc, from, *slot),
+            Message::Decided { slot, command } => {
+                self.on_decided(alloc, from, *slot, command.clone()?)
+            }
         }
     }
 
@@ -370,10 +371,10 @@ impl Roles {
         &mut self,
         alloc: Global,
         from: NodeId,
-        vote: Vote<Command>,
+        vote: &Vote<Command>,
     ) -> Result<Outputs, NodeFault>
         ensures takes { IfOk result (λ said.
-            TakesMessage (mind_of self.old) from (message.Accepted vote) (mind_of self.new) said) }
+            TakesMessage (mind_of self.old) from (message.Accepted vote.now) (mind_of self.new) said) }
         ensures err { IfErr result (λ fault. fault ≡ NodeFault.Memory) }
     {
         let position = self.position();
@@ -396,7 +397,7 @@ impl Roles {
         ensures err { IfErr result (λ fault. fault ≡ NodeFault.Memory) }
     {
         let position = self.position();
-        let Some(learned) = self.learner.on_decided(slot, command)? else {
+        let Some(learned) = self.learner.on_decided(alloc, slot, command)? else {
             return Ok(Outputs::silence(alloc));
         };
         let mut outputs = self.go_on(alloc, position, learned)?;
@@ -434,7 +435,7 @@ impl Roles {
         let Some(command) = self.learner.get(slot) else {
             unreachable!();
         };
-        let command = command.clone()?;
+        let command = Held::copy_of(alloc, command)?;
         self.proposer.on_learned(slot);
         let replies = self.execute(alloc, from)?;
         let sends = self.propose(alloc)?;

@@ -356,7 +356,7 @@ fn told(alloc: Global, node: &mut Fixture, call: Call) -> Result<(), Fail> {
         }
         Call::Learn(at) => {
             let at = slot(at)?;
-            let _ = node.learner.on_decided(at, Command::NoOp)?;
+            let _ = node.learner.on_decided(alloc, at, Command::NoOp)?;
             node.proposer.on_learned(at);
             Ok(())
         }

@@ -92,11 +92,11 @@ fn made(alloc: Global, learner: &mut Learner, call: Call) -> Result<Told, Fail> 
                 ballot: Ballot::new(round, node).ok_or("ballot")?,
                 command: command(number)?,
             };
-            learner.on_accepted(alloc, from, vote)?
+            learner.on_accepted(alloc, from, &vote)?
         }
         Call::Decided(slot, number) => {
             let slot = Slot::new(slot).ok_or("slot")?;
-            learner.on_decided(slot, command(number)?)?
+            learner.on_decided(alloc, slot, command(number)?)?
         }
     };
     Ok((

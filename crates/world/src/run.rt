@@ -331,7 +331,11 @@ impl<S: Stable> Run<S> {
         if self.passes(index) {
             return Ok(());
         }
-        let envelope = self.frames[index].open(alloc)?;
+        // What is opened stays where it is, as most of it is only looked at.
+        let opened = self.frames[index].open(alloc);
+        let Ok(envelope) = &opened else {
+            return Err(WorldFault::Memory);
+        };
         self.stop_waiting(index);
         self.receive(alloc, envelope);
         Ok(())
@@ -357,11 +361,11 @@ impl<S: Stable> Run<S> {
 
     // A frame has come: a node that is up takes it, and one that is down loses it.
     #[inline(always)]
-    fn receive(&mut self, alloc: Global, envelope: Envelope)
-        requires between { IsBetween (vec_len self.old.nodes) envelope }
-        requires fits { Fits 7 envelope }
+    fn receive(&mut self, alloc: Global, envelope: &Envelope)
+        requires between { IsBetween (vec_len self.old.nodes) envelope.now }
+        requires fits { Fits 7 envelope.now }
         requires room { HasRoom self.old }
-        ensures { ReceivesAt (⟦<Scripted<S> as Stable>⟧) (run_of self.old) envelope (run_of self.new) }
+        ensures { ReceivesAt (⟦<Scripted<S> as Stable>⟧) (run_of self.old) envelope.now (run_of self.new) }
     {
         let to = envelope.to;
         let at = &self.nodes[usize::from(to.value())];
@@ -369,7 +373,22 @@ impl<S: Stable> Run<S> {
             let _ = self.outcomes.push(Outcome::Lost);
             return;
         }
-        let _taken = self.take(alloc, to, Input::Message(envelope));
+        self.hear(alloc, to, envelope);
+    }
+
+    // A node that is up hears a message, and what it tells joins the lists.
+    #[inline(always)]
+    fn hear(&mut self, alloc: Global, node: NodeId, envelope: &Envelope)
+        requires there { node < vec_len self.old.nodes }
+        requires room { HasRoom self.old }
+        ensures { (taken : Bool) × TakesAt (⟦<Scripted<S> as Stable>⟧)
+            (run_of self.old) node (input.Message envelope.now) taken (run_of self.new) }
+    {
+        let at = &mut self.nodes[usize::from(node.value())];
+        match at.receive(alloc, envelope) {
+            Ok(said) => self.record(node, said),
+            Err(fault) => self.fail(node, fault),
+        }
     }
 
     // A frame waits no more.
@@ -581,7 +600,7 @@ impl<S: Stable> Run<S> {
             let _ = self.learnt.push(Learnt {
                 node,
                 slot,
-                command,
+                command: command.into_command(),
             });
         }
         add_replies(&mut self.replies, node, replies);

@@ -36,7 +36,7 @@ pub fn tell_learnt(
     entry: &LogEntry,
 ) -> Result<(), Fail> {
     let slot = entry.slot.value();
-    let command = command_text(alloc, &entry.command)?;
+    let command = command_text(alloc, entry.command.command())?;
     part(text)?;
     write!(text, "learn {node} {slot} {command}")?;
     Ok(())

@@ -8,17 +8,17 @@ use Rattle.learner.proofs.known.Known.hear.Goals as goal
 pub returns-then-is_settled-clause-hears : goal.returns-then-is_settled-clause-hears
 returns-then-is_settled-clause-hears c =
     let self = c.args.self.now in
-    hears_settled c.args.nodes c.args.from c.args.vote (known_learnt self) (known_heard self)
-    (is_there _ (learnt_of self.others c.args.vote.slot) (sym c.is_settled.ensures ∙ c.if-is_settled.true))
+    hears_settled c.args.nodes c.args.from c.args.vote.now (known_learnt self) (known_heard self)
+    (is_there _ (learnt_of self.others c.args.vote.now.slot) (sym c.is_settled.ensures ∙ c.if-is_settled.true))
 
 -- it isn't
-behind : (c : goal.After-hear) → slice_get c.args.self.now.settled.items c.args.vote.slot ≡ None
+behind : (c : goal.After-hear) → slice_get c.args.self.now.settled.items c.args.vote.now.slot ≡ None
 behind c = is_not_there _ (sym c.is_settled.ensures ∙ c.if-is_settled.false)
 
 pub returns-clause-hears : goal.returns-clause-hears
 returns-clause-hears c =
     let self = c.args.self.now in
-    hears_behind_ok c.args.nodes c.args.from c.args.vote self.settled.items (learnt_of self.others) (learnt_of c.hear.new.self)
+    hears_behind_ok c.args.nodes c.args.from c.args.vote.now self.settled.items (learnt_of self.others) (learnt_of c.hear.new.self)
     (heard_of self.others) (heard_of c.hear.new.self) c.hear.result (behind c) c.hear.ensures.hears
 
 pub returns-clause-unlearnt : goal.returns-clause-unlearnt

@@ -18,7 +18,7 @@ invariant_of-self-then-not-learns c =
 pub returns-then-not-learns-clause-hears : goal.returns-then-not-learns-clause-hears
 returns-then-not-learns-clause-hears c =
     let self = c.args.self.now in
-    hears_nothing_new (learning_of self) c.args.from c.args.vote (known_learnt c.hear.new.self) (known_heard c.hear.new.self)
+    hears_nothing_new (learning_of self) c.args.from c.args.vote.now (known_learnt c.hear.new.self) (known_heard c.hear.new.self)
     (omega (arith, c.if-value-count.false, c.value.ensures.value, c.count.ensures.value))
     (omega (arith, c.if-value-self.false, c.value-else-value-count.ensures.value, self.counted.learnt_to.from))
     (hears_so c.in_ok-learns.learns false (search rules) c.in_ok-learns.ensures.hears)

@@ -5,24 +5,24 @@ use Rattle.learner.proofs.SlotLemmas.{IsReadAlike, opened, hears_there, learnt_s
 use Rattle.learner.proofs.slots.Slots.hear.Goals as goal
 
 -- the entry's value is what was known of the slot
-alike : (c : goal.After-self-3-1) → IsReadAlike (get nat_cmp c.args.self.now.by_slot c.args.vote.slot) c.or_insert-place.result.now
+alike : (c : goal.After-self-3-1) → IsReadAlike (get nat_cmp c.args.self.now.by_slot c.args.vote.now.slot) c.or_insert-place.result.now
 alike c = opened _ _ c.new.result c.or_insert-place.result.now c.in_ok-self.ensures.value c.new.ensures c.or_insert-place.ensures.value
 
 pub returns-clause-hears : goal.returns-clause-hears
 returns-clause-hears c =
-    hears_there c.args.nodes c.args.from c.args.vote c.args.self.now
+    hears_there c.args.nodes c.args.from c.args.vote.now c.args.self.now
     (record { by_slot = c.self-3-1.given.0 }) _ c.or_insert-place.result.now c.hear.new.self
     (c.self-3-1.given.1 (search rules)) (c.in_ok-self.ensures.update.0 c.hear.new.self) (alike c) c.hear.result c.hear.ensures.hears
 
 pub returns-clause-learnt : goal.returns-clause-learnt
 returns-clause-learnt c =
-    learnt_stays c.args.nodes c.args.from c.args.vote c.args.self.now
+    learnt_stays c.args.nodes c.args.from c.args.vote.now c.args.self.now
     (record { by_slot = c.self-3-1.given.0 }) _ c.or_insert-place.result.now c.hear.new.self
     (c.self-3-1.given.1 (search rules)) (c.in_ok-self.ensures.update.0 c.hear.new.self) (alike c) c.hear.result c.hear.ensures.learnt
 
 pub returns-clause-heard : goal.returns-clause-heard
 returns-clause-heard c =
-    heard_stays c.args.nodes c.args.from c.args.vote c.args.self.now
+    heard_stays c.args.nodes c.args.from c.args.vote.now c.args.self.now
     (record { by_slot = c.self-3-1.given.0 }) _ c.or_insert-place.result.now c.hear.new.self
     (c.self-3-1.given.1 (search rules)) (c.in_ok-self.ensures.update.0 c.hear.new.self) (alike c) c.hear.result c.hear.ensures.heard
 
@@ -30,5 +30,5 @@ pub returns-clause-unlearnt : goal.returns-clause-unlearnt
 returns-clause-unlearnt c = unlearnt_before _ c.or_insert-place.result.now (alike c) c.hear.result c.hear.ensures.unlearnt
 
 pub returns-clause-once : goal.returns-clause-once
-returns-clause-once c = unheard_before _ c.or_insert-place.result.now (alike c) c.args.vote.ballot c.args.from c.hear.result
+returns-clause-once c = unheard_before _ c.or_insert-place.result.now (alike c) c.args.vote.now.ballot c.args.from c.hear.result
     c.hear.ensures.once

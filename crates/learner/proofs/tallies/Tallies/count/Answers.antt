@@ -1,17 +1,29 @@
-use Rattle.std.proofs.Common.{◌≡◌, ◌∙◌, refl, ap, true}
+use Rattle.std.proofs.Common.{◌≡◌, ◌∙◌, ◌++◌, ◌∷◌, [], ap, subst, sym, true, IfSome, is_ok}
+use Rattle.learner.specs.Learning.{told_too}
 use Rattle.learner.specs.Tallies.{told_in}
 use Rattle.learner.proofs.TallyLemmas.{decides_there, decides_not_there, pushed_or_not, pushed_told, read_there, revised_apart}
 use Rattle.learner.proofs.TallyLemmas.{revised_told}
 use Rattle.learner.proofs.tallies.Tallies.count.Goals as goal
 
--- a majority has told it
-pub returns-then-is_majority_of-clause-decided : goal.returns-then-is_majority_of-clause-decided
-returns-then-is_majority_of-clause-decided c =
+-- a majority has told it: a tally's command is the one that was told
+pub returns-in-Some-clause-decided : goal.returns-in-Some-clause-decided
+returns-in-Some-clause-decided c =
+    let self = c.args.self.now in
+    let voters = c.voters_with-voters in
+    let there = c.position-place.ensures.found c.in-Some.place c.in-Some.is in (
+      subst (λ o. IfSome o (λ t. c.take.result ≡ t.command)) there.1 c.take.ensures ∙ there.2.1,
+      decides_there self.tallies.items self.apart c.args.ballot c.args.from c.args.command.now c.position-place.result
+          c.position-place.ensures voters.result voters.ensures.member voters.ensures.others c.requires c.args.nodes
+          (c.is_majority_of.ensures.0 c.if-is_majority_of.true),
+    )
+
+pub returns-in_ok-copy_of-in-None-clause-decided : goal.returns-in_ok-copy_of-in-None-clause-decided
+returns-in_ok-copy_of-in-None-clause-decided c =
     let self = c.args.self.now in
     let voters = c.voters_with-voters in (
-      refl,
-      decides_there self.tallies.items self.apart c.args.ballot c.args.from c.args.command c.position-place.result c.position-place.ensures
-          voters.result voters.ensures.member voters.ensures.others c.requires c.args.nodes
+      c.in_ok-copy_of-in-None.ensures,
+      decides_there self.tallies.items self.apart c.args.ballot c.args.from c.args.command.now c.position-place.result
+          c.position-place.ensures voters.result voters.ensures.member voters.ensures.others c.requires c.args.nodes
           (c.is_majority_of.ensures.0 c.if-is_majority_of.true),
     )
 
@@ -21,47 +33,53 @@ invariant_of-self c =
     let self = c.args.self.now in
     let voters = c.voters_with-voters in
     let place = c.position-place in
-    let there = read_there self.tallies.items c.args.ballot c.args.command place.result place.ensures c.in-Some.place c.in-Some.is
+    let there = read_there self.tallies.items c.args.ballot c.args.command.now place.result place.ensures c.in-Some-place.place c.in-Some-place.is
     c.index_mut.result.now c.index_mut.ensures.value in record {
-      apart = revised_apart self.tallies.items self.apart c.args.ballot c.args.from c.args.command place.result place.ensures
-          voters.result voters.ensures.member voters.ensures.others c.requires c.in-Some.place c.index_mut.result.now c.in-Some.is there;
+      apart = revised_apart self.tallies.items self.apart c.args.ballot c.args.from c.args.command.now place.result place.ensures
+          voters.result voters.ensures.member voters.ensures.others c.requires c.in-Some-place.place c.index_mut.result.now c.in-Some-place.is there;
     }
 
-pub returns-in-Some-clause-heard : goal.returns-in-Some-clause-heard
-returns-in-Some-clause-heard c =
+pub returns-in-Some-place-clause-heard : goal.returns-in-Some-place-clause-heard
+returns-in-Some-place-clause-heard c =
     let self = c.args.self.now in
     let voters = c.voters_with-voters in
     let place = c.position-place in
-    let there = read_there self.tallies.items c.args.ballot c.args.command place.result place.ensures c.in-Some.place c.in-Some.is
+    let there = read_there self.tallies.items c.args.ballot c.args.command.now place.result place.ensures c.in-Some-place.place c.in-Some-place.is
     c.index_mut.result.now c.index_mut.ensures.value in
     λ _. (
-      decides_not_there self.tallies.items self.apart c.args.ballot c.args.from c.args.command place.result place.ensures
+      decides_not_there self.tallies.items self.apart c.args.ballot c.args.from c.args.command.now place.result place.ensures
           voters.result voters.ensures.member voters.ensures.others c.requires c.args.nodes
           (λ most. let bad : c.is_majority_of.result ≡ true = c.is_majority_of.ensures.1 most in cc),
-      revised_told self.tallies.items self.apart c.args.ballot c.args.from c.args.command place.result place.ensures
-          voters.result voters.ensures.member voters.ensures.others c.requires c.in-Some.place c.index_mut.result.now c.in-Some.is there,
+      revised_told self.tallies.items self.apart c.args.ballot c.args.from c.args.command.now place.result place.ensures
+          voters.result voters.ensures.member voters.ensures.others c.requires c.in-Some-place.place c.index_mut.result.now c.in-Some-place.is there,
     )
 
 -- it is the first to tell the command under the ballot
-pub invariant_of-self-in-None : goal.invariant_of-self-in-None
-invariant_of-self-in-None c =
+pub invariant_of-self-in-None-place : goal.invariant_of-self-in-None-place
+invariant_of-self-in-None-place c =
     let self = c.args.self.now in
     let voters = c.voters_with-voters in
     let place = c.position-place in record {
-      apart = pushed_or_not self.tallies.items self.apart c.args.ballot c.args.from c.args.command place.result place.ensures
-          voters.result voters.ensures.member voters.ensures.others c.requires c.in-None.is _ c.push.new.self.items c.push.ensures.items;
+      apart = pushed_or_not self.tallies.items self.apart c.args.ballot c.args.from c.args.command.now place.result place.ensures
+          voters.result voters.ensures.member voters.ensures.others c.requires c.in-None-place.is (is_ok c.push.result) c.push.new.self.items
+          (rw (sym c.in_ok-command-in-None-place.ensures) c.push.ensures.items);
     }
 
-pub returns-in_ok-push-in-None-clause-heard : goal.returns-in_ok-push-in-None-clause-heard
-returns-in_ok-push-in-None-clause-heard c =
+pub returns-in_ok-push-in-None-place-clause-heard : goal.returns-in_ok-push-in-None-place-clause-heard
+returns-in_ok-push-in-None-place-clause-heard c =
     let self = c.args.self.now in
     let voters = c.voters_with-voters in
     let place = c.position-place in
+    let grown : told_in (self.tallies.items ++ record {
+      ballot = c.args.ballot;
+      command = c.in_ok-command-in-None-place.command;
+      voters = voters.result;
+    } ∷ []) ≡ told_too (told_in self.tallies.items) c.args.ballot c.args.from c.args.command.now =
+    rw c.in_ok-command-in-None-place.ensures (pushed_told self.tallies.items self.apart c.args.ballot c.args.from c.args.command.now
+    place.result place.ensures voters.result voters.ensures.member voters.ensures.others c.requires c.in-None-place.is) in
     λ _. (
-      decides_not_there self.tallies.items self.apart c.args.ballot c.args.from c.args.command place.result place.ensures
+      decides_not_there self.tallies.items self.apart c.args.ballot c.args.from c.args.command.now place.result place.ensures
           voters.result voters.ensures.member voters.ensures.others c.requires c.args.nodes
           (λ most. let bad : c.is_majority_of.result ≡ true = c.is_majority_of.ensures.1 most in cc),
-      ap told_in c.in_ok-push-in-None.ensures.items
-          ∙ pushed_told self.tallies.items self.apart c.args.ballot c.args.from c.args.command place.result place.ensures
-          voters.result voters.ensures.member voters.ensures.others c.requires c.in-None.is,
+      ap told_in c.in_ok-push-in-None-place.ensures.items ∙ grown,
     )

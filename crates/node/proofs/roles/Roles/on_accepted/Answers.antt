@@ -9,7 +9,7 @@ use Rattle.node.proofs.roles.Roles.on_accepted.Goals as goal
 
 pub go_on-requires-clause-learnt : goal.go_on-requires-clause-learnt
 go_on-requires-clause-learnt c =
-    let news = vote_news (learning_of c.args.self.now.learner) (learning_of c.on_accepted.new.self) c.args.from c.args.vote
+    let news = vote_news (learning_of c.args.self.now.learner) (learning_of c.on_accepted.new.self) c.args.from c.args.vote.now
     c.in_ok-learned.field-0 c.in-Some.learned c.in_ok-learned.ensures.hears c.in-Some.is in
     subst IsSome (sym news.there) refl
 
@@ -18,9 +18,9 @@ returns-in_ok-go_on-in-Some-clause-takes c =
     let old : Mind = mind_of c.args.self.now in
     let l : Learning = learning_of c.on_accepted.new.self in
     let heard = c.in_ok-learned.ensures.hears in
-    let news = vote_news old.learning l c.args.from c.args.vote c.in_ok-learned.field-0 c.in-Some.learned heard c.in-Some.is in (
+    let news = vote_news old.learning l c.args.from c.args.vote.now c.in_ok-learned.field-0 c.in-Some.learned heard c.in-Some.is in (
       Some c.in-Some.learned,
       l,
-      subst (λ (o : Option Learned). HearsVote old.learning c.args.from c.args.vote o l) c.in-Some.is heard,
-      c.in_ok-go_on-in-Some.ensures old c.args.vote.command refl c.position-position.ensures.value news.there,
+      subst (λ (o : Option Learned). HearsVote old.learning c.args.from c.args.vote.now o l) c.in-Some.is heard,
+      c.in_ok-go_on-in-Some.ensures old c.args.vote.now.command refl c.position-position.ensures.value news.there,
     )

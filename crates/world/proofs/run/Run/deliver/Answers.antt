@@ -1,5 +1,6 @@
-use Rattle.std.proofs.Common.{◌≡◌, rules, ap, ◌∙◌, vec_len, slice_get, Some}
+use Rattle.std.proofs.Common.{◌≡◌, rules, ap, ◌∙◌, subst, vec_len, slice_get, Some, IfOk}
 use Rattle.std.proofs.lemmas.Option.{slice_get_read}
+use Rattle.wire.specs.FrameSpelling.{Fits}
 use Rattle.world.specs.Worlds.{run_of, without_wait}
 use Rattle.world.proofs.WorldLemmas.{delivers_same}
 use Rattle.world.proofs.run.Run.deliver.Goals as goal
@@ -15,9 +16,9 @@ returns-clause-delivers g c =
     c.stop_waiting.ensures.stops ∙ (rw named (ap (λ w. without_wait w c.args.frame)
     (ap (λ r. run_of r) (c.passes.ensures.stays (search rules)) ∙ c.reserve.ensures.same))) in
     record {
-      frame = c.in_ok-envelope.envelope;
+      frame = c.in-Ok.envelope;
       sent = rw (← named) (read ∙ search rules);
-      fits = c.in_ok-envelope.ensures.fits;
+      fits = subst (λ o. IfOk o (Fits 7)) c.in-Ok.is c.open-opened.ensures.fits;
       receives = rw waits at c.receive.ensures;
     }
 
