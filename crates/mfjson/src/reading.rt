@@ -29,7 +29,7 @@ pub fn read(alloc: Global, bytes: &[u8]) -> Result<Feature, MfFault>
     ensures document { (f : Feature) → IsDocumentOf bytes.now f
         → (result ≡ Ok f) ⊎ (result ≡ Err MfFault.Memory) }
 {
-    // Nearly every document is read so, in half the time; the tree has the last word on the others.
+    // Nearly every document is read so, which is faster; the tree has the last word on the others.
     if let Some(feature) = feature_of_tokens(alloc, bytes) {
         return Ok(feature);
     }
