@@ -1,8 +1,9 @@
 //! A cluster: a world whose frames go through a transport.
 
 ghost use Rattle.std.specs.Prelude.{◌≡◌, ◌<◌, ◌≤◌, ◌↔◌, ◌⊎◌, ◌∷◌, ◌+◌, [], List, length, drop, map, slice_get, IfErr, IfOk, IfSome};
-ghost use Rattle.std.specs.Prelude.{IsErrOf};
+ghost use Rattle.std.specs.Prelude.{IsErrOf, vec_capacity};
 ghost use Rattle.std.specs.Prelude.{OnErr, OnOk, Option, Some, ℕ, option_map};
+ghost use Rattle.wire.specs.declared.frames.envelope.TheConstants.{LONGEST_FRAME};
 ghost use Rattle.world.specs.Events.{NamesNoFrame, NamesNoNode};
 ghost use Rattle.world.specs.Rounds.{IsPartOfRound, NamesNoMember, RoundEnds};
 ghost use Rattle.world.specs.Staying.{IsSafeOver};
@@ -15,7 +16,7 @@ use super::indexed_world::IndexedWorld;
 use super::transport::Transport;
 use stable::{MemStable, Scripted, Stable};
 use std::alloc::{AllocError, Global};
-use wire::{Frame, NodeId};
+use wire::{LONGEST_FRAME, NodeId};
 use world::{Event, RoundEnd, World, WorldFault};
 
 /// So many passes in a row without a Deliver end a pump.
@@ -35,6 +36,9 @@ pub struct Cluster<T> {
     strangers: u64,
     failed_sends: u64,
     failed_polls: u64,
+    // The datagram that is sent just now. It has room for any frame, so that no frame is kept back for want of memory.
+    datagram: Vec<u8>,
+    ghost room: { LONGEST_FRAME ≤ vec_capacity datagram },
 }
 
 impl<T: Transport> Cluster<T> {
@@ -56,12 +60,14 @@ impl<T: Transport> Cluster<T> {
     {
         let mut indexed = IndexedWorld::new(alloc, world);
         indexed.catch_up(alloc)?;
+        let datagram = Vec::with_capacity(alloc, LONGEST_FRAME)?;
         Ok(Cluster {
             indexed,
             transport,
             strangers: 0,
             failed_sends: 0,
             failed_polls: 0,
+            datagram,
         })
     }
 
@@ -270,9 +276,11 @@ impl<T: Transport> Cluster<T> {
             HasPassed (⟦<T as Transport>⟧) self.old.transport (sending frame ∷ []) self.new.transport) }
     {
         let frame = &self.indexed.world().frames()[index];
+        let (from, to) = (frame.sender(), frame.receiver());
+        frame.spell_into(&mut self.datagram);
         let sent = self
             .transport
-            .send(alloc, sender(frame), frame.receiver(), frame.bytes());
+            .send(alloc, from, to, self.datagram.as_slice());
         if sent.is_err() {
             self.failed_sends = self.failed_sends.saturating_add(1);
         }
@@ -296,18 +304,5 @@ fn node_of(number: u8) -> NodeId
     match NodeId::new(number) {
         Some(node) => node,
         None => unreachable!(),
-    }
-}
-
-/// The node that sends the frame, which is read at its place.
-fn sender(frame: &Frame) -> NodeId
-    ensures { result ≡ frame.now.from }
-{
-    match frame.bytes() {
-        [_, _, _, _, from, ..] => match NodeId::new(*from) {
-            Some(node) => node,
-            None => unreachable!(),
-        },
-        _ => unreachable!(),
     }
 }

@@ -152,6 +152,6 @@ impl IndexedWorld {
         requires { self.now.indexed < length (world_of self.now.world).frames }
         ensures { IfOk result (λ bytes. slice_get (spellings (world_of self.now.world).frames) self.now.indexed ≡ Some bytes.items) }
     {
-        self.world.frames()[self.indexed].bytes().to_vec(alloc)
+        self.world.frames()[self.indexed].bytes(alloc)
     }
 }

@@ -20,7 +20,7 @@ use super::input::{Input, concerns};
 use super::outputs::{Executed, LogEntry, Outputs};
 use super::sends::{send, send_answer, send_ask, send_asks, send_each, send_outgoing};
 use acceptor::Acceptor;
-use learner::{Held, Learned, Learner};
+use learner::{Learned, Learner};
 use proposer::{MOST_WAITING, Proposer};
 use sessions::{Command, Machine, Number, Request};
 use stable::{Stable, StableFault};
@@ -417,7 +417,7 @@ impl Roles {
         let command = learnt.clone()?;
         let mut sends = Vec::new(alloc);
         let decided = Message::Decided { slot, command };
-        send(alloc, &mut sends, self.id, from, decided)?;
+        send(alloc, &mut sends, self.id, from, &decided)?;
         Ok(Outputs::sent(alloc, sends))
     }
 
@@ -432,10 +432,10 @@ impl Roles {
             → Learns before learned.slot command (mind_of self.old).learning [] (mind_of self.new) said) }
     {
         let slot = learned.slot;
-        let Some(command) = self.learner.get(slot) else {
+        let Some(held) = self.learner.held(slot) else {
             unreachable!();
         };
-        let command = Held::copy_of(alloc, command)?;
+        let command = held.share()?;
         self.proposer.on_learned(slot);
         let replies = self.execute(alloc, from)?;
         let sends = self.propose(alloc)?;

@@ -8,7 +8,7 @@ use acceptor::Answer;
 use proposer::{Outgoing, Recipients};
 use std::alloc::{AllocError, Global};
 use synod::Slot;
-use wire::{Envelope, Frame, Message, NodeId, NodeSet, Nodes};
+use wire::{Frame, Message, NodeId, NodeSet, Nodes};
 
 /// A message from one node to another.
 pub fn send(
@@ -16,33 +16,26 @@ pub fn send(
     sends: &mut Vec<Frame>,
     from: NodeId,
     to: NodeId,
-    message: Message,
+    message: &Message,
 ) -> Result<(), AllocError>
-    ensures { OnOk result (sends.new.items ≡ sends.old.items ++ to_one from to message) }
+    ensures { OnOk result (sends.new.items ≡ sends.old.items ++ to_one from to message.now) }
 {
-    sends.push(framed(alloc, from, to, message)?)?;
+    sends.push(Frame::of(alloc, from, to, message)?)?;
     Ok(())
 }
 
-/// The frame of a message. One to several nodes is spelled once, and its frame copied for the others.
-fn framed(alloc: Global, from: NodeId, to: NodeId, message: Message) -> Result<Frame, AllocError>
-    ensures { IfOk result (λ frame. frame ≡ record { from = from; to = to; message = message }) }
-{
-    Frame::of(alloc, &Envelope { from, to, message })
-}
-
-/// A message from one node to every node, itself included, in order of their numbers.
+/// A message from one node to every node, itself included, in order of their numbers. It is spelled once.
 pub fn send_to_all(
     alloc: Global,
     sends: &mut Vec<Frame>,
     from: NodeId,
     nodes: Nodes,
-    message: Message,
+    message: &Message,
 ) -> Result<(), AllocError>
-    ensures { OnOk result (sends.new.items ≡ sends.old.items ++ to_all from nodes message) }
+    ensures { OnOk result (sends.new.items ≡ sends.old.items ++ to_all from nodes message.now) }
 {
     let last = nodes.count() - 1;
-    let frame = framed(alloc, from, nodes.node(last), message)?;
+    let frame = Frame::shared(alloc, from, nodes.node(last), message)?;
     for value in 0..last {
         sends.push(frame.to_node(alloc, nodes.node(value))?)?;
     }
@@ -50,19 +43,19 @@ pub fn send_to_all(
     Ok(())
 }
 
-/// A message from one node to every node that isn't in the set, in order of their numbers.
+/// A message from one node to every node that isn't in the set, in order of their numbers. It is spelled once.
 pub fn send_to_others(
     alloc: Global,
     sends: &mut Vec<Frame>,
     from: NodeId,
     nodes: Nodes,
     set: &NodeSet,
-    message: Message,
+    message: &Message,
 ) -> Result<(), AllocError>
     ensures { OnOk result (sends.new.items
-        ≡ sends.old.items ++ filter (λ e. not (has_node set.now e.to)) (to_all from nodes message)) }
+        ≡ sends.old.items ++ filter (λ e. not (has_node set.now e.to)) (to_all from nodes message.now)) }
 {
-    let frame = framed(alloc, from, from, message)?;
+    let frame = Frame::shared(alloc, from, from, message)?;
     for value in 0..nodes.count() {
         let to = nodes.node(value);
         if !set.contains(to) {
@@ -100,8 +93,8 @@ pub fn send_outgoing(
 {
     let Outgoing { to, message } = outgoing;
     match to {
-        Recipients::All => send_to_all(alloc, sends, from, nodes, message),
-        Recipients::Others(set) => send_to_others(alloc, sends, from, nodes, &set, message),
+        Recipients::All => send_to_all(alloc, sends, from, nodes, &message),
+        Recipients::Others(set) => send_to_others(alloc, sends, from, nodes, &set, &message),
     }
 }
 
@@ -117,10 +110,10 @@ pub fn send_answer(
 {
     let mut sends = Vec::new(alloc);
     match answer {
-        Answer::Promise(promise) => send(alloc, &mut sends, from, to, Message::Promise(promise))?,
-        Answer::Nack(nack) => send(alloc, &mut sends, from, to, Message::Nack(nack))?,
+        Answer::Promise(promise) => send(alloc, &mut sends, from, to, &Message::Promise(promise))?,
+        Answer::Nack(nack) => send(alloc, &mut sends, from, to, &Message::Nack(nack))?,
         Answer::Accepted(vote) => {
-            send_to_all(alloc, &mut sends, from, nodes, Message::Accepted(vote))?;
+            send_to_all(alloc, &mut sends, from, nodes, &Message::Accepted(vote))?;
         }
     }
     Ok(sends)
@@ -137,7 +130,7 @@ pub fn send_ask(
     ensures { OnOk result (sends.new.items ≡ sends.old.items ++ ask_sends from to position) }
 {
     match Slot::new(position) {
-        Some(slot) => send(alloc, sends, from, to, Message::Ask { slot }),
+        Some(slot) => send(alloc, sends, from, to, &Message::Ask { slot }),
         None => Ok(()),
     }
 }
@@ -157,5 +150,5 @@ pub fn send_asks(
     };
     let mut itself = NodeSet::new();
     itself.insert(from);
-    send_to_others(alloc, sends, from, nodes, &itself, Message::Ask { slot })
+    send_to_others(alloc, sends, from, nodes, &itself, &Message::Ask { slot })
 }

@@ -3,8 +3,15 @@ use Rattle.std.specs.Prelude.{ℕ, List, Result, Ok, Err, Option, Some, None}
 use Rattle.wire.specs.FrameReading.{frame_in}
 use Rattle.wire.specs.declared.frames.envelope.Envelope.{Envelope}
 use Rattle.wire.specs.declared.frames.fault.WireFault.{WireFault}
+use Rattle.wire.specs.declared.frames.spelled.Spelled.{Spelled}
+use Rattle.wire.specs.declared.frames.spelled.Spelled.TheVariants.{Alone, Shared}
 use Rattle.wire.specs.declared.frames.message.Message.{Message}
 use Rattle.wire.specs.declared.frames.message.Message.TheVariants.{Prepare, Promise, Nack, Accept, Accepted, Ask, Decided}
+
+-- the bytes of a frame, its own or shared
+abbrev pub bytes_in : Spelled → List ℕ
+bytes_in (Alone bytes) = bytes.items
+bytes_in (Shared bytes) = bytes.value.items
 
 -- what was read; where nothing was, a question stands for it
 abbrev pub read_or_ask : Result Envelope WireFault → Envelope
@@ -14,6 +21,10 @@ read_or_ask (Err f) = record { from = 0; to = 0; message = Ask 0 }
 -- the envelope that the bytes spell among the nodes of the largest run
 abbrev pub envelope_in : List ℕ → Envelope
 envelope_in bytes = read_or_ask (frame_in 7 bytes)
+
+-- the same message from the same node to another
+abbrev pub readdressed : Envelope → ℕ → Envelope
+readdressed e to = record e { to = to }
 
 -- the slot of the vote of which a message tells that it was cast
 abbrev pub voted_slot : Message → Option ℕ

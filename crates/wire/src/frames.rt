@@ -13,6 +13,7 @@ mod nack;
 mod promise;
 mod reading;
 mod records;
+mod spelled;
 mod spelling;
 mod telling;
 

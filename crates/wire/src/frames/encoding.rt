@@ -1,6 +1,6 @@
 //! From envelopes to bytes.
 
-ghost use Rattle.std.specs.Prelude.{◌≡◌, ◌+◌, ◌*◌, ◌<◌, ◌≤◌, ◌++◌, length, IfOk, OnOk};
+ghost use Rattle.std.specs.Prelude.{◌≡◌, ℕ, ◌+◌, ◌*◌, ◌<◌, ◌≤◌, ◌++◌, length, IfOk, OnOk};
 ghost use Rattle.std.specs.List.{flat_map, AllByRecursion};
 ghost use Rattle.wire.specs.FrameSpelling.{IsFrame, MessageFits, VoteFits, PromiseFits, head_bytes, body_bytes};
 ghost use Rattle.wire.specs.FrameSpelling.{vote_bytes, entry_bytes, promise_bytes, spelling};
@@ -21,14 +21,22 @@ pub fn encode(alloc: Global, envelope: &Envelope) -> Result<Vec<u8>, AllocError>
     ensures frame { IfOk result (λ bytes. IsFrame 7 bytes.items envelope.now) }
     ensures short { IfOk result (λ bytes. length bytes.items ≤ LONGEST_FRAME) }
 {
-    let mut out = Vec::with_capacity(alloc, frame_len(envelope))?;
-    push_head(
-        &mut out,
-        envelope.message.kind(),
-        envelope.from,
-        envelope.to,
-    )?;
-    push_body(&mut out, &envelope.message)?;
+    spell(alloc, envelope.from, envelope.to, &envelope.message)
+}
+
+/// The bytes that spell the envelope of a message.
+pub(super) fn spell(
+    alloc: Global,
+    from: NodeId,
+    to: NodeId,
+    message: &Message,
+) -> Result<Vec<u8>, AllocError>
+    ensures frame { IfOk result (λ bytes. IsFrame 7 bytes.items (record { from = from; to = to; message = message.now })) }
+    ensures short { IfOk result (λ bytes. length bytes.items ≤ LONGEST_FRAME) }
+{
+    let mut out = Vec::with_capacity(alloc, frame_len(message))?;
+    push_head(&mut out, message.kind(), from, to)?;
+    push_body(&mut out, message)?;
     Ok(out)
 }
 
@@ -113,11 +121,11 @@ fn push_entry(out: &mut Vec<u8>, vote: &Vote<Command>) -> Result<(), AllocError>
 }
 
 /// How many bytes the frame has: at most those of a promise of four of the largest commands.
-fn frame_len(envelope: &Envelope) -> usize
-    ensures value { result ≡ length (spelling envelope.now) }
+fn frame_len(message: &Message) -> usize
+    ensures value { (from to : ℕ) → result ≡ length (spelling (record { from = from; to = to; message = message.now })) }
     ensures most { result ≤ 49_544 }
 {
-    let body = match &envelope.message {
+    let body = match message {
         Message::Prepare { .. } => 13,
         Message::Promise(promise) => 18 + entries_len(promise.entries()),
         Message::Nack(_) => 18,

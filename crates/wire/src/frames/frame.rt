@@ -1,17 +1,19 @@
-//! A frame: a message on its way, as its bytes.
+//! A frame: a message on its way, as bytes.
 
-ghost use Rattle.std.specs.Prelude.{◌≡◌, Some, IfOk};
+ghost use Rattle.std.specs.Prelude.{◌≡◌, ◌≤◌, Some, IfOk, vec_capacity};
 ghost use Rattle.sessions.specs.declared.command.Command.{Command};
 ghost use Rattle.synod.specs.declared.vote.Vote.{Vote};
 ghost use Rattle.wire.specs.FrameSpelling.{IsFrame, Fits, VoteFits, vote_bytes};
-ghost use Rattle.wire.specs.Framing.{voted_slot};
+ghost use Rattle.wire.specs.Framing.{readdressed, voted_slot};
 
 use super::decoding::decode;
-use super::encoding::encode;
-use super::envelope::Envelope;
+use super::encoding::spell;
+use super::envelope::{Envelope, LONGEST_FRAME};
 use super::input::Input;
 use super::kind::Kind;
+use super::message::Message;
 use super::reading::read_slot;
+use super::spelled::Spelled;
 use crate::{NodeId, Nodes, Slot};
 use std::alloc::{AllocError, Global};
 use std::marker::Model;
@@ -20,57 +22,94 @@ use synod::MOST_NODES;
 /// Where a frame names its receiver: behind how it begins, the version, the kind and the sender.
 const RECEIVER: usize = 5;
 
-/// The bytes of an envelope, which spell it among the nodes of the largest run. Contracts see the envelope.
+/// An envelope on its way. Its bytes were spelled once, for one receiver, and the frames of one message to several nodes share them.
+/// Contracts see the envelope.
 #[derive(Debug, Drop)]
 pub struct Frame {
-    bytes: Vec<u8>,
+    spelled: Spelled,
+    to: NodeId,
 }
 
 impl Model for Frame {
     ghost use Rattle.wire.specs.FrameSpelling.{IsFrame};
     ghost use Rattle.wire.specs.declared.frames.envelope.Envelope.{Envelope};
-    ghost use Rattle.wire.specs.Framing.{envelope_in};
+    ghost use Rattle.wire.specs.Framing.{bytes_in, envelope_in, readdressed};
 
     ghost Value = { Envelope };
 
-    ghost view = { λ f. envelope_in f.bytes.items };
+    ghost view = { λ f. readdressed (envelope_in (bytes_in f.spelled)) f.to };
 
-    ghost invariant = { λ f. IsFrame 7 f.bytes.items (envelope_in f.bytes.items) };
+    // The bytes spell their envelope among the nodes of the largest run.
+    ghost invariant = { λ f. IsFrame 7 (bytes_in f.spelled) (envelope_in (bytes_in f.spelled)) };
 }
 
 impl Frame {
-    /// The frame that carries the envelope.
-    pub fn of(alloc: Global, envelope: &Envelope) -> Result<Frame, AllocError>
-        ensures { IfOk result (λ frame. frame ≡ envelope.now) }
+    /// The frame that carries the message from one node to another.
+    pub fn of(
+        alloc: Global,
+        from: NodeId,
+        to: NodeId,
+        message: &Message,
+    ) -> Result<Frame, AllocError>
+        ensures { IfOk result (λ frame. frame ≡ record { from = from; to = to; message = message.now }) }
     {
-        let bytes = encode(alloc, envelope)?;
-        Ok(Frame { bytes })
+        let bytes = spell(alloc, from, to, message)?;
+        Ok(Frame {
+            spelled: Spelled::Alone(bytes),
+            to,
+        })
     }
 
-    /// The frame that carries the same message from the same node to another.
-    pub fn to_node(&self, alloc: Global, to: NodeId) -> Result<Frame, AllocError>
-        ensures { IfOk result (λ frame. frame ≡ record self.now { to = to }) }
+    /// The same frame, of a message that goes to other nodes as well: they share its bytes.
+    pub fn shared(
+        alloc: Global,
+        from: NodeId,
+        to: NodeId,
+        message: &Message,
+    ) -> Result<Frame, AllocError>
+        ensures { IfOk result (λ frame. frame ≡ record { from = from; to = to; message = message.now }) }
     {
-        let mut bytes = Vec::with_capacity(alloc, self.bytes.len())?;
-        bytes.extend_from_slice(self.bytes.as_slice())?;
-        bytes[RECEIVER] = to.value();
-        Ok(Frame { bytes })
+        let bytes = spell(alloc, from, to, message)?;
+        Ok(Frame {
+            spelled: Spelled::shared(alloc, bytes)?,
+            to,
+        })
+    }
+
+    /// The frame that carries the same message from the same node to another. Nothing is spelled anew.
+    pub fn to_node(&self, alloc: Global, to: NodeId) -> Result<Frame, AllocError>
+        ensures { IfOk result (λ frame. frame ≡ readdressed self.now to) }
+    {
+        let spelled = self.spelled.again(alloc)?;
+        Ok(Frame { spelled, to })
     }
 
     /// Its bytes, which spell the envelope among the nodes of the largest run.
-    pub fn bytes(&self) -> &[u8]
-        ensures { IsFrame 7 result.now self.now }
+    pub fn bytes(&self, alloc: Global) -> Result<Vec<u8>, AllocError>
+        ensures { IfOk result (λ bytes. IsFrame 7 bytes.items self.now) }
     {
-        self.bytes.as_slice()
+        let mut bytes = self.spelled.bytes().to_vec(alloc)?;
+        bytes[RECEIVER] = self.to.value();
+        Ok(bytes)
     }
 
-    /// The node to which it goes, which is read at its place.
-    pub fn receiver(&self) -> NodeId
-        ensures receiver { result ≡ self.now.to }
-        ensures fits { Fits 7 self.now }
+    /// Its bytes, in the place of what the buffer held. The buffer has room for any frame.
+    pub fn spell_into(&self, buffer: &mut Vec<u8>)
+        requires room { LONGEST_FRAME ≤ vec_capacity buffer.old }
+        ensures spelled { IsFrame 7 buffer.new.items self.now }
+        ensures room { vec_capacity buffer.old ≤ vec_capacity buffer.new }
     {
-        match self.bytes() {
-            [_, _, _, _, _, to, ..] => match NodeId::new(*to) {
+        buffer.clear();
+        let _ = buffer.extend_from_slice(self.spelled.bytes());
+        buffer[RECEIVER] = self.to.value();
+    }
+
+    /// The node that sends it, which is read at its place.
+    pub fn sender(&self) -> NodeId
+        ensures { result ≡ self.now.from }
+    {
+        match self.spelled.bytes() {
+            [_, _, _, _, from, ..] => match NodeId::new(*from) {
                 Some(node) => node,
                 None => unreachable!(),
             },
@@ -78,11 +117,21 @@ impl Frame {
         }
     }
 
+    /// The node to which it goes.
+    pub fn receiver(&self) -> NodeId
+        ensures receiver { result ≡ self.now.to }
+        ensures fits { Fits 7 self.now }
+    {
+        // Whoever looks at its number knows that it is one of the largest run's.
+        let _number = self.to.value();
+        self.to
+    }
+
     /// The slot of the vote of which it tells that it was cast, which is read at its place. None where it tells of none.
     pub fn voted_slot(&self) -> Option<Slot>
         ensures { result ≡ voted_slot self.now.message }
     {
-        match self.bytes() {
+        match self.spelled.bytes() {
             [_, _, _, kind, _, _, body @ ..] => {
                 if *kind == Kind::Accepted.byte() {
                     slot_of_vote(body)
@@ -99,8 +148,11 @@ impl Frame {
         ensures envelope { IfOk result (λ envelope. envelope ≡ self.now) }
         ensures fits { IfOk result (Fits 7) }
     {
-        match decode(alloc, self.bytes(), largest_run()) {
-            Ok(envelope) => Ok(envelope),
+        match decode(alloc, self.spelled.bytes(), largest_run()) {
+            Ok(mut envelope) => {
+                envelope.to = self.receiver();
+                Ok(envelope)
+            }
             // Whatever bytes a frame has, they spell its envelope, so only memory can be wanting.
             Err(_fault) => Err(AllocError),
         }

@@ -1,0 +1,19 @@
+use Rattle.std.proofs.Common.{rules, ◌≡◌, ◌≤◌, ◌<◌, ℕ, List, length, sym, ap, subst, ◌∙◌, vec_capacity, vec_len}
+use Rattle.wire.specs.FrameSpelling.{IsFrame}
+use Rattle.wire.specs.Framing.{bytes_in, envelope_in}
+use Rattle.wire.specs.declared.frames.envelope.Envelope.{Envelope}
+use Rattle.wire.specs.declared.frames.envelope.TheConstants.{LONGEST_FRAME}
+use Rattle.wire.proofs.FrameLengths.{frame_most}
+use Rattle.wire.proofs.FrameSeen.{goes_to}
+use Rattle.wire.proofs.frames.frame.Frame.spell_into.Goals as goal
+
+pub index_mut-requires : goal.index_mut-requires
+index_mut-requires c =
+    let most = frame_most 7 (bytes_in c.self.inside.spelled) (envelope_in (bytes_in c.self.inside.spelled)) c.self.invariant in
+    search (rules, most)
+
+pub returns-clause-spelled : goal.returns-clause-spelled
+returns-clause-spelled c =
+    let most = frame_most 7 (bytes_in c.self.inside.spelled) (envelope_in (bytes_in c.self.inside.spelled)) c.self.invariant in
+    let copied : c.extend_from_slice.new.self.items ≡ bytes_in c.self.inside.spelled = search (rules, most) in
+    search (rules, copied)
