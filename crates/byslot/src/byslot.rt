@@ -1,6 +1,6 @@
 //! Values by slot.
 
-ghost use Rattle.std.specs.Prelude.{◌≡◌, Some, None, IfOk, OnOk, OnErr, MatchOption};
+ghost use Rattle.std.specs.Prelude.{◌≡◌, ◌≤◌, ◌+◌, length, vec_capacity, Some, None, IfOk, OnOk, OnErr, MatchOption};
 ghost use Rattle.std.specs.Option.{option_copied};
 ghost use Rattle.std.specs.BTreeMap.{get};
 ghost use Rattle.std.specs.Ordering.{nat_cmp};
@@ -29,7 +29,8 @@ pub struct BySlot<V> {
 impl<V: Drop> BySlot<V> {
     /// Nothing stands at any slot, and no memory is taken.
     pub fn new(alloc: Global) -> BySlot<V>
-        ensures { value_at result ≡ (λ _. None) }
+        ensures empty { value_at result ≡ (λ _. None) }
+        ensures capacity { vec_capacity result.row ≡ 0 }
     {
         BySlot {
             row: Vec::new(alloc),
@@ -81,6 +82,10 @@ impl<V: Drop> BySlot<V> {
         ensures stands { OnOk result (value_at self.new ≡ put (value_at self.old) slot (Some value)) }
         ensures absent { OnErr result (value_at self.old slot ≡ None) }
         ensures unchanged { OnErr result (value_at self.new ≡ value_at self.old) }
+
+        // Memory is wanted only for a slot behind the row, and little of it goes to the row.
+        ensures behind { OnErr result (length self.new.row.items ≤ slot) }
+        ensures row { length self.new.row.items ≤ length self.old.row.items + 64 }
     {
         self.lengthen(slot);
         match self.row.get_mut(slot.value() as usize) {
@@ -102,7 +107,8 @@ impl<V: Drop> BySlot<V> {
 
     // Where a slot isn't far behind the row, the row goes on up to it, as far as memory serves.
     fn lengthen(&mut self, slot: Slot)
-        ensures { value_at self.new ≡ value_at self.old }
+        ensures same { value_at self.new ≡ value_at self.old }
+        ensures row { length self.new.row.items ≤ length self.old.row.items + 64 }
     {
         let place = slot.value() as usize;
         let end = self.row.len();
@@ -116,7 +122,8 @@ impl<V: Drop> BySlot<V> {
 
     // Where the slot is the next of the row, it joins it, unless memory is wanting.
     fn join(&mut self, next: Slot)
-        ensures { value_at self.new ≡ value_at self.old }
+        ensures same { value_at self.new ≡ value_at self.old }
+        ensures row { length self.new.row.items ≤ length self.old.row.items + 1 }
     {
         if next.value() as usize != self.row.len() {
             return;

@@ -5,8 +5,8 @@ use Rattle.byslot.proofs.ValueLemmas.{row_longer, get-updated}
 use Rattle.byslot.proofs.byslot.BySlot.join.Goals as goal
 
 -- what stands at the next slot of the row joins it
-pub returns : goal.returns
-returns g c =
+pub returns-clause-same : goal.returns-clause-same
+returns-clause-same g c =
     let self = c.args.self.now in
     let next : c.args.next ≡ length self.row.items = omega (arith, c.if-value-len.false, c.value.ensures.value, c.len.ensures) in
     let longer : c.push.new.self.items ≡ self.row.items ++ c.remove-found.result ∷ [] = search rules in
