@@ -101,6 +101,19 @@ pub row_covers : {B : Type 0} (read : Command → B) (row : List Command) (c : C
     → f n ≡ read c → g ≡ f → in_row read (row ++ c ∷ []) g ≡ in_row read row f
 row_covers read row c f g n there here e = row_longer read row c f g n there here (λ s apart. ap (λ h. h s) e)
 
+-- a command is learnt at the next slot of the row, and joins it: what was kept of the slot behind the row is no more read
+pub row_joined : {B : Type 0} (read : Command → B) (row : List Command) (c : Command) (f g : ℕ → B) (n : ℕ) (x : B) → n ≡ length row
+    → g ≡ put f n x → in_row read (row ++ c ∷ []) g ≡ put (in_row read row f) n (read c)
+row_joined read row c f g n x there e = λ k s. at s k
+  where
+    at : (s : ℕ) → in_row read (row ++ c ∷ []) g s ≡ put (in_row read row f) n (read c) s
+    at s = elim (eqb_tells s n) [
+      | inl same ↦ rw (same.0, same.1, there, last_of row c) refl
+      | inr other ↦
+          let elsewhere : g s ≡ f s = ap (λ h. h s) e ∙ rw other.0 refl in
+          rw (other.0, others_of row c s (rw (← there) other.1), elsewhere) refl
+    ]
+
 -- the news of a vote, for a slot that is not of the row
 module _ (nodes from : ℕ) (v : Vote Command) (row : List Command) (learnt learnt_then : ℕ → Option Command) (heard heard_then : ℕ → Heard)
   where

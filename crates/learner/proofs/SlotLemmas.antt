@@ -1,5 +1,5 @@
 -- What a map by slot says of each slot.
-use Rattle.std.proofs.Common.{◌≡◌, ℕ, [], Bool, Option, Some, None, IsSome, unwrap_or, Result, Ok, Err, IfOk, OnErr, false, true, inl}
+use Rattle.std.proofs.Common.{◌≡◌, ◌≢◌, ℕ, [], Bool, Option, Some, None, IsSome, unwrap_or, Result, Ok, Err, IfOk, OnErr, false, true, inl}
 use Rattle.std.proofs.Common.{inr, refl, sym, ap, subst, ◌∙◌, arith}
 use Rattle.std.specs.BTreeMap.{BTreeMap, get, Updates}
 use Rattle.std.specs.Ordering.{nat_cmp}
@@ -18,6 +18,11 @@ use Rattle.learner.specs.declared.place.Place.{Place}
 use Rattle.learner.specs.declared.place.Place.TheVariants.{Told}
 use Rattle.learner.specs.declared.slots.Slots.{Slots}
 use Rattle.learner.specs.declared.tallies.Tallies.{Tallies}
+
+-- what is so anyway is so where memory is refused
+pub where_refused : {T E P : Type 0} (r : Result T E) → P → OnErr r P
+where_refused (Ok x) p = tt
+where_refused (Err e) p = p
 
 -- a change of a map at one slot is a change there of what is read of it
 updated : {X B : Type 0} (read : Option X → B) (m n : BTreeMap ℕ X) (slot : ℕ) (w : Option X) → Updates nat_cmp m n slot w
@@ -57,6 +62,11 @@ module _ (o : Option Place) (p : Place) (alike : IsReadAlike o p) where
       → OnErr r (place_heard o b a ≡ None)
   unheard_before b a (Ok learns) none = tt
   unheard_before b a (Err e) none = ap (λ (heard : Heard). heard b a) (sym alike.heard) ∙ none
+
+  pub untold_before : (b : Ballot) (c : Command) (r : Result Bool AllocError)
+      → OnErr r ((a : ℕ) → place_heard (Some p) b a ≢ Some c) → OnErr r ((a : ℕ) → place_heard o b a ≢ Some c)
+  untold_before b c (Ok learns) none = tt
+  untold_before b c (Err e) none = λ a told. none a (ap (λ (heard : Heard). heard b a) alike.heard ∙ told)
 
 -- a function that is given at a place what it has there
 pub put_same : {A : Type 0} (f : ℕ → A) (i : ℕ) (x : A) → x ≡ f i → put f i x ≡ f

@@ -408,6 +408,13 @@ module _ (ts : List Tally) (b : Ballot) (c : Command) where
   voters_there None = refl
   voters_there (Some i) = refl
 
+  -- where there is none, nobody has told the command under the ballot
+  pub told_by_none : (place : Option ℕ) → IsPlace ts b c place → place ≡ None → (a : ℕ) → told_in ts b a ≢ Some c
+  told_by_none place is nowhere a told =
+      let r = teller ts b a c told in
+      let bad : None ≡ Some r.at = sym nowhere ∙ is.only r.at r.tally r.is (r.ballot, r.command) in
+      cc
+
   -- the tally that is read there
   pub read_there : (place : Option ℕ) → IsPlace ts b c place → (i : ℕ) → place ≡ Some i → (t : Tally) → t ≡ get_or ts i t
       → slice_get ts i ≡ Some t

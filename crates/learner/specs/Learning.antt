@@ -1,5 +1,5 @@
 -- What a learner has heard of votes and what it has learnt, and what it makes of the news.
-use Rattle.std.specs.Prelude.{◌≡◌, ℕ, zero, suc, ◌-◌, ◌<◌, ◌≤◌, ◌&&◌, nat_eq, Bool, Option, Some, None, is_some, if◌then◌else◌}
+use Rattle.std.specs.Prelude.{◌≡◌, ◌≢◌, ℕ, zero, suc, ◌-◌, ◌<◌, ◌≤◌, ◌&&◌, nat_eq, Bool, Option, Some, None, is_some, if◌then◌else◌}
 use Rattle.synod.specs.Majorities.{Majority}
 use Rattle.synod.specs.Records.{put}
 use Rattle.synod.specs.declared.ballot.Ballot.{Ballot}
@@ -61,6 +61,10 @@ pub record Counts (l : Learning) (from : ℕ) (v : Vote Command) : Type 0 where
   pub of_the_run : from < l.nodes
   pub in_time : IsOpen l v.slot
   pub once : l.heard v.slot v.ballot from ≡ None
+
+-- no node has told the command at the slot under the ballot
+pub record IsUntold (l : Learning) (v : Vote Command) : Type 0 where
+  pub by_none : (a : ℕ) → l.heard v.slot v.ballot a ≢ Some v.command
 
 -- of so many nodes a majority has told the command under the ballot, node `from` included
 abbrev pub IsDecided : ℕ → Heard → Ballot → ℕ → Command → Type 0

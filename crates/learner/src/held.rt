@@ -1,16 +1,19 @@
 //! A command that lies apart.
 
-ghost use Rattle.std.specs.Prelude.{◌≡◌, IfOk};
+ghost use Rattle.std.specs.Prelude.{◌≡◌, ◌↔◌, IfOk, IsTrue};
+ghost use Rattle.std.specs.Cmp.{partial_equiv_from_equiv};
+ghost use Rattle.sessions.specs.Same.{same_command, same_command_equiv};
 
 use sessions::Command;
 use std::alloc::{AllocError, Global};
 use std::marker::Model;
+use std::rc::Rc;
 
 /// A command that lies apart, so that little is moved where it is handed on: from what was told to what is learnt, and to those who
-/// are told of that.
+/// are told of that. Many may hold one command, which then lies there once.
 #[derive(Debug, Drop)]
 pub struct Held {
-    command: Box<Command>,
+    command: Rc<Command>,
 }
 
 impl Model for Held {
@@ -33,7 +36,16 @@ impl Held {
     pub fn new(alloc: Global, command: Command) -> Result<Held, AllocError>
         ensures { IfOk result (λ held. held ≡ command) }
     {
-        let command = Box::new(alloc, command)?;
+        let command = Rc::new(alloc, command)?;
+        Ok(Held { command })
+    }
+
+    /// The same command, which lies where it lay: no memory is wanted for it. `AllocError` comes only where as many hold it as can
+    /// be counted.
+    pub fn share(&self) -> Result<Held, AllocError>
+        ensures { IfOk result (λ held. held ≡ self.now) }
+    {
+        let command = self.command.clone()?;
         Ok(Held { command })
     }
 
@@ -43,11 +55,21 @@ impl Held {
     {
         &self.command
     }
+}
 
-    /// What is held is handed out.
-    pub fn into_command(self) -> Command
-        ensures { result ≡ self }
+impl PartialEq for Held {
+    ghost eq = { same_command };
+
+    ghost laws = { partial_equiv_from_equiv same_command_equiv };
+
+    fn eq(&self, other: &Held) -> bool
+        ensures value { result ≡ same_command self.now other.now }
+        ensures same { IsTrue result ↔ (self.now ≡ other.now) }
     {
-        Box::into_inner(self.command)
+        self.command() == other.command()
     }
+}
+
+impl Eq for Held {
+    ghost laws = { same_command_equiv };
 }

@@ -1,6 +1,6 @@
 //! What is known of all slots: what is learnt of the first ones lies in a row.
 
-ghost use Rattle.std.specs.Prelude.{◌≡◌, ℕ, Some, None, IfOk, OnOk, OnErr, is_some, slice_get};
+ghost use Rattle.std.specs.Prelude.{◌≡◌, ◌≢◌, ℕ, Some, None, IfOk, OnOk, OnErr, is_some, slice_get};
 ghost use Rattle.std.specs.Option.{option_copied};
 ghost use Rattle.synod.specs.Records.{put};
 ghost use Rattle.learner.specs.Known.{known_learnt, known_heard};
@@ -37,11 +37,11 @@ impl Known {
     }
 
     /// The command of a slot that is learnt.
-    pub(super) fn learnt(&self, slot: Slot) -> Option<&Command>
+    pub(super) fn learnt(&self, slot: Slot) -> Option<&Held>
         ensures { option_copied result ≡ known_learnt self.now slot }
     {
         match self.settled.get(slot.value() as usize) {
-            Some(held) => Some(held.command()),
+            Some(held) => Some(held),
             None => self.others.learnt(slot),
         }
     }
@@ -104,6 +104,8 @@ impl Known {
             learns (known_learnt self.new) (known_heard self.new)) }
         ensures unlearnt { OnErr result (known_learnt self.old vote.now.slot ≡ None) }
         ensures once { OnErr result (known_heard self.old vote.now.slot vote.now.ballot from ≡ None) }
+        ensures first { OnErr result
+            ((a : ℕ) → known_heard self.old vote.now.slot vote.now.ballot a ≢ Some vote.now.command) }
         ensures learnt { OnErr result (known_learnt self.new ≡ known_learnt self.old) }
         ensures heard { OnErr result (known_heard self.new ≡ known_heard self.old) }
     {
@@ -113,7 +115,7 @@ impl Known {
         self.others.hear(alloc, nodes, from, vote)
     }
 
-    /// The slot is learnt, and what was told of it goes.
+    /// The slot is learnt, and what was told of it goes. Where it is the next of the row it joins it, unless memory is wanting.
     pub(super) fn learn(&mut self, slot: Slot, command: Held) -> Result<(), AllocError>
         requires { known_learnt self.old slot ≡ None }
         ensures learnt { OnOk result
@@ -123,6 +125,14 @@ impl Known {
         ensures learnt_unchanged { OnErr result (known_learnt self.new ≡ known_learnt self.old) }
         ensures heard_unchanged { OnErr result (known_heard self.new ≡ known_heard self.old) }
     {
-        self.others.learn(slot, command)
+        if slot.value() as usize != self.settled.len() {
+            return self.others.learn(slot, command);
+        }
+        if let Err(_) = self.settled.try_reserve(1) {
+            return self.others.learn(slot, command);
+        }
+        self.others.forget(slot);
+        let _ = self.settled.push(command);
+        Ok(())
     }
 }

@@ -30,7 +30,7 @@ pub struct Learner {
 }
 
 impl Learner {
-    ghost use Rattle.learner.specs.Learning.{unlearnt, learnt_at, prefix, IsOpen, Counts, HearsVote, HearsDecided};
+    ghost use Rattle.learner.specs.Learning.{unlearnt, learnt_at, prefix, IsOpen, Counts, IsUntold, HearsVote, HearsDecided};
     ghost use Rattle.learner.specs.State.{learning_of};
 
     /// Nothing is heard or learnt yet.
@@ -47,6 +47,16 @@ impl Learner {
 
     /// The command of a slot that is learnt.
     pub fn get(&self, slot: Slot) -> Option<&Command>
+        ensures { option_copied result ≡ learnt_at (learning_of self.now) slot }
+    {
+        match self.held(slot) {
+            Some(held) => Some(held.command()),
+            None => None,
+        }
+    }
+
+    /// The same, as it is held.
+    pub fn held(&self, slot: Slot) -> Option<&Held>
         ensures { option_copied result ≡ learnt_at (learning_of self.now) slot }
     {
         self.slots.learnt(slot)
@@ -74,8 +84,9 @@ impl Learner {
         ensures hears { IfOk result (λ learned.
             HearsVote (learning_of self.old) from vote.now learned (learning_of self.new)) }
 
-        // Only news that counts can be refused memory.
+        // Only news that counts can be refused memory, and of it only what is the first of its command under the ballot.
         ensures counts { OnErr result (Counts (learning_of self.old) from vote.now) }
+        ensures first { OnErr result (IsUntold (learning_of self.old) vote.now) }
         ensures unchanged { OnErr result (learning_of self.new ≡ learning_of self.old) }
     {
         let slot = vote.slot;

@@ -1,6 +1,6 @@
 //! What is known of one slot.
 
-ghost use Rattle.std.specs.Prelude.{◌≡◌, IfOk, OnErr, Some, None};
+ghost use Rattle.std.specs.Prelude.{◌≡◌, ◌≢◌, ℕ, IfOk, OnErr, Some, None};
 ghost use Rattle.std.specs.Option.{option_copied};
 ghost use Rattle.learner.specs.Places.{place_learnt, place_heard, PlaceHears};
 
@@ -21,12 +21,12 @@ pub(super) enum Place {
 
 impl Place {
     /// The command, where it is learnt.
-    pub(super) fn learnt(&self) -> Option<&Command>
+    pub(super) fn learnt(&self) -> Option<&Held>
         ensures { option_copied result ≡ place_learnt (Some self.now) }
     {
         match self {
             Place::Told(_) => None,
-            Place::Learnt(held) => Some(held.command()),
+            Place::Learnt(held) => Some(held),
         }
     }
 
@@ -43,6 +43,8 @@ impl Place {
             PlaceHears nodes (Some self.old) from ballot command.now learns (Some self.new)) }
         ensures unlearnt { OnErr result (place_learnt (Some self.old) ≡ None) }
         ensures once { OnErr result (place_heard (Some self.old) ballot from ≡ None) }
+        ensures first { OnErr result
+            ((a : ℕ) → place_heard (Some self.old) ballot a ≢ Some command.now) }
         ensures learnt { OnErr result
             (place_learnt (Some self.new) ≡ place_learnt (Some self.old)) }
         ensures heard { OnErr result

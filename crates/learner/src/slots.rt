@@ -1,6 +1,6 @@
 //! What is known of each slot.
 
-ghost use Rattle.std.specs.Prelude.{◌≡◌, ℕ, ◌≤◌, Some, None, IfOk, OnOk, OnErr};
+ghost use Rattle.std.specs.Prelude.{◌≡◌, ◌≢◌, ℕ, ◌≤◌, Some, None, IfOk, OnOk, OnErr};
 ghost use Rattle.std.specs.Option.{option_copied};
 ghost use Rattle.synod.specs.Records.{put};
 ghost use Rattle.learner.specs.Learning.{unheard};
@@ -33,7 +33,7 @@ impl Slots {
     }
 
     /// The command of a slot that is learnt.
-    pub(super) fn learnt(&self, slot: Slot) -> Option<&Command>
+    pub(super) fn learnt(&self, slot: Slot) -> Option<&Held>
         ensures { option_copied result ≡ learnt_of self.now slot }
     {
         match self.by_slot.get(&slot) {
@@ -57,6 +57,14 @@ impl Slots {
         }
     }
 
+    /// Nothing is known of a slot any more.
+    pub(super) fn forget(&mut self, slot: Slot)
+        ensures learnt { learnt_of self.new ≡ put (learnt_of self.old) slot None }
+        ensures heard { heard_of self.new ≡ put (heard_of self.old) slot unheard }
+    {
+        let _ = self.by_slot.remove(&slot);
+    }
+
     /// A node tells that it voted so. Whether the slot is newly learnt by it.
     pub(super) fn hear(
         &mut self,
@@ -70,6 +78,8 @@ impl Slots {
             learns (learnt_of self.new) (heard_of self.new)) }
         ensures unlearnt { OnErr result (learnt_of self.old vote.now.slot ≡ None) }
         ensures once { OnErr result (heard_of self.old vote.now.slot vote.now.ballot from ≡ None) }
+        ensures first { OnErr result
+            ((a : ℕ) → heard_of self.old vote.now.slot vote.now.ballot a ≢ Some vote.now.command) }
         ensures learnt { OnErr result (learnt_of self.new ≡ learnt_of self.old) }
         ensures heard { OnErr result (heard_of self.new ≡ heard_of self.old) }
     {

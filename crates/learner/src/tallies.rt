@@ -60,6 +60,10 @@ impl Tallies {
             ≡ told_too (told_in self.old.tallies.items) ballot from command.now)) }
         ensures unchanged { OnErr result
             (told_in self.new.tallies.items ≡ told_in self.old.tallies.items) }
+
+        // Only a command that nobody has told yet under the ballot wants memory.
+        ensures first { OnErr result
+            ((a : ℕ) → told_in self.old.tallies.items ballot a ≢ Some command.now) }
     {
         let place = self.position(ballot, command);
         let voters = self.voters_with(place, from);

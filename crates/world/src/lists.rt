@@ -1,8 +1,9 @@
 //! What a world remembers of its run.
 
 use super::round_end::RoundEnd;
+use learner::Held;
 use node::{NodeFault, Text};
-use sessions::{Command, Number};
+use sessions::Number;
 use store::{Op, Query};
 use synod::Slot;
 use wire::NodeId;
@@ -21,7 +22,7 @@ pub struct Submission {
 pub struct Learnt {
     pub node: NodeId,
     pub slot: Slot,
-    pub command: Command,
+    pub command: Held,
 }
 
 /// A reply to a request that waited at a node. Its position is one more than the slot at which it was executed.

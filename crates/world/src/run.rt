@@ -600,7 +600,7 @@ impl<S: Stable> Run<S> {
             let _ = self.learnt.push(Learnt {
                 node,
                 slot,
-                command: command.into_command(),
+                command,
             });
         }
         add_replies(&mut self.replies, node, replies);

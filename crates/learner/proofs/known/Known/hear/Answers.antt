@@ -23,3 +23,6 @@ returns-clause-hears c =
 
 pub returns-clause-unlearnt : goal.returns-clause-unlearnt
 returns-clause-unlearnt c = rw (behind c) c.hear.ensures.unlearnt
+
+pub returns-clause-first : goal.returns-clause-first
+returns-clause-first c = rw (behind c) c.hear.ensures.first

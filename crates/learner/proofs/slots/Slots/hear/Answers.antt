@@ -1,7 +1,7 @@
 use Rattle.std.proofs.Common.{rules}
 use Rattle.std.specs.BTreeMap.{get}
 use Rattle.std.specs.Ordering.{nat_cmp}
-use Rattle.learner.proofs.SlotLemmas.{IsReadAlike, opened, hears_there, learnt_stays, heard_stays, unlearnt_before, unheard_before}
+use Rattle.learner.proofs.SlotLemmas.{IsReadAlike, opened, hears_there, learnt_stays, heard_stays, unlearnt_before, unheard_before, untold_before}
 use Rattle.learner.proofs.slots.Slots.hear.Goals as goal
 
 -- the entry's value is what was known of the slot
@@ -32,3 +32,7 @@ returns-clause-unlearnt c = unlearnt_before _ c.or_insert-place.result.now (alik
 pub returns-clause-once : goal.returns-clause-once
 returns-clause-once c = unheard_before _ c.or_insert-place.result.now (alike c) c.args.vote.now.ballot c.args.from c.hear.result
     c.hear.ensures.once
+
+pub returns-clause-first : goal.returns-clause-first
+returns-clause-first c = untold_before _ c.or_insert-place.result.now (alike c) c.args.vote.now.ballot c.args.vote.now.command c.hear.result
+    c.hear.ensures.first

@@ -2,7 +2,8 @@ use Rattle.std.proofs.Common.{◌≡◌, ◌∙◌, ◌++◌, ◌∷◌, [], ap,
 use Rattle.learner.specs.Learning.{told_too}
 use Rattle.learner.specs.Tallies.{told_in}
 use Rattle.learner.proofs.TallyLemmas.{decides_there, decides_not_there, pushed_or_not, pushed_told, read_there, revised_apart}
-use Rattle.learner.proofs.TallyLemmas.{revised_told}
+use Rattle.learner.proofs.TallyLemmas.{revised_told, told_by_none}
+use Rattle.learner.proofs.SlotLemmas.{where_refused}
 use Rattle.learner.proofs.tallies.Tallies.count.Goals as goal
 
 -- a majority has told it: a tally's command is the one that was told
@@ -83,3 +84,16 @@ returns-in_ok-push-in-None-place-clause-heard c =
           (λ most. let bad : c.is_majority_of.result ≡ true = c.is_majority_of.ensures.1 most in cc),
       ap told_in c.in_ok-push-in-None-place.ensures.items ∙ grown,
     )
+
+-- memory is wanting, where nobody has told the command under the ballot
+pub returns-in_err-command-in-None-place-clause-first : goal.returns-in_err-command-in-None-place-clause-first
+returns-in_err-command-in-None-place-clause-first c =
+    where_refused c.from_residual-in_err-command-in-None-place.result
+    (told_by_none c.args.self.now.tallies.items c.args.ballot c.args.command.now c.position-place.result c.position-place.ensures
+    c.in-None-place.is)
+
+pub returns-in_err-push-in-None-place-clause-first : goal.returns-in_err-push-in-None-place-clause-first
+returns-in_err-push-in-None-place-clause-first c =
+    where_refused c.from_residual-in_err-push-in-None-place.result
+    (told_by_none c.args.self.now.tallies.items c.args.ballot c.args.command.now c.position-place.result c.position-place.ensures
+    c.in-None-place.is)
