@@ -78,6 +78,14 @@ refusing_cases (Some p) b =
       | inr le ↦ inl (rw (le-ltb _ _ le) refl, le)
     ]
 
+-- a ballot that is not refused is no lower than the promise
+pub taken_is_above : (p : Option Ballot) (b : Ballot) → refusing p b ≡ None → rank_of p ≤ rank b
+taken_is_above p b taken =
+    elim (refusing_cases p b) [
+      | inl low ↦ low.1
+      | inr refused ↦ absurd (let is = refused.1 in cc)
+    ]
+
 -- ---- what is written under one key
 -- records that are the same say the same
 pub RecordsSay-same : (r q : Records) (a : Accepting) → ((k : Key) → q k ≡ r k) → RecordsSay r a → RecordsSay q a

@@ -184,7 +184,7 @@ impl Acceptor {
         }
         let promise = self.votes.promise(alloc, ballot, first)?;
         if self.promise != Some(ballot) {
-            storage.put(alloc, Key::Promise, &ballot_record(ballot))?;
+            storage.put(alloc, Key::Promise, ballot_record(ballot).to_vec(alloc)?)?;
         }
         self.promise = Some(ballot);
         Ok(Answer::Promise(promise))

@@ -110,7 +110,7 @@ impl Votes {
         };
         // It takes its place before it is written: after the write nothing may be refused.
         let before = self.by_slot.insert(vote.slot, cast)?;
-        match storage.put(alloc, Key::Vote(vote.slot), &bytes) {
+        match storage.put(alloc, Key::Vote(vote.slot), bytes) {
             Ok(()) => Ok(()),
             Err(fault) => {
                 self.put_back(vote.slot, before);

@@ -1,7 +1,7 @@
 //! Why a proposer did not do what it was asked.
 
 use stable::StableFault;
-use std::alloc::AllocFailed;
+use std::alloc::{AllocError, AllocFailed};
 use std::error::Error;
 use std::fmt;
 
@@ -58,3 +58,14 @@ impl fmt::Display for TimeoutFault {
 }
 
 impl Error for TimeoutFault {}
+
+impl From<AllocError> for TimeoutFault {
+    ghost use Rattle.std.specs.Prelude.{◌≡◌};
+    ghost use Rattle.proposer.specs.declared.fault.TimeoutFault.TheVariants.{Memory};
+
+    ghost from_gives = { λ _ fault. fault ≡ Memory };
+
+    fn from(_: AllocError) -> TimeoutFault {
+        TimeoutFault::Memory
+    }
+}

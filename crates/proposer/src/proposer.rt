@@ -173,7 +173,7 @@ impl Proposer {
             return Err(TimeoutFault::RoundsUsedUp);
         };
         // Written before anybody hears of it: after a restart the round must not be drawn again.
-        match storage.put(alloc, Key::Round, &round_record(round)) {
+        match storage.put(alloc, Key::Round, round_record(round).to_vec(alloc)?) {
             Ok(()) => Ok(self.start(alloc, round, first)),
             Err(StableFault::Memory) => Err(TimeoutFault::Memory),
             // A put finds no damage.

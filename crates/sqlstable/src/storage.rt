@@ -25,7 +25,8 @@ pub struct SqlStable<S: Alter> {
 }
 
 impl<S: Alter> SqlStable<S> {
-    ghost use Rattle.std.specs.Prelude.{◌≡◌, ◌≢◌, ◌<◌, Some, IsSome, unwrap_or};
+    ghost use Rattle.std.specs.Prelude.{◌≡◌, ◌≢◌, ◌<◌, Some, IsSome, unwrap_or, OnOk, IsErrOf};
+    ghost use Rattle.sqlstable.specs.Storage.{Puts, ReadFails, Reads};
 
     // A connection whose table is settled, with no failure yet.
     pub(crate) fn holding(connection: Connection<S>) -> SqlStable<S>
@@ -65,6 +66,22 @@ impl<S: Alter> SqlStable<S> {
         }
         fault
     }
+
+    // Makes the key hold these bytes, and leaves every other key.
+    fn store(&mut self, key: Key, bytes: &[u8]) -> Result<(), StableFault>
+        ensures ok { OnOk result (Puts S.Store self.old key bytes.now self.new) }
+
+        // Each error.
+        ensures device { IsErrOf result StableFault.Device → ReadFails S.Store self.old self.new }
+        ensures memory { IsErrOf result StableFault.Memory → Reads S.Store self.old self.new }
+        ensures not_damaged { ¬ IsErrOf result StableFault.Damaged }
+    {
+        let (spelled, length) = spelling(key);
+        match write(&mut self.connection, &spelled[..length], bytes) {
+            Ok(_) => Ok(()),
+            Err(refusal) => Err(self.blame(&refusal)),
+        }
+    }
 }
 
 impl<S: Alter> Stable for SqlStable<S> {
@@ -100,12 +117,8 @@ impl<S: Alter> Stable for SqlStable<S> {
         }
     }
 
-    fn put(&mut self, alloc: Global, key: Key, bytes: &[u8]) -> Result<(), StableFault> {
-        let (spelled, length) = spelling(key);
-        match write(&mut self.connection, &spelled[..length], bytes) {
-            Ok(_) => Ok(()),
-            Err(refusal) => Err(self.blame(&refusal)),
-        }
+    fn put(&mut self, alloc: Global, key: Key, bytes: Vec<u8>) -> Result<(), StableFault> {
+        self.store(key, bytes.as_slice())
     }
 
     fn keys(&mut self, alloc: Global) -> Result<Vec<Key>, StableFault> {

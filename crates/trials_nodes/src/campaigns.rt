@@ -597,7 +597,7 @@ fn damaged_rounds_are_refused(rt: HostRuntime) -> Result<(), Fail> {
     let nodes = Nodes::new(3).ok_or("nodes")?;
     for bytes in DAMAGED {
         let mut storage = MemStable::new(rt.alloc());
-        storage.put(rt.alloc(), Key::Round, bytes)?;
+        storage.put(rt.alloc(), Key::Round, bytes.to_vec(rt.alloc())?)?;
         let fault = load_fault(rt.alloc(), &mut storage, id, nodes);
         assert_eq!(rt; fault, Some(StableFault::Damaged), "at {bytes:?}");
     }

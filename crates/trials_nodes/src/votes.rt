@@ -323,11 +323,9 @@ const DAMAGED: [(bool, &[u8]); 10] = [
 ];
 
 #[test]
-fn damaged_records_are_refused(rt: HostRuntime) {
+fn damaged_records_are_refused(rt: HostRuntime) -> Result<(), Fail> {
     let alloc = rt.alloc();
-    let Some(slot) = Slot::new(0) else {
-        return assert!(rt; false, "a slot");
-    };
+    let slot = Slot::first();
     for (of_a_vote, bytes) in DAMAGED {
         let mut storage = MemStable::new(alloc);
         let key = if of_a_vote {
@@ -335,10 +333,11 @@ fn damaged_records_are_refused(rt: HostRuntime) {
         } else {
             Key::Promise
         };
-        assert!(rt; storage.put(alloc, key, bytes).is_ok(), "at {bytes:?}");
+        storage.put(alloc, key, bytes.to_vec(alloc)?)?;
         let fault = Acceptor::load(alloc, &mut storage).err();
         assert_eq!(rt; fault, Some(StableFault::Damaged), "at {bytes:?}");
     }
+    Ok(())
 }
 
 /// The record of a vote whose request puts `bus-7` first at one instant and then at another.
@@ -361,7 +360,11 @@ fn instants_ascend_in_records(rt: HostRuntime) -> Result<(), Fail> {
     for (first, second, ascend) in INSTANTS {
         let mut storage = MemStable::new(rt.alloc());
         let bytes = record_of_put(first, second);
-        storage.put(rt.alloc(), Key::Vote(Slot::first()), &bytes)?;
+        storage.put(
+            rt.alloc(),
+            Key::Vote(Slot::first()),
+            bytes.to_vec(rt.alloc())?,
+        )?;
         let fault = Acceptor::load(rt.alloc(), &mut storage).err();
         let expected = if ascend {
             None

@@ -12,6 +12,16 @@ fn vote(slot: u32) -> Key {
     }
 }
 
+// Puts a copy of these bytes.
+fn put<S: Stable>(
+    alloc: Global,
+    storage: &mut S,
+    key: Key,
+    bytes: &[u8],
+) -> Result<(), StableFault> {
+    storage.put(alloc, key, bytes.to_vec(alloc)?)
+}
+
 // Whether the key holds these bytes.
 fn holds<S: Stable>(
     alloc: Global,
@@ -28,11 +38,11 @@ fn holds<S: Stable>(
 // Whether a storage that was empty keeps what is put, under ascending keys.
 fn keeps_records<S: Stable>(alloc: Global, storage: &mut S) -> Result<bool, StableFault> {
     let empty = storage.keys(alloc)?.is_empty();
-    storage.put(alloc, vote(7), b"de")?;
-    storage.put(alloc, Key::Round, b"")?;
-    storage.put(alloc, vote(0), b"f")?;
-    storage.put(alloc, Key::Promise, b"abc")?;
-    storage.put(alloc, vote(7), b"g")?;
+    put(alloc, storage, vote(7), b"de")?;
+    put(alloc, storage, Key::Round, b"")?;
+    put(alloc, storage, vote(0), b"f")?;
+    put(alloc, storage, Key::Promise, b"abc")?;
+    put(alloc, storage, vote(7), b"g")?;
     let keys = storage.keys(alloc)?;
     let ascending = keys.as_slice() == [Key::Promise, Key::Round, vote(0), vote(7)].as_slice();
     let absent = storage.get(alloc, vote(65_535))?.is_none();
@@ -86,7 +96,7 @@ fn armed_puts_fail_once(rt: HostRuntime) {
             storage.arm(*failing);
         }
         assert_eq!(rt;
-            storage.put(alloc, Key::Promise, bytes),
+            put(alloc, &mut storage, Key::Promise, bytes),
             answer,
             "at {bytes:?}"
         );
@@ -114,7 +124,7 @@ fn an_armed_read_fails_once_and_a_put_leaves_it(rt: HostRuntime) {
     let mut storage = Scripted::new(alloc, MemStable::new(alloc));
     storage.arm(Failing::Old);
     storage.arm(Failing::Read);
-    assert_eq!(rt; storage.put(alloc, Key::Round, b"a"), Ok(()));
+    assert_eq!(rt; put(alloc, &mut storage, Key::Round, b"a"), Ok(()));
     assert_eq!(rt; holds(alloc, &mut storage, Key::Round, b"a"), Ok(true));
     assert_eq!(rt; listed(alloc, &mut storage), Err(StableFault::Device));
     assert_eq!(rt; listed(alloc, &mut storage), Ok(1));
@@ -128,8 +138,8 @@ fn keys_leave_an_armed_put(rt: HostRuntime) {
     storage.arm(Failing::Read);
     storage.arm(Failing::Old);
     assert_eq!(rt; listed(alloc, &mut storage), Ok(0));
-    assert_eq!(rt; storage.put(alloc, Key::Round, b"a"), DEVICE);
-    assert_eq!(rt; storage.put(alloc, Key::Round, b"a"), Ok(()));
+    assert_eq!(rt; put(alloc, &mut storage, Key::Round, b"a"), DEVICE);
+    assert_eq!(rt; put(alloc, &mut storage, Key::Round, b"a"), Ok(()));
 }
 
 // How the storage inside fails, and how many puts are listed after the next load.
@@ -143,7 +153,7 @@ fn an_unsure_put_is_listed_where_a_load_finds_it(rt: HostRuntime) {
         inside.arm(failing);
         let mut storage = Scripted::new(alloc, inside);
         assert_eq!(rt;
-            storage.put(alloc, Key::Round, b"a"),
+            put(alloc, &mut storage, Key::Round, b"a"),
             DEVICE,
             "at {failing:?}"
         );
@@ -151,7 +161,7 @@ fn an_unsure_put_is_listed_where_a_load_finds_it(rt: HostRuntime) {
         assert!(rt; storage.keys(alloc).is_ok(), "at {failing:?}");
         assert_eq!(rt; storage.puts().len(), listed, "at {failing:?}");
         assert_eq!(rt;
-            storage.put(alloc, Key::Round, b"b"),
+            put(alloc, &mut storage, Key::Round, b"b"),
             Ok(()),
             "at {failing:?}"
         );

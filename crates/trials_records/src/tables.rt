@@ -16,6 +16,16 @@ fn vote(slot: u32) -> Key {
     }
 }
 
+// Puts a copy of these bytes.
+fn put<S: Stable>(
+    alloc: Global,
+    storage: &mut S,
+    key: Key,
+    bytes: &[u8],
+) -> Result<(), StableFault> {
+    storage.put(alloc, key, bytes.to_vec(alloc)?)
+}
+
 // Whether the key holds these bytes.
 fn holds<S: Stable>(
     alloc: Global,
@@ -31,11 +41,11 @@ fn holds<S: Stable>(
 
 // Puts five records, the last in the place of the first.
 fn fill<S: Stable>(alloc: Global, storage: &mut S) -> Result<(), StableFault> {
-    storage.put(alloc, vote(700), b"de")?;
-    storage.put(alloc, Key::Round, b"")?;
-    storage.put(alloc, vote(0), b"f")?;
-    storage.put(alloc, Key::Promise, b"abc")?;
-    storage.put(alloc, vote(700), b"g")
+    put(alloc, storage, vote(700), b"de")?;
+    put(alloc, storage, Key::Round, b"")?;
+    put(alloc, storage, vote(0), b"f")?;
+    put(alloc, storage, Key::Promise, b"abc")?;
+    put(alloc, storage, vote(700), b"g")
 }
 
 // Whether a storage holds what `fill` puts, under ascending keys.
@@ -80,7 +90,10 @@ fn an_armed_put_over_it_writes(rt: HostRuntime) {
     };
     let mut storage = Scripted::new(alloc, inner);
     storage.arm(Failing::New);
-    assert_eq!(rt; storage.put(alloc, vote(1), b"h"), Err(StableFault::Device));
+    assert_eq!(rt;
+        put(alloc, &mut storage, vote(1), b"h"),
+        Err(StableFault::Device)
+    );
     assert_eq!(rt; holds(alloc, &mut storage, vote(1), b"h"), Ok(true));
 }
 
@@ -123,7 +136,7 @@ fn a_write_that_the_disk_refuses_is_told(rt: HostRuntime) {
         return;
     };
     for slot in 0..200 {
-        if let Err(fault) = storage.put(alloc, vote(slot), b"a") {
+        if let Err(fault) = put(alloc, &mut storage, vote(slot), b"a") {
             assert_eq!(rt; fault, StableFault::Device);
             return;
         }

@@ -157,7 +157,7 @@ fn damaged(alloc: Global, key: Key) -> Result<Member, Fail> {
     let nodes = Nodes::new(3).ok_or("nodes")?;
     let id = node_id(0)?;
     let mut records = MemStable::new(alloc);
-    records.put(alloc, key, b"\x00\x00\x00\x00\x00\x00\x00\x00")?;
+    records.put(alloc, key, [0u8; 8].to_vec(alloc)?)?;
     Ok(Node::start(alloc, Scripted::new(alloc, records), id, nodes))
 }
 

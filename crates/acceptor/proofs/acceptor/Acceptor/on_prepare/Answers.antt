@@ -2,7 +2,19 @@ use Rattle.std.proofs.Common.{rules, ◌≡◌, None, refl, arith}
 use Rattle.acceptor.specs.Accepting.{refusing, TellsFrom}
 use Rattle.acceptor.specs.State.{accepting_of}
 use Rattle.acceptor.specs.declared.answer.Answer.TheVariants.{Promise}
+use Rattle.acceptor.proofs.RecordLemmas.{taken_is_above}
 use Rattle.acceptor.proofs.acceptor.Acceptor.on_prepare.Goals as goal
+
+-- no vote is of a ballot above the one that is promised now
+pub invariant_of-self : goal.invariant_of-self
+invariant_of-self g c = record {
+  bounded = λ s v held.
+      let promise = c.args.self.now.promise in
+      let taken : refusing promise c.args.ballot ≡ None = search rules in
+      let above = taken_is_above promise c.args.ballot taken in
+      let below = c.args.self.now.bounded s v held in
+      omega arith;
+}
 
 -- no greater ballot is promised, so the votes are told
 pub returns-clause-answer : goal.returns-clause-answer

@@ -17,8 +17,8 @@ returns-in-Ok-clause-votes g c = λ s.
     ∙ votes-put (cast_at c.args.self.now) cast vote same s
 
 -- what took its place is taken back
-pub returns-clause-unchanged : goal.returns-clause-unchanged
-returns-clause-unchanged g c = λ s.
+pub returns-in-Err-clause-unchanged : goal.returns-in-Err-clause-unchanged
+returns-in-Err-clause-unchanged g c = λ s.
     let slot = c.args.vote.now.slot in
     let held : Votes = record { by_slot = c.insert.new.self } in
     let back = put_and_back (cast_at c.args.self.now) (cast_at held) (cast_at c.put_back.new.self)

@@ -1,12 +1,11 @@
-use Rattle.std.proofs.Common.{rules, ◌≡◌}
+use Rattle.std.proofs.Common.{refl}
 use Rattle.stable.proofs.MemoryLemmas.{vote_stored, same_stored}
 use Rattle.stable.proofs.memory.MemStableStable.put.Goals as goal
 
 -- a vote
 pub returns-in_ok-insert-in-Vote-clause-ok : goal.returns-in_ok-insert-in-Vote-clause-ok
 returns-in_ok-insert-in-Vote-clause-ok c =
-    let copied : c.in_ok-copy.copy.items ≡ c.args.bytes.now = search rules in
-    vote_stored c.args.self.now c.insert.new.self c.in-Vote.slot c.in_ok-copy.copy c.args.key c.args.bytes.now c.in-Vote.is copied
+    vote_stored c.args.self.now c.insert.new.self c.in-Vote.slot c.args.bytes c.args.key c.args.bytes.items c.in-Vote.is refl
     c.in_ok-insert-in-Vote.ensures.stands
 
 pub returns-in_err-insert-in-Vote-clause-memory : goal.returns-in_err-insert-in-Vote-clause-memory

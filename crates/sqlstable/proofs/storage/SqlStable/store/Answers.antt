@@ -4,7 +4,7 @@ use Rattle.sqlite.specs.Held.{state}
 use Rattle.sqlstable.specs.States.{table}
 use Rattle.sqlstable.specs.Rows.{PutsRow}
 use Rattle.sqlstable.proofs.Calls.{put_made, read_made, read_failed}
-use Rattle.sqlstable.proofs.storage.SqlStableStable.put.Goals as goal
+use Rattle.sqlstable.proofs.storage.SqlStable.store.Goals as goal
 
 pub invariant_of-self : goal.invariant_of-self
 invariant_of-self g c = record { settled = ∥∥₁_map c.args.self.now.settled c.write.ensures.follows.settled }
