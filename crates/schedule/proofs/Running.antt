@@ -1,7 +1,6 @@
 -- Doing line by line.
-use Rattle.std.proofs.Common.{◌≡◌, ◌⊎◌, inl, inr, ℕ, List, length, sym, ap, ◌∙◌, subst, Result, Ok, Err, IfOk}
+use Rattle.std.proofs.Common.{◌≡◌, ◌⊎◌, inl, inr, ℕ, List, length, refl, sym, ap, ◌∙◌, subst, Result, Ok, Err, IfOk}
 use Rattle.std.proofs.Common.{IfErr, IsErrOf}
-use Rattle.std.specs.Global.{Vec}
 use Rattle.stable.specs.Script.{Script}
 use Rattle.stable.specs.Storages.{scripted}
 use Rattle.stable.specs.declared.stable.Stable.{Ghosts}
@@ -12,6 +11,7 @@ use Rattle.world.specs.declared.log.TheConstants.{MOST_DELIVERIES}
 use Rattle.world.specs.declared.round_end.RoundEnd.{RoundEnd}
 use Rattle.world.specs.Rounds.{IsPartOfRound, NamesNoMember, RoundEnds}
 use Rattle.world.specs.Waiting.{OneWaits}
+use Rattle.world.specs.Seen.{world_of}
 use Rattle.world.specs.Starting.{AreOver, OneIsUsed}
 use Rattle.world.specs.Staying.{StaysSafe}
 use Rattle.world.specs.Worlds.{WorldState}
@@ -25,6 +25,7 @@ use Rattle.schedule.specs.declared.plan.ScheduleLine.{ScheduleLine}
 use Rattle.schedule.specs.declared.replay_fault.ReplayCause.{ReplayCause}
 use Rattle.schedule.specs.declared.replay_fault.ReplayFault.{ReplayFault}
 use Rattle.schedule.specs.declared.replay_fault.ReplayCause.TheVariants.{Memory}
+use Rattle.schedule.specs.declared.replayed.Replayed.{Replayed}
 
 abbrev failed : WorldFault → Result ℕ WorldFault
 failed fault = Err fault
@@ -66,40 +67,39 @@ module _ {S : Type 0} (storages : Ghosts (Script S)) where
       subst (λ (f : WorldFault). IsRefused storages (Round node members) old (cause_of f) new) (sym e)
       (subst (λ (ms : List ℕ). IsPartOfRound storages old node ms new) same (memory (ap broken_off e)))
 
-  -- the transcript after all lines
+  -- the transcript after all lines, and the world
   pub runs_to : (IsHonest : S → Type 0) (plan : Plan) (lines : List ScheduleLine) (start end : WorldState S) (text : List ℕ) → lines
       ≡ plan.lines
       → Leads storages lines start end → text ≡ told_of end
       → StaysSafe storages IsHonest end
-      → RunsTo storages IsHonest plan start text
-  runs_to IsHonest plan lines start end text same led told safe = record {
-    end = end;
-    led = subst (λ (ls : List ScheduleLine). Leads storages ls start end) same led;
-    told = told;
-    safe = safe;
-  }
+      → (run : RunsTo storages IsHonest plan start text) × (run.end ≡ end)
+  runs_to IsHonest plan lines start end text same led told safe = (
+    record {
+      end = end;
+      led = subst (λ (ls : List ScheduleLine). Leads storages ls start end) same led;
+      told = told;
+      safe = safe;
+    },
+    refl,
+  )
 
-  -- a run over storages that are always honest is a replay of what spells it
+  -- a run over storages that are always honest is a replay of what spells it, which ends in the same world
   pub replayed : (IsHonest : S → Type 0) (bytes : List ℕ) (plan : Plan) (start : WorldState S) (text : List ℕ) → ((s : S) → IsHonest s)
-      → IsScheduleOf bytes plan → IsStart storages plan.nodes start → RunsTo storages IsHonest plan start text
-      → IsReplay storages bytes text
-  replayed IsHonest bytes plan start text always spelled starts runs = record {
-    plan = plan;
-    spelled = spelled;
-    start = start;
-    starts = starts;
-    end = runs.end;
-    led = runs.led;
-    told = runs.told;
-    safe = runs.safe (λ i n e. always n.storage.inner);
-  }
-
-  pub all_replayed : (IsHonest : S → Type 0) (bytes : List ℕ) (plan : Plan) (start : WorldState S) (result : Result (Vec ℕ) ReplayFault)
-      → ((s : S) → IsHonest s) → IsScheduleOf bytes plan → IsStart storages plan.nodes start
-      → IfOk result (λ text. RunsTo storages IsHonest plan start text.items) → IfOk result (λ text. IsReplay storages bytes text.items)
-  all_replayed IsHonest bytes plan start (Ok text) always spelled starts runs = replayed IsHonest bytes plan start text.items always spelled
-      starts runs
-  all_replayed IsHonest bytes plan start (Err fault) always spelled starts runs = tt
+      → IsScheduleOf bytes plan → IsStart storages plan.nodes start → (run : RunsTo storages IsHonest plan start text)
+      → (replay : IsReplay storages bytes text) × (replay.end ≡ run.end)
+  replayed IsHonest bytes plan start text always spelled starts run = (
+    record {
+      plan = plan;
+      spelled = spelled;
+      start = start;
+      starts = starts;
+      end = run.end;
+      led = run.led;
+      told = run.told;
+      safe = run.safe (λ i n e. always n.storage.inner);
+    },
+    refl,
+  )
 
   -- a line isn't done
   pub run_ends_at : (IsHonest : S → Type 0) (plan : Plan) (lines : List ScheduleLine) (start end : WorldState S) (fault : ReplayFault)
@@ -140,29 +140,48 @@ module _ {S : Type 0} (storages : Ghosts S) (stores : List S) (plan : Plan) wher
   begins_none fault cause line same first used (inr e) = no_world (same ∙ ap cause_of e) first
 
   -- a run from where these storages lead
-  pub runs_over : (start : WorldState S) (result : Result (Vec ℕ) ReplayFault) → IsStart (scripted storages) plan.nodes start
+  pub runs_over : (start : WorldState S) (result : Result (Replayed S storages) ReplayFault) → IsStart (scripted storages) plan.nodes start
       → AreOver storages stores start.nodes
-      → IfOk result (λ text. RunsTo (scripted storages) storages.IsHonest plan start text.items)
-      → IfOk result (λ text. IsRunOver storages stores plan text.items)
-  runs_over start (Ok text) starts over runs = record { start = start; starts = starts; over = over; runs = runs }
+      → IfOk result (λ r. RunsTo (scripted storages) storages.IsHonest plan start r.text.items)
+      → IfOk result (λ r. IsRunOver storages stores plan r.text.items)
+  runs_over start (Ok r) starts over runs = record { start = start; starts = starts; over = over; runs = runs }
   runs_over start (Err fault) starts over runs = tt
 
-  pub fails_over : (start : WorldState S) (result : Result (Vec ℕ) ReplayFault) → IsStart (scripted storages) plan.nodes start
+  -- and the world in which it ended
+  pub ended_over : (start : WorldState S) (result : Result (Replayed S storages) ReplayFault) → IsStart (scripted storages) plan.nodes start
+      → AreOver storages stores start.nodes
+      → IfOk result (λ r. (run : RunsTo (scripted storages) storages.IsHonest plan start r.text.items) × (run.end ≡ world_of r.world))
+      → IfOk result (λ r. (run : IsRunOver storages stores plan r.text.items) × (run.runs.end ≡ world_of r.world))
+  ended_over start (Ok r) starts over (run, same) = (record { start = start; starts = starts; over = over; runs = run }, same)
+  ended_over start (Err fault) starts over ended = tt
+
+  pub fails_over : (start : WorldState S) (result : Result (Replayed S storages) ReplayFault) → IsStart (scripted storages) plan.nodes start
       → AreOver storages stores start.nodes
       → IfErr result (RunFails (scripted storages) storages.IsHonest plan start) → IfErr result (EndsOver storages stores plan)
-  fails_over start (Ok text) starts over fails = fails
+  fails_over start (Ok r) starts over fails = fails
   fails_over start (Err fault) starts over fails = no_end start starts over fails
 
   -- over storages that are always honest it is a replay of what spells the plan
-  pub over_replayed : (bytes : List ℕ) (result : Result (Vec ℕ) ReplayFault) → ((s : S) → storages.IsHonest s) → IsScheduleOf bytes plan
-      → IfOk result (λ text. IsRunOver storages stores plan text.items) → IfOk result
-      (λ text. IsReplay (scripted storages) bytes text.items)
-  over_replayed bytes (Ok text) always spelled run =
-      replayed (scripted storages) storages.IsHonest bytes plan run.start text.items always spelled run.starts run.runs
+  pub over_replayed : (bytes : List ℕ) (result : Result (Replayed S storages) ReplayFault) → ((s : S) → storages.IsHonest s)
+      → IsScheduleOf bytes plan → IfOk result (λ r. IsRunOver storages stores plan r.text.items)
+      → IfOk result (λ r. IsReplay (scripted storages) bytes r.text.items)
+  over_replayed bytes (Ok r) always spelled run =
+      (replayed (scripted storages) storages.IsHonest bytes plan run.start r.text.items always spelled run.starts run.runs).0
   over_replayed bytes (Err fault) always spelled run = tt
 
+  -- and the world is that in which the replay ended
+  pub over_ended : (bytes : List ℕ) (result : Result (Replayed S storages) ReplayFault) → ((s : S) → storages.IsHonest s)
+      → IsScheduleOf bytes plan
+      → IfOk result (λ r. (run : IsRunOver storages stores plan r.text.items) × (run.runs.end ≡ world_of r.world))
+      → IfOk result (λ r. (replay : IsReplay (scripted storages) bytes r.text.items) × (replay.end ≡ world_of r.world))
+  over_ended bytes (Ok r) always spelled (run, same) =
+      let replay = replayed (scripted storages) storages.IsHonest bytes plan run.start r.text.items always spelled run.starts run.runs in
+      (replay.0, replay.1 ∙ same)
+  over_ended bytes (Err fault) always spelled ended = tt
+
   -- and over such as hold no record it ends as a replay does
-  pub over_ends : (bytes : List ℕ) (result : Result (Vec ℕ) ReplayFault) → ((s : S) → storages.IsHonest s) → IsScheduleOf bytes plan
+  pub over_ends : (bytes : List ℕ) (result : Result (Replayed S storages) ReplayFault) → ((s : S) → storages.IsHonest s)
+      → IsScheduleOf bytes plan
       → (OneIsUsed storages stores → ⊥) → IfErr result (EndsOver storages stores plan)
       → IfErr result (ReplayEnds (scripted storages) bytes)
   over_ends bytes (Ok text) always spelled unused ends = ends

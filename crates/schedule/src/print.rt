@@ -45,7 +45,7 @@ fn print_entry(text: &mut Vec<u8>, learnt: &Learnt) -> io::Result<()>
 {
     let node = learnt.node.value();
     let slot = learnt.slot.value();
-    match &learnt.command {
+    match learnt.command.command() {
         Command::NoOp => writeln!(text, "learn {node} {slot} noop"),
         Command::Request(request) => {
             let client = request.client();

@@ -13,12 +13,13 @@ use super::action::Action;
 use super::parse::parse_schedule;
 use super::plan::{Schedule, ScheduleLine};
 use super::replay_fault::{ReplayCause, ReplayFault};
+use super::replayed::Replayed;
 use super::report::transcript;
 use stable::{MemStable, Scripted, Stable};
 use std::alloc::{AllocError, Global};
 use world::{World, WorldFault, fresh_stores};
 
-/// The transcript of the run that the bytes spell, over records in memory.
+/// The run that the bytes spell, over records in memory: its transcript, and the world in which it ends.
 ///
 /// The run is safe, to the end or to the line that ends it: records in memory are always honest, whatever faults the
 /// schedule arms.
@@ -28,8 +29,12 @@ use world::{World, WorldFault, fresh_stores};
 /// the limit; or the line that was reached when memory was wanting. That is the line which was
 /// parsed or done just then, the first line of the schedule for the start of the nodes, and the last
 /// one for the transcript.
-pub fn replay(alloc: Global, bytes: &[u8]) -> Result<Vec<u8>, ReplayFault>
-    ensures transcript { IfOk result (λ text. IsReplay (⟦<Scripted<MemStable> as Stable>⟧) bytes.now text.items) }
+pub fn replay(alloc: Global, bytes: &[u8]) -> Result<Replayed<MemStable>, ReplayFault>
+    ensures transcript { IfOk result (λ replayed.
+        IsReplay (⟦<Scripted<MemStable> as Stable>⟧) bytes.now replayed.text.items) }
+    ensures ended { IfOk result (λ replayed.
+        (replay : IsReplay (⟦<Scripted<MemStable> as Stable>⟧) bytes.now replayed.text.items)
+        × (replay.end ≡ world_of replayed.world)) }
     ensures fault { IfErr result (ReplayEnds (⟦<Scripted<MemStable> as Stable>⟧) bytes.now) }
     ensures nodes_are_there { IfErr result (λ fault. fault.cause ≢ ReplayCause.NoSuchNode) }
 {
@@ -46,7 +51,8 @@ pub fn replay(alloc: Global, bytes: &[u8]) -> Result<Vec<u8>, ReplayFault>
     run(alloc, schedule, stores)
 }
 
-/// The transcript of the schedule's run over these storages, one for each of its nodes, in their order.
+/// The schedule's run over these storages, one for each of its nodes, in their order: its transcript, and the world in
+/// which it ends, with the storages in it.
 ///
 /// `NotEmpty` where one of them holds a record already; all of them were only read then. As long as the storages are honest
 /// the run is safe, to the end or to the line that ends it.
@@ -54,9 +60,12 @@ pub fn run<S: Stable + Drop>(
     alloc: Global,
     schedule: Schedule,
     stores: Vec<S>,
-) -> Result<Vec<u8>, ReplayFault>
+) -> Result<Replayed<S>, ReplayFault>
     requires one_each { vec_len stores ≡ schedule.nodes }
-    ensures transcript { IfOk result (λ text. IsRunOver S.Stable stores.items schedule text.items) }
+    ensures transcript { IfOk result (λ replayed. IsRunOver S.Stable stores.items schedule replayed.text.items) }
+    ensures ended { IfOk result (λ replayed.
+        (run : IsRunOver S.Stable stores.items schedule replayed.text.items)
+        × (run.runs.end ≡ world_of replayed.world)) }
     ensures fault { IfErr result (EndsOver S.Stable stores.items schedule) }
 {
     let world = start(alloc, &schedule, stores)?;
@@ -84,7 +93,7 @@ fn start<S: Stable + Drop>(
     }
 }
 
-/// The transcript of all that happened in the world once the schedule's lines are done in it.
+/// The world once the schedule's lines are done in it, and the transcript of all that happened there.
 ///
 /// The world may have any storages, and any past, which stands in the transcript too. As long as the storages inside
 /// are honest the world is safe in which the run ends, with a fault as without.
@@ -92,9 +101,12 @@ pub fn run_lines<S: Stable + Drop>(
     alloc: Global,
     schedule: Schedule,
     world: World<S>,
-) -> Result<Vec<u8>, ReplayFault>
-    ensures transcript { IfOk result (λ text.
-        RunsTo (⟦<Scripted<S> as Stable>⟧) S.IsHonest schedule (world_of world) text.items) }
+) -> Result<Replayed<S>, ReplayFault>
+    ensures transcript { IfOk result (λ replayed.
+        RunsTo (⟦<Scripted<S> as Stable>⟧) S.IsHonest schedule (world_of world) replayed.text.items) }
+    ensures ended { IfOk result (λ replayed.
+        (run : RunsTo (⟦<Scripted<S> as Stable>⟧) S.IsHonest schedule (world_of world) replayed.text.items)
+        × (run.end ≡ world_of replayed.world)) }
     ensures fault { IfErr result
         (RunFails (⟦<Scripted<S> as Stable>⟧) S.IsHonest schedule (world_of world)) }
 {
@@ -102,7 +114,7 @@ pub fn run_lines<S: Stable + Drop>(
     let last = schedule.last();
     do_lines(alloc, &mut world, schedule.into_lines())?;
     match world_transcript(alloc, &world) {
-        Ok(text) => Ok(text),
+        Ok(text) => Ok(Replayed { text, world }),
         Err(_) => Err(ReplayFault {
             line: last,
             cause: ReplayCause::Memory,

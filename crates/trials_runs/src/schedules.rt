@@ -1,8 +1,8 @@
 //! Lines of schedules with their faults and their events, and schedules with their transcripts.
 
 use schedule::{
-    Action, Members, ParseFault, ReplayCause, ReplayFault, ScheduleFault, faulty_is_no_schedule,
-    first_faults_are_one, parse_schedule, replay, run, schedules_are_one,
+    Action, Members, ParseFault, ReplayCause, ReplayFault, Replayed, ScheduleFault,
+    faulty_is_no_schedule, first_faults_are_one, parse_schedule, replay, run, schedules_are_one,
 };
 use sessions::Number;
 use stable::{Failing, Key, MemStable, Stable};
@@ -574,8 +574,8 @@ deliver 9\ndeliver 10",
 #[test]
 fn replays(rt: HostRuntime) -> Result<(), Fail> {
     for (file, transcript) in TOLD {
-        let text = replay(rt.alloc(), file).ok().ok_or("a transcript")?;
-        assert!(rt; text.as_slice() == transcript, "of {file:?}");
+        let replayed = replay(rt.alloc(), file).ok().ok_or("a transcript")?;
+        assert!(rt; replayed.text.as_slice() == transcript, "of {file:?}");
     }
     for (file, line, number) in ENDED {
         let fault = replay(rt.alloc(), file).err().ok_or("a fault")?;
@@ -589,13 +589,16 @@ fn replays(rt: HostRuntime) -> Result<(), Fail> {
 }
 
 // A schedule over records in memory of its own, of which one node's hold something, where that is wanted.
-fn run_over_records(alloc: Global, used: bool) -> Result<Result<Vec<u8>, ReplayFault>, Fail> {
+fn run_over_records(
+    alloc: Global,
+    used: bool,
+) -> Result<Result<Replayed<MemStable>, ReplayFault>, Fail> {
     let schedule = parse_schedule(alloc, TOLD[1].0).ok().ok_or("a schedule")?;
     let mut stores = Vec::new(alloc);
     for _ in 0..schedule.nodes().count() {
         let mut store = MemStable::new(alloc);
-        if used && store.put(alloc, Key::Promise, b"012345678").is_err() {
-            return Err(Fail::from("a record"));
+        if used {
+            store.put(alloc, Key::Promise, b"012345678".to_vec(alloc)?)?;
         }
         stores.push(store)?;
     }
@@ -609,8 +612,8 @@ fn run_over_records(alloc: Global, used: bool) -> Result<Result<Vec<u8>, ReplayF
 #[test]
 fn runs_over_records(rt: HostRuntime) -> Result<(), Fail> {
     let alloc = rt.alloc();
-    let text = run_over_records(alloc, false)?.ok().ok_or("a transcript")?;
-    assert!(rt; text.as_slice() == TOLD[1].1);
+    let replayed = run_over_records(alloc, false)?.ok().ok_or("a transcript")?;
+    assert!(rt; replayed.text.as_slice() == TOLD[1].1);
     let fault = run_over_records(alloc, true)?.err().ok_or("a fault")?;
     assert_eq!(rt; (fault.line, fault.cause), (1, ReplayCause::NotEmpty));
     Ok(())

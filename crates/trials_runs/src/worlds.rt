@@ -105,7 +105,7 @@ fn one_request(rt: HostRuntime) -> Result<(), Fail> {
     assert_eq!(rt; writes, [Some(3), Some(2), Some(2), None]);
     assert!(rt; is_answered(&world));
     let first = world.frames().first().ok_or("a frame")?;
-    assert!(rt; first.bytes() == PREPARE.as_slice());
+    assert!(rt; first.bytes(rt.alloc())?.as_slice() == PREPARE.as_slice());
     Ok(())
 }
 
@@ -174,7 +174,7 @@ fn laws_run_nothing() {
 fn records(alloc: Global, used: bool) -> Result<MemStable, Fail> {
     let mut store = MemStable::new(alloc);
     if used {
-        store.put(alloc, Key::Round, b"01234567")?;
+        store.put(alloc, Key::Round, b"01234567".to_vec(alloc)?)?;
     }
     Ok(store)
 }

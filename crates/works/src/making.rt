@@ -12,13 +12,16 @@ use cluster::{Cluster, Transport};
 use endings::Failure;
 use loopback::run_through;
 use mfjson::Feature;
-use schedule::{ReplayFault, Schedule, parse_schedule, replay, run};
+use schedule::{ReplayFault, Replayed, Schedule, parse_schedule, replay, run};
 use stable::{MemStable, Scripted, Stable};
 use std::alloc::{AllocError, Global};
+use std::mem;
 use wire::Nodes;
 use world::World;
 
 /// The transcript of the schedule that the bytes spell, run over records in memory.
+///
+/// The memory of the world in which the run ended is not given back: it is kept until the process ends.
 pub fn transcript(alloc: Global, bytes: &[u8]) -> Result<Vec<u8>, Failure>
     ensures replay { IfOk result (λ text.
         IsReplay (⟦<Scripted<MemStable> as Stable>⟧) bytes.now text.items) }
@@ -26,7 +29,12 @@ pub fn transcript(alloc: Global, bytes: &[u8]) -> Result<Vec<u8>, Failure>
         → ReplayStops (⟦<Scripted<MemStable> as Stable>⟧) bytes.now failure) }
 {
     match replay(alloc, bytes) {
-        Ok(text) => Ok(text),
+        // The process that asks for a transcript ends with it, and the system takes back at once all that it holds. Giving
+        // back hundreds of thousands of frames one by one would cost a good part of the run's time.
+        Ok(Replayed { text, world }) => {
+            mem::forget(world);
+            Ok(text)
+        }
         Err(fault) => Err(replay_failure(fault)),
     }
 }
@@ -54,7 +62,8 @@ pub fn planned(alloc: Global, bytes: &[u8]) -> Result<Schedule, Failure>
     }
 }
 
-/// The transcript of the schedule's run over these storages, one for each of its nodes.
+/// The transcript of the schedule's run over these storages, one for each of its nodes, which are dropped with their world, and so
+/// closed, before it is handed out.
 pub fn made_over<S: Stable + Drop>(
     alloc: Global,
     schedule: Schedule,
@@ -66,7 +75,7 @@ pub fn made_over<S: Stable + Drop>(
         → StopsOver S.Stable stores.items schedule failure) }
 {
     match run(alloc, schedule, stores) {
-        Ok(text) => Ok(text),
+        Ok(replayed) => Ok(replayed.text),
         Err(fault) => Err(run_failure(fault)),
     }
 }

@@ -4,7 +4,7 @@ use Rattle.stable.specs.Memory.{in_memory}
 use Rattle.world.proofs.UsedStorages.{none_used}
 use Rattle.schedule.specs.Runs.{not_read, not_begun}
 use Rattle.schedule.proofs.NodeCount.{replay_ends_by_other}
-use Rattle.schedule.proofs.Running.{over_ends, over_replayed}
+use Rattle.schedule.proofs.Running.{over_ended, over_ends, over_replayed}
 use Rattle.schedule.proofs.replaying.replay.Goals as goal
 
 pub returns-in_err-schedule-clause-fault : goal.returns-in_err-schedule-clause-fault
@@ -16,6 +16,10 @@ returns-in_err-schedule-clause-fault c =
 pub returns-clause-transcript : goal.returns-clause-transcript
 returns-clause-transcript c =
     over_replayed in_memory c.in-Ok.stores.items _ _ c.run.result (λ _. tt) c.in_ok-schedule.ensures.spelled c.run.ensures.transcript
+
+pub returns-clause-ended : goal.returns-clause-ended
+returns-clause-ended c =
+    over_ended in_memory c.in-Ok.stores.items _ _ c.run.result (λ _. tt) c.in_ok-schedule.ensures.spelled c.run.ensures.ended
 
 -- and those that are fresh hold none
 pub returns-clause-fault : goal.returns-clause-fault

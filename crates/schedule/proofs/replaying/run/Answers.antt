@@ -1,6 +1,6 @@
 use Rattle.std.proofs.lemmas.Result.{err_from_is_err_and}
 use Rattle.world.specs.Seen.{world_of}
-use Rattle.schedule.proofs.Running.{fails_over, runs_over}
+use Rattle.schedule.proofs.Running.{ended_over, fails_over, runs_over}
 use Rattle.schedule.proofs.replaying.run.Goals as goal
 
 pub returns-in_err-world-clause-fault : goal.returns-in_err-world-clause-fault
@@ -12,6 +12,11 @@ pub returns-clause-transcript : goal.returns-clause-transcript
 returns-clause-transcript g c =
     runs_over g.S.Stable c.args.stores.items c.args.schedule (world_of c.in_ok-world.world) c.run_lines.result
     c.in_ok-world.ensures.started c.in_ok-world.ensures.over c.run_lines.ensures.transcript
+
+pub returns-clause-ended : goal.returns-clause-ended
+returns-clause-ended g c =
+    ended_over g.S.Stable c.args.stores.items c.args.schedule (world_of c.in_ok-world.world) c.run_lines.result
+    c.in_ok-world.ensures.started c.in_ok-world.ensures.over c.run_lines.ensures.ended
 
 pub returns-clause-fault : goal.returns-clause-fault
 returns-clause-fault g c =

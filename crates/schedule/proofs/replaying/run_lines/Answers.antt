@@ -11,11 +11,17 @@ returns-in_err-do_lines-clause-fault g c =
 
 pub returns-in-Ok-clause-transcript : goal.returns-in-Ok-clause-transcript
 returns-in-Ok-clause-transcript g c =
+    (runs_to (scripted.ghosts g.row.S g.S.Stable g.S.Stable-dict) g.S.Stable.IsHonest _ _ _ _ _ c.into_lines.ensures
+    c.in_ok-do_lines.ensures.ends
+    c.in-Ok.ensures.told c.in-Ok.ensures.safe).0
+
+pub returns-in-Ok-clause-ended : goal.returns-in-Ok-clause-ended
+returns-in-Ok-clause-ended g c =
     runs_to (scripted.ghosts g.row.S g.S.Stable g.S.Stable-dict) g.S.Stable.IsHonest _ _ _ _ _ c.into_lines.ensures
     c.in_ok-do_lines.ensures.ends
     c.in-Ok.ensures.told c.in-Ok.ensures.safe
 
-pub returns-clause-fault : goal.returns-clause-fault
-returns-clause-fault g c =
+pub returns-in-Err-clause-fault : goal.returns-in-Err-clause-fault
+returns-in-Err-clause-fault g c =
     run_ends_last (scripted.ghosts g.row.S g.S.Stable g.S.Stable-dict) g.S.Stable.IsHonest _ _ _ _ _ c.into_lines.ensures
     c.in_ok-do_lines.ensures.ends c.last-last.ensures c.world_transcript.ensures.safe
