@@ -6,14 +6,8 @@
 #[cfg(test)]
 mod ballots;
 #[cfg(test)]
-mod campaigns;
-#[cfg(test)]
 mod frames;
-#[cfg(test)]
-mod news_of_votes;
 #[cfg(test)]
 mod records;
 #[cfg(test)]
 mod steps;
-#[cfg(test)]
-mod votes;

@@ -42,6 +42,7 @@ fn ballots_and_rounds(rt: HostRuntime) -> Result<(), Fail> {
         ballot_of_record(&[0, 0, 0, 0, 0, 0, 1, 2, 6]),
         Some(ballot)
     );
+    assert_eq!(rt; ballot_of_record(&[0, 0, 0, 0, 0, 0, 1, 2]), None);
     assert_eq!(rt; ballot_of_record(&[0, 0, 0, 0, 0, 0, 1, 2, 7]), None);
     assert_eq!(rt; ballot_of_record(&[0, 0, 0, 0, 0, 0, 0, 0, 6]), None);
     assert_eq!(rt; ballot_of_record(&[0, 0, 0, 0, 0, 0, 1, 2, 6, 0]), None);
@@ -91,3 +92,45 @@ fn is_recorded(alloc: Global, command: &Command, spelled: &[u8]) -> Result<bool,
     let is_read = read_ballot == ballot && read_command == *command;
     Ok(is_spelled && is_read && shorter.is_none() && longer.is_none())
 }
+
+// Bytes that are the record of no vote: another command, the number 0, an id that is none, and one of no byte.
+const NO_VOTES: [&[u8]; 4] = [
+    b"\x00\x00\x00\x00\x00\x00\x00\x01\x00\x02",
+    b"\x00\x00\x00\x00\x00\x00\x00\x01\x00\x01\x07\x00\x00\x00\x00\x00\x00\x00\x00\x03\x01a",
+    b"\x00\x00\x00\x00\x00\x00\x00\x01\x00\x01\x07\x00\x00\x00\x00\x00\x00\x00\x01\x03\x01/",
+    b"\x00\x00\x00\x00\x00\x00\x00\x01\x00\x01\x07\x00\x00\x00\x00\x00\x00\x00\x01\x03\x00",
+];
+
+#[test]
+fn bytes_of_no_vote(rt: HostRuntime) -> Result<(), Fail> {
+    for bytes in NO_VOTES {
+        assert!(rt; !is_vote(rt.alloc(), bytes)?, "{bytes:?}");
+    }
+    for (first, second, ascend) in INSTANTS {
+        let bytes = record_of_put(first, second);
+        assert!(rt;
+            is_vote(rt.alloc(), &bytes)? == ascend,
+            "{first} and {second}"
+        );
+    }
+    Ok(())
+}
+
+fn is_vote(alloc: Global, bytes: &[u8]) -> Result<bool, Fail> {
+    Ok(vote_of_record(alloc, bytes)?.is_some())
+}
+
+/// The record of a vote whose request puts `bus-7` first at one instant and then at another.
+fn record_of_put(first: u8, second: u8) -> [u8; 77] {
+    let mut bytes = [
+        0, 0, 0, 0, 0, 0, 0, 1, 0, 1, 7, 0, 0, 0, 0, 0, 0, 0, 1, 1, 5, 0x62, 0x75, 0x73, 0x2D,
+        0x37, 3, 0, 2, 0, 0, 0, 0, 0, 0, 0, 0, 0, 0, 0, 0, 0, 0, 0, 0, 0, 0, 0, 0, 0, 0, 0, 0, 0,
+        0, 0, 0, 0, 0, 0, 0, 0, 0, 0, 0, 0, 0, 0, 0, 0, 0, 0, 0, 0, 0, 0, 0,
+    ];
+    bytes[36] = first;
+    bytes[60] = second;
+    bytes
+}
+
+// The two instants of a put, and whether its record is one.
+const INSTANTS: [(u8, u8, bool); 3] = [(1, 2, true), (1, 1, false), (2, 1, false)];

@@ -50,10 +50,7 @@ hear 0 6, decided 0 7:1 > learn 0 0 7:1; send 0 ask 1 to 6
 look 0 > 0 up 1 promise promise";
 
 // how many nodes there are, and their steps
-const TABLES: [(u8, &str); 2] = [
-    (3, OF_ANOTHER_RUN),
-    (7, OF_SEVEN),
-];
+const TABLES: [(u8, &str); 2] = [(3, OF_ANOTHER_RUN), (7, OF_SEVEN)];
 
 #[test]
 fn envelopes_of_another_run_are_ignored(rt: HostRuntime) -> Result<(), Fail> {
