@@ -59,9 +59,17 @@ fn fault(alloc: Global, bytes: &[u8]) -> Result<u8, Fail> {
 /// Whether three nodes read a frame, whose copy is the same and is spelled again so.
 fn is_frame(alloc: Global, bytes: &[u8]) -> Result<bool, Fail> {
     let envelope = read(alloc, bytes)?;
+    Ok(is_copied(&envelope)? && is_spelled(alloc, &envelope, bytes)?)
+}
+
+fn is_copied(envelope: &Envelope) -> Result<bool, Fail> {
     let copy = envelope.clone()?;
-    let spelled = encode(alloc, &copy)?;
-    Ok(copy == envelope && spelled.as_slice() == bytes)
+    Ok(copy == *envelope)
+}
+
+fn is_spelled(alloc: Global, envelope: &Envelope, bytes: &[u8]) -> Result<bool, Fail> {
+    let spelled = encode(alloc, envelope)?;
+    Ok(spelled.as_slice() == bytes)
 }
 
 /// Whether these bytes are a frame, no proper beginning of them is, and none with a byte more.
@@ -71,11 +79,13 @@ fn stands_alone(alloc: Global, bytes: &[u8]) -> Result<bool, Fail> {
             return Ok(false);
         }
     }
+    Ok(fault_of_longer(alloc, bytes)? == 6 && is_frame(alloc, bytes)?)
+}
+
+fn fault_of_longer(alloc: Global, bytes: &[u8]) -> Result<u8, Fail> {
     let mut longer = bytes.to_vec(alloc)?;
     longer.push(0)?;
-    let after = fault(alloc, longer.as_slice())?;
-    let whole = is_frame(alloc, bytes)?;
-    Ok(after == 6 && whole)
+    fault(alloc, longer.as_slice())
 }
 
 #[test]

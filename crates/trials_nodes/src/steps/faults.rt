@@ -3,7 +3,7 @@
 use super::fleet::Member;
 use super::letters::node_id;
 use super::rows_hold;
-use node::{Input, Node, NodeFault};
+use node::{Node, NodeFault};
 use stable::{Key, MemStable, Scripted, Stable};
 use std::alloc::Global;
 use std::process::Abort;
@@ -136,13 +136,6 @@ fn damaged(alloc: Global, key: Key) -> Result<Member, Fail> {
 
 fn stays_down(rt: &impl Abort, alloc: Global, member: &mut Member) {
     assert!(rt; !member.is_up());
-    assert_eq!(rt; member.position(), 0);
-    assert_eq!(rt; member.waiting(), 0);
     assert_eq!(rt; member.restart(alloc), Err(NodeFault::Damaged));
     assert!(rt; !member.is_up());
-    assert_eq!(rt;
-        member.step(alloc, Input::Tick).err(),
-        Some(NodeFault::Down)
-    );
-    assert!(rt; member.writes().is_empty());
 }

@@ -270,7 +270,7 @@ fn seen(alloc: Global, of: u8, member: &Member) -> Result<String, Fail> {
 fn ride(alloc: Global, instants: u64) -> Result<Op, Fail> {
     let id = Id::new(b"bus-7").ok_or("id")?;
     let mut points = Vec::new(alloc);
-    for ms in 0..instants as u16 {
+    for ms in 0..instants.min(1000) as u16 {
         let t = Instant::new(i64::from(ms)).ok_or("instant")?;
         points.push(Point { t, x: 0, y: 0 })?;
     }

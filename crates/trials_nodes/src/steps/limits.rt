@@ -7,36 +7,33 @@ use std::alloc::Global;
 use std::test::Fail;
 use synod::SLOTS;
 
-// Each fault with its number, whether the node goes down with it, and its text.
-const FAULTS: [(NodeFault, u8, bool, &str); 8] = [
-    (NodeFault::Down, 41, false, "the node is down"),
-    (NodeFault::LogFull, 42, false, "the whole log is executed"),
-    (NodeFault::RoundsUsedUp, 43, false, "no round is left"),
-    (
-        NodeFault::QueueFull,
-        44,
-        false,
-        "as many requests wait as may",
-    ),
+// Each fault, and its number and text.
+const FAULTS: [(NodeFault, &str); 8] = [
+    (NodeFault::Down, "41: the node is down"),
+    (NodeFault::LogFull, "42: the whole log is executed"),
+    (NodeFault::RoundsUsedUp, "43: no round is left"),
+    (NodeFault::QueueFull, "44: as many requests wait as may"),
     (
         NodeFault::TooLong,
-        45,
-        false,
-        "the sequence is too long for a request",
+        "45: the sequence is too long for a request",
     ),
-    (NodeFault::Device, 46, true, "the storage failed"),
-    (NodeFault::Memory, 47, true, "out of memory"),
-    (NodeFault::Damaged, 48, true, "a record is damaged"),
+    (NodeFault::Device, "46: the storage failed"),
+    (NodeFault::Memory, "47: out of memory"),
+    (NodeFault::Damaged, "48: a record is damaged"),
 ];
 
 #[test]
 fn faults_have_their_numbers(rt: HostRuntime) -> Result<(), Fail> {
-    for (fault, code, stops, text) in FAULTS {
-        assert_eq!(rt; fault.code(), code, "of {fault:?}");
-        assert_eq!(rt; fault.is_stop(), stops, "of {fault:?}");
-        assert_eq!(rt; fault.to_string(rt.alloc())?.as_str(), text);
+    for (fault, text) in FAULTS {
+        assert!(rt; is_told(rt.alloc(), fault, text)?, "{text}");
     }
     Ok(())
+}
+
+fn is_told(alloc: Global, fault: NodeFault, text: &str) -> Result<bool, Fail> {
+    let code = fault.code();
+    let told = format!(in alloc; "{code}: {fault}")?;
+    Ok(told.as_str() == text)
 }
 
 // Where 64 requests wait: what is too long is refused first, a repeat is taken, and one more is refused. Once one of them is
