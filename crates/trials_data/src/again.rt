@@ -7,11 +7,12 @@
 use mfjson::{Feature, MfFault, read, write};
 use restrict::cut;
 use sessions::{Command, Machine, Number, Request};
-use std::alloc::Global;
+use std::alloc::{AllocError, Global};
 use std::process::Abort;
 use std::test::Fail;
 use store::{Db, Op, Query};
-use tpoint::{Id, Instant, Interp, Period, Point, Seq};
+use timeindex::TimeIndex;
+use tpoint::{AppendFault, Id, Instant, Interp, Period, Point, Seq};
 
 fn id() -> Result<Id, Fail> {
     Ok(Id::new(b"a").ok_or("an id")?)
@@ -168,5 +169,48 @@ fn cuts(rt: HostRuntime) -> Result<(), Fail> {
         Err(_) => cut(rt.alloc(), &seq, &period)?,
     };
     assert!(rt; found.ok_or("a cut")?.points.len() == 2);
+    Ok(())
+}
+
+#[test]
+fn appends(rt: HostRuntime) -> Result<(), Fail> {
+    let mut seq = seq(rt.alloc(), &[0, 2])?;
+    let before = seq.clone()?;
+    let next = Point {
+        t: instant(3)?,
+        x: 3,
+        y: 0,
+    };
+    let mut answer = seq.append(next);
+    if answer == Err(AppendFault::Memory) {
+        assert!(rt; seq == before);
+        answer = seq.append(next);
+    }
+    assert_eq!(rt; answer, Ok(()));
+    assert!(rt; seq.points().len() == 3 && seq.points()[2].x == 3);
+    Ok(())
+}
+
+#[test]
+fn entries(rt: HostRuntime) -> Result<(), Fail> {
+    let mut index = TimeIndex::new(rt.alloc());
+    asks_again(&rt, rt.alloc(), &mut index, id()?)
+}
+
+/// An entry is put into the index, and what overlaps a period is asked.
+fn asks_again(rt: &impl Abort, alloc: Global, index: &mut TimeIndex, bus: Id) -> Result<(), Fail> {
+    let (first, last) = (instant(1)?, instant(2)?);
+    let span = Period::new(instant(2)?, instant(3)?).ok_or("a period")?;
+    let mut answer = index.insert(bus, first, last);
+    if answer == Err(AllocError) {
+        assert!(rt; !index.remove(&bus));
+        answer = index.insert(bus, first, last);
+    }
+    assert!(rt; answer.is_ok());
+    let ids = match index.overlapping(alloc, &span) {
+        Ok(ids) => ids,
+        Err(_) => index.overlapping(alloc, &span)?,
+    };
+    assert!(rt; ids.len() == 1 && ids[0] == bus && index.remove(&bus));
     Ok(())
 }

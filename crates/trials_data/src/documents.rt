@@ -1,9 +1,8 @@
-//! Worked rows: datetimes from RFC 3339 and the calendar, and one whole document.
+//! Worked rows: datetimes from RFC 3339 and the calendar, and each fault in words.
 
-use mfjson::{Feature, MfFault, datetime_read, datetime_text, write};
-use std::alloc::Global;
+use mfjson::{MfFault, datetime_read, datetime_text};
 use std::test::Fail;
-use tpoint::{Id, Instant, Interp, Point, Seq};
+use tpoint::Instant;
 
 // a text, and its milliseconds since 1970-01-01T00:00:00.000Z
 const READ: [(&str, i64); 12] = [
@@ -21,102 +20,54 @@ const READ: [(&str, i64); 12] = [
     ("9999-12-31T23:59:59.999Z", 253_402_300_799_999),
 ];
 
-const REFUSED: [&str; 28] = [
-    "",
-    "Z",
-    "1969-12-31T23:59:59.999Z",
-    "10000-01-01T00:00:00.000Z",
-    "2019-02-29T00:00:00.000Z",
-    "2100-02-29T00:00:00.000Z",
-    "2020-02-30T00:00:00.000Z",
-    "2020-00-01T00:00:00.000Z",
-    "2020-13-01T00:00:00.000Z",
-    "2020-04-31T00:00:00.000Z",
-    "2020-01-00T00:00:00.000Z",
-    "2020-01-01T24:00:00.000Z",
-    "2020-01-01T00:60:00.000Z",
-    "1990-12-31T23:59:60Z",
-    "2020-01-01T00:00:60.000Z",
-    "2020-01-01T00:00:00.0Z",
-    "2020-01-01T00:00:00.00Z",
-    "2020-01-01T00:00:00.0000Z",
-    "2020-01-01T00:00:00.Z",
-    "2020-01-01T00:00:00,000Z",
-    "2020-01-01t00:00:00.000Z",
-    "2020-01-01 00:00:00.000Z",
-    "2020-01-01T00:00:00.000z",
-    "2020-01-01T00:00:00.000",
-    "2020-01-01T00:00:00+00:00",
-    "1996-12-19T16:39:57-08:00",
-    "2020-1-01T00:00:00.0000Z",
-    "+020-01-01T00:00:00.000Z",
-];
+// one a line, the first of them empty
+const REFUSED: &str = "\n\
+Z\n\
+1969-12-31T23:59:59.999Z\n\
+10000-01-01T00:00:00.000Z\n\
+2019-02-29T00:00:00.000Z\n\
+2100-02-29T00:00:00.000Z\n\
+2020-02-30T00:00:00.000Z\n\
+2020-00-01T00:00:00.000Z\n\
+2020-13-01T00:00:00.000Z\n\
+2020-04-31T00:00:00.000Z\n\
+2020-01-00T00:00:00.000Z\n\
+2020-01-01T24:00:00.000Z\n\
+2020-01-01T00:60:00.000Z\n\
+1990-12-31T23:59:60Z\n\
+2020-01-01T00:00:60.000Z\n\
+2020-01-01T00:00:00.0Z\n\
+2020-01-01T00:00:00.00Z\n\
+2020-01-01T00:00:00.0000Z\n\
+2020-01-01T00:00:00.Z\n\
+2020-01-01T00:00:00,000Z\n\
+2020-01-01t00:00:00.000Z\n\
+2020-01-01 00:00:00.000Z\n\
+2020-01-01T00:00:00.000z\n\
+2020-01-01T00:00:00.000\n\
+2020-01-01T00:00:00+00:00\n\
+1996-12-19T16:39:57-08:00\n\
+2020-1-01T00:00:00.0000Z\n\
++020-01-01T00:00:00.000Z";
 
 #[test]
-fn reads_datetimes(rt: HostRuntime) {
+fn datetimes(rt: HostRuntime) {
     for (text, ms) in READ {
-        let read = datetime_read(text.as_bytes()).map(Instant::ms);
-        assert_eq!(rt; read, Some(ms), "{text}");
+        assert!(rt; is_read_and_written(text, ms), "{text}");
     }
-    for text in REFUSED {
-        let read = datetime_read(text.as_bytes()).map(Instant::ms);
-        assert_eq!(rt; read, None, "{text}");
+    for text in REFUSED.split('\n') {
+        assert!(rt; datetime_read(text.as_bytes()).is_none(), "{text}");
     }
 }
 
-/// Whether the instant's datetime text is read as it, and is this text where that has all its digits.
-fn is_written(text: &str, ms: i64) -> bool {
+/// Whether the text is read as this instant, which is written so where the text has all its digits.
+fn is_read_and_written(text: &str, ms: i64) -> bool {
     let Some(t) = Instant::new(ms) else {
         return false;
     };
     let written = datetime_text(t);
     let same = text.len() < 24 || written.as_slice() == text.as_bytes();
-    same && datetime_read(&written) == Some(t)
-}
-
-#[test]
-fn writes_datetimes(rt: HostRuntime) {
-    for (text, ms) in READ {
-        assert!(rt; is_written(text, ms), "{text}");
-    }
-}
-
-const DOCUMENT: &str =
-    r#"{"id":"bus-7","temporalGeometry":{"coordinates":[[0,0],[10,5]],"datetimes":["2020-01-01T00:00:00.000Z","2020-01-01T00:00:03.000Z"],"interpolation":"Linear","type":"MovingPoint"},"type":"Feature"}"#;
-
-/// A Linear feature of two points.
-fn bus(alloc: Global, name: &[u8]) -> Result<Feature, Fail> {
-    let mut points = Vec::new(alloc);
-    for (ms, x, y) in [(1_577_836_800_000, 0, 0), (1_577_836_803_000, 10, 5)] {
-        let t = Instant::new(ms).ok_or("an instant")?;
-        points.push(Point { t, x, y })?;
-    }
-    let id = Id::new(name).ok_or("an id")?;
-    let seq = Seq::new(Interp::Linear, points)?;
-    Ok(Feature { id, seq })
-}
-
-#[test]
-fn writes_a_document(rt: HostRuntime) -> Result<(), Fail> {
-    let seven = bus(rt.alloc(), b"bus-7")?;
-    let text = write(rt.alloc(), &seven)?;
-    assert!(rt; text.len() == 195 && text.as_slice() == DOCUMENT.as_bytes());
-    Ok(())
-}
-
-/// Whether the copy of a feature is the same feature.
-fn is_copied(feature: &Feature) -> Result<bool, Fail> {
-    let copy = feature.clone()?;
-    Ok(copy == *feature)
-}
-
-#[test]
-fn copies_a_feature(rt: HostRuntime) -> Result<(), Fail> {
-    let seven = bus(rt.alloc(), b"bus-7")?;
-    assert!(rt; is_copied(&seven)?);
-    let eight = bus(rt.alloc(), b"bus-8")?;
-    assert!(rt; seven != eight);
-    Ok(())
+    same && datetime_read(text.as_bytes()) == Some(t)
 }
 
 const FAULTS: [(MfFault, &str); 13] = [

@@ -1,7 +1,7 @@
-//! Tests of the data's crates and of the plain database: of `backward`, `tpoint`, `restrict`, `predicates`, `timeindex`, `mfjson`,
-//! `store` and `sessions`.
+//! Tests of the data's crates: of `backward`, `tpoint`, `restrict`, `timeindex`, `mfjson`, `store` and `sessions`.
 //!
 //! A crate with tests is proved twice. So tests stand here, over what those crates make public, and those crates have none.
+//! Values, cuts, rectangles, periods and replies that were worked out by hand are schedules of `examples`, which cost no proof.
 #![tactic(auto)]
 
 #[cfg(test)]
@@ -9,20 +9,12 @@ mod again;
 #[cfg(test)]
 mod cuts;
 #[cfg(test)]
-mod databases;
-#[cfg(test)]
 mod documents;
 #[cfg(test)]
 mod lines;
 #[cfg(test)]
-mod overlaps;
-#[cfg(test)]
 mod profile;
 #[cfg(test)]
-mod regions;
-#[cfg(test)]
 mod requests;
-#[cfg(test)]
-mod ticks;
 #[cfg(test)]
 mod values;

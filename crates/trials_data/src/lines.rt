@@ -1,6 +1,6 @@
 //! Texts at the ends of what 64 bits hold, against their digits.
 
-use backward::{LONGEST_WIDE, write_byte, write_text, write_wide};
+use backward::{LONGEST_WIDE, write_wide};
 use std::process::Abort;
 
 // a number, and its text
@@ -28,12 +28,4 @@ fn wide_numbers(rt: HostRuntime) {
         let start = write_wide(n, &mut line, LONGEST_WIDE);
         assert_eq!(rt; &line[start..], want.as_bytes());
     }
-}
-
-#[test]
-fn parts(rt: HostRuntime) {
-    let mut line = [0; 8];
-    let start = write_byte(b'!', &mut line, 8);
-    let start = write_text(b"here", &mut line, start);
-    assert_eq!(rt; &line[start..], b"here!".as_slice());
 }

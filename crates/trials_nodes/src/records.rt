@@ -34,60 +34,120 @@ fn asked(op: Op) -> Option<Command> {
     Some(Command::Request(request))
 }
 
+const BALLOT: [u8; 9] = [0, 0, 0, 0, 0, 0, 1, 2, 6];
+
+const ROUND: [u8; 8] = [0, 0, 0, 0, 0, 0, 1, 2];
+
+// Bytes that are the record of no promise: one less, a node that is none, the round 0, and one more.
+const NO_BALLOTS: [&[u8]; 4] = [
+    b"\x00\x00\x00\x00\x00\x00\x01\x02",
+    b"\x00\x00\x00\x00\x00\x00\x01\x02\x07",
+    b"\x00\x00\x00\x00\x00\x00\x00\x00\x06",
+    b"\x00\x00\x00\x00\x00\x00\x01\x02\x06\x00",
+];
+
 #[test]
-fn ballots_and_rounds(rt: HostRuntime) -> Result<(), Fail> {
-    let ballot = Ballot::new(0x0102, 6).ok_or("no ballot")?;
-    assert_eq!(rt; ballot_record(ballot), [0, 0, 0, 0, 0, 0, 1, 2, 6]);
-    assert_eq!(rt;
-        ballot_of_record(&[0, 0, 0, 0, 0, 0, 1, 2, 6]),
-        Some(ballot)
-    );
-    assert_eq!(rt; ballot_of_record(&[0, 0, 0, 0, 0, 0, 1, 2, 7]), None);
-    assert_eq!(rt; ballot_of_record(&[0, 0, 0, 0, 0, 0, 0, 0, 6]), None);
-    assert_eq!(rt; ballot_of_record(&[0, 0, 0, 0, 0, 0, 1, 2, 6, 0]), None);
-    assert_eq!(rt; round_record(0x0102), [0, 0, 0, 0, 0, 0, 1, 2]);
-    assert_eq!(rt; round_of_record(&[0, 0, 0, 0, 0, 0, 1, 2]), Some(0x0102));
-    assert_eq!(rt; round_of_record(&[0; 8]), None);
-    assert_eq!(rt; round_of_record(&[1; 7]), None);
-    Ok(())
+fn ballots_and_rounds(rt: HostRuntime) {
+    assert!(rt; is_ballot(0x0102, 6, &BALLOT));
+    for bytes in NO_BALLOTS {
+        assert!(rt; ballot_of_record(bytes).is_none(), "{bytes:?}");
+    }
+    assert!(rt; round_record(0x0102).as_slice() == ROUND.as_slice());
+    assert!(rt; round_of_record(&ROUND) == Some(0x0102));
+    assert!(rt; round_of_record(&[0; 8]).is_none() && round_of_record(&[1; 7]).is_none());
+}
+
+/// Whether the record of this ballot has these bytes, and is read as it.
+fn is_ballot(round: u64, node: u8, bytes: &[u8]) -> bool {
+    let Some(ballot) = Ballot::new(round, node) else {
+        return false;
+    };
+    ballot_record(ballot).as_slice() == bytes && ballot_of_record(bytes) == Some(ballot)
 }
 
 #[test]
 fn votes(rt: HostRuntime) -> Result<(), Fail> {
-    let points = [
-        Point {
-            t: Instant::new(1_577_836_800_000).ok_or("no instant")?,
-            x: 0,
-            y: 0,
-        },
-        Point {
-            t: Instant::new(1_577_836_803_000).ok_or("no instant")?,
-            x: 10,
-            y: 5,
-        },
-    ];
-    let seq = Seq::new(Interp::Linear, points.to_vec(rt.alloc())?)
-        .ok()
-        .ok_or("no sequence")?;
-    let put = asked(Op::Put(bus().ok_or("no id")?, seq)).ok_or("no request")?;
-    let remove = asked(Op::Remove(bus().ok_or("no id")?)).ok_or("no request")?;
-    assert!(rt; is_recorded(rt.alloc(), &Command::NoOp, &NO_OP)?);
-    assert!(rt; is_recorded(rt.alloc(), &remove, &REMOVE)?);
-    assert!(rt; is_recorded(rt.alloc(), &put, &PUT)?);
+    assert!(rt; is_recorded(rt.alloc(), Command::NoOp, &NO_OP)?);
+    assert!(rt; is_recorded(rt.alloc(), removed().ok_or("a removal")?, &REMOVE)?);
+    assert!(rt; is_recorded(rt.alloc(), put(rt.alloc())?, &PUT)?);
     Ok(())
 }
 
+fn removed() -> Option<Command> {
+    asked(Op::Remove(bus()?))
+}
+
+fn put(alloc: Global) -> Result<Command, Fail> {
+    let mut points = Vec::new(alloc);
+    for (ms, x, y) in [(1_577_836_800_000, 0, 0), (1_577_836_803_000, 10, 5)] {
+        let t = Instant::new(ms).ok_or("no instant")?;
+        points.push(Point { t, x, y })?;
+    }
+    let id = bus().ok_or("no id")?;
+    let seq = Seq::new(Interp::Linear, points)?;
+    Ok(asked(Op::Put(id, seq)).ok_or("no request")?)
+}
+
 /// Whether a vote for the command is spelled so, and read again, and with a byte less or more is none.
-fn is_recorded(alloc: Global, command: &Command, spelled: &[u8]) -> Result<bool, Fail> {
-    let ballot = Ballot::new(1, 0).ok_or("no ballot")?;
+fn is_recorded(alloc: Global, command: Command, spelled: &[u8]) -> Result<bool, Fail> {
     let mut bytes = FIRST_BALLOT.to_vec(alloc)?;
     bytes.extend_from_slice(spelled)?;
-    let record = vote_record(alloc, ballot, command)?;
-    let (read_ballot, read_command) = vote_of_record(alloc, &bytes)?.ok_or("no vote")?;
-    let shorter = vote_of_record(alloc, &bytes[..8])?;
-    let is_spelled = record.as_slice() == bytes.as_slice();
+    let is_record = is_spelled(alloc, &command, &bytes)? && is_read(alloc, &command, &bytes)?;
     bytes.push(0)?;
-    let longer = vote_of_record(alloc, &bytes)?;
-    let is_read = read_ballot == ballot && read_command == *command;
-    Ok(is_spelled && is_read && shorter.is_none() && longer.is_none())
+    Ok(is_record && !is_vote(alloc, &bytes)? && !is_vote(alloc, &FIRST_BALLOT[..8])?)
 }
+
+fn is_spelled(alloc: Global, command: &Command, bytes: &[u8]) -> Result<bool, Fail> {
+    let ballot = Ballot::new(1, 0).ok_or("no ballot")?;
+    let record = vote_record(alloc, ballot, command)?;
+    Ok(record.as_slice() == bytes)
+}
+
+fn is_read(alloc: Global, command: &Command, bytes: &[u8]) -> Result<bool, Fail> {
+    match vote_of_record(alloc, bytes)? {
+        Some((ballot, read)) => { Ok(read == *command && ballot.round == 1 && ballot.node == 0) }
+        None => Ok(false),
+    }
+}
+
+// Bytes that are the record of no vote: another command, the number 0, an id that is none, and one of no byte.
+const NO_VOTES: [&[u8]; 4] = [
+    b"\x00\x00\x00\x00\x00\x00\x00\x01\x00\x02",
+    b"\x00\x00\x00\x00\x00\x00\x00\x01\x00\x01\x07\x00\x00\x00\x00\x00\x00\x00\x00\x03\x01a",
+    b"\x00\x00\x00\x00\x00\x00\x00\x01\x00\x01\x07\x00\x00\x00\x00\x00\x00\x00\x01\x03\x01/",
+    b"\x00\x00\x00\x00\x00\x00\x00\x01\x00\x01\x07\x00\x00\x00\x00\x00\x00\x00\x01\x03\x00",
+];
+
+#[test]
+fn bytes_of_no_vote(rt: HostRuntime) -> Result<(), Fail> {
+    for bytes in NO_VOTES {
+        assert!(rt; !is_vote(rt.alloc(), bytes)?, "{bytes:?}");
+    }
+    for (first, second, ascend) in INSTANTS {
+        let bytes = record_of_put(first, second);
+        assert!(rt;
+            is_vote(rt.alloc(), &bytes)? == ascend,
+            "{first} and {second}"
+        );
+    }
+    Ok(())
+}
+
+fn is_vote(alloc: Global, bytes: &[u8]) -> Result<bool, Fail> {
+    Ok(vote_of_record(alloc, bytes)?.is_some())
+}
+
+/// The record of a vote whose request puts `bus-7` first at one instant and then at another.
+fn record_of_put(first: u8, second: u8) -> [u8; 77] {
+    let mut bytes = [
+        0, 0, 0, 0, 0, 0, 0, 1, 0, 1, 7, 0, 0, 0, 0, 0, 0, 0, 1, 1, 5, 0x62, 0x75, 0x73, 0x2D,
+        0x37, 3, 0, 2, 0, 0, 0, 0, 0, 0, 0, 0, 0, 0, 0, 0, 0, 0, 0, 0, 0, 0, 0, 0, 0, 0, 0, 0, 0,
+        0, 0, 0, 0, 0, 0, 0, 0, 0, 0, 0, 0, 0, 0, 0, 0, 0, 0, 0, 0, 0, 0, 0,
+    ];
+    bytes[36] = first;
+    bytes[60] = second;
+    bytes
+}
+
+// The two instants of a put, and whether its record is one.
+const INSTANTS: [(u8, u8, bool); 3] = [(1, 2, true), (1, 1, false), (2, 1, false)];

@@ -1,4 +1,6 @@
 //! Nodes, step by step: what they tell, and what they send.
+//!
+//! Steps are a text: each line a step, and behind `>` what is told of it, where something is.
 
 mod faults;
 mod fleet;
@@ -10,30 +12,26 @@ mod news;
 mod runs;
 mod telling;
 
-use fleet::{Fleet, Step};
+use fleet::Fleet;
 use std::alloc::Global;
 use std::process::Abort;
 use std::test::Fail;
 
-/// A step of a fleet, and what is told of it.
-type Row = (Step, &'static str);
-
-/// Takes the steps of a table, in order: each tells what stands beside it.
-fn rows_hold(rt: &impl Abort, alloc: Global, nodes: u8, rows: &[Row]) -> Result<(), Fail> {
+/// Takes the steps of a text, in order: each tells what stands beside it.
+fn rows_hold(rt: &impl Abort, alloc: Global, nodes: u8, rows: &str) -> Result<(), Fail> {
     let mut fleet = Fleet::new(alloc, nodes)?;
     rows_follow(rt, alloc, &mut fleet, rows)
 }
 
 /// The same, of a fleet that has begun.
-fn rows_follow(
-    rt: &impl Abort,
-    alloc: Global,
-    fleet: &mut Fleet,
-    rows: &[Row],
-) -> Result<(), Fail> {
-    for (step, expected) in rows {
-        let told = fleet.take(alloc, *step)?;
-        assert_eq!(rt; told.as_str(), *expected, "at {step:?}");
+fn rows_follow(rt: &impl Abort, alloc: Global, fleet: &mut Fleet, rows: &str) -> Result<(), Fail> {
+    for row in rows.lines() {
+        let (step, expected) = match row.split_once(" > ") {
+            Some(parts) => parts,
+            None => (row, ""),
+        };
+        let told = fleet.take(alloc, step)?;
+        assert_eq!(rt; told.as_str(), expected, "at {step}");
     }
     Ok(())
 }

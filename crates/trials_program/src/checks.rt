@@ -38,25 +38,6 @@ fn a_document_and_its_line(rt: HostRuntime) -> Result<(), Fail> {
 }
 
 #[test]
-fn documents_that_are_none(rt: HostRuntime) -> Result<(), Fail> {
-    // a text, and the line that tells what is wrong with it
-    let cases = [
-        ("{}", "mfpx: document fault 2\n"),
-        (
-            r#"{"type":"Feature","id":"a","temporalGeometry":{"type":"MovingPoint","datetimes":["2020-01-01T00:00:00Z","2020-02-30T00:00:00Z"],"coordinates":[],"interpolation":"Step"}}"#,
-            "mfpx: document fault 7 at 1\n",
-        ),
-    ];
-    for (document, line) in cases {
-        let (status, out, err) = answer(&rt, &["check", "-"], document.as_bytes())?;
-        assert_eq!(rt; status, 1, "{document}");
-        assert_eq!(rt; out.as_str(), "");
-        assert_eq!(rt; err.as_str(), line);
-    }
-    Ok(())
-}
-
-#[test]
 fn checks_whose_streams_fail(rt: HostRuntime) -> Result<(), Fail> {
     let words = ["check", "-"];
     let device = "mfpx: device\n";
@@ -72,15 +53,5 @@ fn checks_whose_streams_fail(rt: HostRuntime) -> Result<(), Fail> {
     let mut room = [0u8; 195];
     let (status, err) = told_over(&rt, &words, &mut input, room.as_mut_slice())?;
     assert_eq!(rt; (status, err.as_str()), (3, device));
-    Ok(())
-}
-
-/// A file that can't be read is told, whatever standard input holds.
-#[test]
-fn files_come_before_documents(rt: HostRuntime) -> Result<(), Fail> {
-    let (status, out, err) = answer(&rt, &["check", "no such file"], b"{}")?;
-    assert_eq!(rt; status, 3);
-    assert_eq!(rt; out.as_str(), "");
-    assert_eq!(rt; err.as_str(), "mfpx: device\n");
     Ok(())
 }

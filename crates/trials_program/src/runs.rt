@@ -1,24 +1,12 @@
 //! Whole runs of the program: what goes in, and all that comes out. Further ones are the examples.
 
-use crate::streams::{answer, told_over};
+use crate::streams::answer;
 use std::test::Fail;
 
 // the main job
 const FIRST_RUN: &[u8] = b"nodes 3\nsubmit 0 7 1 remove bus-7\ntimeout 0\nflush\n";
 
 const FIRST_LINES: &str = "learn 0 0 7:1\nreply 0 7:1 21\nlearn 1 0 7:1\nlearn 2 0 7:1\n";
-
-#[test]
-fn schedules_and_their_transcripts(rt: HostRuntime) -> Result<(), Fail> {
-    let cases: [(&[u8], &str); 2] = [(b"nodes 3\n", ""), (FIRST_RUN, FIRST_LINES)];
-    for (schedule, transcript) in cases {
-        let (status, out, err) = answer(&rt, &[], schedule)?;
-        assert_eq!(rt; status, 0);
-        assert_eq!(rt; out.as_str(), transcript);
-        assert_eq!(rt; err.as_str(), "");
-    }
-    Ok(())
-}
 
 /// Through sockets the order of the lines isn't fixed, but for the last.
 #[test]
@@ -36,15 +24,5 @@ fn schedules_through_sockets(rt: HostRuntime) -> Result<(), Fail> {
     let (status, out, err) = answer(&rt, &["loopback", "-"], b"nodes 3\nflash\n")?;
     assert_eq!(rt; (status, out.as_str()), (1, ""));
     assert_eq!(rt; err.as_str(), "mfpx: line 2 fault 2\n");
-    Ok(())
-}
-
-/// A writer to `out` that fails is told even though the run succeeded.
-#[test]
-fn a_transcript_that_can_not_be_written(rt: HostRuntime) -> Result<(), Fail> {
-    let mut input = FIRST_RUN;
-    let mut room = [0u8; 20];
-    let (status, err) = told_over(&rt, &[], &mut input, room.as_mut_slice())?;
-    assert_eq!(rt; (status, err.as_str()), (3, "mfpx: device\n"));
     Ok(())
 }

@@ -3,7 +3,7 @@
 use sqlite::{Connection, Error, FileStore, Files, MemStore, Options, params};
 use sqlite_disk::{Fuse, Memory};
 use sqlstable::SqlStable;
-use stable::{Failing, Key, Scripted, Stable, StableFault};
+use stable::{Key, Stable, StableFault};
 use std::alloc::Global;
 use std::fs;
 use synod::Slot;
@@ -82,22 +82,6 @@ fn memory_keeps_records(rt: HostRuntime) {
 }
 
 #[test]
-fn an_armed_put_over_it_writes(rt: HostRuntime) {
-    let alloc = rt.alloc();
-    let Ok(inner) = SqlStable::open_in_memory(alloc) else {
-        assert!(rt; false);
-        return;
-    };
-    let mut storage = Scripted::new(alloc, inner);
-    storage.arm(Failing::New);
-    assert_eq!(rt;
-        put(alloc, &mut storage, vote(1), b"h"),
-        Err(StableFault::Device)
-    );
-    assert_eq!(rt; holds(alloc, &mut storage, vote(1), b"h"), Ok(true));
-}
-
-#[test]
 fn a_closed_storage_has_its_records_again(rt: HostRuntime) {
     let alloc = rt.alloc();
     let files = Files {
@@ -150,32 +134,6 @@ fn database(alloc: Global, table: &str, row: &str) -> Result<Connection<MemStore
     connection.execute(table, params![])?;
     connection.execute(row, params![])?;
     Ok(connection)
-}
-
-const TABLE: &str = "CREATE TABLE record (k BLOB PRIMARY KEY NOT NULL, v BLOB NOT NULL) STRICT";
-
-// No letter, a letter that is none, a slot beyond the log, a byte more.
-const STRAYS: [&str; 4] = [
-    "INSERT INTO record VALUES (X'', X'00')",
-    "INSERT INTO record VALUES (X'51', X'00')",
-    "INSERT INTO record VALUES (X'5600010000', X'00')",
-    "INSERT INTO record VALUES (X'5000', X'00')",
-];
-
-#[test]
-fn a_key_of_no_record_is_damage(rt: HostRuntime) {
-    let alloc = rt.alloc();
-    for row in STRAYS {
-        let Ok(connection) = database(alloc, TABLE, row) else {
-            assert!(rt; false, "{row}");
-            return;
-        };
-        let Ok(mut storage) = SqlStable::over(connection) else {
-            assert!(rt; false, "{row}");
-            return;
-        };
-        assert_eq!(rt; storage.keys(alloc), Err(StableFault::Damaged), "{row}");
-    }
 }
 
 // Another name, values of any kind, keys that may come twice, a column more.

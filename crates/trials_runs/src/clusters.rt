@@ -293,27 +293,6 @@ fn one_request_over_stacks(rt: HostRuntime) -> Result<(), Fail> {
     Ok(())
 }
 
-// Rounds by hand are those of the world.
-#[test]
-fn rounds_of_clusters(rt: HostRuntime) -> Result<(), Fail> {
-    let alloc = rt.alloc();
-    let (first, second, third) = (node(0)?, node(1)?, node(2)?);
-    let mut cluster = three_nodes(alloc, Queues::new(alloc)?)?;
-    let _decided = cluster.round(alloc, third, &[first, third])?;
-    let _low = cluster.round(alloc, first, &[first, second])?;
-    let _decided = cluster.round(alloc, first, &[first, second])?;
-    let lines = [
-        "learn 0 0 noop",
-        "learn 2 0 noop",
-        "round 0 decided 0",
-        "round 0 low 1.2",
-        "round 2 decided 0",
-    ];
-    assert!(rt; tells(alloc, &cluster, lines.as_slice())?);
-    assert_eq!(rt; cluster.strangers(), 0);
-    Ok(())
-}
-
 // What was never sent, and what was sent to another node, is dropped and counted.
 #[test]
 fn strangers_change_nothing(rt: HostRuntime) -> Result<(), Fail> {

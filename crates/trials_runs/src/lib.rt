@@ -1,4 +1,5 @@
-//! Tests of whole runs: of `world`, `cluster`, `datagrams`, `schedule`, `loopback` and `works`.
+//! Tests of whole runs: of `world`, `cluster`, `datagrams`, `schedule`, `loopback` and `works`. What comes of whole schedules and
+//! documents is among the examples, which cost no proof.
 //!
 //! A crate with tests is proved twice. So tests stand here, over what those crates make public, and those crates have none.
 #![tactic(auto)]
@@ -6,11 +7,7 @@
 #[cfg(test)]
 mod clusters;
 #[cfg(test)]
-mod documents;
-#[cfg(test)]
 mod loopbacks;
-#[cfg(test)]
-mod replays;
 #[cfg(test)]
 mod schedules;
 #[cfg(test)]

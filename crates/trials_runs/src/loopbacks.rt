@@ -5,7 +5,7 @@ use cluster::{Queues, Transport};
 use datagrams::Sockets;
 use endings::{Failure, FaultyLine};
 use loopback::run_through;
-use schedule::{ReplayCause, ReplayFault, parse_schedule};
+use schedule::{ReplayFault, parse_schedule};
 use std::alloc::Global;
 use std::net::{IpAddr, Ipv4Addr, SocketAddr, UdpSocket};
 use std::test::Fail;
@@ -81,31 +81,6 @@ fn schedules_through_queues(rt: HostRuntime) -> Result<(), Fail> {
             "strangers 0\n"
         )?
     );
-    Ok(())
-}
-
-// The first line that can't be done, and its number.
-#[test]
-fn schedules_that_stop(rt: HostRuntime) -> Result<(), Fail> {
-    let alloc = rt.alloc();
-    let fault = queued(alloc, b"nodes 3\ntimeout 0\ndeliver 3\nflush\n")?.err();
-    let missing = ReplayFault {
-        line: 3,
-        cause: ReplayCause::NoSuchMessage,
-    };
-    assert_eq!(rt; fault, Some(missing));
-    let mut schedule = Vec::new(alloc);
-    schedule.extend_from_slice(b"nodes 3\n")?;
-    for _ in 0..3334 {
-        schedule.extend_from_slice(b"timeout 0\n")?;
-    }
-    schedule.extend_from_slice(b"flush\n")?;
-    let fault = queued(alloc, schedule.as_slice())?.err();
-    let too_many = ReplayFault {
-        line: 3336,
-        cause: ReplayCause::FlushLimit,
-    };
-    assert_eq!(rt; fault, Some(too_many));
     Ok(())
 }
 

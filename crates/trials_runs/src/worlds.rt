@@ -5,12 +5,11 @@ use stable::{Key, MemStable, Stable};
 use std::alloc::Global;
 use std::test::Fail;
 use store::{Op, Query};
-use synod::Slot;
 use tpoint::{Id, Instant, Interp, Point, Seq};
 use wire::{NodeId, Nodes};
 use world::{
-    Event, RoundEnd, World, WorldFault, a_start_tells, answers_are_one, lists_are_as_told,
-    steps_tell, tellings_are_explained,
+    Event, World, WorldFault, a_start_tells, answers_are_one, lists_are_as_told, steps_tell,
+    tellings_are_explained,
 };
 
 fn node(value: u8) -> Result<NodeId, Fail> {
@@ -106,33 +105,6 @@ fn one_request(rt: HostRuntime) -> Result<(), Fail> {
     assert!(rt; is_answered(&world));
     let first = world.frames().first().ok_or("a frame")?;
     assert!(rt; first.bytes(rt.alloc())?.as_slice() == PREPARE.as_slice());
-    Ok(())
-}
-
-// Nothing waits after a run, and no other frame or node is there.
-#[test]
-fn what_is_not_there(rt: HostRuntime) -> Result<(), Fail> {
-    let alloc = rt.alloc();
-    let fourth = node(3)?;
-    let mut world = run_of_one(alloc)?;
-    assert_eq!(rt; world.flush(alloc), Ok(0));
-    let frame = world.step(alloc, Event::Deliver(18)).err();
-    assert_eq!(rt; frame, Some(WorldFault::NoSuchMessage));
-    let event = world.step(alloc, Event::Tick(fourth)).err();
-    assert_eq!(rt; event, Some(WorldFault::NoSuchNode));
-    Ok(())
-}
-
-// A round by hand decides, and has no members but the run's. Its other ends are among the examples.
-#[test]
-fn rounds_by_hand(rt: HostRuntime) -> Result<(), Fail> {
-    let alloc = rt.alloc();
-    let (first, third, fourth) = (node(0)?, node(2)?, node(3)?);
-    let mut world = three_nodes(alloc)?;
-    let end = world.round(alloc, third, &[first, third]).ok();
-    assert_eq!(rt; end, Some(RoundEnd::Decided(Slot::first())));
-    let fault = world.round(alloc, first, &[first, fourth]).err();
-    assert_eq!(rt; fault, Some(WorldFault::NoSuchNode));
     Ok(())
 }
 

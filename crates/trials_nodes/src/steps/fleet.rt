@@ -1,6 +1,16 @@
 //! Nodes over records in memory, and each frame that they sent.
+//!
+//! A step begins with its word, and the number of a node comes next, where there is one:
+//!
+//! - `submit 0 7 1`: the client and the number of a request that removes `bus-7`; `put 0 7 1 512`: of one that puts it at so many instants.
+//! - `timeout 0`, `tick 0`, `restart 0`, `stop 0`.
+//! - `hear 0 1, ask 0`: it hears from another node, which comes next; `overhear 0 1, ask 0`: what is addressed to that node.
+//! - `deliver 3`: the frame of this number comes to whom it is addressed, again or for the first time; `lose 3`: it waits no more.
+//! - `flush`: frames are delivered, the lowest that waits first, until none waits. What is sent then isn't told.
+//! - `arm 0 old`, `arm 0 new`: the next put fails, and leaves the old or the new record.
+//! - `count 0`: how many features there are; `look 0`: whether it is up, its position, and the keys of the puts that took effect.
 
-use super::letters::{Said, envelope, node_id, number, removal};
+use super::letters::{envelope, node_id, number, numbers, removal, small};
 use super::telling::{tell_fault, tell_learnt, tell_replies, tell_sends, tell_writes};
 use node::{Input, Node, NodeFault, Outputs};
 use stable::{Failing, MemStable, Scripted};
@@ -9,35 +19,6 @@ use std::fmt::Write;
 use std::test::Fail;
 use store::{Op, Query};
 use wire::{Envelope, Frame, Id, Instant, Interp, Nodes, Point, Seq};
-
-/// A step. The number of a node comes first, where there is one.
-#[derive(Clone, Copy, Debug)]
-pub enum Step {
-    /// The client and the number of a request that removes `bus-7`.
-    Submit(u8, u8, u64),
-    /// The same of one that puts `bus-7` at so many instants.
-    Put(u8, u8, u64, u16),
-    Timeout(u8),
-    Tick(u8),
-    /// It hears from another node, which comes next.
-    Hear(u8, u8, Said),
-    /// The same of what is addressed to that other node.
-    Overhear(u8, u8, Said),
-    /// The frame of this number comes to whom it is addressed, again or for the first time.
-    Deliver(usize),
-    /// The frame of this number waits no more.
-    Lose(usize),
-    /// Frames are delivered, the lowest that waits first, until none waits. What is sent then isn't told.
-    Flush,
-    /// The next put fails.
-    Arm(u8, Failing),
-    Stop(u8),
-    Restart(u8),
-    /// How many features there are.
-    Count(u8),
-    /// Whether it is up, its position, and the keys of the puts that took effect.
-    Look(u8),
-}
 
 // No table sends more frames.
 const MOST_FLUSHED: usize = 300;
@@ -75,28 +56,34 @@ impl Fleet {
     }
 
     /// Takes a step: what is told of it.
-    pub fn take(&mut self, alloc: Global, step: Step) -> Result<String, Fail> {
-        match step {
-            Step::Submit(to, client, value) => self.submit(alloc, to, client, value, removal()?),
-            Step::Put(to, client, value, instants) => {
-                self.submit(alloc, to, client, value, ride(alloc, instants)?)
-            }
-            Step::Timeout(to) => self.give(alloc, to, Input::Timeout),
-            Step::Tick(to) => self.give(alloc, to, Input::Tick),
-            Step::Hear(to, from, said) => {
-                self.give(alloc, to, Input::Message(envelope(alloc, from, to, said)?))
-            }
-            Step::Overhear(to, from, said) => {
-                self.give(
-                    alloc,
-                    to,
-                    Input::Message(envelope(alloc, from, from, said)?),
-                )
-            }
-            Step::Deliver(at) => self.deliver(alloc, at),
-            Step::Flush => self.flush(alloc),
-            _ => self.act(alloc, step),
+    pub fn take(&mut self, alloc: Global, step: &str) -> Result<String, Fail> {
+        if let Some((who, said)) = step.split_once(", ") {
+            return self.listen(alloc, who, said);
         }
+        let numbers = numbers(alloc, step)?;
+        match (step.split_once(' '), numbers.as_slice()) {
+            (Some((word, _)), &[at]) => self.act(alloc, word, step, at),
+            (Some(_), &[to, client, value]) => {
+                self.submit(alloc, small(to), small(client), value, removal()?)
+            }
+            (Some(_), &[to, client, value, instants]) => {
+                let ride = ride(alloc, instants)?;
+                self.submit(alloc, small(to), small(client), value, ride)
+            }
+            _ => self.flush(alloc),
+        }
+    }
+
+    /// A node hears what is said: by whom, and whether it is addressed to it.
+    fn listen(&mut self, alloc: Global, who: &str, said: &str) -> Result<String, Fail> {
+        let numbers = numbers(alloc, who)?;
+        let &[hearer, from] = numbers.as_slice() else {
+            return Err("two nodes".into());
+        };
+        let (hearer, from) = (small(hearer), small(from));
+        let to = if who.starts_with('h') { hearer } else { from };
+        let message = Input::Message(envelope(alloc, from, to, said)?);
+        self.give(alloc, hearer, message)
     }
 
     fn submit(
@@ -197,34 +184,54 @@ impl Fleet {
         Ok(text)
     }
 
-    /// A step that is no input.
-    fn act(&mut self, alloc: Global, step: Step) -> Result<String, Fail> {
-        match step {
-            Step::Lose(at) => {
-                let _ = self.open(alloc, at)?.ok_or("frame")?;
+    /// A step of one number.
+    fn act(&mut self, alloc: Global, word: &str, step: &str, at: u64) -> Result<String, Fail> {
+        match word {
+            "timeout" => self.give(alloc, small(at), Input::Timeout),
+            "tick" => self.give(alloc, small(at), Input::Tick),
+            "deliver" => self.deliver(alloc, at as usize),
+            "lose" => {
+                let _ = self.open(alloc, at as usize)?.ok_or("frame")?;
                 Ok(String::new(alloc))
             }
-            Step::Arm(to, failing) => {
-                self.member(to)?.arm(failing);
-                Ok(String::new(alloc))
-            }
-            Step::Stop(to) => {
-                self.member(to)?.stop();
-                Ok(String::new(alloc))
-            }
-            Step::Restart(to) => {
-                let result = self.member(to)?.restart(alloc);
-                restarted(alloc, to, result)
-            }
-            Step::Count(to) => counted(alloc, to, self.member(to)?),
-            Step::Look(to) => seen(alloc, to, self.member(to)?),
-            _ => Err("step".into()),
+            _ => handled(alloc, small(at), self.member(small(at))?, word, step),
         }
     }
 
     fn member(&mut self, to: u8) -> Result<&mut Member, Fail> {
         let member = self.members.get_mut(usize::from(to)).ok_or("member")?;
         Ok(member)
+    }
+}
+
+/// What is told of a node that is armed, stopped, restarted or asked.
+fn handled(
+    alloc: Global,
+    of: u8,
+    member: &mut Member,
+    word: &str,
+    step: &str,
+) -> Result<String, Fail> {
+    match word {
+        "arm" => {
+            member.arm(if step.ends_with("old") {
+                Failing::Old
+            } else {
+                Failing::New
+            });
+            Ok(String::new(alloc))
+        }
+        "stop" => {
+            member.stop();
+            Ok(String::new(alloc))
+        }
+        "restart" => {
+            let result = member.restart(alloc);
+            restarted(alloc, of, result)
+        }
+        "count" => counted(alloc, of, member),
+        "look" => seen(alloc, of, member),
+        _ => Err("a step".into()),
     }
 }
 
@@ -260,10 +267,10 @@ fn seen(alloc: Global, of: u8, member: &Member) -> Result<String, Fail> {
 }
 
 /// The operation that puts `bus-7` at so many instants, a millisecond apart.
-pub fn ride(alloc: Global, instants: u16) -> Result<Op, Fail> {
+fn ride(alloc: Global, instants: u64) -> Result<Op, Fail> {
     let id = Id::new(b"bus-7").ok_or("id")?;
     let mut points = Vec::new(alloc);
-    for ms in 0..instants {
+    for ms in 0..instants.min(1000) as u16 {
         let t = Instant::new(i64::from(ms)).ok_or("instant")?;
         points.push(Point { t, x: 0, y: 0 })?;
     }

@@ -1,4 +1,6 @@
 //! Messages that are written by hand, and not by a node.
+//!
+//! They are spelled as `telling` tells them, but for a no-op, which is `0:0`.
 
 use sessions::{Command, Number, Request};
 use std::alloc::Global;
@@ -7,24 +9,20 @@ use store::Op;
 use synod::{Ballot, Slot, Vote};
 use wire::{Entries, Entry, Envelope, Id, Message, Nack, NodeId, Promise};
 
-/// The round and the node of a ballot.
-pub type Under = (u64, u8);
+/// The numbers of a text, whatever stands between them.
+pub fn numbers(alloc: Global, text: &str) -> Result<Vec<u64>, Fail> {
+    let mut numbers = Vec::new(alloc);
+    for word in text.split([' ', '.', ':', '(', ')']) {
+        if let Ok(number) = word.parse() {
+            numbers.push(number)?;
+        }
+    }
+    Ok(numbers)
+}
 
-/// The client and the number of a request that removes `bus-7`; of a no-op both are 0.
-pub type Asked = (u8, u64);
-
-/// What one node says to another.
-#[derive(Clone, Copy, Debug)]
-pub enum Said {
-    Prepare(Under, u32),
-    /// The ballot, the first slot and the last, and the votes that are told.
-    Promise(Under, u32, u32, &'static [(u32, Under, Asked)]),
-    /// What is refused, and what is promised.
-    Nack(Under, Under),
-    Accept(Under, u32, Asked),
-    Accepted(Under, u32, Asked),
-    Ask(u32),
-    Decided(u32, Asked),
+/// A number of one byte.
+pub fn small(number: u64) -> u8 {
+    number.min(255) as u8
 }
 
 /// The node of this number.
@@ -45,82 +43,87 @@ pub fn removal() -> Result<Op, Fail> {
     Ok(Op::Remove(id))
 }
 
-fn ballot(under: Under) -> Result<Ballot, Fail> {
-    let (round, node) = under;
-    let ballot = Ballot::new(round, node).ok_or("ballot")?;
+fn ballot(round: u64, node: u64) -> Result<Ballot, Fail> {
+    let ballot = Ballot::new(round, small(node)).ok_or("ballot")?;
     Ok(ballot)
 }
 
-fn slot(value: u32) -> Result<Slot, Fail> {
-    let slot = Slot::new(value).ok_or("slot")?;
+fn slot(value: u64) -> Result<Slot, Fail> {
+    let slot = Slot::new(value.min(65_536) as u32).ok_or("slot")?;
     Ok(slot)
 }
 
-fn command(asked: Asked) -> Result<Command, Fail> {
-    let (client, value) = asked;
+/// The removal of a client under a number, or for the number 0 the no-op.
+fn command(client: u64, value: u64) -> Result<Command, Fail> {
     if value == 0 {
         return Ok(Command::NoOp);
     }
-    let Ok(request) = Request::new(client, number(value)?, removal()?) else {
+    let Ok(request) = Request::new(small(client), number(value)?, removal()?) else {
         return Err("request".into());
     };
     Ok(Command::Request(request))
 }
 
-fn vote(under: Under, at: u32, asked: Asked) -> Result<Vote<Command>, Fail> {
+/// The vote of five numbers: the ballot, the slot and the command.
+fn vote(numbers: &[u64]) -> Result<Vote<Command>, Fail> {
+    let &[round, node, at, client, value] = numbers else {
+        return Err("a vote".into());
+    };
     Ok(Vote {
         slot: slot(at)?,
-        ballot: ballot(under)?,
-        command: command(asked)?,
+        ballot: ballot(round, node)?,
+        command: command(client, value)?,
     })
 }
 
+/// The promise of a ballot, its slots, and the votes that are told.
 fn promise(
     alloc: Global,
-    under: Under,
-    first: u32,
-    last: u32,
-    told: &[(u32, Under, Asked)],
+    ballot: Ballot,
+    first: Slot,
+    last: Slot,
+    told: &[u64],
 ) -> Result<Promise, Fail> {
     let mut entries = Entries::new(alloc);
-    for (at, voted_under, asked) in told {
-        let entry = Entry::new(vote(*voted_under, *at, *asked)?);
-        entries.push(entry)?;
+    for numbers in told.chunks(5) {
+        entries.push(Entry::new(vote(numbers)?))?;
     }
-    let promise = Promise::new(ballot(under)?, slot(first)?, slot(last)?, entries).ok_or(
-        "promise",
-    )?;
+    let promise = Promise::new(ballot, first, last, entries).ok_or("promise")?;
     Ok(promise)
 }
 
-fn message(alloc: Global, said: Said) -> Result<Message, Fail> {
-    match said {
-        Said::Prepare(under, first) => Ok(Message::Prepare {
-            ballot: ballot(under)?,
+fn message(alloc: Global, word: &str, numbers: &[u64]) -> Result<Message, Fail> {
+    match (word, numbers) {
+        ("prepare", &[round, node, first]) => Ok(Message::Prepare {
+            ballot: ballot(round, node)?,
             first: slot(first)?,
         }),
-        Said::Promise(under, first, last, told) => {
-            Ok(Message::Promise(promise(alloc, under, first, last, told)?))
-        }
-        Said::Nack(refused, promised) => {
-            let nack = Nack::new(ballot(refused)?, ballot(promised)?).ok_or("nack")?;
+        ("nack", &[round, node, promised, by]) => {
+            let nack = Nack::new(ballot(round, node)?, ballot(promised, by)?).ok_or("nack")?;
             Ok(Message::Nack(nack))
         }
-        Said::Accept(under, at, asked) => Ok(Message::Accept(vote(under, at, asked)?)),
-        Said::Accepted(under, at, asked) => Ok(Message::Accepted(vote(under, at, asked)?)),
-        Said::Ask(at) => Ok(Message::Ask { slot: slot(at)? }),
-        Said::Decided(at, asked) => Ok(Message::Decided {
+        ("promise", &[round, node, first, last, ref told @ ..]) => {
+            let (ballot, first, last) = (ballot(round, node)?, slot(first)?, slot(last)?);
+            Ok(Message::Promise(promise(alloc, ballot, first, last, told)?))
+        }
+        ("accept", _) => Ok(Message::Accept(vote(numbers)?)),
+        ("accepted", _) => Ok(Message::Accepted(vote(numbers)?)),
+        ("ask", &[at]) => Ok(Message::Ask { slot: slot(at)? }),
+        ("decided", &[at, client, value]) => Ok(Message::Decided {
             slot: slot(at)?,
-            command: command(asked)?,
+            command: command(client, value)?,
         }),
+        _ => Err("a message".into()),
     }
 }
 
 /// What one node says to another.
-pub fn envelope(alloc: Global, from: u8, to: u8, said: Said) -> Result<Envelope, Fail> {
+pub fn envelope(alloc: Global, from: u8, to: u8, said: &str) -> Result<Envelope, Fail> {
+    let (word, _) = said.split_once(' ').ok_or("a word")?;
+    let numbers = numbers(alloc, said)?;
     Ok(Envelope {
         from: node_id(from)?,
         to: node_id(to)?,
-        message: message(alloc, said)?,
+        message: message(alloc, word, numbers.as_slice())?,
     })
 }

@@ -83,19 +83,33 @@ pub fn tell_writes(text: &mut String, writes: &[Put]) -> Result<(), Fail> {
 pub fn tell_sends(alloc: Global, text: &mut String, sends: &[Frame]) -> Result<(), Fail> {
     let mut last = String::new(alloc);
     for frame in sends {
-        let envelope = frame.open(alloc)?;
-        let said = message_text(alloc, &envelope.message)?;
-        let from = envelope.from.value();
-        let to = envelope.to.value();
-        if said.as_str() == last.as_str() {
-            write!(text, " {to}")?;
-        } else {
-            part(text)?;
-            write!(text, "send {from} {said} to {to}")?;
-        }
-        last = said;
+        last = tell_sent(alloc, text, frame, last)?;
     }
     Ok(())
+}
+
+/// Tells what is sent, or to whom else, where it is what was told last: what is told last then.
+fn tell_sent(
+    alloc: Global,
+    text: &mut String,
+    frame: &Frame,
+    last: String,
+) -> Result<String, Fail> {
+    let said = said(alloc, frame)?;
+    let from = frame.sender().value();
+    let to = frame.receiver().value();
+    if said.as_str() == last.as_str() {
+        write!(text, " {to}")?;
+    } else {
+        part(text)?;
+        write!(text, "send {from} {said} to {to}")?;
+    }
+    Ok(said)
+}
+
+fn said(alloc: Global, frame: &Frame) -> Result<String, Fail> {
+    let envelope = frame.open(alloc)?;
+    message_text(alloc, &envelope.message)
 }
 
 fn ballot_text(alloc: Global, ballot: Ballot) -> Result<String, Fail> {
