@@ -111,6 +111,18 @@ module _ {V : Type 0} where
         | inr other ↦ rw (others_of row p s (rw (← there) other.1), changed s, other.0) refl
       ]
 
+  -- what is put at the next slot joins the row
+  pub row_next : (row more : List (Option V)) (f g : ℕ → Option V) (n : ℕ) (x : Option V) → n < 65536 → more ≡ row ++ x ∷ []
+      → n ≡ length row → ((s : ℕ) → g s ≡ put f n None s) → in_log (in_row more g) ≡ put (in_log (in_row row f)) n x
+  row_next row more f g n x lt is there changed =
+      ap in_log (λ k s. (ap (λ l. in_row l g s) is ∙ at s) k) ∙ put_in_log (in_row row f) n x lt
+    where
+      at : (s : ℕ) → in_row (row ++ x ∷ []) g s ≡ put (in_row row f) n x s
+      at s = elim (eqb_tells s n) [
+        | inl same ↦ rw (same.0, same.1, there, last_of row x) refl
+        | inr other ↦ rw (others_of row x s (rw (← there) other.1), changed s, other.0) refl
+      ]
+
   -- a change behind the row is a change there
   pub row_put : (row : List (Option V)) (f g : ℕ → Option V) (i : ℕ) (x : Option V) → i < 65536 → length row ≤ i
       → ((s : ℕ) → g s ≡ put f i x s) → in_log (in_row row g) ≡ put (in_log (in_row row f)) i x

@@ -1,6 +1,6 @@
 //! Values by slot.
 
-ghost use Rattle.std.specs.Prelude.{◌≡◌, ◌≤◌, ◌+◌, length, vec_capacity, Some, None, IfOk, OnOk, OnErr, MatchOption};
+ghost use Rattle.std.specs.Prelude.{◌≡◌, ◌≤◌, ◌<◌, ◌+◌, length, vec_len, vec_capacity, Some, None, IfOk, OnOk, OnErr, MatchOption};
 ghost use Rattle.std.specs.Option.{option_copied};
 ghost use Rattle.std.specs.BTreeMap.{get};
 ghost use Rattle.std.specs.Ordering.{nat_cmp};
@@ -87,8 +87,13 @@ impl<V: Drop> BySlot<V> {
         ensures behind { OnErr result (length self.new.row.items ≤ slot) }
         ensures row { length self.new.row.items ≤ length self.old.row.items + 64 }
     {
+        // Slots come nearly in turn, so the next of the row is what mostly comes.
+        let place = slot.value() as usize;
+        if place == self.row.len() && self.row.len() < self.row.capacity() {
+            return Ok(self.lay(slot, value));
+        }
         self.lengthen(slot);
-        match self.row.get_mut(slot.value() as usize) {
+        match self.row.get_mut(place) {
             Some(place) => Ok(place.replace(value)),
             None => Ok(self.others.insert(slot, value)?),
         }
@@ -103,6 +108,19 @@ impl<V: Drop> BySlot<V> {
             Some(place) => place.take(),
             None => self.others.remove(&slot),
         }
+    }
+
+    // A value goes to the end of the row, which has room for it, and what stood at its slot is handed out.
+    fn lay(&mut self, slot: Slot, value: V) -> Option<V>
+        requires next { slot ≡ vec_len self.old.row }
+        requires room { vec_len self.old.row < vec_capacity self.old.row }
+        ensures before { result ≡ value_at self.old slot }
+        ensures stands { value_at self.new ≡ put (value_at self.old) slot (Some value) }
+        ensures row { length self.new.row.items ≤ length self.old.row.items + 64 }
+    {
+        let before = self.others.remove(&slot);
+        let _ = self.row.push(Some(value));
+        before
     }
 
     // Where a slot isn't far behind the row, the row goes on up to it, as far as memory serves.

@@ -167,6 +167,15 @@ impl<S: Stable> Node<S> {
         }
     }
 
+    /// The room of a list of what was sent serves for what is sent next. Nothing else changes.
+    pub fn reuse(&mut self, sends: Vec<Frame>)
+        ensures { state_of self.new ≡ state_of self.old }
+    {
+        if let Some(roles) = &mut self.roles {
+            roles.reuse(sends);
+        }
+    }
+
     /// Goes down: what is not in the records is gone.
     pub fn stop(&mut self)
         ensures { state_of self.new ≡ record (state_of self.old) { up = None } }

@@ -1,6 +1,6 @@
 //! What a node holds while it is up.
 
-ghost use Rattle.std.specs.Prelude.{◌≡◌, ◌≤◌, ◌⊎◌, [], Some, IfOk, OnOk, IfErr, IfSome, IsErrOf, IsSome, None, true, false, length};
+ghost use Rattle.std.specs.Prelude.{◌≡◌, ◌≤◌, ◌⊎◌, ◌++◌, [], Some, IfOk, OnOk, IfErr, IfSome, IsErrOf, IsSome, None, true, false, length};
 ghost use Rattle.store.specs.Answers.{IsAnswer};
 ghost use Rattle.sessions.specs.declared.command.Command.{Command};
 ghost use Rattle.byteorder.specs.Endian.{big_bytes};
@@ -18,13 +18,14 @@ ghost use Rattle.node.specs.Executing.{executed, with_command};
 use super::fault::NodeFault;
 use super::input::{Input, concerns};
 use super::outputs::{Executed, LogEntry, Outputs};
-use super::sends::{send, send_answer, send_ask, send_asks, send_each, send_outgoing};
+use super::sends::{send_answer, send_ask, send_asks, send_decided, send_each, send_outgoing};
 use acceptor::Acceptor;
 use learner::{Learned, Learner};
 use proposer::{MOST_WAITING, Proposer};
 use sessions::{Command, Machine, Number, Request};
 use stable::{Stable, StableFault};
 use std::alloc::{AllocError, Global};
+use std::mem;
 use store::{Op, Query};
 use synod::{Ballot, SLOTS, Slot, Vote};
 use wire::{Envelope, Frame, Message, Nack, NodeId, Nodes, Promise};
@@ -39,6 +40,8 @@ pub struct Roles {
     proposer: Proposer,
     // It has executed what is learnt, up to the learner's prefix.
     machine: Machine,
+    // Nothing: room for what is sent next.
+    room: Vec<Frame>,
 }
 
 impl Roles {
@@ -48,7 +51,7 @@ impl Roles {
     ghost use Rattle.node.specs.Roles.{mind_of};
     ghost use Rattle.node.specs.Nodes.{HasMade, HasFailedToMake};
     ghost use Rattle.node.specs.Outputs.{sent, silence};
-    ghost use Rattle.node.specs.Sending.{to_one, ask_sends};
+    ghost use Rattle.node.specs.Sending.{to_one, ask_sends, decided_sends};
     ghost use Rattle.node.specs.Taking.{Writes, WritesOnMessage, Takes, TakesMessage, Learns, with_proposer, proposer_sends, proposed};
     ghost use Rattle.node.specs.Taking.{executing_of, with_executing, learnt_from};
 
@@ -84,6 +87,7 @@ impl Roles {
             learner: Learner::new(alloc, nodes),
             proposer,
             machine: Machine::new(alloc),
+            room: Vec::new(alloc),
         })
     }
 
@@ -101,6 +105,25 @@ impl Roles {
         ensures few { result ≤ MOST_WAITING }
     {
         self.proposer.waiting()
+    }
+
+    /// The room of a list of what was sent serves for what is sent next, where it has more of it.
+    pub fn reuse(&mut self, sends: Vec<Frame>)
+        ensures { mind_of self.new ≡ mind_of self.old }
+    {
+        if sends.capacity() > self.room.capacity() {
+            self.room = sends;
+        }
+    }
+
+    // An empty list, with the room that there is.
+    fn take_room(&mut self, alloc: Global) -> Vec<Frame>
+        ensures empty { result.items ≡ [] }
+        ensures same { mind_of self.new ≡ mind_of self.old }
+    {
+        let mut room = mem::replace(&mut self.room, Vec::new(alloc));
+        room.clear();
+        room
     }
 
     // What is known of its parts: nodes and their names, the requests that wait, and the open proposals.
@@ -209,7 +232,7 @@ impl Roles {
             return Err(NodeFault::LogFull);
         }
         let prepare = self.proposer.timeout(alloc, storage, &self.learner)?;
-        let mut sends = Vec::new(alloc);
+        let mut sends = self.take_room(alloc);
         send_outgoing(alloc, &mut sends, self.id, self.nodes, prepare)?;
         Ok(Outputs::sent(alloc, sends))
     }
@@ -221,7 +244,7 @@ impl Roles {
         ensures err { IfErr result (λ fault. fault ≡ NodeFault.Memory) }
     {
         let again = self.proposer.tick(alloc)?;
-        let mut sends = Vec::new(alloc);
+        let mut sends = self.take_room(alloc);
         send_each(alloc, &mut sends, self.id, self.nodes, again)?;
         send_asks(alloc, &mut sends, self.id, self.nodes, self.position())?;
         Ok(Outputs::sent(alloc, sends))
@@ -309,7 +332,8 @@ impl Roles {
         ensures err { IfErr result (λ fault. (fault ≡ NodeFault.Device) ⊎ (fault ≡ NodeFault.Memory)) }
     {
         let answer = self.acceptor.on_prepare(alloc, storage, ballot, first)?;
-        let sends = send_answer(alloc, self.id, self.nodes, from, answer)?;
+        let mut sends = self.take_room(alloc);
+        send_answer(alloc, &mut sends, self.id, self.nodes, from, answer)?;
         Ok(Outputs::sent(alloc, sends))
     }
 
@@ -334,7 +358,8 @@ impl Roles {
         ensures err { IfErr result (λ fault. (fault ≡ NodeFault.Device) ⊎ (fault ≡ NodeFault.Memory)) }
     {
         let answer = self.acceptor.on_accept(alloc, storage, vote)?;
-        let sends = send_answer(alloc, self.id, self.nodes, from, answer)?;
+        let mut sends = self.take_room(alloc);
+        send_answer(alloc, &mut sends, self.id, self.nodes, from, answer)?;
         Ok(Outputs::sent(alloc, sends))
     }
 
@@ -406,19 +431,31 @@ impl Roles {
     }
 
     /// A node asks what is learnt at a slot.
-    fn on_ask(&self, alloc: Global, from: NodeId, slot: Slot) -> Result<Outputs, NodeFault>
+    fn on_ask(&mut self, alloc: Global, from: NodeId, slot: Slot) -> Result<Outputs, NodeFault>
         ensures takes { IfOk result (λ said.
-            TakesMessage (mind_of self.now) from (message.Ask slot) (mind_of self.now) said) }
+            TakesMessage (mind_of self.old) from (message.Ask slot) (mind_of self.new) said) }
         ensures err { IfErr result (λ fault. fault ≡ NodeFault.Memory) }
     {
-        let Some(learnt) = self.learner.get(slot) else {
-            return Ok(Outputs::silence(alloc));
-        };
-        let command = learnt.clone()?;
-        let mut sends = Vec::new(alloc);
-        let decided = Message::Decided { slot, command };
-        send(alloc, &mut sends, self.id, from, &decided)?;
+        let mut sends = self.take_room(alloc);
+        self.tell_decided(alloc, &mut sends, from, slot)?;
         Ok(Outputs::sent(alloc, sends))
+    }
+
+    /// What is learnt at a slot, to the node that asks.
+    fn tell_decided(
+        &self,
+        alloc: Global,
+        sends: &mut Vec<Frame>,
+        to: NodeId,
+        slot: Slot,
+    ) -> Result<(), AllocError>
+        ensures { OnOk result (sends.new.items ≡ sends.old.items
+            ++ decided_sends (mind_of self.now).id to slot (learnt_at (mind_of self.now).learning slot)) }
+    {
+        match self.learner.get(slot) {
+            Some(command) => send_decided(alloc, sends, self.id, to, slot, command),
+            None => Ok(()),
+        }
     }
 
     /// A slot is newly learnt: what is learnt by now is executed, from the position before on, and the proposer proposes.
@@ -503,7 +540,7 @@ impl Roles {
             (proposed (mind_of self.old).proposing (mind_of self.old).learning)) }
     {
         let messages = self.proposer.propose(alloc, &self.learner)?;
-        let mut sends = Vec::new(alloc);
+        let mut sends = self.take_room(alloc);
         send_each(alloc, &mut sends, self.id, self.nodes, messages)?;
         Ok(sends)
     }

@@ -2,10 +2,12 @@
 
 ghost use Rattle.std.specs.Prelude.{◌≡◌, ◌++◌, ◌==◌, ◌<◌, IfOk, OnOk, filter, not};
 ghost use Rattle.wire.specs.NodeSets.{has_node};
+ghost use Rattle.wire.specs.declared.frames.message.Message.TheVariants as message;
 ghost use Rattle.node.specs.Sending.{to_one, to_all, envelopes_of, envelopes, answer_sends, ask_sends, ask_others};
 
 use acceptor::Answer;
 use proposer::{Outgoing, Recipients};
+use sessions::Command;
 use std::alloc::{AllocError, Global};
 use synod::Slot;
 use wire::{Frame, Message, NodeId, NodeSet, Nodes};
@@ -101,22 +103,34 @@ pub fn send_outgoing(
 /// An acceptor's answer, to whom it concerns.
 pub fn send_answer(
     alloc: Global,
+    sends: &mut Vec<Frame>,
     from: NodeId,
     nodes: Nodes,
     to: NodeId,
     answer: Answer,
-) -> Result<Vec<Frame>, AllocError>
-    ensures { IfOk result (λ sends. sends.items ≡ answer_sends from nodes to answer) }
+) -> Result<(), AllocError>
+    ensures { OnOk result (sends.new.items ≡ sends.old.items ++ answer_sends from nodes to answer) }
 {
-    let mut sends = Vec::new(alloc);
     match answer {
-        Answer::Promise(promise) => send(alloc, &mut sends, from, to, &Message::Promise(promise))?,
-        Answer::Nack(nack) => send(alloc, &mut sends, from, to, &Message::Nack(nack))?,
-        Answer::Accepted(vote) => {
-            send_to_all(alloc, &mut sends, from, nodes, &Message::Accepted(vote))?;
-        }
+        Answer::Promise(promise) => send(alloc, sends, from, to, &Message::Promise(promise)),
+        Answer::Nack(nack) => send(alloc, sends, from, to, &Message::Nack(nack)),
+        Answer::Accepted(vote) => send_to_all(alloc, sends, from, nodes, &Message::Accepted(vote)),
     }
-    Ok(sends)
+}
+
+/// What is learnt at a slot, to the node that asked.
+pub fn send_decided(
+    alloc: Global,
+    sends: &mut Vec<Frame>,
+    from: NodeId,
+    to: NodeId,
+    slot: Slot,
+    command: &Command,
+) -> Result<(), AllocError>
+    ensures { OnOk result (sends.new.items ≡ sends.old.items ++ to_one from to (message.Decided slot command.now)) }
+{
+    sends.push(Frame::decided(alloc, from, to, slot, command)?)?;
+    Ok(())
 }
 
 /// Asks a node what is learnt at a position, where the log has a slot there.

@@ -70,6 +70,10 @@ impl<'a> Unprinted<'a> {
     {
         match outcome {
             Outcome::Done { learnt, replies } => {
+                // Most steps tell nothing.
+                if learnt == 0 && replies == 0 {
+                    return Ok(());
+                }
                 print_learnt(text, take_first(&mut self.learnt, learnt))?;
                 print_replies(text, take_first(&mut self.replies, replies))
             }

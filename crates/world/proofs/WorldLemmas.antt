@@ -41,6 +41,13 @@ set_same : {S : Type 0} (nodes : List (NodeState (Script S))) (i : ℕ) (n : Nod
     → slice_set nodes i n ≡ nodes
 set_same nodes i n here = ap (λ m. slice_set nodes i m) (sym (get_or_from_slice_get nodes i n n here)) ∙ set-get_or nodes i n
 
+-- the node that an index lends has changed, and shows what it showed
+pub shows_the_same : {S : Type 0} (nodes : List (Node (Script S))) (len j : ℕ) (n m : Node (Script S)) → len ≡ length nodes → j < len
+    → n ≡ get_or nodes j n → state_of m ≡ state_of n → map state_of (slice_set nodes j m) ≡ map state_of nodes
+shows_the_same {S} nodes len j n m counted there lent same =
+    shown_set nodes j m ∙ ap (λ (t : NodeState (Script S)). slice_set (map state_of nodes) j t) same
+    ∙ set_same (map state_of nodes) j (state_of n) (lent_at nodes len j j n counted refl there lent)
+
 -- a step of which nothing comes
 pub nothing_comes : {S : Type 0} (w : WorldState S) (i : ℕ) (n : NodeState (Script S)) → slice_get w.nodes i ≡ Some n
     → quiet w ≡ with_response (with_node w i n) i silence

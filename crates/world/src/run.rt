@@ -22,6 +22,8 @@ use super::lists::{Answered, Learnt, Outcome, Replied, Submission};
 use super::log::MOST_DELIVERIES;
 use super::round_end::RoundEnd;
 use super::start::start_nodes;
+use byslot::BySlot;
+use learner::Held;
 use node::{Executed, Input, LogEntry, MOST_SENDS, MOST_WAITING, Node, NodeFault, Outputs, Text};
 use sessions::Number;
 use stable::{Failing, Put, Scripted, Stable};
@@ -40,6 +42,8 @@ pub struct Run<S> {
     waiting: Vec<bool>,
     lowest: usize,
     learnt: Vec<Learnt>,
+    // Of each slot a command that was learnt there, to be shared by all who learn it. No clause speaks of it.
+    known: BySlot<Held>,
     replies: Vec<Replied>,
     answers: Vec<Answered>,
     outcomes: Vec<Outcome>,
@@ -72,6 +76,7 @@ impl<S: Stable + Drop> Run<S> {
             waiting: Vec::new(alloc),
             lowest: 0,
             learnt: Vec::new(alloc),
+            known: BySlot::new(alloc),
             replies: Vec::new(alloc),
             answers: Vec::new(alloc),
             outcomes: Vec::new(alloc),
@@ -579,8 +584,20 @@ impl<S: Stable> Run<S> {
         Ok(())
     }
 
-    // The outputs of a node join the lists.
+    // The outputs of a node join the lists, and it has back what room they took.
     fn record(&mut self, node: NodeId, outputs: Outputs)
+        requires room { HasRoom self.old }
+        requires few { IsFew outputs }
+        requires between { All (IsBetween (vec_len self.old.nodes)) outputs.sends }
+        ensures lists { run_of self.new ≡ with_response (run_of self.old) node outputs }
+        ensures submitted { self.new.submitted ≡ self.old.submitted }
+    {
+        let sends = self.join(node, outputs);
+        give_back(&mut self.nodes, node, sends);
+    }
+
+    // The outputs of a node join the lists. What is handed out has no frame any more, and the room of those that were sent.
+    fn join(&mut self, node: NodeId, outputs: Outputs) -> Vec<Frame>
         requires room { HasRoom self.old }
         requires few { IsFew outputs }
         requires between { All (IsBetween (vec_len self.old.nodes)) outputs.sends }
@@ -597,6 +614,7 @@ impl<S: Stable> Run<S> {
             replies: replies.len() as u32,
         };
         if let Some(LogEntry { slot, command }) = learnt {
+            let command = shared(&mut self.known, slot, command);
             let _ = self.learnt.push(Learnt {
                 node,
                 slot,
@@ -607,6 +625,7 @@ impl<S: Stable> Run<S> {
         let _ = self.frames.append(&mut sends);
         let _ = self.waiting.resize(self.frames.len(), true);
         let _ = self.outcomes.push(outcome);
+        sends
     }
 
     // A node has refused, or went down.
@@ -621,6 +640,43 @@ impl<S: Stable> Run<S> {
             Outcome::Refused(node, fault)
         };
         let _ = self.outcomes.push(outcome);
+    }
+}
+
+// The command, as it lies already where another node has learnt it at the slot: who learns it later, again after each restart,
+// shares it then. Where memory is wanting it stays apart.
+fn shared(known: &mut BySlot<Held>, slot: Slot, command: Held) -> Held
+    ensures { result ≡ command }
+{
+    match known.get(slot) {
+        Some(held) => shared_with(held, command),
+        None => {
+            if let Ok(same) = command.share() {
+                let _ = known.insert(slot, same);
+            }
+            command
+        }
+    }
+}
+
+// The command, as it lies there already where it is the same.
+fn shared_with(held: &Held, command: Held) -> Held
+    ensures { result ≡ command }
+{
+    if *held == command {
+        if let Ok(same) = held.share() {
+            return same;
+        }
+    }
+    command
+}
+
+// The room of a list of what a node has sent serves it for what it sends next.
+fn give_back<S: Stable>(nodes: &mut Vec<Node<Scripted<S>>>, node: NodeId, sends: Vec<Frame>)
+    ensures { map state_of nodes.new.items ≡ map state_of nodes.old.items }
+{
+    if let Some(at) = nodes.get_mut(usize::from(node.value())) {
+        at.reuse(sends);
     }
 }
 

@@ -4,6 +4,7 @@ ghost use Rattle.std.specs.Prelude.{◌≡◌, ℕ, ◌+◌, ◌*◌, ◌<◌, �
 ghost use Rattle.std.specs.List.{flat_map, AllByRecursion};
 ghost use Rattle.wire.specs.FrameSpelling.{IsFrame, MessageFits, VoteFits, PromiseFits, head_bytes, body_bytes};
 ghost use Rattle.wire.specs.FrameSpelling.{vote_bytes, entry_bytes, promise_bytes, spelling};
+ghost use Rattle.wire.specs.declared.frames.message.Message.TheVariants as message;
 
 use super::entry::Entry;
 use super::envelope::{Envelope, LONGEST_FRAME, MAGIC};
@@ -11,7 +12,7 @@ use super::kind::Kind;
 use super::message::Message;
 use super::promise::Promise;
 use super::spelling::{command_len, push_ballot, push_command, push_slot};
-use crate::NodeId;
+use crate::{NodeId, Slot};
 use sessions::Command;
 use std::alloc::{AllocError, Global};
 use synod::Vote;
@@ -38,6 +39,32 @@ pub(super) fn spell(
     push_head(&mut out, message.kind(), from, to)?;
     push_body(&mut out, message)?;
     Ok(out)
+}
+
+/// The same of what is decided at a slot. The command is only looked at.
+pub(super) fn spell_decided(
+    alloc: Global,
+    from: NodeId,
+    to: NodeId,
+    slot: Slot,
+    command: &Command,
+) -> Result<Vec<u8>, AllocError>
+    ensures frame { IfOk result (λ bytes.
+        IsFrame 7 bytes.items (record { from = from; to = to; message = message.Decided slot command.now })) }
+{
+    let mut out = Vec::with_capacity(alloc, 10 + command_len(command))?;
+    push_head(&mut out, Kind::Decided, from, to)?;
+    push_decided(&mut out, slot, command)?;
+    Ok(out)
+}
+
+/// What is decided at a slot.
+fn push_decided(out: &mut Vec<u8>, slot: Slot, command: &Command) -> Result<(), AllocError>
+    ensures spelled { OnOk result (out.new.items ≡ out.old.items ++ body_bytes (message.Decided slot command.now)) }
+    ensures fits { OnOk result (MessageFits 7 (message.Decided slot command.now)) }
+{
+    push_slot(out, slot)?;
+    push_command(out, command)
 }
 
 /// What stands before the body: how each frame begins, the version, the kind, who sends, who receives.
@@ -68,10 +95,7 @@ fn push_body(out: &mut Vec<u8>, message: &Message) -> Result<(), AllocError>
         Message::Accept(vote) => push_vote(out, vote),
         Message::Accepted(vote) => push_vote(out, vote),
         Message::Ask { slot } => push_slot(out, *slot),
-        Message::Decided { slot, command } => {
-            push_slot(out, *slot)?;
-            push_command(out, command)
-        }
+        Message::Decided { slot, command } => push_decided(out, *slot, command),
     }
 }
 

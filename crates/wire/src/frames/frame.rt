@@ -5,9 +5,10 @@ ghost use Rattle.sessions.specs.declared.command.Command.{Command};
 ghost use Rattle.synod.specs.declared.vote.Vote.{Vote};
 ghost use Rattle.wire.specs.FrameSpelling.{IsFrame, Fits, VoteFits, vote_bytes};
 ghost use Rattle.wire.specs.Framing.{readdressed, voted_slot};
+ghost use Rattle.wire.specs.declared.frames.message.Message.TheVariants as message;
 
 use super::decoding::decode;
-use super::encoding::spell;
+use super::encoding::{spell, spell_decided};
 use super::envelope::{Envelope, LONGEST_FRAME};
 use super::input::Input;
 use super::kind::Kind;
@@ -15,6 +16,7 @@ use super::message::Message;
 use super::reading::read_slot;
 use super::spelled::Spelled;
 use crate::{NodeId, Nodes, Slot};
+use sessions::Command;
 use std::alloc::{AllocError, Global};
 use std::marker::Model;
 use synod::MOST_NODES;
@@ -58,6 +60,21 @@ impl Frame {
             spelled: Spelled::Alone(bytes),
             to,
         })
+    }
+
+    /// The frame that tells a node what is decided at a slot. The command is only looked at.
+    pub fn decided(
+        alloc: Global,
+        from: NodeId,
+        to: NodeId,
+        slot: Slot,
+        command: &Command,
+    ) -> Result<Frame, AllocError>
+        ensures { IfOk result (λ frame. frame ≡ record { from = from; to = to; message = message.Decided slot command.now }) }
+    {
+        let bytes = spell_decided(alloc, from, to, slot, command)?;
+        let spelled = Spelled::Alone(bytes);
+        Ok(Frame { to, spelled })
     }
 
     /// The same frame, of a message that goes to other nodes as well: they share its bytes.
