@@ -23,7 +23,7 @@ use sessions::Command;
 use stable::{Key, Stable, StableFault};
 use std::alloc::{AllocError, Global};
 use synod::{Ballot, Slot, Vote};
-use wire::{Nack, ballot_record};
+use wire::{Held, Nack, ballot_record};
 
 /// What one node has promised, and what it has voted for at each slot.
 ///
@@ -198,7 +198,7 @@ impl Acceptor {
         &mut self,
         alloc: Global,
         storage: &mut S,
-        vote: Vote<Command>,
+        vote: Vote<Held>,
     ) -> Result<Answer, StableFault>
         ensures answer { IfOk result (λ a. a ≡ accept_answer (accepting_of self.old) vote) }
         ensures state { OnOk result

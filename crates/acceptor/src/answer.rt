@@ -2,7 +2,7 @@
 
 use sessions::Command;
 use synod::Vote;
-use wire::{Nack, Promise};
+use wire::{Held, Nack, Promise};
 
 /// An acceptor's answer to a prepare or an accept.
 #[derive(Debug, Drop)]
@@ -10,7 +10,7 @@ pub enum Answer {
     /// The ballot is promised.
     Promise(Promise),
     /// The vote is cast.
-    Accepted(Vote<Command>),
+    Accepted(Vote<Held>),
     /// A greater ballot is promised.
     Nack(Nack),
 }

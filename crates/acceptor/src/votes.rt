@@ -13,7 +13,7 @@ use sessions::Command;
 use stable::{Key, Stable, StableFault};
 use std::alloc::{AllocError, Global};
 use synod::{Ballot, Slot, Vote};
-use wire::{Entries, Entry, MOST_ENTRIES, Promise, vote_record};
+use wire::{Entries, Entry, Held, MOST_ENTRIES, Promise, vote_record};
 
 /// What was voted for at each slot.
 #[derive(Drop)]
@@ -32,11 +32,11 @@ impl Votes {
     }
 
     /// Whether the vote at its slot is this vote already.
-    pub(super) fn has(&self, vote: &Vote<Command>) -> bool
+    pub(super) fn has(&self, vote: &Vote<Held>) -> bool
         ensures { IsTrue result ↔ (vote_held self.now vote.now.slot ≡ Some vote.now) }
     {
         match self.by_slot.get(vote.slot) {
-            Some(cast) => cast.ballot == vote.ballot && cast.command == vote.command,
+            Some(cast) => cast.ballot == vote.ballot && cast.command == *vote.command.command(),
             None => false,
         }
     }
@@ -65,7 +65,7 @@ impl Votes {
             entries.push(Entry::new(Vote {
                 slot,
                 ballot: cast.ballot,
-                command: cast.command.clone()?,
+                command: Held::copy_of(alloc, &cast.command)?,
             }))?;
             from = Slot::new(slot.value() + 1);
         }
@@ -87,7 +87,7 @@ impl Votes {
         &mut self,
         alloc: Global,
         storage: &mut S,
-        vote: &Vote<Command>,
+        vote: &Vote<Held>,
     ) -> Result<(), StableFault>
         ensures written { OnOk result
             (S.puts storage.old (Key.Vote vote.now.slot) (vote_bytes vote.now) storage.new) }
@@ -103,10 +103,10 @@ impl Votes {
         ensures unchanged { OnErr result ((s : ℕ) → vote_held self.new s ≡ vote_held self.old s) }
         ensures not_damaged { ¬ IsErrOf result StableFault.Damaged }
     {
-        let bytes = vote_record(alloc, vote.ballot, &vote.command)?;
+        let bytes = vote_record(alloc, vote.ballot, vote.command.command())?;
         let cast = Cast {
             ballot: vote.ballot,
-            command: vote.command.clone()?,
+            command: vote.command.command().clone()?,
         };
         // It takes its place before it is written: after the write nothing may be refused.
         let before = self.by_slot.insert(vote.slot, cast)?;

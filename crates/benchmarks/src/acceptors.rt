@@ -22,7 +22,7 @@ pub fn acceptor_of(alloc: Global, storage: &mut MemStable, votes: u16) -> Result
 {
     let mut acceptor = Acceptor::load(alloc, storage)?;
     for slot in 0..u32::from(votes) {
-        let _ = acceptor.on_accept(alloc, storage, vote(slot)?)?;
+        let _ = acceptor.on_accept(alloc, storage, vote(alloc, slot)?)?;
     }
     Ok(acceptor)
 }

@@ -18,7 +18,7 @@ pub fn learner_of(alloc: Global, slots: u16) -> Result<Learner, Fault>
     let mut learner = Learner::new(alloc, Nodes::new(3).unwrap());
     for telling in 0..2 * u32::from(slots) {
         let node = NodeId::new((telling % 2) as u8).unwrap();
-        let _ = learner.on_accepted(alloc, node, &vote(1 + telling / 2)?)?;
+        let _ = learner.on_accepted(alloc, node, &vote(alloc, 1 + telling / 2)?)?;
     }
     Ok(learner)
 }
@@ -34,7 +34,7 @@ pub fn learned_number(
         (learning_of learner.old) number (learning_of learner.new)) }
 {
     let node = NodeId::new(2).unwrap();
-    let vote = vote(told_slot(slots, round))?;
+    let vote = vote(alloc, told_slot(slots, round))?;
     match learner.on_accepted(alloc, node, &vote)? {
         Some(learned) => Ok(2 + u64::from(learned.slot.value())),
         None => Ok(1),

@@ -15,8 +15,8 @@ use sessions::{Command, MOST_PUT_POINTS, Number, Request};
 use std::alloc::{AllocError, Global};
 use store::Op;
 use wire::{
-    Ballot, Entries, Entry, Envelope, MOST_ENTRIES, Message, NodeId, Nodes, Promise, Slot, Vote,
-    decode, encode,
+    Ballot, Entries, Entry, Envelope, Held, MOST_ENTRIES, Message, NodeId, Nodes, Promise, Slot,
+    Vote, decode, encode,
 };
 
 /// The envelope that is spelled, or whose frame is read. A sequence that it puts has as many instants as a request may
@@ -83,8 +83,8 @@ fn message(alloc: Global, scene: &Scene, sent: Sent) -> Result<Message, Fault>
             first: Slot::first(),
         }),
         Sent::Promise => Ok(Message::Promise(promise(alloc, scene)?)),
-        Sent::AcceptPut => Ok(Message::Accept(vote(Slot::first(), put(scene, 0)?)?)),
-        Sent::AcceptedAppend => Ok(Message::Accepted(vote(Slot::first(), append(scene))?)),
+        Sent::AcceptPut => Ok(Message::Accept(vote(alloc, Slot::first(), put(scene, 0)?)?)),
+        Sent::AcceptedAppend => Ok(Message::Accepted(vote(alloc, Slot::first(), append(scene))?)),
     }
 }
 
@@ -104,20 +104,20 @@ fn entries(alloc: Global, scene: &Scene) -> Result<Entries, Fault>
     let mut entries = Entries::new(alloc);
     for number in 0..MOST_ENTRIES as u32 {
         let slot = Slot::new(number).unwrap();
-        entries.push(Entry::new(vote(slot, put(scene, 0)?)?))?;
+        entries.push(Entry::new(vote(alloc, slot, put(scene, 0)?)?))?;
     }
     Ok(entries)
 }
 
 /// A vote under the first ballot for a request.
-fn vote(slot: Slot, op: Op) -> Result<Vote<Command>, Fault>
+fn vote(alloc: Global, slot: Slot, op: Op) -> Result<Vote<Held>, Fault>
     ensures { IfOk result (λ vote. vote ≡ vote_of slot op) }
 {
     let request = Request::new(7, Number::new(1).unwrap(), op)?;
     Ok(Vote {
         slot,
         ballot: first_ballot(),
-        command: Command::Request(request),
+        command: Held::new(alloc, Command::Request(request))?,
     })
 }
 

@@ -9,9 +9,11 @@ use crate::fleet::name;
 use crate::messages::first_ballot;
 use crate::scene::{START, instant};
 use sessions::{Command, Number, Request};
+use std::alloc::Global;
 use store::Op;
 use synod::{Slot, Vote};
 use tpoint::Point;
+use wire::Held;
 
 /// The client of all requests.
 pub const CLIENT: u8 = 7;
@@ -31,13 +33,13 @@ pub fn request(number: u64) -> Result<Request, Fault>
 }
 
 /// The vote at a slot, under the first ballot, for a request of its own.
-pub fn vote(slot: u32) -> Result<Vote<Command>, Fault>
+pub fn vote(alloc: Global, slot: u32) -> Result<Vote<Held>, Fault>
     requires { slot < SLOTS }
     ensures { IfOk result (λ vote. vote ≡ vote_at slot) }
 {
     Ok(Vote {
         slot: Slot::new(slot).unwrap(),
         ballot: first_ballot(),
-        command: Command::Request(request(u64::from(slot) + 1)?),
+        command: Held::new(alloc, Command::Request(request(u64::from(slot) + 1)?))?,
     })
 }

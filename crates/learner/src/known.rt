@@ -8,12 +8,11 @@ ghost use Rattle.learner.specs.Learning.{unheard};
 ghost use Rattle.learner.specs.Prefixes.{IsLearntTo, IsPrefix};
 ghost use Rattle.learner.specs.Slots.{SlotHears};
 
-use super::held::Held;
 use super::slots::Slots;
 use sessions::Command;
 use std::alloc::{AllocError, Global};
 use synod::{SLOTS, Slot, Vote};
-use wire::{NodeId, Nodes};
+use wire::{Held, NodeId, Nodes};
 
 /// What is known of each slot. Slots are learnt nearly in turn: what is learnt of the first ones is found by its place.
 #[derive(Drop)]
@@ -97,7 +96,7 @@ impl Known {
         alloc: Global,
         nodes: Nodes,
         from: NodeId,
-        vote: &Vote<Command>,
+        vote: &Vote<Held>,
     ) -> Result<bool, AllocError>
         ensures hears { IfOk result (λ learns.
             SlotHears nodes (known_learnt self.old) (known_heard self.old) from vote.now

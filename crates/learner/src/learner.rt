@@ -5,13 +5,12 @@ ghost use Rattle.std.specs.Option.{option_copied};
 ghost use Rattle.learner.specs.Prefixes.{IsPrefix};
 ghost use Rattle.learner.specs.Known.{known_learnt};
 
-use super::held::Held;
 use super::known::Known;
 use super::learned::Learned;
 use sessions::Command;
 use std::alloc::{AllocError, Global};
 use synod::{SLOTS, Slot, Vote};
-use wire::{NodeId, Nodes};
+use wire::{Held, NodeId, Nodes};
 
 /// A node's learner. What it has learnt is gone after a restart.
 ///
@@ -79,7 +78,7 @@ impl Learner {
         &mut self,
         alloc: Global,
         from: NodeId,
-        vote: &Vote<Command>,
+        vote: &Vote<Held>,
     ) -> Result<Option<Learned>, AllocError>
         ensures hears { IfOk result (λ learned.
             HearsVote (learning_of self.old) from vote.now learned (learning_of self.new)) }
@@ -109,7 +108,7 @@ impl Learner {
         &mut self,
         alloc: Global,
         slot: Slot,
-        command: Command,
+        command: Held,
     ) -> Result<Option<Learned>, AllocError>
         ensures hears { IfOk result (λ learned.
             HearsDecided (learning_of self.old) slot command learned (learning_of self.new)) }
@@ -121,7 +120,6 @@ impl Learner {
         if slot.value() < self.prefix || self.slots.learnt(slot).is_some() {
             return Ok(None);
         }
-        let command = Held::new(alloc, command)?;
         self.slots.learn(slot, command)?;
         self.prefix = self.slots.first_unlearnt(self.prefix);
         Ok(Some(Learned { slot }))

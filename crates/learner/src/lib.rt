@@ -4,7 +4,6 @@
 #![tactic(auto)]
 
 mod allowed;
-mod held;
 mod known;
 mod learned;
 mod learner;
@@ -15,7 +14,7 @@ mod tallies;
 mod tally;
 
 pub use allowed::{decided_is_allowed, prefix_never_falls, vote_is_allowed};
-pub use held::Held;
 pub use learned::Learned;
 pub use learner::Learner;
 pub use prefixes::prefix_is_first_unlearnt;
+pub use wire::Held;

@@ -4,12 +4,11 @@ ghost use Rattle.std.specs.Prelude.{◌≡◌, ◌≢◌, ℕ, IfOk, OnErr, Some
 ghost use Rattle.std.specs.Option.{option_copied};
 ghost use Rattle.learner.specs.Places.{place_learnt, place_heard, PlaceHears};
 
-use super::held::Held;
 use super::tallies::Tallies;
 use sessions::Command;
 use std::alloc::{AllocError, Global};
 use synod::Ballot;
-use wire::{NodeId, Nodes};
+use wire::{Held, NodeId, Nodes};
 
 /// What is known of a slot.
 #[derive(Debug, Drop)]
@@ -37,7 +36,7 @@ impl Place {
         nodes: Nodes,
         from: NodeId,
         ballot: Ballot,
-        command: &Command,
+        command: &Held,
     ) -> Result<bool, AllocError>
         ensures hears { IfOk result (λ learns.
             PlaceHears nodes (Some self.old) from ballot command.now learns (Some self.new)) }

@@ -6,14 +6,13 @@ ghost use Rattle.synod.specs.Records.{put};
 ghost use Rattle.learner.specs.Learning.{unheard};
 ghost use Rattle.learner.specs.Slots.{learnt_of, heard_of, SlotHears};
 
-use super::held::Held;
 use super::place::Place;
 use super::tallies::Tallies;
 use sessions::Command;
 use std::alloc::{AllocError, Global};
 use std::collections::BTreeMap;
 use synod::{Slot, Vote};
-use wire::{NodeId, Nodes};
+use wire::{Held, NodeId, Nodes};
 
 /// What is known of each slot of which something was told.
 #[derive(Drop)]
@@ -71,7 +70,7 @@ impl Slots {
         alloc: Global,
         nodes: Nodes,
         from: NodeId,
-        vote: &Vote<Command>,
+        vote: &Vote<Held>,
     ) -> Result<bool, AllocError>
         ensures hears { IfOk result (λ learns.
             SlotHears nodes (learnt_of self.old) (heard_of self.old) from vote.now

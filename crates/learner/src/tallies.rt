@@ -5,13 +5,12 @@ ghost use Rattle.learner.specs.Learning.{told_too, IsDecided};
 ghost use Rattle.learner.specs.Tallies.{AreApart, told_in, IsPlace, voters_at};
 ghost use Rattle.wire.specs.NodeSets.{has_node};
 
-use super::held::Held;
 use super::tally::Tally;
 use sessions::Command;
 use std::alloc::{AllocError, Global};
 use std::mem;
 use synod::Ballot;
-use wire::{NodeId, NodeSet, Nodes};
+use wire::{Held, NodeId, NodeSet, Nodes};
 
 /// What was told of a slot that isn't learnt: under each ballot, who told of a vote for which command.
 #[derive(Debug, Drop)]
@@ -49,7 +48,7 @@ impl Tallies {
         nodes: Nodes,
         from: NodeId,
         ballot: Ballot,
-        command: &Command,
+        command: &Held,
     ) -> Result<Option<Held>, AllocError>
         requires { told_in self.old.tallies.items ballot from ≡ None }
         ensures decided { IfOk result (λ decided. IfSome decided (λ c. (c ≡ command.now)
@@ -70,7 +69,7 @@ impl Tallies {
         if voters.is_majority_of(nodes) {
             return match place {
                 Some(place) => Ok(Some(self.take(alloc, place))),
-                None => Ok(Some(Held::copy_of(alloc, command)?)),
+                None => Ok(Some(command.share()?)),
             };
         }
         match place {
@@ -79,7 +78,7 @@ impl Tallies {
                 Ok(None)
             }
             None => {
-                let command = Held::copy_of(alloc, command)?;
+                let command = command.share()?;
                 self.tallies.push(Tally {
                     ballot,
                     command,
@@ -91,11 +90,10 @@ impl Tallies {
     }
 
     /// Where it stands who told of the command under the ballot.
-    fn position(&self, ballot: Ballot, command: &Command) -> Option<usize>
+    fn position(&self, ballot: Ballot, command: &Held) -> Option<usize>
         ensures { IsPlace self.now.tallies.items ballot command.now result }
     {
-        self.tallies.iter().position(|tally| tally.ballot == ballot
-            && tally.command.command() == command)
+        self.tallies.iter().position(|tally| tally.ballot == ballot && tally.command == *command)
     }
 
     /// The command of a tally is handed out, and nothing is kept.

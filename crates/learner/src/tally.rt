@@ -1,8 +1,7 @@
 //! Who told of one command under one ballot.
 
-use super::held::Held;
 use synod::Ballot;
-use wire::NodeSet;
+use wire::{Held, NodeSet};
 
 /// The nodes that told of votes for a command under a ballot. The command stands here once, however many they are.
 #[derive(Debug, Drop)]

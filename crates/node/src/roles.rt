@@ -28,7 +28,7 @@ use std::alloc::{AllocError, Global};
 use std::mem;
 use store::{Op, Query};
 use synod::{Ballot, SLOTS, Slot, Vote};
-use wire::{Envelope, Frame, Message, Nack, NodeId, Nodes, Promise};
+use wire::{Envelope, Frame, Held, Message, Nack, NodeId, Nodes, Promise};
 
 /// A node's roles. All of it is gone after a restart.
 #[derive(Drop)]
@@ -305,7 +305,7 @@ impl Roles {
             Message::Accepted(vote) => self.on_accepted(alloc, from, vote),
             Message::Ask { slot } => self.on_ask(alloc, from, *slot),
             Message::Decided { slot, command } => {
-                self.on_decided(alloc, from, *slot, command.clone()?)
+                self.on_decided(alloc, from, *slot, command.share()?)
             }
         }
     }
@@ -343,7 +343,7 @@ impl Roles {
         alloc: Global,
         storage: &mut S,
         from: NodeId,
-        vote: Vote<Command>,
+        vote: Vote<Held>,
     ) -> Result<Outputs, NodeFault>
         ensures takes { IfOk result (λ said.
             TakesMessage (mind_of self.old) from (message.Accept vote) (mind_of self.new) said) }
@@ -396,7 +396,7 @@ impl Roles {
         &mut self,
         alloc: Global,
         from: NodeId,
-        vote: &Vote<Command>,
+        vote: &Vote<Held>,
     ) -> Result<Outputs, NodeFault>
         ensures takes { IfOk result (λ said.
             TakesMessage (mind_of self.old) from (message.Accepted vote.now) (mind_of self.new) said) }
@@ -415,7 +415,7 @@ impl Roles {
         alloc: Global,
         from: NodeId,
         slot: Slot,
-        command: Command,
+        command: Held,
     ) -> Result<Outputs, NodeFault>
         ensures takes { IfOk result (λ said.
             TakesMessage (mind_of self.old) from (message.Decided slot command) (mind_of self.new) said) }

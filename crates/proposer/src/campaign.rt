@@ -17,7 +17,7 @@ use sessions::Command;
 use std::alloc::{AllocError, Global};
 use std::marker::Model;
 use synod::{Ballot, SLOTS, Slot, Vote};
-use wire::{Entries, Message, NodeId, NodeSet, Nodes, Promise};
+use wire::{Entries, Held, Message, NodeId, NodeSet, Nodes, Promise};
 
 /// A campaign gathers promises for the slots from its first on, and leads once a majority has promised.
 #[derive(Debug, Drop)]
@@ -29,7 +29,7 @@ pub struct Campaign {
     // The promises that were counted tell of the slots up to here.
     end: Slot,
     // The votes that they tell of these slots: at most four of each promise.
-    told: Vec<Vote<Command>>,
+    told: Vec<Vote<Held>>,
     leading: bool,
     window: Window,
 }
@@ -151,10 +151,11 @@ impl Campaign {
     /// learnt.
     pub fn choice(
         &self,
+        alloc: Global,
         waiting: &Waiting,
         learnt_to: u32,
         slot: Slot,
-    ) -> Result<Option<Command>, AllocError>
+    ) -> Result<Option<Held>, AllocError>
         ensures chosen { IfOk result (λ c. c ≡ choice self.now waiting.now learnt_to slot self.now.proposals) }
         ensures there { OnErr result (IsSome (choice self.now waiting.now learnt_to slot self.now.proposals)) }
     {
@@ -162,7 +163,7 @@ impl Campaign {
             return Ok(Some(vote.command.clone()?));
         }
         let is_gap = is_told_after(self.told.as_slice(), slot) || slot.value() + 1 < learnt_to;
-        free_choice(is_gap, waiting, &self.window, slot == self.first)
+        free_choice(alloc, is_gap, waiting, &self.window, slot == self.first)
     }
 
     /// Fills the window that begins where the learner's prefix ends: which proposals are opened, slots ascending.
@@ -190,7 +191,7 @@ impl Campaign {
         for number in position..limit {
             let slot = Slot::new(number).unwrap();
             let settled = self.is_settled(learner, slot);
-            let goes_on = self.step(waiting, learnt_to, settled, slot, &mut sends)?;
+            let goes_on = self.step(alloc, waiting, learnt_to, settled, slot, &mut sends)?;
             if !goes_on {
                 return Ok(sends);
             }
@@ -212,6 +213,7 @@ impl Campaign {
     /// Whether the next slot is to follow.
     fn step(
         &mut self,
+        alloc: Global,
         waiting: &Waiting,
         learnt_to: u32,
         learnt: bool,
@@ -234,11 +236,11 @@ impl Campaign {
         if self.window.is_full() {
             return Ok(false);
         }
-        let Some(command) = self.choice(waiting, learnt_to, slot)? else {
+        let Some(command) = self.choice(alloc, waiting, learnt_to, slot)? else {
             return Ok(false);
         };
         sends.push(accept(self.ballot, slot, command.clone()?))?;
-        self.window.place(slot, command);
+        self.window.place(slot, command.command().clone()?);
         Ok(true)
     }
 
@@ -267,14 +269,18 @@ impl Campaign {
             return Ok(sends);
         }
         for proposal in self.window.proposals() {
-            sends.push(accept(self.ballot, proposal.slot, proposal.command.clone()?))?;
+            sends.push(accept(
+                self.ballot,
+                proposal.slot,
+                Held::new(alloc, proposal.command.clone()?)?,
+            ))?;
         }
         Ok(sends)
     }
 }
 
 /// Takes in the votes that a promise tells of the slots up to one.
-fn hear(told: &mut Vec<Vote<Command>>, end: Slot, entries: Entries) -> Result<(), AllocError>
+fn hear(told: &mut Vec<Vote<Held>>, end: Slot, entries: Entries) -> Result<(), AllocError>
     ensures heard { OnOk result (told.new.items ≡ told.old.items ++ up_to end entries.items) }
     ensures kept { OnErr result (up_to end entries.items ≢ []) }
 {
@@ -295,7 +301,7 @@ fn is_most(set: &NodeSet, nodes: Nodes) -> bool
 }
 
 /// What asks for votes for a command at a slot.
-fn accept(ballot: Ballot, slot: Slot, command: Command) -> Outgoing
+fn accept(ballot: Ballot, slot: Slot, command: Held) -> Outgoing
     ensures { result ≡ accept ballot (record { slot = slot; command = command }) }
 {
     Outgoing {

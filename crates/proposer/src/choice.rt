@@ -7,11 +7,12 @@ ghost use Rattle.proposer.specs.Campaigning.{told_at, is_told_after, free_choice
 use super::waiting::Waiting;
 use super::window::Window;
 use sessions::Command;
-use std::alloc::AllocError;
+use std::alloc::{AllocError, Global};
 use synod::{Slot, Vote};
+use wire::Held;
 
 /// Of the votes told at the slot, the one of the highest ballot.
-pub(super) fn highest(told: &[Vote<Command>], slot: Slot) -> Option<&Vote<Command>>
+pub(super) fn highest(told: &[Vote<Held>], slot: Slot) -> Option<&Vote<Held>>
     ensures { option_copied result ≡ told_at told.now slot }
 {
     match told {
@@ -30,7 +31,7 @@ pub(super) fn highest(told: &[Vote<Command>], slot: Slot) -> Option<&Vote<Comman
 }
 
 /// Whether a vote is told at a greater slot.
-pub(super) fn is_told_after(told: &[Vote<Command>], slot: Slot) -> bool
+pub(super) fn is_told_after(told: &[Vote<Held>], slot: Slot) -> bool
     ensures { result ≡ is_told_after told.now slot }
 {
     told.iter().any(|vote| slot < vote.slot)
@@ -39,22 +40,23 @@ pub(super) fn is_told_after(told: &[Vote<Command>], slot: Slot) -> bool
 /// The command for a slot at which no vote is told: a no-op in a gap, which is below a slot that is told or learnt; else the
 /// first waiting request that is in no open proposal; else a no-op, where the slot is the campaign's first.
 pub(super) fn free_choice(
+    alloc: Global,
     is_gap: bool,
     waiting: &Waiting,
     window: &Window,
     is_first: bool,
-) -> Result<Option<Command>, AllocError>
+) -> Result<Option<Held>, AllocError>
     ensures chosen { IfOk result (λ c. c ≡ free_choice is_gap waiting.now window.now is_first) }
     ensures there { OnErr result (IsSome (free_choice is_gap waiting.now window.now is_first)) }
 {
     if is_gap {
-        return Ok(Some(Command::NoOp));
+        return Ok(Some(Held::new(alloc, Command::NoOp)?));
     }
     if let Some(request) = waiting.first_free(window) {
-        return Ok(Some(Command::Request(request.clone()?)));
+        return Ok(Some(Held::new(alloc, Command::Request(request.clone()?))?));
     }
     if is_first {
-        return Ok(Some(Command::NoOp));
+        return Ok(Some(Held::new(alloc, Command::NoOp)?));
     }
     Ok(None)
 }

@@ -8,7 +8,8 @@ use store::Op;
 use synod::{Ballot, Slot, Vote};
 use tpoint::{Id, Instant, Interp, LONGEST_ID, Point, Seq};
 use wire::{
-    Entry, Envelope, LONGEST_FRAME, Message, NodeId, Nodes, Promise, WireFault, decode, encode,
+    Entry, Envelope, Held, LONGEST_FRAME, Message, NodeId, Nodes, Promise, WireFault, decode,
+    encode,
 };
 
 /// Prepare (1, 0) from slot 0 on, from 0 to 1.
@@ -137,7 +138,7 @@ fn largest_promise(alloc: Global) -> Result<Promise, Fail> {
         let vote = Vote {
             slot: Slot::new(slot).ok_or("slot")?,
             ballot,
-            command: largest(alloc)?,
+            command: Held::new(alloc, largest(alloc)?)?,
         };
         entries.push(Entry::new(vote))?;
     }

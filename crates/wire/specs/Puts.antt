@@ -1,4 +1,4 @@
--- What is read into memory that is asked for: the points of a sequence, and the votes that a promise tells.
+-- What is read into memory that is asked for: the points of a sequence, a command that lies apart, and the votes that a promise tells.
 use Rattle.std.specs.Prelude.{⊤, List, [], ◌∷◌}
 use Rattle.synod.specs.declared.vote.Vote.{Vote}
 use Rattle.store.specs.declared.op.Op.{Op}
@@ -26,7 +26,7 @@ abbrev pub TakesMemory : Message → Type 0
 TakesMemory (Prepare ballot first) = ⊥
 TakesMemory (Promise p) = SomeTold p.entries
 TakesMemory (Nack n) = ⊥
-TakesMemory (Accept v) = CommandPuts v.command
-TakesMemory (Accepted v) = CommandPuts v.command
+TakesMemory (Accept v) = ⊤
+TakesMemory (Accepted v) = ⊤
 TakesMemory (Ask slot) = ⊥
-TakesMemory (Decided slot command) = CommandPuts command
+TakesMemory (Decided slot command) = ⊤

@@ -5,6 +5,7 @@
 #![tactic(auto)]
 
 mod frames;
+mod held;
 mod node_set;
 mod nodes;
 mod sizes;
@@ -14,6 +15,7 @@ pub use frames::{
     Promise, WireFault, ballot_of_record, ballot_record, decode, encode, no_frame_begins_another,
     round_of_record, round_record, vote_of_record, vote_record,
 };
+pub use held::Held;
 pub use node_set::NodeSet;
 pub use nodes::{NodeId, Nodes};
 pub use sizes::limits;

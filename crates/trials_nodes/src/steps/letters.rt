@@ -7,7 +7,7 @@ use std::alloc::Global;
 use std::test::Fail;
 use store::Op;
 use synod::{Ballot, Slot, Vote};
-use wire::{Entries, Entry, Envelope, Id, Message, Nack, NodeId, Promise};
+use wire::{Entries, Entry, Envelope, Held, Id, Message, Nack, NodeId, Promise};
 
 /// The numbers of a text, whatever stands between them.
 pub fn numbers(alloc: Global, text: &str) -> Result<Vec<u64>, Fail> {
@@ -54,25 +54,25 @@ fn slot(value: u64) -> Result<Slot, Fail> {
 }
 
 /// The removal of a client under a number, or for the number 0 the no-op.
-fn command(client: u64, value: u64) -> Result<Command, Fail> {
+fn command(alloc: Global, client: u64, value: u64) -> Result<Held, Fail> {
     if value == 0 {
-        return Ok(Command::NoOp);
+        return Ok(Held::new(alloc, Command::NoOp)?);
     }
     let Ok(request) = Request::new(small(client), number(value)?, removal()?) else {
         return Err("request".into());
     };
-    Ok(Command::Request(request))
+    Ok(Held::new(alloc, Command::Request(request))?)
 }
 
 /// The vote of five numbers: the ballot, the slot and the command.
-fn vote(numbers: &[u64]) -> Result<Vote<Command>, Fail> {
+fn vote(alloc: Global, numbers: &[u64]) -> Result<Vote<Held>, Fail> {
     let &[round, node, at, client, value] = numbers else {
         return Err("a vote".into());
     };
     Ok(Vote {
         slot: slot(at)?,
         ballot: ballot(round, node)?,
-        command: command(client, value)?,
+        command: command(alloc, client, value)?,
     })
 }
 
@@ -86,7 +86,7 @@ fn promise(
 ) -> Result<Promise, Fail> {
     let mut entries = Entries::new(alloc);
     for numbers in told.chunks(5) {
-        entries.push(Entry::new(vote(numbers)?))?;
+        entries.push(Entry::new(vote(alloc, numbers)?))?;
     }
     let promise = Promise::new(ballot, first, last, entries).ok_or("promise")?;
     Ok(promise)
@@ -106,12 +106,12 @@ fn message(alloc: Global, word: &str, numbers: &[u64]) -> Result<Message, Fail> 
             let (ballot, first, last) = (ballot(round, node)?, slot(first)?, slot(last)?);
             Ok(Message::Promise(promise(alloc, ballot, first, last, told)?))
         }
-        ("accept", _) => Ok(Message::Accept(vote(numbers)?)),
-        ("accepted", _) => Ok(Message::Accepted(vote(numbers)?)),
+        ("accept", _) => Ok(Message::Accept(vote(alloc, numbers)?)),
+        ("accepted", _) => Ok(Message::Accepted(vote(alloc, numbers)?)),
         ("ask", &[at]) => Ok(Message::Ask { slot: slot(at)? }),
         ("decided", &[at, client, value]) => Ok(Message::Decided {
             slot: slot(at)?,
-            command: command(client, value)?,
+            command: command(alloc, client, value)?,
         }),
         _ => Err("a message".into()),
     }

@@ -7,7 +7,7 @@ use std::alloc::Global;
 use std::fmt::Write;
 use std::test::Fail;
 use synod::{Ballot, Vote};
-use wire::{Frame, Message, Promise};
+use wire::{Frame, Held, Message, Promise};
 
 /// Another thing is to be told.
 pub fn part(text: &mut String) -> Result<(), Fail> {
@@ -119,10 +119,10 @@ fn ballot_text(alloc: Global, ballot: Ballot) -> Result<String, Fail> {
 }
 
 /// The ballot of a vote, its slot and its command.
-fn vote_text(alloc: Global, vote: &Vote<Command>) -> Result<String, Fail> {
+fn vote_text(alloc: Global, vote: &Vote<Held>) -> Result<String, Fail> {
     let ballot = ballot_text(alloc, vote.ballot)?;
     let slot = vote.slot.value();
-    let command = command_text(alloc, &vote.command)?;
+    let command = command_text(alloc, vote.command.command())?;
     Ok(format!(in alloc; "{ballot} {slot} {command}")?)
 }
 
@@ -166,7 +166,7 @@ fn message_text(alloc: Global, message: &Message) -> Result<String, Fail> {
         }
         Message::Decided { slot, command } => {
             let slot = slot.value();
-            let command = command_text(alloc, command)?;
+            let command = command_text(alloc, command.command())?;
             Ok(format!(in alloc; "decided {slot} {command}")?)
         }
     }

@@ -1,8 +1,8 @@
 //! From bytes to envelopes, with the first fault that is met.
 
-ghost use Rattle.std.specs.Prelude.{ℕ, List, [], ◌++◌, ◌≡◌, ◌≤◌, ◌<◌, Ok, IsOk, IfOk, IsErrOf};
+ghost use Rattle.std.specs.Prelude.{ℕ, List, [], ⊤, ◌++◌, ◌≡◌, ◌≤◌, ◌<◌, Ok, IsOk, IfOk, IsErrOf};
 ghost use Rattle.synod.specs.Ballots.{rank};
-ghost use Rattle.wire.specs.Puts.{CommandPuts, TakesMemory};
+ghost use Rattle.wire.specs.Puts.{TakesMemory};
 ghost use Rattle.wire.specs.Reading.{Gives, Tells, MayWant};
 ghost use Rattle.wire.specs.FrameReading.{version_at, kind_at, node_at, ends_at, Head, head_at};
 ghost use Rattle.wire.specs.FrameReading.{ballot_above, nack_at, vote_at, prepare_at, decided_at};
@@ -18,7 +18,7 @@ use super::message::Message;
 use super::nack::Nack;
 use super::reading::{read_ballot, read_command, read_slot};
 use super::telling::read_promise;
-use crate::{NodeId, Nodes};
+use crate::{Held, NodeId, Nodes};
 use sessions::Command;
 use std::alloc::Global;
 use synod::{Ballot, Vote};
@@ -26,13 +26,15 @@ use synod::{Ballot, Vote};
 /// The envelope that these bytes spell among so many nodes.
 ///
 /// Of the faults the first in reading order is told, but that `Long` is tested before all.
+// Inlined, the envelope would be put together from its parts at each step on its way.
+#[inline(never)]
 pub fn decode(alloc: Global, bytes: &[u8], nodes: Nodes) -> Result<Envelope, WireFault>
     // What is read was spelled so, and what is spelled so is read.
     ensures found { IfOk result (λ e. IsFrame nodes bytes.now e) }
     ensures only { (e : Envelope) → IsFrame nodes bytes.now e → Gives (λ x. x) result (Ok e) }
     // Which fault it is.
     ensures exact { Gives (λ x. x) result (frame_in nodes bytes.now) }
-    // Memory is taken for the points of a sequence and for the votes that a promise tells, and for nothing else.
+    // Memory is taken for a command, which lies apart, and for the votes that a promise tells, and for nothing else.
     ensures in_place { (e : Envelope) → IsFrame nodes bytes.now e → ¬ TakesMemory e.message → IsOk result }
 {
     let _count = nodes.count();
@@ -136,7 +138,9 @@ fn read_node(input: &mut Input, nodes: Nodes) -> Result<NodeId, WireFault>
 }
 
 /// The body of a message of this kind.
+// Inlined, the message would be put together from its parts at each step on its way.
 #[tactic(auto, unfolding(crate::specs::FrameReading::message_at))]
+#[inline(never)]
 fn read_message(
     alloc: Global,
     kind: Kind,
@@ -192,13 +196,13 @@ fn read_ballot_above(input: &mut Input, nodes: Nodes, refused: Ballot) -> Result
 
 /// What is proposed or was voted for.
 #[tactic(auto, unfolding(crate::specs::FrameReading::vote_at))]
-fn read_vote(alloc: Global, input: &mut Input, nodes: Nodes) -> Result<Vote<Command>, WireFault>
+fn read_vote(alloc: Global, input: &mut Input, nodes: Nodes) -> Result<Vote<Held>, WireFault>
     ensures read { Gives (λ x. (x, input.new)) result (vote_at nodes input.old) }
-    ensures memory { IsErrOf result WireFault.Memory → MayWant (λ x. CommandPuts x.0.command) (vote_at nodes input.old) }
+    ensures memory { IsErrOf result WireFault.Memory → MayWant (λ _. ⊤) (vote_at nodes input.old) }
 {
     let ballot = read_ballot(input, nodes)?;
     let slot = read_slot(input)?;
-    let command = read_command(alloc, input)?;
+    let command = Held::new(alloc, read_command(alloc, input)?)?;
     Ok(Vote {
         slot,
         ballot,
@@ -212,7 +216,7 @@ fn read_decided(alloc: Global, input: &mut Input) -> Result<Message, WireFault>
     ensures memory { IsErrOf result WireFault.Memory → MayWant (λ x. TakesMemory x.0) (decided_at input.old) }
 {
     let slot = read_slot(input)?;
-    let command = read_command(alloc, input)?;
+    let command = Held::new(alloc, read_command(alloc, input)?)?;
     Ok(Message::Decided { slot, command })
 }
 

@@ -12,7 +12,7 @@ use super::kind::Kind;
 use super::message::Message;
 use super::promise::Promise;
 use super::spelling::{command_len, push_ballot, push_command, push_slot};
-use crate::{NodeId, Slot};
+use crate::{Held, NodeId, Slot};
 use sessions::Command;
 use std::alloc::{AllocError, Global};
 use synod::Vote;
@@ -95,18 +95,18 @@ fn push_body(out: &mut Vec<u8>, message: &Message) -> Result<(), AllocError>
         Message::Accept(vote) => push_vote(out, vote),
         Message::Accepted(vote) => push_vote(out, vote),
         Message::Ask { slot } => push_slot(out, *slot),
-        Message::Decided { slot, command } => push_decided(out, *slot, command),
+        Message::Decided { slot, command } => push_decided(out, *slot, command.command()),
     }
 }
 
 /// What is proposed or was voted for.
-fn push_vote(out: &mut Vec<u8>, vote: &Vote<Command>) -> Result<(), AllocError>
+fn push_vote(out: &mut Vec<u8>, vote: &Vote<Held>) -> Result<(), AllocError>
     ensures spelled { OnOk result (out.new.items ≡ out.old.items ++ vote_bytes vote.now) }
     ensures fits { OnOk result (VoteFits 7 vote.now) }
 {
     push_ballot(out, vote.ballot)?;
     push_slot(out, vote.slot)?;
-    push_command(out, &vote.command)
+    push_command(out, vote.command.command())
 }
 
 fn push_promise(out: &mut Vec<u8>, promise: &Promise) -> Result<(), AllocError>
@@ -135,13 +135,13 @@ fn push_entries(out: &mut Vec<u8>, entries: &[Entry]) -> Result<(), AllocError>
 }
 
 /// A vote as a promise tells it.
-fn push_entry(out: &mut Vec<u8>, vote: &Vote<Command>) -> Result<(), AllocError>
+fn push_entry(out: &mut Vec<u8>, vote: &Vote<Held>) -> Result<(), AllocError>
     ensures spelled { OnOk result (out.new.items ≡ out.old.items ++ entry_bytes vote.now) }
     ensures fits { OnOk result (VoteFits 7 vote.now) }
 {
     push_slot(out, vote.slot)?;
     push_ballot(out, vote.ballot)?;
-    push_command(out, &vote.command)
+    push_command(out, vote.command.command())
 }
 
 /// How many bytes the frame has: at most those of a promise of four of the largest commands.
@@ -153,10 +153,10 @@ fn frame_len(message: &Message) -> usize
         Message::Prepare { .. } => 13,
         Message::Promise(promise) => 18 + entries_len(promise.entries()),
         Message::Nack(_) => 18,
-        Message::Accept(vote) => 13 + command_len(&vote.command),
-        Message::Accepted(vote) => 13 + command_len(&vote.command),
+        Message::Accept(vote) => 13 + command_len(vote.command.command()),
+        Message::Accepted(vote) => 13 + command_len(vote.command.command()),
         Message::Ask { .. } => 4,
-        Message::Decided { command, .. } => 4 + command_len(command),
+        Message::Decided { command, .. } => 4 + command_len(command.command()),
     };
     6 + body
 }
@@ -171,7 +171,7 @@ fn entries_len(entries: &[Entry]) -> usize
         [] => 0,
         [entry, rest @ ..] => {
             let others = entries_len(rest);
-            13 + command_len(&entry.vote().command) + others
+            13 + command_len(entry.vote().command.command()) + others
         }
     }
 }

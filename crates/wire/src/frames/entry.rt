@@ -2,6 +2,7 @@
 
 ghost use Rattle.std.specs.Prelude.{◌≡◌};
 
+use crate::Held;
 use sessions::Command;
 use std::alloc::AllocError;
 use std::marker::Model;
@@ -10,7 +11,7 @@ use synod::Vote;
 /// A vote that a promise tells.
 #[derive(Debug, Drop, PartialEq, Eq)]
 pub struct Entry {
-    vote: Vote<Command>,
+    vote: Vote<Held>,
 }
 
 impl Model for Entry {
@@ -26,21 +27,21 @@ impl Model for Entry {
 
 impl Entry {
     /// The entry that tells this vote.
-    pub fn new(vote: Vote<Command>) -> Entry
+    pub fn new(vote: Vote<Held>) -> Entry
         ensures { result ≡ vote }
     {
         Entry { vote }
     }
 
     /// The vote.
-    pub fn vote(&self) -> &Vote<Command>
+    pub fn vote(&self) -> &Vote<Held>
         ensures { result.now ≡ self.now }
     {
         &self.vote
     }
 
     /// The vote itself.
-    pub fn into_vote(self) -> Vote<Command>
+    pub fn into_vote(self) -> Vote<Held>
         ensures { result ≡ self }
     {
         self.vote

@@ -8,6 +8,7 @@ ghost use Rattle.wire.specs.Same.{same_message, same_message_equiv};
 use super::kind::Kind;
 use super::nack::Nack;
 use super::promise::Promise;
+use crate::Held;
 use sessions::Command;
 use std::alloc::AllocError;
 use synod::{Ballot, Slot, Vote};
@@ -22,13 +23,13 @@ pub enum Message {
     /// A prepare or an accept is refused.
     Nack(Nack),
     /// Asks for this vote.
-    Accept(Vote<Command>),
+    Accept(Vote<Held>),
     /// The sender voted so.
-    Accepted(Vote<Command>),
+    Accepted(Vote<Held>),
     /// Asks what is decided at this slot.
     Ask { slot: Slot },
     /// The sender has learnt that this is chosen.
-    Decided { slot: Slot, command: Command },
+    Decided { slot: Slot, command: Held },
 }
 
 impl Message {

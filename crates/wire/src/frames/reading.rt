@@ -58,6 +58,7 @@ pub(super) fn read_slot(input: &mut Input) -> Result<Slot, WireFault>
 
 /// What is at a slot of the log: nothing, or a client's request.
 #[tactic(auto, unfolding(crate::specs::Reading::command_at))]
+#[inline(always)]
 pub(super) fn read_command(alloc: Global, input: &mut Input) -> Result<Command, WireFault>
     ensures read { Gives (λ x. (x, input.new)) result (command_at input.old) }
     ensures memory { IsErrOf result WireFault.Memory → MayWant (λ x. CommandPuts x.0) (command_at input.old) }
@@ -152,6 +153,7 @@ fn read_remove(input: &mut Input) -> Result<Op, WireFault>
 
 /// An id: its length, and its text.
 #[tactic(auto, unfolding(crate::specs::Reading::id_at))]
+#[inline(always)]
 fn read_id(input: &mut Input) -> Result<Id, WireFault>
     ensures { Tells (λ x. (x, input.new)) result (id_at input.old) }
 {

@@ -1,8 +1,8 @@
 //! Promises, read with the first fault that is met.
 
-ghost use Rattle.std.specs.Prelude.{◌≡◌, ◌+◌, ◌≤◌, length, IfOk, IsErrOf};
+ghost use Rattle.std.specs.Prelude.{◌≡◌, ◌+◌, ◌≤◌, ⊤, length, IfOk, IsErrOf};
 ghost use Rattle.wire.specs.Promises.{AreTold};
-ghost use Rattle.wire.specs.Puts.{CommandPuts, SomeTold};
+ghost use Rattle.wire.specs.Puts.{SomeTold};
 ghost use Rattle.wire.specs.Reading.{Gives, Tells, MayWant};
 ghost use Rattle.wire.specs.FrameReading.{range_at, few_at, slot_within, ballot_up_to, entry_at, entries_at};
 ghost use Rattle.wire.specs.FrameReading.{told_at, promise_at};
@@ -12,7 +12,7 @@ use super::fault::WireFault;
 use super::input::Input;
 use super::promise::{Entries, MOST_ENTRIES, Promise};
 use super::reading::{read_ballot, read_command, read_slot};
-use crate::Nodes;
+use crate::{Held, Nodes};
 use sessions::Command;
 use std::alloc::Global;
 use synod::{Ballot, Slot, Vote};
@@ -121,14 +121,14 @@ fn read_entry(
     limit: Ballot,
     from: u32,
     last: Slot,
-) -> Result<Vote<Command>, WireFault>
+) -> Result<Vote<Held>, WireFault>
     ensures read { Gives (λ x. (x, input.new)) result (entry_at nodes limit from last input.old) }
     ensures memory { IsErrOf result WireFault.Memory
-        → MayWant (λ x. CommandPuts x.0.command) (entry_at nodes limit from last input.old) }
+        → MayWant (λ _. ⊤) (entry_at nodes limit from last input.old) }
 {
     let slot = read_slot_within(input, from, last)?;
     let ballot = read_ballot_up_to(input, nodes, limit)?;
-    let command = read_command(alloc, input)?;
+    let command = Held::new(alloc, read_command(alloc, input)?)?;
     Ok(Vote {
         slot,
         ballot,

@@ -9,6 +9,6 @@ invariant_of-self-2 c =
     let self = c.args.self.now in record {
       counted = rw c.first_unlearnt-self.ensures.learnt (c.first_unlearnt-self.ensures.prefix self.first
           (learnt_on (known_learnt self.slots) (known_learnt c.learn.new.self) self.first self.prefix
-          (some_put (known_learnt self.slots) c.args.slot c.in_ok-command.command (known_learnt c.learn.new.self) c.in_ok-learn.ensures.learnt)
+          (some_put (known_learnt self.slots) c.args.slot c.args.command (known_learnt c.learn.new.self) c.in_ok-learn.ensures.learnt)
           self.counted.learnt_to));
     }

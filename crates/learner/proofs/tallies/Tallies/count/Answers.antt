@@ -18,11 +18,11 @@ returns-in-Some-clause-decided c =
           (c.is_majority_of.ensures.0 c.if-is_majority_of.true),
     )
 
-pub returns-in_ok-copy_of-in-None-clause-decided : goal.returns-in_ok-copy_of-in-None-clause-decided
-returns-in_ok-copy_of-in-None-clause-decided c =
+pub returns-in_ok-share-in-None-clause-decided : goal.returns-in_ok-share-in-None-clause-decided
+returns-in_ok-share-in-None-clause-decided c =
     let self = c.args.self.now in
     let voters = c.voters_with-voters in (
-      c.in_ok-copy_of-in-None.ensures,
+      c.in_ok-share-in-None.ensures,
       decides_there self.tallies.items self.apart c.args.ballot c.args.from c.args.command.now c.position-place.result
           c.position-place.ensures voters.result voters.ensures.member voters.ensures.others c.requires c.args.nodes
           (c.is_majority_of.ensures.0 c.if-is_majority_of.true),

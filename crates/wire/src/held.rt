@@ -73,3 +73,11 @@ impl PartialEq for Held {
 impl Eq for Held {
     ghost laws = { same_command_equiv };
 }
+
+impl Clone for Held {
+    ghost is_clone = { λ original copy. copy ≡ original };
+
+    fn clone(&self) -> Result<Held, AllocError> {
+        self.share()
+    }
+}
