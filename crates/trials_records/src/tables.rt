@@ -1,43 +1,12 @@
 //! Records in a table: in memory, over disks that fail, and in a file.
 
+use crate::calls::{holds, put, vote};
 use sqlite::{Connection, Error, FileStore, Files, MemStore, Options, params};
 use sqlite_disk::{Fuse, Memory};
 use sqlstable::SqlStable;
 use stable::{Key, Stable, StableFault};
 use std::alloc::Global;
 use std::fs;
-use synod::Slot;
-
-// The key of the vote at a slot. No test names a slot beyond the log, of which Round would be told.
-fn vote(slot: u32) -> Key {
-    match Slot::new(slot) {
-        Some(slot) => Key::Vote(slot),
-        None => Key::Round,
-    }
-}
-
-// Puts a copy of these bytes.
-fn put<S: Stable>(
-    alloc: Global,
-    storage: &mut S,
-    key: Key,
-    bytes: &[u8],
-) -> Result<(), StableFault> {
-    storage.put(alloc, key, bytes.to_vec(alloc)?)
-}
-
-// Whether the key holds these bytes.
-fn holds<S: Stable>(
-    alloc: Global,
-    storage: &mut S,
-    key: Key,
-    bytes: &[u8],
-) -> Result<bool, StableFault> {
-    Ok(match storage.get(alloc, key)? {
-        Some(found) => found.as_slice() == bytes,
-        None => false,
-    })
-}
 
 // Puts five records, the last in the place of the first.
 fn fill<S: Stable>(alloc: Global, storage: &mut S) -> Result<(), StableFault> {
@@ -70,34 +39,38 @@ fn keeps_records<S: Stable>(alloc: Global, storage: &mut S) -> Result<bool, Stab
     Ok(empty && is_filled(alloc, storage)?)
 }
 
-#[test]
-fn memory_keeps_records(rt: HostRuntime) {
-    let alloc = rt.alloc();
-    let Ok(mut storage) = SqlStable::open_in_memory(alloc) else {
-        assert!(rt; false);
-        return;
-    };
-    assert_eq!(rt; keeps_records(alloc, &mut storage), Ok(true));
-    assert!(rt; storage.can_count());
+// Whether a storage in memory keeps what is put, and can count its failures.
+fn memory_keeps(alloc: Global) -> Result<bool, StableFault> {
+    let mut storage = SqlStable::open_in_memory(alloc)?;
+    let keeps = keeps_records(alloc, &mut storage);
+    Ok(storage.can_count() && keeps?)
 }
 
+// A test holds no storage: each of its ends would drop it, and each drop is checked.
 #[test]
-fn a_closed_storage_has_its_records_again(rt: HostRuntime) {
-    let alloc = rt.alloc();
+fn memory_keeps_records(rt: HostRuntime) {
+    assert_eq!(rt; memory_keeps(rt.alloc()), Ok(true));
+}
+
+// A storage over files in memory that holds what `fill` puts, closed and opened again.
+fn reopened(alloc: Global) -> Result<SqlStable<FileStore<Memory>>, StableFault> {
     let files = Files {
         log: Memory::new(alloc),
         db: Memory::new(alloc),
     };
-    let Ok(mut storage) = SqlStable::open_files(alloc, files, Options::new(1)) else {
-        assert!(rt; false);
-        return;
-    };
-    assert_eq!(rt; keeps_records(alloc, &mut storage), Ok(true));
-    let Ok(mut again) = storage.reopen(alloc, Options::new(2)) else {
-        assert!(rt; false);
-        return;
-    };
-    assert_eq!(rt; is_filled(alloc, &mut again), Ok(true));
+    let mut storage = SqlStable::open_files(alloc, files, Options::new(1))?;
+    fill(alloc, &mut storage)?;
+    storage.reopen(alloc, Options::new(2))
+}
+
+fn is_reopened_filled(alloc: Global) -> Result<bool, StableFault> {
+    let mut storage = reopened(alloc)?;
+    is_filled(alloc, &mut storage)
+}
+
+#[test]
+fn a_closed_storage_has_its_records_again(rt: HostRuntime) {
+    assert_eq!(rt; is_reopened_filled(rt.alloc()), Ok(true));
 }
 
 // A storage over files that fail from a call of theirs on.
@@ -112,20 +85,27 @@ fn over_a_fuse(
     SqlStable::open_files(alloc, files, Options::new(1))
 }
 
-#[test]
-fn a_write_that_the_disk_refuses_is_told(rt: HostRuntime) {
-    let alloc = rt.alloc();
-    let Ok(mut storage) = over_a_fuse(alloc, 100) else {
-        assert!(rt; false);
-        return;
-    };
+// The fault of the first of 200 puts that isn't done.
+fn first_fault<S: Stable>(alloc: Global, storage: &mut S) -> Option<StableFault> {
     for slot in 0..200 {
-        if let Err(fault) = put(alloc, &mut storage, vote(slot), b"a") {
-            assert_eq!(rt; fault, StableFault::Device);
-            return;
+        if let Err(fault) = put(alloc, storage, vote(slot), b"a") {
+            return Some(fault);
         }
     }
-    assert!(rt; false, "the disk never failed");
+    None
+}
+
+fn fault_over_a_fuse(alloc: Global) -> Result<Option<StableFault>, StableFault> {
+    let mut storage = over_a_fuse(alloc, 100)?;
+    Ok(first_fault(alloc, &mut storage))
+}
+
+#[test]
+fn a_write_that_the_disk_refuses_is_told(rt: HostRuntime) {
+    assert_eq!(rt;
+        fault_over_a_fuse(rt.alloc()),
+        Ok(Some(StableFault::Device))
+    );
 }
 
 // A database in memory, made by these two texts.
@@ -156,19 +136,25 @@ const OTHERS: [(&str, &str); 4] = [
     ),
 ];
 
+// The fault of a storage over a database that these two texts make; None where there is a storage.
+fn fault_over(alloc: Global, table: &str, row: &str) -> Result<Option<StableFault>, Error> {
+    match SqlStable::over(database(alloc, table, row)?) {
+        Ok(_storage) => Ok(None),
+        Err(fault) => Ok(Some(fault)),
+    }
+}
+
+fn is_refused(alloc: Global, table: &str, row: &str) -> bool {
+    match fault_over(alloc, table, row) {
+        Ok(fault) => fault == Some(StableFault::Device),
+        Err(_) => false,
+    }
+}
+
 #[test]
 fn another_table_is_refused(rt: HostRuntime) {
-    let alloc = rt.alloc();
     for (table, row) in OTHERS {
-        let Ok(connection) = database(alloc, table, row) else {
-            assert!(rt; false, "{table}");
-            return;
-        };
-        let fault = match SqlStable::over(connection) {
-            Ok(_storage) => None,
-            Err(fault) => Some(fault),
-        };
-        assert_eq!(rt; fault, Some(StableFault::Device), "{table}");
+        assert!(rt; is_refused(rt.alloc(), table, row), "{table}");
     }
 }
 
@@ -176,24 +162,26 @@ const FOLDER: &str = "sqlstable_test";
 
 const PATH: &str = "sqlstable_test/node0.db";
 
+// A file that holds what `fill` puts, and is closed.
+fn close_a_file(rt: &HostRuntime) -> Result<(), StableFault> {
+    let mut storage = SqlStable::open(rt, PATH)?;
+    fill(rt.alloc(), &mut storage)?;
+    storage.close()
+}
+
+// Whether a file that is opened holds what `fill` puts.
+fn is_file_filled(rt: &HostRuntime, path: &str) -> Result<bool, StableFault> {
+    let mut storage = SqlStable::open(rt, path)?;
+    is_filled(rt.alloc(), &mut storage)
+}
+
 #[test]
 fn a_file_keeps_records(rt: HostRuntime) {
-    let alloc = rt.alloc();
     let _ = fs::remove_dir_all(&rt, FOLDER);
     assert!(rt; fs::create_dir(&rt, FOLDER).is_ok());
-    let Ok(mut storage) = SqlStable::open(&rt, PATH) else {
-        assert!(rt; false);
-        return;
-    };
-    assert_eq!(rt; keeps_records(alloc, &mut storage), Ok(true));
-    assert_eq!(rt; storage.close(), Ok(()));
-    let Ok(mut again) = SqlStable::open(&rt, PATH) else {
-        assert!(rt; false);
-        return;
-    };
-    assert_eq!(rt; is_filled(alloc, &mut again), Ok(true));
-    assert!(rt; SqlStable::open(&rt, "sqlstable_test").is_err());
-    drop(again);
+    assert_eq!(rt; close_a_file(&rt), Ok(()));
+    assert_eq!(rt; is_file_filled(&rt, PATH), Ok(true));
+    assert!(rt; is_file_filled(&rt, FOLDER).is_err());
     assert!(rt; fs::remove_dir_all(&rt, FOLDER).is_ok());
 }
 
@@ -218,12 +206,6 @@ fn settled_bytes(rt: &HostRuntime) -> Result<Vec<u8>, StableFault> {
     }
 }
 
-// Whether a file that is opened holds what `fill` puts.
-fn is_file_filled(rt: &HostRuntime) -> Result<bool, StableFault> {
-    let mut storage = SqlStable::open(rt, RUN_PATH)?;
-    is_filled(rt.alloc(), &mut storage)
-}
-
 #[test]
 fn a_settled_file_is_alone(rt: HostRuntime) {
     let _ = fs::remove_dir_all(&rt, RUN_FOLDER);
@@ -236,6 +218,6 @@ fn a_settled_file_is_alone(rt: HostRuntime) {
     };
     assert!(rt; fs::symlink_metadata(&rt, RUN_LOG).is_err());
     assert_eq!(rt; first.as_slice(), again.as_slice());
-    assert_eq!(rt; is_file_filled(&rt), Ok(true));
+    assert_eq!(rt; is_file_filled(&rt, RUN_PATH), Ok(true));
     assert!(rt; fs::remove_dir_all(&rt, RUN_FOLDER).is_ok());
 }

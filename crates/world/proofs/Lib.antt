@@ -10,6 +10,7 @@ pub mod NodeComes
 -- the fleet: each node has its place as its number
 pub mod FleetLemmas
 pub mod FleetSteps
+pub mod Takings
 -- what moves of the protocol lead to
 pub mod MovingLemmas
 pub mod WorldMoves

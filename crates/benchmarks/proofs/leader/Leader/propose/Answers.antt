@@ -20,11 +20,11 @@ returns c =
     let opened = c.propose.new.self in
     let learned = c.in_ok-on_decided.field-0 in
     let slot : c.unwrap-slot.result ≡ place = rw c.unwrap-slot.ensures at c.new.ensures.value in
-    let number : c.unwrap.result ≡ 1 + c.from-number.result = rw c.unwrap.ensures at c.new-2.ensures.value in
+    let number : c.unwrap.result ≡ 1 + c.from-number.result = rw c.unwrap.ensures at c.new-3.ensures.value in
     let named : c.unwrap.result ≡ 1 + place = omega (arith, number, c.from-number.ensures) in
     let chosen = c.in_ok-request.ensures ∙ ap (λ (n : ℕ). request_of (1 + n)) c.from-number.ensures in
-    let learns = subst (λ (s : ℕ). HearsDecided old s (Request c.in_ok-request.field-0) learned new) slot
-    c.in_ok-on_decided.ensures.hears in
+    let heard = subst (λ k. HearsDecided old c.unwrap-slot.result k learned new) c.in_ok-chosen.ensures c.in_ok-on_decided.ensures.hears in
+    let learns = subst (λ (s : ℕ). HearsDecided old s (Request c.in_ok-request.field-0) learned new) slot heard in
     let closed = c.on_learned.ensures ∙ ap (λ (s : ℕ). after_learned opened s) slot in
     let done : c.executed-waited.new.self ≡ executed (after_learned opened place) (1 + place) =
     c.executed-waited.ensures.rest ∙ ap (λ (n : ℕ). executed c.on_learned.new.self n) named
