@@ -1,5 +1,6 @@
 pub mod Years
 pub mod DigitsLemmas
+pub mod ThreeNumbers
 pub mod ClockTexts
 pub mod DateTexts
 pub mod SecondTexts

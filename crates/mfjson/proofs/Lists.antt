@@ -49,10 +49,10 @@ pairwise_weaker {A} {B} R S (x ∷ xs) (y ∷ ys) w p = (w x y p.0, pairwise_wea
 
 -- one element more was read
 pub read_more : {A B C : Type 0} (R : B → C → Type 0) (f : A → B) (xs : List A) (done : List C) (i : ℕ) (a : A) (c : C) →
-    i < length xs → Pairwise R (map f (take i xs)) done → R (f (get_or xs i a)) c →
+    i < length xs → Pairwise R (map f (take i xs)) done → a ≡ get_or xs i a → R (f a) c →
     Pairwise R (map f (take (i + 1) xs)) (done ++ c ∷ [])
-read_more {A} {B} {C} R f xs done i a c h p r =
-    rw (map_more f xs i a h) (pairwise_push R (map f (take i xs)) done (f (get_or xs i a)) c p r)
+read_more {A} {B} {C} R f xs done i a c h p is r =
+    rw (map_more f xs i a h) (pairwise_push R (map f (take i xs)) done (f (get_or xs i a)) c p (subst (λ b. R (f b) c) is r))
 
 -- no element fails of a list that was read
 pub none_fails : {C : Type 0} (R : Data → C → Type 0) (P : Data → Type 0) (ds : List Data) (cs : List C) →
@@ -69,14 +69,14 @@ in_front {A} (a ∷ xs) (suc i) (suc k) x h e = in_front xs i k x (omega (arith,
 
 -- the first that fails comes after a front that was read
 pub fails_first : {A C : Type 0} (R : Data → C → Type 0) (P : Data → Type 0) (f : A → Data) (xs : List A) (done : List C) (i : ℕ) (a : A) →
-    ((d : Data) (c : C) → R d c → P d) → i < length xs → Pairwise R (map f (take i xs)) done → ¬ P (f (get_or xs i a)) →
+    ((d : Data) (c : C) → R d c → P d) → i < length xs → Pairwise R (map f (take i xs)) done → a ≡ get_or xs i a → ¬ P (f a) →
     FailsFirst P (map f xs) i
-fails_first {A} {C} R P f xs done i a w h p n =
+fails_first {A} {C} R P f xs done i a w h p is n =
     record {
       fails = record {
         element = f (get_or xs i a);
         here = slice_get-map f xs i ∙ rw (slice_get-get_or xs i a h) refl;
-        fails = n;
+        fails = subst (λ b. ¬ P (f b)) is n;
       };
       before = λ k fails. elim (cases_lt k i) [
         | inl earlier ↦

@@ -33,6 +33,11 @@ pub record Member {X : Type 0} (m : ℕ) (R : Data → X → Type 0) (j : json.J
   pub here : find.get name j ≡ Some value
   pub told : Told m R value x
 
+-- the tokens of the member say it
+pub member_says : {X : Type 0} (m : ℕ) (R : Data → X → Type 0) (j : json.Json) (name : List ℕ) (ts : List Token) (x : X) →
+    (k : json.Json) × (find.get name j ≡ Some k) × BeginsWith ts k → Says m R ts x → Member m R j name x
+member_says {X} m R j name ts x found says = record { value = found.0; here = found.1; told = says.told found.0 found.2 }
+
 named : {X : Type 0} (m n : ℕ) (R : Data → X → Type 0) (ms : json.Members) (name : List ℕ) (x : X) → m ≤ n →
     (t : Member m R (json.object ms) name x) → Named n ms name t.told.value
 named {X} m n R ms name x less t =

@@ -5,20 +5,20 @@ use Rattle.jiff_core.specs.declared.civil.date.Date.{Date}
 use Rattle.jiff_core.proofs.DateLemmas.{epoch_day_injective}
 use Rattle.mfjson.specs.Datetime.{IsDateText, IsClockText, IsSecondText, IsDatetime, ReadsAs}
 use Rattle.mfjson.proofs.DigitsLemmas.{number_unique}
-use Rattle.mfjson.proofs.ClockTexts.{clock_parts}
-use Rattle.mfjson.proofs.DateTexts.{date_parts, is_civil}
+use Rattle.mfjson.proofs.ThreeNumbers.{numbers_unique}
+use Rattle.mfjson.proofs.ClockTexts.{clock_numbers}
+use Rattle.mfjson.proofs.DateTexts.{date_numbers, is_civil}
 use Rattle.mfjson.proofs.SecondTexts.{second_parts, long_parts, short_parts, of_24, of_20}
 
 -- ---- a text is of one instant
 date_of_one : (text : List ℕ) (m n : ℕ) → IsDateText text m → IsDateText text n → m ≡ n
 date_of_one text m n a b =
-    let same : pos m ≡ pos n = sym a.day_number ∙ (is_civil text a.year a.month a.day (date_parts text m a) n b).1 in cc
+    let same : pos m ≡ pos n = sym a.day_number ∙ (is_civil text a.year a.month a.day (date_numbers text m a) n b).1 in cc
 
 clock_of_one : (text : List ℕ) (m n : ℕ) → IsClockText text m → IsClockText text n → m ≡ n
 clock_of_one text m n a b =
-    let p = clock_parts text m a in
-    let q = clock_parts text n b in
-    omega (arith, number_unique _ _ _ p.first q.first, number_unique _ _ _ p.middle q.middle, number_unique _ _ _ p.last q.last)
+    let same = numbers_unique (clock_numbers text m a) (clock_numbers text n b) in
+    omega (arith, same.first, same.second, same.third)
 
 second_of_one : (text : List ℕ) (m n : ℕ) → IsSecondText text m → IsSecondText text n → m ≡ n
 second_of_one text m n a b =

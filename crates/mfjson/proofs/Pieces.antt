@@ -34,12 +34,12 @@ follows (d ∷ ds) = ap (λ s. 44 ∷ (compact_text d ++ s)) (follows ds)
     ∙ sym (append_assoc (after_comma d) (flat_map after_comma ds) (93 ∷ []))
 
 -- the whole array
-pub all_listed : (R : Data → Point → Type 0) (p : Point) (ps : List Point) (old mid more new : List ℕ) (d : Data) → R d p →
-    mid ≡ old ++ 91 ∷ compact_text d → Continues R ps mid more → new ≡ more ++ 93 ∷ [] → Lists R (p ∷ ps) old new
-all_listed R p ps old mid more new d r first rest last =
+pub all_listed : (R : Data → Point → Type 0) (all : List Point) (p : Point) (ps : List Point) (old mid more new : List ℕ) (d : Data) →
+    all ≡ p ∷ ps → R d p → mid ≡ old ++ 91 ∷ compact_text d → Continues R ps mid more → new ≡ more ++ 93 ∷ [] → Lists R all old new
+all_listed R all p ps old mid more new d parts r first rest last =
     record {
       elements = d ∷ rest.elements;
-      pairs = (r, rest.pairs);
+      pairs = rw parts (r, rest.pairs);
       spelling =
           last ∙ ap (λ s. s ++ 93 ∷ []) (rest.spelling ∙ ap (λ s. s ++ flat_map after_comma rest.elements) first)
           ∙ append_assoc (old ++ 91 ∷ compact_text d) (flat_map after_comma rest.elements) (93 ∷ [])

@@ -17,7 +17,7 @@ use Rattle.mfjson.specs.Document.{SaysInstant}
 use Rattle.mfjson.specs.Outline.{SaysThisId}
 use Rattle.mfjson.specs.Pairs.{Pairwise}
 use Rattle.mfjson.specs.Faults.{SaysCoordinate, SaysCoordinates}
-use Rattle.mfjson.specs.Tokens.{Told, Says, SaysEach, IsText, IsWhole}
+use Rattle.mfjson.specs.Tokens.{Told, Says, SaysEach, IsText, IsWhole, AreRead, IsReadEach}
 
 -- ---- one value
 
@@ -89,17 +89,12 @@ place_told j jx jy js more last x y is first second over tx ty =
     } in
     subst (λ k. Told 1 SaysCoordinates k (x, y)) (sym whole) told
 
--- the items begin with some that say the values, one after another, and then come the rest
-abbrev pub GoesOn : {X : Type 0} → ℕ → (Data → X → Type 0) → json.Items → List X → json.Items → Type 0
-GoesOn n R all [] rest = all ≡ rest
-GoesOn n R json.no_items (x ∷ xs) rest = ⊥
-GoesOn n R (json.item j js) (x ∷ xs) rest = Told n R j x × GoesOn n R js xs rest
-
-pub one_more : {X : Type 0} (n : ℕ) (R : Data → X → Type 0) (all : json.Items) (xs : List X) (j : json.Json) (rest : json.Items) (x : X) →
-    GoesOn n R all xs (json.item j rest) → Told n R j x → GoesOn n R all (xs ++ x ∷ []) rest
-one_more {X} n R all [] j rest x on told = subst (λ js. GoesOn n R js (x ∷ []) rest) (sym on) (told, refl)
-one_more {X} n R json.no_items (y ∷ xs) j rest x on told = absurd on
-one_more {X} n R (json.item i js) (y ∷ xs) j rest x on told = (on.0, one_more n R js xs j rest x on.1 told)
+-- one item more was read
+pub one_more : {X : Type 0} (Reads : List Token → X → Type 0) (all : json.Items) (xs : List X) (j : json.Json) (rest : json.Items) (x : X)
+    (ts : List Token) → AreRead Reads all xs (json.item j rest) → BeginsWith ts j → Reads ts x → AreRead Reads all (xs ++ x ∷ []) rest
+one_more {X} Reads all [] j rest x ts on begins read = subst (λ js. AreRead Reads js (x ∷ []) rest) (sym on) ((ts, begins, read), refl)
+one_more {X} Reads json.no_items (y ∷ xs) j rest x ts on begins read = absurd on
+one_more {X} Reads (json.item i js) (y ∷ xs) j rest x ts on begins read = (on.0, one_more Reads js xs j rest x ts on.1 begins read)
 
 pub record EachRead {X : Type 0} (n : ℕ) (R : Data → X → Type 0) (all : json.Items) (xs : List X) : Type 0 where
   pub elements : List Data
@@ -107,13 +102,14 @@ pub record EachRead {X : Type 0} (n : ℕ) (R : Data → X → Type 0) (all : js
   pub nests : tree.items_depth all ≤ n
   pub each : Pairwise R elements xs
 
-each_read : {X : Type 0} (n : ℕ) (R : Data → X → Type 0) (all : json.Items) (xs : List X) → GoesOn n R all xs json.no_items → EachRead n R all xs
-each_read {X} n R json.no_items [] on = record { elements = []; read = refl; nests = omega arith; each = tt }
-each_read {X} n R (json.item j js) [] on = absurd (cc)
-each_read {X} n R json.no_items (x ∷ xs) on = absurd on
-each_read {X} n R (json.item j js) (x ∷ xs) on =
-    let one = on.0 in
-    let more = each_read n R js xs on.1 in
+each_read : {X : Type 0} (n : ℕ) (R : Data → X → Type 0) (Reads : List Token → X → Type 0) (all : json.Items) (xs : List X) →
+    ((ts : List Token) (x : X) → Reads ts x → Says n R ts x) → AreRead Reads all xs json.no_items → EachRead n R all xs
+each_read {X} n R Reads json.no_items [] says on = record { elements = []; read = refl; nests = omega arith; each = tt }
+each_read {X} n R Reads (json.item j js) [] says on = absurd (cc)
+each_read {X} n R Reads json.no_items (x ∷ xs) says on = absurd on
+each_read {X} n R Reads (json.item j js) (x ∷ xs) says on =
+    let one = (says on.0.0 x on.0.2).told j on.0.1 in
+    let more = each_read n R Reads js xs says on.1 in
     let here = one.means.nests in
     let there = more.nests in
     record {
@@ -123,13 +119,25 @@ each_read {X} n R (json.item j js) (x ∷ xs) on =
       each = (one.says, more.each);
     }
 
-pub array_told : {X : Type 0} (n : ℕ) (R : Data → X → Type 0) (all : json.Items) (xs : List X) → GoesOn n R all xs json.no_items →
+array_told : {X : Type 0} (n : ℕ) (R : Data → X → Type 0) (all : json.Items) (xs : List X) → EachRead n R all xs →
     Told (suc n) (SaysEach R) (json.array all) xs
-array_told {X} n R all xs on =
-    let r = each_read n R all xs on in
+array_told {X} n R all xs r =
     let deep = r.nests in
     record {
       value = array (items_of r.elements);
       means = record { read = rw r.read refl; nests = omega (arith, deep) };
       says = record { elements = r.elements; is_array = refl; each = r.each };
+    }
+
+-- an array whose elements say what is read of them
+pub array_says : {X V : Type 0} (n : ℕ) (R : Data → X → Type 0) (Reads : List Token → X → Type 0) (ts : List Token) (o : Option V)
+    (items : V → List X) → ((item : List Token) (x : X) → Reads item x → Says n R item x) →
+    IfSome o (λ v. IsReadEach Reads ts (items v)) → IfSome o (λ v. Says (suc n) (SaysEach R) ts (items v))
+array_says {X} {V} n R Reads ts None items says each = tt
+array_says {X} {V} n R Reads ts (Some v) items says each =
+    record {
+      told = λ j begins.
+          let all = each.read j begins in
+          let read = each_read n R Reads all.0 (items v) says all.2 in
+          subst (λ k. Told (suc n) (SaysEach R) k (items v)) (sym all.1) (array_told n R all.0 (items v) read);
     }

@@ -1,5 +1,5 @@
 -- What a value says whose tokens stand at some place of a text.
-use Rattle.std.specs.Prelude.{◌≡◌, ℕ, ◌≤◌, ℤ, List, codes, Option, Some, length}
+use Rattle.std.specs.Prelude.{◌≡◌, ℕ, ◌≤◌, ℤ, List, [], ◌∷◌, codes, Option, Some, length}
 use Rattle.json.specs.Token.{Token}
 use Rattle.json.specs.Json as json
 use Rattle.json.specs.Tree as tree
@@ -45,6 +45,16 @@ pub record SaysEach {X : Type 0} (R : Data → X → Type 0) (d : Data) (xs : Li
   pub elements : List Data
   pub is_array : d ≡ array (items_of elements)
   pub each : Pairwise R elements xs
+
+-- the items begin with some whose tokens are read as these, one after another, and then come the rest
+abbrev pub AreRead : {X : Type 0} → (List Token → X → Type 0) → json.Items → List X → json.Items → Type 0
+AreRead Reads all [] rest = all ≡ rest
+AreRead Reads json.no_items (x ∷ xs) rest = ⊥
+AreRead Reads (json.item j js) (x ∷ xs) rest = ((ts : List Token) × BeginsWith ts j × Reads ts x) × AreRead Reads js xs rest
+
+-- an array whose elements are read as these, one after another
+pub record IsReadEach {X : Type 0} (Reads : List Token → X → Type 0) (ts : List Token) (xs : List X) : Type 0 where
+  pub read : (j : json.Json) → BeginsWith ts j → (all : json.Items) × (j ≡ json.array all) × AreRead Reads all xs json.no_items
 
 -- an object of so many members
 pub record HasCount (n : ℕ) (j : json.Json) : Type 0 where

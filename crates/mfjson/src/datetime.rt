@@ -2,7 +2,7 @@
 
 ghost use Rattle.std.specs.Prelude.{◌≡◌, ◌+◌, ◌*◌, ◌/◌, ◌%◌, ◌<◌, ◌≤◌, ◌^◌, ◌↔◌, ℕ, List, ◌++◌, codes, length, pos, ◌≤ℤ◌, Some, IfSome};
 ghost use Rattle.jiff_core.specs.Date.{epoch_day};
-ghost use Rattle.mfjson.specs.Digits.{digits, IsNumber};
+ghost use Rattle.mfjson.specs.Digits.{digits, IsNumber, AreNumbers};
 ghost use Rattle.mfjson.specs.Datetime.{date_text, clock_text, IsDateText, IsClockText, IsSecondText, IsDatetime, ReadsAs};
 
 use jiff_core::civil::Date;
@@ -153,18 +153,29 @@ fn number(text: &[u8]) -> Option<u32>
     Some(n)
 }
 
+/// The numbers of three parts of a text with a mark between them. The last two are of two digits.
+fn three_numbers(first: &[u8], rest: &[u8], mark: u8) -> Option<(u32, u32, u32)>
+    requires first { length first.now ≤ 4 }
+    requires rest { length rest.now ≡ 6 }
+    ensures exact { (a b c : ℕ) → AreNumbers mark first.now rest.now a b c ↔ (result ≡ Some (a, b, c)) }
+    ensures bound { IfSome result (λ n. (n.0 < 10 ^ length first.now) × (n.1 < 100) × (n.2 < 100)) }
+{
+    if rest[0] != mark || rest[3] != mark {
+        return None;
+    }
+    let a = number(first)?;
+    let b = number(&rest[1..3])?;
+    let c = number(&rest[4..6])?;
+    Some((a, b, c))
+}
+
 /// The day, counted from 1970-01-01, of a date `YYYY-MM-DD`.
 fn day_number(text: &[u8]) -> Option<u32>
     requires { length text.now ≡ 10 }
     ensures exact { (day : ℕ) → IsDateText text.now day ↔ (result ≡ Some day) }
     ensures bound { IfSome result (λ day. day ≤ 2932896) }
 {
-    if text[4] != b'-' || text[7] != b'-' {
-        return None;
-    }
-    let year = number(&text[0..4])?;
-    let month = number(&text[5..7])?;
-    let day = number(&text[8..10])?;
+    let (year, month, day) = three_numbers(&text[0..4], &text[4..10], b'-')?;
     let Ok(date) = Date::new(year as i16, month as i8, day as i8) else {
         return None;
     };
@@ -181,12 +192,7 @@ fn second_of_day(text: &[u8]) -> Option<u32>
     ensures exact { (second : ℕ) → IsClockText text.now second ↔ (result ≡ Some second) }
     ensures bound { IfSome result (λ second. second < 86400) }
 {
-    if text[2] != b':' || text[5] != b':' {
-        return None;
-    }
-    let hour = number(&text[0..2])?;
-    let minute = number(&text[3..5])?;
-    let second = number(&text[6..8])?;
+    let (hour, minute, second) = three_numbers(&text[0..2], &text[2..8], b':')?;
     if hour > 23 || minute > 59 || second > 59 {
         return None;
     }

@@ -3,12 +3,13 @@
 //! What this way doesn't read is left to the tree, which tells each fault: a member that comes twice is read there too.
 
 ghost use Rattle.std.specs.Prelude.{◌≡◌, ◌==◌, ◌<◌, length, slice_index, Some, IsTrue, IfSome};
+ghost use Rattle.std.specs.Fn.{FnReturnsAt};
 ghost use Rattle.serde_json.specs.Read.{number_of};
 ghost use Rattle.tpoint.specs.Moving.{IsValid};
 ghost use Rattle.mfjson.specs.Document.{IsDocumentOf, StandsFor, SaysInstant};
 ghost use Rattle.mfjson.specs.Faults.{SaysCoordinate, SaysCoordinates};
 ghost use Rattle.mfjson.specs.Outline.{SaysThisId, AreTogether};
-ghost use Rattle.mfjson.specs.Tokens.{Says, SaysEach, SaysCourse, HasMembers, IsText, IsWhole};
+ghost use Rattle.mfjson.specs.Tokens.{Says, SaysEach, IsReadEach, SaysCourse, HasMembers, IsText, IsWhole};
 
 use crate::reading::points_of;
 use crate::{Feature, datetime_read};
@@ -124,19 +125,31 @@ fn course_in(alloc: Global, geometry: &Element<'_, '_>) -> Option<Course>
     })
 }
 
+/// What is read of the elements of an array, one after another.
+fn each_in<T: Drop, F: Fn(&Element<'_, '_>) -> Option<T>>(
+    alloc: Global,
+    list: &Element<'_, '_>,
+    read: F,
+) -> Option<Vec<T>>
+    requires { F.IsAlwaysCallable read }
+    ensures { IfSome result (λ xs. IsReadEach (λ item x. FnReturnsAt F.Fn read item (Some x)) list.now xs.items) }
+{
+    let mut items = list.items()?;
+    let mut values = Vec::new(alloc);
+    while let Some(item) = items.next() {
+        let value = read(&item)?;
+        let Ok(()) = values.push(value) else {
+            return None;
+        };
+    }
+    Some(values)
+}
+
 /// The instants of an array of datetimes.
 fn instants_in(alloc: Global, list: &Element<'_, '_>) -> Option<Vec<Instant>>
     ensures { IfSome result (λ ts. Says 1 (SaysEach SaysInstant) list.now ts.items) }
 {
-    let mut items = list.items()?;
-    let mut instants = Vec::new(alloc);
-    while let Some(item) = items.next() {
-        let instant = instant_in(&item)?;
-        let Ok(()) = instants.push(instant) else {
-            return None;
-        };
-    }
-    Some(instants)
+    each_in(alloc, list, instant_in)
 }
 
 /// The instant that the value is a datetime of.
@@ -150,15 +163,7 @@ fn instant_in(value: &Element<'_, '_>) -> Option<Instant>
 fn places_in(alloc: Global, list: &Element<'_, '_>) -> Option<Vec<(i64, i64)>>
     ensures { IfSome result (λ cs. Says 2 (SaysEach SaysCoordinates) list.now cs.items) }
 {
-    let mut items = list.items()?;
-    let mut places = Vec::new(alloc);
-    while let Some(item) = items.next() {
-        let place = place_in(&item)?;
-        let Ok(()) = places.push(place) else {
-            return None;
-        };
-    }
-    Some(places)
+    each_in(alloc, list, place_in)
 }
 
 /// The x and the y of an array of both.

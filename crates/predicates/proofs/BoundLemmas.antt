@@ -1,26 +1,10 @@
 -- Ends of windows: their order, and when something lies between two of them.
-use Rattle.std.proofs.Common.{◌+◌, ◌&&◌, not, pos, ◌+ℤ◌, ◌*ℤ◌, Bool, true, false, refl, arith}
-use Rattle.std.proofs.lemmas.Int.{by_lt_z}
+use Rattle.std.proofs.Common.{◌+◌, ◌&&◌, not, ◌+ℤ◌, Bool, true, false, refl, arith}
 use Rattle.tpoint.proofs.Polynomials.{int, nat, ◌⊕◌, ◌⊛◌, lt_parts, lt_from}
-use Rattle.tpoint.proofs.Fractions.{≤ᶠ_trans, ≤ᶠ-<ᶠ, <ᶠ-≤ᶠ, ≤ᶠ_refl}
+use Rattle.tpoint.proofs.Fractions.{≤ᶠ_trans, ≤ᶠ-<ᶠ, <ᶠ-≤ᶠ, ≤ᶠ_refl, above, not_below}
 use Rattle.tpoint.proofs.Periods.{at_or_before, strictly_before}
-use Rattle.tpoint.specs.Fraction.{Fraction, ◌≤ᶠ◌, ◌<ᶠ◌}
+use Rattle.tpoint.specs.Fraction.{Fraction, ◌<ᶠ◌}
 use Rattle.tpoint.specs.Extents.{Before}
-
--- ---- orders
--- what is not at most another is above it
-pub above : (a b : Fraction) → ¬ (a ≤ᶠ b) → b <ᶠ a
-above a b n =
-    by_lt_z {P = b <ᶠ a} (b.num *ℤ pos a.den) (a.num *ℤ pos b.den)
-    (λ h. record { cross = h })
-    (λ h. absurd (n (record { cross = h })))
-
--- what is not below another is at least that
-pub not_below : (a b : Fraction) → ¬ (a <ᶠ b) → b ≤ᶠ a
-not_below a b n =
-    by_lt_z {P = b ≤ᶠ a} (a.num *ℤ pos b.den) (b.num *ℤ pos a.den)
-    (λ h. absurd (n (record { cross = h })))
-    (λ h. record { cross = h })
 
 -- ---- of two begins, the one that leaves less
 pub begins_later : (s t : Bool) (a b u : Fraction) → Before (not t) a b → Before t b u → Before s a u

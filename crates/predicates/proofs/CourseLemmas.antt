@@ -3,7 +3,7 @@ use Rattle.std.proofs.Common.{◌≡◌, ℕ, ◌≤◌, ℤ, pos, negsuc, refl,
 use Rattle.std.proofs.Math.Nat.{mul-le-mul_right}
 use Rattle.std.proofs.lemmas.Int.{ints, by_lt_z}
 use Rattle.tpoint.proofs.Fractions.{unscale}
-use Rattle.tpoint.proofs.Polynomials.{int, nat, ◌⊕◌, ◌⊝◌, ◌⊛◌, le_parts, le_from}
+use Rattle.tpoint.proofs.Polynomials.{int, nat, ◌⊕◌, ◌⊝◌, ◌⊛◌, le_parts, le_from, eq_from}
 use Rattle.tpoint.specs.Fraction.{Fraction, whole}
 use Rattle.tpoint.specs.Ways.{way}
 use Rattle.tpoint.specs.Extents.{Area, Between}
@@ -12,52 +12,36 @@ use Rattle.predicates.specs.Windows.{InLeg}
 use Rattle.predicates.specs.Ends.{AreBeyond}
 use Rattle.predicates.specs.Courses.{Crosses, IsCourse}
 use Rattle.predicates.specs.declared.courses.Course.{Course}
+use Rattle.predicates.proofs.Margins.{on_way, same_at_most}
 
 -- ---- the distance gone, forward
 pub goes_up : (from to low high g e l : ℤ) (u : Fraction) → g ≡ to -ℤ from → e ≡ low -ℤ from → l ≡ high -ℤ from →
     Between low high (way from to u) ↔ Between e l (way (pos 0) g u)
 goes_up from to low high g e l u p q r =
     let X = int from in
-    let Y = int to in
-    let L = int low in
-    let H = int high in
-    let n = int u.num in
+    let W = on_way X (int to) u in
+    let G = on_way (nat 0) (int to ⊝ X) u in
     let d = nat u.den in
-    let W = (X ⊛ d ⊕ (Y ⊝ X) ⊛ n) ⊛ nat 1 in
-    let G = (nat 0 ⊛ d ⊕ ((Y ⊝ X) ⊝ nat 0) ⊛ n) ⊛ nat 1 in
-    rw (p, q, r) (
-      λ b. record {
-        from = record { cross = le_from ((L ⊝ X) ⊛ d) G (omega (arith, le_parts (L ⊛ d) W b.from.cross)) };
-        to = record { cross = le_from G ((H ⊝ X) ⊛ d) (omega (arith, le_parts W (H ⊛ d) b.to.cross)) };
-      },
-      λ b. record {
-        from = record { cross = le_from (L ⊛ d) W (omega (arith, le_parts ((L ⊝ X) ⊛ d) G b.from.cross)) };
-        to = record { cross = le_from W (H ⊛ d) (omega (arith, le_parts G ((H ⊝ X) ⊛ d) b.to.cross)) };
-      },
-    )
+    let enters = same_at_most (whole low) (way from to u) (whole e) (way (pos 0) g u)
+    (rw (p, q) (eq_from (W ⊝ int low ⊛ d) (G ⊝ (int low ⊝ X) ⊛ d) (omega arith))) in
+    let leaves = same_at_most (way from to u) (whole high) (way (pos 0) g u) (whole l)
+    (rw (p, r) (eq_from (int high ⊛ d ⊝ W) ((int high ⊝ X) ⊛ d ⊝ G) (omega arith))) in
+    (λ b. record { from = enters.0 b.from; to = leaves.0 b.to }, λ b. record { from = enters.1 b.from; to = leaves.1 b.to })
 
--- and backward
-pub goes_down : (from to low high g e l : ℤ) (u : Fraction) → g ≡ from -ℤ to → e ≡ from -ℤ high → l ≡ from -ℤ low →
-    Between low high (way from to u) ↔ Between e l (way (pos 0) g u)
-goes_down from to low high g e l u p q r =
-    let X = int from in
-    let Y = int to in
-    let L = int low in
-    let H = int high in
-    let n = int u.num in
-    let d = nat u.den in
-    let W = (X ⊛ d ⊕ (Y ⊝ X) ⊛ n) ⊛ nat 1 in
-    let G = (nat 0 ⊛ d ⊕ ((X ⊝ Y) ⊝ nat 0) ⊛ n) ⊛ nat 1 in
-    rw (p, q, r) (
-      λ b. record {
-        from = record { cross = le_from ((X ⊝ H) ⊛ d) G (omega (arith, le_parts W (H ⊛ d) b.to.cross)) };
-        to = record { cross = le_from G ((X ⊝ L) ⊛ d) (omega (arith, le_parts (L ⊛ d) W b.from.cross)) };
-      },
-      λ b. record {
-        from = record { cross = le_from (L ⊛ d) W (omega (arith, le_parts G ((X ⊝ L) ⊛ d) b.to.cross)) };
-        to = record { cross = le_from W (H ⊛ d) (omega (arith, le_parts ((X ⊝ H) ⊛ d) G b.from.cross)) };
-      },
-    )
+-- a way back is the way there of the mirrored numbers
+between_mirrored : (from to low high : ℤ) (u : Fraction) →
+    Between low high (way from to u) ↔ Between (pos 0 -ℤ high) (pos 0 -ℤ low) (way (pos 0 -ℤ from) (pos 0 -ℤ to) u)
+between_mirrored from to low high u =
+    let W = on_way (int from) (int to) u in
+    let M = on_way (nat 0 ⊝ int from) (nat 0 ⊝ int to) u in
+    let L = int low ⊛ nat u.den in
+    let H = int high ⊛ nat u.den in
+    let back = way (pos 0 -ℤ from) (pos 0 -ℤ to) u in
+    let below = same_at_most (way from to u) (whole high) (whole (pos 0 -ℤ high)) back
+    (eq_from (H ⊝ W) (M ⊝ (nat 0 ⊝ int high) ⊛ nat u.den) (omega arith)) in
+    let above = same_at_most (whole low) (way from to u) back (whole (pos 0 -ℤ low))
+    (eq_from (W ⊝ L) ((nat 0 ⊝ int low) ⊛ nat u.den ⊝ M) (omega arith)) in
+    (λ b. record { from = below.0 b.to; to = above.0 b.from }, λ b. record { from = above.1 b.to; to = below.1 b.from })
 
 -- ---- one enters before the other leaves where both are between their bounds at one parameter
 enters_by : (e l : ℤ) (g h : ℕ) (u : Fraction) → Between e l (way (pos 0) (pos g) u) → (m k : ℤ) →
@@ -205,12 +189,6 @@ reaches_low from to low high o n = by_lt_z to low (λ h. absurd (n (inl (omega (
 reaches_high : (from to low high : ℤ) → from ≤ℤ to → ¬ AreBeyond from to low high → from ≤ℤ high
 reaches_high from to low high o n = by_lt_z high from (λ h. absurd (n (inr (h, omega (arith, ints, h, o))))) (λ h. h)
 
-comes_to_high : (from to low high : ℤ) → to ≤ℤ from → ¬ AreBeyond from to low high → to ≤ℤ high
-comes_to_high from to low high o n = by_lt_z high to (λ h. absurd (n (inr (omega (arith, ints, h, o), h)))) (λ h. h)
-
-comes_to_low : (from to low high : ℤ) → to ≤ℤ from → ¬ AreBeyond from to low high → low ≤ℤ from
-comes_to_low from to low high o n = by_lt_z from low (λ h. absurd (n (inl (h, omega (arith, ints, h, o))))) (λ h. h)
-
 pub up_course : (from to low high : ℤ) (c : Course) → c.length ≡ to -ℤ from → c.enter ≡ low -ℤ from → c.leave ≡ high -ℤ from →
     from ≤ℤ to → low ≤ℤ high → ¬ AreBeyond from to low high → IsCourse from to low high c
 up_course from to low high c p q r o between near =
@@ -224,15 +202,22 @@ up_course from to low high c p q r o between near =
       between = λ u. goes_up from to low high c.length c.enter c.leave u p q r;
     }
 
+beyond_mirrored : (from to low high : ℤ) → AreBeyond (pos 0 -ℤ from) (pos 0 -ℤ to) (pos 0 -ℤ high) (pos 0 -ℤ low) →
+    AreBeyond from to low high
+beyond_mirrored from to low high (inl h) = inr (omega (arith, ints, h.0), omega (arith, ints, h.1))
+beyond_mirrored from to low high (inr h) = inl (omega (arith, ints, h.0), omega (arith, ints, h.1))
+
 pub down_course : (from to low high : ℤ) (c : Course) → c.length ≡ from -ℤ to → c.enter ≡ from -ℤ high → c.leave ≡ from -ℤ low →
     to ≤ℤ from → low ≤ℤ high → ¬ AreBeyond from to low high → IsCourse from to low high c
 down_course from to low high c p q r o between near =
-    let high_reached = comes_to_high from to low high o near in
-    let low_reached = comes_to_low from to low high o near in
+    let up = up_course (pos 0 -ℤ from) (pos 0 -ℤ to) (pos 0 -ℤ high) (pos 0 -ℤ low) c (omega (arith, ints, p)) (omega (arith, ints, q))
+    (omega (arith, ints, r)) (omega (arith, ints, o)) (omega (arith, ints, between)) (λ b. near (beyond_mirrored from to low high b)) in
     record {
-      forward = omega (arith, ints, p, o);
-      enters = omega (arith, ints, p, q, high_reached);
-      leaves = omega (arith, ints, r, low_reached);
-      order = omega (arith, ints, q, r, between);
-      between = λ u. goes_down from to low high c.length c.enter c.leave u p q r;
+      forward = up.forward;
+      enters = up.enters;
+      leaves = up.leaves;
+      order = up.order;
+      between = λ u.
+          let back = between_mirrored from to low high u in
+          (λ b. (up.between u).0 (back.0 b), λ b. back.1 ((up.between u).1 b));
     }

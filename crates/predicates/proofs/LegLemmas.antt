@@ -1,6 +1,6 @@
 -- A leg's instants and positions, by its parameter.
 use Rattle.std.proofs.Common.{◌≡◌, ◌<◌, ℤ, ◌↔◌, Bool, true, false, not, IsTrue, MatchBool, Option, is_some, sym, refl}
-use Rattle.tpoint.proofs.Fractions.{≤ᶠ_refl, ≈-≤ᶠ, ≤ᶠ-≈, ≈_sym, <ᶠ-≤ᶠ, ≤ᶠ-<ᶠ, <ᶠ_of_≤ᶠ_not}
+use Rattle.tpoint.proofs.Fractions.{≤ᶠ_refl, not_below, ≈-≤ᶠ, ≤ᶠ-≈, ≈_sym, <ᶠ-≤ᶠ, ≤ᶠ-<ᶠ, <ᶠ_of_≤ᶠ_not}
 use Rattle.tpoint.proofs.Parameters.{Placed, leg_parameter, leg_value}
 use Rattle.tpoint.specs.Fraction.{Fraction, ◌≈◌, ◌<ᶠ◌, whole}
 use Rattle.tpoint.specs.Ways.{way}
@@ -14,7 +14,6 @@ use Rattle.predicates.specs.declared.questions.Tri.TheVariants.{None}
 use Rattle.predicates.specs.Windows.{InLeg, InWindow, IsWindowOf, SomeIn, EveryIn, InTime, instant_at, place_at}
 use Rattle.predicates.specs.Predicates.{SomeInside, AllInside}
 use Rattle.predicates.specs.Questions.{Answers}
-use Rattle.predicates.proofs.BoundLemmas.{not_below}
 use Rattle.tpoint.proofs.Periods.{at_or_before, strictly_before, lies_same}
 use Rattle.predicates.proofs.WindowLemmas.{some_parameter, is_some_of, same_window}
 

@@ -1,3 +1,4 @@
+pub mod Passing
 pub mod BoundLemmas
 pub mod Margins
 pub mod WindowLemmas

@@ -1,15 +1,14 @@
 -- A margin that goes evenly from one whole number to another, and the side on which it is.
 use Rattle.std.proofs.Common.{◌≡◌, ℕ, ◌+◌, ◌-◌, ℤ, pos, negsuc, ◌*ℤ◌, ◌-ℤ◌}
-use Rattle.std.proofs.Common.{◌+ℤ◌, ◌≤ℤ◌, ◌↔◌, Bool, true, false, unsigned_abs, ap, refl, arith}
+use Rattle.std.proofs.Common.{◌+ℤ◌, ◌≤ℤ◌, ◌↔◌, Bool, true, false, unsigned_abs, sym, refl, arith}
 use Rattle.std.proofs.Math.Nat.{mul-le-mul_right}
 use Rattle.std.proofs.lemmas.Int.{ints}
-use Rattle.tpoint.proofs.Fractions.{≤ᶠ_trans, <ᶠ-≤ᶠ, whole_le}
-use Rattle.tpoint.proofs.Polynomials.{int, nat, ◌⊕◌, ◌⊝◌, ◌⊛◌, le_parts, lt_parts, eq_parts, le_from, lt_from}
+use Rattle.tpoint.proofs.Fractions.{≤ᶠ_trans, <ᶠ-≤ᶠ, whole_le, above, not_below}
+use Rattle.tpoint.proofs.Polynomials.{Poly, int, nat, ◌⊕◌, ◌⊝◌, ◌⊛◌, le_parts, le_from, eq_from}
 use Rattle.tpoint.specs.Fraction.{Fraction, ◌≤ᶠ◌, ◌<ᶠ◌, whole}
 use Rattle.tpoint.specs.Ways.{way}
 use Rattle.tpoint.specs.Extents.{Before}
 use Rattle.predicates.specs.Windows.{InLeg, IsInner}
-use Rattle.predicates.proofs.BoundLemmas.{above, not_below}
 use Rattle.tpoint.proofs.Periods.{at_or_before, strictly_before}
 
 -- ---- a margin stays between those at its two ends
@@ -88,153 +87,63 @@ outer_number true z n =
     omega (arith, ints, below.cross)
 outer_number false z n = (whole_le z (pos 0)).1 (not_below (whole (pos 0)) (whole z) (λ h. n (strictly_before false h)))
 
+-- ---- two fractions are in one order with two others that are as far apart, times the denominators
+abbrev pub AsFarApart : Fraction → Fraction → Fraction → Fraction → Type 0
+AsFarApart a b c d = b.num *ℤ pos a.den -ℤ a.num *ℤ pos b.den ≡ d.num *ℤ pos c.den -ℤ c.num *ℤ pos d.den
+
+at_most_alike : (a b c d : Fraction) → AsFarApart a b c d → a ≤ᶠ b → c ≤ᶠ d
+at_most_alike a b c d e h = record { cross = omega (arith, ints, e, h.cross) }
+
+before_alike : (s : Bool) (a b c d : Fraction) → AsFarApart a b c d → Before s a b → Before s c d
+before_alike s a b c d e h =
+    record {
+      not_after = at_most_alike a b c d e h.not_after;
+      apart = λ k. record { cross = omega (arith, ints, e, (h.apart k).cross) };
+    }
+
+pub same_at_most : (a b c d : Fraction) → AsFarApart a b c d → (a ≤ᶠ b) ↔ (c ≤ᶠ d)
+same_at_most a b c d e = (at_most_alike a b c d e, at_most_alike c d a b (sym e))
+
+pub same_before : (s : Bool) (a b c d : Fraction) → AsFarApart a b c d → Before s a b ↔ Before s c d
+same_before s a b c d e = (before_alike s a b c d e, before_alike s c d a b (sym e))
+
+-- a number on its way, times its denominator
+abbrev pub on_way : Poly → Poly → Fraction → Poly
+on_way from to u = (from ⊛ nat u.den ⊕ (to ⊝ from) ⊛ int u.num) ⊛ nat 1
+
 -- ---- a margin that changes its side is 0 at the parameter b, and on the inner side from there on
-rise_le : (b u : Fraction) (from to : ℤ) → b.num ≡ pos 0 -ℤ from → pos b.den ≡ to -ℤ from → (b ≤ᶠ u) ↔ (whole (pos 0) ≤ᶠ way from to u)
-rise_le b u from to e f =
-    let X = int from in
-    let Y = int to in
-    let n = int u.num in
-    let d = nat u.den in
-    let W = (X ⊛ d ⊕ (Y ⊝ X) ⊛ n) ⊛ nat 1 in
-    let e' = eq_parts (int b.num ⊛ d) ((nat 0 ⊝ X) ⊛ d) (ap (λ (z : ℤ). z *ℤ pos u.den) e) in
-    let f' = eq_parts (n ⊛ nat b.den) (n ⊛ (Y ⊝ X)) (ap (λ (z : ℤ). u.num *ℤ z) f) in (
-      λ h. record { cross = le_from (nat 0 ⊛ d) W (omega (arith, e', f', le_parts (int b.num ⊛ d) (n ⊛ nat b.den) h.cross)) },
-      λ h. record { cross = le_from (int b.num ⊛ d) (n ⊛ nat b.den) (omega (arith, e', f', le_parts (nat 0 ⊛ d) W h.cross)) },
-    )
-
-rise_lt : (b u : Fraction) (from to : ℤ) → b.num ≡ pos 0 -ℤ from → pos b.den ≡ to -ℤ from → (b <ᶠ u) ↔ (whole (pos 0) <ᶠ way from to u)
-rise_lt b u from to e f =
-    let X = int from in
-    let Y = int to in
-    let n = int u.num in
-    let d = nat u.den in
-    let W = (X ⊛ d ⊕ (Y ⊝ X) ⊛ n) ⊛ nat 1 in
-    let e' = eq_parts (int b.num ⊛ d) ((nat 0 ⊝ X) ⊛ d) (ap (λ (z : ℤ). z *ℤ pos u.den) e) in
-    let f' = eq_parts (n ⊛ nat b.den) (n ⊛ (Y ⊝ X)) (ap (λ (z : ℤ). u.num *ℤ z) f) in (
-      λ h. record { cross = lt_from (nat 0 ⊛ d) W (omega (arith, e', f', lt_parts (int b.num ⊛ d) (n ⊛ nat b.den) h.cross)) },
-      λ h. record { cross = lt_from (int b.num ⊛ d) (n ⊛ nat b.den) (omega (arith, e', f', lt_parts (nat 0 ⊛ d) W h.cross)) },
-    )
-
 pub rises : (s : Bool) (b u : Fraction) (from to : ℤ) → b.num ≡ pos 0 -ℤ from → pos b.den ≡ to -ℤ from →
     Before s b u ↔ IsInner s (way from to u)
-rises s b u from to e f = (
-  λ h. record { not_after = (rise_le b u from to e f).0 h.not_after; apart = λ k. (rise_lt b u from to e f).0 (h.apart k) },
-  λ h. record { not_after = (rise_le b u from to e f).1 h.not_after; apart = λ k. (rise_lt b u from to e f).1 (h.apart k) },
-)
-
--- ---- or up to there
-fall_le : (b u : Fraction) (from to : ℤ) → b.num ≡ from → pos b.den ≡ from -ℤ to → (u ≤ᶠ b) ↔ (whole (pos 0) ≤ᶠ way from to u)
-fall_le b u from to e f =
+rises s b u from to e f =
     let X = int from in
     let Y = int to in
-    let n = int u.num in
-    let d = nat u.den in
-    let W = (X ⊛ d ⊕ (Y ⊝ X) ⊛ n) ⊛ nat 1 in
-    let e' = eq_parts (int b.num ⊛ d) (X ⊛ d) (ap (λ (z : ℤ). z *ℤ pos u.den) e) in
-    let f' = eq_parts (n ⊛ nat b.den) (n ⊛ (X ⊝ Y)) (ap (λ (z : ℤ). u.num *ℤ z) f) in (
-      λ h. record { cross = le_from (nat 0 ⊛ d) W (omega (arith, e', f', le_parts (n ⊛ nat b.den) (int b.num ⊛ d) h.cross)) },
-      λ h. record { cross = le_from (n ⊛ nat b.den) (int b.num ⊛ d) (omega (arith, e', f', le_parts (nat 0 ⊛ d) W h.cross)) },
-    )
+    same_before s b u (whole (pos 0)) (way from to u)
+    (rw (e, f) (eq_from (int u.num ⊛ (Y ⊝ X) ⊝ (nat 0 ⊝ X) ⊛ nat u.den) (on_way X Y u ⊝ nat 0 ⊛ nat u.den) (omega arith)))
 
-fall_lt : (b u : Fraction) (from to : ℤ) → b.num ≡ from → pos b.den ≡ from -ℤ to → (u <ᶠ b) ↔ (whole (pos 0) <ᶠ way from to u)
-fall_lt b u from to e f =
-    let X = int from in
-    let Y = int to in
-    let n = int u.num in
-    let d = nat u.den in
-    let W = (X ⊛ d ⊕ (Y ⊝ X) ⊛ n) ⊛ nat 1 in
-    let e' = eq_parts (int b.num ⊛ d) (X ⊛ d) (ap (λ (z : ℤ). z *ℤ pos u.den) e) in
-    let f' = eq_parts (n ⊛ nat b.den) (n ⊛ (X ⊝ Y)) (ap (λ (z : ℤ). u.num *ℤ z) f) in (
-      λ h. record { cross = lt_from (nat 0 ⊛ d) W (omega (arith, e', f', lt_parts (n ⊛ nat b.den) (int b.num ⊛ d) h.cross)) },
-      λ h. record { cross = lt_from (n ⊛ nat b.den) (int b.num ⊛ d) (omega (arith, e', f', lt_parts (nat 0 ⊛ d) W h.cross)) },
-    )
-
+-- or up to there
 pub falls : (s : Bool) (b u : Fraction) (from to : ℤ) → b.num ≡ from → pos b.den ≡ from -ℤ to → Before s u b ↔ IsInner s (way from to u)
-falls s b u from to e f = (
-  λ h. record { not_after = (fall_le b u from to e f).0 h.not_after; apart = λ k. (fall_lt b u from to e f).0 (h.apart k) },
-  λ h. record { not_after = (fall_le b u from to e f).1 h.not_after; apart = λ k. (fall_lt b u from to e f).1 (h.apart k) },
-)
+falls s b u from to e f =
+    let X = int from in
+    let Y = int to in
+    same_before s u b (whole (pos 0)) (way from to u)
+    (rw (e, f) (eq_from (X ⊛ nat u.den ⊝ int u.num ⊛ (X ⊝ Y)) (on_way X Y u ⊝ nat 0 ⊛ nat u.den) (omega arith)))
 
 -- ---- margins of a coordinate on its way: to a lower bound
-over_le : (u : Fraction) (low from to x y : ℤ) → x ≡ from -ℤ low → y ≡ to -ℤ low →
-    (whole (pos 0) ≤ᶠ way x y u) ↔ (whole low ≤ᶠ way from to u)
-over_le u low from to x y e f =
+pub over : (s : Bool) (low from to : ℤ) (u : Fraction) →
+    IsInner s (way (from -ℤ low) (to -ℤ low) u) ↔ Before s (whole low) (way from to u)
+over s low from to u =
     let X = int from in
     let Y = int to in
-    let Z = int low in
-    let n = int u.num in
-    let d = nat u.den in
-    let W = (X ⊛ d ⊕ (Y ⊝ X) ⊛ n) ⊛ nat 1 in
-    let M = (int x ⊛ d ⊕ (int y ⊝ int x) ⊛ n) ⊛ nat 1 in
-    let g : y -ℤ x ≡ to -ℤ from = omega (arith, ints) in
-    let e' = eq_parts (int x ⊛ d) ((X ⊝ Z) ⊛ d) (ap (λ (z : ℤ). z *ℤ pos u.den) e) in
-    let g' = eq_parts (n ⊛ (int y ⊝ int x)) (n ⊛ (Y ⊝ X)) (ap (λ (z : ℤ). u.num *ℤ z) g) in (
-      λ h. record { cross = le_from (Z ⊛ d) W (omega (arith, e', g', le_parts (nat 0 ⊛ d) M h.cross)) },
-      λ h. record { cross = le_from (nat 0 ⊛ d) M (omega (arith, e', g', le_parts (Z ⊛ d) W h.cross)) },
-    )
+    let L = int low in
+    same_before s (whole (pos 0)) (way (from -ℤ low) (to -ℤ low) u) (whole low) (way from to u)
+    (eq_from (on_way (X ⊝ L) (Y ⊝ L) u ⊝ nat 0 ⊛ nat u.den) (on_way X Y u ⊝ L ⊛ nat u.den) (omega arith))
 
-over_lt : (u : Fraction) (low from to x y : ℤ) → x ≡ from -ℤ low → y ≡ to -ℤ low →
-    (whole (pos 0) <ᶠ way x y u) ↔ (whole low <ᶠ way from to u)
-over_lt u low from to x y e f =
+-- and to an upper one
+pub under : (s : Bool) (high from to : ℤ) (u : Fraction) →
+    IsInner s (way (high -ℤ from) (high -ℤ to) u) ↔ Before s (way from to u) (whole high)
+under s high from to u =
     let X = int from in
     let Y = int to in
-    let Z = int low in
-    let n = int u.num in
-    let d = nat u.den in
-    let W = (X ⊛ d ⊕ (Y ⊝ X) ⊛ n) ⊛ nat 1 in
-    let M = (int x ⊛ d ⊕ (int y ⊝ int x) ⊛ n) ⊛ nat 1 in
-    let g : y -ℤ x ≡ to -ℤ from = omega (arith, ints) in
-    let e' = eq_parts (int x ⊛ d) ((X ⊝ Z) ⊛ d) (ap (λ (z : ℤ). z *ℤ pos u.den) e) in
-    let g' = eq_parts (n ⊛ (int y ⊝ int x)) (n ⊛ (Y ⊝ X)) (ap (λ (z : ℤ). u.num *ℤ z) g) in (
-      λ h. record { cross = lt_from (Z ⊛ d) W (omega (arith, e', g', lt_parts (nat 0 ⊛ d) M h.cross)) },
-      λ h. record { cross = lt_from (nat 0 ⊛ d) M (omega (arith, e', g', lt_parts (Z ⊛ d) W h.cross)) },
-    )
-
-pub over : (s : Bool) (u : Fraction) (low from to x y : ℤ) → x ≡ from -ℤ low → y ≡ to -ℤ low →
-    IsInner s (way x y u) ↔ Before s (whole low) (way from to u)
-over s u low from to x y e f = (
-  λ h. record { not_after = (over_le u low from to x y e f).0 h.not_after; apart = λ k. (over_lt u low from to x y e f).0 (h.apart k) },
-  λ h. record { not_after = (over_le u low from to x y e f).1 h.not_after; apart = λ k. (over_lt u low from to x y e f).1 (h.apart k) },
-)
-
--- ---- and to an upper one
-under_le : (u : Fraction) (high from to x y : ℤ) → x ≡ high -ℤ from → y ≡ high -ℤ to →
-    (whole (pos 0) ≤ᶠ way x y u) ↔ (way from to u ≤ᶠ whole high)
-under_le u high from to x y e f =
-    let X = int from in
-    let Y = int to in
-    let Z = int high in
-    let n = int u.num in
-    let d = nat u.den in
-    let W = (X ⊛ d ⊕ (Y ⊝ X) ⊛ n) ⊛ nat 1 in
-    let M = (int x ⊛ d ⊕ (int y ⊝ int x) ⊛ n) ⊛ nat 1 in
-    let g : y -ℤ x ≡ from -ℤ to = omega (arith, ints) in
-    let e' = eq_parts (int x ⊛ d) ((Z ⊝ X) ⊛ d) (ap (λ (z : ℤ). z *ℤ pos u.den) e) in
-    let g' = eq_parts (n ⊛ (int y ⊝ int x)) (n ⊛ (X ⊝ Y)) (ap (λ (z : ℤ). u.num *ℤ z) g) in (
-      λ h. record { cross = le_from W (Z ⊛ d) (omega (arith, e', g', le_parts (nat 0 ⊛ d) M h.cross)) },
-      λ h. record { cross = le_from (nat 0 ⊛ d) M (omega (arith, e', g', le_parts W (Z ⊛ d) h.cross)) },
-    )
-
-under_lt : (u : Fraction) (high from to x y : ℤ) → x ≡ high -ℤ from → y ≡ high -ℤ to →
-    (whole (pos 0) <ᶠ way x y u) ↔ (way from to u <ᶠ whole high)
-under_lt u high from to x y e f =
-    let X = int from in
-    let Y = int to in
-    let Z = int high in
-    let n = int u.num in
-    let d = nat u.den in
-    let W = (X ⊛ d ⊕ (Y ⊝ X) ⊛ n) ⊛ nat 1 in
-    let M = (int x ⊛ d ⊕ (int y ⊝ int x) ⊛ n) ⊛ nat 1 in
-    let g : y -ℤ x ≡ from -ℤ to = omega (arith, ints) in
-    let e' = eq_parts (int x ⊛ d) ((Z ⊝ X) ⊛ d) (ap (λ (z : ℤ). z *ℤ pos u.den) e) in
-    let g' = eq_parts (n ⊛ (int y ⊝ int x)) (n ⊛ (X ⊝ Y)) (ap (λ (z : ℤ). u.num *ℤ z) g) in (
-      λ h. record { cross = lt_from W (Z ⊛ d) (omega (arith, e', g', lt_parts (nat 0 ⊛ d) M h.cross)) },
-      λ h. record { cross = lt_from (nat 0 ⊛ d) M (omega (arith, e', g', lt_parts W (Z ⊛ d) h.cross)) },
-    )
-
-pub under : (s : Bool) (u : Fraction) (high from to x y : ℤ) → x ≡ high -ℤ from → y ≡ high -ℤ to →
-    IsInner s (way x y u) ↔ Before s (way from to u) (whole high)
-under s u high from to x y e f = (
-  λ h. record { not_after = (under_le u high from to x y e f).0 h.not_after; apart = λ k. (under_lt u high from to x y e f).0 (h.apart k) },
-  λ h. record { not_after = (under_le u high from to x y e f).1 h.not_after; apart = λ k. (under_lt u high from to x y e f).1 (h.apart k) },
-)
+    let H = int high in
+    same_before s (whole (pos 0)) (way (high -ℤ from) (high -ℤ to) u) (way from to u) (whole high)
+    (eq_from (on_way (H ⊝ X) (H ⊝ Y) u ⊝ nat 0 ⊛ nat u.den) (H ⊛ nat u.den ⊝ on_way X Y u) (omega arith))

@@ -1,9 +1,10 @@
 -- From the pieces of a moving point to the whole.
 use Rattle.std.proofs.Common.{◌≡◌, ℕ, ◌+◌, ◌<◌, ◌≤◌, inl, inr, true, false, List}
-use Rattle.std.proofs.Common.{[], ◌∷◌, map, length, get_or, slice_get, Some, subst, sym, ◌∙◌, refl, arith}
+use Rattle.std.proofs.Common.{[], ◌∷◌, map, length, get_or, slice_get, Some, subst, sym, ◌∙◌, refl, ltb, ltb-true, ltb-false, arith}
 use Rattle.std.proofs.lemmas.Bool.{cases_lt}
-use Rattle.std.proofs.lemmas.Option.{same_Some, slice_get-get_or, slice_get_within}
-use Rattle.std.specs.List.Sorted.{IsNonDecreasingBy}
+use Rattle.std.proofs.lemmas.List.Sorted.{IsPartitionedBy-ltb}
+use Rattle.std.proofs.lemmas.Option.{same_Some, slice_get-get_or, slice_get_within, get_or_from_slice_get}
+use Rattle.std.specs.List.Sorted.{IsNonDecreasingBy, IsPartitionedBy, IsPartitionPoint}
 use Rattle.tpoint.proofs.Fractions.{moment_lt, ≤ᶠ-<ᶠ, <ᶠ_of_≤ᶠ_not}
 use Rattle.tpoint.proofs.Periods.{over_at, up_then_before}
 use Rattle.tpoint.proofs.PieceLemmas.{rises_le, place_within, piece_from, piece_until, leg_to, leg_from}
@@ -223,6 +224,20 @@ of_sequence q s interp ps p r answer e f h =
 pub instants_rise : (ps : List Point) → ((k : ℕ) → Rises ps k) → IsNonDecreasingBy (λ (p : Point). p.t) ps
 instants_rise ps rise i j d h k =
     rises_le ps rise i j (get_or ps i d) (get_or ps j d) h (slice_get-get_or ps i d (omega arith)) (slice_get-get_or ps j d k)
+
+-- so those before an instant come first: n of them are before it, and the others aren't
+pub parted_by_time : (ps : List Point) (begin : ℕ) → ((k : ℕ) → Rises ps k) → IsPartitionedBy (λ (p : Point). ltb p.t begin) ps
+parted_by_time ps begin rise = IsPartitionedBy-ltb (λ (p : Point). p.t) ps begin (instants_rise ps rise)
+
+pub before_and_after : (ps : List Point) (begin n : ℕ) →
+    IsPartitionPoint (λ (p : Point). ltb p.t begin ≡ true) (λ (p : Point). ltb p.t begin ≡ false) ps n →
+    ((k : ℕ) → k < n → EachAt ps (λ (p : Point). p.t < begin) k) × ((k : ℕ) → n ≤ k → EachAt ps (λ (p : Point). begin ≤ p.t) k)
+before_and_after ps begin n split = (
+  λ k h p e.
+      subst (λ (q : Point). q.t < begin) (get_or_from_slice_get ps k p p e) (ltb-true _ _ (split.0 k p (omega arith) h)),
+  λ k h p e.
+      subst (λ (q : Point). begin ≤ q.t) (get_or_from_slice_get ps k p p e) (ltb-false _ _ (split.1 k p h (slice_get_within ps k p e))),
+)
 
 -- ---- a leg's answer is its piece's
 pub leg_answers : (q : Question) (ps : List Point) (p : Span) (r : Area) (i : ℕ) (a b : Point) (answer : Tri) →

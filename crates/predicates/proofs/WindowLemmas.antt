@@ -29,9 +29,9 @@ same_window P Q None same none = λ u q. none u ((same u).1 q)
 same_window P Q (Some w) same is = λ u. (λ h. (same u).0 ((is u).0 h), λ q. (is u).1 ((same u).1 q))
 
 -- the same of a part of a window
-pub same_part : (w : Window) (P Q : Fraction → Type 0) (o : Option Window) → ((u : Fraction) → P u ↔ Q u) →
-    IsWindowOf o (λ u. InWindow u w × P u) → IsWindowOf o (λ u. InWindow u w × Q u)
-same_part w P Q o same is =
+pub same_part : (w : Window) (P Q : Fraction → Type 0) (o : Option Window) → IsWindowOf o (λ u. InWindow u w × P u) →
+    ((u : Fraction) → P u ↔ Q u) → IsWindowOf o (λ u. InWindow u w × Q u)
+same_part w P Q o is same =
     same_window (λ u. InWindow u w × P u) (λ u. InWindow u w × Q u) o
     (λ u. (λ h. (h.0, (same u).0 h.1), λ h. (h.0, (same u).1 h.1)))
     is
@@ -49,20 +49,14 @@ pub from_crossing : (counts : Bool) (w : Window) (b : Bound) (from to : ℤ) (o 
     pos b.num ≡ pos 0 -ℤ from → pos b.den ≡ to -ℤ from → IsWindowOf o (λ u. InWindow u w × Before b.counts (parameter b) u) →
     IsWindowOf o (λ u. InWindow u w × IsInner counts (way from to u))
 from_crossing counts w b from to o same e f is =
-    same_window _ _ o
-    (λ u.
-    let P : Bool → Type 0 = λ s. Before b.counts (parameter b) u ↔ IsInner s (way from to u) in
-    let r = subst P same (rises b.counts (parameter b) u from to e f) in
-    (λ h. (h.0, r.0 h.1), λ h. (h.0, r.1 h.1)))
-    is
+    same_part w (λ u. Before b.counts (parameter b) u) (λ u. IsInner counts (way from to u)) o is
+    (λ u. subst (λ (s : Bool). Before b.counts (parameter b) u ↔ IsInner s (way from to u)) same
+    (rises b.counts (parameter b) u from to e f))
 
 pub until_crossing : (counts : Bool) (w : Window) (b : Bound) (from to : ℤ) (o : Option Window) → b.counts ≡ counts → pos b.num ≡ from →
     pos b.den ≡ from -ℤ to → IsWindowOf o (λ u. InWindow u w × Before b.counts u (parameter b)) →
     IsWindowOf o (λ u. InWindow u w × IsInner counts (way from to u))
 until_crossing counts w b from to o same e f is =
-    same_window _ _ o
-    (λ u.
-    let P : Bool → Type 0 = λ s. Before b.counts u (parameter b) ↔ IsInner s (way from to u) in
-    let r = subst P same (falls b.counts (parameter b) u from to e f) in
-    (λ h. (h.0, r.0 h.1), λ h. (h.0, r.1 h.1)))
-    is
+    same_part w (λ u. Before b.counts u (parameter b)) (λ u. IsInner counts (way from to u)) o is
+    (λ u. subst (λ (s : Bool). Before b.counts u (parameter b) ↔ IsInner s (way from to u)) same
+    (falls b.counts (parameter b) u from to e f))

@@ -1,5 +1,5 @@
 -- The parameters of a leg: 0 at its begin, 1 at its end.
-use Rattle.std.specs.Prelude.{Bool, pos, Option, MatchOption, ◌↔◌}
+use Rattle.std.specs.Prelude.{Bool, ℤ, pos, ◌-ℤ◌, ◌^◌, ◌<◌, Option, MatchOption, unsigned_abs, ◌↔◌}
 use Rattle.tpoint.specs.Fraction.{Fraction, ◌≤ᶠ◌, whole}
 use Rattle.tpoint.specs.Ways.{way}
 use Rattle.tpoint.specs.Moving.{Position}
@@ -21,6 +21,12 @@ pub record InWindow (u : Fraction) (w : Window) : Type 0 where
 -- a margin is on the inner side of a bound: positive, or 0 where the bound counts
 abbrev pub IsInner : Bool → Fraction → Type 0
 IsInner counts margin = Before counts (whole (pos 0)) margin
+
+-- two numbers on the way between which one goes, and a bound, are so near to each other that products of their distances fit
+pub record AreNear (from to bound : ℤ) : Type 0 where
+  pub way : unsigned_abs (to -ℤ from) < 2 ^ 48
+  pub begin : unsigned_abs (from -ℤ bound) < 2 ^ 48
+  pub end : unsigned_abs (to -ℤ bound) < 2 ^ 48
 
 -- the window has exactly the parameters with a property; no window: none has it
 abbrev pub IsWindowOf : Option Window → (Fraction → Type 0) → Type 0

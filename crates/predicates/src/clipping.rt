@@ -4,7 +4,7 @@ ghost use Rattle.std.specs.Prelude.{◌≡◌, ◌≢◌, ◌^◌, ◌<◌, ◌�
 ghost use Rattle.tpoint.specs.Fraction.{Fraction, whole};
 ghost use Rattle.tpoint.specs.Ways.{way};
 ghost use Rattle.tpoint.specs.Extents.{Before};
-ghost use Rattle.predicates.specs.Windows.{InWindow, IsWindowOf, IsInner};
+ghost use Rattle.predicates.specs.Windows.{InWindow, IsWindowOf, IsInner, AreNear};
 
 use crate::bounds::Bound;
 use crate::windows::Window;
@@ -15,9 +15,7 @@ use crate::windows::Window;
 /// The number goes evenly from `from`, at the parameter 0, to `to`, at 1.
 #[inline(always)]
 pub fn at_least(window: Window, from: i64, to: i64, low: i64, counts: bool) -> Option<Window>
-    requires way_fits { unsigned_abs (to -ℤ from) < 2 ^ 48 }
-    requires from_fits { unsigned_abs (from -ℤ low) < 2 ^ 48 }
-    requires to_fits { unsigned_abs (to -ℤ low) < 2 ^ 48 }
+    requires { AreNear from to low }
     ensures { IsWindowOf result
         (λ u. InWindow u window × Before counts (whole low) (way from to u)) }
 {
@@ -28,9 +26,7 @@ pub fn at_least(window: Window, from: i64, to: i64, low: i64, counts: bool) -> O
 /// not count.
 #[inline(always)]
 pub fn at_most(window: Window, from: i64, to: i64, high: i64, counts: bool) -> Option<Window>
-    requires way_fits { unsigned_abs (to -ℤ from) < 2 ^ 48 }
-    requires from_fits { unsigned_abs (high -ℤ from) < 2 ^ 48 }
-    requires to_fits { unsigned_abs (high -ℤ to) < 2 ^ 48 }
+    requires { AreNear from to high }
     ensures { IsWindowOf result
         (λ u. InWindow u window × Before counts (way from to u) (whole high)) }
 {

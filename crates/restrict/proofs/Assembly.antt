@@ -343,14 +343,16 @@ module _ (s : Sequence) (p : Span) (begin : Option Triple) (qs : List Point) (en
       subst (λ (l : List Triple). Samples s p (map vertex_of l)) (sym j.joined) (samples_joined shared j.inside j.are_points)
 
   -- ---- its ends
+  -- where a cut doesn't begin, or end, with the period's own end, it lists that end if the value there was added
+  marked_then : (n : ℕ) (own : Bool) (o : Option Triple) → ((u : Triple) → o ≡ Some u → IsCutInstant s p n)
+      → (list : List Vertex) → Samples s p list → own || is_none o ≡ false → (own ≡ false) × IsListedIn list n
+  marked_then n own o at list S h = let x = neither own o h in (x.0, (S.instants n).1 (at x.1 x.2))
+
   begin_marked : (list : List Vertex) → Shares (At s) p → Samples s p list →
       (p.begin_in || is_none begin ≡ false) ↔ ((p.begin_in ≡ false) × IsListedIn list p.begin)
   begin_marked list shared S = (
-    λ h.
-        let x = neither p.begin_in begin h in
-        let first = first_of x.1 x.2 in
-        let at = at_cut_instant x.1 (from_begin x.2) in
-        (x.0, (S.instants p.begin).1 (subst (λ (n : ℕ). IsCutInstant s p n) first.value.0 at)),
+    marked_then p.begin p.begin_in begin
+        (λ u e. subst (λ (n : ℕ). IsCutInstant s p n) (first_of u e).value.0 (at_cut_instant u (from_begin e))) list S,
     λ h.
         elim (kept shared p.begin ((S.instants p.begin).0 h.1)) [
           | at_begin u e f ↦ open_then p.begin_in begin u h.0 e
@@ -365,11 +367,8 @@ module _ (s : Sequence) (p : Span) (begin : Option Triple) (qs : List Point) (en
   end_marked : (list : List Vertex) → Shares (At s) p → Samples s p list →
       (p.end_in || is_none end ≡ false) ↔ ((p.end_in ≡ false) × IsListedIn list p.end)
   end_marked list shared S = (
-    λ h.
-        let x = neither p.end_in end h in
-        let last = last_of x.1 x.2 in
-        let at = at_cut_instant x.1 (from_end x.2) in
-        (x.0, (S.instants p.end).1 (subst (λ (n : ℕ). IsCutInstant s p n) last.value.then at)),
+    marked_then p.end p.end_in end
+        (λ u e. subst (λ (n : ℕ). IsCutInstant s p n) (last_of u e).value.then (at_cut_instant u (from_end e))) list S,
     λ h.
         elim (kept shared p.end ((S.instants p.end).0 h.1)) [
           | at_end u e f ↦ open_then p.end_in end u h.0 e

@@ -125,41 +125,36 @@ module _ (s : Sequence) (p : Span) (list : List Vertex) (S : Samples s p list) w
       }
 
   -- ---- listed instants reach as far as the values in the period
+  -- an end of the period is listed, where it lies between two instants of the sequence
+  end_listed : s.interp ≢ Discrete → (n : ℕ) → (n ≡ p.begin) ⊎ (n ≡ p.end) → NotAfter (map vertex s.points) (moment n)
+      → NotBefore (map vertex s.points) (moment n) → IsListedIn list n
+  end_listed goes_on n is_end from to =
+      let v = fills s.interp (fills_of s.interp goes_on) s.points S.valid.increasing (moment n) from to in
+      (S.instants n).1 (inr (record { goes_on = goes_on; is_end = is_end; has_value = record { v = v.0; value = v.1 } }))
+
+  listed_until : (n : ℕ) (t : Fraction) → moment n ≤ᶠ t → IsListedIn list n → NotAfter list t
+  listed_until n t from l =
+      let same = (moment_le l.point.time n).0 (omega (arith, l.then)) in
+      record { i = l.i; w = l.point; listed = l.listed; reached = ≤ᶠ_trans same from }
+
+  listed_since : (n : ℕ) (t : Fraction) → t ≤ᶠ moment n → IsListedIn list n → NotBefore list t
+  listed_since n t to l =
+      let same = (moment_le n l.point.time).0 (omega (arith, l.then)) in
+      record { i = l.i; w = l.point; listed = l.listed; reaches = ≤ᶠ_trans to same }
+
   low_end : s.interp ≢ Discrete → (t : Fraction) → Around t p → NotAfter (map vertex s.points) t → NotBefore (map vertex s.points) t
       → NotAfter list t
   low_end goes_on t within a b =
       elim (cases_lt a.w.time p.begin) [
         | inl l ↦
-            let from : NotAfter (map vertex s.points)
-            (moment p.begin) = record { i = a.i; w = a.w; listed = a.listed; reached = ≤ᶠ_of_<ᶠ ((moment_lt a.w.time p.begin).0 l) }
-            in
-            let to : NotBefore (map vertex s.points) (moment p.begin) = record {
-              i = b.i;
-              w = b.w;
-              listed = b.listed;
-              reaches = ≤ᶠ_trans
-                  within.begun b.reaches;
-            } in
-            let v = fills s.interp (fills_of s.interp goes_on) s.points S.valid.increasing (moment p.begin) from to in
-            let here = (S.instants p.begin).1
-            (inr (record { goes_on = goes_on; is_end = inl refl; has_value = record { v = v.0; value = v.1 } })) in
-            record {
-              i = here.i;
-              w = here.point;
-              listed = here.listed;
-              reached = ≤ᶠ_trans
-                  ((moment_le here.point.time p.begin).0 (omega (arith, here.then))) within.begun;
-            }
+            let from = ≤ᶠ_of_<ᶠ ((moment_lt a.w.time p.begin).0 l) in
+            listed_until p.begin t within.begun
+            (end_listed goes_on p.begin (inl refl) (record { i = a.i; w = a.w; listed = a.listed; reached = from })
+            (record { i = b.i; w = b.w; listed = b.listed; reaches = ≤ᶠ_trans within.begun b.reaches }))
         | inr l ↦
-            let here = vertex_listed goes_on a.i a.w a.listed
-            (record { begun = (moment_le p.begin a.w.time).0 l; not_over = ≤ᶠ_trans a.reached within.not_over }) in
-            record {
-              i = here.i;
-              w = here.point;
-              listed = here.listed;
-              reached = ≤ᶠ_trans
-                  ((moment_le here.point.time a.w.time).0 (omega (arith, here.then))) a.reached;
-            }
+            let from = (moment_le p.begin a.w.time).0 l in
+            listed_until a.w.time t a.reached
+            (vertex_listed goes_on a.i a.w a.listed (record { begun = from; not_over = ≤ᶠ_trans a.reached within.not_over }))
       ]
 
   high_end : s.interp ≢ Discrete → (t : Fraction) → Around t p → NotAfter (map vertex s.points) t → NotBefore (map vertex s.points) t
@@ -167,35 +162,15 @@ module _ (s : Sequence) (p : Span) (list : List Vertex) (S : Samples s p list) w
   high_end goes_on t within a b =
       elim (cases_lt p.end b.w.time) [
         | inl l ↦
-            let from : NotAfter (map vertex s.points)
-            (moment p.end) = record { i = a.i; w = a.w; listed = a.listed; reached = ≤ᶠ_trans a.reached within.not_over } in
-            let to : NotBefore (map vertex s.points) (moment p.end) = record {
-              i = b.i;
-              w = b.w;
-              listed = b.listed;
-              reaches = ≤ᶠ_of_<ᶠ
-                  ((moment_lt p.end b.w.time).0 l);
-            } in
-            let v = fills s.interp (fills_of s.interp goes_on) s.points S.valid.increasing (moment p.end) from to in
-            let here = (S.instants p.end).1
-            (inr (record { goes_on = goes_on; is_end = inr refl; has_value = record { v = v.0; value = v.1 } })) in
-            record {
-              i = here.i;
-              w = here.point;
-              listed = here.listed;
-              reaches = ≤ᶠ_trans within.not_over
-                  ((moment_le p.end here.point.time).0 (omega (arith, here.then)));
-            }
+            let to = ≤ᶠ_of_<ᶠ ((moment_lt p.end b.w.time).0 l) in
+            listed_since p.end t within.not_over
+            (end_listed goes_on p.end (inr refl)
+            (record { i = a.i; w = a.w; listed = a.listed; reached = ≤ᶠ_trans a.reached within.not_over })
+            (record { i = b.i; w = b.w; listed = b.listed; reaches = to }))
         | inr l ↦
-            let here = vertex_listed goes_on b.i b.w b.listed
-            (record { begun = ≤ᶠ_trans within.begun b.reaches; not_over = (moment_le b.w.time p.end).0 l }) in
-            record {
-              i = here.i;
-              w = here.point;
-              listed = here.listed;
-              reaches = ≤ᶠ_trans b.reaches
-                  ((moment_le b.w.time here.point.time).0 (omega (arith, here.then)));
-            }
+            let to = (moment_le b.w.time p.end).0 l in
+            listed_since b.w.time t b.reaches
+            (vertex_listed goes_on b.i b.w b.listed (record { begun = ≤ᶠ_trans within.begun b.reaches; not_over = to }))
       ]
 
   pub listed_before : s.interp ≢ Discrete → (t : Fraction) (v : Position) → Around t p → At s t v → NotAfter list t

@@ -7,7 +7,7 @@ use Rattle.tpoint.proofs.Fractions.{≤ᶠ_trans, ≤ᶠ_of_≈, ≈_sym, ≈_re
 use Rattle.tpoint.proofs.SubLegs.{leg_reaches}
 use Rattle.tpoint.proofs.PieceLemmas.{unmap, mapped, leg_to, single_to, rises_le}
 use Rattle.tpoint.specs.Fraction.{Fraction, ◌≤ᶠ◌, ◌<ᶠ◌}
-use Rattle.tpoint.specs.Moving.{Position, Vertex, AtPlace, HasValue, Rises, moment, vertex}
+use Rattle.tpoint.specs.Moving.{Position, Vertex, IsPlace, AtPlace, HasValue, Rises, moment, vertex}
 use Rattle.tpoint.specs.declared.point.Point.{Point}
 use Rattle.tpoint.specs.declared.interp.Interp.{Interp}
 use Rattle.tpoint.specs.declared.interp.Interp.TheVariants.{Discrete, Step, Linear}
@@ -71,23 +71,28 @@ latest_point ps t h =
     }
 
 -- ---- a value from the first instant to the last
+-- what is listed last stays, up to what is listed and not before t
+pub held_value : (list : List Vertex) (t : Fraction) (v : Position) → (l : Latest list t) → NotBefore list t → IsPlace v l.w.place
+    → HasValue Step list t v
+held_value list t v l k there =
+    record {
+      i = l.i;
+      at_i = record {
+        point = l.w;
+        listed = l.is.listed;
+        reached = l.is.reached;
+        not_left = l.is.later;
+        not_over = (k.i, k.w, k.listed, k.reaches);
+        there = there;
+      };
+    }
+
 fills_step : (ps : List Point) (t : Fraction) → NotAfter (map vertex ps) t → NotBefore (map vertex ps) t
     → (v : Position) × HasValue Step (map vertex ps) t v
 fills_step ps t h k =
-    let l = latest_of (map vertex ps) t h in (
-      l.w.place,
-      record {
-        i = l.i;
-        at_i = record {
-          point = l.w;
-          listed = l.is.listed;
-          reached = l.is.reached;
-          not_left = l.is.later;
-          not_over = (k.i, k.w, k.listed, k.reaches);
-          there = record { same_x = ≈_refl l.w.place.x; same_y = ≈_refl l.w.place.y };
-        };
-      },
-    )
+    let l = latest_of (map vertex ps) t h in
+    let here = l.w.place in
+    (here, held_value (map vertex ps) t here l k (record { same_x = ≈_refl here.x; same_y = ≈_refl here.y }))
 
 on_leg_of : (ps : List Point) → ((k : ℕ) → Rises ps k) → (i : ℕ) (a b : Point) (t : Fraction) → slice_get ps i ≡ Some a
     → slice_get ps (i + 1) ≡ Some b → moment a.t ≤ᶠ t → t ≤ᶠ moment b.t → (v : Position) × HasValue Linear (map vertex ps) t v

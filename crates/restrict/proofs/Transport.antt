@@ -1,13 +1,13 @@
 -- Equal instants have equal values.
-use Rattle.std.proofs.Common.{◌≡◌, ℕ, ◌+◌, ◌-◌, ◌*◌, ◌<◌, ◌≤◌, inl, inr, ℤ, pos, ◌+ℤ◌, ◌*ℤ◌, ◌-ℤ◌, List, map, slice_get, Some, sym, subst}
+use Rattle.std.proofs.Common.{◌≡◌, ℕ, ◌+◌, ◌-◌, ◌*◌, ◌<◌, ◌≤◌, inl, inr, ℤ, pos, ◌+ℤ◌, ◌*ℤ◌, ◌-ℤ◌, List, map}
 use Rattle.std.proofs.Common.{ap, arith}
 use Rattle.tpoint.proofs.Polynomials.{int, nat, ◌⊕◌, ◌⊝◌, ◌⊛◌, eq_parts, eq_from}
 use Rattle.tpoint.proofs.Fractions.{scale_eq_back, ≤ᶠ_of_≈, ≈_sym, ≈_trans, ≤ᶠ-≈, ≈-≤ᶠ, ≤ᶠ-<ᶠ}
 use Rattle.tpoint.proofs.SubLegs.{OnLine, line_from, line_to}
-use Rattle.tpoint.proofs.PieceLemmas.{unmap, leg_to}
-use Rattle.tpoint.proofs.Unique.{leg_same, same_trans}
+use Rattle.tpoint.proofs.PieceLemmas.{leg_to}
+use Rattle.tpoint.proofs.Unique.{leg_points, leg_same, same_trans}
 use Rattle.tpoint.specs.Fraction.{Fraction, ◌≈◌}
-use Rattle.tpoint.specs.Moving.{Position, Vertex, IsPlace, OnLeg, BetweenNeighbours, AtListed, Sequence, At, IsValid, Rises, vertex}
+use Rattle.tpoint.specs.Moving.{Position, IsPlace, OnLeg, AtListed, Sequence, At, IsValid, Rises, vertex}
 use Rattle.tpoint.specs.Pieces.{Piece}
 use Rattle.tpoint.specs.declared.point.Point.{Point}
 use Rattle.tpoint.specs.declared.interp.Interp.{Interp}
@@ -44,22 +44,6 @@ leg_time : (a b : Point) (t u : Fraction) (v : Position) → a.t < b.t → t ≈
     → OnLeg (vertex a) (vertex b) u v
 leg_time a b t u v h same l = leg_time_by a b (b.t - a.t) t u v (omega arith) same l
 
--- the points of a leg
-record Leg (ps : List Point) (i : ℕ) (t : Fraction) (v : Position) : Type 0 where
-  a : Point
-  b : Point
-  a_listed : slice_get ps i ≡ Some a
-  b_listed : slice_get ps (i + 1) ≡ Some b
-  on : OnLeg (vertex a) (vertex b) t v
-
-leg : (ps : List Point) (i : ℕ) (t : Fraction) (v : Position) → BetweenNeighbours (map vertex ps) i t v → Leg ps i t v
-leg ps i t v h =
-    let f = unmap ps i h.point h.listed in
-    let g = unmap ps (i + 1) h.next h.next_listed in
-    let P : Vertex → Type 0 = λ w. OnLeg w h.next t v in
-    let Q : Vertex → Type 0 = λ w. OnLeg (vertex f.0) w t v in
-    record { a = f.0; b = g.0; a_listed = f.1; b_listed = g.1; on = subst Q (sym g.2) (subst P (sym f.2) h.between) }
-
 listed_time : (ps : List Point) (i : ℕ) (t u : Fraction) (v : Position) → t ≈ u → AtListed (map vertex ps) i t v
     → AtListed (map vertex ps) i u v
 listed_time ps i t u v e h = record { point = h.point; listed = h.listed; then = ≈_trans (≈_sym e) h.then; there = h.there }
@@ -77,7 +61,7 @@ piece_time Step ps rise i t u v e h =
       there = h.there;
     }
 piece_time Linear ps rise i t u v e (inl h) =
-    let l = leg ps i t v h in
+    let l = leg_points ps i t v h in
     leg_to ps i l.a l.b l.a_listed l.b_listed u v (leg_time l.a l.b t u v (rise i l.a l.b l.a_listed l.b_listed) e l.on)
 piece_time Linear ps rise i t u v e (inr h) = inr (h.0, listed_time ps i t u v e h.1)
 
@@ -86,16 +70,15 @@ piece_place : (interp : Interp) (ps : List Point) → ((k : ℕ) → Rises ps k)
 piece_place Discrete ps rise i t v w e h = record { point = h.point; listed = h.listed; then = h.then; there = same_trans e h.there }
 piece_place Step ps rise i t v w e h =
     record {
+      there = same_trans e h.there;
       point = h.point;
       listed = h.listed;
       reached = h.reached;
       not_left = h.not_left;
       not_over = h.not_over;
-      there = same_trans e
-          h.there;
     }
 piece_place Linear ps rise i t v w e (inl h) =
-    let l = leg ps i t w h in
+    let l = leg_points ps i t w h in
     leg_to ps i l.a l.b l.a_listed l.b_listed t v (leg_same l.a l.b t v w (rise i l.a l.b l.a_listed l.b_listed) e l.on)
 piece_place Linear ps rise i t v w e (inr h) =
     inr (h.0, record { point = h.1.point; listed = h.1.listed; then = h.1.then; there = same_trans e h.1.there })

@@ -21,7 +21,7 @@ use Rattle.restrict.proofs.Ordered.{Ascends, not_later, place_before, rising}
 use Rattle.restrict.proofs.PartOfLeg.{Follows, part}
 use Rattle.restrict.proofs.Samples.{Samples, around_of, in_period, vertex_inside, value_listed, listed_after, listed_to, listed_from}
 use Rattle.restrict.proofs.Samples.{listed_before, listed_behind}
-use Rattle.restrict.proofs.Spans.{NotAfter, NotBefore, latest_of, latest_point, begun_before, ended_after}
+use Rattle.restrict.proofs.Spans.{NotAfter, NotBefore, latest_of, latest_point, begun_before, ended_after, held_value}
 
 abbrev seq : Interp → List Point → Sequence
 seq interp ps = record { interp = interp; points = ps }
@@ -91,22 +91,11 @@ module _ (ps : List Point) (p : Span) (list : List Vertex) (S : Samples (seq Ste
 
   step_from : (t : Fraction) (v : Position) → LiesIn t p → At (seq Step ps) t v → HasValue Step list t v
   step_from t v lies h =
-      let s = seq Step ps in
       let within = around_of lies in
-      let l = latest_of list t (listed_before s p list S step_on t v within h) in
-      let b = listed_behind s p list S step_on t v within h in
+      let l = latest_of list t (listed_before (seq Step ps) p list S step_on t v within h) in
       let carried = step_carries t l.i l.w l.is within.not_over lies.not_over.apart (ended_after Step (map vertex ps) h.i t v h.at_i) in
-      record {
-        i = l.i;
-        at_i = record {
-          point = l.w;
-          listed = l.is.listed;
-          reached = l.is.reached;
-          not_left = l.is.later;
-          not_over = (b.i, b.w, b.listed, b.reaches);
-          there = at_unique s S.valid t v l.w.place h carried;
-        };
-      }
+      held_value list t v l (listed_behind (seq Step ps) p list S step_on t v within h)
+      (at_unique (seq Step ps) S.valid t v l.w.place h carried)
 
 -- ---- Linear: neighbours in the cut lie on one leg of the sequence
 record OneLeg (ps : List Point) (w new : Vertex) : Type 0 where

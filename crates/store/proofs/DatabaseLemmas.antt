@@ -1,23 +1,26 @@
 -- Each operation makes a database of a database.
 use Rattle.std.proofs.Common.{◌≡◌, ℕ, ◌+◌, ◌<◌, ◌≤◌, ◌||◌, List, [], ◌∷◌, length, Bool, true, false, Option, Some, None}
-use Rattle.std.proofs.Common.{is_some, if◌then◌else◌, nat_eq, nat_lt, refl, sym, ap, subst, arith}
-use Rattle.std.specs.List.{find}
+use Rattle.std.proofs.Common.{is_some, if◌then◌else◌, nat_eq, nat_lt, refl, sym, ap, subst, ◌∙◌, arith}
+use Rattle.std.specs.List.{find, insert}
 use Rattle.std.specs.Option.{option_map_or}
-use Rattle.std.specs.Ordering.{is_lt, is_gt}
-use Rattle.std.specs.Cmp.Lexicographic.{pointwise, bytes_decides}
+use Rattle.std.specs.Ordering.{is_lt, is_gt, is_eq}
+use Rattle.std.specs.Cmp.Lexicographic.{pointwise, bytes_decides, texts_ties}
 use Rattle.std.specs.declared.cmp.Ordering.{Ordering}
 use Rattle.std.specs.declared.cmp.Ordering.TheVariants.{Less, Equal, Greater}
 use Rattle.std.proofs.lemmas.Bool.Decides.{nat_tests}
 use Rattle.std.proofs.lemmas.List.{length-append}
+use Rattle.std.proofs.lemmas.List.Edits.{length-insert}
 use Rattle.mfjson.specs.declared.feature.Feature.{Feature}
 use Rattle.store.specs.Additions.{Added}
-use Rattle.store.specs.Features.{id_order, IsDatabase, feature_of, before, after, with_feature, without}
+use Rattle.timeindex.specs.Ascending.{id_order, before, after}
+use Rattle.timeindex.proofs.EditLemmas.{insert-gap, with_element_ascending, without_ascending}
+use Rattle.store.specs.Features.{feature_id, IsDatabase, feature_of, with_feature, without}
+use Rattle.store.specs.Places.{IsGap}
+use Rattle.store.specs.declared.db.TheConstants.{MOST_FEATURES}
 use Rattle.store.specs.Operations.{reply, effect, append_reply, extended, is_done}
 use Rattle.store.specs.declared.op.Op.{Op}
 use Rattle.store.specs.declared.op.Op.TheVariants.{Put, Append, Remove}
 use Rattle.store.specs.declared.reply.Reply.TheVariants.{Done, Unknown, TooMany}
-use Rattle.store.proofs.PlaceLemmas.{same_id}
-use Rattle.store.proofs.EditLemmas.{with_feature_ascending, without_ascending}
 use Rattle.store.proofs.ValidLemmas.{by_test}
 
 pub none_database : IsDatabase []
@@ -26,50 +29,48 @@ none_database = record { ascending = λ i j d below within. absurd (omega (arith
 -- ---- how many there are before an id, and after it
 module _ (id : List ℕ) where
   abbrev apart : List Feature → ℕ
-  apart fs = length (before fs id) + length (after fs id)
+  apart fs = length (before feature_id fs id) + length (after feature_id fs id)
 
-  apart_more : (f : Feature) (fs : List Feature) (o : Ordering) → id_order f.id id ≡ o → apart fs ≤ length fs →
-      apart (f ∷ fs) ≤ length (f ∷ fs)
-  apart_more f fs Less e few =
+  -- a feature more stands on one side at most
+  apart_step : (f : Feature) (fs : List Feature) (o : Ordering) → id_order f.id id ≡ o → apart (f ∷ fs) ≤ apart fs + 1
+  apart_step f fs Less e =
       let lower : is_lt (id_order f.id id) ≡ true = ap is_lt e in
       let higher : is_gt (id_order f.id id) ≡ false = ap is_gt e in
-      grind (arith, lower, higher, few)
-  apart_more f fs Equal e few =
+      grind (arith, lower, higher)
+  apart_step f fs Equal e =
       let lower : is_lt (id_order f.id id) ≡ false = ap is_lt e in
       let higher : is_gt (id_order f.id id) ≡ false = ap is_gt e in
-      grind (arith, lower, higher, few)
-  apart_more f fs Greater e few =
+      grind (arith, lower, higher)
+  apart_step f fs Greater e =
       let lower : is_lt (id_order f.id id) ≡ false = ap is_lt e in
       let higher : is_gt (id_order f.id id) ≡ true = ap is_gt e in
-      grind (arith, lower, higher, few)
+      grind (arith, lower, higher)
 
   apart_few : (fs : List Feature) → apart fs ≤ length fs
   apart_few [] = omega arith
-  apart_few (f ∷ fs) = apart_more f fs (id_order f.id id) refl (apart_few fs)
+  apart_few (f ∷ fs) = let step = apart_step f fs (id_order f.id id) refl in let few = apart_few fs in omega arith
 
   -- the feature with the id is on neither side
   abbrev IsKnown : List Feature → Type 0
   IsKnown fs = is_some (feature_of fs id) ≡ true
 
+  -- it is not the first
+  apart_known-behind : (f : Feature) (fs : List Feature) → pointwise nat_eq f.id id ≡ false → (IsKnown fs → apart fs < length fs) →
+      IsKnown (f ∷ fs) → apart (f ∷ fs) < length (f ∷ fs)
+  apart_known-behind f fs other rest known =
+      let below : apart fs < length fs = rest (grind (arith, known, other)) in
+      let step = apart_step f fs (id_order f.id id) refl in
+      omega arith
+
   apart_known-more : (f : Feature) (fs : List Feature) (o : Ordering) → id_order f.id id ≡ o →
       (IsKnown fs → apart fs < length fs) → IsKnown (f ∷ fs) → apart (f ∷ fs) < length (f ∷ fs)
-  apart_known-more f fs Less e rest known =
-      let lower : is_lt (id_order f.id id) ≡ true = ap is_lt e in
-      let higher : is_gt (id_order f.id id) ≡ false = ap is_gt e in
-      let other : pointwise nat_eq f.id id ≡ false = same_id f.id id Less e in
-      let below : apart fs < length fs = rest (grind (arith, known, other)) in
-      grind (arith, lower, higher, below)
+  apart_known-more f fs Less e rest known = apart_known-behind f fs (texts_ties f.id id ∙ ap is_eq e) rest known
   apart_known-more f fs Equal e rest known =
       let lower : is_lt (id_order f.id id) ≡ false = ap is_lt e in
       let higher : is_gt (id_order f.id id) ≡ false = ap is_gt e in
       let few = apart_few fs in
       grind (arith, lower, higher, few)
-  apart_known-more f fs Greater e rest known =
-      let lower : is_lt (id_order f.id id) ≡ false = ap is_lt e in
-      let higher : is_gt (id_order f.id id) ≡ true = ap is_gt e in
-      let other : pointwise nat_eq f.id id ≡ false = same_id f.id id Greater e in
-      let below : apart fs < length fs = rest (grind (arith, known, other)) in
-      grind (arith, lower, higher, below)
+  apart_known-more f fs Greater e rest known = apart_known-behind f fs (texts_ties f.id id ∙ ap is_eq e) rest known
 
   apart_known : (fs : List Feature) → IsKnown fs → apart fs < length fs
   apart_known [] known = absurd (cc)
@@ -88,9 +89,9 @@ apart_room fs id few false e room = let below = apart_few id fs in grind (arith,
 with_feature_database : (fs : List Feature) (f : Feature) → IsDatabase fs → HasRoom fs f.id → IsDatabase (with_feature fs f)
 with_feature_database fs f db room =
     let below = apart_room fs f.id db.not_too_many (is_some (feature_of fs f.id)) refl room in
-    let whole = length-append (before fs f.id) (f ∷ after fs f.id) in
+    let whole = length-append (before feature_id fs f.id) (f ∷ after feature_id fs f.id) in
     record {
-      ascending = with_feature_ascending fs f db.ascending;
+      ascending = with_element_ascending feature_id fs f db.ascending;
       not_too_many = omega (arith, below, whole);
     }
 
@@ -98,10 +99,19 @@ pub without_database : (fs : List Feature) (id : List ℕ) → IsDatabase fs →
 without_database fs id db =
     let few = apart_few id fs in
     let some = db.not_too_many in
-    let whole = length-append (before fs id) (after fs id) in
+    let whole = length-append (before feature_id fs id) (after feature_id fs id) in
     record {
-      ascending = without_ascending fs id db.ascending;
+      ascending = without_ascending feature_id fs id db.ascending;
       not_too_many = omega (arith, few, some, whole);
+    }
+
+-- with room for one more, the list is a database again
+pub insert_database : (fs : List Feature) (f : Feature) (i : ℕ) → IsDatabase fs →
+    length fs < MOST_FEATURES → IsGap fs f.id i → IsDatabase (insert fs i f)
+insert_database fs f i db room gap =
+    record {
+      ascending = rw (insert-gap feature_id fs f i gap) (with_element_ascending feature_id fs f db.ascending);
+      not_too_many = rw (length-insert fs i f gap.in_range) (omega arith);
     }
 
 -- ---- each operation

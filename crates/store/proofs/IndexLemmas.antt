@@ -17,26 +17,25 @@ use Rattle.tpoint.proofs.ListLemmas.{filter_mapped}
 use Rattle.predicates.specs.Predicates.{IsEver}
 use Rattle.predicates.specs.declared.questions.Tri.TheVariants.{Yes}
 use Rattle.mfjson.specs.declared.feature.Feature.{Feature}
-use Rattle.timeindex.specs.Ascending as ascending
+use Rattle.timeindex.specs.Ascending.{id_order, before, after, IsGap}
 use Rattle.timeindex.specs.Entries.{Entry, id_of, overlaps, with_entry}
-use Rattle.store.specs.Features.{id_order, before, after, with_feature}
-use Rattle.store.specs.Places.{IsGap}
+use Rattle.store.specs.Features.{feature_id, with_feature}
 use Rattle.store.specs.Indexed.{entry_of, entries_of}
 
 -- ---- an edit of the features, and the same of their entries
-before_indexed : (fs : List Feature) (id : List ℕ) → ascending.before id_of (entries_of fs) id ≡ entries_of (before fs id)
+before_indexed : (fs : List Feature) (id : List ℕ) → before id_of (entries_of fs) id ≡ entries_of (before feature_id fs id)
 before_indexed fs id = filter_mapped (λ (e : Entry). is_lt (id_order e.id id)) entry_of fs
 
-after_indexed : (fs : List Feature) (id : List ℕ) → ascending.after id_of (entries_of fs) id ≡ entries_of (after fs id)
+after_indexed : (fs : List Feature) (id : List ℕ) → after id_of (entries_of fs) id ≡ entries_of (after feature_id fs id)
 after_indexed fs id = filter_mapped (λ (e : Entry). is_gt (id_order e.id id)) entry_of fs
 
 pub with_feature_indexed : (fs : List Feature) (f : Feature) → with_entry (entries_of fs) (entry_of f) ≡ entries_of (with_feature fs f)
 with_feature_indexed fs f =
     (λ j. before_indexed fs f.id j ++ entry_of f ∷ after_indexed fs f.id j)
-    ∙ sym (map-append entry_of (before fs f.id) (f ∷ after fs f.id))
+    ∙ sym (map-append entry_of (before feature_id fs f.id) (f ∷ after feature_id fs f.id))
 
 -- an id that no feature has would go to the same place among the entries
-pub gap_indexed : (fs : List Feature) (f : Feature) (i : ℕ) → IsGap fs f.id i → ascending.IsGap id_of (entries_of fs) f.id i
+pub gap_indexed : (fs : List Feature) (f : Feature) (i : ℕ) → IsGap feature_id fs f.id i → IsGap id_of (entries_of fs) f.id i
 gap_indexed fs f i gap =
     record {
       in_range = subst (λ (n : ℕ). i ≤ n) (sym (length-map fs entry_of)) gap.in_range;

@@ -1,26 +1,27 @@
 -- Each edit of the features, with the same of the index, keeps the two together.
 use Rattle.std.proofs.Common.{◌≡◌, ℕ, ◌<◌, List, length, get_or, set, slice_get, slice_set, Some, sym, ap, subst, ◌∙◌, arith}
-use Rattle.std.specs.List.{AllPairs, insert, remove}
+use Rattle.std.specs.List.{insert, remove}
 use Rattle.std.specs.Option.{option_map}
 use Rattle.std.proofs.lemmas.List.{map-set, length-set, get_or_default}
 use Rattle.std.proofs.lemmas.Option.{slice_get-get_or, slice_get-map}
 use Rattle.tpoint.specs.Spans.{span_of}
 use Rattle.mfjson.specs.declared.feature.Feature.{Feature}
 use Rattle.timeindex.specs.Entries.{Entry, with_entry}
-use Rattle.store.specs.Features.{ComesBefore, IsDatabase, with_feature, without}
+use Rattle.timeindex.specs.Ascending.{IsAscending}
+use Rattle.timeindex.proofs.PlaceLemmas.{at_place}
+use Rattle.timeindex.proofs.EditLemmas.{set-at, insert-gap, remove-at, with_element_ascending}
+use Rattle.store.specs.Features.{feature_id, IsDatabase, with_feature, without}
 use Rattle.store.specs.Places.{IsAt, IsGap}
 use Rattle.store.specs.Indexed.{entry_of, entries_of, IsKept}
 use Rattle.store.specs.declared.db.TheConstants.{MOST_FEATURES}
-use Rattle.store.proofs.PlaceLemmas.{at_place}
-use Rattle.store.proofs.EditLemmas.{set-at, insert-gap, remove-at, with_feature_ascending, insert_database}
-use Rattle.store.proofs.DatabaseLemmas.{without_database}
+use Rattle.store.proofs.DatabaseLemmas.{without_database, insert_database}
 use Rattle.store.proofs.IndexLemmas.{with_feature_indexed, remove_indexed}
 
 -- a feature is taken out
 pub removed_kept : (fs gs : List Feature) (es ds : List Entry) (id : List ℕ) (i : ℕ) → IsKept fs es → IsAt fs id i →
     gs ≡ remove fs i → ds ≡ remove es i → IsKept gs ds
 removed_kept fs gs es ds id i kept at gone taken =
-    let same : gs ≡ without fs id = gone ∙ remove-at fs id i at in
+    let same : gs ≡ without fs id = gone ∙ remove-at feature_id fs id i at in
     record {
       database = subst IsDatabase (sym same) (without_database fs id kept.database);
       indexed = taken ∙ ap (λ (xs : List Entry). remove xs i) kept.indexed ∙ remove_indexed fs i ∙ ap entries_of (sym gone);
@@ -30,7 +31,7 @@ removed_kept fs gs es ds id i kept at gone taken =
 pub added_kept : (fs gs : List Feature) (es ds : List Entry) (f : Feature) (e : Entry) (i : ℕ) → IsKept fs es →
     length fs < MOST_FEATURES → IsGap fs f.id i → gs ≡ insert fs i f → e ≡ entry_of f → ds ≡ with_entry es e → IsKept gs ds
 added_kept fs gs es ds f e i kept room gap added entry taken =
-    let same : gs ≡ with_feature fs f = added ∙ insert-gap fs f i gap in
+    let same : gs ≡ with_feature fs f = added ∙ insert-gap feature_id fs f i gap in
     record {
       database = subst IsDatabase (sym added) (insert_database fs f i kept.database room gap);
       indexed = taken ∙ (λ j. with_entry (kept.indexed j) (entry j)) ∙ with_feature_indexed fs f ∙ ap entries_of (sym same);
@@ -42,9 +43,9 @@ pub replaced_kept : (fs gs : List Feature) (es ds : List Entry) (f d : Feature) 
     ((e : Entry) → slice_get es i ≡ Some e → ds ≡ slice_set es i (record e { first = first; last = last })) → IsKept gs ds
 replaced_kept fs gs es ds f d first last i kept within written same_id begins ends replaced =
     let g = get_or fs i d in
-    let place = at_place fs kept.database f.id i within
+    let place = at_place feature_id fs kept.database.ascending f.id i within
     (λ k. ap (λ (h : Feature). h.id) (get_or_default fs i k d within) ∙ sym same_id) in
-    let same : gs ≡ with_feature fs f = written ∙ set-at fs f i place in
+    let same : gs ≡ with_feature fs f = written ∙ set-at feature_id fs f i place in
     let there : slice_get es i ≡ Some (entry_of g) =
     ap (λ (xs : List Entry). slice_get xs i) kept.indexed ∙ slice_get-map entry_of fs i
     ∙ ap (option_map entry_of) (slice_get-get_or fs i d within) in
@@ -54,7 +55,7 @@ replaced_kept fs gs es ds f d first last i kept within written same_id begins en
     let few = kept.database.not_too_many in
     record {
       database = record {
-        ascending = subst (AllPairs ComesBefore) (sym same) (with_feature_ascending fs f kept.database.ascending);
+        ascending = subst (IsAscending feature_id) (sym same) (with_element_ascending feature_id fs f kept.database.ascending);
         not_too_many = omega arith;
       };
       indexed = replaced (entry_of g) there ∙ (λ j. set (kept.indexed j) i (entry j)) ∙ sym (map-set entry_of fs i f)

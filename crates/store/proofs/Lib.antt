@@ -1,5 +1,3 @@
-pub mod PlaceLemmas
-pub mod EditLemmas
 pub mod EffectLemmas
 pub mod IdLemmas
 pub mod EverLemmas

@@ -11,7 +11,8 @@ use Rattle.tpoint.specs.declared.point.Point.{Point}
 use Rattle.tpoint.proofs.Appending.{appended_valid}
 use Rattle.mfjson.specs.declared.feature.Feature.{Feature}
 use Rattle.store.specs.Additions.{Added}
-use Rattle.store.specs.Features.{AreValid, feature_of, with_feature, without, before, after}
+use Rattle.timeindex.specs.Ascending.{before, after}
+use Rattle.store.specs.Features.{feature_id, AreValid, feature_of, with_feature, without}
 use Rattle.store.specs.Operations.{reply, effect, append_reply, extended, is_done, is_later, IsSound}
 use Rattle.store.specs.declared.op.Op.{Op}
 use Rattle.store.specs.declared.op.Op.TheVariants.{Put, Append, Remove}
@@ -29,13 +30,14 @@ with_valid : (fs : List Feature) (f : Feature) → AreValid fs → IsValid f.seq
 with_valid fs f v h =
     let low = All-filter _ IsValidFeature fs v.each in
     let high = All-filter _ IsValidFeature fs v.each in
-    record { each = All-append IsValidFeature (before fs f.id) (f ∷ after fs f.id) low (All-cons IsValidFeature f (after fs f.id) h high) }
+    let behind = All-cons IsValidFeature f (after feature_id fs f.id) h high in
+    record { each = All-append IsValidFeature (before feature_id fs f.id) (f ∷ after feature_id fs f.id) low behind }
 
 without_valid : (fs : List Feature) (id : List ℕ) → AreValid fs → AreValid (without fs id)
 without_valid fs id v =
     let low = All-filter _ IsValidFeature fs v.each in
     let high = All-filter _ IsValidFeature fs v.each in
-    record { each = All-append IsValidFeature (before fs id) (after fs id) low high }
+    record { each = All-append IsValidFeature (before feature_id fs id) (after feature_id fs id) low high }
 
 -- whatever is told, valid features or those that were
 either_valid : (b : Bool) (fs gs : List Feature) → AreValid fs → AreValid gs → AreValid (if b then gs else fs)

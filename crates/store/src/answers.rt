@@ -1,10 +1,10 @@
 //! The texts of answers.
 
-ghost use Rattle.std.specs.Prelude.{◌≡◌, ◌↔◌, ◌++◌, codes, decimal, map, Some, IsTrue, IfOk, OnOk};
+ghost use Rattle.std.specs.Prelude.{◌≡◌, ◌↔◌, ◌++◌, codes, decimal, map, Some, IsTrue, IfOk, MatchOption, OnOk};
 ghost use Rattle.std.specs.List.{flat_map};
 ghost use Rattle.std.specs.Option.{option_copied};
 ghost use Rattle.predicates.specs.Predicates.{IsEver};
-ghost use Rattle.store.specs.Answers.{OfKnown, SaysValue, SaysCut, SaysEver, SaysAlways, SaysDocument, SaysWithin};
+ghost use Rattle.store.specs.Answers.{OfKnown, SaysValue, SaysCut, SaysDocument, SaysWithin};
 ghost use Rattle.store.specs.Answers.{AreIdsOf, value_text, fix_text, mark_text, part_text, id_text, tri_text};
 ghost use Rattle.store.specs.Indexed.{IsKept};
 
@@ -13,7 +13,7 @@ use crate::line::{LONGEST_FIX, write_fix, write_place};
 use backward::write_text;
 use itoa::Buffer;
 use mfjson::Feature;
-use predicates::{Tri, always, ever};
+use predicates::{Tri, ever};
 use restrict::{Cut, cut};
 use std::alloc::{AllocError, Global};
 use timeindex::TimeIndex;
@@ -68,38 +68,19 @@ pub(crate) fn cut_text(
     }
 }
 
-/// Whether the feature is ever in a rectangle.
-pub(crate) fn ever_text(
+/// A word, and after it what is answered of the feature.
+pub(crate) fn tri_answer(
     alloc: Global,
-    found: Option<&Feature>,
-    period: &Period,
-    area: &Rect,
+    word: &[u8],
+    answer: Option<Tri>,
 ) -> Result<Vec<u8>, AllocError>
-    ensures { IfOk result (λ text. OfKnown (option_copied found.entry)
-        (λ f. SaysEver f.seq period.now area.now text.items) text.items) }
+    ensures { IfOk result (λ text. MatchOption answer (text.items ≡ codes "absent")
+        (λ tri. text.items ≡ word.now ++ tri_text tri)) }
 {
-    let Some(feature) = found else {
+    let Some(tri) = answer else {
         return absent(alloc);
     };
-    let answer = tri_text(ever(&feature.seq, period, area));
-    joined(alloc, b"ever ", answer.as_bytes())
-}
-
-/// Whether the feature is always in a rectangle.
-pub(crate) fn always_text(
-    alloc: Global,
-    found: Option<&Feature>,
-    period: &Period,
-    area: &Rect,
-) -> Result<Vec<u8>, AllocError>
-    ensures { IfOk result (λ text. OfKnown (option_copied found.entry)
-        (λ f. SaysAlways f.seq period.now area.now text.items) text.items) }
-{
-    let Some(feature) = found else {
-        return absent(alloc);
-    };
-    let answer = tri_text(always(&feature.seq, period, area));
-    joined(alloc, b"always ", answer.as_bytes())
+    joined(alloc, word, tri_text(tri).as_bytes())
 }
 
 /// Which features are ever in a rectangle.

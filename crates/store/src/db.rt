@@ -7,14 +7,13 @@ ghost use Rattle.store.specs.Features.{IsDatabase, feature_of};
 ghost use Rattle.store.specs.Operations.{reply, effect, TakesNoMemory};
 ghost use Rattle.store.specs.Places.{IsAt, IsGap};
 
-use crate::answers::{
-    always_text, at_text, count_text, cut_text, document_text, ever_text, within_text,
-};
+use crate::answers::{at_text, count_text, cut_text, document_text, tri_answer, within_text};
 use crate::held::Held;
 use crate::op::{Addition, Op};
 use crate::query::Query;
 use crate::reply::Reply;
 use mfjson::Feature;
+use predicates::{always, ever};
 use std::alloc::{AllocError, Global};
 use std::marker::Model;
 use timeindex::TimeIndex;
@@ -83,8 +82,18 @@ impl Db {
         match query {
             Query::At(id, t) => at_text(alloc, self.feature(id), *t),
             Query::Cut(id, period) => cut_text(alloc, self.feature(id), period),
-            Query::Ever(id, period, area) => ever_text(alloc, self.feature(id), period, area),
-            Query::Always(id, period, area) => always_text(alloc, self.feature(id), period, area),
+            Query::Ever(id, period, area) => {
+                let answer = self
+                    .feature(id)
+                    .map(|feature| ever(&feature.seq, period, area));
+                tri_answer(alloc, b"ever ", answer)
+            }
+            Query::Always(id, period, area) => {
+                let answer = self
+                    .feature(id)
+                    .map(|feature| always(&feature.seq, period, area));
+                tri_answer(alloc, b"always ", answer)
+            }
             Query::Within(period, area) => {
                 within_text(alloc, &self.features, &self.index, period, area)
             }

@@ -1,5 +1,5 @@
 -- A binary search among instants of which each is later than the one before.
-use Rattle.std.proofs.Common.{◌≡◌, ℕ, zero, suc, ◌+◌, ◌*◌, ◌^◌, ◌<◌, ◌≤◌, List, length, get_or, take, Bool, true, false, nat_le, refl, sym}
+use Rattle.std.proofs.Common.{◌≡◌, ℕ, zero, suc, ◌+◌, ◌^◌, ◌<◌, ◌≤◌, List, length, get_or, true, false, nat_le, refl, sym}
 use Rattle.std.proofs.Common.{ap, subst, ◌∙◌, inl, inr, arith}
 use Rattle.std.specs.List.{AllWithin, count_by}
 use Rattle.std.specs.Ordering.{nat_cmp, is_gt}
@@ -52,19 +52,15 @@ module _ (ts : List ℕ) (t low high start made middle : ℕ) (listed : IsListed
   pub passed_more : low + high ≤ middle + (middle + 1) → get_or ts middle 0 ≤ t →
       Narrowed ts t (middle + 1) high start (made + 1)
   passed_more half reached =
-      let within = n.within in
-      let few = n.few in
       let h = halved low high n.left (omega arith) n.narrow in
-      let one_less = h.one_less in
-      let room = h.half in
       record {
         passed = λ k d from to. omega (arith, up_to k d (omega arith));
         to_come = n.to_come;
-        ordered = omega arith;
+        ordered = omega (arith, n.within);
         within = n.within;
         left = h.rest;
-        narrow = omega arith;
-        few = omega arith;
+        narrow = omega (arith, h.half);
+        few = omega (arith, n.few, h.one_less);
       }
     where
       up_to : (k : ℕ) (d : ℕ) → k ≤ middle → get_or ts k d ≤ t
@@ -80,19 +76,15 @@ module _ (ts : List ℕ) (t low high start made middle : ℕ) (listed : IsListed
   pub to_come_more : middle + middle ≤ low + high → t < get_or ts middle 0 →
       Narrowed ts t low middle start (made + 1)
   to_come_more half not_reached =
-      let within = n.within in
-      let few = n.few in
       let h = halved low high n.left (omega arith) n.narrow in
-      let one_less = h.one_less in
-      let room = h.half in
       record {
         passed = n.passed;
         to_come = λ k d from to. later k d from to;
         ordered = above;
-        within = omega arith;
+        within = omega (arith, n.within);
         left = h.rest;
-        narrow = omega arith;
-        few = omega arith;
+        narrow = omega (arith, h.half);
+        few = omega (arith, n.few, h.one_less);
       }
     where
       later : (k : ℕ) (d : ℕ) → middle ≤ k → k < length ts → t < get_or ts k d

@@ -1,6 +1,6 @@
 -- Lists of which a front passes a test and the rest doesn't, and ordered lists end to end.
-use Rattle.std.proofs.Common.{◌≡◌, ℕ, zero, suc, ◌+◌, ◌<◌, ◌≤◌, List, [], ◌∷◌, ◌++◌, length, map, take, drop, get_or, Bool, true, false}
-use Rattle.std.proofs.Common.{Option, Some, None, refl, ap, cond, arith}
+use Rattle.std.proofs.Common.{◌≡◌, ℕ, zero, suc, ◌<◌, ◌≤◌, List, [], ◌∷◌, ◌++◌, length, map, take, drop, get_or, Bool, true, false, not}
+use Rattle.std.proofs.Common.{Some, None, refl, arith}
 use Rattle.std.specs.List.{AllWithin, All, AllPairs, filter, find}
 use Rattle.std.proofs.lemmas.List.Kept.{AllPairs-cons}
 
@@ -13,37 +13,44 @@ tail_below : {X : Type 0} (p : X → Bool) (b : Bool) (x : X) (xs : List X) (hig
     AllWithin (λ y. p y ≡ b) (x ∷ xs) 0 (suc high) → AllWithin (λ y. p y ≡ b) xs 0 high
 tail_below p b x xs high h k d from to = h (suc k) d (omega arith) (omega arith)
 
--- the first i pass, and no other: the filter gives these
+-- ---- the first i have one answer to the test, and the rest the other: the filter gives those that pass
+-- the front of a list, or the rest
+abbrev side : {X : Type 0} → Bool → ℕ → List X → List X
+side true i xs = take i xs
+side false i xs = drop i xs
+
+first_of_rest : {X : Type 0} (p : X → Bool) (b : Bool) (x : X) (xs : List X) → p x ≡ not b → filter p xs ≡ side b 0 xs →
+    filter p (x ∷ xs) ≡ side b 0 (x ∷ xs)
+first_of_rest p true x xs here rest = grind (arith, here, rest)
+first_of_rest p false x xs here rest = grind (arith, here, rest)
+
+first_of_front : {X : Type 0} (p : X → Bool) (b : Bool) (x : X) (xs : List X) (i : ℕ) → p x ≡ b → filter p xs ≡ side b i xs →
+    filter p (x ∷ xs) ≡ side b (suc i) (x ∷ xs)
+first_of_front p true x xs i here rest = grind (arith, here, rest)
+first_of_front p false x xs i here rest = grind (arith, here, rest)
+
+filter_side : {X : Type 0} (p : X → Bool) (b : Bool) (xs : List X) (i : ℕ) → AllWithin (λ x. p x ≡ b) xs 0 i →
+    AllWithin (λ x. p x ≡ not b) xs i (length xs) → i ≤ length xs → filter p xs ≡ side b i xs
+filter_side p true [] i front rest within = grind (arith)
+filter_side p false [] i front rest within = grind (arith)
+filter_side p b (x ∷ xs) zero front rest within =
+    first_of_rest p b x xs (rest 0 x (omega arith) (omega arith))
+    (filter_side p b xs 0 (λ k d from to. absurd (omega arith)) (tail_below p (not b) x xs _ rest) (omega arith))
+filter_side p b (x ∷ xs) (suc i) front rest within =
+    first_of_front p b x xs i (front 0 x (omega arith) (omega arith))
+    (filter_side p b xs i (tail_below p b x xs _ front) (tail_within p (not b) x xs _ _ rest) (omega arith))
+
+-- the first i pass, and no other
 pub filter-take : {X : Type 0} (p : X → Bool) (xs : List X) (i : ℕ) →
     AllWithin (λ x. p x ≡ true) xs 0 i → AllWithin (λ x. p x ≡ false) xs i (length xs) →
     i ≤ length xs → filter p xs ≡ take i xs
-filter-take p [] i passes fails within = grind (arith)
-filter-take p (x ∷ xs) zero passes fails within =
-    let here : p x ≡ false = fails 0 x (omega arith) (omega arith) in
-    let rest : filter p xs ≡ take 0 xs =
-    filter-take p xs 0 (λ k d from to. absurd (omega arith)) (tail_below p false x xs _ fails) (omega arith) in
-    grind (arith, here, rest)
-filter-take p (x ∷ xs) (suc i) passes fails within =
-    let here : p x ≡ true = passes 0 x (omega arith) (omega arith) in
-    let rest : filter p xs ≡ take i xs =
-    filter-take p xs i (tail_below p true x xs _ passes) (tail_within p false x xs _ _ fails) (omega arith) in
-    grind (arith, here, rest)
+filter-take p xs i passes fails within = filter_side p true xs i passes fails within
 
--- the first i fail, and all others pass: the filter gives the others
+-- the first i fail, and all others pass
 pub filter-drop : {X : Type 0} (p : X → Bool) (xs : List X) (i : ℕ) →
     AllWithin (λ x. p x ≡ false) xs 0 i → AllWithin (λ x. p x ≡ true) xs i (length xs) →
     i ≤ length xs → filter p xs ≡ drop i xs
-filter-drop p [] i fails passes within = grind (arith)
-filter-drop p (x ∷ xs) zero fails passes within =
-    let here : p x ≡ true = passes 0 x (omega arith) (omega arith) in
-    let rest : filter p xs ≡ drop 0 xs =
-    filter-drop p xs 0 (λ k d from to. absurd (omega arith)) (tail_below p true x xs _ passes) (omega arith) in
-    grind (arith, here, rest)
-filter-drop p (x ∷ xs) (suc i) fails passes within =
-    let here : p x ≡ false = fails 0 x (omega arith) (omega arith) in
-    let rest : filter p xs ≡ drop i xs =
-    filter-drop p xs i (tail_below p false x xs _ fails) (tail_within p true x xs _ _ passes) (omega arith) in
-    grind (arith, here, rest)
+filter-drop p xs i fails passes within = filter_side p false xs i fails passes within
 
 -- none passes: nothing is found
 pub find-none : {X : Type 0} (p : X → Bool) (xs : List X) →

@@ -1,10 +1,11 @@
 -- The values of a leg, by a parameter from 0 to 1.
-use Rattle.std.proofs.Common.{◌≡◌, ℕ, ◌+◌, ◌*◌, ◌-◌, ◌≤◌, ◌<◌, ℤ, pos, ◌+ℤ◌, ◌*ℤ◌, ◌-ℤ◌, ap, refl, arith}
+use Rattle.std.proofs.Common.{◌≡◌, ℕ, ◌+◌, ◌*◌, ◌-◌, ◌≤◌, ◌<◌, ℤ, pos, ◌*ℤ◌, ◌-ℤ◌, arith}
 use Rattle.std.proofs.Math.Nat.{mul-le-mul_right}
-use Rattle.tpoint.proofs.Polynomials.{int, nat, ◌⊕◌, ◌⊝◌, ◌⊛◌, le_parts, eq_parts, le_from, eq_from}
+use Rattle.tpoint.proofs.Polynomials.{int, nat, ◌⊕◌, ◌⊝◌, ◌⊛◌, le_parts, le_from, eq_from}
 use Rattle.tpoint.specs.Fraction.{Fraction, ◌≈◌, ◌≤ᶠ◌, whole, one_le-mul}
 use Rattle.tpoint.specs.Moving.{Position, moment, InProportion, OnLeg, vertex}
 use Rattle.tpoint.specs.declared.point.Point.{Point}
+use Rattle.tpoint.proofs.SubLegs.{line_from, line_to}
 use Rattle.tpoint.specs.Ways.{way}
 
 -- t and v are the leg's instant and value at the parameter u
@@ -35,21 +36,7 @@ time_at t0 D h t =
 
 value_at : (v : Fraction) (x0 x1 : ℤ) (t0 D : ℕ) (h : 1 ≤ D) (t : Fraction) →
     InProportion v (whole x0) (whole x1) t (moment t0) (moment (t0 + D)) → v ≈ way x0 x1 (parameter t0 D h t)
-value_at v x0 x1 t0 D h t p =
-    let N = int t.num in
-    let d = nat t.den in
-    let e = nat D ⊛ d in
-    let A = nat t0 in
-    let X = int x0 in
-    let Y = int x1 in
-    let V = int v.num in
-    let w = nat v.den in
-    let q =
-    eq_parts
-    (((V ⊛ nat 1 ⊝ X ⊛ w) ⊛ (nat (t0 + D) ⊛ nat 1 ⊝ A ⊛ nat 1)) ⊛ nat (1 * 1 * (t.den * 1)))
-    (((Y ⊛ nat 1 ⊝ X ⊛ nat 1) ⊛ (N ⊛ nat 1 ⊝ A ⊛ d)) ⊛ nat (v.den * 1 * (1 * 1)))
-    p.cross in
-    record { cross = eq_from (V ⊛ e) ((X ⊛ e ⊕ (Y ⊝ X) ⊛ (N ⊝ A ⊛ d)) ⊛ w) (omega (arith, q)) }
+value_at v x0 x1 t0 D h t p = record { cross = line_from x0 x1 t0 D v t p }
 
 unit_at : (t0 D : ℕ) (h : 1 ≤ D) (t : Fraction) → moment t0 ≤ᶠ t → t ≤ᶠ moment (t0 + D) →
     (whole (pos 0) ≤ᶠ parameter t0 D h t) × (parameter t0 D h t ≤ᶠ whole (pos 1))
@@ -85,29 +72,18 @@ not_over_at t0 D u p =
           (omega (arith, mul-le-mul_right D (le_parts (n ⊛ nat 1) (nat 1 ⊛ d) p.cross)));
     }
 
--- with the two upper numbers as variables: written out, the products have too many terms for `omega`
-proportion : (v n m : ℤ) (x0 x1 : ℤ) (t0 D d : ℕ) → v ≡ x0 *ℤ pos d +ℤ (x1 -ℤ x0) *ℤ n →
-    m ≡ pos t0 *ℤ pos d +ℤ (pos (t0 + D) -ℤ pos t0) *ℤ n → ((v *ℤ pos 1 -ℤ x0 *ℤ pos d) *ℤ (pos (t0 + D) *ℤ pos 1 -ℤ pos t0 *ℤ pos 1)) *ℤ
-    pos (1 * 1 * (d * 1)) ≡ ((x1 *ℤ pos 1 -ℤ x0 *ℤ pos 1) *ℤ (m *ℤ pos 1 -ℤ pos t0 *ℤ pos d)) *ℤ pos (d * 1 * (1 * 1))
-proportion v n m x0 x1 t0 D d e f =
-    let V = int v in
-    let M = int m in
-    let N = int n in
-    let X = int x0 in
-    let Y = int x1 in
-    let A = nat t0 in
-    let k = nat d in
-    let e' = eq_parts (V ⊛ (nat D ⊛ k)) ((X ⊛ k ⊕ (Y ⊝ X) ⊛ N) ⊛ (nat D ⊛ k)) (ap (λ (z : ℤ). z *ℤ pos (D * d)) e) in
-    let f' = eq_parts ((Y ⊝ X) ⊛ M ⊛ k) ((Y ⊝ X) ⊛ (A ⊛ k ⊕ (nat (t0 + D) ⊝ A) ⊛ N) ⊛ k) (ap (λ (z : ℤ). (x1 -ℤ x0) *ℤ z *ℤ pos d) f) in
-    eq_from
-    (((V ⊛ nat 1 ⊝ X ⊛ k) ⊛ (nat (t0 + D) ⊛ nat 1 ⊝ A ⊛ nat 1)) ⊛ nat (1 * 1 * (d * 1)))
-    (((Y ⊛ nat 1 ⊝ X ⊛ nat 1) ⊛ (M ⊛ nat 1 ⊝ A ⊛ k)) ⊛ nat (d * 1 * (1 * 1)))
-    (omega (arith, e', f'))
-
 in_proportion_at : (x0 x1 : ℤ) (t0 D : ℕ) (u : Fraction) → InProportion (way x0 x1 u) (whole x0) (whole x1) (way (pos t0) (pos (t0 + D)) u)
     (moment t0) (moment (t0 + D))
 in_proportion_at x0 x1 t0 D u =
-    record { cross = proportion ((way x0 x1 u).num) u.num ((way (pos t0) (pos (t0 + D)) u).num) x0 x1 t0 D u.den refl refl }
+    let X = int x0 in
+    -- as one number: written out, the products have too many terms for `omega`
+    let rise = int (x1 -ℤ x0) in
+    let A = nat t0 in
+    let n = int u.num in
+    let d = nat u.den in
+    let e = nat D ⊛ d in
+    line_to x0 x1 t0 D (way x0 x1 u) (way (pos t0) (pos (t0 + D)) u)
+    (eq_from ((X ⊛ d ⊕ rise ⊛ n) ⊛ e) ((X ⊛ e ⊕ rise ⊛ ((A ⊛ d ⊕ (nat (t0 + D) ⊝ A) ⊛ n) ⊝ A ⊛ d)) ⊛ d) (omega arith))
 
 -- ---- for a leg
 parameter_by : (a b : Point) (D : ℕ) (t : Fraction) (v : Position) → 1 ≤ D → b.t ≡ a.t + D → OnLeg (vertex a) (vertex b) t v →

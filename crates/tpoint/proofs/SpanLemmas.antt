@@ -1,9 +1,10 @@
 -- A sequence has no value before its first instant, and none after its last.
-use Rattle.std.proofs.Common.{◌≡◌, ℕ, ◌+◌, ◌-◌, ◌<◌, ◌≤◌, List, [], ◌∷◌, length, get_or, slice_get, Some, inl, inr, refl, sym, ap, subst}
+use Rattle.std.proofs.Common.{◌≡◌, ℕ, ◌+◌, ◌-◌, ◌<◌, ◌≤◌, List, [], ◌∷◌, length, get_or, slice_get, Some, inl, inr, sym, ap, subst}
 use Rattle.std.proofs.Common.{arith}
 use Rattle.std.specs.Option.{option_map_or}
 use Rattle.std.proofs.lemmas.Bool.{cases_lt, cases_eq}
-use Rattle.std.proofs.lemmas.Option.{slice_get_read, slice_get-get_or}
+use Rattle.std.proofs.lemmas.Option.{slice_get-get_or}
+use Rattle.tpoint.proofs.PlaceLemmas.{stands_at}
 use Rattle.tpoint.specs.Fraction.{Fraction, ◌≤ᶠ◌}
 use Rattle.tpoint.specs.Moving.{Position, Sequence, IsValid, Rises, moment}
 use Rattle.tpoint.specs.Pieces.{AtPoint, Piece}
@@ -21,7 +22,7 @@ pub instant_there : (ps : List Point) (k : ℕ) (p : Point) → slice_get ps k �
 instant_there ps k p at = ap (λ o. option_map_or (λ (q : Point). q.t) o 0) at
 
 pub instant_read : (ps : List Point) (k : ℕ) (p : Point) → k < length ps → p ≡ get_or ps k p → instant_at ps k ≡ p.t
-instant_read ps k p within read = instant_there ps k p (slice_get_read ps (length ps) k p refl within read)
+instant_read ps k p within read = instant_there ps k p (stands_at ps k p within read)
 
 point_there : (ps : List Point) (k : ℕ) → k < length ps → (p : Point) × (slice_get ps k ≡ Some p)
 point_there [] k within = absurd (omega arith)
@@ -83,8 +84,8 @@ values_in_span s valid =
 pub ends_in_order : (ps : List Point) → ((k : ℕ) → Rises ps k) → (first last : Point) → 1 ≤ length ps → first ≡ get_or ps 0 first →
     last ≡ get_or ps (length ps - 1) last → first.t ≤ last.t
 ends_in_order ps rise first last some at_first at_last =
-    rises_le ps rise 0 (length ps - 1) first last (omega arith) (slice_get_read ps (length ps) 0 first refl (omega arith) at_first)
-    (slice_get_read ps (length ps) (length ps - 1) last refl (omega arith) at_last)
+    rises_le ps rise 0 (length ps - 1) first last (omega arith) (stands_at ps 0 first (omega arith) at_first)
+    (stands_at ps (length ps - 1) last (omega arith) at_last)
 
 pub span_read : (ps : List Point) (first last : Point) → 1 ≤ length ps → first ≡ get_or ps 0 first →
     last ≡ get_or ps (length ps - 1) last → closed first.t last.t ≡ span_of ps

@@ -1,15 +1,15 @@
 -- A sequence has at most one value at an instant.
-use Rattle.std.proofs.Common.{◌≡◌, ℕ, ◌+◌, ◌-◌, ◌*◌, ◌≤◌, ◌<◌, ℤ, pos, ◌+ℤ◌, ◌*ℤ◌, ◌-ℤ◌, ◌↔◌, inl, inr, List, map, length, slice_get}
-use Rattle.std.proofs.Common.{get_or, Some, ap, sym, subst, ◌∙◌, refl, arith}
+use Rattle.std.proofs.Common.{◌≡◌, ℕ, ◌+◌, ◌-◌, ◌≤◌, ◌<◌, ℤ, pos, ◌+ℤ◌, ◌*ℤ◌, ◌-ℤ◌, ◌↔◌, inl, inr, List, map, length, slice_get}
+use Rattle.std.proofs.Common.{get_or, Some, ap, sym, subst, ◌∙◌, arith}
 use Rattle.std.proofs.lemmas.Int.{ints}
 use Rattle.std.proofs.lemmas.Bool.{cases_lt}
 use Rattle.std.proofs.lemmas.List.{length-map}
 use Rattle.std.proofs.lemmas.Option.{same_Some, slice_get_within, slice_get-get_or}
 use Rattle.tpoint.proofs.Polynomials.{int, nat, ◌⊕◌, ◌⊝◌, ◌⊛◌, eq_parts, eq_from}
-use Rattle.tpoint.proofs.Fractions.{scale_eq_back, ≤ᶠ_of_≈, ≈_sym, ≈_trans, ≤ᶠ_trans, ≈_from_≤ᶠ, moment_le, <ᶠ_of_≤ᶠ_not}
+use Rattle.tpoint.proofs.Fractions.{≤ᶠ_of_≈, ≈_sym, ≈_trans, ≤ᶠ_trans, ≈_from_≤ᶠ, moment_le, <ᶠ_of_≤ᶠ_not}
 use Rattle.tpoint.proofs.PieceLemmas.{unmap, rises_le, leg_to}
-use Rattle.tpoint.proofs.SubLegs.{OnLine, line_from, line_to}
-use Rattle.tpoint.specs.Fraction.{Fraction, ◌≈◌, ◌≤ᶠ◌, whole, one_le-mul}
+use Rattle.tpoint.proofs.SubLegs.{OnLine, line_value, line_from, line_to, leg_reaches}
+use Rattle.tpoint.specs.Fraction.{Fraction, ◌≈◌, ◌≤ᶠ◌, whole}
 use Rattle.tpoint.specs.Moving.{Position, Vertex, IsPlace, OnLeg, BetweenNeighbours, AtListed, AtStep, HasValue, Sequence, At, IsValid}
 use Rattle.tpoint.specs.Moving.{Rises, moment, vertex}
 use Rattle.tpoint.specs.Pieces.{place, AtPoint, Piece}
@@ -18,65 +18,38 @@ use Rattle.tpoint.specs.declared.interp.Interp.{Interp}
 use Rattle.tpoint.specs.declared.interp.Interp.TheVariants.{Discrete, Step, Linear}
 
 -- ---- a leg's values at its ends, and that there is one at each instant
+-- where the line is at x at the instant s, so is each of its values then
+line_at : (x0 k x : ℤ) (t0 D s : ℕ) (v t : Fraction) → 1 ≤ D → t ≈ moment s → x0 *ℤ pos D +ℤ k *ℤ (pos s -ℤ pos t0) ≡ x *ℤ pos D →
+    OnLine x0 k t0 D v.num v.den t.num t.den ↔ (v ≈ whole x)
+line_at x0 k x t0 D s v t h e there =
+    let d = nat t.den in
+    let X = int x0 in
+    let K = int k in
+    let n : t.num ≡ pos s *ℤ pos t.den = omega (arith, ints, e.cross) in
+    let f = eq_parts (K ⊛ int t.num) (K ⊛ (nat s ⊛ d)) (ap (λ (z : ℤ). k *ℤ z) n) in
+    let g = eq_parts ((X ⊛ nat D ⊕ K ⊛ (nat s ⊝ nat t0)) ⊛ d) (int x ⊛ nat D ⊛ d) (ap (λ (z : ℤ). z *ℤ pos t.den) there) in
+    let same : line_value x0 k t0 D h t ≈ whole x =
+    record {
+      cross =
+          eq_from ((X ⊛ (nat D ⊛ d) ⊕ K ⊛ (int t.num ⊝ nat t0 ⊛ d)) ⊛ nat 1) (int x ⊛ (nat D ⊛ d)) (omega (arith, f, g));
+    } in
+    (λ o. ≈_trans {b = line_value x0 k t0 D h t} (record { cross = o }) same, λ o. (≈_trans o (≈_sym same)).cross)
+
 end_line : (x0 x1 : ℤ) (t0 D : ℕ) (v t : Fraction) → 1 ≤ D → t ≈ moment (t0 + D) →
     OnLine x0 (x1 -ℤ x0) t0 D v.num v.den t.num t.den ↔ (v ≈ whole x1)
 end_line x0 x1 t0 D v t h e =
-    let V = int v.num in
-    let w = nat v.den in
-    let N = int t.num in
-    let d = nat t.den in
-    let X = int x0 in
-    let Y = int x1 in
-    let A = nat t0 in
-    let n : t.num ≡ pos (t0 + D) *ℤ pos t.den = omega (arith, ints, e.cross) in
-    let f = eq_parts ((Y ⊝ X) ⊛ N ⊛ w) ((Y ⊝ X) ⊛ (nat (t0 + D) ⊛ d) ⊛ w) (ap (λ (z : ℤ). (x1 -ℤ x0) *ℤ z *ℤ pos v.den) n) in
-    let l = V ⊛ (nat D ⊛ d) in
-    let r = (X ⊛ (nat D ⊛ d) ⊕ (Y ⊝ X) ⊛ (N ⊝ A ⊛ d)) ⊛ w in (
-      λ o. record {
-        cross = scale_eq_back (v.num *ℤ pos 1) (x1 *ℤ pos v.den) (D * t.den) (one_le-mul D t.den h t.at_least_one)
-            (eq_from (V ⊛ nat 1 ⊛ nat (D * t.den)) (Y ⊛ w ⊛ nat (D * t.den)) (omega (arith, f, eq_parts l r o)));
-      },
-      λ o. let g = eq_parts (V ⊛ nat 1 ⊛ nat (D * t.den)) (Y ⊛ w ⊛ nat (D * t.den))
-          (ap (λ (z : ℤ). z *ℤ pos (D * t.den)) o.cross) in eq_from l r (omega (arith, f, g)),
-    )
+    line_at x0 (x1 -ℤ x0) x1 t0 D (t0 + D) v t h e
+    (eq_from (int x0 ⊛ nat D ⊕ (int x1 ⊝ int x0) ⊛ (nat (t0 + D) ⊝ nat t0)) (int x1 ⊛ nat D) (omega arith))
 
 begin_line : (x0 x1 : ℤ) (t0 D : ℕ) (v t : Fraction) → 1 ≤ D → t ≈ moment t0 →
     OnLine x0 (x1 -ℤ x0) t0 D v.num v.den t.num t.den ↔ (v ≈ whole x0)
 begin_line x0 x1 t0 D v t h e =
-    let V = int v.num in
-    let w = nat v.den in
-    let N = int t.num in
-    let d = nat t.den in
-    let X = int x0 in
-    let Y = int x1 in
-    let A = nat t0 in
-    let n : t.num ≡ pos t0 *ℤ pos t.den = omega (arith, ints, e.cross) in
-    let f = eq_parts ((Y ⊝ X) ⊛ N ⊛ w) ((Y ⊝ X) ⊛ (A ⊛ d) ⊛ w) (ap (λ (z : ℤ). (x1 -ℤ x0) *ℤ z *ℤ pos v.den) n) in
-    let l = V ⊛ (nat D ⊛ d) in
-    let r = (X ⊛ (nat D ⊛ d) ⊕ (Y ⊝ X) ⊛ (N ⊝ A ⊛ d)) ⊛ w in (
-      λ o. record {
-        cross = scale_eq_back (v.num *ℤ pos 1) (x0 *ℤ pos v.den) (D * t.den) (one_le-mul D t.den h t.at_least_one)
-            (eq_from (V ⊛ nat 1 ⊛ nat (D * t.den)) (X ⊛ w ⊛ nat (D * t.den)) (omega (arith, f, eq_parts l r o)));
-      },
-      λ o. let g = eq_parts (V ⊛ nat 1 ⊛ nat (D * t.den)) (X ⊛ w ⊛ nat (D * t.den))
-          (ap (λ (z : ℤ). z *ℤ pos (D * t.den)) o.cross) in eq_from l r (omega (arith, f, g)),
-    )
+    line_at x0 (x1 -ℤ x0) x0 t0 D t0 v t h e
+    (eq_from (int x0 ⊛ nat D ⊕ (int x1 ⊝ int x0) ⊛ (nat t0 ⊝ nat t0)) (int x0 ⊛ nat D) (omega arith))
 
 same_line : (x0 k : ℤ) (t0 D : ℕ) (v w t : Fraction) → 1 ≤ D → OnLine x0 k t0 D v.num v.den t.num t.den →
     OnLine x0 k t0 D w.num w.den t.num t.den → v ≈ w
-same_line x0 k t0 D v w t h p q =
-    let V = int v.num in
-    let W = int w.num in
-    let a = nat v.den in
-    let b = nat w.den in
-    let d = nat t.den in
-    let L = int (x0 *ℤ pos (D * t.den) +ℤ k *ℤ (t.num -ℤ pos t0 *ℤ pos t.den)) in
-    let f = eq_parts (V ⊛ (nat D ⊛ d) ⊛ b) (L ⊛ a ⊛ b) (ap (λ (z : ℤ). z *ℤ pos w.den) p) in
-    let g = eq_parts (W ⊛ (nat D ⊛ d) ⊛ a) (L ⊛ b ⊛ a) (ap (λ (z : ℤ). z *ℤ pos v.den) q) in
-    record {
-      cross = scale_eq_back (v.num *ℤ pos w.den) (w.num *ℤ pos v.den) (D * t.den) (one_le-mul D t.den h t.at_least_one)
-          (eq_from (V ⊛ b ⊛ nat (D * t.den)) (W ⊛ a ⊛ nat (D * t.den)) (omega (arith, f, g)));
-    }
+same_line x0 k t0 D v w t h p q = ≈_trans {b = line_value x0 k t0 D h t} (record { cross = p }) (≈_sym (record { cross = q }))
 
 -- ---- the same for legs between points
 sum_of : (a b : Point) → a.t < b.t → b.t ≡ a.t + (b.t - a.t)
@@ -155,14 +128,14 @@ listed_point ps i t v h =
     let r = subst P (sym f.2) (h.then, h.there) in
     record { point = f.0; listed = f.1; at = record { then = r.0; there = r.1 } }
 
-record LegPoints (ps : List Point) (i : ℕ) (t : Fraction) (v : Position) : Type 0 where
-  a : Point
-  b : Point
-  a_listed : slice_get ps i ≡ Some a
-  b_listed : slice_get ps (i + 1) ≡ Some b
-  on : OnLeg (vertex a) (vertex b) t v
+pub record LegPoints (ps : List Point) (i : ℕ) (t : Fraction) (v : Position) : Type 0 where
+  pub a : Point
+  pub b : Point
+  pub a_listed : slice_get ps i ≡ Some a
+  pub b_listed : slice_get ps (i + 1) ≡ Some b
+  pub on : OnLeg (vertex a) (vertex b) t v
 
-leg_points : (ps : List Point) (i : ℕ) (t : Fraction) (v : Position) → BetweenNeighbours (map vertex ps) i t v → LegPoints ps i t v
+pub leg_points : (ps : List Point) (i : ℕ) (t : Fraction) (v : Position) → BetweenNeighbours (map vertex ps) i t v → LegPoints ps i t v
 leg_points ps i t v h =
     let f = unmap ps i h.point h.listed in
     let g = unmap ps (i + 1) h.next h.next_listed in
@@ -258,66 +231,29 @@ pub at_unique : (s : Sequence) → IsValid s → (t : Fraction) (v w : Position)
 at_unique s valid t v w h k = unique s.interp s.points valid.increasing h.i k.i t v w h.at_i k.at_i
 
 -- ---- the values of a list of points on one of its legs are that leg's
-line_same : (x0 k : ℤ) (t0 D : ℕ) (v w t : Fraction) → v ≈ w → OnLine x0 k t0 D w.num w.den t.num t.den →
+line_same : (x0 k : ℤ) (t0 D : ℕ) (v w t : Fraction) → 1 ≤ D → v ≈ w → OnLine x0 k t0 D w.num w.den t.num t.den →
     OnLine x0 k t0 D v.num v.den t.num t.den
-line_same x0 k t0 D v w t e q =
-    let V = int v.num in
-    let W = int w.num in
-    let a = nat v.den in
-    let b = nat w.den in
-    let d = nat t.den in
-    let R = int (x0 *ℤ pos (D * t.den) +ℤ k *ℤ (t.num -ℤ pos t0 *ℤ pos t.den)) in
-    let f = eq_parts (V ⊛ b ⊛ nat (D * t.den)) (W ⊛ a ⊛ nat (D * t.den)) (ap (λ (z : ℤ). z *ℤ pos (D * t.den)) e.cross) in
-    let g = eq_parts (W ⊛ (nat D ⊛ d) ⊛ a) (R ⊛ b ⊛ a) (ap (λ (z : ℤ). z *ℤ pos v.den) q) in
-    scale_eq_back (v.num *ℤ pos (D * t.den)) ((x0 *ℤ pos (D * t.den) +ℤ k *ℤ (t.num -ℤ pos t0 *ℤ pos t.den)) *ℤ pos v.den) w.den
-    w.at_least_one
-    (eq_from (V ⊛ (nat D ⊛ d) ⊛ b) (R ⊛ a ⊛ b) (omega (arith, f, g)))
+line_same x0 k t0 D v w t h e q = (≈_trans {c = line_value x0 k t0 D h t} e (record { cross = q })).cross
 
-leg_same_by : (a b : Point) (D : ℕ) (t : Fraction) (v w : Position) → b.t ≡ a.t + D → IsPlace v w → OnLeg (vertex a) (vertex b) t w →
-    OnLeg (vertex a) (vertex b) t v
-leg_same_by a b D t v w e same l =
+leg_same_by : (a b : Point) (D : ℕ) (t : Fraction) (v w : Position) → 1 ≤ D → b.t ≡ a.t + D → IsPlace v w →
+    OnLeg (vertex a) (vertex b) t w → OnLeg (vertex a) (vertex b) t v
+leg_same_by a b D t v w h e same l =
     let q = line_of_leg a b D t w e l in
     record {
       begun = l.begun;
       not_over = l.not_over;
-      along_x = rw e (line_to a.x b.x a.t D v.x t (line_same a.x (b.x -ℤ a.x) a.t D v.x w.x t same.same_x q.0));
-      along_y = rw e (line_to a.y b.y a.t D v.y t (line_same a.y (b.y -ℤ a.y) a.t D v.y w.y t same.same_y q.1));
+      along_x = rw e (line_to a.x b.x a.t D v.x t (line_same a.x (b.x -ℤ a.x) a.t D v.x w.x t h same.same_x q.0));
+      along_y = rw e (line_to a.y b.y a.t D v.y t (line_same a.y (b.y -ℤ a.y) a.t D v.y w.y t h same.same_y q.1));
     }
 
 pub leg_same : (a b : Point) (t : Fraction) (v w : Position) → a.t < b.t → IsPlace v w → OnLeg (vertex a) (vertex b) t w →
     OnLeg (vertex a) (vertex b) t v
-leg_same a b t v w h same l = leg_same_by a b (b.t - a.t) t v w (omega arith) same l
-
--- a leg has a value at each of its instants
-line_value : (x0 k : ℤ) (t0 D : ℕ) → 1 ≤ D → (t : Fraction) → (v : Fraction) × OnLine x0 k t0 D v.num v.den t.num t.den
-line_value x0 k t0 D h t = (
-  record {
-    num = x0 *ℤ pos (D * t.den) +ℤ k *ℤ (t.num -ℤ pos t0 *ℤ pos t.den);
-    den = D * t.den;
-    at_least_one = one_le-mul D t.den h t.at_least_one;
-  },
-  refl,
-)
-
-leg_has : (a b : Point) (D : ℕ) (t : Fraction) → 1 ≤ D → b.t ≡ a.t + D → moment a.t ≤ᶠ t → t ≤ᶠ moment b.t →
-    (w : Position) × OnLeg (vertex a) (vertex b) t w
-leg_has a b D t h e from to =
-    let x = line_value a.x (b.x -ℤ a.x) a.t D h t in
-    let y = line_value a.y (b.y -ℤ a.y) a.t D h t in (
-      record { x = x.0; y = y.0 },
-      record {
-        begun = from;
-        not_over = to;
-        along_x = rw e (line_to a.x b.x a.t D x.0 t x.1);
-        along_y =
-            rw e (line_to a.y b.y a.t D y.0 t y.1);
-      },
-    )
+leg_same a b t v w h same l = leg_same_by a b (b.t - a.t) t v w (omega arith) (omega arith) same l
 
 pub leg_local : (ps : List Point) → ((k : ℕ) → Rises ps k) → (i : ℕ) (a b : Point) → slice_get ps i ≡ Some a →
     slice_get ps (i + 1) ≡ Some b → (t : Fraction) (v : Position) → moment a.t ≤ᶠ t → t ≤ᶠ moment b.t →
     HasValue Linear (map vertex ps) t v → OnLeg (vertex a) (vertex b) t v
 leg_local ps rise i a b ea eb t v from to h =
     let order = rise i a b ea eb in
-    let w = leg_has a b (b.t - a.t) t (omega arith) (omega arith) from to in
+    let w = leg_reaches a b t order from to in
     leg_same a b t v w.0 order (unique Linear ps rise h.i i t v w.0 h.at_i (leg_to ps i a b ea eb t w.0 w.1)) w.1

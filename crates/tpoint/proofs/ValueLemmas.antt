@@ -1,6 +1,6 @@
 -- The value at an instant, by what the code computes.
 use Rattle.std.proofs.Common.{◌≡◌, ℕ, ◌+◌, ◌*◌, ◌<◌, ◌≤◌, ℤ, pos, ◌+ℤ◌, ◌-ℤ◌, ◌*ℤ◌, unsigned_abs, Option, Some, None, MatchOption, IsSome}
-use Rattle.std.proofs.Common.{List, map, length, refl, subst, arith}
+use Rattle.std.proofs.Common.{List, map, length, refl, sym, subst, arith}
 use Rattle.std.proofs.lemmas.Int.{ints}
 use Rattle.std.proofs.Math.Nat.{le_of_dvd}
 use borrow.Author.Count.{below_more}
@@ -8,7 +8,8 @@ use Rattle.tpoint.proofs.Polynomials.{int, nat, ◌⊕◌, ◌⊝◌, ◌⊛◌,
 use Rattle.tpoint.proofs.Fractions.{moment_le}
 use Rattle.tpoint.proofs.PieceLemmas.{place_within}
 use Rattle.tpoint.specs.Fraction.{Fraction, whole}
-use Rattle.tpoint.specs.Moving.{Position, Sequence, OnLeg, InProportion, HasValue, At, moment, vertex}
+use Rattle.tpoint.specs.Moving.{Position, Sequence, OnLeg, InProportion, HasValue, At, IsValid, Rises, InBounds, moment, vertex}
+use Rattle.tpoint.specs.Places.{EachAt}
 use Rattle.tpoint.specs.Pieces.{Piece}
 use Rattle.tpoint.specs.Lowest.{IsLowest}
 use Rattle.tpoint.specs.Reduced.{fraction, position}
@@ -60,6 +61,13 @@ pub value_same : (R S : Position → Type 0) (o : Option (Frac × Frac)) → ((v
     MatchOption o ((v : Position) → ¬ R v) (λ r. R (position r)) → MatchOption o ((v : Position) → ¬ S v) (λ r. S (position r))
 value_same R S None f g h = λ v k. h v (g v k)
 value_same R S (Some r) f g h = f (position r) h
+
+-- ---- what a valid sequence keeps, of its points as `points` gives them
+pub points_rise : (s : Sequence) (ps : List Point) → IsValid s → ps ≡ s.points → (k : ℕ) → Rises ps k
+points_rise s ps valid e = subst (λ (qs : List Point). (k : ℕ) → Rises qs k) (sym e) valid.increasing
+
+pub points_in_range : (s : Sequence) (ps : List Point) → IsValid s → ps ≡ s.points → (k : ℕ) → EachAt ps InBounds k
+points_in_range s ps valid e = subst (λ (qs : List Point). (k : ℕ) → EachAt qs InBounds k) (sym e) valid.in_range
 
 -- ---- over all pieces
 of_parts : (s : Sequence) (interp : Interp) (ps : List Point) → interp ≡ s.interp → ps ≡ s.points →

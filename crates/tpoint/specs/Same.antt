@@ -52,21 +52,18 @@ same_point_parts p q h = λ i. record { t = h.0 i; x = h.1.0 i; y = h.1.1 i }
 
 pub same_point_Decides : (p q : Point) → Decides (same_point p q) (p ≡ q)
 same_point_Decides p q =
-    let parts = Decides-and _ _ (unsigned_Decides p.t q.t) (same_place_Decides p q) in
-    let x = λ (e : p ≡ q). ap (λ (r : Point). r.x) e in
-    let y = λ (e : p ≡ q). ap (λ (r : Point). r.y) e in
-    (λ e. same_point_parts p q (parts.0 e), λ e. parts.1 (ap (λ (r : Point). r.t) e, (x e, y e)))
-
-same_sequence_parts : (r s : Sequence) → (r.points ≡ s.points) × (r.interp ≡ s.interp) → r ≡ s
-same_sequence_parts r s h = λ i. record { points = h.0 i; interp = h.1 i }
+    let parts = Decides-and _ _ (unsigned_Decides p.t q.t) (same_place_Decides p q) in (
+      λ e. same_point_parts p q (parts.0 e),
+      λ e. parts.1 (ap (λ (r : Point). r.t) e, (ap (λ (r : Point). r.x) e, ap (λ (r : Point). r.y) e)),
+    )
 
 pub same_sequence_Decides : (r s : Sequence) → Decides (same_sequence r s) (r ≡ s)
 same_sequence_Decides r s =
     let points = pointwise_decides same_point_Decides r.points s.points in
-    let parts = Decides-and _ _ points (same_interp_Decides r.interp s.interp) in
-    let of_points = λ (e : r ≡ s). ap (λ (q : Sequence). q.points) e in
-    let of_interp = λ (e : r ≡ s). ap (λ (q : Sequence). q.interp) e in
-    (λ e. same_sequence_parts r s (parts.0 e), λ e. parts.1 (of_points e, of_interp e))
+    let parts = Decides-and _ _ points (same_interp_Decides r.interp s.interp) in (
+      λ e. let h = parts.0 e in λ i. record { points = h.0 i; interp = h.1 i },
+      λ e. parts.1 (ap (λ (q : Sequence). q.points) e, ap (λ (q : Sequence). q.interp) e),
+    )
 
 pub same_sequence_equiv : IsEquivalence same_sequence
 same_sequence_equiv = decided same_sequence same_sequence_Decides
@@ -104,9 +101,7 @@ same_frac_parts f g h =
 pub same_frac_Decides : (f g : Frac) → Decides (same_frac f g) (f ≡ g)
 same_frac_Decides f g =
     let parts = Decides-and _ _ (signed_Decides f.num g.num) (signed_Decides f.den g.den) in
-    let num = λ (e : f ≡ g). ap (λ (h : Frac). h.num) e in
-    let den = λ (e : f ≡ g). ap (λ (h : Frac). h.den) e in
-    (λ e. same_frac_parts f g (parts.0 e), λ e. parts.1 (num e, den e))
+    (λ e. same_frac_parts f g (parts.0 e), λ e. parts.1 (ap (λ (h : Frac). h.num) e, ap (λ (h : Frac). h.den) e))
 
 pub same_fracs_Decides : (p q : Frac × Frac) → Decides (same_fracs p q) (p ≡ q)
 same_fracs_Decides p q =
@@ -123,15 +118,12 @@ same_value_Decides (Some p) (Some q) =
     let parts = same_fracs_Decides p q in
     (λ e. ap Some (parts.0 e), λ e. parts.1 (cc))
 
-same_found_parts : (a b : Found) → (a.probes ≡ b.probes) × (a.value ≡ b.value) → a ≡ b
-same_found_parts a b h = λ i. record { value = h.1 i; probes = h.0 i }
-
 pub same_found_Decides : (a b : Found) → Decides (same_found a b) (a ≡ b)
 same_found_Decides a b =
-    let parts = Decides-and _ _ (unsigned_Decides a.probes b.probes) (same_value_Decides a.value b.value) in
-    let value = λ (e : a ≡ b). ap (λ (f : Found). f.value) e in
-    let probes = λ (e : a ≡ b). ap (λ (f : Found). f.probes) e in
-    (λ e. same_found_parts a b (parts.0 e), λ e. parts.1 (probes e, value e))
+    let parts = Decides-and _ _ (unsigned_Decides a.probes b.probes) (same_value_Decides a.value b.value) in (
+      λ e. let h = parts.0 e in λ i. record { value = h.1 i; probes = h.0 i },
+      λ e. parts.1 (ap (λ (f : Found). f.probes) e, ap (λ (f : Found). f.value) e),
+    )
 
 pub same_found_equiv : IsEquivalence same_found
 same_found_equiv = decided same_found same_found_Decides

@@ -1,23 +1,18 @@
 use Rattle.std.proofs.Common.{◌≡◌, codes, rules, refl, subst}
-use Rattle.mfjson.specs.Tokens.{Told, IsText}
-use Rattle.mfjson.proofs.Objects.{feature_told}
+use Rattle.mfjson.specs.Outline.{SaysThisId}
+use Rattle.mfjson.specs.Tokens.{Says, IsText}
+use Rattle.mfjson.proofs.Objects.{member_says, feature_told}
 use Rattle.mfjson.proofs.tokens.feature_in.Goals as goal
 
 pub returns : goal.returns
 returns c =
+    let is_feature : c.in_ok-text_in.field-0.now ≡ codes "Feature" = search rules in
+    let seq = c.in_ok-seq.ensures in
     record {
-      told = λ j begins.
-          let kind = c.in_ok-get.ensures j begins in
-          let name = c.in_ok-get-2.ensures j begins in
-          let place = c.in_ok-get-3.ensures j begins in
-          let is_feature : c.in_ok-text_in.field-0.now ≡ codes "Feature" = search rules in
-          feature_told j _ c.in_ok-course.course.interp _ _ _ c.in_ok-course.course ((c.if-not-has_members.ensures refl).counted j begins)
-          (record {
-            value = kind.0;
-            here = kind.1;
-            told = subst (λ s. Told 0 IsText kind.0 s) is_feature (c.in_ok-text_in.ensures.told kind.0 kind.2);
-          })
-          (record { value = name.0; here = name.1; told = c.in_ok-id.ensures.told name.0 name.2 })
-          (record { value = place.0; here = place.1; told = c.in_ok-course.ensures.told place.0 place.2 })
-          c.in_ok-seq.ensures.0 c.in_ok-seq.ensures.2 c.in_ok-seq.ensures.1;
+      told = λ j begins. feature_told j _ c.in_ok-course.course.interp _ _ _ c.in_ok-course.course
+          ((c.if-not-has_members.ensures refl).counted j begins)
+          (member_says 0 IsText _ _ _ _ (c.in_ok-get.ensures j begins) (subst (Says 0 IsText _) is_feature c.in_ok-text_in.ensures))
+          (member_says 0 SaysThisId _ _ _ _ (c.in_ok-get-2.ensures j begins) c.in_ok-id.ensures)
+          (member_says 3 _ _ _ _ _ (c.in_ok-get-3.ensures j begins) c.in_ok-course.ensures)
+          seq.0 seq.2 seq.1;
     }

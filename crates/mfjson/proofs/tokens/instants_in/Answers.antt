@@ -1,30 +1,9 @@
--- Reading one element after another.
-use Rattle.std.proofs.Common.{refl, sym, subst}
+use Rattle.std.proofs.Common.{Global, Vec, ℕ, rules}
 use Rattle.mfjson.specs.Document.{SaysInstant}
-use Rattle.mfjson.specs.Tokens.{Told, SaysEach}
-use Rattle.mfjson.proofs.TokenLemmas.{GoesOn, one_more, array_told}
+use Rattle.mfjson.proofs.TokenLemmas.{array_says}
 use Rattle.mfjson.proofs.tokens.instants_in.Goals as goal
-
-pub loop-item-init : goal.loop-item-init
-loop-item-init c = λ j begins.
-    let inside = c.in_ok-items.ensures j begins in
-    (inside.0, inside.1, inside.0, inside.2, rw c.new-instants.ensures.items refl)
-
-pub loop-item-preserved : goal.loop-item-preserved
-loop-item-preserved c = λ j begins.
-    let so_far = c.loop-item.invariant j begins in
-    let next = c.in-Some.ensures.value so_far.2 so_far.3 in
-    let all = so_far.0 in
-    let here = subst (λ js. GoesOn 0 SaysInstant all c.loop-item.instants.items js) next.2 so_far.4 in
-    let more = one_more 0 SaysInstant all c.loop-item.instants.items next.0 next.1 c.in_ok-instant.instant here (c.in_ok-instant.ensures.told next.0 next.3) in
-    (all, so_far.1, next.1, next.4, rw c.in-Ok.ensures.items more)
 
 pub returns : goal.returns
 returns c =
-    record {
-      told = λ j begins.
-          let so_far = c.loop-item.invariant j begins in
-          let over = c.in_default.ensures.value so_far.2 so_far.3 in
-          let on = subst (λ js. GoesOn 0 SaysInstant so_far.0 c.loop-item.instants.items js) over so_far.4 in
-          subst (λ k. Told 1 (SaysEach SaysInstant) k c.loop-item.instants.items) (sym so_far.1) (array_told 0 SaysInstant so_far.0 c.loop-item.instants.items on);
-    }
+    array_says 0 SaysInstant _ c.args.list.now c.each_in.result (λ (v : Vec ℕ Global). v.items) (λ item x read. search rules)
+    c.each_in.ensures

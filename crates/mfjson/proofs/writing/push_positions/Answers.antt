@@ -8,9 +8,9 @@ loop-point-init c = none_yet WritesWhere c.args.text.now.items
 
 pub loop-point-preserved : goal.loop-point-preserved
 loop-point-preserved c =
-    let l = c.loop-point in
     let point = c.point-item.result in
     let written = position point.x point.y in
     let there = subst (λ p. WritesWhere written p) c.point-item.is refl in
-    one_more WritesWhere c.args.points.now l.point-index c.args.text.now.items l.text.items _ written point (omega arith) l.invariant there
-    (c.in_ok-push_position.ensures ∙ ap (λ s. l.text.items ++ 44 ∷ s) (position_spelled point))
+    one_more WritesWhere c.args.points.now c.loop-point.point-index c.args.text.now.items c.loop-point.text.items _ written point
+    (omega arith) c.loop-point.invariant there
+    (c.in_ok-push_position.ensures ∙ ap (λ s. c.loop-point.text.items ++ 44 ∷ s) (position_spelled point))

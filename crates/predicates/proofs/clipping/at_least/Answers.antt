@@ -1,5 +1,5 @@
-use Rattle.std.proofs.Common.{ℤ, ◌-ℤ◌, to_z, of_z, arith}
-use Rattle.std.proofs.lemmas.Int.{ints}
+use Rattle.std.proofs.Common.{◌-ℤ◌, SFits, arith}
+use Rattle.std.proofs.lemmas.Int.{ints, to_z-of_z}
 use mir.Syntax.{w64}
 use Rattle.predicates.proofs.Margins.{over}
 use Rattle.predicates.proofs.WindowLemmas.{same_part}
@@ -7,10 +7,6 @@ use Rattle.predicates.proofs.clipping.at_least.Goals as goal
 
 pub returns : goal.returns
 returns c =
-    let a = c.args in
-    let wide : ℤ → ℤ = λ z. to_z w64 (of_z w64 z) in
-    let x = wide (wide a.from -ℤ wide a.low) in
-    let y = wide (wide a.to -ℤ wide a.low) in
-    same_part a.window _ _ _
-    (λ u. over a.counts u a.low a.from a.to x y (omega (arith, ints)) (omega (arith, ints)))
-    c.clip.ensures
+    let fit : SFits w64 (c.args.from -ℤ c.args.low) × SFits w64 (c.args.to -ℤ c.args.low) = (omega (arith, ints), omega (arith, ints)) in
+    let is = simp (to_z-of_z, c.ranges.from, c.ranges.to, c.ranges.low, fit.0, fit.1) at c.clip.ensures in
+    same_part c.args.window _ _ _ is (over c.args.counts c.args.low c.args.from c.args.to)

@@ -1,5 +1,5 @@
-use Rattle.std.proofs.Common.{ℤ, ◌-ℤ◌, to_z, of_z, arith}
-use Rattle.std.proofs.lemmas.Int.{ints}
+use Rattle.std.proofs.Common.{◌-ℤ◌, SFits, arith}
+use Rattle.std.proofs.lemmas.Int.{ints, to_z-of_z}
 use mir.Syntax.{w64}
 use Rattle.predicates.proofs.Margins.{under}
 use Rattle.predicates.proofs.WindowLemmas.{same_part}
@@ -7,10 +7,6 @@ use Rattle.predicates.proofs.clipping.at_most.Goals as goal
 
 pub returns : goal.returns
 returns c =
-    let a = c.args in
-    let wide : ℤ → ℤ = λ z. to_z w64 (of_z w64 z) in
-    let x = wide (wide a.high -ℤ wide a.from) in
-    let y = wide (wide a.high -ℤ wide a.to) in
-    same_part a.window _ _ _
-    (λ u. under a.counts u a.high a.from a.to x y (omega (arith, ints)) (omega (arith, ints)))
-    c.clip.ensures
+    let fit : SFits w64 (c.args.high -ℤ c.args.from) × SFits w64 (c.args.high -ℤ c.args.to) = (omega (arith, ints), omega (arith, ints)) in
+    let is = simp (to_z-of_z, c.ranges.from, c.ranges.to, c.ranges.high, fit.0, fit.1) at c.clip.ensures in
+    same_part c.args.window _ _ _ is (under c.args.counts c.args.high c.args.from c.args.to)

@@ -10,39 +10,28 @@ returns-in_default c =
 
 pub returns-then-inside : goal.returns-then-inside
 returns-then-inside c =
-    let a = c.args.a.now in
-    let b = c.args.b.now in
-    let p = c.args.period.now in
-    let r = c.args.area.now in
-    let time = c.in-Some.time in
     let is = c.in-Some.ensures in
-    let shares = shares_some a b p time c.requires.later is in
     elim c.match-question.branch [
       | in-Ever w ↦
           let met = sym w.inside-is ∙ c.if-inside.true in
-          rw w.in-Ever.is ((inside_is a b p r time c.requires.later is).0 (w.meets-inside.ensures.0 met))
+          rw w.in-Ever.is ((inside_is _ _ _ _ _ c.requires.later is).0 (w.meets-inside.ensures.0 met))
       | in-Always w ↦
           let stays = not_true w.leaves.result (sym w.inside-is ∙ c.if-inside.true) in
           rw w.in-Always.is
-          (shares, all_inside a b p r time c.requires.later is (match_false _ _ _ stays w.leaves.ensures))
+          (shares_some _ _ _ _ c.requires.later is, all_inside _ _ _ _ _ c.requires.later is (match_false _ _ _ stays w.leaves.ensures))
     ]
 
 pub returns-else-inside : goal.returns-else-inside
 returns-else-inside c =
-    let a = c.args.a.now in
-    let b = c.args.b.now in
-    let p = c.args.period.now in
-    let r = c.args.area.now in
-    let time = c.in-Some.time in
     let is = c.in-Some.ensures in
-    let shares = shares_some a b p time c.requires.later is in
+    let shares = shares_some _ _ _ _ c.requires.later is in
     elim c.match-question.branch [
       | in-Ever w ↦
           let apart = sym w.inside-is ∙ c.if-inside.false in
           rw w.in-Ever.is
-          (shares, λ s. let met = w.meets-inside.ensures.1 ((inside_is a b p r time c.requires.later is).1 s) in cc)
+          (shares, λ s. let met = w.meets-inside.ensures.1 ((inside_is _ _ _ _ _ c.requires.later is).1 s) in cc)
       | in-Always w ↦
           let strays = not_false w.leaves.result (sym w.inside-is ∙ c.if-inside.false) in
           rw w.in-Always.is
-          (shares, not_all_inside a b p r time c.requires.later is (match_true _ _ _ strays w.leaves.ensures))
+          (shares, not_all_inside _ _ _ _ _ c.requires.later is (match_true _ _ _ strays w.leaves.ensures))
     ]

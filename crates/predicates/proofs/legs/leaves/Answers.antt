@@ -1,33 +1,17 @@
-use Rattle.std.proofs.Common.{◌≡◌, to_z, of_z, arith}
-use Rattle.std.proofs.lemmas.Int.{ints}
-use mir.Syntax.{w64}
+use Rattle.std.proofs.lemmas.Int.{to_z-of_z}
+use Rattle.predicates.proofs.Passing.{numbers_fit}
 use Rattle.predicates.proofs.LegLemmas.{leaves_across, leaves_along}
 use Rattle.predicates.proofs.legs.leaves.Goals as goal
 
 pub returns-then-strays : goal.returns-then-strays
 returns-then-strays c =
-    let a = c.args.a.now in
-    let b = c.args.b.now in
-    let r = c.args.area.now in
-    let ax : to_z w64 (of_z w64 a.x) ≡ a.x = omega (arith, ints) in
-    let bx : to_z w64 (of_z w64 b.x) ≡ b.x = omega (arith, ints) in
-    let x0 : to_z w64 (of_z w64 c.x0.result) ≡ r.x0 = omega (arith, ints) in
-    let x1 : to_z w64 (of_z w64 c.x1.result) ≡ r.x1 = omega (arith, ints) in
-    leaves_across c.args.time a b r (rw (ax, bx, x0, x1) at c.if-strays.ensures)
+    let fit = numbers_fit _ _ _ c.requires.a_fits c.requires.b_fits c.x0.ensures.valid in
+    leaves_across c.args.time c.args.a.now c.args.b.now c.args.area.now
+    (simp (to_z-of_z, fit.ax, fit.bx, fit.x0, fit.x1, c.x0.ensures.value, c.x1.ensures.value) at c.if-strays.ensures)
 
 pub returns : goal.returns
 returns c =
-    let a = c.args.a.now in
-    let b = c.args.b.now in
-    let r = c.args.area.now in
-    let ax : to_z w64 (of_z w64 a.x) ≡ a.x = omega (arith, ints) in
-    let bx : to_z w64 (of_z w64 b.x) ≡ b.x = omega (arith, ints) in
-    let ay : to_z w64 (of_z w64 a.y) ≡ a.y = omega (arith, ints) in
-    let by : to_z w64 (of_z w64 b.y) ≡ b.y = omega (arith, ints) in
-    let x0 : to_z w64 (of_z w64 c.x0.result) ≡ r.x0 = omega (arith, ints) in
-    let x1 : to_z w64 (of_z w64 c.x1.result) ≡ r.x1 = omega (arith, ints) in
-    let y0 : to_z w64 (of_z w64 c.y0.result) ≡ r.y0 = omega (arith, ints) in
-    let y1 : to_z w64 (of_z w64 c.y1.result) ≡ r.y1 = omega (arith, ints) in
-    leaves_along c.args.time a b r c.strays-2.result
-    (rw (ax, bx, x0, x1) at c.if-strays.ensures)
-    (rw (ay, by, y0, y1) at c.strays-2.ensures)
+    let fit = numbers_fit _ _ _ c.requires.a_fits c.requires.b_fits c.x0.ensures.valid in
+    leaves_along c.args.time c.args.a.now c.args.b.now c.args.area.now c.strays-2.result
+    (simp (to_z-of_z, fit.ax, fit.bx, fit.x0, fit.x1, c.x0.ensures.value, c.x1.ensures.value) at c.if-strays.ensures)
+    (simp (to_z-of_z, fit.ay, fit.by, fit.y0, fit.y1, c.y0.ensures.value, c.y1.ensures.value) at c.strays-2.ensures)

@@ -1,29 +1,25 @@
-use Rattle.std.proofs.Common.{◌≡◌, ℕ, ◌+◌, ◌<◌, List, get_or, slice_get, Some, refl, length, rules}
-use Rattle.std.proofs.lemmas.Option.{slice_get_read}
+use Rattle.std.proofs.Common.{◌≡◌, ◌+◌, length, rules}
+use Rattle.tpoint.proofs.PlaceLemmas.{stands_at}
 use Rattle.tpoint.specs.Moving.{OnLeg, vertex}
-use Rattle.tpoint.specs.declared.point.Point.{Point}
 use Rattle.tpoint.specs.Pieces.{AtPoint, HeldUntil}
 use Rattle.predicates.proofs.StayLemmas.{answers_same, answers_nothing}
 use Rattle.tpoint.proofs.PieceLemmas.{discrete_to, discrete_from, held_to, held_from, last_to}
 use Rattle.tpoint.proofs.PieceLemmas.{last_from, leg_to, leg_from, single_to, single_from, no_leg}
 use Rattle.predicates.proofs.pieces.piece.Goals as goal
 
-at_place : (ps : List Point) (i : ℕ) (p : Point) → i < length ps → p ≡ get_or ps i p → slice_get ps i ≡ Some p
-at_place ps i p h e = slice_get_read ps (length ps) i p refl h e
-
 pub leg-requires-clause-a_fits : goal.leg-requires-clause-a_fits
 leg-requires-clause-a_fits c =
-    c.requires.in_range c.args.i _ (at_place _ _ _ c.requires.in_list c.index-points-i-then-i-points-2-2.is)
+    c.requires.in_range c.args.i _ (stands_at _ _ _ c.requires.in_list c.index-points-i-then-i-points-2-2.is)
 
 pub leg-requires-clause-b_fits : goal.leg-requires-clause-b_fits
 leg-requires-clause-b_fits c =
-    c.requires.in_range (c.args.i + 1) _ (at_place _ _ _ c.if-i-points-2.true c.index-points-i-then-i-points-2-3.is)
+    c.requires.in_range (c.args.i + 1) _ (stands_at _ _ _ c.if-i-points-2.true c.index-points-i-then-i-points-2-3.is)
 
 pub returns-in-Discrete : goal.returns-in-Discrete
 returns-in-Discrete c =
     let ps = c.args.points.now in
     let p = c.index-points-i.result in
-    let e = at_place ps c.args.i p c.requires.in_list c.index-points-i.is in
+    let e = stands_at ps c.args.i p c.requires.in_list c.index-points-i.is in
     rw c.in-Discrete.is
     (answers_same c.args.question (AtPoint p) _ _ _ _
     (discrete_to ps c.args.i p e)
@@ -35,8 +31,8 @@ returns-then-i-points c =
     let ps = c.args.points.now in
     let p = c.index-points-i-then-i-points.result in
     let q = c.index-points-i-then-i-points-2.result in
-    let e = at_place ps c.args.i p c.requires.in_list c.index-points-i-then-i-points.is in
-    let f = at_place ps (c.args.i + 1) q c.if-i-points.true c.index-points-i-then-i-points-2.is in
+    let e = stands_at ps c.args.i p c.requires.in_list c.index-points-i-then-i-points.is in
+    let f = stands_at ps (c.args.i + 1) q c.if-i-points.true c.index-points-i-then-i-points-2.is in
     rw c.in-Step.is
     (answers_same c.args.question (HeldUntil p q) _ _ _ _
     (held_to ps c.requires.increasing c.args.i p q e f)
@@ -47,7 +43,7 @@ pub returns-else-i-points : goal.returns-else-i-points
 returns-else-i-points c =
     let ps = c.args.points.now in
     let p = c.index-points-i-else-i-points.result in
-    let e = at_place ps c.args.i p c.requires.in_list c.index-points-i-else-i-points.is in
+    let e = stands_at ps c.args.i p c.requires.in_list c.index-points-i-else-i-points.is in
     rw c.in-Step.is
     (answers_same c.args.question (AtPoint p) _ _ _ _
     (last_to ps c.args.i p c.if-i-points.false e)
@@ -59,8 +55,8 @@ returns-then-i-points-2 c =
     let ps = c.args.points.now in
     let p = c.index-points-i-then-i-points-2-2.result in
     let q = c.index-points-i-then-i-points-2-3.result in
-    let e = at_place ps c.args.i p c.requires.in_list c.index-points-i-then-i-points-2-2.is in
-    let f = at_place ps (c.args.i + 1) q c.if-i-points-2.true c.index-points-i-then-i-points-2-3.is in
+    let e = stands_at ps c.args.i p c.requires.in_list c.index-points-i-then-i-points-2-2.is in
+    let f = stands_at ps (c.args.i + 1) q c.if-i-points-2.true c.index-points-i-then-i-points-2-3.is in
     rw c.in-Linear.is
     (answers_same c.args.question (OnLeg (vertex p) (vertex q)) _ _ _ _
     (leg_to ps c.args.i p q e f)
@@ -71,7 +67,7 @@ pub returns-then-points-eq1 : goal.returns-then-points-eq1
 returns-then-points-eq1 c =
     let ps = c.args.points.now in
     let p = c.index-points-i-then-points-eq1.result in
-    let e = at_place ps c.args.i p c.requires.in_list c.index-points-i-then-points-eq1.is in
+    let e = stands_at ps c.args.i p c.requires.in_list c.index-points-i-then-points-eq1.is in
     let one : length ps ≡ 1 = search rules in
     rw c.in-Linear.is
     (answers_same c.args.question (AtPoint p) _ _ _ _

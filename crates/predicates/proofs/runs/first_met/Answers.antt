@@ -1,5 +1,5 @@
-use Rattle.std.proofs.Common.{◌+◌, ◌≤◌, refl, length, rules, arith}
-use Rattle.std.proofs.lemmas.Option.{slice_get_read}
+use Rattle.std.proofs.Common.{◌+◌, ◌≤◌, rules, arith}
+use Rattle.tpoint.proofs.PlaceLemmas.{stands_at}
 use Rattle.tpoint.specs.Extents.{last_whole}
 use Rattle.tpoint.specs.Pieces.{Piece}
 use Rattle.tpoint.specs.declared.interp.Interp.TheVariants.{Linear}
@@ -14,14 +14,14 @@ comes_in-requires-clause-a_fits c =
     let ps = c.args.points.now in
     let k = c.loop-k.k in
     let a = c.index-points-k.result in
-    c.requires.in_range k a (slice_get_read ps (length ps) k a refl (omega arith) c.index-points-k.is)
+    c.requires.in_range k a (stands_at ps k a (omega arith) c.index-points-k.is)
 
 pub comes_in-requires-clause-b_fits : goal.comes_in-requires-clause-b_fits
 comes_in-requires-clause-b_fits c =
     let ps = c.args.points.now in
     let k = c.loop-k.k in
     let b = c.index-points-k-in-loop-k.result in
-    c.requires.in_range (k + 1) b (slice_get_read ps (length ps) (k + 1) b refl (omega arith) c.index-points-k-in-loop-k.is)
+    c.requires.in_range (k + 1) b (stands_at ps (k + 1) b (omega arith) c.index-points-k-in-loop-k.is)
 
 pub loop-k-preserved : goal.loop-k-preserved
 loop-k-preserved c =
@@ -31,8 +31,8 @@ loop-k-preserved c =
     let k = c.loop-k.k in
     let a = c.index-points-k.result in
     let b = c.index-points-k-in-loop-k.result in
-    let e = slice_get_read ps (length ps) k a refl (omega arith) c.index-points-k.is in
-    let f = slice_get_read ps (length ps) (k + 1) b refl (omega arith) c.index-points-k-in-loop-k.is in
+    let e = stands_at ps k a (omega arith) c.index-points-k.is in
+    let f = stands_at ps (k + 1) b (omega arith) c.index-points-k-in-loop-k.is in
     let has = c.last_whole.ensures.has_instant in
     let over : b.t ≤ last_whole p = search rules in
     one_more (λ j. Answers Ever (Piece Linear ps j) p r No) c.args.from k c.loop-k.invariant

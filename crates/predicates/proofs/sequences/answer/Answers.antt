@@ -1,9 +1,7 @@
-use Rattle.std.proofs.Common.{ℕ, List, sym, subst, refl, length, ◌<◌, arith, rules}
-use Rattle.std.proofs.lemmas.Option.{slice_get_read}
-use Rattle.tpoint.specs.Places.{EachAt}
+use Rattle.std.proofs.Common.{◌<◌, arith, rules}
+use Rattle.tpoint.proofs.PlaceLemmas.{stands_at}
 use Rattle.tpoint.specs.Extents.{last_whole}
-use Rattle.tpoint.specs.Moving.{Rises, InBounds}
-use Rattle.tpoint.specs.declared.point.Point.{Point}
+use Rattle.tpoint.proofs.ValueLemmas.{points_rise, points_in_range}
 use Rattle.predicates.proofs.SequenceLemmas.{so_far_none, next_none, next_some, decided}
 use Rattle.predicates.proofs.SequenceLemmas.{answered, before_place, begins_after, past_the_last, of_sequence}
 use Rattle.predicates.proofs.sequences.answer.Goals as goal
@@ -13,8 +11,7 @@ pub loop-i-init : goal.loop-i-init
 loop-i-init c =
     let interp = c.interp-interp.result in
     let ps = c.points-points.result.now in
-    let P : List Point → Type 0 = λ qs. (k : ℕ) → Rises qs k in
-    let rise = subst P (sym c.points-points.ensures.value) c.points-points.ensures.valid.increasing in
+    let rise = points_rise _ _ c.points-points.ensures.valid c.points-points.ensures.value in
     let first = c.first_piece-i in
     let p = c.args.period.now in
     so_far_none c.args.question interp ps p c.args.area.now first.result
@@ -25,11 +22,10 @@ pub returns-then-lt : goal.returns-then-lt
 returns-then-lt c =
     let interp = c.interp-interp.result in
     let ps = c.points-points.result.now in
-    let P : List Point → Type 0 = λ qs. (k : ℕ) → Rises qs k in
-    let rise = subst P (sym c.points-points.ensures.value) c.points-points.ensures.valid.increasing in
+    let rise = points_rise _ _ c.points-points.ensures.valid c.points-points.ensures.value in
     let i = c.loop-i.i in
     let point = c.index-points-i.result in
-    let there = slice_get_read ps (length ps) i point refl (omega arith) c.index-points-i.is in
+    let there = stands_at ps i point (omega arith) c.index-points-i.is in
     let after : last_whole c.args.period.now < point.t = search rules in
     of_sequence c.args.question c.args.seq.now interp ps _ _ _ c.interp-interp.ensures.value c.points-points.ensures.value
     (answered c.args.question interp ps _ _ i _ c.loop-i.invariant
@@ -37,8 +33,7 @@ returns-then-lt c =
 
 pub run_from-run-requires-clause-in_range : goal.run_from-run-requires-clause-in_range
 run_from-run-requires-clause-in_range c =
-    let P : List Point → Type 0 = λ qs. (k : ℕ) → EachAt qs InBounds k in
-    subst P (sym c.points-points.ensures.value) c.points-points.ensures.valid.in_range
+    points_in_range _ _ c.points-points.ensures.valid c.points-points.ensures.value
 
 pub returns-then-decides : goal.returns-then-decides
 returns-then-decides c =

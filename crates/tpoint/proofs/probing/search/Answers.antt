@@ -1,4 +1,4 @@
-use Rattle.std.proofs.Common.{◌≡◌, ℕ, ◌+◌, ◌-◌, ◌/◌, ◌<◌, ◌≤◌, List, length, true, false, get_or, refl, sym, subst, ◌∙◌, ap, arith, rules}
+use Rattle.std.proofs.Common.{◌≡◌, ◌+◌, ◌-◌, ◌/◌, ◌<◌, ◌≤◌, length, true, false, get_or, refl, sym, subst, ◌∙◌, ap, arith, rules}
 use Rattle.std.specs.Ordering.{is_gt}
 use Rattle.std.specs.List.{AllWithin}
 use Rattle.tpoint.proofs.Halving.{Narrowed, unnarrowed, has_probe, passed_more, to_come_more, number_passed, after_told, not_after_told}

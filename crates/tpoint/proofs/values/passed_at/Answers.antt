@@ -1,4 +1,4 @@
-use Rattle.std.proofs.Common.{◌≡◌, ◌<◌, ◌≤◌, List, length, subst, ap}
+use Rattle.std.proofs.Common.{◌<◌, ◌≤◌, List, length, subst}
 use Rattle.std.specs.List.{AllWithin}
 use Rattle.tpoint.specs.Listing.{instants_of}
 use Rattle.tpoint.specs.declared.point.Point.{Point}

@@ -2,9 +2,7 @@ use Rattle.predicates.proofs.BoundLemmas.{begins_later, begins_no_later}
 use Rattle.predicates.proofs.bounds.Bound.later.Goals as goal
 
 pub returns-then-is_before : goal.returns-then-is_before
-returns-then-is_before c =
-    λ u. (λ h. (begins_later c.args.self.counts c.args.other.counts _ _ u (c.is_before.ensures.0 c.if-is_before.true) h, h), λ h. h.1)
+returns-then-is_before c = λ u. (λ h. (begins_later _ _ _ _ u (c.is_before.ensures.0 c.if-is_before.true) h, h), λ h. h.1)
 
 pub returns-else-is_before : goal.returns-else-is_before
-returns-else-is_before c =
-    λ u. (λ h. (h, begins_no_later c.args.self.counts c.args.other.counts _ _ u (λ k. let e = c.is_before.ensures.1 k in cc) h), λ h. h.0)
+returns-else-is_before c = λ u. (λ h. (h, begins_no_later _ _ _ _ u (λ k. let e = c.is_before.ensures.1 k in cc) h), λ h. h.0)

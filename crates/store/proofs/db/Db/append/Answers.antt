@@ -1,5 +1,5 @@
-use Rattle.std.proofs.Common.{◌≡◌, List, refl, ◌<◌, length, rules, sym, ap, subst, ◌∙◌, get_or}
-use Rattle.store.specs.Operations.{append_reply, append_effect, is_done}
+use Rattle.std.proofs.Common.{List, refl, ◌<◌, length, rules, sym, ap, subst, ◌∙◌}
+use Rattle.store.specs.Operations.{is_done}
 use Rattle.store.specs.Places.{IsAt, IsGap}
 use Rattle.store.proofs.EffectLemmas.{append_known-reply, append_known-write, append_unknown-reply, append_unknown-effect}
 use Rattle.tpoint.specs.Extents.{Span}
@@ -22,32 +22,21 @@ returns-in_default-clause-effect c =
 -- the id is known, and its feature gets the point, or refuses it
 pub returns-clause-reply : goal.returns-clause-reply
 returns-clause-reply c =
-    let f = c.index_mut-held.result.now in
     let at = subst (λ id. IsAt c.args.self.now id c.in-Ok.at) c.id.ensures c.in-Ok.ensures.found in
-    let there : f ≡ get_or c.args.self.now c.in-Ok.at f =
-    c.index_mut-held.ensures.value ∙ ap (λ fs. get_or fs c.in-Ok.at f) c.self.view_is in
-    let told = (λ j. append_reply (there j).seq.points (c.point.ensures.value j))
-    ∙ append_known-reply c.args.self.now c.args.addition.now c.in-Ok.at at f in
-    c.in_ok-told.ensures.reply ∙ told
+    c.in_ok-told.ensures.reply
+    ∙ append_known-reply c.args.self.now c.args.addition.now _ at _ _ _ c.self.view_is c.index_mut-held.ensures.value c.point.ensures.value
 
 pub returns-clause-effect : goal.returns-clause-effect
 returns-clause-effect c =
-    let f = c.index_mut-held.result.now in
     let at = subst (λ id. IsAt c.args.self.now id c.in-Ok.at) c.id.ensures c.in-Ok.ensures.found in
-    let there : f ≡ get_or c.args.self.now c.in-Ok.at f =
-    c.index_mut-held.ensures.value ∙ ap (λ fs. get_or fs c.in-Ok.at f) c.self.view_is in
-    append_known-write c.args.self.now c.args.addition.now c.in-Ok.at at f _ _ c.self.view_is
-    (ap (λ (g : Feature). g.id) (c.in_ok-told.ensures.effect) ∙ (λ j. (there j).id))
-    (ap (λ (g : Feature). g.seq) c.in_ok-told.ensures.effect ∙ (λ j. append_effect (there j).seq (c.point.ensures.value j)))
+    append_known-write c.args.self.now c.args.addition.now _ at _ _ _ _ c.self.view_is c.index_mut-held.ensures.value c.point.ensures.value
+    c.in_ok-told.ensures.effect
 
 pub returns-in_err-told-clause-in_place : goal.returns-in_err-told-clause-in_place
 returns-in_err-told-clause-in_place c = λ refused.
-    let f = c.index_mut-held.result.now in
     let at = subst (λ id. IsAt c.args.self.now id c.in-Ok.at) c.id.ensures c.in-Ok.ensures.found in
-    let there : f ≡ get_or c.args.self.now c.in-Ok.at f =
-    c.index_mut-held.ensures.value ∙ ap (λ fs. get_or fs c.in-Ok.at f) c.self.view_is in
-    let told = (λ j. append_reply (there j).seq.points (c.point.ensures.value j))
-    ∙ append_known-reply c.args.self.now c.args.addition.now c.in-Ok.at at f in
+    let told = append_known-reply c.args.self.now c.args.addition.now _ at _ _ _ c.self.view_is c.index_mut-held.ensures.value
+    c.point.ensures.value in
     let kept = c.append.ensures.in_place (ap is_done told ∙ refused) in
     absurd (search rules)
 

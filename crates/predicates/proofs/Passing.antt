@@ -1,0 +1,35 @@
+-- The numbers of two points and a rectangle, as they are passed to a call: written to 64 bits, and read back.
+use Rattle.std.proofs.Common.{ℤ, SFits, arith}
+use Rattle.std.proofs.lemmas.Int.{ints}
+use mir.Syntax.{w64}
+use Rattle.tpoint.specs.Coordinates.{InRange}
+use Rattle.tpoint.specs.Moving.{InBounds}
+use Rattle.tpoint.specs.Extents.{Area, IsArea}
+use Rattle.tpoint.specs.declared.point.Point.{Point}
+
+-- they fit, so that each is read as it was written
+pub record NumbersFit (a b : Point) (r : Area) : Type 0 where
+  pub ax : SFits w64 a.x
+  pub bx : SFits w64 b.x
+  pub ay : SFits w64 a.y
+  pub by : SFits w64 b.y
+  pub x0 : SFits w64 r.x0
+  pub x1 : SFits w64 r.x1
+  pub y0 : SFits w64 r.y0
+  pub y1 : SFits w64 r.y1
+
+coordinate_fits : (z : ℤ) → InRange z → SFits w64 z
+coordinate_fits z h = omega (arith, ints, h)
+
+pub numbers_fit : (a b : Point) (r : Area) → InBounds a → InBounds b → IsArea r → NumbersFit a b r
+numbers_fit a b r p q s =
+    record {
+      ax = coordinate_fits a.x p.x_fits;
+      bx = coordinate_fits b.x q.x_fits;
+      ay = coordinate_fits a.y p.y_fits;
+      by = coordinate_fits b.y q.y_fits;
+      x0 = coordinate_fits r.x0 s.x0_fits;
+      x1 = coordinate_fits r.x1 s.x1_fits;
+      y0 = coordinate_fits r.y0 s.y0_fits;
+      y1 = coordinate_fits r.y1 s.y1_fits;
+    }
