@@ -77,6 +77,8 @@ impl<V: Drop> BySlot<V> {
     }
 
     /// Makes a value stand at a slot, and hands out what stood there. Where something does, no memory is wanted.
+    // A value may be large, and is put together where it is to lie only if what mostly comes is put in place.
+    #[inline(always)]
     pub fn insert(&mut self, slot: Slot, value: V) -> Result<Option<V>, AllocError>
         ensures before { IfOk result (λ before. before ≡ value_at self.old slot) }
         ensures stands { OnOk result (value_at self.new ≡ put (value_at self.old) slot (Some value)) }
@@ -111,6 +113,7 @@ impl<V: Drop> BySlot<V> {
     }
 
     // A value goes to the end of the row, which has room for it, and what stood at its slot is handed out.
+    #[inline(always)]
     fn lay(&mut self, slot: Slot, value: V) -> Option<V>
         requires next { slot ≡ vec_len self.old.row }
         requires room { vec_len self.old.row < vec_capacity self.old.row }
@@ -124,6 +127,7 @@ impl<V: Drop> BySlot<V> {
     }
 
     // Where a slot isn't far behind the row, the row goes on up to it, as far as memory serves.
+    #[inline(never)]
     fn lengthen(&mut self, slot: Slot)
         ensures same { value_at self.new ≡ value_at self.old }
         ensures row { length self.new.row.items ≤ length self.old.row.items + 64 }
