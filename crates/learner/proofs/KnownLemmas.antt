@@ -1,14 +1,14 @@
 -- What is known of slots of which the first lie in a row.
 use Rattle.std.proofs.Common.{◌≡◌, ◌≢◌, ℕ, zero, suc, ◌++◌, ◌∷◌, [], length, List, Option, Some, None, slice_get, is_some, Bool, true}
 use Rattle.std.proofs.Common.{false, Result, Ok, Err, OnOk, IfOk, refl}
-use Rattle.std.proofs.Common.{sym, ap, subst, ◌∙◌, inl, inr}
-use Rattle.std.proofs.lemmas.Bool.Decides.{nat_tests, eqb_tells}
+use Rattle.std.proofs.Common.{sym, ap, ◌∙◌, inl, inr}
+use Rattle.std.proofs.lemmas.Bool.Decides.{eqb_tells}
 use Rattle.synod.specs.Records.{put}
 use Rattle.sessions.specs.declared.command.Command.{Command}
 use Rattle.synod.specs.declared.vote.Vote.{Vote}
 use Rattle.learner.specs.Known.{read_or, in_row}
 use Rattle.learner.specs.Learning.{Heard, unheard}
-use Rattle.learner.specs.Places.{place_learnt, place_heard, Turns, ignores}
+use Rattle.learner.specs.Places.{place_learnt, place_heard, ignores}
 use Rattle.learner.specs.Slots.{SlotHears}
 use Rattle.learner.specs.declared.place.Place.{Place}
 use Rattle.learner.specs.declared.place.Place.TheVariants.{Told, Learnt}

@@ -1,4 +1,4 @@
-use Rattle.std.proofs.Common.{◌≡◌, ◌∙◌, Some, None, slice_get, sym, true, false}
+use Rattle.std.proofs.Common.{◌≡◌, ◌∙◌, None, slice_get, sym}
 use Rattle.learner.specs.Known.{known_learnt, known_heard}
 use Rattle.learner.specs.Slots.{learnt_of, heard_of}
 use Rattle.learner.proofs.KnownLemmas.{hears_settled, hears_behind_ok, is_there, is_not_there}

@@ -1,4 +1,4 @@
-use Rattle.std.proofs.Common.{rules, ◌≡◌, ◌++◌, ◌∷◌, [], Some, None, length, slice_get, arith}
+use Rattle.std.proofs.Common.{rules, ◌≡◌, ◌++◌, ◌∷◌, [], Some, None, length, arith}
 use Rattle.learner.specs.Learning.{unheard}
 use Rattle.learner.specs.Slots.{learnt_of, heard_of}
 use Rattle.learner.proofs.KnownLemmas.{not_of_row, row_put_ok, row_joined}

@@ -1,4 +1,4 @@
-use Rattle.std.proofs.Common.{rules, ◌≡◌, ◌++◌, ◌∷◌, [], Some, None, length, arith, sym, ap, ◌∙◌, refl}
+use Rattle.std.proofs.Common.{rules, ◌≡◌, ◌++◌, ◌∷◌, [], Some, None, length, arith, sym, ap, ◌∙◌}
 use Rattle.learner.specs.Known.{in_row}
 use Rattle.learner.specs.Learning.{unheard}
 use Rattle.learner.specs.Slots.{learnt_of, heard_of}
