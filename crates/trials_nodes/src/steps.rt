@@ -17,7 +17,15 @@ use std::alloc::Global;
 use std::process::Abort;
 use std::test::Fail;
 
-/// Takes the steps of a text, in order: each tells what stands beside it.
+/// Takes the steps of each text in order, by as many nodes as stand beside it: each tells what stands behind it.
+fn tables_hold(rt: &impl Abort, alloc: Global, tables: &[(u8, &str)]) -> Result<(), Fail> {
+    for (nodes, rows) in tables {
+        rows_hold(rt, alloc, *nodes, rows)?;
+    }
+    Ok(())
+}
+
+/// The same, of one text.
 fn rows_hold(rt: &impl Abort, alloc: Global, nodes: u8, rows: &str) -> Result<(), Fail> {
     let mut fleet = Fleet::new(alloc, nodes)?;
     rows_follow(rt, alloc, &mut fleet, rows)

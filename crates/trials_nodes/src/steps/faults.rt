@@ -2,7 +2,7 @@
 
 use super::fleet::Member;
 use super::letters::node_id;
-use super::rows_hold;
+use super::tables_hold;
 use node::{Node, NodeFault};
 use stable::{Key, MemStable, Scripted, Stable};
 use std::alloc::Global;
@@ -106,14 +106,11 @@ stop 0
 look 0 > 0 down 0 round round round
 timeout 0 > refuse 0 41";
 
-const TABLES: [&str; 4] = [LOST_VOTE, KEPT_VOTE, ARMED, ROUNDS];
+const TABLES: [(u8, &str); 4] = [(3, LOST_VOTE), (3, KEPT_VOTE), (3, ARMED), (3, ROUNDS)];
 
 #[test]
 fn a_restart_finds_what_was_written(rt: HostRuntime) -> Result<(), Fail> {
-    for rows in TABLES {
-        rows_hold(&rt, rt.alloc(), 3, rows)?;
-    }
-    Ok(())
+    tables_hold(&rt, rt.alloc(), TABLES.as_slice())
 }
 
 #[test]

@@ -1,6 +1,6 @@
 //! Envelopes that don't concern a node, which it ignores.
 
-use super::rows_hold;
+use super::tables_hold;
 use std::test::Fail;
 
 // Node 0 of three gathers under ballot 2.0, with its own promise alone. It hears nothing that is addressed to another node, nothing of
@@ -54,8 +54,5 @@ const TABLES: [(u8, &str); 2] = [(3, OF_ANOTHER_RUN), (7, OF_SEVEN)];
 
 #[test]
 fn envelopes_of_another_run_are_ignored(rt: HostRuntime) -> Result<(), Fail> {
-    for (nodes, rows) in TABLES {
-        rows_hold(&rt, rt.alloc(), nodes, rows)?;
-    }
-    Ok(())
+    tables_hold(&rt, rt.alloc(), TABLES.as_slice())
 }

@@ -1,7 +1,7 @@
 //! What a node refuses, and with which number.
 
 use super::fleet::Fleet;
-use super::{rows_follow, rows_hold};
+use super::{rows_follow, tables_hold};
 use node::NodeFault;
 use std::alloc::Global;
 use std::test::Fail;
@@ -105,10 +105,8 @@ timeout 0 > send 0 prepare 1.0 0 to 0 1 2";
 
 #[test]
 fn repeats_and_rounds_are_refused(rt: HostRuntime) -> Result<(), Fail> {
-    for rows in [PUTS, LAST_ROUND, REFUSED_ROUND] {
-        rows_hold(&rt, rt.alloc(), 3, rows)?;
-    }
-    Ok(())
+    let tables = [(3, PUTS), (3, LAST_ROUND), (3, REFUSED_ROUND)];
+    tables_hold(&rt, rt.alloc(), tables.as_slice())
 }
 
 // The window ends with the log. Once every slot is learnt nothing more is taken, though requests wait, and nobody is asked for more.

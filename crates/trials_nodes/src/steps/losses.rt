@@ -1,6 +1,6 @@
 //! Larger fleets, frames that are lost, and what is sent again.
 
-use super::rows_hold;
+use super::tables_hold;
 use std::test::Fail;
 
 // Three of five nodes decide: two of them, and one more.
@@ -213,8 +213,5 @@ const TABLES: [(u8, &str); 12] = [
 
 #[test]
 fn losses_are_made_up_for(rt: HostRuntime) -> Result<(), Fail> {
-    for (nodes, rows) in TABLES {
-        rows_hold(&rt, rt.alloc(), nodes, rows)?;
-    }
-    Ok(())
+    tables_hold(&rt, rt.alloc(), TABLES.as_slice())
 }

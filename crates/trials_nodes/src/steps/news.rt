@@ -1,6 +1,6 @@
 //! What a node hears of slots that others learnt, and what is asked of it.
 
-use super::rows_hold;
+use super::tables_hold;
 use std::test::Fail;
 
 // What is newly learnt is followed by a question for the next slot. What is learnt never changes.
@@ -92,8 +92,5 @@ const TABLES: [(u8, &str); 5] = [
 
 #[test]
 fn what_is_heard_is_learnt_and_answered(rt: HostRuntime) -> Result<(), Fail> {
-    for (nodes, rows) in TABLES {
-        rows_hold(&rt, rt.alloc(), nodes, rows)?;
-    }
-    Ok(())
+    tables_hold(&rt, rt.alloc(), TABLES.as_slice())
 }

@@ -1,6 +1,6 @@
 //! Whole runs of three nodes.
 
-use super::rows_hold;
+use super::tables_hold;
 use std::test::Fail;
 
 // One request: eighteen frames, and three nodes that learn it. A frame that comes again changes nothing.
@@ -106,8 +106,5 @@ const TABLES: [(u8, &str); 4] = [
 
 #[test]
 fn whole_runs(rt: HostRuntime) -> Result<(), Fail> {
-    for (nodes, rows) in TABLES {
-        rows_hold(&rt, rt.alloc(), nodes, rows)?;
-    }
-    Ok(())
+    tables_hold(&rt, rt.alloc(), TABLES.as_slice())
 }
