@@ -19,14 +19,11 @@ ghost use Rattle.node.specs.Outputs.{Response};
 ghost use Rattle.node.specs.Protocol.{MindStands, MayTake, MayStop, RecordsHold, InputFits, input_of, accepting_after, round_after};
 ghost use Rattle.node.specs.Taking.{Writes, Takes};
 
-/// Whatever a node makes of an input that it takes is allowed.
-pub fn taking_is_allowed()
-    ensures { (nodes id : ℕ) (old new : Mind) (input : Input) (said : Response) (x : Local Command) → nodes ≤ 7 → id < nodes
+/// Whatever a node makes of an input that it takes is allowed. It may go down, on an input also where the write that the input makes
+/// was made.
+pub fn steps_are_allowed()
+    ensures taking { (nodes id : ℕ) (old new : Mind) (input : Input) (said : Response) (x : Local Command) → nodes ≤ 7 → id < nodes
         → IsMindOf id nodes old → Takes old input new said → MindStands old x → MayTake nodes id input x new said }
-{}
-
-/// A node may go down, on an input also where the write that the input makes was made.
-pub fn stopping_is_allowed()
     ensures unwritten { (nodes id : ℕ) (m : Mind) (input : acts.Input Command) (x : Local Command) → IsMindOf id nodes m
         → MindStands m x → MayStop nodes id input x m.accepting m.proposing.round }
     ensures written { (nodes id : ℕ) (m : Mind) (input : Input) (x : Local Command) → id < 7 → IsMindOf id nodes m

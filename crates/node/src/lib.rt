@@ -14,15 +14,10 @@ mod outputs;
 mod roles;
 mod sends;
 
-pub use allowed::{
-    loading_is_allowed, records_go_on, refusals_go_on, stopping_is_allowed, taking_is_allowed,
-};
+pub use allowed::{loading_is_allowed, records_go_on, refusals_go_on, steps_are_allowed};
 pub use fault::NodeFault;
 pub use input::Input;
-pub use laws::{
-    frames_go_between, fresh_minds_mean_nothing, learnt_is_told, learnt_slots_are_of_the_log,
-    meanings_are_as_long_as_positions, meanings_are_of_learnt_slots, members_stay,
-};
+pub use laws::{learnt_is_told, meanings_are_of_learnt_slots, members_stay};
 pub use node::Node;
 pub use outputs::{Executed, LogEntry, MOST_SENDS, Outputs, Text};
 pub use proposer::MOST_WAITING;

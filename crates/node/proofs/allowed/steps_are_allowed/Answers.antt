@@ -1,5 +1,9 @@
 use Rattle.node.proofs.AllowedStopping.{unwritten_allowed, written_allowed}
-use Rattle.node.proofs.allowed.stopping_is_allowed.Goals as goal
+use Rattle.node.proofs.AllowedTaking.{taking_allowed}
+use Rattle.node.proofs.allowed.steps_are_allowed.Goals as goal
+
+pub returns-clause-taking : goal.returns-clause-taking
+returns-clause-taking c = taking_allowed
 
 pub returns-clause-unwritten : goal.returns-clause-unwritten
 returns-clause-unwritten c = unwritten_allowed
