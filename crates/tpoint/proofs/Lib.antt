@@ -1,3 +1,4 @@
+pub mod Ranges
 pub mod Polynomials
 pub mod Fractions
 pub mod ListLemmas
