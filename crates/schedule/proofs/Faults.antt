@@ -1,6 +1,7 @@
 -- Which fault of a line is its lowest.
 use Rattle.std.proofs.Common.{◌≡◌, ◌≢◌, ℕ, ◌≤◌, List, [], ◌∷◌, length, get_or, drop, Option, Some, None, cond, codes, refl, sym, ◌∙◌, ap}
-use Rattle.std.proofs.Common.{subst, lit≤, inl, inr, arith}
+use Rattle.std.proofs.Common.{◌==◌, suc, subst, lit≤, inl, inr, arith}
+use Rattle.std.proofs.lemmas.Bool.{cases_lt}
 use Rattle.std.specs.List.{All}
 use Rattle.std.specs.Str.{bytes_eq}
 use Rattle.schedule.specs.Codes.{code_of, IsLowest}
@@ -21,6 +22,11 @@ use Rattle.schedule.specs.declared.fault.ScheduleFault.{ScheduleFault}
 use Rattle.schedule.specs.declared.fault.ScheduleFault.TheVariants.{NotPrintable, UnknownWord, NodesLine, WordCount, WordForm, Document}
 
 -- ---- no two rows begin with the same words
+-- a text that can be read back is that of one thing
+pub one_by_text : {A : Type 0} (text : A → List ℕ) (back : List ℕ → Option A) → ((a : A) → back (text a) ≡ Some a)
+    → (a b : A) → text a ≡ text b → a ≡ b
+one_by_text text back reads a b same = let e = sym (reads a) ∙ ap back same ∙ reads b in cc
+
 -- the keyword that a text is
 abbrev pub read_back : List ℕ → Option Keyword
 read_back w =
@@ -42,7 +48,7 @@ reads_back Fault = refl
 reads_back Round = refl
 
 pub text_of-injective : (a b : Keyword) → text_of a ≡ text_of b → a ≡ b
-text_of-injective a b same = let e = sym (reads_back a) ∙ ap read_back same ∙ reads_back b in cc
+text_of-injective = one_by_text text_of read_back reads_back
 
 -- the operation that a text is
 abbrev pub operation_back : List ℕ → Option Operation
@@ -56,8 +62,7 @@ operation_is_back Append = refl
 operation_is_back Remove = refl
 
 pub operation_text-injective : (a b : Operation) → operation_text a ≡ operation_text b → a ≡ b
-operation_text-injective a b same =
-    let e = sym (operation_is_back a) ∙ ap operation_back same ∙ operation_is_back b in cc
+operation_text-injective = one_by_text operation_text operation_back operation_is_back
 
 -- the question that a text is
 abbrev pub question_back : List ℕ → Option Question
@@ -77,8 +82,7 @@ question_is_back Get = refl
 question_is_back Count = refl
 
 pub question_text-injective : (a b : Question) → question_text a ≡ question_text b → a ≡ b
-question_text-injective a b same =
-    let e = sym (question_is_back a) ∙ ap question_back same ∙ question_is_back b in cc
+question_text-injective = one_by_text question_text question_back question_is_back
 
 -- no keyword is `submit` or `query`
 pub not_submit : (keyword : Keyword) → codes "submit" ≢ text_of keyword
@@ -123,13 +127,7 @@ submit_is_long Append words h = omega (arith, h)
 submit_is_long Remove words h = omega (arith, h)
 
 query_is_long : (question : Question) (words : List (List ℕ)) → HasItsCount (query_of question) words → 3 ≤ length words
-query_is_long At words h = omega (arith, h)
-query_is_long Cut words h = omega (arith, h)
-query_is_long Ever words h = omega (arith, h)
-query_is_long Always words h = omega (arith, h)
-query_is_long Within words h = omega (arith, h)
-query_is_long Get words h = omega (arith, h)
-query_is_long Count words h = omega (arith, h)
+query_is_long question words h = omega (arith, h)
 
 one_operation : (words : List (List ℕ)) (a b : Operation) → 5 ≤ length words → HasItsWords (places (submit_of a)) words
     → HasItsWords (places (submit_of b)) words → a ≡ b
@@ -172,62 +170,65 @@ one_row (w ∷ words) (query_of o) (query_of u) count p q =
 pub prints_throughout : (text : List ℕ) → All IsPrintable text → ¬ (IsNotPrintable text)
 prints_throughout text all (k, byte, within, here, wrong) = wrong (subst IsPrintable here (all k byte within))
 
--- an unprintable byte is the lowest fault
-from_one : (fault : ScheduleFault) → 1 ≤ code_of fault
-from_one NotPrintable = lit≤ tt
-from_one UnknownWord = lit≤ tt
-from_one NodesLine = lit≤ tt
-from_one WordCount = lit≤ tt
-from_one WordForm = lit≤ tt
-from_one Document = lit≤ tt
+-- the fault of this number
+abbrev fault_of : ℕ → ScheduleFault
+fault_of number =
+    cond (number == 1) NotPrintable (cond (number == 2) UnknownWord (cond (number == 3) NodesLine
+    (cond (number == 4) WordCount (cond (number == 5) WordForm Document))))
 
+fault_is_back : (fault : ScheduleFault) → fault_of (code_of fault) ≡ fault
+fault_is_back NotPrintable = refl
+fault_is_back UnknownWord = refl
+fault_is_back NodesLine = refl
+fault_is_back WordCount = refl
+fault_is_back WordForm = refl
+fault_is_back Document = refl
+
+-- no fault has a number below the first
+from_first : (fault : ScheduleFault) → code_of NotPrintable ≤ code_of fault
+from_first NotPrintable = lit≤ tt
+from_first UnknownWord = lit≤ tt
+from_first NodesLine = lit≤ tt
+from_first WordCount = lit≤ tt
+from_first WordForm = lit≤ tt
+from_first Document = lit≤ tt
+
+-- the faults that a line has are not below this one
+abbrev pub IsFrom : (ScheduleFault → Type 0) → ℕ → Type 0
+IsFrom Has number = (fault : ScheduleFault) → Has fault → number ≤ code_of fault
+
+-- where the line hasn't this one either, they are above it
+from_above : (Has : ScheduleFault → Type 0) (least : ScheduleFault) → IsFrom Has (code_of least) → ¬ (Has least)
+    → IsFrom Has (suc (code_of least))
+from_above Has least from none fault h = elim (cases_lt (code_of least) (code_of fault)) [
+  | inl more ↦ more
+  | inr no_more ↦
+      let number : code_of fault ≡ code_of least = omega (arith, no_more, from fault h) in
+      let same : fault ≡ least = sym (fault_is_back fault) ∙ ap fault_of number ∙ fault_is_back least in
+      absurd (none (subst Has same h))
+]
+
+-- an unprintable byte is the lowest fault
 pub lowest_unprintable : (Has : ScheduleFault → Type 0) → Has NotPrintable → IsLowest Has NotPrintable
-lowest_unprintable Has has = record { is_there = has; lowest = λ other h. from_one other }
+lowest_unprintable Has has = record { is_there = has; lowest = λ other h. from_first other }
 
 -- the faults that a line hasn't bound the number of those that it has
-pub from_two : (Has : ScheduleFault → Type 0) → ¬ (Has NotPrintable) → (fault : ScheduleFault) → Has fault → 2 ≤ code_of fault
-from_two Has none NotPrintable h = absurd (none h)
-from_two Has none UnknownWord h = lit≤ tt
-from_two Has none NodesLine h = lit≤ tt
-from_two Has none WordCount h = lit≤ tt
-from_two Has none WordForm h = lit≤ tt
-from_two Has none Document h = lit≤ tt
+pub from_two : (Has : ScheduleFault → Type 0) → ¬ (Has NotPrintable) → IsFrom Has 2
+from_two Has = from_above Has NotPrintable (λ fault h. from_first fault)
 
-pub from_three : (Has : ScheduleFault → Type 0) → ¬ (Has NotPrintable) → ¬ (Has UnknownWord) → (fault : ScheduleFault) → Has fault
-    → 3 ≤ code_of fault
-from_three Has first second NotPrintable h = absurd (first h)
-from_three Has first second UnknownWord h = absurd (second h)
-from_three Has first second NodesLine h = lit≤ tt
-from_three Has first second WordCount h = lit≤ tt
-from_three Has first second WordForm h = lit≤ tt
-from_three Has first second Document h = lit≤ tt
+pub from_three : (Has : ScheduleFault → Type 0) → ¬ (Has NotPrintable) → ¬ (Has UnknownWord) → IsFrom Has 3
+from_three Has first second = from_above Has UnknownWord (from_two Has first) second
 
-from_four : (Has : ScheduleFault → Type 0) → ¬ (Has NotPrintable) → ¬ (Has UnknownWord) → ¬ (Has NodesLine)
-    → (fault : ScheduleFault) → Has fault → 4 ≤ code_of fault
-from_four Has first second third NotPrintable h = absurd (first h)
-from_four Has first second third UnknownWord h = absurd (second h)
-from_four Has first second third NodesLine h = absurd (third h)
-from_four Has first second third WordCount h = lit≤ tt
-from_four Has first second third WordForm h = lit≤ tt
-from_four Has first second third Document h = lit≤ tt
+from_four : (Has : ScheduleFault → Type 0) → ¬ (Has NotPrintable) → ¬ (Has UnknownWord) → ¬ (Has NodesLine) → IsFrom Has 4
+from_four Has first second third = from_above Has NodesLine (from_three Has first second) third
 
 from_five : (Has : ScheduleFault → Type 0) → ¬ (Has NotPrintable) → ¬ (Has UnknownWord) → ¬ (Has NodesLine) → ¬ (Has WordCount)
-    → (fault : ScheduleFault) → Has fault → 5 ≤ code_of fault
-from_five Has first second third fourth NotPrintable h = absurd (first h)
-from_five Has first second third fourth UnknownWord h = absurd (second h)
-from_five Has first second third fourth NodesLine h = absurd (third h)
-from_five Has first second third fourth WordCount h = absurd (fourth h)
-from_five Has first second third fourth WordForm h = lit≤ tt
-from_five Has first second third fourth Document h = lit≤ tt
+    → IsFrom Has 5
+from_five Has first second third fourth = from_above Has WordCount (from_four Has first second third) fourth
 
 pub from_six : (Has : ScheduleFault → Type 0) → ¬ (Has NotPrintable) → ¬ (Has UnknownWord) → ¬ (Has NodesLine) → ¬ (Has WordCount)
-    → ¬ (Has WordForm) → (fault : ScheduleFault) → Has fault → 6 ≤ code_of fault
-from_six Has first second third fourth fifth NotPrintable h = absurd (first h)
-from_six Has first second third fourth fifth UnknownWord h = absurd (second h)
-from_six Has first second third fourth fifth NodesLine h = absurd (third h)
-from_six Has first second third fourth fifth WordCount h = absurd (fourth h)
-from_six Has first second third fourth fifth WordForm h = absurd (fifth h)
-from_six Has first second third fourth fifth Document h = lit≤ tt
+    → ¬ (Has WordForm) → IsFrom Has 6
+from_six Has first second third fourth fifth = from_above Has WordForm (from_five Has first second third fourth) fifth
 
 -- ---- the lowest fault of a line is that of its words
 -- where a row has its words and their count, no row has another count

@@ -18,3 +18,4 @@ pub mod RowLemmas
 pub mod Running
 pub mod Spelled
 pub mod SpelledRows
+pub mod Told

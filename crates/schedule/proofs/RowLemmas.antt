@@ -1,6 +1,7 @@
 -- What is wrong with the words of a row, as its parts tell it.
 use Rattle.std.proofs.Common.{◌≡◌, ◌≢◌, ◌==◌, ℕ, ◌<◌, ◌≤◌, List, [], ◌∷◌, ◌++◌, length, Result, Ok, Err, MatchResult, codes, refl, sym, ap}
-use Rattle.std.proofs.Common.{subst, inl, inr, arith}
+use Rattle.std.proofs.Common.{◌↔◌, subst, inl, inr, arith}
+use Rattle.std.specs.Prelude.{IsErrAnd}
 use Rattle.std.proofs.lemmas.List.Splits.{length-slice_split}
 use Rattle.store.specs.declared.op.Op.{Op}
 use Rattle.store.specs.declared.op.Op.TheVariants as op
@@ -17,7 +18,7 @@ use Rattle.schedule.specs.declared.submits.AskerWords.{AskerWords}
 use Rattle.schedule.specs.declared.action.Action.TheVariants.{Step}
 use Rattle.world.specs.declared.event.Event.TheVariants as event
 use Rattle.schedule.specs.Table.{line_of, submit_of, query_of, count, IsNode, NameEach, HasItsWords, HasItsCount, HasMisfit, HasUnknownWord}
-use Rattle.schedule.specs.Table.{keyword_places, operation_places, question_places}
+use Rattle.schedule.specs.Table.{Place, places, keyword_places, operation_places, question_places}
 use Rattle.schedule.specs.Unread.{WordsGive}
 use Rattle.schedule.specs.declared.unread.Unread.{Unread}
 use Rattle.schedule.specs.Words.{blank, words_of}
@@ -29,6 +30,7 @@ use Rattle.schedule.specs.declared.keyword.Question.{Question}
 use Rattle.schedule.specs.declared.keyword.Question.TheVariants.{At, Cut, Ever, Always, Within, Get, Count}
 use Rattle.schedule.specs.declared.fault.ScheduleFault.{ScheduleFault}
 use Rattle.schedule.specs.declared.fault.ScheduleFault.TheVariants.{NotPrintable, UnknownWord, NodesLine, WordCount, WordForm, Document}
+use Rattle.schedule.proofs.Told.{err_told}
 use Rattle.schedule.proofs.Faults.{not_submit, not_query, submit_is_no_query, submit_is_no_nodes, query_is_no_nodes, other_is_no_nodes}
 
 -- ---- words with the row's own ones
@@ -58,54 +60,25 @@ keyword_words Restart words = tt
 keyword_words Fault words = tt
 keyword_words Round words = tt
 
--- a submission has its count where the words of its operation have theirs
-operation_count : (operation : Operation) (a b c : List ℕ) (words : List (List ℕ)) → operation ≢ Put
-    → (length words ≡ count (operation_places operation)) → HasItsCount (submit_of operation)
-    (codes "submit" ∷ a ∷ b ∷ c ∷ operation_text operation ∷ words)
-operation_count Put a b c words other same = absurd (other refl)
-operation_count Append a b c words other same = omega (arith, same)
-operation_count Remove a b c words other same = omega (arith, same)
+-- a submission has as many words as it has places, unless it puts a document
+operation_counts : (operation : Operation) (words : List (List ℕ)) → operation ≢ Put
+    → HasItsCount (submit_of operation) words ↔ (length words ≡ count (places (submit_of operation)))
+operation_counts Put words other = absurd (other refl)
+operation_counts Append words other = (λ h. h, λ h. h)
+operation_counts Remove words other = (λ h. h, λ h. h)
 
-operation_count_back : (operation : Operation) (a b c : List ℕ) (words : List (List ℕ)) → operation ≢ Put
-    → HasItsCount (submit_of operation) (codes "submit" ∷ a ∷ b ∷ c ∷ operation_text operation ∷ words)
-    → (length words ≡ count (operation_places operation))
-operation_count_back Put a b c words other same = absurd (other refl)
-operation_count_back Append a b c words other same = omega (arith, same)
-operation_count_back Remove a b c words other same = omega (arith, same)
-
--- a line has its count where the words after its keyword have theirs
-keyword_count : (keyword : Keyword) (words : List (List ℕ)) → keyword ≢ Round
-    → (length words ≡ count (keyword_places keyword)) → HasItsCount (line_of keyword) (text_of keyword ∷ words)
-keyword_count Nodes words other same = omega (arith, same)
-keyword_count Deliver words other same = omega (arith, same)
-keyword_count Drop words other same = omega (arith, same)
-keyword_count Flush words other same = omega (arith, same)
-keyword_count Timeout words other same = omega (arith, same)
-keyword_count Tick words other same = omega (arith, same)
-keyword_count Restart words other same = omega (arith, same)
-keyword_count Fault words other same = omega (arith, same)
-keyword_count Round words other same = absurd (other refl)
-
-keyword_count_back : (keyword : Keyword) (words : List (List ℕ)) → keyword ≢ Round
-    → HasItsCount (line_of keyword) (text_of keyword ∷ words) → (length words ≡ count (keyword_places keyword))
-keyword_count_back Nodes words other same = omega (arith, same)
-keyword_count_back Deliver words other same = omega (arith, same)
-keyword_count_back Drop words other same = omega (arith, same)
-keyword_count_back Flush words other same = omega (arith, same)
-keyword_count_back Timeout words other same = omega (arith, same)
-keyword_count_back Tick words other same = omega (arith, same)
-keyword_count_back Restart words other same = omega (arith, same)
-keyword_count_back Fault words other same = omega (arith, same)
-keyword_count_back Round words other same = absurd (other refl)
-
-question_count : (question : Question) (a : List ℕ) (words : List (List ℕ)) → (length words ≡ count (question_places question))
-    → HasItsCount (query_of question) (codes "query" ∷ a ∷ question_text question ∷ words)
-question_count question a words same = omega (arith, same)
-
-question_count_back : (question : Question) (a : List ℕ) (words : List (List ℕ))
-    → HasItsCount (query_of question) (codes "query" ∷ a ∷ question_text question ∷ words)
-    → (length words ≡ count (question_places question))
-question_count_back question a words same = omega (arith, same)
+-- and so has a line after its keyword, unless it is a round
+keyword_counts : (keyword : Keyword) (words : List (List ℕ)) → keyword ≢ Round
+    → HasItsCount (line_of keyword) words ↔ (length words ≡ count (places (line_of keyword)))
+keyword_counts Nodes words other = (λ h. h, λ h. h)
+keyword_counts Deliver words other = (λ h. h, λ h. h)
+keyword_counts Drop words other = (λ h. h, λ h. h)
+keyword_counts Flush words other = (λ h. h, λ h. h)
+keyword_counts Timeout words other = (λ h. h, λ h. h)
+keyword_counts Tick words other = (λ h. h, λ h. h)
+keyword_counts Restart words other = (λ h. h, λ h. h)
+keyword_counts Fault words other = (λ h. h, λ h. h)
+keyword_counts Round words other = absurd (other refl)
 
 -- ---- what the words of an operation or a query count
 document_is_there : (document : List ℕ) → 1 ≤ length (words_of document)
@@ -132,15 +105,23 @@ query_count (query.Get id) a words (others, same, of_id, none) = rw (same, none)
 query_count query.Count a words none = rw none refl
 
 -- ---- what is wrong with the words of a part is wrong with the line
+-- at places that want no certain word, only a count or a form is wrong
+fault_at : (n : ℕ) (at : List Place) (words : List (List ℕ)) (Told : ScheduleFault → Type 0)
+    → ((length words ≢ count at) → Told WordCount) → ((length words ≡ count at) → HasMisfit n at words → Told WordForm)
+    → (fault : ScheduleFault) → IsFaultAt n at words fault → Told fault
+fault_at n at words Told counted formed NotPrintable is = absurd is
+fault_at n at words Told counted formed UnknownWord is = absurd is
+fault_at n at words Told counted formed NodesLine is = absurd is
+fault_at n at words Told counted formed WordCount is = counted is
+fault_at n at words Told counted formed WordForm is = formed is.0 is.1
+fault_at n at words Told counted formed Document is = absurd is
+
 -- a period and a rectangle behind an id
 pub visit_fault : (n : ℕ) (word : List ℕ) (words : List (List ℕ)) (fault : ScheduleFault)
     → IsFaultAt n (question_places Within) words fault → IsFaultAt n (question_places Ever) (word ∷ words) fault
-visit_fault n word words NotPrintable at = absurd at
-visit_fault n word words UnknownWord at = absurd at
-visit_fault n word words NodesLine at = absurd at
-visit_fault n word words WordCount at = λ same. at (omega (arith, same))
-visit_fault n word words WordForm at = (omega (arith, at.0), inr at.1)
-visit_fault n word words Document at = absurd at
+visit_fault n word words =
+    fault_at n (question_places Within) words (λ told. IsFaultAt n (question_places Ever) (word ∷ words) told)
+    (λ other same. other (omega (arith, same))) (λ same misfit. (omega (arith, same), inr misfit))
 
 -- ---- words that are no period
 pub no_period_to_cut : (n : ℕ) (name begin end : List ℕ) → ((period : Span) → ¬ IsPeriod begin end period)
@@ -155,17 +136,13 @@ no_period_to_look_in n begin end x0 y0 x1 y1 none = (refl, inl (λ is. none is.0
 pub operation_fault : (n : ℕ) (operation : Operation) (a b c : List ℕ) (words : List (List ℕ)) (fault : ScheduleFault)
     → operation ≢ Put → IsFaultAt n (operation_places operation) words fault
     → IsRowFault n (submit_of operation) (codes "submit" ∷ a ∷ b ∷ c ∷ operation_text operation ∷ words) fault
-operation_fault n operation a b c words NotPrintable other at = absurd at
-operation_fault n operation a b c words UnknownWord other at = absurd at
-operation_fault n operation a b c words NodesLine other at = absurd at
-operation_fault n operation a b c words WordCount other at =
-    ((refl, (refl, operation_words operation words)), λ same. at (operation_count_back operation a b c words other same))
-operation_fault n operation a b c words WordForm other at = (
-  (refl, (refl, operation_words operation words)),
-  operation_count operation a b c words other at.0,
-  inr (inr (inr (inr (inr at.1)))),
-)
-operation_fault n operation a b c words Document other at = absurd at
+operation_fault n operation a b c words fault other =
+    let line = codes "submit" ∷ a ∷ b ∷ c ∷ operation_text operation ∷ words in
+    let counts = operation_counts operation line other in
+    let its_words : HasItsWords (places (submit_of operation)) line = (refl, (refl, operation_words operation words)) in
+    fault_at n (operation_places operation) words (λ told. IsRowFault n (submit_of operation) line told)
+    (λ wrong. (its_words, λ same. let all = counts.0 same in wrong (omega (arith, all))))
+    (λ same misfit. (its_words, counts.1 (omega (arith, same)), inr (inr (inr (inr (inr misfit)))))) fault
 
 -- the words that say who asks
 pub asker_fault : (n : ℕ) (operation : Operation) (a b c : List ℕ) (words : List (List ℕ))
@@ -188,27 +165,18 @@ asker_fault n operation a b c words its_count misfit = (
 pub query_fault : (n : ℕ) (question : Question) (a : List ℕ) (words : List (List ℕ)) (fault : ScheduleFault)
     → IsFaultAt n (question_places question) words fault
     → IsWordsFault n (codes "query" ∷ a ∷ question_text question ∷ words) fault
-query_fault n question a words NotPrintable at = absurd at
-query_fault n question a words UnknownWord at = absurd at
-query_fault n question a words NodesLine at = absurd at
-query_fault n question a words WordCount at = (
-  record {
-    row = query_of question;
-    its_words = (refl, (refl, question_words question words));
-    other_count = λ same. at (question_count_back question a words same);
-  },
-  λ others. query_is_no_nodes _ others,
-)
-query_fault n question a words WordForm at = (
-  record {
-    row = query_of question;
-    its_words = (refl, (refl, question_words question words));
-    its_count = question_count question a words at.0;
-    misfit = inr (inr (inr at.1));
-  },
-  λ others. query_is_no_nodes _ others,
-)
-query_fault n question a words Document at = absurd at
+query_fault n question a words =
+    let line = codes "query" ∷ a ∷ question_text question ∷ words in
+    let its : HasItsWords (places (query_of question)) line = (refl, (refl, question_words question words)) in
+    fault_at n (question_places question) words (λ told. IsWordsFault n line told)
+    (λ wrong. (
+      record { row = query_of question; its_words = its; other_count = λ same. wrong (omega (arith, same)) },
+      λ others. query_is_no_nodes _ others,
+    ))
+    (λ same misfit. (
+      record { row = query_of question; its_words = its; its_count = omega (arith, same); misfit = inr (inr (inr misfit)) },
+      λ others. query_is_no_nodes _ others,
+    ))
 
 -- which node is asked
 target_fault : (n : ℕ) (asked : Query) (a : List ℕ) (words : List (List ℕ)) → SpellsQuery words asked
@@ -275,27 +243,31 @@ submit_result n operation asking word all words (Err fault) same is wrong =
 -- the words after a keyword
 pub keyword_fault : (n : ℕ) (keyword : Keyword) (words : List (List ℕ)) (fault : ScheduleFault) → keyword ≢ Nodes → keyword ≢ Round
     → IsFaultAt n (keyword_places keyword) words fault → IsWordsFault n (text_of keyword ∷ words) fault
-keyword_fault n keyword words NotPrintable other counted at = absurd at
-keyword_fault n keyword words UnknownWord other counted at = absurd at
-keyword_fault n keyword words NodesLine other counted at = absurd at
-keyword_fault n keyword words WordCount other counted at = (
-  record {
-    row = line_of keyword;
-    its_words = (refl, keyword_words keyword words);
-    other_count = λ same. at (keyword_count_back keyword words counted same);
-  },
-  λ others. other_is_no_nodes keyword words others other,
-)
-keyword_fault n keyword words WordForm other counted at = (
-  record {
-    row = line_of keyword;
-    its_words = (refl, keyword_words keyword words);
-    its_count = keyword_count keyword words counted at.0;
-    misfit = inr at.1;
-  },
-  λ others. other_is_no_nodes keyword words others other,
-)
-keyword_fault n keyword words Document other counted at = absurd at
+keyword_fault n keyword words fault other counted =
+    let counts = keyword_counts keyword (text_of keyword ∷ words) counted in
+    let its : HasItsWords (places (line_of keyword)) (text_of keyword ∷ words) = (refl, keyword_words keyword words) in
+    fault_at n (keyword_places keyword) words (λ told. IsWordsFault n (text_of keyword ∷ words) told)
+    (λ wrong. (
+      record {
+        row = line_of keyword;
+        its_words = its;
+        other_count = λ same. let all = counts.0 same in wrong (omega (arith, all));
+      },
+      λ others. other_is_no_nodes keyword words others other,
+    ))
+    (λ same misfit. (
+      record { row = line_of keyword; its_words = its; its_count = counts.1 (omega (arith, same)); misfit = inr misfit },
+      λ others. other_is_no_nodes keyword words others other,
+    )) fault
+
+-- what is told of a row whose words after the keyword are faulty
+pub refused_row : {A : Type 0} (n : ℕ) (keyword met : Keyword) (words : List (List ℕ)) (fault : ScheduleFault)
+    (result : Result A ScheduleFault) (IsRead : A → Type 0) → met ≡ keyword → keyword ≢ Nodes → keyword ≢ Round
+    → IsErrAnd result (λ told. told ≡ fault) → IsFaultAt n (keyword_places keyword) words fault
+    → MatchResult result IsRead (IsWordsFault n (text_of met ∷ words))
+refused_row n keyword met words fault result IsRead is other counted left at =
+    err_told result fault IsRead (IsWordsFault n (text_of met ∷ words)) left
+    (rw is (keyword_fault n keyword words fault other counted at))
 
 -- a round's line with fewer words than it wants
 pub short_round : (n : ℕ) (words : List (List ℕ)) → length words < 2 → IsWordsFault n (text_of Round ∷ words) WordCount
@@ -304,71 +276,60 @@ short_round n words short = (
   λ others. other_is_no_nodes Round words others (λ e. cc),
 )
 
--- the word of a round's leader names no node
-pub leader_fault : (n : ℕ) (word list : List ℕ) → ((node : ℕ) → ¬ (IsNode n word node))
+-- a word of a round's line names no node
+round_fault : (n : ℕ) (word list : List ℕ) → HasMisfit n (keyword_places Round) (word ∷ words_of list)
     → IsWordsFault n (text_of Round ∷ word ∷ words_of list) WordForm
-leader_fault n word list none = (
+round_fault n word list misfit = (
   record {
     row = line_of Round;
     its_words = (refl, keyword_words Round (word ∷ words_of list));
     its_count = omega (arith, document_is_there list);
-    misfit = inr (inl (λ is. none is.0 is.1));
+    misfit = inr misfit;
   },
   λ others. other_is_no_nodes Round _ others (λ e. cc),
 )
 
--- the words of its members don't name nodes
+-- that of its leader
+pub leader_fault : (n : ℕ) (word list : List ℕ) → ((node : ℕ) → ¬ (IsNode n word node))
+    → IsWordsFault n (text_of Round ∷ word ∷ words_of list) WordForm
+leader_fault n word list none = round_fault n word list (inl (λ is. none is.0 is.1))
+
+-- or one of its members
 pub members_fault : (n : ℕ) (word list : List ℕ) → ((nodes : List ℕ) → ¬ (NameEach n (words_of list) nodes))
     → IsWordsFault n (text_of Round ∷ word ∷ words_of list) WordForm
-members_fault n word list none = (
-  record {
-    row = line_of Round;
-    its_words = (refl, keyword_words Round (word ∷ words_of list));
-    its_count = omega (arith, document_is_there list);
-    misfit = inr (inr (inl (λ is. none is.0 is.1)));
-  },
-  λ others. other_is_no_nodes Round _ others (λ e. cc),
-)
+members_fault n word list none = round_fault n word list (inr (inl (λ is. none is.0 is.1)))
 
 -- ---- lines that end too early
 pub no_words : (n : ℕ) → IsWordsFault n [] WordCount
 no_words n =
     (record { row = line_of Flush; its_words = tt; other_count = λ same. omega (arith, same) }, λ others same. cc)
 
+-- no submission is so short
+too_short : (n : ℕ) (words : List (List ℕ)) → length words < 4
+    → HasItsWords (places (submit_of Remove)) (codes "submit" ∷ words) → IsWordsFault n (codes "submit" ∷ words) WordCount
+too_short n words short its = (
+  record { row = submit_of Remove; its_words = its; other_count = λ same. omega (arith, short, same) },
+  λ others. submit_is_no_nodes words others,
+)
+
 pub short_submit : (n : ℕ) (words : List (List ℕ)) → length words < 4 → IsWordsFault n (codes "submit" ∷ words) WordCount
-short_submit n [] short = (
-  record { row = submit_of Remove; its_words = (refl, tt); other_count = λ same. omega (arith, same) },
-  λ others. submit_is_no_nodes _
-      others,
-)
-short_submit n (a ∷ []) short = (
-  record { row = submit_of Remove; its_words = (refl, tt); other_count = λ same. omega (arith, same) },
-  λ others. submit_is_no_nodes _
-      others,
-)
-short_submit n (a ∷ b ∷ []) short = (
-  record { row = submit_of Remove; its_words = (refl, tt); other_count = λ same. omega (arith, same) },
-  λ others. submit_is_no_nodes _
-      others,
-)
-short_submit n (a ∷ b ∷ c ∷ []) short = (
-  record { row = submit_of Remove; its_words = (refl, tt); other_count = λ same. omega (arith, same) },
-  λ others. submit_is_no_nodes _
-      others,
-)
+short_submit n [] short = too_short n _ short (refl, tt)
+short_submit n (a ∷ []) short = too_short n _ short (refl, tt)
+short_submit n (a ∷ b ∷ []) short = too_short n _ short (refl, tt)
+short_submit n (a ∷ b ∷ c ∷ []) short = too_short n _ short (refl, tt)
 short_submit n (a ∷ b ∷ c ∷ d ∷ words) short = absurd (omega (arith, short))
 
+-- and no question
+too_short_query : (n : ℕ) (words : List (List ℕ)) → length words < 2 → HasItsWords (places (query_of Count)) (codes "query" ∷ words)
+    → IsWordsFault n (codes "query" ∷ words) WordCount
+too_short_query n words short its = (
+  record { row = query_of Count; its_words = its; other_count = λ same. omega (arith, short, same) },
+  λ others. query_is_no_nodes words others,
+)
+
 pub short_query : (n : ℕ) (words : List (List ℕ)) → length words < 2 → IsWordsFault n (codes "query" ∷ words) WordCount
-short_query n [] short = (
-  record { row = query_of Count; its_words = (refl, tt); other_count = λ same. omega (arith, same) },
-  λ others. query_is_no_nodes _
-      others,
-)
-short_query n (a ∷ []) short = (
-  record { row = query_of Count; its_words = (refl, tt); other_count = λ same. omega (arith, same) },
-  λ others. query_is_no_nodes _
-      others,
-)
+short_query n [] short = too_short_query n _ short (refl, tt)
+short_query n (a ∷ []) short = too_short_query n _ short (refl, tt)
 short_query n (a ∷ b ∷ words) short = absurd (omega (arith, short))
 
 -- ---- words that no row begins with

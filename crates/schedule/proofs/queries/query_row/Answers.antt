@@ -1,20 +1,17 @@
 -- The words after `query`, of which the node is read last.
-use Rattle.std.proofs.lemmas.Result.{err_from_is_err_and}
+use Rattle.schedule.proofs.Told.{err_told}
 use Rattle.schedule.proofs.RowLemmas.{asked_fault, query_fault, short_query, unknown_question}
 use Rattle.schedule.proofs.queries.query_row.Goals as goal
 
 pub returns-in_err-target : goal.returns-in_err-target
 returns-in_err-target c =
-    let left = c.from_residual in
-    let p = err_from_is_err_and left.result left.ensures.1 in
-    rw (p.1, p.2, c.in_err-target.ensures.0) (short_query c.args.nodes c.args.words c.in_err-target.ensures.1)
+    err_told _ _ _ _ c.from_residual.ensures.1
+    (rw c.in_err-target.ensures.0 (short_query c.args.nodes c.args.words c.in_err-target.ensures.1))
 
 pub returns-in_err-query : goal.returns-in_err-query
 returns-in_err-query c =
-    let left = c.from_residual-in_err-query in
-    let p = err_from_is_err_and left.result left.ensures.1 in
-    rw (p.1, p.2, c.in_ok-target.ensures, c.in-Some.ensures)
-    (query_fault c.args.nodes c.in-Some.question c.in_ok-target.target.now _ _ (c.in_err-query.ensures c.args.nodes))
+    err_told _ _ _ _ c.from_residual-in_err-query.ensures.1
+    (rw (c.in_ok-target.ensures, c.in-Some.ensures) (query_fault c.args.nodes c.in-Some.question c.in_ok-target.target.now _ _ (c.in_err-query.ensures c.args.nodes)))
 
 pub returns-in_default : goal.returns-in_default
 returns-in_default c =

@@ -1,13 +1,12 @@
-use Rattle.std.proofs.lemmas.Result.{err_from_is_err_and}
+use Rattle.schedule.proofs.Told.{err_told}
 use Rattle.schedule.specs.declared.keyword.Operation.TheVariants.{Remove}
 use Rattle.schedule.proofs.RowLemmas.{operation_fault, submits}
 use Rattle.schedule.proofs.submits.remove_row.Goals as goal
 
 pub returns-in_err-op : goal.returns-in_err-op
 returns-in_err-op c =
-    let left = c.from_residual in
-    let p = err_from_is_err_and left.result left.ensures.1 in
-    rw (p.1, p.2) (operation_fault c.args.nodes Remove _ _ _ c.args.words _ (λ e. cc) (c.in_err-op.ensures c.args.nodes))
+    err_told _ _ _ _ c.from_residual.ensures.1
+    (operation_fault c.args.nodes Remove _ _ _ c.args.words _ (λ e. cc) (c.in_err-op.ensures c.args.nodes))
 
 pub returns : goal.returns
 returns c =

@@ -1,6 +1,6 @@
 -- The words after `submit`, as far as the word that says what is asked for.
 use Rattle.std.proofs.Common.{ap, ◌∙◌}
-use Rattle.std.proofs.lemmas.Result.{err_from_is_err_and}
+use Rattle.schedule.proofs.Told.{err_told}
 use Rattle.schedule.specs.Keywords.{operation_text}
 use Rattle.schedule.specs.declared.keyword.Operation.TheVariants.{Put, Append, Remove}
 use Rattle.schedule.proofs.RowLemmas.{short_submit, submit_result}
@@ -8,9 +8,8 @@ use Rattle.schedule.proofs.submits.submit_row.Goals as goal
 
 pub returns-in_err-asking : goal.returns-in_err-asking
 returns-in_err-asking c =
-    let left = c.from_residual in
-    let p = err_from_is_err_and left.result left.ensures.1 in
-    rw (p.1, p.2, c.in_err-asking.ensures.0) (short_submit c.args.nodes c.args.words c.in_err-asking.ensures.1)
+    err_told _ _ _ _ c.from_residual.ensures.1
+    (rw c.in_err-asking.ensures.0 (short_submit c.args.nodes c.args.words c.in_err-asking.ensures.1))
 
 pub returns-in-Put : goal.returns-in-Put
 returns-in-Put c =
