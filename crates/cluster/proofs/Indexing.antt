@@ -151,7 +151,7 @@ goes_on old new numbers n grown h =
 
 -- ---- what a datagram is
 -- a frame that is read at its number
-pub frame_at : (read frames : List Envelope) (k : ℕ) (frame : Envelope) → read ≡ frames → k < length frames
+frame_at : (read frames : List Envelope) (k : ℕ) (frame : Envelope) → read ≡ frames → k < length frames
     → frame ≡ slice_index_or read k frame
     → slice_get frames k ≡ Some frame
 frame_at read frames k frame same less is =
@@ -188,7 +188,7 @@ none_goes frames node bytes i not_here = elim (slice_get_cases frames i).1 [
 module _ {S : Type 0} (frames : List Envelope) (numbers : HashMap (Vec ℕ) ℕ S) (n : ℕ) (h : Indexes (spellings frames) numbers n)
     (all : n ≡ length frames) (node : ℕ) (bytes : List ℕ) where
   -- the number that the index has, where that frame goes to the node
-  pub lowest_found : (k : ℕ) (frame : Envelope) → number_of numbers bytes ≡ Some k → slice_get frames k ≡ Some frame → frame.to ≡ node
+  lowest_found : (k : ℕ) (frame : Envelope) → number_of numbers bytes ≡ Some k → slice_get frames k ≡ Some frame → frame.to ≡ node
       → IsLowest frames node bytes k
   lowest_found k frame found here to =
       let f = h.found bytes k found in
@@ -202,7 +202,7 @@ module _ {S : Type 0} (frames : List Envelope) (numbers : HashMap (Vec ℕ) ℕ 
       }
 
   -- where it goes to another node, none goes to this one
-  pub another_receives : (k : ℕ) (frame : Envelope) → number_of numbers bytes ≡ Some k → slice_get frames k ≡ Some frame → frame.to ≢ node
+  another_receives : (k : ℕ) (frame : Envelope) → number_of numbers bytes ≡ Some k → slice_get frames k ≡ Some frame → frame.to ≢ node
       → IsStranger frames node bytes
   another_receives k frame found here to i =
       let f = h.found bytes k found in
@@ -216,16 +216,46 @@ module _ {S : Type 0} (frames : List Envelope) (numbers : HashMap (Vec ℕ) ℕ 
       ]
 
   -- where it has none, none was sent so
-  pub none_found : number_of numbers bytes ≡ None → IsStranger frames node bytes
+  none_found : number_of numbers bytes ≡ None → IsStranger frames node bytes
   none_found none i = none_goes frames node bytes i (λ e.
       let less = slice_get_within (spellings frames) i bytes e in
       h.absent bytes none i (omega (arith, less, all, length-map frames spelling)) e)
 
   -- and the number that it has is that of a frame
-  pub found_within : (k : ℕ) → number_of numbers bytes ≡ Some k → k < length frames
+  found_within : (k : ℕ) → number_of numbers bytes ≡ Some k → k < length frames
   found_within k found =
       let less = slice_get_within (spellings frames) k bytes (h.found bytes k found).here in
       omega (arith, less, length-map frames spelling)
+
+-- the same of frames that are looked at again: these are those from before, and they are read as such
+module _ {S : Type 0} (frames now read : List Envelope) (same : now ≡ frames) (read_again : read ≡ now)
+    (numbers : HashMap (Vec ℕ) ℕ S) (n : ℕ) (h : Indexes (spellings now) numbers n) (all : n ≡ length frames)
+    (node : ℕ) (bytes : List ℕ) where
+  as_before : Indexes (spellings frames) numbers n
+  as_before = subst (λ (fs : List Envelope). Indexes (spellings fs) numbers n) same h
+
+  pub none_there : number_of numbers bytes ≡ None → IsStranger frames node bytes
+  none_there = none_found frames numbers n as_before all node bytes
+
+  pub there_within : (k : ℕ) → number_of numbers bytes ≡ Some k → k < length read
+  there_within k found =
+      subst (λ (fs : List Envelope). k < length fs) (sym (read_again ∙ same))
+      (found_within frames numbers n as_before all node bytes k found)
+
+  there_at : (k : ℕ) (frame : Envelope) → number_of numbers bytes ≡ Some k → frame ≡ slice_index_or read k frame
+      → slice_get frames k ≡ Some frame
+  there_at k frame found is =
+      frame_at read frames k frame (read_again ∙ same) (found_within frames numbers n as_before all node bytes k found) is
+
+  pub another_there : (k : ℕ) (frame : Envelope) → number_of numbers bytes ≡ Some k → frame ≡ slice_index_or read k frame
+      → frame.to ≢ node → IsStranger frames node bytes
+  another_there k frame found is to =
+      another_receives frames numbers n as_before all node bytes k frame found (there_at k frame found is) to
+
+  pub lowest_there : (k : ℕ) (frame : Envelope) → number_of numbers bytes ≡ Some k → frame ≡ slice_index_or read k frame
+      → frame.to ≡ node → IsLowest frames node bytes k
+  lowest_there k frame found is to =
+      lowest_found frames numbers n as_before all node bytes k frame found (there_at k frame found is) to
 
 -- ---- calls
 -- a step, whatever it answered
