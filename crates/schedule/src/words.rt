@@ -87,8 +87,7 @@ impl<'a> Words<'a> {
         ensures { MatchResult result (λ period. self.old ≡ period_words period ++ self.new)
             (λ fault. (fault ≡ ScheduleFault.WordCount) × (length self.old < 2)) }
     {
-        let begin = self.needed()?;
-        let end = self.needed()?;
+        let (begin, end) = self.needed_pair()?;
         Ok(PeriodWords { begin, end })
     }
 
