@@ -12,7 +12,7 @@ use Rattle.sessions.specs.declared.command.Command.{Command}
 use Rattle.proposer.specs.Campaigning.{Campaigning}
 use Rattle.proposer.specs.Proposing.{Proposing, learnt_in, after_learned}
 use Rattle.proposer.specs.Protocol.{CampaignStands, CampaignsStand, ProposerStands, proposed_at, MayHold}
-use Rattle.proposer.proofs.Proposed.{left, proposed_left, apart_left}
+use Rattle.proposer.proofs.Proposed.{left, proposed_left, apart_left, stands_with}
 
 -- what is left after a test was there before
 was_there : (b : Bool) (o : Option Command) (c : Command) → cond b o None ≡ Some c → o ≡ Some c
@@ -25,17 +25,7 @@ closing stays k q = record q { proposals = proposed_at (left stays k.proposals) 
 
 module _ (stays : ℕ → Bool) (k : Campaigning) (q : synod_minds.Campaign Command) (h : CampaignStands k q) where
   pub closing_stands : CampaignStands (record k { proposals = left stays k.proposals }) (closing stays k q)
-  closing_stands = record {
-    ballot = h.ballot;
-    first = h.first;
-    promised = h.promised;
-    end_ = h.end_;
-    told = h.told;
-    leading = h.leading;
-    proposals = λ s. refl;
-    flags = h.flags;
-    apart = apart_left stays k.proposals h.apart;
-  }
+  closing_stands = stands_with k q (left stays k.proposals) _ h (λ s. refl) (apart_left stays k.proposals h.apart)
 
   -- where those that go are settled
   pub may_close : (m : synod_minds.Mind Command) → ((s : ℕ) → stays s ≡ false → IsSettled m.position m.learnt s)

@@ -17,9 +17,10 @@ use Rattle.sessions.specs.declared.command.Command.TheVariants.{NoOp, Request}
 use Rattle.proposer.specs.declared.outgoing.Outgoing.{Outgoing}
 use Rattle.proposer.specs.declared.window.Proposal.{Proposal}
 use Rattle.proposer.specs.declared.window.TheConstants.{MOST_OPEN}
-use Rattle.proposer.specs.Campaigning.{Campaigning, Filling, is_at, accept, choice, with_proposal, proposing, stepped, going_on, filled}
+use Rattle.proposer.specs.Campaigning.{Campaigning, Filling, is_at, accept, choice, placed, with_proposal, proposing, stepped, going_on}
+use Rattle.proposer.specs.Campaigning.{filled}
 use Rattle.proposer.specs.Protocol.{CampaignStands, proposed_at, frames_of, frames_of_all}
-use Rattle.proposer.proofs.Proposed.{unopened, apart_placed, put_placed}
+use Rattle.proposer.proofs.Proposed.{unopened, apart_placed, put_placed, stands_with}
 use Rattle.proposer.proofs.Choosing.{choice_lem}
 use Rattle.proposer.proofs.AllowedTick.{sending_nothing, sending_both, accept_frames}
 
@@ -120,17 +121,8 @@ module _ (f : Fleet Command) (i : ℕ) (input : Input Command) (nodes : ℕ) (so
             sends = refl;
             does = subst (λ l. Does f i input x (sending (campaigns x (record q { proposals = put q.proposals slot (Some c) })) l)) frames
                 (opens nodes x q slot c some_node h.here (may c e));
-            stands = record {
-              ballot = h.stands.ballot;
-              first = h.stands.first;
-              promised = h.stands.promised;
-              end_ = h.stands.end_;
-              told = h.stands.told;
-              leading = h.stands.leading;
-              proposals = put_placed p q.proposals g.proposals none h.stands.proposals;
-              flags = h.stands.flags;
-              apart = apart_placed p g.proposals none h.stands.apart;
-            };
+            stands = stands_with _ q (placed p g.proposals) (put q.proposals slot (Some c)) h.stands
+                (put_placed p q.proposals g.proposals none h.stands.proposals) (apart_placed p g.proposals none h.stands.apart);
           }
 
     abbrev StepFills : Option Filling → Type 0

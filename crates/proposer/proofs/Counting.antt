@@ -10,28 +10,13 @@ when : (b : Bool) (x y : Campaigning) → b ≡ true → x ≡ cond b x y
 when true x y e = refl
 when false x y e = absurd (cc)
 
--- what is done where the promise counts
-counted_promise : (nodes from : ℕ) (k : Campaigning) (p : Promised) → counts k from p ≡ true
-    → with_promise nodes k from p ≡ after_promise nodes k from p
-counted_promise nodes from k p e = when (counts k from p) (with_promise nodes k from p) k e
-
--- field by field
-pub made_promise : (nodes from : ℕ) (k new : Campaigning) (p : Promised) (end' : ℕ) → counts k from p ≡ true → end' ≡ min k.end p.last
-    → new.ballot ≡ k.ballot → new.first ≡ k.first → new.promised ≡ with_node k.promised from → new.end ≡ end'
-    → new.told ≡ up_to end' (k.told ++ p.entries) → new.leading ≡ is_most nodes (with_node k.promised from) → new.proposals ≡ k.proposals
-    → new ≡ after_promise nodes k from p
-made_promise nodes from k new p end' counted least ballot first promised end told leading proposals =
-    let at_last = end ∙ least in
-    let told_to = told ∙ ap (λ e. up_to e (k.told ++ p.entries)) least in
-    (λ i. record {
-      ballot = ballot i;
-      first = first i;
-      promised = promised i;
-      end = at_last i;
-      told = told_to i;
-      leading = leading i;
-      proposals = proposals i;
-    }) ∙ counted_promise nodes from k p counted
+-- what a promise that counts changes
+pub made_promise : (nodes from : ℕ) (k : Campaigning) (p : Promised) (promised' : List Bool) (end' : ℕ) (told' : List (Vote Command))
+    (leading' : Bool) → counts k from p ≡ true → promised' ≡ with_node k.promised from → end' ≡ min k.end p.last
+    → told' ≡ up_to end' (k.told ++ p.entries) → leading' ≡ is_most nodes promised'
+    → record k { promised = promised'; end = end'; told = told'; leading = leading' } ≡ after_promise nodes k from p
+made_promise nodes from k p promised' end' told' leading' counted promised end told leading =
+    rw leading (rw told (rw end (rw promised (when (counts k from p) (with_promise nodes k from p) k counted))))
 
 -- one vote more is heard
 up_to_first : (b : Bool) (v : Vote Command) (rest : List (Vote Command)) → b ≡ true → v ∷ rest ≡ cond b (v ∷ rest) rest

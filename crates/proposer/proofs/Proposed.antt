@@ -3,11 +3,12 @@ use Rattle.std.proofs.Common.{◌≡◌, ℕ, ◌==◌, List, [], ◌∷◌, Boo
 use Rattle.std.specs.List.{list_any}
 use Rattle.std.proofs.lemmas.Bool.{cond_both, cond-true, cond-false, eq-eqb, eqb-true, eqb-false, ne_eqb, or_parts}
 use Rattle.synod.specs.Records.{put}
+use Rattle.synod.specs.Minds.{Campaign}
 use Rattle.synod.proofs.Puts.{put_cases}
 use Rattle.sessions.specs.declared.command.Command.{Command}
 use Rattle.proposer.specs.declared.window.Proposal.{Proposal}
-use Rattle.proposer.specs.Campaigning.{is_at, placed}
-use Rattle.proposer.specs.Protocol.{proposed_at, AreApart}
+use Rattle.proposer.specs.Campaigning.{Campaigning, is_at, placed}
+use Rattle.proposer.specs.Protocol.{proposed_at, AreApart, CampaignStands}
 
 -- the first proposal stands at its own slot
 pub proposed_first : (p : Proposal) (ps : List Proposal) → proposed_at (p ∷ ps) p.slot ≡ Some p.command
@@ -122,3 +123,19 @@ module _ (p : Proposal) where
       (λ here. sym (proposed_placed qs s none ∙ ap (λ t. proposed_at (p ∷ qs) t) here ∙ proposed_first p qs))
       (λ other. same s ∙ sym (proposed_placed qs s none
       ∙ cond-false (p.slot == s) (Some p.command) (proposed_at qs s) (ne_eqb p.slot s (λ e. other (sym e)))))
+
+-- ---- a campaign stands for the protocol's with other proposals too
+pub stands_with : (k : Campaigning) (q : Campaign Command) (ps : List Proposal) (proposals : ℕ → Option Command) → CampaignStands k q
+    → ((s : ℕ) → proposals s ≡ proposed_at ps s) → AreApart ps
+    → CampaignStands (record k { proposals = ps }) (record q { proposals = proposals })
+stands_with k q ps proposals h same apart = record {
+  ballot = h.ballot;
+  first = h.first;
+  promised = h.promised;
+  end_ = h.end_;
+  told = h.told;
+  leading = h.leading;
+  proposals = same;
+  flags = h.flags;
+  apart = apart;
+}

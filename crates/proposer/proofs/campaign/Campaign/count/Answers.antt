@@ -24,15 +24,6 @@ returns-clause-counted c =
       leading = c.self.inside.leading;
       proposals = c.self.inside.window;
     } in
-    let new : Campaigning = record {
-      ballot = c.self.inside.ballot;
-      first = c.self.inside.first;
-      promised = c.insert.new.self;
-      end = end';
-      told = c.hear.new.told.items;
-      leading = c.is_most-self-inside.result;
-      proposals = c.self.inside.window;
-    } in
-    rw (← c.self.view_is) (made_promise c.args.nodes c.args.from old new c.args.promise end'
-    (rw (← c.self.view_is) at (sym c.counts.ensures ∙ counted)) (search rules) refl refl c.insert.ensures.set refl told
-    (c.is_most-self-inside.ensures ∙ ap (λ s. is_most c.args.nodes s) c.insert.ensures.set) refl)
+    rw (← c.self.view_is) (made_promise c.args.nodes c.args.from old c.args.promise c.insert.new.self end' c.hear.new.told.items
+    c.is_most-self-inside.result (rw (← c.self.view_is) at (sym c.counts.ensures ∙ counted)) c.insert.ensures.set (search rules) told
+    c.is_most-self-inside.ensures)

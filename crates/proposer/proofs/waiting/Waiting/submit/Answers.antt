@@ -6,19 +6,25 @@ use Rattle.proposer.specs.Requests.{is_of}
 use Rattle.indexmap.proofs.CallerLemmas.{insert_entry-new}
 use Rattle.proposer.proofs.RequestLemmas.{is_named, found_by_name, named_push, values_push, none_found, one_more}
 use Rattle.proposer.proofs.waiting.Waiting.submit.Goals as goal
+use Rattle.proposer.proofs.waiting.Waiting.submit.Goals.{In_ok-insert}
 
--- the new name goes last, and there was a place for it
-pub invariant_of-self-2 : goal.invariant_of-self-2
-invariant_of-self-2 c =
+-- the new name goes last
+last : (c : In_ok-insert)
+    → c.insert.new.self.entries ≡ c.self.inside.requests.entries ++ (c.new.result, c.args.request) ∷ []
+last c =
     let es = c.self.inside.requests.entries in
     let fresh : list_any (is_of c.client-client.result c.number-number.result) (values_of es) ≡ false =
     rw (← c.self.view_is) at (sym c.has.ensures ∙ c.if-has.false) in
     let absent : lookup (is_named c.client-client.result c.number-number.result) es ≡ None =
     none_found _ (found_by_name c.client-client.result c.number-number.result es c.self.invariant.0 ∙ fresh) in
-    let last : c.insert.new.self.entries ≡ es ++ (c.new.result, c.args.request) ∷ [] =
     c.in_ok-insert.ensures.entries ∙ insert_entry-new _ c.self.inside.requests c.new.result c.args.request
-    (ap (λ (n : Name). lookup (is_named n.client n.number) es) c.new.ensures ∙ absent) in (
-      rw last (named_push es c.new.result c.args.request c.self.invariant.0
+    (ap (λ (n : Name). lookup (is_named n.client n.number) es) c.new.ensures ∙ absent)
+
+-- each name is its request's, and there was a place for one more
+pub invariant_of-self-2 : goal.invariant_of-self-2
+invariant_of-self-2 c =
+    let es = c.self.inside.requests.entries in (
+      rw (last (goal.at.invariant_of-self-2 c).In_ok-insert) (named_push es c.new.result c.args.request c.self.invariant.0
           (ap (λ (n : Name). n.client) c.new.ensures ∙ c.client-client.ensures)
           (ap (λ (n : Name). n.number) c.new.ensures ∙ c.number-number.ensures)),
       one_more _ _ _ c.in_ok-insert.ensures.len (search rules),
@@ -27,11 +33,4 @@ invariant_of-self-2 c =
 pub returns-clause-last : goal.returns-clause-last
 returns-clause-last c = λ _.
     let es = c.self.inside.requests.entries in
-    let fresh : list_any (is_of c.client-client.result c.number-number.result) (values_of es) ≡ false =
-    rw (← c.self.view_is) at (sym c.has.ensures ∙ c.if-has.false) in
-    let absent : lookup (is_named c.client-client.result c.number-number.result) es ≡ None =
-    none_found _ (found_by_name c.client-client.result c.number-number.result es c.self.invariant.0 ∙ fresh) in
-    let last : c.insert.new.self.entries ≡ es ++ (c.new.result, c.args.request) ∷ [] =
-    c.in_ok-insert.ensures.entries ∙ insert_entry-new _ c.self.inside.requests c.new.result c.args.request
-    (ap (λ (n : Name). lookup (is_named n.client n.number) es) c.new.ensures ∙ absent) in
-    rw (← c.self.view_is) (rw last (values_push es c.new.result c.args.request))
+    rw (← c.self.view_is) (rw (last (goal.at.returns-clause-last c).In_ok-insert) (values_push es c.new.result c.args.request))
