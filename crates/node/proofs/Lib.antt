@@ -9,6 +9,7 @@ pub mod LearntSlots
 pub mod Learnt
 pub mod PastVotes
 -- a node stays the node that it is
+pub mod Campaigns
 pub mod Members
 -- what is sent
 pub mod SendLemmas

@@ -1,17 +1,16 @@
 -- A node stays the node that it is.
-use Rattle.std.proofs.Common.{◌≡◌, ℕ, nat_lt, Bool, true, false, List, Option, Some, None, Result, Ok, Err, IfSome, IfOk}
+use Rattle.std.proofs.Common.{◌≡◌, ℕ, Bool, true, false, List, Option, Some, None, Result, Ok, Err, IfSome, IfOk}
 use Rattle.std.proofs.Common.{IfErr, MatchBool, refl, sym, ap, ◌∙◌, subst}
 use Rattle.std.proofs.lemmas.Bool.{cond_both}
 use Rattle.synod.specs.declared.vote.Vote.{Vote}
 use Rattle.stable.specs.declared.stable.Stable.{Ghosts}
 use Rattle.sessions.specs.declared.command.Command.{Command}
 use Rattle.acceptor.specs.Accepting.{Accepting}
-use Rattle.learner.specs.Learning.{Learning, prefix, HearsVote, HearsDecided}
+use Rattle.learner.specs.Learning.{Learning, HearsVote, HearsDecided}
 use Rattle.learner.specs.Learning.HearsVote.{ignores, hears, learns}
 use Rattle.learner.specs.Learning.HearsDecided.{ignores_decided, learns_decided}
 use Rattle.learner.specs.declared.learned.Learned.{Learned}
-use Rattle.proposer.specs.Campaigning.{Campaigning}
-use Rattle.proposer.specs.Proposing.{Proposing, gathers, gathers_on, leads, proposes, with_promised}
+use Rattle.proposer.specs.Proposing.{Proposing, with_promised}
 use Rattle.proposer.specs.declared.outgoing.Outgoing.{Outgoing}
 use Rattle.wire.specs.declared.frames.envelope.Envelope.{Envelope}
 use Rattle.wire.specs.declared.frames.message.Message.{Message}
@@ -25,8 +24,9 @@ use Rattle.node.specs.Loading.{IsMindOf, IsMember}
 use Rattle.node.specs.Minds.{Mind, waits, asked}
 use Rattle.node.specs.Nodes.{NodeState, NodeSteps, TakesInput, StopsOnInput, RefusesInput}
 use Rattle.node.specs.Outputs.{Response}
-use Rattle.node.specs.Taking.{Takes, TakesEnvelope, TakesMessage, Hears, after_news, begins_to_lead, after_counting}
-use Rattle.node.specs.Taking.{with_request, proposer_of, proposed, execution}
+use Rattle.node.specs.Taking.{Takes, TakesEnvelope, TakesMessage, Hears, after_news, after_counting, with_request, proposer_of, proposed}
+use Rattle.node.specs.Taking.{execution}
+use Rattle.node.proofs.Campaigns.{KeepsRest, proposes_keeps, counting_keeps}
 
 -- ---- a proposer
 pub record KeepsOwn (old new : Proposing) : Type 0 where
@@ -36,28 +36,12 @@ pub record KeepsOwn (old new : Proposing) : Type 0 where
 own : (p : Proposing) → KeepsOwn p p
 own p = record { id_ = refl; nodes_ = refl }
 
-abbrev Keeps : Proposing → Proposing × List Outgoing → Type 0
-Keeps p x = KeepsOwn p x.0
-
-gathers_own : (p : Proposing) (k : Option Campaigning) (position : ℕ) → Keeps p (gathers_on p k position)
-gathers_own p None position = own p
-gathers_own p (Some k) position =
-    cond_both (gathers p.waiting position) _ _ (Keeps p) (λ _. record { id_ = refl; nodes_ = refl }) (λ _. own p)
-
-leads_own : (p : Proposing) (k : Campaigning) (l : Learning) → Keeps p (leads p k l)
-leads_own p k l = cond_both (nat_lt k.end (prefix l)) _ _ (Keeps p) (λ _. gathers_own p (Some k) (prefix l))
-    (λ _. record { id_ = refl; nodes_ = refl })
-
-proposes_own : (p : Proposing) (k : Option Campaigning) (l : Learning) → Keeps p (proposes p k l)
-proposes_own p None l = own p
-proposes_own p (Some k) l = cond_both k.leading _ _ (Keeps p) (λ _. leads_own p k l) (λ _. own p)
-
--- what is made of another proposer of the same node
-over : (p q : Proposing) (x : Proposing × List Outgoing) → KeepsOwn p q → Keeps q x → Keeps p x
-over p q x h k = record { id_ = k.id_ ∙ h.id_; nodes_ = k.nodes_ ∙ h.nodes_ }
-
-counting_own : (p q : Proposing) (l : Learning) → KeepsOwn p q → Keeps p (after_counting p q l)
-counting_own p q l h = cond_both (begins_to_lead p q) _ _ (Keeps p) (λ _. over p q (proposed q l) h (proposes_own q q.campaign l)) (λ _. h)
+-- one of the same node that proposes then
+then_own : (p q : Proposing) (x : Proposing × List Outgoing) → KeepsOwn p q → KeepsRest q x → KeepsOwn p x.0
+then_own p q x h k = record {
+  id_ = ap (λ (r : Proposing). r.id) k ∙ h.id_;
+  nodes_ = ap (λ (r : Proposing). r.nodes) k ∙ h.nodes_;
+}
 
 -- ---- a node
 module _ (id nodes : ℕ) (old : Mind) (is : IsMindOf id nodes old) where
@@ -87,7 +71,7 @@ module _ (id nodes : ℕ) (old : Mind) (is : IsMindOf id nodes old) where
         proposing = (after_news old learned.slot l).0;
         machine = (execution old l).machine;
       }) refl refl e
-      (over old.proposing p (proposed p l) (record { id_ = refl; nodes_ = refl }) (proposes_own p p.campaign l)))
+      (then_own old.proposing p (proposed p l) (record { id_ = refl; nodes_ = refl }) (proposes_keeps p p.campaign l)))
 
   vote_nodes : (l : Learning) (from : ℕ) (v : Vote Command) (learned : Option Learned) → HearsVote old.learning from v learned l
       → l.nodes ≡ old.learning.nodes
@@ -111,7 +95,9 @@ module _ (id nodes : ℕ) (old : Mind) (is : IsMindOf id nodes old) where
       → IsMindOf id nodes new
   message_own from (Prepare ballot first) new said k = acceptor_changes new _ k.2
   message_own from (Promise p) new said k = proposer_changes new _ k.0
-      (counting_own old.proposing (with_promised old.proposing from p) old.learning (record { id_ = refl; nodes_ = refl }))
+      (then_own old.proposing (with_promised old.proposing from p)
+      (after_counting old.proposing (with_promised old.proposing from p) old.learning) (record { id_ = refl; nodes_ = refl })
+      (counting_keeps old.proposing (with_promised old.proposing from p) old.learning))
   message_own from (Nack n) new said k = proposer_changes new _ k.0 (record { id_ = refl; nodes_ = refl })
   message_own from (Accept v) new said k = acceptor_changes new _ k.0
   message_own from (Accepted v) new said (learned, l, heard, k) =
@@ -126,9 +112,10 @@ module _ (id nodes : ℕ) (old : Mind) (is : IsMindOf id nodes old) where
 
   pub takes_own : (i : Input) (new : Mind) (said : Response) → Takes old i new said → IsMindOf id nodes new
   takes_own (input.Submit client number op) new said k = proposer_changes new _ k.0
-      (cond_both (waits old client number) _ _ (Keeps old.proposing) (λ _. own old.proposing)
+      (cond_both (waits old client number) _ _ (λ (x : Proposing × List Outgoing). KeepsOwn old.proposing x.0) (λ _. own old.proposing)
       (λ _. let p : Proposing = with_request old.proposing (asked client number op) in
-      over old.proposing p (proposed p old.learning) (record { id_ = refl; nodes_ = refl }) (proposes_own p p.campaign old.learning)))
+      then_own old.proposing p (proposed p old.learning) (record { id_ = refl; nodes_ = refl })
+      (proposes_keeps p p.campaign old.learning)))
   takes_own (input.Message e) new said k = envelope_own e (concerns old.id old.nodes e) new said k
   takes_own input.Timeout new said k = proposer_changes new new.proposing k.2 (record {
     id_ = ap (λ (p : Proposing). p.id) k.1.leaves;

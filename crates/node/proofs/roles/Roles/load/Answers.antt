@@ -1,8 +1,9 @@
-use Rattle.std.proofs.Common.{◌≡◌, ℕ, List, Option, Some, None, MatchOption, IfSome, inl, inr, rules, subst}
+use Rattle.std.proofs.Common.{◌≡◌, ℕ, List, Option, Some, None, MatchOption, IfSome, inl, inr, rules, ap, subst}
 use Rattle.stable.specs.Records.{Records}
 use Rattle.stable.specs.declared.key.Key.TheVariants as key
 use Rattle.acceptor.specs.Forms.{IsOfItsForm, AreOfTheirForm, HasDamagedRecord}
 use Rattle.wire.specs.RecordForms.{IsRoundRecord}
+use Rattle.learner.specs.Learning.{Learning}
 use Rattle.node.specs.Loading.{LoadsRound}
 use Rattle.proposer.specs.Proposing.{Proposing, loaded}
 use Rattle.node.proofs.Meanings.{meaning_begun}
@@ -69,3 +70,34 @@ returns-clause-fresh g c = record {
   proposing = c.in_ok-proposer.ensures.own;
   machine = c.new-2.ensures.stands;
 }
+
+pub returns-clause-own : goal.returns-clause-own
+returns-clause-own g c = record {
+  number = search rules;
+  of_all = search rules;
+  learning = ap (λ (l : Learning). l.nodes) c.new.ensures;
+  proposing = (
+    ap (λ (p : Proposing). p.id) c.in_ok-proposer.ensures.own,
+    ap (λ (p : Proposing). p.nodes) c.in_ok-proposer.ensures.own,
+  );
+}
+
+-- what the proposer finds in the storage that the acceptor only read, it would have found there before
+pub returns-in_err-proposer-clause-device : goal.returns-in_err-proposer-clause-device
+returns-in_err-proposer-clause-device g c = λ device.
+    g.met.S.Stable.laws.reads_read_fails _ _ _ c.in_ok-acceptor.ensures.reads (c.in_err-proposer.ensures.device (search rules))
+
+pub returns-in_err-proposer-clause-memory : goal.returns-in_err-proposer-clause-memory
+returns-in_err-proposer-clause-memory g c = λ memory.
+    g.met.S.Stable.laws.reads_reads _ _ _ c.in_ok-acceptor.ensures.reads (c.in_err-proposer.ensures.memory (search rules))
+
+pub returns-in_err-proposer-clause-damaged : goal.returns-in_err-proposer-clause-damaged
+returns-in_err-proposer-clause-damaged g c = λ damaged.
+    g.met.S.Stable.laws.reads_reads _ _ _ c.in_ok-acceptor.ensures.reads (c.in_err-proposer.ensures.damaged_reads (search rules))
+
+pub returns-in_err-proposer-clause-damaged_record : goal.returns-in_err-proposer-clause-damaged_record
+returns-in_err-proposer-clause-damaged_record g c = λ honest damaged.
+    let law = g.met.S.Stable.laws in
+    let still = law.reads_honest _ _ (c.in_err-proposer.ensures.damaged_reads (search rules)) honest in
+    let same = law.reads_contents _ _ c.in_ok-acceptor.ensures.reads still in
+    inr (inr (rw same at (c.in_err-proposer.ensures.damaged honest (search rules))))
