@@ -1,7 +1,7 @@
-use Rattle.std.proofs.Common.{rules, ◌≡◌, ◌∙◌, ◌++◌, true, sym, ap, refl, nat_le}
+use Rattle.std.proofs.Common.{rules, ◌≡◌, ◌∙◌, ◌++◌, true, sym, ap, nat_le}
 use Rattle.std.proofs.lemmas.Fn.{filter_same}
 use Rattle.std.proofs.lemmas.List.Elements.{filter-append}
-use Rattle.proposer.specs.Campaigning.{Campaigning, up_to, is_most}
+use Rattle.proposer.specs.Campaigning.{Campaigning, up_to}
 use Rattle.proposer.proofs.Counting.{made_promise}
 use Rattle.proposer.proofs.campaign.Campaign.count.Goals as goal
 
