@@ -2,10 +2,11 @@ use Rattle.std.proofs.Common.{rules, ◌≡◌, ◌+◌, ◌<◌, ◌++◌, ◌�
 use Rattle.byslot.proofs.ValueLemmas.{where_refused}
 use Rattle.byslot.specs.Values.{value_at, IsEmptyFrom}
 use Rattle.acceptor.specs.Casts.{vote_at}
+use Rattle.acceptor.specs.Ranges.{IsPromiseFrom}
 use Rattle.acceptor.proofs.RangeLemmas.{IsToldTo, held, so_far, all_looked_at, one_told, nothing_more, told_to_next}
 use Rattle.acceptor.proofs.RangeLemmas.{found_from, has_one_before, full_promise, last_promise}
 use Rattle.acceptor.proofs.votes.Votes.promise.Goals as goal
-use Rattle.acceptor.proofs.votes.Votes.promise.Goals.{in-Some+in_default-first_from, in_default}
+use Rattle.acceptor.proofs.votes.Votes.promise.Goals.{After-last, After-unwrap, in-Some+in_default-first_from, in_default}
 
 -- the fifth vote has others before it
 pub unwrap-requires : goal.unwrap-requires
@@ -19,8 +20,14 @@ unwrap-requires c =
     has_one_before votes c.args.first c.before-then-len-eq-MOST_ENTRIES.result c.in-Some.next slot c.in-Some-first_from.cast.now told before
     c.in-Some-first_from.ensures four one_before
 
-pub unwrap-requires-then-len-eq-MOST_ENTRIES : goal.unwrap-requires-then-len-eq-MOST_ENTRIES
-unwrap-requires-then-len-eq-MOST_ENTRIES c =
+-- what a promise tells that ends right before the fifth vote
+full : (c : After-unwrap) → IsPromiseFrom (held c.args.self.now.by_slot c.args.first) c.args.ballot c.args.first (record {
+  ballot = c.args.ballot;
+  first = c.args.first;
+  last = c.unwrap.result;
+  entries = c.loop-from.entries.items;
+})
+full c =
     let votes = c.args.self.now.by_slot in
     let slot = c.in-Some-first_from.slot in
     let told = c.loop-from.entries.items in
@@ -28,28 +35,22 @@ unwrap-requires-then-len-eq-MOST_ENTRIES c =
     let at : c.unwrap.result + 1 ≡ slot = search rules in
     let low : slot < 65536 = search rules in
     let before = so_far votes c.args.first c.loop-from.from c.in-Some.next told c.in-Some.is c.loop-from.invariant in
-    let promise = full_promise votes c.args.first c.args.ballot c.in-Some.next slot c.unwrap.result c.in-Some-first_from.cast.now told
-    before c.in-Some-first_from.ensures four at low c.requires in
-    c.new.ensures.valid.1 promise.may_be_said
+    full_promise votes c.args.first c.args.ballot c.in-Some.next slot c.unwrap.result c.in-Some-first_from.cast.now told
+    before c.in-Some-first_from.ensures four at low c.requires
+
+pub unwrap-requires-then-len-eq-MOST_ENTRIES : goal.unwrap-requires-then-len-eq-MOST_ENTRIES
+unwrap-requires-then-len-eq-MOST_ENTRIES c =
+    c.new.ensures.valid.1 (full (goal.at.unwrap-requires-then-len-eq-MOST_ENTRIES c).After-unwrap).may_be_said
 
 pub returns-then-len-eq-MOST_ENTRIES-clause-tells : goal.returns-then-len-eq-MOST_ENTRIES-clause-tells
 returns-then-len-eq-MOST_ENTRIES-clause-tells c =
-    let votes = c.args.self.now.by_slot in
-    let slot = c.in-Some-first_from.slot in
-    let told = c.loop-from.entries.items in
-    let four : length told ≡ 4 = search rules in
-    let at : c.unwrap.result + 1 ≡ slot = search rules in
-    let low : slot < 65536 = search rules in
-    let before = so_far votes c.args.first c.loop-from.from c.in-Some.next told c.in-Some.is c.loop-from.invariant in
-    let promise = full_promise votes c.args.first c.args.ballot c.in-Some.next slot c.unwrap.result c.in-Some-first_from.cast.now told
-    before c.in-Some-first_from.ensures four at low c.requires in
     let is : c.unwrap-then-len-eq-MOST_ENTRIES.result ≡ record {
       ballot = c.args.ballot;
       first = c.args.first;
       last = c.unwrap.result;
-      entries = told;
+      entries = c.loop-from.entries.items;
     } = search rules in
-    rw is promise
+    rw is (full (goal.at.returns-then-len-eq-MOST_ENTRIES-clause-tells c).After-unwrap)
 
 -- the vote at hand, for which memory was refused, stands at the first slot or at a later one
 pub returns-in_err-push-clause-stands : goal.returns-in_err-push-clause-stands
@@ -78,11 +79,11 @@ loop-from-preserved c =
     c.new-from.ensures.value (subst (IsToldTo (held votes c.args.first) c.args.first (slot + 1)) (sym longer) more)
 
 -- no vote is left to tell
-pub unwrap-requires-2 : goal.unwrap-requires-2
-unwrap-requires-2 c =
+all_told : (c : After-last) → IsToldTo (held c.args.self.now.by_slot c.args.first) c.args.first 65536 c.loop-from.entries.items
+all_told c =
     let votes = c.args.self.now.by_slot in
     let told = c.loop-from.entries.items in
-    let all : IsToldTo (held votes c.args.first) c.args.first 65536 told = elim c.match-from.branch [
+    elim c.match-from.branch [
       | in-Some+in_default-first_from w ↦
           let empty : IsEmptyFrom (value_at votes) w.in-Some.next = search rules in
           let low : w.in-Some.next < 65536 = search rules in
@@ -91,31 +92,29 @@ unwrap-requires-2 c =
       | in_default w ↦
           let none : c.loop-from.from ≡ None = search rules in
           all_looked_at votes c.args.first c.loop-from.from told none c.loop-from.invariant
-    ] in
+    ]
+
+-- what a promise tells then
+whole : (c : After-last) → IsPromiseFrom (held c.args.self.now.by_slot c.args.first) c.args.ballot c.args.first (record {
+  ballot = c.args.ballot;
+  first = c.args.first;
+  last = c.last.result;
+  entries = c.loop-from.entries.items;
+})
+whole c =
     let low : c.args.first < 65536 = search rules in
-    let promise = last_promise votes c.args.first c.args.ballot c.last.result told all c.last.ensures low c.requires in
-    c.new-2.ensures.valid.1 promise.may_be_said
+    last_promise c.args.self.now.by_slot c.args.first c.args.ballot c.last.result c.loop-from.entries.items (all_told c) c.last.ensures low
+    c.requires
+
+pub unwrap-requires-2 : goal.unwrap-requires-2
+unwrap-requires-2 c = c.new-2.ensures.valid.1 (whole (goal.at.unwrap-requires-2 c).After-last).may_be_said
 
 pub returns-clause-tells : goal.returns-clause-tells
 returns-clause-tells c =
-    let votes = c.args.self.now.by_slot in
-    let told = c.loop-from.entries.items in
-    let all : IsToldTo (held votes c.args.first) c.args.first 65536 told = elim c.match-from.branch [
-      | in-Some+in_default-first_from w ↦
-          let empty : IsEmptyFrom (value_at votes) w.in-Some.next = search rules in
-          let low : w.in-Some.next < 65536 = search rules in
-          nothing_more votes c.args.first w.in-Some.next told
-          (so_far votes c.args.first c.loop-from.from w.in-Some.next told w.in-Some.is c.loop-from.invariant) empty low
-      | in_default w ↦
-          let none : c.loop-from.from ≡ None = search rules in
-          all_looked_at votes c.args.first c.loop-from.from told none c.loop-from.invariant
-    ] in
-    let low : c.args.first < 65536 = search rules in
-    let promise = last_promise votes c.args.first c.args.ballot c.last.result told all c.last.ensures low c.requires in
     let is : c.unwrap-2.result ≡ record {
       ballot = c.args.ballot;
       first = c.args.first;
       last = c.last.result;
-      entries = told;
+      entries = c.loop-from.entries.items;
     } = search rules in
-    rw is promise
+    rw is (whole (goal.at.returns-clause-tells c).After-last)
