@@ -1,12 +1,20 @@
-use Rattle.std.proofs.Common.{rules, ◌≡◌, ◌+◌, ◌<◌, ◌++◌, ◌∷◌, [], None, MatchOption, length, sym, subst}
+use Rattle.std.proofs.Common.{rules, ℕ, List, ◌≡◌, ◌+◌, ◌<◌, ◌++◌, ◌∷◌, [], None, MatchOption, length, sym, subst}
 use Rattle.byslot.proofs.ValueLemmas.{where_refused}
 use Rattle.byslot.specs.Values.{value_at, IsEmptyFrom}
+use Rattle.synod.specs.declared.ballot.Ballot.{Ballot}
+use Rattle.synod.specs.declared.vote.Vote.{Vote}
+use Rattle.sessions.specs.declared.command.Command.{Command}
+use Rattle.wire.specs.Promises.{Promised}
 use Rattle.acceptor.specs.Casts.{vote_at}
 use Rattle.acceptor.specs.Ranges.{IsPromiseFrom}
 use Rattle.acceptor.proofs.RangeLemmas.{IsToldTo, held, so_far, all_looked_at, one_told, nothing_more, told_to_next}
 use Rattle.acceptor.proofs.RangeLemmas.{found_from, has_one_before, full_promise, last_promise}
 use Rattle.acceptor.proofs.votes.Votes.promise.Goals as goal
 use Rattle.acceptor.proofs.votes.Votes.promise.Goals.{After-last, After-unwrap, in-Some+in_default-first_from, in_default}
+
+-- a promise of these parts
+abbrev telling : Ballot → ℕ → ℕ → List (Vote Command) → Promised
+telling ballot first last told = record { ballot = ballot; first = first; last = last; entries = told }
 
 -- the fifth vote has others before it
 pub unwrap-requires : goal.unwrap-requires
@@ -21,12 +29,8 @@ unwrap-requires c =
     c.in-Some-first_from.ensures four one_before
 
 -- what a promise tells that ends right before the fifth vote
-full : (c : After-unwrap) → IsPromiseFrom (held c.args.self.now.by_slot c.args.first) c.args.ballot c.args.first (record {
-  ballot = c.args.ballot;
-  first = c.args.first;
-  last = c.unwrap.result;
-  entries = c.loop-from.entries.items;
-})
+full : (c : After-unwrap) → IsPromiseFrom (held c.args.self.now.by_slot c.args.first) c.args.ballot c.args.first
+    (telling c.args.ballot c.args.first c.unwrap.result c.loop-from.entries.items)
 full c =
     let votes = c.args.self.now.by_slot in
     let slot = c.in-Some-first_from.slot in
@@ -44,12 +48,8 @@ unwrap-requires-then-len-eq-MOST_ENTRIES c =
 
 pub returns-then-len-eq-MOST_ENTRIES-clause-tells : goal.returns-then-len-eq-MOST_ENTRIES-clause-tells
 returns-then-len-eq-MOST_ENTRIES-clause-tells c =
-    let is : c.unwrap-then-len-eq-MOST_ENTRIES.result ≡ record {
-      ballot = c.args.ballot;
-      first = c.args.first;
-      last = c.unwrap.result;
-      entries = c.loop-from.entries.items;
-    } = search rules in
+    let is : c.unwrap-then-len-eq-MOST_ENTRIES.result ≡ telling c.args.ballot c.args.first c.unwrap.result c.loop-from.entries.items
+    = search rules in
     rw is (full (goal.at.returns-then-len-eq-MOST_ENTRIES-clause-tells c).After-unwrap)
 
 -- the vote at hand, for which memory was refused, stands at the first slot or at a later one
@@ -95,12 +95,8 @@ all_told c =
     ]
 
 -- what a promise tells then
-whole : (c : After-last) → IsPromiseFrom (held c.args.self.now.by_slot c.args.first) c.args.ballot c.args.first (record {
-  ballot = c.args.ballot;
-  first = c.args.first;
-  last = c.last.result;
-  entries = c.loop-from.entries.items;
-})
+whole : (c : After-last) → IsPromiseFrom (held c.args.self.now.by_slot c.args.first) c.args.ballot c.args.first
+    (telling c.args.ballot c.args.first c.last.result c.loop-from.entries.items)
 whole c =
     let low : c.args.first < 65536 = search rules in
     last_promise c.args.self.now.by_slot c.args.first c.args.ballot c.last.result c.loop-from.entries.items (all_told c) c.last.ensures low
@@ -111,10 +107,6 @@ unwrap-requires-2 c = c.new-2.ensures.valid.1 (whole (goal.at.unwrap-requires-2 
 
 pub returns-clause-tells : goal.returns-clause-tells
 returns-clause-tells c =
-    let is : c.unwrap-2.result ≡ record {
-      ballot = c.args.ballot;
-      first = c.args.first;
-      last = c.last.result;
-      entries = c.loop-from.entries.items;
-    } = search rules in
+    let is : c.unwrap-2.result ≡ telling c.args.ballot c.args.first c.last.result c.loop-from.entries.items
+    = search rules in
     rw is (whole (goal.at.returns-clause-tells c).After-last)
