@@ -159,6 +159,16 @@ blank_found before after (Err e) blank live usable empty = tt
 
 -- ---- answers that are Ok
 
+-- what is known of an answer is so of its value
+pub at_ok : {X E : Type 0} (P : X → Type 0) (r : Result X E) (x : X) → r ≡ Ok x → IfOk r P → P x
+at_ok P r x is h = subst (λ o. IfOk o P) is h
+
+-- the same of an answer whose value is handed on
+pub handed_on : {X E F : Type 0} {P Q : X → Type 0} (outcome : Result X F) (r : Result X E) → IfOk r (λ x. outcome ≡ Ok x)
+    → IfOk outcome P → ((x : X) → P x → Q x) → IfOk r Q
+handed_on {X} {E} {F} {P} {Q} outcome (Ok x) given p then = then x (at_ok P outcome x given p)
+handed_on {X} {E} {F} {P} {Q} outcome (Err e) given p then = tt
+
 pub if_ok : {X E : Type 0} {P Q : X → Type 0} (r : Result X E) → IfOk r P → ((x : X) → P x → Q x) → IfOk r Q
 if_ok (Ok x) p then = then x p
 if_ok (Err e) p then = tt

@@ -8,7 +8,7 @@ ghost use Rattle.sqlstable.specs.Files.{AreThoseHeld, HoldRowsAlone};
 ghost use Rattle.sqlstable.specs.States.{IsUsable};
 ghost use Rattle.sqlstable.specs.Storage.{IsSqlHonest, rows_of};
 
-use crate::fault::fault_of;
+use crate::fault::or_fault;
 use crate::storage::SqlStable;
 use sqlite::{Connection, FileStore, Files, Options};
 use sqlite_disk::Disk;
@@ -32,10 +32,8 @@ impl<D: Disk + Drop> SqlStable<FileStore<D>> {
             → AreThoseHeld (image_of D.Disk files) (rows_of over_files s)) }
         ensures not_damaged { ¬ IsErrOf result StableFault.Damaged }
     {
-        match Connection::open_files(alloc, files, options) {
-            Ok(connection) => SqlStable::over(connection),
-            Err((error, _)) => Err(fault_of(&error)),
-        }
+        let connection = or_fault(Connection::open_files(alloc, files, options))?;
+        SqlStable::in_files(connection)
     }
 
     /// Closes the storage and gives its files back. All its records are in the database file then, which needs no log.
@@ -48,10 +46,7 @@ impl<D: Disk + Drop> SqlStable<FileStore<D>> {
             → IsUsable (state over_files self.connection)) }
         ensures not_damaged { ¬ IsErrOf result StableFault.Damaged }
     {
-        match self.into_connection().close_files() {
-            Ok(files) => Ok(files),
-            Err((error, _)) => Err(fault_of(&error)),
-        }
+        or_fault(self.connection.close_files())
     }
 
     /// Closes the storage and opens it again. It has the same records.

@@ -1,6 +1,6 @@
 //! Which fault of a storage an error of the database is, or of a call on a file.
 
-ghost use Rattle.std.specs.Prelude.{◌≡◌, ◌≢◌};
+ghost use Rattle.std.specs.Prelude.{◌≡◌, ◌≢◌, Ok, IfOk, IsErrOf};
 ghost use Rattle.std.specs.IoError.{error_kind};
 
 use sqlite::{Error, ErrorCode};
@@ -18,6 +18,17 @@ pub fn fault_of(error: &Error) -> StableFault
     match error {
         Error::SqliteFailure(ErrorCode::OutOfMemory) => StableFault::Memory,
         _ => StableFault::Device,
+    }
+}
+
+/// What a call on a database gave, or the fault that its error is. What it left besides the error is dropped.
+pub fn or_fault<T, R: Drop>(outcome: Result<T, (Error, R)>) -> Result<T, StableFault>
+    ensures given { IfOk result (λ value. outcome ≡ Ok value) }
+    ensures not_damaged { ¬ IsErrOf result StableFault.Damaged }
+{
+    match outcome {
+        Ok(value) => Ok(value),
+        Err((error, _)) => Err(fault_of(&error)),
     }
 }
 

@@ -7,12 +7,13 @@ ghost use Rattle.sqlstable.specs.Files.{FindsTable};
 ghost use Rattle.sqlstable.specs.Storage.{IsSqlHonest, IsUnfailed, rows_of};
 ghost use Rattle.sqlstable.specs.Table.{no_schema};
 
-use crate::fault::fault_of;
+use crate::fault::{fault_of, or_fault};
 use crate::schema::{is_blank, is_ours};
 use crate::statements::create;
 use crate::storage::SqlStable;
 use crate::survey::survey;
 use sqlite::{Alter, Connection, File, FileFrom, FileStore, MemStore, Start, Unknown};
+use sqlite_disk::Disk;
 use stable::StableFault;
 use std::alloc::Global;
 
@@ -60,10 +61,24 @@ impl<F: Start> SqlStable<FileStore<FileFrom<F>>> {
         ensures unfailed { IfOk result (IsUnfailed over_files) }
         ensures not_damaged { ¬ IsErrOf result StableFault.Damaged }
     {
-        match Connection::open_from(rt, path, false, start) {
-            Ok(connection) => SqlStable::over(connection),
-            Err((error, _)) => Err(fault_of(&error)),
-        }
+        let connection = or_fault(Connection::open_from(rt, path, false, start))?;
+        SqlStable::in_files(connection)
+    }
+}
+
+impl<D: Disk + Drop> SqlStable<FileStore<D>> {
+    ghost use Rattle.sqlite.specs.Files.{over_files};
+
+    /// The storage in a database that files hold. `over` is called at them here alone, as it takes much to prove that it may be.
+    pub(crate) fn in_files(
+        connection: Connection<FileStore<D>>,
+    ) -> Result<SqlStable<FileStore<D>>, StableFault>
+        ensures found { IfOk result (λ s. IsSqlHonest over_files s
+            → FindsTable (state over_files connection) (rows_of over_files s)) }
+        ensures unfailed { IfOk result (IsUnfailed over_files) }
+        ensures not_damaged { ¬ IsErrOf result StableFault.Damaged }
+    {
+        SqlStable::over(connection)
     }
 }
 

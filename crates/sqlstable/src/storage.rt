@@ -18,7 +18,7 @@ use std::alloc::Global;
 /// be counted in a u64 any more, the storage isn't honest from then on.
 #[derive(Drop)]
 pub struct SqlStable<S: Alter> {
-    connection: Connection<S>,
+    pub(crate) connection: Connection<S>,
     // How often it has failed; None once that can't be counted.
     failures: Option<u64>,
     ghost settled: { ∥ IsSettled (state S.Store connection) ∥₁ },
@@ -38,14 +38,6 @@ impl<S: Alter> SqlStable<S> {
             connection,
             failures: Some(0),
         }
-    }
-
-    // The connection, whose table is settled.
-    pub(crate) fn into_connection(self) -> Connection<S>
-        ensures connection { result ≡ self.connection }
-        ensures settled { ∥ IsSettled (state S.Store result) ∥₁ }
-    {
-        self.connection
     }
 
     // The fault that an error is, which is counted where it isn't want of memory.
