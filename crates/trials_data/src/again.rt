@@ -22,30 +22,34 @@ fn instant(ms: i64) -> Result<Instant, Fail> {
     Ok(Instant::new(ms).ok_or("an instant")?)
 }
 
-fn seq(alloc: Global, ends: &[i64]) -> Result<Seq, Fail> {
-    let mut points = Vec::with_capacity(alloc, ends.len())?;
-    for &at in ends {
-        let t = instant(at)?;
-        points.push(Point { t, x: at, y: 0 })?;
+/// Where the feature a is at an instant: as far as there are milliseconds.
+fn point(ms: i64) -> Result<Point, Fail> {
+    let t = instant(ms)?;
+    Ok(Point { t, x: ms, y: 0 })
+}
+
+/// Its way from 0 to 2.
+fn seq(alloc: Global) -> Result<Seq, Fail> {
+    let mut points = Vec::with_capacity(alloc, 2)?;
+    for ms in [0, 2] {
+        points.push(point(ms)?)?;
     }
     Ok(Seq::new(Interp::Linear, points)?)
 }
 
-/// The feature a, which goes from 0 to 2 in as many milliseconds.
+/// The feature a.
 fn feature(alloc: Global) -> Result<Feature, Fail> {
-    Ok(Feature {
-        id: id()?,
-        seq: seq(alloc, &[0, 2])?,
-    })
+    let id = id()?;
+    let seq = seq(alloc)?;
+    Ok(Feature { id, seq })
+}
+
+fn put(alloc: Global) -> Result<Op, Fail> {
+    Ok(Op::Put(id()?, seq(alloc)?))
 }
 
 fn append() -> Result<Op, Fail> {
-    let end = Point {
-        t: instant(3)?,
-        x: 3,
-        y: 0,
-    };
-    Ok(Op::append(id()?, end).ok_or("an operation")?)
+    Ok(Op::append(id()?, point(3)?).ok_or("an operation")?)
 }
 
 /// Where the feature a is at 3 ms, as the database says.
@@ -80,11 +84,14 @@ fn applies(
 #[test]
 fn operations(rt: HostRuntime) -> Result<(), Fail> {
     let mut db = Db::new(rt.alloc());
-    let put = Op::Put(id()?, seq(rt.alloc(), &[0, 2])?);
-    applies(&rt, rt.alloc(), &mut db, &put, "absent", "at none")?;
-    applies(&rt, rt.alloc(), &mut db, &append()?, "at none", "at 3 0")?;
-    let remove = Op::Remove(id()?);
-    applies(&rt, rt.alloc(), &mut db, &remove, "at 3 0", "absent")
+    are_applied(&rt, rt.alloc(), &mut db)
+}
+
+/// The feature a is put, appended to and removed.
+fn are_applied(rt: &impl Abort, alloc: Global, db: &mut Db) -> Result<(), Fail> {
+    applies(rt, alloc, db, &put(alloc)?, "absent", "at none")?;
+    applies(rt, alloc, db, &append()?, "at none", "at 3 0")?;
+    applies(rt, alloc, db, &Op::Remove(id()?), "at 3 0", "absent")
 }
 
 /// What the machine answers where the feature a is at 3 ms.
@@ -128,11 +135,15 @@ fn request(number: u64, op: Op) -> Result<Request, Fail> {
 #[test]
 fn requests(rt: HostRuntime) -> Result<(), Fail> {
     let mut machine = Machine::new(rt.alloc());
-    let put = Op::Put(id()?, seq(rt.alloc(), &[0, 2])?);
-    let first = request(1, put)?;
-    executes(&rt, rt.alloc(), &mut machine, first, "absent", "at none")?;
+    are_executed(&rt, rt.alloc(), &mut machine)
+}
+
+/// The client asks for two operations.
+fn are_executed(rt: &impl Abort, alloc: Global, machine: &mut Machine) -> Result<(), Fail> {
+    let first = request(1, put(alloc)?)?;
+    executes(rt, alloc, machine, first, "absent", "at none")?;
     let second = request(2, append()?)?;
-    executes(&rt, rt.alloc(), &mut machine, second, "at none", "at 3 0")
+    executes(rt, alloc, machine, second, "at none", "at 3 0")
 }
 
 /// The document of the feature.
@@ -162,25 +173,29 @@ fn documents(rt: HostRuntime) -> Result<(), Fail> {
 
 #[test]
 fn cuts(rt: HostRuntime) -> Result<(), Fail> {
-    let seq = seq(rt.alloc(), &[0, 2])?;
-    let period = Period::new(instant(1)?, instant(2)?).ok_or("a period")?;
-    let found = match cut(rt.alloc(), &seq, &period) {
-        Ok(found) => found,
-        Err(_) => cut(rt.alloc(), &seq, &period)?,
-    };
-    assert!(rt; found.ok_or("a cut")?.points.len() == 2);
+    let seq = seq(rt.alloc())?;
+    assert!(rt; cut_length(rt.alloc(), &seq, &period(1, 2)?)? == 2);
     Ok(())
+}
+
+fn period(begin: i64, end: i64) -> Result<Period, Fail> {
+    Ok(Period::new(instant(begin)?, instant(end)?).ok_or("a period")?)
+}
+
+/// How many points the cut of a sequence has.
+fn cut_length(alloc: Global, seq: &Seq, period: &Period) -> Result<usize, Fail> {
+    let found = match cut(alloc, seq, period) {
+        Ok(found) => found,
+        Err(_) => cut(alloc, seq, period)?,
+    };
+    Ok(found.ok_or("a cut")?.points.len())
 }
 
 #[test]
 fn appends(rt: HostRuntime) -> Result<(), Fail> {
-    let mut seq = seq(rt.alloc(), &[0, 2])?;
+    let next = point(3)?;
+    let mut seq = seq(rt.alloc())?;
     let before = seq.clone()?;
-    let next = Point {
-        t: instant(3)?,
-        x: 3,
-        y: 0,
-    };
     let mut answer = seq.append(next);
     if answer == Err(AppendFault::Memory) {
         assert!(rt; seq == before);
@@ -200,7 +215,7 @@ fn entries(rt: HostRuntime) -> Result<(), Fail> {
 /// An entry is put into the index, and what overlaps a period is asked.
 fn asks_again(rt: &impl Abort, alloc: Global, index: &mut TimeIndex, bus: Id) -> Result<(), Fail> {
     let (first, last) = (instant(1)?, instant(2)?);
-    let span = Period::new(instant(2)?, instant(3)?).ok_or("a period")?;
+    let span = period(2, 3)?;
     let mut answer = index.insert(bus, first, last);
     if answer == Err(AllocError) {
         assert!(rt; !index.remove(&bus));

@@ -1,5 +1,6 @@
 //! Worked rows: datetimes from RFC 3339 and the calendar, and each fault in words.
 
+use crate::values::is_written;
 use mfjson::{MfFault, datetime_read, datetime_text};
 use std::test::Fail;
 use tpoint::Instant;
@@ -101,7 +102,7 @@ const FAULTS: [(MfFault, &str); 13] = [
 #[test]
 fn faults_as_texts(rt: HostRuntime) -> Result<(), Fail> {
     for (fault, want) in FAULTS {
-        assert_eq!(rt; format!(in rt.alloc(); "{fault}")?.as_str(), want);
+        assert!(rt; is_written(rt.alloc(), fault, want)?, "{want}");
     }
     Ok(())
 }

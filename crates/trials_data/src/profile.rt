@@ -2,9 +2,8 @@
 
 use mfjson::{Feature, MfFault, datetime_text, read, write};
 use std::alloc::Global;
-use std::process::Abort;
 use std::test::Fail;
-use tpoint::{Instant, Interp};
+use tpoint::{Instant, Interp, Point};
 
 // in the canonical order, and no blanks
 const CANONICAL: &str =
@@ -22,23 +21,24 @@ const SAME: [&str; 4] = [
 fn one_feature_in_four_texts(rt: HostRuntime) -> Result<(), Fail> {
     for text in SAME {
         let feature = read(rt.alloc(), text.as_bytes())?;
-        is_the_bus(&rt, &feature);
+        assert!(rt; is_the_bus(&feature), "{text}");
         assert!(rt; is_written(rt.alloc(), &feature)?, "{text}");
     }
     Ok(())
 }
 
-fn is_the_bus(rt: &impl Abort, feature: &Feature) {
-    assert_eq!(rt; feature.id.bytes(), b"bus-7".as_slice());
-    assert_eq!(rt; feature.seq.interp(), Interp::Linear);
-    let points = feature.seq.points();
-    assert_eq!(rt; points.len(), 2);
-    for (point, (ms, x, y)) in points
-        .iter()
-        .zip([(1_577_836_800_000, 0, 0), (1_577_836_803_000, 10, 5)])
-    {
-        assert_eq!(rt; (point.t.ms(), point.x, point.y), (ms, x, y));
-    }
+fn is_the_bus(feature: &Feature) -> bool {
+    let [first, last] = feature.seq.points() else {
+        return false;
+    };
+    feature.id.bytes() == b"bus-7".as_slice()
+        && feature.seq.interp() == Interp::Linear
+        && is_at(first, 1_577_836_800_000, 0, 0)
+        && is_at(last, 1_577_836_803_000, 10, 5)
+}
+
+fn is_at(point: &Point, ms: i64, x: i64, y: i64) -> bool {
+    point.t.ms() == ms && point.x == x && point.y == y
 }
 
 /// Whether a feature is written so, and its copy is the same feature.
@@ -106,10 +106,15 @@ true
 [{"type":"Feature","id":"a","temporalGeometry":{}}]"#;
 
 #[test]
-fn texts_of_no_feature(rt: HostRuntime) -> Result<(), Fail> {
+fn texts_of_no_value(rt: HostRuntime) -> Result<(), Fail> {
     for bytes in NOT_JSON {
         assert!(rt; has_fault(rt.alloc(), bytes, "NotJson")?, "{bytes:?}");
     }
+    Ok(())
+}
+
+#[test]
+fn values_of_no_feature(rt: HostRuntime) -> Result<(), Fail> {
     for text in NO_FEATURE.lines() {
         assert!(rt;
             has_fault(rt.alloc(), text.as_bytes(), "Members")?,
@@ -269,14 +274,30 @@ fn is_told(
     behind: &str,
 ) -> Result<bool, Fail> {
     let (fault, texts) = row.split_once('|').ok_or("a fault")?;
-    let (first, second) = texts.split_once('|').ok_or("two texts")?;
-    let text = format!(in alloc; "{before}{first}{between}{second}{behind}")?;
+    let text = document_of(alloc, texts, before, between, behind)?;
     has_fault(alloc, text.as_bytes(), fault)
+}
+
+/// The document that a row's texts make.
+fn document_of(
+    alloc: Global,
+    texts: &str,
+    before: &str,
+    between: &str,
+    behind: &str,
+) -> Result<String, Fail> {
+    let (first, second) = texts.split_once('|').ok_or("two texts")?;
+    Ok(format!(in alloc; "{before}{first}{between}{second}{behind}")?)
 }
 
 /// A document of so many points, at the instants 0, 1, 2 and so on.
 fn long_document(alloc: Global, count: i64) -> Result<Vec<u8>, Fail> {
     let mut text = Vec::new(alloc);
+    write_long(&mut text, count)?;
+    Ok(text)
+}
+
+fn write_long(text: &mut Vec<u8>, count: i64) -> Result<(), Fail> {
     text.extend_from_slice(
         br#"{"type":"Feature","id":"a","temporalGeometry":{"type":"MovingPoint","interpolation":"Discrete","coordinates":["#,
     )?;
@@ -284,14 +305,18 @@ fn long_document(alloc: Global, count: i64) -> Result<Vec<u8>, Fail> {
         text.extend_from_slice(if i == 0 { b"[0,0]" } else { b",[0,0]" })?;
     }
     text.extend_from_slice(br#"],"datetimes":["#)?;
+    write_datetimes(text, count)?;
+    Ok(text.extend_from_slice(b"]}}")?)
+}
+
+fn write_datetimes(text: &mut Vec<u8>, count: i64) -> Result<(), Fail> {
     for i in 0..count {
         let t = Instant::new(i).ok_or("an instant")?;
         text.extend_from_slice(if i == 0 { b"\"" } else { b",\"" })?;
         text.extend_from_slice(datetime_text(t).as_slice())?;
         text.push(b'"')?;
     }
-    text.extend_from_slice(b"]}}")?;
-    Ok(text)
+    Ok(())
 }
 
 #[test]
