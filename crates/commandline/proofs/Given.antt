@@ -1,5 +1,5 @@
 -- The name and the FILE that a command was given stand in what its matches hold.
-use Rattle.std.proofs.Common.{◌≡◌, ◌∙◌, ap, sym, refl, codes, List, Option, Some, None, option_map}
+use Rattle.std.proofs.Common.{◌≡◌, ◌∙◌, ◌||◌, ap, sym, refl, codes, Bool, true, false, List, Option, Some, None, option_map}
 use Rattle.std.specs.Prelude.{option_and_then}
 use Rattle.std.specs.Box.{box_value}
 use Rattle.clap.proofs.WalkLemmas.{first_value-rows}
@@ -43,3 +43,8 @@ folder_is_found given found Check folder rows is = is
 pub given_name_is : (m : ArgMatches) → given_name (subcommand_rows_of m) ≡ subcommand_name_of m
 given_name_is m = elim (out-ArgMatches m).subcommand as (λ o. given_name (subcommand_rows o) ≡ option_map
     (λ b. (out-SubCommand (box_value b)).name.now) o) [ None ↦ refl | Some b ↦ refl ]
+
+-- an argument that isn't global adds none
+pub neither : (a b : Bool) → a ≡ false → b ≡ false → (a || b) ≡ false
+neither true b e f = e
+neither false b e f = f

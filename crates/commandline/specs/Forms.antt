@@ -44,10 +44,14 @@ name_of Check = codes "check"
 abbrev pub replay_form : App
 replay_form = with_rule (file_form (name_of Replay)) folder
 
+-- the program without its works
+abbrev pub bare_form : App
+bare_form = with_names_alone (without_help (new_app (codes "mfpx")))
+
 -- `replay FILE`, which may have `--db DIR`, `loopback FILE` and `check FILE`, which is all that the program does
 abbrev pub forms : App
-forms = with_subcommand (with_subcommand (with_subcommand (with_names_alone (without_help (new_app (codes "mfpx"))))
-    replay_form.top) (file_form (name_of Loopback)).top) (file_form (name_of Check)).top
+forms = with_subcommand (with_subcommand (with_subcommand bare_form replay_form.top) (file_form (name_of Loopback)).top)
+    (file_form (name_of Check)).top
 
 -- ---- what words give
 -- the name of the command that was given

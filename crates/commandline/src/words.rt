@@ -2,10 +2,11 @@
 
 ghost use Rattle.std.specs.Prelude.{◌≡◌, ◌≢◌, ◌⊎◌, ◌∷◌, [], ℕ, List, map, codes, string_bytes};
 ghost use Rattle.std.specs.Prelude.{IfErr, IfOk, IfSome, IsNone, MatchOption, MatchResult, None, Some, false};
-ghost use Rattle.clap.specs.Words.{app_of, first_value, found_of, kind_of, subcommand_rows_of};
+ghost use Rattle.clap.specs.Words.{app_of, first_value, found_of, kind_of, subcommand_rows_of, with_subcommand};
 ghost use Rattle.clap.specs.declared.builder.command.Command.TheViews.{out-Command};
 ghost use Rattle.commandline.specs.Forms.{AskFor, IsFolderOf, NameFolder, NameSource, Names};
-ghost use Rattle.commandline.specs.Forms.{file_form, forms, given_file, given_folder, given_name, name_of, text_of};
+ghost use Rattle.commandline.specs.Forms.{bare_form, file_form, forms, given_file, given_folder, given_name, name_of, replay_form};
+ghost use Rattle.commandline.specs.Forms.{text_of};
 
 use crate::fault::WordsFault;
 use clap::error::ErrorKind;
@@ -47,17 +48,41 @@ pub fn job_of<'a>(alloc: Global, words: &'a [String]) -> Result<Job<'a>, WordsFa
 fn program<'a>(alloc: Global) -> Result<Command<'a>, AllocError>
     ensures { IfOk result (λ command. app_of command ≡ forms) }
 {
-    let replay = file_command(alloc, "replay")?.arg(Arg::new(alloc, "DIR").long("db"))?;
-    let loopback = file_command(alloc, "loopback")?;
-    let check = file_command(alloc, "check")?;
+    let replay = replay_command(alloc)?;
+    let command = bare_program(alloc).subcommand(replay)?;
+    let command = with_file_command(alloc, command, "loopback")?;
+    with_file_command(alloc, command, "check")
+}
+
+/// The program without its works.
+fn bare_program<'a>(alloc: Global) -> Command<'a>
+    ensures { app_of result ≡ bare_form }
+{
     Command::new(alloc, "mfpx")
         .no_binary_name(true)
         .disable_help_flag(true)
         .disable_help_subcommand(true)
         .subcommand_required(true)
-        .subcommand(replay)?
-        .subcommand(loopback)?
-        .subcommand(check)
+}
+
+/// The form of a replay, which may have a folder.
+fn replay_command<'a>(alloc: Global) -> Result<Command<'a>, AllocError>
+    ensures app { IfOk result (λ command. app_of command ≡ replay_form) }
+    ensures local { IfOk result (λ command. (out-Command command).has_globals ≡ false) }
+{
+    file_command(alloc, "replay")?.arg(Arg::new(alloc, "DIR").long("db"))
+}
+
+/// The command with one more: that of a work of this name, with a FILE.
+fn with_file_command<'a>(
+    alloc: Global,
+    command: Command<'a>,
+    name: &'static str,
+) -> Result<Command<'a>, AllocError>
+    ensures { IfOk result (λ with. app_of with ≡ with_subcommand (app_of command.entry) (file_form name.now).top) }
+{
+    let work = file_command(alloc, name)?;
+    command.subcommand(work)
 }
 
 /// The form of a work of this name, with a FILE.

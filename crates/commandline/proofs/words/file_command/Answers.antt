@@ -1,15 +1,11 @@
 -- A name, and its one word.
-use Rattle.std.proofs.Common.{rules, ◌≡◌, ◌∙◌, ◌||◌, ap, ap₂, Bool, true, false}
+use Rattle.std.proofs.Common.{rules, ◌≡◌, ◌∙◌, ap, ap₂, false}
 use Rattle.std.proofs.lemmas.Result.{IfOk-weaker}
 use Rattle.clap.specs.Simple.{app_of_fields}
 use Rattle.clap.specs.Words.{app_of, new_app, rule_of, with_rule}
 use Rattle.commandline.specs.Forms.{file, without_help}
+use Rattle.commandline.proofs.Given.{neither}
 use Rattle.commandline.proofs.words.file_command.Goals as goal
-
--- an argument that isn't global adds none
-neither : (a b : Bool) → a ≡ false → b ≡ false → (a || b) ≡ false
-neither true b e f = e
-neither false b e f = f
 
 pub returns-clause-app : goal.returns-clause-app
 returns-clause-app c =
