@@ -22,8 +22,41 @@ pub fn put<S: Stable>(
     storage.put(alloc, key, bytes.to_vec(alloc)?)
 }
 
-/// Whether the key holds these bytes.
-pub fn holds<S: Stable>(
+/// Puts five records, the last in the place of the first.
+pub fn fill<S: Stable>(alloc: Global, storage: &mut S) -> Result<(), StableFault> {
+    put(alloc, storage, vote(700), b"de")?;
+    put(alloc, storage, Key::Round, b"")?;
+    put(alloc, storage, vote(0), b"f")?;
+    put(alloc, storage, Key::Promise, b"abc")?;
+    put(alloc, storage, vote(700), b"g")
+}
+
+/// Whether a storage holds what `fill` puts, under ascending keys.
+pub fn is_filled<S: Stable>(alloc: Global, storage: &mut S) -> Result<bool, StableFault> {
+    let keys = [Key::Promise, Key::Round, vote(0), vote(700)];
+    let ascending = lists(alloc, storage, keys.as_slice())?;
+    let absent = storage.get(alloc, vote(65_535))?.is_none();
+    let promise = holds(alloc, storage, Key::Promise, b"abc")?;
+    let round = holds(alloc, storage, Key::Round, b"")?;
+    let first = holds(alloc, storage, vote(0), b"f")?;
+    let last = holds(alloc, storage, vote(700), b"g")?;
+    Ok(ascending && absent && promise && round && first && last)
+}
+
+/// Whether a storage that is empty keeps what is put.
+pub fn keeps_records<S: Stable>(alloc: Global, storage: &mut S) -> Result<bool, StableFault> {
+    let empty = storage.keys(alloc)?.is_empty();
+    fill(alloc, storage)?;
+    Ok(empty && is_filled(alloc, storage)?)
+}
+
+// Whether these are its keys.
+fn lists<S: Stable>(alloc: Global, storage: &mut S, keys: &[Key]) -> Result<bool, StableFault> {
+    Ok(storage.keys(alloc)?.as_slice() == keys)
+}
+
+// Whether the key holds these bytes.
+fn holds<S: Stable>(
     alloc: Global,
     storage: &mut S,
     key: Key,

@@ -1,42 +1,30 @@
 //! Records in a table: in memory, over disks that fail, and in a file.
 
-use crate::calls::{holds, put, vote};
+use crate::calls::{fill, is_filled, keeps_records, put, vote};
 use sqlite::{Connection, Error, FileStore, Files, MemStore, Options, params};
-use sqlite_disk::{Fuse, Memory};
+use sqlite_disk::{Disk, Fuse, Memory};
 use sqlstable::SqlStable;
-use stable::{Key, Stable, StableFault};
+use stable::StableFault;
 use std::alloc::Global;
 use std::fs;
 
-// Puts five records, the last in the place of the first.
-fn fill<S: Stable>(alloc: Global, storage: &mut S) -> Result<(), StableFault> {
-    put(alloc, storage, vote(700), b"de")?;
-    put(alloc, storage, Key::Round, b"")?;
-    put(alloc, storage, vote(0), b"f")?;
-    put(alloc, storage, Key::Promise, b"abc")?;
-    put(alloc, storage, vote(700), b"g")
+// A storage over files, with what `fill` puts.
+//
+// A storage over files is handed from one function to the next, and dropped by few: each drop of one is checked.
+fn filled<D: Disk + Drop>(
+    alloc: Global,
+    mut storage: SqlStable<FileStore<D>>,
+) -> Result<SqlStable<FileStore<D>>, StableFault> {
+    fill(alloc, &mut storage)?;
+    Ok(storage)
 }
 
-// Whether a storage holds what `fill` puts, under ascending keys.
-fn is_filled<S: Stable>(alloc: Global, storage: &mut S) -> Result<bool, StableFault> {
-    let keys = storage.keys(alloc)?;
-    let ascending = keys.as_slice() == [Key::Promise, Key::Round, vote(0), vote(700)].as_slice();
-    let absent = storage.get(alloc, vote(65_535))?.is_none();
-    Ok(
-        ascending
-            && absent
-            && holds(alloc, storage, Key::Promise, b"abc")?
-            && holds(alloc, storage, Key::Round, b"")?
-            && holds(alloc, storage, vote(0), b"f")?
-            && holds(alloc, storage, vote(700), b"g")?,
-    )
-}
-
-// Whether a storage that is empty keeps what is put.
-fn keeps_records<S: Stable>(alloc: Global, storage: &mut S) -> Result<bool, StableFault> {
-    let empty = storage.keys(alloc)?.is_empty();
-    fill(alloc, storage)?;
-    Ok(empty && is_filled(alloc, storage)?)
+// Whether a storage over files holds what `fill` puts. It is dropped, and not closed.
+fn was_filled<D: Disk + Drop>(
+    alloc: Global,
+    mut storage: SqlStable<FileStore<D>>,
+) -> Result<bool, StableFault> {
+    is_filled(alloc, &mut storage)
 }
 
 // Whether a storage in memory keeps what is put, and can count its failures.
@@ -52,20 +40,15 @@ fn memory_keeps_records(rt: HostRuntime) {
     assert_eq!(rt; memory_keeps(rt.alloc()), Ok(true));
 }
 
-// A storage over files in memory that holds what `fill` puts, closed and opened again.
-fn reopened(alloc: Global) -> Result<SqlStable<FileStore<Memory>>, StableFault> {
+// Whether a storage over files in memory that is filled, closed and opened again holds what `fill` puts.
+fn is_reopened_filled(alloc: Global) -> Result<bool, StableFault> {
     let files = Files {
         log: Memory::new(alloc),
         db: Memory::new(alloc),
     };
-    let mut storage = SqlStable::open_files(alloc, files, Options::new(1))?;
-    fill(alloc, &mut storage)?;
-    storage.reopen(alloc, Options::new(2))
-}
-
-fn is_reopened_filled(alloc: Global) -> Result<bool, StableFault> {
-    let mut storage = reopened(alloc)?;
-    is_filled(alloc, &mut storage)
+    let storage = SqlStable::open_files(alloc, files, Options::new(1))?;
+    let storage = filled(alloc, storage)?.reopen(alloc, Options::new(2))?;
+    was_filled(alloc, storage)
 }
 
 #[test]
@@ -86,9 +69,12 @@ fn over_a_fuse(
 }
 
 // The fault of the first of 200 puts that isn't done.
-fn first_fault<S: Stable>(alloc: Global, storage: &mut S) -> Option<StableFault> {
+fn first_fault<D: Disk + Drop>(
+    alloc: Global,
+    mut storage: SqlStable<FileStore<D>>,
+) -> Option<StableFault> {
     for slot in 0..200 {
-        if let Err(fault) = put(alloc, storage, vote(slot), b"a") {
+        if let Err(fault) = put(alloc, &mut storage, vote(slot), b"a") {
             return Some(fault);
         }
     }
@@ -96,8 +82,8 @@ fn first_fault<S: Stable>(alloc: Global, storage: &mut S) -> Option<StableFault>
 }
 
 fn fault_over_a_fuse(alloc: Global) -> Result<Option<StableFault>, StableFault> {
-    let mut storage = over_a_fuse(alloc, 100)?;
-    Ok(first_fault(alloc, &mut storage))
+    let storage = over_a_fuse(alloc, 100)?;
+    Ok(first_fault(alloc, storage))
 }
 
 #[test]
@@ -164,15 +150,14 @@ const PATH: &str = "sqlstable_test/node0.db";
 
 // A file that holds what `fill` puts, and is closed.
 fn close_a_file(rt: &HostRuntime) -> Result<(), StableFault> {
-    let mut storage = SqlStable::open(rt, PATH)?;
-    fill(rt.alloc(), &mut storage)?;
-    storage.close()
+    let storage = SqlStable::open(rt, PATH)?;
+    filled(rt.alloc(), storage)?.close()
 }
 
 // Whether a file that is opened holds what `fill` puts.
 fn is_file_filled(rt: &HostRuntime, path: &str) -> Result<bool, StableFault> {
-    let mut storage = SqlStable::open(rt, path)?;
-    is_filled(rt.alloc(), &mut storage)
+    let storage = SqlStable::open(rt, path)?;
+    was_filled(rt.alloc(), storage)
 }
 
 #[test]
@@ -192,9 +177,10 @@ const RUN_PATH: &str = "sqlstable_run_test/node0.db";
 const RUN_LOG: &str = "sqlstable_run_test/node0.db-wal";
 
 // What a run leaves: its storage is dropped and not closed.
-fn leave_a_file(rt: &HostRuntime) -> Result<(), StableFault> {
-    let mut storage = SqlStable::open(rt, RUN_PATH)?;
-    fill(rt.alloc(), &mut storage)
+fn leave_a_file(rt: &HostRuntime) -> Result<bool, StableFault> {
+    let storage = SqlStable::open(rt, RUN_PATH)?;
+    let storage = filled(rt.alloc(), storage)?;
+    was_filled(rt.alloc(), storage)
 }
 
 // Settles the file, and reads its bytes.
@@ -210,7 +196,7 @@ fn settled_bytes(rt: &HostRuntime) -> Result<Vec<u8>, StableFault> {
 fn a_settled_file_is_alone(rt: HostRuntime) {
     let _ = fs::remove_dir_all(&rt, RUN_FOLDER);
     assert!(rt; fs::create_dir(&rt, RUN_FOLDER).is_ok());
-    assert_eq!(rt; leave_a_file(&rt), Ok(()));
+    assert_eq!(rt; leave_a_file(&rt), Ok(true));
     assert!(rt; fs::symlink_metadata(&rt, RUN_LOG).is_ok());
     let (Ok(first), Ok(again)) = (settled_bytes(&rt), settled_bytes(&rt)) else {
         assert!(rt; false);
