@@ -21,8 +21,8 @@ use Rattle.world.specs.declared.lists.Outcome.TheVariants as outcome
 use Rattle.world.specs.declared.round_end.RoundEnd.{RoundEnd}
 use Rattle.world.specs.declared.round_end.RoundEnd.TheVariants.{NotAQuorum, Down, Refused, Stopped, TooLow, Decided}
 use Rattle.world.specs.Rounds.{is_up, DeliversTo, nothing, elsewhere, there, GoesDownOn, DeliversPart, NoneRefuses, IsInterrupted, CanMeet}
-use Rattle.world.specs.Rounds.{MeetingEnds, Phase, begun, asked, answered, voted, heard, receivers_after, ComesThrough, begins, asks}
-use Rattle.world.specs.Rounds.{answers, votes, hears, GoesDown, at_once, on_the_way, EndsIn, RoundEnds, IsPartOfRound, none, some, untold}
+use Rattle.world.specs.Rounds.{BreaksOff, GoesOn, GoesToItsEnd, MeetingEnds, Phase, begun, asked, answered, voted, heard, receivers_after, ComesThrough, begins, asks}
+use Rattle.world.specs.Rounds.{answers, votes, hears, GoesDown, at_once, on_the_way, EndsIn, HasBegun, RoundEnds, IsPartOfRound, none, some, untold}
 use Rattle.world.specs.Worlds.{WorldState, TakesAt, ReceivesAt, DeliversFrame, Steps, recorded, with_node, with_outcome, without_wait}
 
 abbrev failed : WorldFault → Result RoundEnd WorldFault
@@ -207,16 +207,39 @@ module _ {S : Type 0} (storages : Ghosts (Script S)) (old : WorldState S) (node 
 
   -- memory is wanting in a phase
   pub broken_by : (phase : Phase) (p q : ℕ) (between new : WorldState S) → Comes phase p between → q ≡ p
-      → DeliversPart storages (receivers_after phase node members) between q new → IsInterrupted storages old node members new
-  broken_by phase p q between new before from part = inr (record {
+      → DeliversPart storages (receivers_after phase node members) between q new → HasBegun storages old node members new
+  broken_by phase p q between new before from part = record {
     phase = phase;
     first = p;
     between = between;
     comes = before;
     delivers = subst (λ k. DeliversPart storages (receivers_after phase node members) between k new) from part;
-  })
+  }
 
-  -- ---- of members that can meet
+-- ---- its second half: the accepts come to the members, and their votes to the node
+module _ {S : Type 0} (storages : Ghosts (Script S)) (node : ℕ) (members : List ℕ) (p q n : ℕ) (now between new : WorldState S)
+    (from : q ≡ n) (to : n ≡ length now.frames) (delivers : DeliversTo storages members now p n between) where
+  voted_there : (old : WorldState S) → ComesThrough storages old node members answered p now
+      → ComesThrough storages old node members voted n between
+  voted_there old comes = voted_by storages old node members p p n now between comes refl delivers to
+
+  pub decides_by : (r : Result (Option ℕ) WorldFault) (last : ℕ) → last ≡ length between.frames
+      → IfOk r (λ stopped. MatchOption stopped (DeliversTo storages (node ∷ []) between q last new)
+      (λ m. GoesDownOn storages (node ∷ []) between q m new))
+      → IfOk r (λ stopped. MatchOption stopped ((last_ : ℕ) × GoesOn storages node members answered p now heard last_ new)
+      (λ down. GoesToItsEnd storages node members answered p now (Stopped down) new))
+  decides_by (Err f) last at h = tt
+  decides_by (Ok None) last at h =
+      (last, λ old comes. heard_by storages old node members n q last between new (voted_there old comes) from h at)
+  decides_by (Ok (Some m)) last at h = λ old comes. down_by storages old node members voted n q m between new (voted_there old comes) from h
+
+  pub decides_in_part : (r : Result (Option ℕ) WorldFault) → OnErr r (DeliversPart storages (node ∷ []) between q new)
+      → OnErr r (BreaksOff storages node members answered p now new)
+  decides_in_part (Ok stopped) h = tt
+  decides_in_part (Err f) h = λ old comes. broken_by storages old node members voted n q between new (voted_there old comes) from h
+
+-- ---- of members that can meet
+module _ {S : Type 0} (storages : Ghosts (Script S)) (old : WorldState S) (node : ℕ) (members : List ℕ) where
   meets : (end : RoundEnd) (new : WorldState S) → CanMeet old node members → MeetingEnds storages old node members end new
       → EndsIn storages old node members end new
   meets NotAQuorum new can h = absurd h

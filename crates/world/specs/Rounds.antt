@@ -231,3 +231,20 @@ module _ {S : Type 0} (storages : Ghosts (Script S)) (old : WorldState S) (node 
   -- of members that can meet
   abbrev pub IsInterrupted : WorldState S → Type 0
   IsInterrupted new = (new ≡ old) ⊎ HasBegun new
+
+-- ---- a part of a round, whatever led to it
+module _ {S : Type 0} (storages : Ghosts (Script S)) (node : ℕ) (members : List ℕ) (phase : Phase) (first : ℕ) (now : WorldState S) where
+  -- each round that has come through the phase by now, in which the frames from a number on were sent, comes through a later one
+  abbrev pub GoesOn : Phase → ℕ → WorldState S → Type 0
+  GoesOn later next new = (old : WorldState S) → ComesThrough storages old node members phase first now
+      → ComesThrough storages old node members later next new
+
+  -- it ends so
+  abbrev pub GoesToItsEnd : RoundEnd → WorldState S → Type 0
+  GoesToItsEnd end new = (old : WorldState S) → ComesThrough storages old node members phase first now
+      → MeetingEnds storages old node members end new
+
+  -- memory is wanting to it
+  abbrev pub BreaksOff : WorldState S → Type 0
+  BreaksOff new = (old : WorldState S) → ComesThrough storages old node members phase first now
+      → HasBegun storages old node members new

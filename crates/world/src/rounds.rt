@@ -19,6 +19,7 @@ impl<S: Stable> Run<S> {
     ghost use Rattle.world.specs.Worlds.{run_of};
     ghost use Rattle.world.specs.Rounds.{NamesNoMember, IsLowestDown, CanMeet, IsAt, DeliversTo, DeliversPart, GoesDownOn, EndsIn};
     ghost use Rattle.world.specs.Rounds.{MeetingEnds, IsInterrupted, RoundEnds, IsPartOfRound, is_up};
+    ghost use Rattle.world.specs.Rounds.{GoesOn, GoesToItsEnd, BreaksOff, begun, answered, heard};
 
     /// A round of a node with these members, by hand, and how it ended.
     pub fn round(
@@ -120,26 +121,73 @@ impl<S: Stable> Run<S> {
         if let Err(fault) = self.begin(alloc, node) {
             return Ok(without_campaign(node, fault));
         }
+        let accepts = match self.gather(alloc, node, members, prepares)? {
+            Ok(accepts) => accepts,
+            Err(end) => return Ok(end),
+        };
+        match self.decide(alloc, node, members, accepts)? {
+            Some(down) => Ok(RoundEnd::Stopped(down)),
+            None => Ok(RoundEnd::Decided(slot)),
+        }
+    }
+
+    // The prepares come to the members, and what these answer comes to the node: the number of its first accept, or how the
+    // round ends before there is one.
+    fn gather(
+        &mut self,
+        alloc: Global,
+        node: NodeId,
+        members: &[NodeId],
+        prepares: usize,
+    ) -> Result<Result<usize, RoundEnd>, WorldFault>
+        requires sent { prepares ≤ vec_len self.old.frames }
+        ensures goes_on { IfOk result (λ gathered. IfOk gathered (λ accepts. GoesOn (⟦<Scripted<S> as Stable>⟧)
+            node members.now begun prepares (run_of self.old) answered accepts (run_of self.new))) }
+        ensures ends { IfOk result (λ gathered. IfErr gathered (λ end. GoesToItsEnd (⟦<Scripted<S> as Stable>⟧)
+            node members.now begun prepares (run_of self.old) end (run_of self.new))) }
+        ensures accepts_sent { IfOk result (λ gathered. IfOk gathered (λ accepts. accepts ≤ vec_len self.new.frames)) }
+        ensures part { OnErr result (BreaksOff (⟦<Scripted<S> as Stable>⟧)
+            node members.now begun prepares (run_of self.old) (run_of self.new)) }
+        ensures memory { IfErr result (λ f. f ≡ WorldFault.Memory) }
+    {
         let answers = self.frames().len();
         if let Some(down) = self.hand_on(alloc, members, prepares)? {
-            return Ok(RoundEnd::Stopped(down));
+            return Ok(Err(RoundEnd::Stopped(down)));
         }
         let accepts = self.frames().len();
         let refusal = greatest_told(alloc, &self.frames()[answers..])?;
         if let Some(down) = self.hand_on(alloc, &[node], answers)? {
-            return Ok(RoundEnd::Stopped(down));
+            return Ok(Err(RoundEnd::Stopped(down)));
         }
-        if let Some(promised) = refusal {
-            return Ok(RoundEnd::TooLow(promised));
+        match refusal {
+            Some(promised) => Ok(Err(RoundEnd::TooLow(promised))),
+            None => Ok(Ok(accepts)),
         }
+    }
+
+    // The accepts come to the members, and their votes to the node. Who goes down by one ends it at once, and is told.
+    fn decide(
+        &mut self,
+        alloc: Global,
+        node: NodeId,
+        members: &[NodeId],
+        accepts: usize,
+    ) -> Result<Option<NodeId>, WorldFault>
+        requires sent { accepts ≤ vec_len self.old.frames }
+        ensures decides { IfOk result (λ stopped. MatchOption stopped
+            ((last : ℕ) × GoesOn (⟦<Scripted<S> as Stable>⟧)
+            node members.now answered accepts (run_of self.old) heard last (run_of self.new))
+            (λ down. GoesToItsEnd (⟦<Scripted<S> as Stable>⟧)
+            node members.now answered accepts (run_of self.old) (end.Stopped down) (run_of self.new))) }
+        ensures part { OnErr result (BreaksOff (⟦<Scripted<S> as Stable>⟧)
+            node members.now answered accepts (run_of self.old) (run_of self.new)) }
+        ensures memory { IfErr result (λ f. f ≡ WorldFault.Memory) }
+    {
         let votes = self.frames().len();
         if let Some(down) = self.hand_on(alloc, members, accepts)? {
-            return Ok(RoundEnd::Stopped(down));
+            return Ok(Some(down));
         }
-        if let Some(down) = self.hand_on(alloc, &[node], votes)? {
-            return Ok(RoundEnd::Stopped(down));
-        }
-        Ok(RoundEnd::Decided(slot))
+        self.hand_on(alloc, &[node], votes)
     }
 
     // Of the frames that were sent by now, from `first` on, those to the receivers come there, in order of sending. Who goes down by
