@@ -7,6 +7,7 @@ use crate::fleet::name;
 use crate::requests::CLIENT;
 use cluster::{Cluster, Queues};
 use sessions::Number;
+use stable::MemStable;
 use std::alloc::Global;
 use store::Op;
 use wire::{NodeId, Nodes};
@@ -20,6 +21,10 @@ const BATCH: u16 = 64;
 /// Its feature is removed, again and again; as there is none, nothing but the log grows.
 pub fn flushed_number(alloc: Global, requests: u16) -> Result<u64, Fault> {
     let mut world = World::new(alloc, Nodes::new(3).unwrap())?;
+    flush_batches(alloc, &mut world, requests)
+}
+
+fn flush_batches(alloc: Global, world: &mut World<MemStable>, requests: u16) -> Result<u64, Fault> {
     world.step(alloc, Event::Timeout(leader()))?;
     let mut delivered = 0u64;
     for earlier in 0..requests {
@@ -35,6 +40,10 @@ pub fn flushed_number(alloc: Global, requests: u16) -> Result<u64, Fault> {
 pub fn pumped_number(alloc: Global, requests: u16) -> Result<u64, Fault> {
     let world = World::new(alloc, Nodes::new(3).unwrap())?;
     let mut cluster = Cluster::new(alloc, world, Queues::new(alloc)?)?;
+    pump_batches(alloc, &mut cluster, requests)
+}
+
+fn pump_batches(alloc: Global, cluster: &mut Cluster<Queues>, requests: u16) -> Result<u64, Fault> {
     cluster.step(alloc, Event::Timeout(leader()))?;
     let mut delivered = 0u64;
     for earlier in 0..requests {

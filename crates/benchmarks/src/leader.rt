@@ -38,10 +38,19 @@ impl Leader {
         ensures { IfOk result (λ leader. IsLeader waiting (leading_of leader)) }
     {
         let mut storage = MemStable::new(alloc);
-        let mut proposer = asked(alloc, &mut storage, waiting)?;
+        Leader::over(alloc, &mut storage, waiting)
+    }
+
+    /// The same over a storage that has no records.
+    fn over(alloc: Global, storage: &mut MemStable, waiting: u16) -> Result<Leader, Fault>
+        requires { stored storage.old ≡ no_records }
+        ensures { IfOk result (λ leader. IsLeader waiting (leading_of leader)) }
+    {
+        let proposer = asked(alloc, storage, waiting)?;
         let learner = Learner::new(alloc, Nodes::new(3).unwrap());
-        campaign(alloc, &mut storage, &mut proposer, &learner)?;
-        Ok(Leader { proposer, learner })
+        let mut leader = Leader { proposer, learner };
+        campaign(alloc, storage, &mut leader.proposer, &leader.learner)?;
+        Ok(leader)
     }
 
     /// What the round proposes and executes, as a number. It begins as another leader where a lap is over.

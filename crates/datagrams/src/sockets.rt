@@ -1,6 +1,6 @@
 //! The sockets.
 
-ghost use Rattle.std.specs.Prelude.{◌≡◌, [], IfOk, option_map, slice_get};
+ghost use Rattle.std.specs.Prelude.{◌≡◌, ◌+◌, [], IfOk, OnOk, option_map, slice_get};
 ghost use Rattle.datagrams.specs.Counts.{socket_count};
 
 use cluster::{Transport, TransportFault};
@@ -34,13 +34,24 @@ impl Sockets {
     pub fn bind<N: Net>(net: &N, alloc: Global, count: Nodes) -> io::Result<Sockets>
         ensures { IfOk result (λ sockets. socket_count sockets ≡ count) }
     {
-        let mut ends = Vec::with_capacity(alloc, usize::from(count.count()))?;
-        for _ in 0..count.count() {
-            ends.push(End::bind(net)?)?;
-        }
         let mut room = Vec::new(alloc);
         room.resize(MOST_BYTES, 0)?;
-        Ok(Sockets { ends, room })
+        let mut sockets = Sockets {
+            ends: Vec::new(alloc),
+            room,
+        };
+        for _ in 0..count.count() {
+            sockets.bind_another(net)?;
+        }
+        Ok(sockets)
+    }
+
+    // One more.
+    fn bind_another<N: Net>(&mut self, net: &N) -> io::Result<()>
+        ensures { OnOk result (socket_count self.new ≡ socket_count self.old + 1) }
+    {
+        let end = End::bind(net)?;
+        Ok(self.ends.push(end)?)
     }
 
     /// Where a node's socket is found, or None where there is no such node.
@@ -57,10 +68,15 @@ impl Sockets {
 impl End {
     fn bind<N: Net>(net: &N) -> io::Result<End> {
         let socket = UdpSocket::bind(net, SocketAddr::from((Ipv4Addr::LOCALHOST, 0)))?;
-        socket.set_nonblocking(true)?;
-        let address = socket.local_addr()?;
+        let address = made_ready(&socket)?;
         Ok(End { socket, address })
     }
+}
+
+// Its address, once no call of it waits.
+fn made_ready(socket: &UdpSocket) -> io::Result<SocketAddr> {
+    socket.set_nonblocking(true)?;
+    socket.local_addr()
 }
 
 impl Transport for Sockets {

@@ -3,4 +3,4 @@ use Rattle.datagrams.proofs.sockets.Sockets.bind.Given as goal
 
 -- as many sockets were bound
 abbrev pub invariant-loop : goal.invariant-loop
-invariant-loop g l = vec_len l.ends ≡ l.counter
+invariant-loop g l = vec_len l.sockets.ends ≡ l.counter
