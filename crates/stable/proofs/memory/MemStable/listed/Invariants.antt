@@ -1,7 +1,7 @@
 use Rattle.std.proofs.Common.{MatchOption, ◌+◌, ◌-◌, ℕ, Option, Some, None}
 use Rattle.stable.specs.Listing.{ListsTo}
 use Rattle.stable.specs.Memory.{stored}
-use Rattle.stable.proofs.memory.MemStableStable.keys.Given as goal
+use Rattle.stable.proofs.memory.MemStable.listed.Given as goal
 
 -- the keys below those of the votes that are still to be looked for are listed
 abbrev pub invariant-loop-from : goal.invariant-loop-from
