@@ -1,14 +1,15 @@
 -- What the lists of a document say, element by element.
-use Rattle.std.proofs.Common.{◌≡◌, ℕ, zero, suc, ◌+◌, ◌<◌, List, [], ◌∷◌, ◌++◌, length, map, take, get_or, Some, refl, arith, ◌∙◌, ap}
+use Rattle.std.proofs.Common.{◌≡◌, ℕ, zero, suc, ◌+◌, ◌<◌, List, [], ◌∷◌, ◌++◌, length, map, take, get_or, Some, refl, arith, ◌∙◌, ap, sym, ℤ}
 use Rattle.std.proofs.Common.{subst, inl, inr}
-use Rattle.std.proofs.lemmas.List.{map_more, take-map}
+use Rattle.std.proofs.lemmas.List.{map_more, take-map, take_more, map-append}
 use Rattle.std.proofs.lemmas.Bool.{cases_lt}
 use Rattle.std.specs.List.{slice_get}
 use Rattle.std.proofs.lemmas.Option.{slice_get-get_or, slice_get-map, same_Some}
 use Rattle.serde_json.specs.Data.{Data}
 use Rattle.mfjson.specs.Pairs.{Pairwise}
 use Rattle.mfjson.specs.Faults.{FailsAt}
-use Rattle.mfjson.specs.Outline.{FailsFirst}
+use Rattle.tpoint.specs.declared.point.Point.{Point}
+use Rattle.mfjson.specs.Outline.{AreTogether, FailsFirst}
 use Rattle.mfjson.proofs.PairLemmas.{pairwise_push}
 
 pub pairwise_length : {A B : Type 0} (R : A → B → Type 0) (xs : List A) (ys : List B) → Pairwise R xs ys → length xs ≡ length ys
@@ -86,4 +87,16 @@ fails_first {A} {C} R P f xs done i a w h p is n =
             absurd (fails.fails (w fails.element beside.0 beside.2))
         | inr later ↦ later
       ];
+    }
+
+-- one point more was put together
+pub together_more : (points : List Point) (instants : List ℕ) (places : List (ℤ × ℤ)) (i : ℕ) (p : Point) → i < length instants → i < length places →
+    AreTogether points (take i instants) (take i places) → p.t ≡ get_or instants i p.t → (p.x, p.y) ≡ get_or places i (p.x, p.y) →
+    AreTogether (points ++ p ∷ []) (take (i + 1) instants) (take (i + 1) places)
+together_more points instants places i p lt le before when where_to =
+    record {
+      when = map-append (λ (q : Point). q.t) points (p ∷ []) ∙ ap (λ ts. ts ++ p.t ∷ []) before.when
+          ∙ ap (λ (t : ℕ). take i instants ++ t ∷ []) when ∙ sym (take_more instants i p.t lt);
+      where_to = map-append (λ (q : Point). (q.x, q.y)) points (p ∷ []) ∙ ap (λ cs. cs ++ (p.x, p.y) ∷ []) before.where_to
+          ∙ ap (λ (c : ℤ × ℤ). take i places ++ c ∷ []) where_to ∙ sym (take_more places i (p.x, p.y) le);
     }

@@ -10,7 +10,6 @@ use Rattle.json.proofs.Printed.Trees.{value-json_tokens}
 use Rattle.json.proofs.Unique.Spelling.{tokens-document}
 use Rattle.serde_json.specs.Read.{max_depth}
 use Rattle.json.specs.Json as json
-use Rattle.json.specs.Find as find
 use Rattle.json.specs.Strict.{keys}
 use Rattle.serde_json.specs.Data.{Data, array, object}
 use Rattle.serde_json.specs.Find.{as_array}
@@ -22,21 +21,10 @@ use Rattle.mfjson.specs.declared.feature.Feature.{Feature}
 use Rattle.mfjson.specs.Document.{SaysInstant, StandsFor, IsDocumentOf}
 use Rattle.mfjson.specs.Faults.{SaysCoordinates, part}
 use Rattle.mfjson.specs.Outline.{HasLists, IsOutline, SaysThisId, AreTogether}
-use Rattle.mfjson.specs.Tokens.{Means, Told, Says, IsText, SaysEach, HasCount, SaysCourse}
+use Rattle.mfjson.specs.Tokens.{Means, Told, Member, Says, IsText, SaysEach, HasCount, SaysCourse}
 use Rattle.mfjson.proofs.FeatureLemmas.{has_read, feature_stands}
 use Rattle.mfjson.proofs.Named.{Named, whole}
 use Rattle.mfjson.proofs.PartLemmas.{part_found, elements_here}
-
--- the member of that name, and what it says
-pub record Member {X : Type 0} (m : ℕ) (R : Data → X → Type 0) (j : json.Json) (name : List ℕ) (x : X) : Type 0 where
-  pub value : json.Json
-  pub here : find.get name j ≡ Some value
-  pub told : Told m R value x
-
--- the tokens of the member say it
-pub member_says : {X : Type 0} (m : ℕ) (R : Data → X → Type 0) (j : json.Json) (name : List ℕ) (ts : List Token) (x : X) →
-    (k : json.Json) × (find.get name j ≡ Some k) × BeginsWith ts k → Says m R ts x → Member m R j name x
-member_says {X} m R j name ts x found says = record { value = found.0; here = found.1; told = says.told found.0 found.2 }
 
 named : {X : Type 0} (m n : ℕ) (R : Data → X → Type 0) (ms : json.Members) (name : List ℕ) (x : X) → m ≤ n →
     (t : Member m R (json.object ms) name x) → Named n ms name t.told.value

@@ -12,12 +12,14 @@ use Rattle.serde_json.specs.Read.{of_items, number_of}
 use Rattle.serde_json.specs.View.{items_of}
 use Rattle.tpoint.specs.Coordinates.{InRange}
 use Rattle.tpoint.specs.Ids.{IsId}
+use Rattle.tpoint.specs.declared.interp.Interp.{Interp}
+use Rattle.tpoint.specs.Interps.{interp_name}
 use Rattle.mfjson.specs.Datetime.{ReadsAs}
 use Rattle.mfjson.specs.Document.{SaysInstant}
 use Rattle.mfjson.specs.Outline.{SaysThisId}
 use Rattle.mfjson.specs.Pairs.{Pairwise}
 use Rattle.mfjson.specs.Faults.{SaysCoordinate, SaysCoordinates}
-use Rattle.mfjson.specs.Tokens.{Told, Says, SaysEach, IsText, IsWhole, AreRead, IsReadEach}
+use Rattle.mfjson.specs.Tokens.{Told, Says, HasMember, SaysEach, IsText, IsWhole, AreRead, IsReadEach}
 
 -- ---- one value
 
@@ -60,11 +62,38 @@ pub says_so : {X Y : Type 0} (n : ℕ) (R : Data → X → Type 0) (S : Data →
 says_so {X} {Y} n R S ts x y so says =
     record { told = λ j begins. let t = says.told j begins in record { value = t.value; means = t.means; says = so t.value t.says } }
 
-pub id_answer : (o : Option (List ℕ)) (bytes text : List ℕ) (ts : List Token) → bytes ≡ text → (IsSome o → IsId bytes) → IfSome o (λ id. id ≡ bytes) →
-    Says 0 IsText ts text → IfSome o (λ id. Says 0 SaysThisId ts id)
-id_answer None bytes text ts same valid is says = tt
-id_answer (Some id) bytes text ts same valid is says =
-    says_so 0 IsText SaysThisId ts text id (λ d e. record { is_text = e ∙ ap string (sym (is ∙ same)); is_id = subst IsId (sym is) (valid refl) }) says
+-- the tokens of the member say it
+has_member : {X : Type 0} (n : ℕ) (R : Data → X → Type 0) (name : List ℕ) (ts here : List Token) (x : X) →
+    ((j : json.Json) → BeginsWith ts j → (k : json.Json) × (find.get name j ≡ Some k) × BeginsWith here k) → Says n R here x → HasMember n R name ts x
+has_member {X} n R name ts here x found says =
+    record { told = λ j begins. let at = found j begins in record { value = at.0; here = at.1; told = says.told at.0 at.2 } }
+
+pub member_answer : {X V : Type 0} (n : ℕ) (R : Data → X → Type 0) (name : List ℕ) (ts here : List Token) (o : Option V) (of : V → X) →
+    ((j : json.Json) → BeginsWith ts j → (k : json.Json) × (find.get name j ≡ Some k) × BeginsWith here k) →
+    IfSome o (λ v. Says n R here (of v)) → IfSome o (λ v. HasMember n R name ts (of v))
+member_answer {X} {V} n R name ts here None of found says = tt
+member_answer {X} {V} n R name ts here (Some v) of found says = has_member n R name ts here (of v) found says
+
+member_so : {X Y : Type 0} (n : ℕ) (R : Data → X → Type 0) (S : Data → Y → Type 0) (name : List ℕ) (ts : List Token) (x : X) (y : Y) →
+    ((d : Data) → R d x → S d y) → HasMember n R name ts x → HasMember n S name ts y
+member_so {X} {Y} n R S name ts x y so has =
+    record {
+      told = λ j begins.
+          let m = has.told j begins in
+          record { value = m.value; here = m.here; told = record { value = m.told.value; means = m.told.means; says = so m.told.value m.told.says } };
+    }
+
+pub id_answer : (o : Option (List ℕ)) (name bytes text : List ℕ) (ts : List Token) → bytes ≡ text → (IsSome o → IsId bytes) → IfSome o (λ id. id ≡ bytes) →
+    HasMember 0 IsText name ts text → IfSome o (λ id. HasMember 0 SaysThisId name ts id)
+id_answer None name bytes text ts same valid is has = tt
+id_answer (Some id) name bytes text ts same valid is has =
+    member_so 0 IsText SaysThisId name ts text id
+    (λ d e. record { is_text = e ∙ ap string (sym (is ∙ same)); is_id = subst IsId (sym is) (valid refl) }) has
+
+pub interp_answer : (o : Option Interp) (name text : List ℕ) (ts : List Token) → ((i : Interp) → (text ≡ interp_name i) ↔ (o ≡ Some i)) →
+    HasMember 0 IsText name ts text → IfSome o (λ i. HasMember 0 IsText name ts (interp_name i))
+interp_answer None name text ts reads has = tt
+interp_answer (Some i) name text ts reads has = subst (HasMember 0 IsText name ts) ((reads i).1 refl) has
 
 pub instant_answer : (o : Option ℕ) (bytes text : List ℕ) (ts : List Token) → bytes ≡ text → ((t : ℕ) → ReadsAs bytes t ↔ (o ≡ Some t)) →
     Says 0 IsText ts text → IfSome o (λ t. Says 0 SaysInstant ts t)

@@ -3,6 +3,7 @@ use Rattle.std.specs.Prelude.{◌≡◌, ℕ, ◌≤◌, ℤ, List, [], ◌∷�
 use Rattle.json.specs.Token.{Token}
 use Rattle.json.specs.Json as json
 use Rattle.json.specs.Tree as tree
+use Rattle.json.specs.Find as find
 use Rattle.json.specs.Find.{BeginsWith}
 use Rattle.json.specs.Strict.{keys}
 use Rattle.serde_json.specs.Data.{Data, Num, string, array}
@@ -30,6 +31,16 @@ pub record Told {X : Type 0} (n : ℕ) (R : Data → X → Type 0) (j : json.Jso
 -- the value that the tokens begin with says x
 pub record Says {X : Type 0} (n : ℕ) (R : Data → X → Type 0) (ts : List Token) (x : X) : Type 0 where
   pub told : (j : json.Json) → BeginsWith ts j → Told n R j x
+
+-- the member of that name, and what it says
+pub record Member {X : Type 0} (n : ℕ) (R : Data → X → Type 0) (j : json.Json) (name : List ℕ) (x : X) : Type 0 where
+  pub value : json.Json
+  pub here : find.get name j ≡ Some value
+  pub told : Told n R value x
+
+-- the member of that name, of the value that the tokens begin with, says x
+pub record HasMember {X : Type 0} (n : ℕ) (R : Data → X → Type 0) (name : List ℕ) (ts : List Token) (x : X) : Type 0 where
+  pub told : (j : json.Json) → BeginsWith ts j → Member n R j name x
 
 abbrev pub IsText : Data → List ℕ → Type 0
 IsText d text = d ≡ string text

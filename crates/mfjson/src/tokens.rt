@@ -2,14 +2,15 @@
 //!
 //! What this way doesn't read is left to the tree, which tells each fault: a member that comes twice is read there too.
 
-ghost use Rattle.std.specs.Prelude.{◌≡◌, ◌==◌, ◌<◌, length, slice_index, Some, IsTrue, IfSome};
+ghost use Rattle.std.specs.Prelude.{◌≡◌, ◌==◌, ◌<◌, codes, length, slice_index, Some, IsTrue, IfSome};
 ghost use Rattle.std.specs.Fn.{FnReturnsAt};
 ghost use Rattle.serde_json.specs.Read.{number_of};
+ghost use Rattle.tpoint.specs.Interps.{interp_name};
 ghost use Rattle.tpoint.specs.Moving.{IsValid};
 ghost use Rattle.mfjson.specs.Document.{IsDocumentOf, StandsFor, SaysInstant};
 ghost use Rattle.mfjson.specs.Faults.{SaysCoordinate, SaysCoordinates};
 ghost use Rattle.mfjson.specs.Outline.{SaysThisId, AreTogether};
-ghost use Rattle.mfjson.specs.Tokens.{Says, SaysEach, IsReadEach, SaysCourse, HasMembers, IsText, IsWhole};
+ghost use Rattle.mfjson.specs.Tokens.{Says, SaysEach, IsReadEach, SaysCourse, HasMember, HasMembers, IsText, IsWhole};
 
 use crate::reading::points_of;
 use crate::{Feature, datetime_read};
@@ -44,16 +45,24 @@ pub(crate) fn feature_of_tokens(alloc: Global, bytes: &[u8]) -> Option<Feature>
 fn feature_in(alloc: Global, root: &Element<'_, '_>) -> Option<Feature>
     ensures { IfSome result (λ f. Says 4 StandsFor root.now f) }
 {
-    if !has_members(root, 3) {
+    if !is_of_type(root, "Feature", 3) {
         return None;
     }
-    if text_in(&root.get("type")?)? != "Feature" {
-        return None;
-    }
-    let id = id_in(&root.get("id")?)?;
-    let course = course_in(alloc, &root.get("temporalGeometry")?)?;
+    let id = id_in(root)?;
+    let course = course_in(alloc, root)?;
     let seq = seq_of(alloc, &course)?;
     Some(Feature { id, seq })
+}
+
+/// Whether the value is an object of this type and so many members.
+fn is_of_type(value: &Element<'_, '_>, kind: &str, count: usize) -> bool
+    ensures members { IsTrue result → HasMembers count value.now }
+    ensures kind { IsTrue result → HasMember 0 IsText (codes "type") value.now kind.now }
+{
+    let Some(found) = text_at(value, "type") else {
+        return false;
+    };
+    found == kind && has_members(value, count)
 }
 
 /// Whether the value is an object of so many members.
@@ -81,11 +90,18 @@ fn text_in<'a>(value: &Element<'_, 'a>) -> Option<&'a str>
     value.as_str()
 }
 
-/// The id that the value is the text of.
-fn id_in(value: &Element<'_, '_>) -> Option<Id>
-    ensures { IfSome result (λ id. Says 0 SaysThisId value.now id) }
+/// The text that a member of the value is.
+fn text_at<'a>(value: &Element<'_, 'a>, name: &str) -> Option<&'a str>
+    ensures { IfSome result (λ text. HasMember 0 IsText name.now value.now text.now) }
 {
-    Id::new(text_in(value)?.as_bytes())
+    text_in(&value.get(name)?)
+}
+
+/// The id of a feature.
+fn id_in(root: &Element<'_, '_>) -> Option<Id>
+    ensures { IfSome result (λ id. HasMember 0 SaysThisId (codes "id") root.now id) }
+{
+    Id::new(text_at(root, "id")?.as_bytes())
 }
 
 /// The sequence of the points of a course.
@@ -105,24 +121,30 @@ fn seq_of(alloc: Global, course: &Course) -> Option<Seq>
     }
 }
 
-/// The course that the value says, as a geometry.
-fn course_in(alloc: Global, geometry: &Element<'_, '_>) -> Option<Course>
-    ensures { IfSome result (λ c. Says 3 (λ d _. SaysCourse d c.interp c.instants.items c.places.items) geometry.now c) }
+/// The course that a feature's geometry says.
+fn course_in(alloc: Global, root: &Element<'_, '_>) -> Option<Course>
+    ensures { IfSome result (λ c. HasMember 3 (λ d _. SaysCourse d c.interp c.instants.items c.places.items)
+        (codes "temporalGeometry") root.now c) }
 {
-    if !has_members(geometry, 4) {
+    let geometry = root.get("temporalGeometry")?;
+    if !is_of_type(&geometry, "MovingPoint", 4) {
         return None;
     }
-    if text_in(&geometry.get("type")?)? != "MovingPoint" {
-        return None;
-    }
-    let interp = Interp::from_name(text_in(&geometry.get("interpolation")?)?)?;
-    let instants = instants_in(alloc, &geometry.get("datetimes")?)?;
-    let places = places_in(alloc, &geometry.get("coordinates")?)?;
+    let interp = interp_in(&geometry)?;
+    let instants = instants_in(alloc, &geometry)?;
+    let places = places_in(alloc, &geometry)?;
     Some(Course {
         interp,
         instants,
         places,
     })
+}
+
+/// The interpolation of a geometry.
+fn interp_in(geometry: &Element<'_, '_>) -> Option<Interp>
+    ensures { IfSome result (λ i. HasMember 0 IsText (codes "interpolation") geometry.now (interp_name i)) }
+{
+    Interp::from_name(text_at(geometry, "interpolation")?)
 }
 
 /// What is read of the elements of an array, one after another.
@@ -145,11 +167,11 @@ fn each_in<T: Drop, F: Fn(&Element<'_, '_>) -> Option<T>>(
     Some(values)
 }
 
-/// The instants of an array of datetimes.
-fn instants_in(alloc: Global, list: &Element<'_, '_>) -> Option<Vec<Instant>>
-    ensures { IfSome result (λ ts. Says 1 (SaysEach SaysInstant) list.now ts.items) }
+/// The instants of a geometry's datetimes.
+fn instants_in(alloc: Global, geometry: &Element<'_, '_>) -> Option<Vec<Instant>>
+    ensures { IfSome result (λ ts. HasMember 1 (SaysEach SaysInstant) (codes "datetimes") geometry.now ts.items) }
 {
-    each_in(alloc, list, instant_in)
+    each_in(alloc, &geometry.get("datetimes")?, instant_in)
 }
 
 /// The instant that the value is a datetime of.
@@ -159,11 +181,11 @@ fn instant_in(value: &Element<'_, '_>) -> Option<Instant>
     datetime_read(text_in(value)?.as_bytes())
 }
 
-/// The x and the y of each element of an array.
-fn places_in(alloc: Global, list: &Element<'_, '_>) -> Option<Vec<(i64, i64)>>
-    ensures { IfSome result (λ cs. Says 2 (SaysEach SaysCoordinates) list.now cs.items) }
+/// The x and the y of each of a geometry's coordinates.
+fn places_in(alloc: Global, geometry: &Element<'_, '_>) -> Option<Vec<(i64, i64)>>
+    ensures { IfSome result (λ cs. HasMember 2 (SaysEach SaysCoordinates) (codes "coordinates") geometry.now cs.items) }
 {
-    each_in(alloc, list, place_in)
+    each_in(alloc, &geometry.get("coordinates")?, place_in)
 }
 
 /// The x and the y of an array of both.
