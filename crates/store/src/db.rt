@@ -1,6 +1,6 @@
 //! The database.
 
-ghost use Rattle.std.specs.Prelude.{◌≡◌, ◌+◌, ◌∷◌, ◌++◌, [], false, IsTrue, IsOk, IfOk, IfErr, OnOk, OnErr};
+ghost use Rattle.std.specs.Prelude.{◌≡◌, ◌+◌, ◌<◌, ◌∷◌, ◌++◌, [], false, length, IsTrue, IsOk, IfOk, IfErr, OnOk, OnErr};
 ghost use Rattle.std.specs.Option.{option_copied};
 ghost use Rattle.store.specs.Answers.{IsAnswer};
 ghost use Rattle.store.specs.Features.{IsDatabase, feature_of};
@@ -110,29 +110,47 @@ impl Db {
     {
         match self.place(id) {
             Ok(at) => {
-                let seq = seq.clone()?;
-                let span = seq.span();
-                self.features[at].set_seq(seq);
-                self.index.replace(at, span.begin(), span.end());
+                self.replace(at, id, seq)?;
                 Ok(Reply::Done)
             }
             Err(at) => {
                 if self.features.len() == MOST_FEATURES {
                     return Ok(Reply::TooMany);
                 }
-                // All that grows is grown before the features change.
-                self.features.try_reserve(1)?;
-                let span = seq.span();
-                let feature = Feature {
-                    id: *id,
-                    seq: seq.clone()?,
-                };
-                let held = Held::new(*self.features.allocator(), feature)?;
-                self.index.insert_at(at, *id, span.begin(), span.end())?;
-                self.features.insert(at, held)?;
+                self.add(at, id, seq)?;
                 Ok(Reply::Done)
             }
         }
+    }
+
+    /// Gives the feature at a place another sequence.
+    fn replace(&mut self, at: usize, id: &Id, seq: &Seq) -> Result<(), AllocError>
+        requires { IsAt self.old id.now at }
+        ensures effect { OnOk result (self.new ≡ effect self.old (Op.Put id.now seq.now)) }
+        ensures err { OnErr result (self.new ≡ self.old) }
+    {
+        let seq = seq.clone()?;
+        let span = seq.span();
+        self.features[at].set_seq(seq);
+        self.index.replace(at, span.begin(), span.end());
+        Ok(())
+    }
+
+    /// Puts a feature into the gap where it goes.
+    fn add(&mut self, at: usize, id: &Id, seq: &Seq) -> Result<(), AllocError>
+        requires gap { IsGap self.old id.now at }
+        requires room { length self.old < MOST_FEATURES }
+        ensures effect { OnOk result (self.new ≡ effect self.old (Op.Put id.now seq.now)) }
+        ensures err { OnErr result (self.new ≡ self.old) }
+    {
+        // All that grows is grown before the features change.
+        self.features.try_reserve(1)?;
+        let held = Held::new(*self.features.allocator(), *id, seq)?;
+        let span = seq.span();
+        self.index.insert_at(at, *id, span.begin(), span.end())?;
+        // It has its room, so nothing is refused.
+        let _ = self.features.insert(at, held);
+        Ok(())
     }
 
     fn append(&mut self, addition: &Addition) -> Result<Reply, AllocError>

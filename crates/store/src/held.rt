@@ -8,7 +8,7 @@ use crate::reply::Reply;
 use mfjson::Feature;
 use std::alloc::{AllocError, Global};
 use std::marker::Model;
-use tpoint::{AppendFault, Point, Seq};
+use tpoint::{AppendFault, Id, Point, Seq};
 
 /// A feature. It lies apart, so that little is moved where one makes room for another.
 #[derive(Debug, Drop)]
@@ -25,10 +25,12 @@ impl Model for Held {
 }
 
 impl Held {
-    pub fn new(alloc: Global, feature: Feature) -> Result<Held, AllocError>
-        ensures { IfOk result (λ held. held ≡ feature) }
+    /// The feature with this id and a copy of the sequence.
+    pub fn new(alloc: Global, id: Id, seq: &Seq) -> Result<Held, AllocError>
+        ensures { IfOk result (λ held. held ≡ record { id = id; seq = seq.now }) }
     {
-        let feature = Box::new(alloc, feature)?;
+        let seq = seq.clone()?;
+        let feature = Box::new(alloc, Feature { id, seq })?;
         Ok(Held { feature })
     }
 
