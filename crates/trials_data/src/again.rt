@@ -4,80 +4,79 @@
 //! refused, from the first on (`rt try --test --fail-alloc N`): whatever is refused before the calls ends a test
 //! for want of memory, and no test may end in another way.
 
+use crate::ways::{id, period, point, way};
 use mfjson::{Feature, MfFault, read, write};
-use restrict::cut;
+use restrict::{Cut, cut};
 use sessions::{Command, Machine, Number, Request};
 use std::alloc::{AllocError, Global};
 use std::process::Abort;
 use std::test::Fail;
 use store::{Db, Op, Query};
 use timeindex::TimeIndex;
-use tpoint::{AppendFault, Id, Instant, Interp, Period, Point, Seq};
-
-fn id() -> Result<Id, Fail> {
-    Ok(Id::new(b"a").ok_or("an id")?)
-}
-
-fn instant(ms: i64) -> Result<Instant, Fail> {
-    Ok(Instant::new(ms).ok_or("an instant")?)
-}
-
-/// Where the feature a is at an instant: as far as there are milliseconds.
-fn point(ms: i64) -> Result<Point, Fail> {
-    let t = instant(ms)?;
-    Ok(Point { t, x: ms, y: 0 })
-}
-
-/// Its way from 0 to 2.
-fn seq(alloc: Global) -> Result<Seq, Fail> {
-    let mut points = Vec::with_capacity(alloc, 2)?;
-    for ms in [0, 2] {
-        points.push(point(ms)?)?;
-    }
-    Ok(Seq::new(Interp::Linear, points)?)
-}
-
-/// The feature a.
-fn feature(alloc: Global) -> Result<Feature, Fail> {
-    let id = id()?;
-    let seq = seq(alloc)?;
-    Ok(Feature { id, seq })
-}
+use tpoint::{AppendFault, Id, Instant, Period, Point, Seq};
 
 fn put(alloc: Global) -> Result<Op, Fail> {
-    Ok(Op::Put(id()?, seq(alloc)?))
+    let id = id().ok_or("an id")?;
+    Ok(Op::Put(id, way(alloc, 2)?))
+}
+
+fn added() -> Option<Op> {
+    Op::append(id()?, point(3)?)
 }
 
 fn append() -> Result<Op, Fail> {
-    Ok(Op::append(id()?, point(3)?).ok_or("an operation")?)
+    Ok(added().ok_or("an operation")?)
 }
 
-/// Where the feature a is at 3 ms, as the database says.
-fn place(alloc: Global, db: &Db) -> Result<Vec<u8>, Fail> {
-    let query = Query::At(id()?, instant(3)?);
-    match db.answer(alloc, &query) {
+fn remove() -> Result<Op, Fail> {
+    Ok(Op::Remove(id().ok_or("an id")?))
+}
+
+/// Asks where the feature a is at 3 ms.
+fn place() -> Option<Query> {
+    Some(Query::At(id()?, Instant::new(3)?))
+}
+
+/// Whether an answer is this text.
+fn is_text(answer: Vec<u8>, text: &str) -> bool {
+    answer.as_slice() == text.as_bytes()
+}
+
+/// What the database answers.
+fn told(alloc: Global, db: &Db, query: &Query) -> Result<Vec<u8>, AllocError> {
+    match db.answer(alloc, query) {
         Ok(text) => Ok(text),
-        Err(_) => Ok(db.answer(alloc, &query)?),
+        Err(_) => db.answer(alloc, query),
     }
 }
 
-/// Applies an operation, before and after which the feature a is here and there.
+/// Whether the feature a is there at 3 ms, as the database says.
+fn is_there(alloc: Global, db: &Db, there: &str) -> Result<bool, Fail> {
+    let query = place().ok_or("a query")?;
+    Ok(is_text(told(alloc, db, &query)?, there))
+}
+
+/// Applies an operation: whether the feature a is here before a second try, and there after it.
+fn is_applied(alloc: Global, db: &mut Db, op: &Op, here: &str, there: &str) -> Result<bool, Fail> {
+    if db.apply(op).is_err() {
+        if !is_there(alloc, db, here)? {
+            return Ok(false);
+        }
+        let _reply = db.apply(op)?;
+    }
+    is_there(alloc, db, there)
+}
+
+/// The same, which has to be so.
 fn applies(
     rt: &impl Abort,
     alloc: Global,
     db: &mut Db,
-    op: &Op,
-    before: &str,
-    after: &str,
+    op: Op,
+    here: &str,
+    there: &str,
 ) -> Result<(), Fail> {
-    if db.apply(op).is_err() {
-        assert!(rt;
-            place(alloc, db)?.as_slice() == before.as_bytes(),
-            "{before}"
-        );
-        let _reply = db.apply(op)?;
-    }
-    assert!(rt; place(alloc, db)?.as_slice() == after.as_bytes(), "{after}");
+    assert!(rt; is_applied(alloc, db, &op, here, there)?, "{there}");
     Ok(())
 }
 
@@ -89,47 +88,71 @@ fn operations(rt: HostRuntime) -> Result<(), Fail> {
 
 /// The feature a is put, appended to and removed.
 fn are_applied(rt: &impl Abort, alloc: Global, db: &mut Db) -> Result<(), Fail> {
-    applies(rt, alloc, db, &put(alloc)?, "absent", "at none")?;
-    applies(rt, alloc, db, &append()?, "at none", "at 3 0")?;
-    applies(rt, alloc, db, &Op::Remove(id()?), "at 3 0", "absent")
+    applies(rt, alloc, db, put(alloc)?, "absent", "at none")?;
+    applies(rt, alloc, db, append()?, "at none", "at 3 0")?;
+    applies(rt, alloc, db, remove()?, "at 3 0", "absent")
 }
 
-/// What the machine answers where the feature a is at 3 ms.
-fn answer(alloc: Global, machine: &Machine) -> Result<Vec<u8>, Fail> {
-    let query = Query::At(id()?, instant(3)?);
-    match machine.answer(alloc, &query) {
+/// What the machine answers.
+fn answer(alloc: Global, machine: &Machine, query: &Query) -> Result<Vec<u8>, AllocError> {
+    match machine.answer(alloc, query) {
         Ok(text) => Ok(text),
-        Err(_) => Ok(machine.answer(alloc, &query)?),
+        Err(_) => machine.answer(alloc, query),
     }
 }
 
-/// Executes a request of client 7, before and after which the feature a is here and there.
+/// Whether the feature a is there at 3 ms, as the machine says.
+fn is_answered(alloc: Global, machine: &Machine, there: &str) -> Result<bool, Fail> {
+    let query = place().ok_or("a query")?;
+    Ok(is_text(answer(alloc, machine, &query)?, there))
+}
+
+/// Executes a command: whether the feature a is here before a second try, and there after it.
+fn is_executed(
+    alloc: Global,
+    machine: &mut Machine,
+    command: &Command,
+    here: &str,
+    there: &str,
+) -> Result<bool, Fail> {
+    if machine.execute(command).is_err() {
+        if !is_answered(alloc, machine, here)? {
+            return Ok(false);
+        }
+        let _outcome = machine.execute(command)?;
+    }
+    is_answered(alloc, machine, there)
+}
+
+/// The same, which has to be so, of a request of client 7.
 fn executes(
     rt: &impl Abort,
     alloc: Global,
     machine: &mut Machine,
     request: Request,
-    before: &str,
-    after: &str,
+    here: &str,
+    there: &str,
 ) -> Result<(), Fail> {
     let command = Command::Request(request);
-    if machine.execute(&command).is_err() {
-        assert!(rt;
-            answer(alloc, machine)?.as_slice() == before.as_bytes(),
-            "{before}"
-        );
-        let _outcome = machine.execute(&command)?;
-    }
     assert!(rt;
-        answer(alloc, machine)?.as_slice() == after.as_bytes(),
-        "{after}"
+        is_executed(alloc, machine, &command, here, there)?,
+        "{there}"
     );
     Ok(())
 }
 
-fn request(number: u64, op: Op) -> Result<Request, Fail> {
-    let number = Number::new(number).ok_or("a number")?;
-    Ok(Request::new(7, number, op)?)
+fn number(value: u64) -> Result<Number, Fail> {
+    Ok(Number::new(value).ok_or("a number")?)
+}
+
+fn first(alloc: Global) -> Result<Request, Fail> {
+    let number = number(1)?;
+    Ok(Request::new(7, number, put(alloc)?)?)
+}
+
+fn second() -> Result<Request, Fail> {
+    let number = number(2)?;
+    Ok(Request::new(7, number, append()?)?)
 }
 
 #[test]
@@ -140,92 +163,144 @@ fn requests(rt: HostRuntime) -> Result<(), Fail> {
 
 /// The client asks for two operations.
 fn are_executed(rt: &impl Abort, alloc: Global, machine: &mut Machine) -> Result<(), Fail> {
-    let first = request(1, put(alloc)?)?;
-    executes(rt, alloc, machine, first, "absent", "at none")?;
-    let second = request(2, append()?)?;
-    executes(rt, alloc, machine, second, "at none", "at 3 0")
+    executes(rt, alloc, machine, first(alloc)?, "absent", "at none")?;
+    executes(rt, alloc, machine, second()?, "at none", "at 3 0")
+}
+
+fn feature(alloc: Global) -> Result<Feature, Fail> {
+    let id = id().ok_or("an id")?;
+    let seq = way(alloc, 2)?;
+    Ok(Feature { id, seq })
 }
 
 /// The document of the feature.
-fn document(alloc: Global, feature: &Feature) -> Result<Vec<u8>, Fail> {
+fn document(alloc: Global, feature: &Feature) -> Result<Vec<u8>, AllocError> {
     match write(alloc, feature) {
         Ok(text) => Ok(text),
-        Err(_) => Ok(write(alloc, feature)?),
+        Err(_) => write(alloc, feature),
     }
 }
 
 /// The feature of the document.
-fn read_of(alloc: Global, document: &[u8]) -> Result<Feature, Fail> {
+fn read_of(alloc: Global, document: &[u8]) -> Result<Feature, MfFault> {
     match read(alloc, document) {
-        Err(MfFault::Memory) => Ok(read(alloc, document)?),
-        told => Ok(told?),
+        Err(MfFault::Memory) => read(alloc, document),
+        told => told,
     }
+}
+
+/// Whether the bytes are a document of the feature.
+fn is_document(alloc: Global, bytes: &[u8], feature: &Feature) -> Result<bool, MfFault> {
+    let read = read_of(alloc, bytes)?;
+    Ok(read == *feature)
+}
+
+/// Whether the feature is written as a document of it.
+fn is_written(alloc: Global, feature: Feature) -> Result<bool, Fail> {
+    let text = document(alloc, &feature)?;
+    Ok(is_document(alloc, text.as_slice(), &feature)?)
 }
 
 #[test]
 fn documents(rt: HostRuntime) -> Result<(), Fail> {
-    let feature = feature(rt.alloc())?;
-    let text = document(rt.alloc(), &feature)?;
-    let read = read_of(rt.alloc(), text.as_slice())?;
-    assert!(rt; read == feature);
+    assert!(rt; is_written(rt.alloc(), feature(rt.alloc())?)?);
     Ok(())
+}
+
+/// The cut of a sequence.
+fn cut_of(alloc: Global, seq: &Seq, period: &Period) -> Result<Option<Cut>, AllocError> {
+    match cut(alloc, seq, period) {
+        Ok(found) => Ok(found),
+        Err(_) => cut(alloc, seq, period),
+    }
+}
+
+/// How many points there are in a cut, where there is one.
+fn length(found: Option<Cut>) -> Option<usize> {
+    match found {
+        Some(cut) => Some(cut.points.len()),
+        None => None,
+    }
+}
+
+/// How many points the cut of a sequence has.
+fn cut_length(alloc: Global, seq: Seq, period: &Period) -> Result<Option<usize>, AllocError> {
+    Ok(length(cut_of(alloc, &seq, period)?))
 }
 
 #[test]
 fn cuts(rt: HostRuntime) -> Result<(), Fail> {
-    let seq = seq(rt.alloc())?;
-    assert!(rt; cut_length(rt.alloc(), &seq, &period(1, 2)?)? == 2);
+    let period = period(1, 2).ok_or("a period")?;
+    let found = cut_length(rt.alloc(), way(rt.alloc(), 2)?, &period)?;
+    assert!(rt; found == Some(2));
     Ok(())
 }
 
-fn period(begin: i64, end: i64) -> Result<Period, Fail> {
-    Ok(Period::new(instant(begin)?, instant(end)?).ok_or("a period")?)
+/// Appends a point to a sequence that is as before, also before a second try.
+fn appends_again(seq: &mut Seq, next: &Point, before: Seq) -> bool {
+    match seq.append(*next) {
+        Err(AppendFault::Memory) => *seq == before && seq.append(*next) == Ok(()),
+        told => told == Ok(()),
+    }
 }
 
-/// How many points the cut of a sequence has.
-fn cut_length(alloc: Global, seq: &Seq, period: &Period) -> Result<usize, Fail> {
-    let found = match cut(alloc, seq, period) {
-        Ok(found) => found,
-        Err(_) => cut(alloc, seq, period)?,
-    };
-    Ok(found.ok_or("a cut")?.points.len())
+/// Whether a sequence has three points, and the last is at 3.
+fn ends_at_three(seq: &Seq) -> bool {
+    seq.points().len() == 3 && seq.points()[2].x == 3
+}
+
+/// Whether a sequence takes a point.
+fn is_appended(mut seq: Seq, next: &Point) -> Result<bool, AllocError> {
+    let before = seq.clone()?;
+    Ok(appends_again(&mut seq, next, before) && ends_at_three(&seq))
 }
 
 #[test]
 fn appends(rt: HostRuntime) -> Result<(), Fail> {
-    let next = point(3)?;
-    let mut seq = seq(rt.alloc())?;
-    let before = seq.clone()?;
-    let mut answer = seq.append(next);
-    if answer == Err(AppendFault::Memory) {
-        assert!(rt; seq == before);
-        answer = seq.append(next);
-    }
-    assert_eq!(rt; answer, Ok(()));
-    assert!(rt; seq.points().len() == 3 && seq.points()[2].x == 3);
+    let next = point(3).ok_or("a point")?;
+    assert!(rt; is_appended(way(rt.alloc(), 2)?, &next)?);
     Ok(())
+}
+
+/// Puts an entry into the index, where it isn't before a second try.
+fn is_inserted(index: &mut TimeIndex, bus: Id) -> bool {
+    let (Some(first), Some(last)) = (Instant::new(1), Instant::new(2)) else {
+        return false;
+    };
+    match index.insert(bus, first, last) {
+        Ok(()) => true,
+        Err(_) => !index.remove(&bus) && index.insert(bus, first, last).is_ok(),
+    }
+}
+
+/// What overlaps a period.
+fn overlapping(alloc: Global, index: &TimeIndex, period: &Period) -> Result<Vec<Id>, AllocError> {
+    match index.overlapping(alloc, period) {
+        Ok(ids) => Ok(ids),
+        Err(_) => index.overlapping(alloc, period),
+    }
+}
+
+/// Whether there is no other id.
+fn is_all(ids: Vec<Id>, bus: Id) -> bool {
+    ids.len() == 1 && ids[0] == bus
+}
+
+/// Whether an entry that is put into the index is all that overlaps a later period, and is taken out again.
+fn is_found(alloc: Global, index: &mut TimeIndex) -> Result<bool, Fail> {
+    let bus = id().ok_or("an id")?;
+    let asked = period(2, 3).ok_or("a period")?;
+    let found = is_inserted(index, bus) && is_all(overlapping(alloc, index, &asked)?, bus);
+    Ok(found && index.remove(&bus))
+}
+
+fn are_entries_found(alloc: Global) -> Result<bool, Fail> {
+    let mut index = TimeIndex::new(alloc);
+    is_found(alloc, &mut index)
 }
 
 #[test]
 fn entries(rt: HostRuntime) -> Result<(), Fail> {
-    let mut index = TimeIndex::new(rt.alloc());
-    asks_again(&rt, rt.alloc(), &mut index, id()?)
-}
-
-/// An entry is put into the index, and what overlaps a period is asked.
-fn asks_again(rt: &impl Abort, alloc: Global, index: &mut TimeIndex, bus: Id) -> Result<(), Fail> {
-    let (first, last) = (instant(1)?, instant(2)?);
-    let span = period(2, 3)?;
-    let mut answer = index.insert(bus, first, last);
-    if answer == Err(AllocError) {
-        assert!(rt; !index.remove(&bus));
-        answer = index.insert(bus, first, last);
-    }
-    assert!(rt; answer.is_ok());
-    let ids = match index.overlapping(alloc, &span) {
-        Ok(ids) => ids,
-        Err(_) => index.overlapping(alloc, &span)?,
-    };
-    assert!(rt; ids.len() == 1 && ids[0] == bus && index.remove(&bus));
+    assert!(rt; are_entries_found(rt.alloc())?);
     Ok(())
 }

@@ -1,36 +1,33 @@
 //! The copy of a cut. Cuts that were worked out by hand are the example `ways_cut`.
 
+use crate::ways::{period, way};
 use restrict::{Cut, cut};
-use std::alloc::Global;
+use std::alloc::{AllocError, Global};
 use std::test::Fail;
-use tpoint::{Instant, Interp, Period, Point, Seq};
+
+/// Whether a cut has two points, and its copy is the same cut.
+fn is_copied(cut: &Cut) -> Result<bool, AllocError> {
+    let copy = cut.clone()?;
+    Ok(copy == *cut && copy.points.len() == 2)
+}
+
+/// The same, of what is found: whether it is a cut at all.
+fn is_cut(found: Option<Cut>) -> Result<bool, AllocError> {
+    match found {
+        Some(cut) => is_copied(&cut),
+        None => Ok(false),
+    }
+}
 
 /// The first two milliseconds of a way from 0 to 2, of which it goes on to 4.
 fn begun(alloc: Global) -> Result<Option<Cut>, Fail> {
-    let mut points = Vec::with_capacity(alloc, 2)?;
-    for ms in [0, 4] {
-        let t = Instant::new(ms).ok_or("an instant")?;
-        points.push(Point { t, x: ms, y: 0 })?;
-    }
-    let seq = Seq::new(Interp::Linear, points)?;
-    Ok(cut(alloc, &seq, &first_two()?)?)
-}
-
-fn first_two() -> Result<Period, Fail> {
-    let begin = Instant::new(0).ok_or("begin")?;
-    let end = Instant::new(2).ok_or("end")?;
-    Ok(Period::new(begin, end).ok_or("a period")?)
-}
-
-/// Whether the copy of a cut is the same cut.
-fn is_copied(cut: &Cut) -> Result<bool, Fail> {
-    let copy = cut.clone()?;
-    Ok(copy == *cut)
+    let first_two = period(0, 2).ok_or("a period")?;
+    let way = way(alloc, 4)?;
+    Ok(cut(alloc, &way, &first_two)?)
 }
 
 #[test]
 fn copies(rt: HostRuntime) -> Result<(), Fail> {
-    let cut = begun(rt.alloc())?.ok_or("a cut")?;
-    assert!(rt; cut.points.len() == 2 && is_copied(&cut)?);
+    assert!(rt; is_cut(begun(rt.alloc())?)?);
     Ok(())
 }

@@ -53,9 +53,13 @@ Z\n\
 
 #[test]
 fn datetimes(rt: HostRuntime) {
-    for (text, ms) in READ {
+    for &(text, ms) in &READ {
         assert!(rt; is_read_and_written(text, ms), "{text}");
     }
+}
+
+#[test]
+fn texts_of_no_datetime(rt: HostRuntime) {
     for text in REFUSED.split('\n') {
         assert!(rt; datetime_read(text.as_bytes()).is_none(), "{text}");
     }
@@ -101,7 +105,7 @@ const FAULTS: [(MfFault, &str); 13] = [
 
 #[test]
 fn faults_as_texts(rt: HostRuntime) -> Result<(), Fail> {
-    for (fault, want) in FAULTS {
+    for &(fault, want) in &FAULTS {
         assert!(rt; is_written(rt.alloc(), fault, want)?, "{want}");
     }
     Ok(())

@@ -18,3 +18,5 @@ mod profile;
 mod requests;
 #[cfg(test)]
 mod values;
+#[cfg(test)]
+mod ways;

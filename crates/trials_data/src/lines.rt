@@ -23,9 +23,14 @@ const WIDE: [(i128, &str); 8] = [
 
 #[test]
 fn wide_numbers(rt: HostRuntime) {
-    for (n, want) in WIDE {
-        let mut line = [0; LONGEST_WIDE];
-        let start = write_wide(n, &mut line, LONGEST_WIDE);
-        assert_eq!(rt; &line[start..], want.as_bytes());
+    for &(n, want) in &WIDE {
+        assert!(rt; is_written(n, want), "{want}");
     }
+}
+
+/// Whether a number is written so.
+fn is_written(n: i128, want: &str) -> bool {
+    let mut line = [0; LONGEST_WIDE];
+    let start = write_wide(n, &mut line, LONGEST_WIDE);
+    &line[start..] == want.as_bytes()
 }

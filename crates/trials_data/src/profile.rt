@@ -1,7 +1,7 @@
 //! Documents and their faults, written from RFC 8259, RFC 3339 and the profile of moving points.
 
 use mfjson::{Feature, MfFault, datetime_text, read, write};
-use std::alloc::Global;
+use std::alloc::{AllocError, Global};
 use std::test::Fail;
 use tpoint::{Instant, Interp, Point};
 
@@ -129,13 +129,22 @@ const NESTED: [(usize, &str); 3] = [(1, "Members"), (127, "Members"), (128, "Not
 
 #[test]
 fn deep_nesting(rt: HostRuntime) -> Result<(), Fail> {
-    for (depth, fault) in NESTED {
-        let mut text = Vec::new(rt.alloc());
-        text.resize(depth, b'[')?;
-        text.resize(2 * depth, b']')?;
-        assert!(rt; has_fault(rt.alloc(), text.as_slice(), fault)?, "{depth}");
+    for &(depth, fault) in &NESTED {
+        assert!(rt; is_nested(rt.alloc(), depth, fault)?, "{depth}");
     }
     Ok(())
+}
+
+/// Whether so many arrays in each other have this fault.
+fn is_nested(alloc: Global, depth: usize, fault: &str) -> Result<bool, Fail> {
+    let mut text = Vec::new(alloc);
+    nest(&mut text, depth)?;
+    has_fault(alloc, text.as_slice(), fault)
+}
+
+fn nest(text: &mut Vec<u8>, depth: usize) -> Result<(), AllocError> {
+    text.resize(depth, b'[')?;
+    text.resize(2 * depth, b']')
 }
 
 // Each line of the tables that follow: the fault, and one or two texts that stand in a document.
@@ -257,7 +266,7 @@ const FRAMES: [(&str, &str, &str, &str); 3] = [
 
 #[test]
 fn first_faults(rt: HostRuntime) -> Result<(), Fail> {
-    for (table, before, between, behind) in FRAMES {
+    for &(table, before, between, behind) in &FRAMES {
         for row in table.lines() {
             assert!(rt; is_told(rt.alloc(), row, before, between, behind)?, "{row}");
         }
@@ -290,14 +299,14 @@ fn document_of(
     Ok(format!(in alloc; "{before}{first}{between}{second}{behind}")?)
 }
 
-/// A document of so many points, at the instants 0, 1, 2 and so on.
-fn long_document(alloc: Global, count: i64) -> Result<Vec<u8>, Fail> {
+/// Whether a document of so many points, at the instants 0, 1, 2 and so on, has this fault.
+fn is_long(alloc: Global, count: i64, fault: &str) -> Result<bool, Fail> {
     let mut text = Vec::new(alloc);
     write_long(&mut text, count)?;
-    Ok(text)
+    has_fault(alloc, text.as_slice(), fault)
 }
 
-fn write_long(text: &mut Vec<u8>, count: i64) -> Result<(), Fail> {
+fn write_long(text: &mut Vec<u8>, count: i64) -> Result<(), AllocError> {
     text.extend_from_slice(
         br#"{"type":"Feature","id":"a","temporalGeometry":{"type":"MovingPoint","interpolation":"Discrete","coordinates":["#,
     )?;
@@ -305,25 +314,23 @@ fn write_long(text: &mut Vec<u8>, count: i64) -> Result<(), Fail> {
         text.extend_from_slice(if i == 0 { b"[0,0]" } else { b",[0,0]" })?;
     }
     text.extend_from_slice(br#"],"datetimes":["#)?;
-    write_datetimes(text, count)?;
-    Ok(text.extend_from_slice(b"]}}")?)
+    for i in 0..count {
+        write_datetime(text, i)?;
+    }
+    text.extend_from_slice(b"]}}")
 }
 
-fn write_datetimes(text: &mut Vec<u8>, count: i64) -> Result<(), Fail> {
-    for i in 0..count {
-        let t = Instant::new(i).ok_or("an instant")?;
-        text.extend_from_slice(if i == 0 { b"\"" } else { b",\"" })?;
+fn write_datetime(text: &mut Vec<u8>, i: i64) -> Result<(), AllocError> {
+    text.extend_from_slice(if i == 0 { b"\"" } else { b",\"" })?;
+    if let Some(t) = Instant::new(i) {
         text.extend_from_slice(datetime_text(t).as_slice())?;
-        text.push(b'"')?;
     }
-    Ok(())
+    text.extend_from_slice(b"\"")
 }
 
 #[test]
 fn as_many_points_as_a_feature_may_have(rt: HostRuntime) -> Result<(), Fail> {
-    for (count, fault) in [(1024, "ok"), (1025, "TooMany")] {
-        let text = long_document(rt.alloc(), count)?;
-        assert!(rt; has_fault(rt.alloc(), text.as_slice(), fault)?, "{count}");
-    }
+    assert!(rt; is_long(rt.alloc(), 1024, "ok")?);
+    assert!(rt; is_long(rt.alloc(), 1025, "TooMany")?);
     Ok(())
 }

@@ -1,6 +1,7 @@
 //! The longest request, its copies, and what is told of a longer one. Replies that were worked out by hand are the example
 //! `requests_of_clients`.
 
+use crate::values::is_written;
 use sessions::{Command, MOST_PUT_POINTS, Number, Request, TooLong};
 use std::alloc::Global;
 use std::test::Fail;
@@ -34,7 +35,11 @@ fn longest_requests(rt: HostRuntime) -> Result<(), Fail> {
     assert!(rt; is_copied(put(rt.alloc(), most)?)?);
     assert!(rt; !is_copied(put(rt.alloc(), most + 1)?)?);
     assert!(rt;
-        format!(in rt.alloc(); "{TooLong}")?.as_str() == "the sequence has more than 512 instants"
+        is_written(
+            rt.alloc(),
+            TooLong,
+            "the sequence has more than 512 instants"
+        )?
     );
     Ok(())
 }

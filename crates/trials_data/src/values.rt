@@ -13,20 +13,32 @@ fn lent<T: AsStr>(value: &T) -> &str {
     value.as_str()
 }
 
+fn id(text: &str) -> Result<Id, Fail> {
+    Ok(Id::new(text.as_bytes()).ok_or("an id")?)
+}
+
+/// Whether a text is the text of its id.
+fn is_text_of_id(alloc: Global, text: &str) -> Result<bool, Fail> {
+    let id = id(text)?;
+    Ok(lent(&id) == text && is_written(alloc, id, text)?)
+}
+
+/// Whether a set has one key and not the other, once the one is put into it twice.
+fn are_keys(alloc: Global, one: Id, other: Id) -> Result<bool, Fail> {
+    let mut seen = HashSet::new(alloc);
+    Ok(is_new_once(&mut seen, one)? && seen.contains(&one) && !seen.contains(&other))
+}
+
+fn is_new_once(seen: &mut HashSet<Id>, key: Id) -> Result<bool, Fail> {
+    Ok(seen.insert(key)? && !seen.insert(key)?)
+}
+
 #[test]
 fn ids_as_texts_and_keys(rt: HostRuntime) -> Result<(), Fail> {
-    let seven = Id::new(b"bus-7").ok_or("bus-7")?;
-    let ten = Id::new(b"bus-10").ok_or("bus-10")?;
-    assert_eq!(rt;
-        format!(in rt.alloc(); "{seven} {ten}")?.as_str(),
-        "bus-7 bus-10"
-    );
-    assert_eq!(rt; lent(&ten), "bus-10");
-
-    let mut seen = HashSet::new(rt.alloc());
-    assert!(rt; seen.insert(seven)?);
-    assert!(rt; !seen.insert(seven)?);
-    assert!(rt; seen.contains(&seven) && !seen.contains(&ten));
+    for text in ["bus-7", "bus-10"] {
+        assert!(rt; is_text_of_id(rt.alloc(), text)?, "{text}");
+    }
+    assert!(rt; are_keys(rt.alloc(), id("bus-7")?, id("bus-10")?)?);
     Ok(())
 }
 
@@ -42,7 +54,7 @@ const FAULTS: [(SeqFault, &str); 4] = [
 
 #[test]
 fn faults_as_texts(rt: HostRuntime) -> Result<(), Fail> {
-    for (fault, want) in FAULTS {
+    for &(fault, want) in &FAULTS {
         assert!(rt; is_written(rt.alloc(), fault, want)?, "{want}");
     }
     Ok(())
@@ -66,7 +78,7 @@ const APPEND_FAULTS: [(AppendFault, &str); 4] = [
 
 #[test]
 fn append_faults_as_texts(rt: HostRuntime) -> Result<(), Fail> {
-    for (fault, want) in APPEND_FAULTS {
+    for &(fault, want) in &APPEND_FAULTS {
         assert!(rt; is_written(rt.alloc(), fault, want)?, "{want}");
     }
     Ok(())
