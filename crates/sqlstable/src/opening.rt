@@ -1,6 +1,6 @@
 //! Opening a storage.
 
-ghost use Rattle.std.specs.Prelude.{◌≡◌, [], IfOk, OnOk, IsErrOf};
+ghost use Rattle.std.specs.Prelude.{◌≡◌, [], Ok, IfOk, OnOk, IsErrOf};
 ghost use Rattle.sqlite.specs.Held.{state};
 ghost use Rattle.sqlstable.specs.States.{IsSound, IsUsable, table};
 ghost use Rattle.sqlstable.specs.Files.{FindsTable};
@@ -12,7 +12,9 @@ use crate::schema::{is_blank, is_ours};
 use crate::statements::create;
 use crate::storage::SqlStable;
 use crate::survey::survey;
-use sqlite::{Alter, Connection, File, FileFrom, FileStore, MemStore, Start, Unknown};
+use sqlite::{
+    Alter, Connection, Error, File, FileFrom, FileStore, Leftover, MemStore, Start, Unknown,
+};
 use sqlite_disk::Disk;
 use stable::StableFault;
 use std::alloc::Global;
@@ -61,8 +63,7 @@ impl<F: Start> SqlStable<FileStore<FileFrom<F>>> {
         ensures unfailed { IfOk result (IsUnfailed over_files) }
         ensures not_damaged { ¬ IsErrOf result StableFault.Damaged }
     {
-        let connection = or_fault(Connection::open_from(rt, path, false, start))?;
-        SqlStable::in_files(connection)
+        SqlStable::opened(Connection::open_from(rt, path, false, start))
     }
 }
 
@@ -79,6 +80,20 @@ impl<D: Disk + Drop> SqlStable<FileStore<D>> {
         ensures not_damaged { ¬ IsErrOf result StableFault.Damaged }
     {
         SqlStable::over(connection)
+    }
+
+    // The storage in the database that an open gave. What it left besides an error is dropped.
+    fn opened(
+        outcome: Result<Connection<FileStore<D>>, (Error, Option<Leftover<D>>)>,
+    ) -> Result<SqlStable<FileStore<D>>, StableFault>
+        ensures found { IfOk result (λ s. IsSqlHonest over_files s
+            → (connection : _) × (outcome ≡ Ok connection)
+            × FindsTable (state over_files connection) (rows_of over_files s)) }
+        ensures unfailed { IfOk result (IsUnfailed over_files) }
+        ensures not_damaged { ¬ IsErrOf result StableFault.Damaged }
+    {
+        let connection = or_fault(outcome)?;
+        SqlStable::in_files(connection)
     }
 }
 

@@ -5,8 +5,8 @@ use Rattle.sqlstable.proofs.FoundLemmas.{at_ok, if_ok, those_held}
 use Rattle.sqlstable.proofs.opening.SqlStable+FileStore+FileFrom+F.open_from.Goals as goal
 
 pub returns-clause-found : goal.returns-clause-found
-returns-clause-found g c = if_ok c.in_files.result c.in_files.ensures.found (λ s finds honest.
-    let clean = (finds honest).was_clean in
-    let is = c.in_ok-connection.ensures.given in
-    those_held (image_at g.F.Start) (file_state c.in_ok-connection.connection) (rows_of over_files s)
-    (at_ok _ _ _ is c.open_from.ensures.opened clean).0 (at_ok _ _ _ is c.open_from.ensures.found clean).holds (finds honest))
+returns-clause-found g c = if_ok c.opened.result c.opened.ensures.found (λ s found honest.
+    let there = found honest in
+    let clean = there.2.was_clean in
+    those_held (image_at g.F.Start) (file_state there.0) (rows_of over_files s)
+    (at_ok _ _ _ there.1 c.open_from.ensures.opened clean).0 (at_ok _ _ _ there.1 c.open_from.ensures.found clean).holds there.2)

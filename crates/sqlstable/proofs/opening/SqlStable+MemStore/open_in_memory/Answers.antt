@@ -15,3 +15,7 @@ returns-in-Ok-clause-honest c = record {
 pub returns-in-Ok-clause-empty : goal.returns-in-Ok-clause-empty
 returns-in-Ok-clause-empty c = ap (λ held. table (state over_memory held)) c.holding.ensures.connection
     ∙ (c.in-Ok.ensures.made (memory_is_clean c.create.new.connection)).1
+
+-- the new table is settled
+pub holding-requires : goal.holding-requires
+holding-requires c = ∣ (λ clean is_open. (c.in-Ok.ensures.made clean).0) ∣₁
