@@ -17,13 +17,13 @@ ghost use Rattle.acceptor.specs.Spelling.{ballot_bytes, vote_bytes};
 
 use super::answer::Answer;
 use super::cast::Cast;
-use super::records::{promised, voted};
+use super::records::{promised, voted, write_promise};
 use super::votes::Votes;
 use sessions::Command;
 use stable::{Key, Stable, StableFault};
 use std::alloc::{AllocError, Global};
 use synod::{Ballot, Slot, Vote};
-use wire::{Held, Nack, ballot_record};
+use wire::{Held, Nack};
 
 /// What one node has promised, and what it has voted for at each slot.
 ///
@@ -184,7 +184,7 @@ impl Acceptor {
         }
         let promise = self.votes.promise(alloc, ballot, first)?;
         if self.promise != Some(ballot) {
-            storage.put(alloc, Key::Promise, ballot_record(ballot).to_vec(alloc)?)?;
+            write_promise(alloc, storage, ballot)?;
         }
         self.promise = Some(ballot);
         Ok(Answer::Promise(promise))

@@ -1,4 +1,4 @@
-//! From a storage's records to votes and ballots.
+//! From a storage's records to votes and ballots, and from a promise to its record.
 
 ghost use Rattle.std.specs.Prelude.{◌≡◌, IfSome, IfOk, OnOk, IsErrOf, option_map};
 ghost use Rattle.acceptor.specs.Casts.{vote_at};
@@ -9,7 +9,7 @@ use super::cast::Cast;
 use stable::{Key, Stable, StableFault};
 use std::alloc::Global;
 use synod::{Ballot, Slot};
-use wire::{ballot_of_record, vote_of_record};
+use wire::{ballot_of_record, ballot_record, vote_of_record};
 
 /// The ballot in record Promise, or None without the record.
 pub(super) fn promised<S: Stable>(
@@ -37,6 +37,23 @@ pub(super) fn promised<S: Stable>(
         Some(ballot) => Ok(Some(ballot)),
         None => Err(StableFault::Damaged),
     }
+}
+
+/// Writes the promise of a ballot into its record.
+pub(super) fn write_promise<S: Stable>(
+    alloc: Global,
+    storage: &mut S,
+    ballot: Ballot,
+) -> Result<(), StableFault>
+    ensures written { OnOk result (S.puts storage.old Key.Promise (ballot_bytes ballot) storage.new) }
+
+    // Each error.
+    ensures device { IsErrOf result StableFault.Device
+        → S.fails storage.old Key.Promise (ballot_bytes ballot) storage.new }
+    ensures memory { IsErrOf result StableFault.Memory → S.reads storage.old storage.new }
+    ensures not_damaged { ¬ IsErrOf result StableFault.Damaged }
+{
+    storage.put(alloc, Key::Promise, ballot_record(ballot).to_vec(alloc)?)
 }
 
 /// The vote in the record of a slot, or None without the record.

@@ -10,3 +10,13 @@ returns-in-Some-ballot_of_record-clause-form g c = λ honest.
     let found : g.S.Stable.contents c.args.storage.now key.Promise ≡ Some c.in-Some.bytes.items = search rules in
     let read = c.in-Some-ballot_of_record.ensures.spelled in
     promise_of_its_form _ c.in-Some.bytes.items c.in-Some-ballot_of_record.ballot found read.fits (search rules)
+
+-- a way out is answered whole: its clauses are found together
+pub returns-in_err-bytes : goal.returns-in_err-bytes
+returns-in_err-bytes g c = search rules
+
+pub returns-in_default : goal.returns-in_default
+returns-in_default g c = search rules
+
+pub returns : goal.returns
+returns g c = search rules

@@ -15,3 +15,16 @@ returns-in-Some-2-clause-form g c = λ honest.
     let read : IsVoteRecord bytes choice.0 choice.1 = search rules in
     let vote = vote_at c.args.slot (record { ballot = choice.0; command = choice.1 }) in
     vote_of_its_form _ c.args.slot bytes vote found (record { ballot = read.ballot; command = read.command }) read.spelled
+
+-- a way out is answered whole: its clauses are found together
+pub returns-in_err-bytes : goal.returns-in_err-bytes
+returns-in_err-bytes g c = search rules
+
+pub returns-in_default : goal.returns-in_default
+returns-in_default g c = search rules
+
+pub returns-in_err-choice : goal.returns-in_err-choice
+returns-in_err-choice g c = search rules
+
+pub returns : goal.returns
+returns g c = search rules

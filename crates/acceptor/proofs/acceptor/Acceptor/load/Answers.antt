@@ -93,3 +93,7 @@ returns-clause-reads g c = g.met.S.Stable.laws.reads_reads _ _ _ c.in_ok-keys.en
 
 pub returns-clause-settled : goal.returns-clause-settled
 returns-clause-settled g c = g.met.S.Stable.laws.reads_settled _ _ c.loop-key.invariant.0 c.in_ok-keys.ensures.settled
+
+-- a way out is answered whole: its clauses are found together
+pub returns-in_err-keys : goal.returns-in_err-keys
+returns-in_err-keys g c = search rules

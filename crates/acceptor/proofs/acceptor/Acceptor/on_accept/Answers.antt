@@ -32,3 +32,7 @@ returns-clause-written g c =
       )
       | else-not-has w ↦ (None, no_write a vote (c.has.ensures.0 (search rules)), search rules)
     ]
+
+-- a way out is answered whole: its clauses are found together
+pub returns-in-Some : goal.returns-in-Some
+returns-in-Some g c = search rules

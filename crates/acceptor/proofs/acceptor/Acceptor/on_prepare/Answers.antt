@@ -1,5 +1,5 @@
 use Rattle.std.proofs.Common.{rules, ◌≡◌, None, refl, arith}
-use Rattle.acceptor.specs.Accepting.{refusing, TellsFrom}
+use Rattle.acceptor.specs.Accepting.{refusing, AnswersPrepare, TellsFrom}
 use Rattle.acceptor.specs.State.{accepting_of}
 use Rattle.acceptor.specs.declared.answer.Answer.TheVariants.{Promise}
 use Rattle.acceptor.proofs.RecordLemmas.{taken_is_above}
@@ -17,8 +17,8 @@ invariant_of-self g c = record {
 }
 
 -- no greater ballot is promised, so the votes are told
-pub returns-clause-answer : goal.returns-clause-answer
-returns-clause-answer g c =
+pub returns : goal.returns
+returns g c =
     let a = accepting_of c.args.self.now in
     let taken : refusing a.promise c.args.ballot ≡ None = search rules in
     let told : TellsFrom a c.args.ballot c.args.first (Promise c.in_ok-promise.promise) = record {
@@ -27,4 +27,15 @@ returns-clause-answer g c =
       from_the_floor = omega arith;
       tells = search rules;
     } in
-    rw taken told
+    let answer : AnswersPrepare a c.args.ballot c.args.first (Promise c.in_ok-promise.promise) = rw taken told in
+    search (rules, answer)
+
+-- a way out is answered whole: its clauses are found together
+pub returns-in-Some : goal.returns-in-Some
+returns-in-Some g c = search rules
+
+pub returns-in_err-promise : goal.returns-in_err-promise
+returns-in_err-promise g c = search rules
+
+pub returns-in_err-write_promise : goal.returns-in_err-write_promise
+returns-in_err-write_promise g c = search rules

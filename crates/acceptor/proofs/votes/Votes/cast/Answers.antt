@@ -35,3 +35,10 @@ returns-in_err-before-clause-unchanged g c =
 pub put_back-requires : goal.put_back-requires
 put_back-requires g c =
     λ _. put_there (cast_at c.args.self.now) (value_at c.insert.new.self) c.args.vote.now.slot _ c.in_ok-before.ensures.stands
+
+-- a way out is answered whole: its clauses are found together
+pub returns-in_err-bytes : goal.returns-in_err-bytes
+returns-in_err-bytes g c = search rules
+
+pub returns-in_err-clone : goal.returns-in_err-clone
+returns-in_err-clone g c = search rules
