@@ -2,7 +2,7 @@
 //! memory succeed.
 
 use sessions::{Command, MOST_PUT_POINTS, Number, Request};
-use std::alloc::Global;
+use std::alloc::{AllocError, Global};
 use std::test::Fail;
 use store::Op;
 use synod::{Ballot, Slot, Vote};
@@ -60,15 +60,19 @@ fn fault(alloc: Global, bytes: &[u8]) -> Result<u8, Fail> {
 /// Whether three nodes read a frame, whose copy is the same and is spelled again so.
 fn is_frame(alloc: Global, bytes: &[u8]) -> Result<bool, Fail> {
     let envelope = read(alloc, bytes)?;
-    Ok(is_copied(&envelope)? && is_spelled(alloc, &envelope, bytes)?)
+    Ok(is_same(alloc, &envelope, bytes)?)
 }
 
-fn is_copied(envelope: &Envelope) -> Result<bool, Fail> {
+fn is_same(alloc: Global, envelope: &Envelope, bytes: &[u8]) -> Result<bool, AllocError> {
+    Ok(is_copied(envelope)? && is_spelled(alloc, envelope, bytes)?)
+}
+
+fn is_copied(envelope: &Envelope) -> Result<bool, AllocError> {
     let copy = envelope.clone()?;
     Ok(copy == *envelope)
 }
 
-fn is_spelled(alloc: Global, envelope: &Envelope, bytes: &[u8]) -> Result<bool, Fail> {
+fn is_spelled(alloc: Global, envelope: &Envelope, bytes: &[u8]) -> Result<bool, AllocError> {
     let spelled = encode(alloc, envelope)?;
     Ok(spelled.as_slice() == bytes)
 }
@@ -107,24 +111,27 @@ fn a_fault_in_words(rt: HostRuntime) -> Result<(), Fail> {
 
 #[test]
 fn too_long(rt: HostRuntime) -> Result<(), Fail> {
-    let mut bytes = Vec::new(rt.alloc());
-    bytes.resize(LONGEST_FRAME + 1, 0)?;
-    assert_eq!(rt; fault(rt.alloc(), bytes.as_slice())?, 7);
-    bytes.truncate(LONGEST_FRAME);
-    assert_eq!(rt; fault(rt.alloc(), bytes.as_slice())?, 2);
+    assert!(rt; fault_of_zeros(rt.alloc(), LONGEST_FRAME + 1)? == 7);
+    assert!(rt; fault_of_zeros(rt.alloc(), LONGEST_FRAME)? == 2);
     Ok(())
+}
+
+fn fault_of_zeros(alloc: Global, len: usize) -> Result<u8, Fail> {
+    let mut bytes = Vec::new(alloc);
+    bytes.resize(len, 0)?;
+    fault(alloc, bytes.as_slice())
 }
 
 /// A request that puts the longest sequence under the longest id.
 fn largest(alloc: Global) -> Result<Command, Fail> {
     let id = Id::new(&[b'a'; LONGEST_ID]).ok_or("id")?;
+    let number = Number::new(1).ok_or("number")?;
     let mut points = Vec::with_capacity(alloc, MOST_PUT_POINTS)?;
     for ms in 0..MOST_PUT_POINTS as i64 {
         let t = Instant::new(ms).ok_or("instant")?;
         points.push(Point { t, x: -1, y: 1 })?;
     }
     let seq = Seq::new(Interp::Linear, points)?;
-    let number = Number::new(1).ok_or("number")?;
     let request = Request::new(7, number, Op::Put(id, seq))?;
     Ok(Command::Request(request))
 }
@@ -135,25 +142,39 @@ fn largest_promise(alloc: Global) -> Result<Promise, Fail> {
     let last = Slot::new(3).ok_or("slot")?;
     let mut entries = Vec::new(alloc);
     for slot in 0..4 {
-        let vote = Vote {
-            slot: Slot::new(slot).ok_or("slot")?,
-            ballot,
-            command: Held::new(alloc, largest(alloc)?)?,
-        };
-        entries.push(Entry::new(vote))?;
+        entries.push(Entry::new(largest_vote(alloc, slot, ballot)?))?;
     }
     Ok(Promise::new(ballot, Slot::first(), last, entries).ok_or("promise")?)
 }
 
+fn largest_vote(alloc: Global, slot: u32, ballot: Ballot) -> Result<Vote<Held>, Fail> {
+    let slot = Slot::new(slot).ok_or("slot")?;
+    let command = Held::new(alloc, largest(alloc)?)?;
+    Ok(Vote {
+        slot,
+        ballot,
+        command,
+    })
+}
+
+fn largest_envelope(alloc: Global) -> Result<Envelope, Fail> {
+    let node = NodeId::new(0).ok_or("node")?;
+    let promise = largest_promise(alloc)?;
+    Ok(Envelope {
+        from: node,
+        to: node,
+        message: Message::Promise(promise),
+    })
+}
+
+fn largest_frame(alloc: Global) -> Result<Vec<u8>, Fail> {
+    let envelope = largest_envelope(alloc)?;
+    Ok(encode(alloc, &envelope)?)
+}
+
 #[test]
 fn largest_frames(rt: HostRuntime) -> Result<(), Fail> {
-    let envelope = Envelope {
-        from: NodeId::new(0).ok_or("node")?,
-        to: NodeId::new(0).ok_or("node")?,
-        message: Message::Promise(largest_promise(rt.alloc())?),
-    };
-    let bytes = encode(rt.alloc(), &envelope)?;
-    assert_eq!(rt; bytes.len(), 49_544);
-    assert!(rt; is_frame(rt.alloc(), bytes.as_slice())?);
+    let bytes = largest_frame(rt.alloc())?;
+    assert!(rt; bytes.len() == 49_544 && is_frame(rt.alloc(), bytes.as_slice())?);
     Ok(())
 }

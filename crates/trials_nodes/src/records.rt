@@ -1,7 +1,7 @@
 //! Records of promises, rounds and votes, with their bytes.
 
 use sessions::{Command, Number, Request};
-use std::alloc::Global;
+use std::alloc::{AllocError, Global};
 use std::test::Fail;
 use store::Op;
 use synod::Ballot;
@@ -49,12 +49,15 @@ const NO_BALLOTS: [&[u8]; 4] = [
 #[test]
 fn ballots_and_rounds(rt: HostRuntime) {
     assert!(rt; is_ballot(0x0102, 6, &BALLOT));
-    for bytes in NO_BALLOTS {
+    for &bytes in &NO_BALLOTS {
         assert!(rt; ballot_of_record(bytes).is_none(), "{bytes:?}");
     }
-    assert!(rt; round_record(0x0102).as_slice() == ROUND.as_slice());
-    assert!(rt; round_of_record(&ROUND) == Some(0x0102));
+    assert!(rt; is_round_recorded());
     assert!(rt; round_of_record(&[0; 8]).is_none() && round_of_record(&[1; 7]).is_none());
+}
+
+fn is_round_recorded() -> bool {
+    round_record(0x0102).as_slice() == ROUND.as_slice() && round_of_record(&ROUND) == Some(0x0102)
 }
 
 /// Whether the record of this ballot has these bytes, and is read as it.
@@ -78,23 +81,49 @@ fn removed() -> Option<Command> {
 }
 
 fn put(alloc: Global) -> Result<Command, Fail> {
-    let mut points = Vec::new(alloc);
-    for (ms, x, y) in [(1_577_836_800_000, 0, 0), (1_577_836_803_000, 10, 5)] {
-        let t = Instant::new(ms).ok_or("no instant")?;
-        points.push(Point { t, x, y })?;
-    }
     let id = bus().ok_or("no id")?;
-    let seq = Seq::new(Interp::Linear, points)?;
+    let ends = ends().ok_or("no instants")?;
+    let seq = Seq::new(Interp::Linear, ends.to_vec(alloc)?)?;
     Ok(asked(Op::Put(id, seq)).ok_or("no request")?)
+}
+
+fn ends() -> Option<[Point; 2]> {
+    Some([
+        point(1_577_836_800_000, 0, 0)?,
+        point(1_577_836_803_000, 10, 5)?,
+    ])
+}
+
+fn point(ms: i64, x: i64, y: i64) -> Option<Point> {
+    let t = Instant::new(ms)?;
+    Some(Point { t, x, y })
 }
 
 /// Whether a vote for the command is spelled so, and read again, and with a byte less or more is none.
 fn is_recorded(alloc: Global, command: Command, spelled: &[u8]) -> Result<bool, Fail> {
+    let longer = longer(alloc, spelled)?;
+    is_record(alloc, &command, longer.as_slice())
+}
+
+/// The record of a vote for the command that is spelled so, and a byte more.
+fn longer(alloc: Global, spelled: &[u8]) -> Result<Vec<u8>, AllocError> {
     let mut bytes = FIRST_BALLOT.to_vec(alloc)?;
+    spell(&mut bytes, spelled)?;
+    Ok(bytes)
+}
+
+fn spell(bytes: &mut Vec<u8>, spelled: &[u8]) -> Result<(), AllocError> {
     bytes.extend_from_slice(spelled)?;
-    let is_record = is_spelled(alloc, &command, &bytes)? && is_read(alloc, &command, &bytes)?;
-    bytes.push(0)?;
-    Ok(is_record && !is_vote(alloc, &bytes)? && !is_vote(alloc, &FIRST_BALLOT[..8])?)
+    bytes.extend_from_slice(&[0])
+}
+
+/// Whether the bytes without the last are the record of a vote for the command, and all of them are none.
+fn is_record(alloc: Global, command: &Command, longer: &[u8]) -> Result<bool, Fail> {
+    let Some((_, bytes)) = longer.split_last() else {
+        return Ok(false);
+    };
+    let is_record = is_spelled(alloc, command, bytes)? && is_read(alloc, command, bytes)?;
+    Ok(is_record && !is_vote(alloc, longer)? && !is_vote(alloc, &FIRST_BALLOT[..8])?)
 }
 
 fn is_spelled(alloc: Global, command: &Command, bytes: &[u8]) -> Result<bool, Fail> {
@@ -120,17 +149,20 @@ const NO_VOTES: [&[u8]; 4] = [
 
 #[test]
 fn bytes_of_no_vote(rt: HostRuntime) -> Result<(), Fail> {
-    for bytes in NO_VOTES {
+    for &bytes in &NO_VOTES {
         assert!(rt; !is_vote(rt.alloc(), bytes)?, "{bytes:?}");
     }
-    for (first, second, ascend) in INSTANTS {
-        let bytes = record_of_put(first, second);
+    for &(first, second, ascend) in &INSTANTS {
         assert!(rt;
-            is_vote(rt.alloc(), &bytes)? == ascend,
+            is_put(rt.alloc(), first, second)? == ascend,
             "{first} and {second}"
         );
     }
     Ok(())
+}
+
+fn is_put(alloc: Global, first: u8, second: u8) -> Result<bool, Fail> {
+    is_vote(alloc, &record_of_put(first, second))
 }
 
 fn is_vote(alloc: Global, bytes: &[u8]) -> Result<bool, Fail> {

@@ -34,12 +34,15 @@ fn rows_hold(rt: &impl Abort, alloc: Global, nodes: u8, rows: &str) -> Result<()
 /// The same, of a fleet that has begun.
 fn rows_follow(rt: &impl Abort, alloc: Global, fleet: &mut Fleet, rows: &str) -> Result<(), Fail> {
     for row in rows.lines() {
-        let (step, expected) = match row.split_once(" > ") {
-            Some(parts) => parts,
-            None => (row, ""),
-        };
-        let told = fleet.take(alloc, step)?;
-        assert_eq!(rt; told.as_str(), expected, "at {step}");
+        row_follows(rt, alloc, fleet, row)?;
     }
+    Ok(())
+}
+
+/// The same, of one row.
+fn row_follows(rt: &impl Abort, alloc: Global, fleet: &mut Fleet, row: &str) -> Result<(), Fail> {
+    let (step, expected) = row.split_once(" > ").unwrap_or((row, ""));
+    let told = fleet.take(alloc, step)?;
+    assert_eq!(rt; told.as_str(), expected, "at {step}");
     Ok(())
 }

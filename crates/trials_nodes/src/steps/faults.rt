@@ -6,7 +6,6 @@ use super::tables_hold;
 use node::{Node, NodeFault};
 use stable::{Key, MemStable, Scripted, Stable};
 use std::alloc::Global;
-use std::process::Abort;
 use std::test::Fail;
 use synod::Slot;
 use wire::Nodes;
@@ -115,24 +114,30 @@ fn a_restart_finds_what_was_written(rt: HostRuntime) -> Result<(), Fail> {
 
 #[test]
 fn damaged_records_keep_a_node_down(rt: HostRuntime) -> Result<(), Fail> {
-    for key in [Key::Promise, Key::Round, Key::Vote(Slot::first())] {
-        let mut member = damaged(rt.alloc(), key)?;
-        stays_down(&rt, rt.alloc(), &mut member);
+    for &key in &[Key::Promise, Key::Round, Key::Vote(Slot::first())] {
+        assert!(rt; is_kept_down(rt.alloc(), key)?, "{key:?}");
     }
     Ok(())
+}
+
+fn is_kept_down(alloc: Global, key: Key) -> Result<bool, Fail> {
+    let mut member = damaged(alloc, key)?;
+    Ok(stays_down(alloc, &mut member))
 }
 
 /// A node one of whose records is of no form.
 fn damaged(alloc: Global, key: Key) -> Result<Member, Fail> {
     let nodes = Nodes::new(3).ok_or("nodes")?;
     let id = node_id(0)?;
+    let bytes = [0u8; 8].to_vec(alloc)?;
     let mut records = MemStable::new(alloc);
-    records.put(alloc, key, [0u8; 8].to_vec(alloc)?)?;
+    records.put(alloc, key, bytes)?;
     Ok(Node::start(alloc, Scripted::new(alloc, records), id, nodes))
 }
 
-fn stays_down(rt: &impl Abort, alloc: Global, member: &mut Member) {
-    assert!(rt; !member.is_up());
-    assert_eq!(rt; member.restart(alloc), Err(NodeFault::Damaged));
-    assert!(rt; !member.is_up());
+/// Whether a node is down, and a restart finds the damage and leaves it down.
+fn stays_down(alloc: Global, member: &mut Member) -> bool {
+    let was_up = member.is_up();
+    let restarted = member.restart(alloc);
+    !was_up && restarted == Err(NodeFault::Damaged) && !member.is_up()
 }

@@ -14,7 +14,7 @@ use super::letters::{envelope, node_id, number, numbers, removal, small};
 use super::telling::{tell_fault, tell_learnt, tell_replies, tell_sends, tell_writes};
 use node::{Input, Node, NodeFault, Outputs};
 use stable::{Failing, MemStable, Scripted};
-use std::alloc::Global;
+use std::alloc::{AllocError, Global};
 use std::fmt::Write;
 use std::test::Fail;
 use store::{Op, Query};
@@ -46,8 +46,9 @@ impl Fleet {
         let nodes = Nodes::new(count).ok_or("nodes")?;
         let mut members = Vec::new(alloc);
         for value in 0..count {
+            let id = node_id(value)?;
             let storage = Scripted::new(alloc, MemStable::new(alloc));
-            members.push(Node::start(alloc, storage, node_id(value)?, nodes))?;
+            members.push(Node::start(alloc, storage, id, nodes))?;
         }
         Ok(Fleet {
             members,
@@ -61,7 +62,12 @@ impl Fleet {
             return self.listen(alloc, who, said);
         }
         let numbers = numbers(alloc, step)?;
-        match (step.split_once(' '), numbers.as_slice()) {
+        self.follow(alloc, step, numbers.as_slice())
+    }
+
+    /// Takes a step of these numbers: what is told of it.
+    fn follow(&mut self, alloc: Global, step: &str, numbers: &[u64]) -> Result<String, Fail> {
+        match (step.split_once(' '), numbers) {
             (Some((word, _)), &[at]) => self.act(alloc, word, step, at),
             (Some(_), &[to, client, value]) => {
                 self.submit(alloc, small(to), small(client), value, removal()?)
@@ -119,18 +125,7 @@ impl Fleet {
             return Err("member".into());
         };
         match member.step(alloc, input) {
-            Ok(outputs) => {
-                let Outputs {
-                    learnt,
-                    replies,
-                    sends,
-                } = outputs;
-                if let Some(entry) = &learnt {
-                    tell_learnt(alloc, text, to, entry)?;
-                }
-                tell_replies(text, to, replies.as_slice())?;
-                Ok(sends)
-            }
+            Ok(outputs) => tell_outputs(text, to, outputs),
             Err(fault) => {
                 tell_fault(text, to, fault)?;
                 Ok(Vec::new(alloc))
@@ -202,6 +197,21 @@ impl Fleet {
         let member = self.members.get_mut(usize::from(to)).ok_or("member")?;
         Ok(member)
     }
+}
+
+/// Tells what a node does: what it sends.
+fn tell_outputs(text: &mut String, node: u8, outputs: Outputs) -> Result<Vec<Frame>, Fail> {
+    tell_done(text, node, &outputs)?;
+    let Outputs { sends, .. } = outputs;
+    Ok(sends)
+}
+
+/// Tells what a node learns and replies.
+fn tell_done(text: &mut String, node: u8, outputs: &Outputs) -> Result<(), AllocError> {
+    if let Some(entry) = &outputs.learnt {
+        tell_learnt(text, node, entry)?;
+    }
+    tell_replies(text, node, outputs.replies.as_slice())
 }
 
 /// What is told of a node that is armed, stopped, restarted or asked.

@@ -76,54 +76,79 @@ fn vote(alloc: Global, numbers: &[u64]) -> Result<Vote<Held>, Fail> {
     })
 }
 
-/// The promise of a ballot, its slots, and the votes that are told.
-fn promise(
-    alloc: Global,
-    ballot: Ballot,
-    first: Slot,
-    last: Slot,
-    told: &[u64],
-) -> Result<Promise, Fail> {
+/// The votes that a promise tells.
+fn entries(alloc: Global, told: &[u64]) -> Result<Entries, Fail> {
     let mut entries = Entries::new(alloc);
     for numbers in told.chunks(5) {
         entries.push(Entry::new(vote(alloc, numbers)?))?;
     }
+    Ok(entries)
+}
+
+fn prepare(numbers: &[u64]) -> Result<Message, Fail> {
+    let &[round, node, first] = numbers else {
+        return Err("a prepare".into());
+    };
+    Ok(Message::Prepare {
+        ballot: ballot(round, node)?,
+        first: slot(first)?,
+    })
+}
+
+/// The promise of a ballot, its slots, and the votes that are told.
+fn promise(alloc: Global, numbers: &[u64]) -> Result<Message, Fail> {
+    let &[round, node, first, last, ref told @ ..] = numbers else {
+        return Err("a promise".into());
+    };
+    let (ballot, first, last) = (ballot(round, node)?, slot(first)?, slot(last)?);
+    let entries = entries(alloc, told)?;
     let promise = Promise::new(ballot, first, last, entries).ok_or("promise")?;
-    Ok(promise)
+    Ok(Message::Promise(promise))
+}
+
+fn nack(numbers: &[u64]) -> Result<Message, Fail> {
+    let &[round, node, promised, by] = numbers else {
+        return Err("a nack".into());
+    };
+    let nack = Nack::new(ballot(round, node)?, ballot(promised, by)?).ok_or("nack")?;
+    Ok(Message::Nack(nack))
+}
+
+fn ask(numbers: &[u64]) -> Result<Message, Fail> {
+    let &[at] = numbers else {
+        return Err("a question".into());
+    };
+    Ok(Message::Ask { slot: slot(at)? })
+}
+
+fn decided(alloc: Global, numbers: &[u64]) -> Result<Message, Fail> {
+    let &[at, client, value] = numbers else {
+        return Err("what is decided".into());
+    };
+    Ok(Message::Decided {
+        slot: slot(at)?,
+        command: command(alloc, client, value)?,
+    })
 }
 
 fn message(alloc: Global, word: &str, numbers: &[u64]) -> Result<Message, Fail> {
-    match (word, numbers) {
-        ("prepare", &[round, node, first]) => Ok(Message::Prepare {
-            ballot: ballot(round, node)?,
-            first: slot(first)?,
-        }),
-        ("nack", &[round, node, promised, by]) => {
-            let nack = Nack::new(ballot(round, node)?, ballot(promised, by)?).ok_or("nack")?;
-            Ok(Message::Nack(nack))
-        }
-        ("promise", &[round, node, first, last, ref told @ ..]) => {
-            let (ballot, first, last) = (ballot(round, node)?, slot(first)?, slot(last)?);
-            Ok(Message::Promise(promise(alloc, ballot, first, last, told)?))
-        }
-        ("accept", _) => Ok(Message::Accept(vote(alloc, numbers)?)),
-        ("accepted", _) => Ok(Message::Accepted(vote(alloc, numbers)?)),
-        ("ask", &[at]) => Ok(Message::Ask { slot: slot(at)? }),
-        ("decided", &[at, client, value]) => Ok(Message::Decided {
-            slot: slot(at)?,
-            command: command(alloc, client, value)?,
-        }),
+    match word {
+        "prepare" => prepare(numbers),
+        "promise" => promise(alloc, numbers),
+        "nack" => nack(numbers),
+        "accept" => Ok(Message::Accept(vote(alloc, numbers)?)),
+        "accepted" => Ok(Message::Accepted(vote(alloc, numbers)?)),
+        "ask" => ask(numbers),
+        "decided" => decided(alloc, numbers),
         _ => Err("a message".into()),
     }
 }
 
 /// What one node says to another.
 pub fn envelope(alloc: Global, from: u8, to: u8, said: &str) -> Result<Envelope, Fail> {
+    let (from, to) = (node_id(from)?, node_id(to)?);
     let (word, _) = said.split_once(' ').ok_or("a word")?;
     let numbers = numbers(alloc, said)?;
-    Ok(Envelope {
-        from: node_id(from)?,
-        to: node_id(to)?,
-        message: message(alloc, word, numbers.as_slice())?,
-    })
+    let message = message(alloc, word, numbers.as_slice())?;
+    Ok(Envelope { from, to, message })
 }

@@ -3,47 +3,29 @@
 use node::{Executed, LogEntry, NodeFault};
 use sessions::Command;
 use stable::{Key, Put};
-use std::alloc::Global;
+use std::alloc::{AllocError, Global};
 use std::fmt::Write;
 use std::test::Fail;
-use synod::{Ballot, Vote};
+use synod::{Ballot, Slot, Vote};
 use wire::{Frame, Held, Message, Promise};
 
 /// Another thing is to be told.
-pub fn part(text: &mut String) -> Result<(), Fail> {
+pub fn part(text: &mut String) -> Result<(), AllocError> {
     if !text.is_empty() {
         text.push_str("; ")?;
     }
     Ok(())
 }
 
-fn command_text(alloc: Global, command: &Command) -> Result<String, Fail> {
-    match command {
-        Command::NoOp => Ok(format!(in alloc; "noop")?),
-        Command::Request(request) => {
-            let client = request.client();
-            let number = request.number().value();
-            Ok(format!(in alloc; "{client}:{number}")?)
-        }
-    }
-}
-
 /// What is newly learnt.
-pub fn tell_learnt(
-    alloc: Global,
-    text: &mut String,
-    node: u8,
-    entry: &LogEntry,
-) -> Result<(), Fail> {
-    let slot = entry.slot.value();
-    let command = command_text(alloc, entry.command.command())?;
+pub fn tell_learnt(text: &mut String, node: u8, entry: &LogEntry) -> Result<(), AllocError> {
     part(text)?;
-    write!(text, "learn {node} {slot} {command}")?;
-    Ok(())
+    write!(text, "learn {node}")?;
+    tell_command(text, " ", entry.slot, entry.command.command())
 }
 
 /// The replies to requests that waited.
-pub fn tell_replies(text: &mut String, node: u8, replies: &[Executed]) -> Result<(), Fail> {
+pub fn tell_replies(text: &mut String, node: u8, replies: &[Executed]) -> Result<(), AllocError> {
     for executed in replies {
         let client = executed.client;
         let number = executed.number.value();
@@ -56,16 +38,15 @@ pub fn tell_replies(text: &mut String, node: u8, replies: &[Executed]) -> Result
 }
 
 /// Why a node refuses an input, or goes down on it.
-pub fn tell_fault(text: &mut String, node: u8, fault: NodeFault) -> Result<(), Fail> {
+pub fn tell_fault(text: &mut String, node: u8, fault: NodeFault) -> Result<(), AllocError> {
     let what = if fault.is_stop() { "stop" } else { "refuse" };
     let code = fault.code();
     part(text)?;
-    write!(text, "{what} {node} {code}")?;
-    Ok(())
+    write!(text, "{what} {node} {code}")
 }
 
 /// The keys of the puts that took effect.
-pub fn tell_writes(text: &mut String, writes: &[Put]) -> Result<(), Fail> {
+pub fn tell_writes(text: &mut String, writes: &[Put]) -> Result<(), AllocError> {
     for put in writes {
         match put.key() {
             Key::Promise => text.push_str(" promise")?,
@@ -96,78 +77,96 @@ fn tell_sent(
     last: String,
 ) -> Result<String, Fail> {
     let said = said(alloc, frame)?;
-    let from = frame.sender().value();
-    let to = frame.receiver().value();
-    if said.as_str() == last.as_str() {
-        write!(text, " {to}")?;
-    } else {
-        part(text)?;
-        write!(text, "send {from} {said} to {to}")?;
-    }
+    tell_said(text, frame, said.as_str(), last.as_str())?;
     Ok(said)
 }
 
-fn said(alloc: Global, frame: &Frame) -> Result<String, Fail> {
-    let envelope = frame.open(alloc)?;
-    message_text(alloc, &envelope.message)
-}
-
-fn ballot_text(alloc: Global, ballot: Ballot) -> Result<String, Fail> {
-    let round = ballot.round;
-    let node = ballot.node;
-    Ok(format!(in alloc; "{round}.{node}")?)
-}
-
-/// The ballot of a vote, its slot and its command.
-fn vote_text(alloc: Global, vote: &Vote<Held>) -> Result<String, Fail> {
-    let ballot = ballot_text(alloc, vote.ballot)?;
-    let slot = vote.slot.value();
-    let command = command_text(alloc, vote.command.command())?;
-    Ok(format!(in alloc; "{ballot} {slot} {command}")?)
-}
-
-/// The ballot, the first slot and the last, and each vote that is told.
-fn promise_text(alloc: Global, promise: &Promise) -> Result<String, Fail> {
-    let ballot = ballot_text(alloc, promise.ballot())?;
-    let first = promise.first().value();
-    let last = promise.last().value();
-    let mut text = format!(in alloc; "promise {ballot} {first} {last}")?;
-    for entry in promise.entries() {
-        let vote = vote_text(alloc, entry.vote())?;
-        write!(text, " ({vote})")?;
+fn tell_said(text: &mut String, frame: &Frame, said: &str, last: &str) -> Result<(), AllocError> {
+    let from = frame.sender().value();
+    let to = frame.receiver().value();
+    if said == last {
+        return write!(text, " {to}");
     }
+    part(text)?;
+    write!(text, "send {from} {said} to {to}")
+}
+
+fn said(alloc: Global, frame: &Frame) -> Result<String, Fail> {
+    let mut text = String::new(alloc);
+    tell_frame(alloc, &mut text, frame)?;
     Ok(text)
 }
 
-fn message_text(alloc: Global, message: &Message) -> Result<String, Fail> {
+fn tell_frame(alloc: Global, text: &mut String, frame: &Frame) -> Result<(), Fail> {
+    let envelope = frame.open(alloc)?;
+    Ok(tell_message(text, &envelope.message)?)
+}
+
+fn tell_message(text: &mut String, message: &Message) -> Result<(), AllocError> {
     match message {
-        Message::Prepare { ballot, first } => {
-            let ballot = ballot_text(alloc, *ballot)?;
-            let first = first.value();
-            Ok(format!(in alloc; "prepare {ballot} {first}")?)
-        }
-        Message::Promise(promise) => promise_text(alloc, promise),
+        Message::Prepare { ballot, first } => tell_prepare(text, *ballot, *first),
+        Message::Promise(promise) => tell_promise(text, promise),
         Message::Nack(nack) => {
-            let ballot = ballot_text(alloc, nack.ballot())?;
-            let promised = ballot_text(alloc, nack.promised())?;
-            Ok(format!(in alloc; "nack {ballot} {promised}")?)
+            tell_ballot(text, "nack ", nack.ballot())?;
+            tell_ballot(text, " ", nack.promised())
         }
-        Message::Accept(vote) => {
-            let vote = vote_text(alloc, vote)?;
-            Ok(format!(in alloc; "accept {vote}")?)
-        }
-        Message::Accepted(vote) => {
-            let vote = vote_text(alloc, vote)?;
-            Ok(format!(in alloc; "accepted {vote}")?)
-        }
+        Message::Accept(vote) => tell_vote(text, "accept ", vote),
+        Message::Accepted(vote) => tell_vote(text, "accepted ", vote),
         Message::Ask { slot } => {
             let slot = slot.value();
-            Ok(format!(in alloc; "ask {slot}")?)
+            write!(text, "ask {slot}")
         }
         Message::Decided { slot, command } => {
-            let slot = slot.value();
-            let command = command_text(alloc, command.command())?;
-            Ok(format!(in alloc; "decided {slot} {command}")?)
+            tell_command(text, "decided ", *slot, command.command())
+        }
+    }
+}
+
+fn tell_prepare(text: &mut String, ballot: Ballot, first: Slot) -> Result<(), AllocError> {
+    let first = first.value();
+    tell_ballot(text, "prepare ", ballot)?;
+    write!(text, " {first}")
+}
+
+/// The ballot, the first slot and the last, and each vote that is told.
+fn tell_promise(text: &mut String, promise: &Promise) -> Result<(), AllocError> {
+    let first = promise.first().value();
+    let last = promise.last().value();
+    tell_ballot(text, "promise ", promise.ballot())?;
+    write!(text, " {first} {last}")?;
+    for entry in promise.entries() {
+        tell_vote(text, " (", entry.vote())?;
+        text.push_str(")")?;
+    }
+    Ok(())
+}
+
+/// The ballot of a vote, its slot and its command.
+fn tell_vote(text: &mut String, before: &str, vote: &Vote<Held>) -> Result<(), AllocError> {
+    tell_ballot(text, before, vote.ballot)?;
+    tell_command(text, " ", vote.slot, vote.command.command())
+}
+
+fn tell_ballot(text: &mut String, before: &str, ballot: Ballot) -> Result<(), AllocError> {
+    let round = ballot.round;
+    let node = ballot.node;
+    write!(text, "{before}{round}.{node}")
+}
+
+/// A slot and the command at it.
+fn tell_command(
+    text: &mut String,
+    before: &str,
+    slot: Slot,
+    command: &Command,
+) -> Result<(), AllocError> {
+    let slot = slot.value();
+    match command {
+        Command::NoOp => write!(text, "{before}{slot} noop"),
+        Command::Request(request) => {
+            let client = request.client();
+            let number = request.number().value();
+            write!(text, "{before}{slot} {client}:{number}")
         }
     }
 }
