@@ -1,10 +1,11 @@
 //! Clusters: what their transports are given, and what comes of what these hand over.
 
-ghost use Rattle.std.specs.Prelude.{[]};
+ghost use Rattle.std.specs.Prelude.{[], ◌<◌};
 
 use cluster::{Cluster, Queues, Transport, TransportFault};
 use schedule::transcript;
 use sessions::Number;
+use stable::MemStable;
 use std::alloc::{AllocError, Global};
 use std::test::Fail;
 use store::Op;
@@ -13,8 +14,10 @@ use tpoint::Id;
 use wire::{NodeId, Nodes};
 use world::{Event, RoundEnd, World, WorldFault};
 
-pub(crate) fn node(value: u8) -> Result<NodeId, Fail> {
-    Ok(NodeId::new(value).ok_or("a node")?)
+pub(crate) fn node(value: u8) -> NodeId
+    requires { value < 7 }
+{
+    NodeId::new(value).unwrap()
 }
 
 // A transport of one's own: it loses all.
@@ -172,24 +175,66 @@ fn troubled(alloc: Global, trouble: Trouble) -> Result<Net, AllocError> {
 pub(crate) fn three_nodes<T: Transport + Drop>(
     alloc: Global,
     transport: T,
-) -> Result<Cluster<T>, Fail> {
-    let world = World::new(alloc, Nodes::new(3).ok_or("nodes")?)?;
+) -> Result<Cluster<T>, WorldFault> {
+    let world = World::new(alloc, Nodes::new(3).unwrap())?;
     Ok(Cluster::new(alloc, world, transport)?)
 }
 
 // Node 0 is asked to remove bus-7, and leads.
-pub(crate) fn asked<T: Transport + Drop>(alloc: Global, transport: T) -> Result<Cluster<T>, Fail> {
-    let submission = Event::Submit {
-        node: node(0)?,
-        client: 7,
-        number: Number::new(1).ok_or("a number")?,
-        op: Op::Remove(Id::new(b"bus-7").ok_or("an id")?),
-    };
-    let leads = Event::Timeout(node(0)?);
+pub(crate) fn asked<T: Transport + Drop>(
+    alloc: Global,
+    transport: T,
+) -> Result<Cluster<T>, WorldFault> {
     let mut cluster = three_nodes(alloc, transport)?;
-    cluster.step(alloc, submission)?;
-    cluster.step(alloc, leads)?;
+    ask(alloc, &mut cluster)?;
     Ok(cluster)
+}
+
+fn ask<T: Transport>(alloc: Global, cluster: &mut Cluster<T>) -> Result<(), WorldFault> {
+    let submission = Event::Submit {
+        node: node(0),
+        client: 7,
+        number: Number::new(1).unwrap(),
+        op: Op::Remove(bus()),
+    };
+    cluster.step(alloc, submission)?;
+    cluster.step(alloc, Event::Timeout(node(0)))
+}
+
+pub(crate) fn bus() -> Id {
+    Id::new(b"bus-7").unwrap()
+}
+
+/// What comes of two pumps of a cluster, the second of which has nothing left where the first one came to its end.
+#[derive(Clone, Copy)]
+pub(crate) struct Pumped {
+    pub(crate) first: u32,
+    pub(crate) second: u32,
+    // whether its transcript then has the lines that were asked for, in some order, and no others
+    pub(crate) is_told: bool,
+    pub(crate) frames: usize,
+    pub(crate) strangers: u64,
+    pub(crate) failed_sends: u64,
+    pub(crate) failed_polls: u64,
+}
+
+pub(crate) fn pump_twice<T: Transport + Drop>(
+    alloc: Global,
+    mut cluster: Cluster<T>,
+    lines: &[&str],
+) -> Result<Pumped, WorldFault> {
+    let first = cluster.pump(alloc)?;
+    let second = cluster.pump(alloc)?;
+    let is_told = are_lines(told(alloc, &cluster)?, lines);
+    Ok(Pumped {
+        first,
+        second,
+        is_told,
+        frames: cluster.world().frames().len(),
+        strangers: cluster.strangers(),
+        failed_sends: cluster.failed_sends(),
+        failed_polls: cluster.failed_polls(),
+    })
 }
 
 // The transcript of its run.
@@ -204,24 +249,30 @@ fn told<T: Transport>(alloc: Global, cluster: &Cluster<T>) -> Result<Vec<u8>, Al
     )
 }
 
-// Whether its transcript has these lines, in some order.
-pub(crate) fn tells<T: Transport>(
-    alloc: Global,
-    cluster: &Cluster<T>,
-    lines: &[&str],
-) -> Result<bool, Fail> {
-    let text = told(alloc, cluster)?;
-    has_lines(alloc, str::from_utf8(text.as_slice())?, lines)
+// Whether a text has these lines, in some order, and no others. No line stands twice among them.
+fn are_lines(text: Vec<u8>, lines: &[&str]) -> bool {
+    match str::from_utf8(text.as_slice()) {
+        Ok(text) => has_lines(text, lines),
+        Err(_) => false,
+    }
 }
 
-// Whether a text has these lines, in some order.
-pub(crate) fn has_lines(alloc: Global, text: &str, lines: &[&str]) -> Result<bool, Fail> {
-    let mut found = Vec::new(alloc);
-    for line in text.lines() {
-        found.push(line)?;
+pub(crate) fn has_lines(text: &str, lines: &[&str]) -> bool {
+    for line in lines {
+        if !has_line(text, line) {
+            return false;
+        }
     }
-    found.sort_unstable();
-    Ok(found.as_slice() == lines)
+    text.lines().count() == lines.len()
+}
+
+fn has_line(text: &str, wanted: &str) -> bool {
+    for line in text.lines() {
+        if line == wanted {
+            return true;
+        }
+    }
+    false
 }
 
 // What is told of one request, where all nodes learn what came of it.
@@ -233,20 +284,28 @@ pub(crate) const REMOVED: [&str; 4] = [
 ];
 
 // What is sent comes once, in order, to its receiver.
+fn hand_over(alloc: Global, queues: &mut Queues) -> Result<bool, TransportFault> {
+    queues.send(alloc, node(0), node(1), b"one")?;
+    queues.send(alloc, node(2), node(1), b"two")?;
+    let other = queues.poll(alloc, node(2))?.is_none();
+    let first = is_next(alloc, queues, b"one")?;
+    let second = is_next(alloc, queues, b"two")?;
+    let all = queues.poll(alloc, node(1))?.is_none();
+    Ok(other && first && second && all && queues.tape().len() == 6 && queues.tells())
+}
+
+// Whether these bytes come to node 1 next.
+fn is_next(alloc: Global, queues: &mut Queues, bytes: &[u8]) -> Result<bool, TransportFault> {
+    Ok(match queues.poll(alloc, node(1))? {
+        Some(found) => found.as_slice() == bytes,
+        None => false,
+    })
+}
+
 #[test]
 fn queues_hand_over(rt: HostRuntime) -> Result<(), Fail> {
-    let alloc = rt.alloc();
-    let mut queues = Queues::new(alloc)?;
-    queues.send(alloc, node(0)?, node(1)?, b"one")?;
-    queues.send(alloc, node(2)?, node(1)?, b"two")?;
-    assert!(rt; queues.poll(alloc, node(2)?)?.is_none());
-    let first = queues.poll(alloc, node(1)?)?.ok_or("a datagram")?;
-    assert_eq!(rt; first.as_slice(), b"one".as_slice());
-    let second = queues.poll(alloc, node(1)?)?.ok_or("a datagram")?;
-    assert_eq!(rt; second.as_slice(), b"two".as_slice());
-    assert!(rt; queues.poll(alloc, node(1)?)?.is_none());
-    assert_eq!(rt; queues.tape().len(), 6);
-    assert!(rt; queues.tells());
+    let mut queues = Queues::new(rt.alloc())?;
+    assert_eq!(rt; hand_over(rt.alloc(), &mut queues), Ok(true));
     Ok(())
 }
 
@@ -255,10 +314,10 @@ fn queues_hand_over(rt: HostRuntime) -> Result<(), Fail> {
 fn clusters_send(rt: HostRuntime) -> Result<(), Fail> {
     let alloc = rt.alloc();
     let mut cluster = three_nodes(alloc, Lossy)?;
-    cluster.step(alloc, Event::Timeout(node(1)?))?;
+    assert_eq!(rt; cluster.step(alloc, Event::Timeout(node(1))), Ok(()));
     assert_eq!(rt; cluster.failed_sends(), 3);
-    let end = cluster.round(alloc, node(0)?, &[node(0)?, node(2)?])?;
-    assert_eq!(rt; end, RoundEnd::Decided(Slot::first()));
+    let end = cluster.round(alloc, node(0), &[node(0), node(2)]);
+    assert_eq!(rt; end, Ok(RoundEnd::Decided(Slot::first())));
     assert_eq!(rt;
         cluster.failed_sends(),
         cluster.world().frames().len() as u64
@@ -272,13 +331,11 @@ fn clusters_send(rt: HostRuntime) -> Result<(), Fail> {
 #[test]
 fn one_request_over_queues(rt: HostRuntime) -> Result<(), Fail> {
     let alloc = rt.alloc();
-    let mut cluster = asked(alloc, Queues::new(alloc)?)?;
-    assert_eq!(rt; cluster.pump(alloc), Ok(18));
-    assert!(rt; tells(alloc, &cluster, REMOVED.as_slice())?);
-    assert_eq!(rt; cluster.world().frames().len(), 18);
-    assert_eq!(rt; (cluster.strangers(), cluster.failed_polls()), (0, 0));
-    // Nothing waits.
-    assert_eq!(rt; cluster.pump(alloc), Ok(0));
+    let cluster = asked(alloc, Queues::new(alloc)?)?;
+    let run = pump_twice(alloc, cluster, REMOVED.as_slice())?;
+    assert!(rt; run.is_told);
+    assert_eq!(rt; (run.first, run.second, run.frames), (18, 0, 18));
+    assert_eq!(rt; (run.strangers, run.failed_polls), (0, 0));
     Ok(())
 }
 
@@ -286,72 +343,89 @@ fn one_request_over_queues(rt: HostRuntime) -> Result<(), Fail> {
 #[test]
 fn one_request_over_stacks(rt: HostRuntime) -> Result<(), Fail> {
     let alloc = rt.alloc();
-    let mut cluster = asked(alloc, Stacks::new(alloc)?)?;
-    let _delivered = cluster.pump(alloc)?;
-    assert!(rt; tells(alloc, &cluster, REMOVED.as_slice())?);
-    assert_eq!(rt; (cluster.strangers(), cluster.failed_polls()), (0, 0));
+    let cluster = asked(alloc, Stacks::new(alloc)?)?;
+    let run = pump_twice(alloc, cluster, REMOVED.as_slice())?;
+    assert!(rt; run.is_told);
+    assert_eq!(rt; (run.strangers, run.failed_polls), (0, 0));
     Ok(())
+}
+
+// What comes of the request over queues that are troubled.
+fn over_trouble(alloc: Global, trouble: Trouble, lines: &[&str]) -> Result<Pumped, WorldFault> {
+    let cluster = asked(alloc, troubled(alloc, trouble)?)?;
+    pump_twice(alloc, cluster, lines)
 }
 
 // What was never sent, and what was sent to another node, is dropped and counted.
 #[test]
 fn strangers_change_nothing(rt: HostRuntime) -> Result<(), Fail> {
-    let alloc = rt.alloc();
-    let mut cluster = asked(alloc, troubled(alloc, Trouble::IsHostile(0))?)?;
-    assert_eq!(rt; cluster.pump(alloc), Ok(18));
-    assert!(rt; tells(alloc, &cluster, REMOVED.as_slice())?);
-    assert_eq!(rt; cluster.strangers(), 2);
+    let run = over_trouble(rt.alloc(), Trouble::IsHostile(0), REMOVED.as_slice())?;
+    assert!(rt; run.is_told);
+    assert_eq!(rt; (run.first, run.strangers), (18, 2));
     Ok(())
+}
+
+// How many frames come to a cluster whose world had begun so many campaigns, and how many strangers: node 1 is handed a Prepare.
+fn guessed(alloc: Global, campaigns: u32) -> Result<(u32, u64), WorldFault> {
+    let transport = troubled(alloc, Trouble::Guesses)?;
+    let mut cluster = Cluster::new(alloc, world_after(alloc, campaigns)?, transport)?;
+    let delivered = cluster.pump(alloc)?;
+    Ok((delivered, cluster.strangers()))
+}
+
+fn world_after(alloc: Global, campaigns: u32) -> Result<World<MemStable>, WorldFault> {
+    let mut world = World::new(alloc, Nodes::new(3).unwrap())?;
+    for _ in 0..campaigns {
+        world.step(alloc, Event::Timeout(node(0)))?;
+    }
+    Ok(world)
 }
 
 // What the world has sent before it was a cluster's is known, though the transport was never given it.
 #[test]
-fn frames_that_were_sent_before(rt: HostRuntime) -> Result<(), Fail> {
-    let alloc = rt.alloc();
+fn frames_that_were_sent_before(rt: HostRuntime) {
     for (campaigns, delivered, strangers) in [(0, 0, 1), (1, 2, 0), (2, 2, 0)] {
-        let mut world = World::new(alloc, Nodes::new(3).ok_or("nodes")?)?;
-        for _ in 0..campaigns {
-            world.step(alloc, Event::Timeout(node(0)?))?;
-        }
-        let mut cluster = Cluster::new(alloc, world, troubled(alloc, Trouble::Guesses)?)?;
-        assert_eq!(rt; cluster.pump(alloc), Ok(delivered));
-        assert_eq!(rt; cluster.strangers(), strangers);
+        assert_eq!(rt; guessed(rt.alloc(), campaigns), Ok((delivered, strangers)));
     }
-    Ok(())
 }
 
 #[test]
 fn one_node_is_down(rt: HostRuntime) -> Result<(), Fail> {
-    let alloc = rt.alloc();
-    let mut cluster = asked(alloc, troubled(alloc, Trouble::NodeTwoIsDown)?)?;
-    let _delivered = cluster.pump(alloc)?;
     let lines = ["learn 0 0 7:1", "learn 1 0 7:1", "reply 0 7:1 21"];
-    assert!(rt; tells(alloc, &cluster, lines.as_slice())?);
-    assert!(rt; cluster.failed_sends() > 0);
-    assert_eq!(rt; cluster.strangers(), 0);
+    let run = over_trouble(rt.alloc(), Trouble::NodeTwoIsDown, lines.as_slice())?;
+    assert!(rt; run.is_told);
+    assert!(rt; run.failed_sends > 0 && run.strangers == 0);
     Ok(())
 }
 
-// Each of 100 passes polls three nodes.
+// Each of 100 passes polls three nodes, and each pump has as many.
 #[test]
 fn nothing_is_heard(rt: HostRuntime) -> Result<(), Fail> {
-    let alloc = rt.alloc();
-    let mut cluster = asked(alloc, troubled(alloc, Trouble::NothingIsHeard)?)?;
-    assert_eq!(rt; cluster.pump(alloc), Ok(0));
-    assert_eq!(rt; told(alloc, &cluster)?.len(), 0);
-    assert_eq!(rt; (cluster.strangers(), cluster.failed_polls()), (0, 300));
+    let run = over_trouble(rt.alloc(), Trouble::NothingIsHeard, &[])?;
+    assert!(rt; run.is_told);
+    assert_eq!(rt; (run.first, run.strangers, run.failed_polls), (0, 0, 600));
     Ok(())
 }
 
 // What comes with the 100th pass is in time, and what comes after it waits for the next pump.
 #[test]
 fn datagrams_that_are_late(rt: HostRuntime) -> Result<(), Fail> {
-    let alloc = rt.alloc();
     for (polls, first, second) in [(299, 18, 0), (300, 0, 18)] {
-        let mut cluster = asked(alloc, troubled(alloc, Trouble::IsLate(polls))?)?;
-        assert_eq!(rt; cluster.pump(alloc), Ok(first));
-        assert_eq!(rt; cluster.pump(alloc), Ok(second));
-        assert!(rt; tells(alloc, &cluster, REMOVED.as_slice())?);
+        let run = over_trouble(rt.alloc(), Trouble::IsLate(polls), REMOVED.as_slice())?;
+        assert!(rt; run.is_told);
+        assert_eq!(rt; (run.first, run.second), (first, second));
+    }
+    Ok(())
+}
+
+// So many campaigns of a node.
+fn lead_often<T: Transport>(
+    alloc: Global,
+    cluster: &mut Cluster<T>,
+    campaigns: u32,
+) -> Result<(), WorldFault> {
+    for _ in 0..campaigns {
+        cluster.step(alloc, Event::Timeout(node(0)))?;
     }
     Ok(())
 }
@@ -360,11 +434,8 @@ fn datagrams_that_are_late(rt: HostRuntime) -> Result<(), Fail> {
 #[test]
 fn a_pump_that_would_not_end(rt: HostRuntime) -> Result<(), Fail> {
     let alloc = rt.alloc();
-    let leader = node(0)?;
     let mut cluster = three_nodes(alloc, Queues::new(alloc)?)?;
-    for _ in 0..3334 {
-        cluster.step(alloc, Event::Timeout(leader))?;
-    }
+    assert_eq!(rt; lead_often(alloc, &mut cluster, 3334), Ok(()));
     assert_eq!(rt; cluster.pump(alloc), Err(WorldFault::FlushLimit));
     assert_eq!(rt; cluster.world().outcomes().len(), 13334);
     Ok(())

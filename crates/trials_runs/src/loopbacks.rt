@@ -1,11 +1,11 @@
 //! Schedules over clusters: through queues, and through sockets.
 
-use crate::clusters::{REMOVED, asked, has_lines, node, tells, three_nodes};
+use crate::clusters::{REMOVED, asked, has_lines, node, pump_twice, three_nodes};
 use cluster::{Queues, Transport};
 use datagrams::Sockets;
 use endings::{Failure, FaultyLine};
 use loopback::run_through;
-use schedule::{ReplayFault, parse_schedule};
+use schedule::parse_schedule;
 use std::alloc::Global;
 use std::net::{IpAddr, Ipv4Addr, SocketAddr, UdpSocket};
 use std::test::Fail;
@@ -30,138 +30,126 @@ const LEARNT_BY_SEVEN: [&str; 8] = [
     "reply 6 7:1 21",
 ];
 
-// The text of a schedule of three nodes through queues.
-fn queued(alloc: Global, schedule: &[u8]) -> Result<Result<Vec<u8>, ReplayFault>, Fail> {
+// Whether the text of a schedule of three nodes through queues has these lines, in some order, and then that of its strangers.
+fn is_queued(alloc: Global, schedule: &[u8], lines: &[&str]) -> Result<bool, Fail> {
+    let schedule = parse_schedule(alloc, schedule)?;
     let mut cluster = three_nodes(alloc, Queues::new(alloc)?)?;
-    Ok(run_through(alloc, parse_schedule(alloc, schedule)?, &mut cluster))
+    Ok(match run_through(alloc, schedule, &mut cluster) {
+        Ok(text) => ends_so(text, lines),
+        Err(_) => false,
+    })
 }
 
 // The text of a schedule whose nodes have sockets.
-fn looped(rt: &HostRuntime, schedule: &[u8]) -> Result<Result<Vec<u8>, Failure>, Fail> {
-    let alloc = rt.alloc();
-    let schedule = match planned(alloc, schedule) {
-        Ok(schedule) => schedule,
-        Err(failure) => return Ok(Err(failure)),
-    };
-    let sockets = Sockets::bind(rt, alloc, schedule.nodes())?;
-    Ok(looped_over(alloc, schedule, sockets))
+fn looped(rt: &HostRuntime, schedule: &[u8]) -> Result<Vec<u8>, Failure> {
+    let schedule = planned(rt.alloc(), schedule)?;
+    let sockets = bound(rt, schedule.nodes())?;
+    looped_over(rt.alloc(), schedule, sockets)
 }
 
-// Whether the last line is this, and the others are these, in some order.
-fn ends_so(alloc: Global, text: &[u8], lines: &[&str], last: &str) -> Result<bool, Fail> {
-    let text = str::from_utf8(text)?;
-    match text.strip_suffix(last) {
-        Some(others) => has_lines(alloc, others, lines),
-        None => Ok(false),
+fn bound(rt: &HostRuntime, count: Nodes) -> Result<Sockets, Failure> {
+    match Sockets::bind(rt, rt.alloc(), count) {
+        Ok(sockets) => Ok(sockets),
+        Err(_) => Err(Failure::Device),
+    }
+}
+
+// Whether it has these lines, in some order, and then that of its strangers.
+fn is_looped(rt: &HostRuntime, schedule: &[u8], lines: &[&str]) -> bool {
+    match looped(rt, schedule) {
+        Ok(text) => ends_so(text, lines),
+        Err(_) => false,
+    }
+}
+
+// Whether these lines come, in some order, and then that of the strangers, of whom there is none.
+fn ends_so(text: Vec<u8>, lines: &[&str]) -> bool {
+    let Ok(text) = str::from_utf8(text.as_slice()) else {
+        return false;
+    };
+    match text.strip_suffix("strangers 0\n") {
+        Some(others) => has_lines(others, lines),
+        None => false,
     }
 }
 
 #[test]
 fn schedules_through_queues(rt: HostRuntime) -> Result<(), Fail> {
     let alloc = rt.alloc();
-    let text = queued(alloc, FIRST_RUN)??;
-    assert!(rt;
-        ends_so(
-            alloc,
-            text.as_slice(),
-            FIRST_LINES.as_slice(),
-            "strangers 0\n"
-        )?
-    );
+    assert!(rt; is_queued(alloc, FIRST_RUN, FIRST_LINES.as_slice())?);
     // Nothing comes where nothing is pumped, and what is dropped from the world comes nevertheless.
-    let text = queued(alloc, b"nodes 3\nsubmit 0 7 1 remove bus-7\ntimeout 0\n")??;
-    assert_eq!(rt; text.as_slice(), b"strangers 0\n".as_slice());
+    let unpumped = b"nodes 3\nsubmit 0 7 1 remove bus-7\ntimeout 0\n";
+    assert!(rt; is_queued(alloc, unpumped.as_slice(), &[])?);
     let dropped = b"nodes 3\nsubmit 0 7 1 remove bus-7\ntimeout 0\ndrop 0\ndrop 1\nflush\n";
-    let text = queued(alloc, dropped.as_slice())??;
-    assert!(rt;
-        ends_so(
-            alloc,
-            text.as_slice(),
-            FIRST_LINES.as_slice(),
-            "strangers 0\n"
-        )?
-    );
+    assert!(rt; is_queued(alloc, dropped.as_slice(), FIRST_LINES.as_slice())?);
     Ok(())
 }
 
-// No datagram of these few is lost on the way.
-#[test]
-fn schedules_through_sockets(rt: HostRuntime) -> Result<(), Fail> {
-    let alloc = rt.alloc();
-    let text = looped(&rt, FIRST_RUN)??;
-    assert!(rt;
-        ends_so(
-            alloc,
-            text.as_slice(),
-            FIRST_LINES.as_slice(),
-            "strangers 0\n"
-        )?
-    );
-    let text = looped(&rt, b"nodes 3\nround 0 0 1\n")??;
-    let lines = ["learn 0 0 noop", "round 0 decided 0"];
-    assert!(rt; ends_so(alloc, text.as_slice(), lines.as_slice(), "strangers 0\n")?);
-    Ok(())
-}
+// a schedule, and what is told of it
+const ROUNDS: [(&[u8], [&str; 2]); 3] = [
+    (
+        b"nodes 3\nround 0 0 1\n",
+        ["learn 0 0 noop", "round 0 decided 0"],
+    ),
+    (
+        b"nodes 5\nround 4 2 3 4\n",
+        ["learn 4 0 noop", "round 4 decided 0"],
+    ),
+    (
+        b"nodes 7\nround 6 3 4 5 6\n",
+        ["learn 6 0 noop", "round 6 decided 0"],
+    ),
+];
 
-// Five nodes and seven have as many sockets, and the last of them is heard.
+// No datagram of these few is lost on the way. Five nodes and seven have as many sockets, and the last of them is heard.
 #[test]
-fn schedules_of_more_nodes(rt: HostRuntime) -> Result<(), Fail> {
-    let alloc = rt.alloc();
-    let five = looped(&rt, b"nodes 5\nround 4 2 3 4\n")??;
-    let lines = ["learn 4 0 noop", "round 4 decided 0"];
-    assert!(rt; ends_so(alloc, five.as_slice(), lines.as_slice(), "strangers 0\n")?);
-    let seven = looped(&rt, b"nodes 7\nround 6 3 4 5 6\n")??;
-    let lines = ["learn 6 0 noop", "round 6 decided 0"];
-    assert!(rt; ends_so(alloc, seven.as_slice(), lines.as_slice(), "strangers 0\n")?);
-    let all = looped(
-        &rt,
-        b"nodes 7\nsubmit 6 7 1 remove bus-7\ntimeout 6\nflush\n",
-    )??;
-    assert!(rt;
-        ends_so(
-            alloc,
-            all.as_slice(),
-            LEARNT_BY_SEVEN.as_slice(),
-            "strangers 0\n"
-        )?
-    );
-    Ok(())
+fn schedules_through_sockets(rt: HostRuntime) {
+    assert!(rt; is_looped(&rt, FIRST_RUN, FIRST_LINES.as_slice()));
+    for (schedule, lines) in ROUNDS {
+        assert!(rt; is_looped(&rt, schedule, lines.as_slice()), "{schedule:?}");
+    }
+    let seven = b"nodes 7\nsubmit 6 7 1 remove bus-7\ntimeout 6\nflush\n";
+    assert!(rt; is_looped(&rt, seven.as_slice(), LEARNT_BY_SEVEN.as_slice()));
 }
 
 // Bytes that are no schedule, and a line that can't be done.
 #[test]
-fn loopbacks_that_stop(rt: HostRuntime) -> Result<(), Fail> {
-    let failure = looped(&rt, b"nodes 4\n")?.err();
-    assert_eq!(rt;
-        failure,
-        Some(Failure::Schedule(FaultyLine { line: 1, fault: 3 }))
-    );
-    let failure = looped(&rt, b"nodes 3\n\ndeliver 0\n")?.err();
-    assert_eq!(rt;
-        failure,
-        Some(Failure::Schedule(FaultyLine { line: 3, fault: 51 }))
-    );
+fn loopbacks_that_stop(rt: HostRuntime) {
+    for (schedule, line, fault) in [
+        (b"nodes 4\n".as_slice(), 1, 3),
+        (b"nodes 3\n\ndeliver 0\n", 3, 51),
+    ] {
+        let failure = looped(&rt, schedule).err();
+        assert_eq!(rt;
+            failure,
+            Some(Failure::Schedule(FaultyLine { line, fault }))
+        );
+    }
+}
+
+// Sends each socket what none of its nodes has sent.
+fn send_foreign(rt: &HostRuntime, sockets: &Sockets) -> Result<(), Fail> {
+    let foreign = UdpSocket::bind(rt, SocketAddr::from((Ipv4Addr::LOCALHOST, 0)))?;
+    let longest = [0x4D; 1000];
+    for value in 0..3 {
+        if let Some(address) = sockets.address(node(value)) {
+            for bytes in [b"".as_slice(), b"MP", longest.as_slice()] {
+                let _sent = foreign.send_to(bytes, address);
+            }
+        }
+    }
     Ok(())
 }
 
 // What others send to the sockets becomes no Deliver.
 #[test]
 fn foreign_datagrams(rt: HostRuntime) -> Result<(), Fail> {
-    let alloc = rt.alloc();
-    let sockets = Sockets::bind(&rt, alloc, Nodes::new(3).ok_or("nodes")?)?;
-    let foreign = UdpSocket::bind(&rt, SocketAddr::from((Ipv4Addr::LOCALHOST, 0)))?;
-    let longest = [0x4D; 1000];
-    for value in 0..3 {
-        let address = sockets.address(node(value)?).ok_or("an address")?;
-        for bytes in [b"".as_slice(), b"MP", longest.as_slice()] {
-            let _sent = foreign.send_to(bytes, address)?;
-        }
-    }
-    let mut cluster = asked(alloc, sockets)?;
-    assert_eq!(rt; cluster.pump(alloc), Ok(18));
-    assert!(rt; tells(alloc, &cluster, REMOVED.as_slice())?);
-    assert!(rt; cluster.strangers() > 0 && cluster.strangers() <= 9);
-    assert_eq!(rt; (cluster.failed_sends(), cluster.failed_polls()), (0, 0));
+    let sockets = bound(&rt, Nodes::new(3).unwrap())?;
+    send_foreign(&rt, &sockets)?;
+    let run = pump_twice(rt.alloc(), asked(rt.alloc(), sockets)?, REMOVED.as_slice())?;
+    assert!(rt; run.is_told);
+    assert_eq!(rt; (run.first, run.failed_sends, run.failed_polls), (18, 0, 0));
+    assert!(rt; run.strangers > 0 && run.strangers <= 9);
     Ok(())
 }
 
@@ -169,14 +157,17 @@ fn foreign_datagrams(rt: HostRuntime) -> Result<(), Fail> {
 #[test]
 fn sockets_of_three(rt: HostRuntime) -> Result<(), Fail> {
     let alloc = rt.alloc();
-    let (first, fourth) = (node(0)?, node(3)?);
-    let mut sockets = Sockets::bind(&rt, alloc, Nodes::new(3).ok_or("nodes")?)?;
+    let (first, fourth) = (node(0), node(3));
+    let mut sockets = bound(&rt, Nodes::new(3).unwrap())?;
     assert!(rt; sockets.address(fourth).is_none());
-    let address = sockets.address(first).ok_or("an address")?;
-    assert_eq!(rt; address.ip(), IpAddr::V4(Ipv4Addr::LOCALHOST));
+    let at_home = match sockets.address(first) {
+        Some(address) => address.ip() == IpAddr::V4(Ipv4Addr::LOCALHOST),
+        None => false,
+    };
+    assert!(rt; at_home);
     assert!(rt; sockets.send(alloc, first, fourth, b"none").is_err());
     assert!(rt; sockets.send(alloc, fourth, first, b"none").is_err());
     assert!(rt; sockets.poll(alloc, fourth).is_err());
-    assert!(rt; sockets.poll(alloc, first)?.is_none());
+    assert!(rt; matches!(sockets.poll(alloc, first), Ok(None)));
     Ok(())
 }

@@ -1,16 +1,17 @@
 //! Lines of schedules with their faults, and a run over records. Schedules with their transcripts are the examples.
 
+use crate::clusters::{bus, node};
+use crate::worlds::three_storages;
 use schedule::{
-    Action, ParseFault, ReplayCause, ReplayFault, Replayed, ScheduleFault, faulty_is_no_schedule,
+    Action, ParseFault, ReplayCause, ReplayFault, ScheduleFault, faulty_is_no_schedule,
     first_faults_are_one, parse_schedule, run, schedules_are_one,
 };
 use sessions::Number;
-use stable::{Key, MemStable, Stable};
+use stable::MemStable;
 use std::alloc::Global;
 use std::test::Fail;
 use store::Op;
-use tpoint::{Id, Instant, Interp, Point, Seq};
-use wire::NodeId;
+use tpoint::{Instant, Interp, Point, Seq};
 use world::Event;
 
 // the number of a fault, and lines that have it after `nodes 3`, parted by line feeds
@@ -248,50 +249,45 @@ fn first_faults_of_files(rt: HostRuntime) -> Result<(), Fail> {
     Ok(())
 }
 
-// the action of the one line after `nodes 3`
-fn only_action(alloc: Global, line: &[u8]) -> Result<Action, Fail> {
-    let mut file = b"nodes 3\n".to_vec(alloc)?;
-    file.extend_from_slice(line)?;
-    let schedule = parse_schedule(alloc, &file).ok().ok_or("a schedule")?;
+// 2020-01-01T00:00:00.000Z
+const NEW_YEAR: i64 = 1_577_836_800_000;
+
+// blanks belong to the document, also where they stand first and last
+const PUT: &[u8] =
+    b"nodes 3\nsubmit 0 7 1 put  {\"type\": \"Feature\", \"id\": \"bus-7\", \"temporalGeometry\": \
+{\"type\": \"MovingPoint\", \"datetimes\": [\"2020-01-01T00:00:00Z\"], \"coordinates\": [[1, -2]], \
+\"interpolation\": \"Step\"}} ";
+
+/// The action of the one line after that of the nodes.
+fn only_action(alloc: Global, file: &[u8]) -> Result<Action, Fail> {
+    let schedule = parse_schedule(alloc, file)?;
     match schedule.lines() {
         [line] => Ok(line.action.clone()?),
         _ => Err("one line")?,
     }
 }
 
-fn node(value: u8) -> Result<NodeId, Fail> {
-    Ok(NodeId::new(value).ok_or("a node")?)
-}
-
-fn instant(ms: i64) -> Result<Instant, Fail> {
-    Ok(Instant::new(ms).ok_or("an instant")?)
-}
-
-// 2020-01-01T00:00:00.000Z
-const NEW_YEAR: i64 = 1_577_836_800_000;
-
-// blanks belong to the document, also where they stand first and last
-const PUT: &[u8] =
-    b"submit 0 7 1 put  {\"type\": \"Feature\", \"id\": \"bus-7\", \"temporalGeometry\": \
-{\"type\": \"MovingPoint\", \"datetimes\": [\"2020-01-01T00:00:00Z\"], \"coordinates\": [[1, -2]], \
-\"interpolation\": \"Step\"}} ";
-
-#[test]
-fn put_document(rt: HostRuntime) -> Result<(), Fail> {
+/// Whether bus-7 is put, with its one point.
+fn is_put(alloc: Global, action: Action) -> Result<bool, Fail> {
     let point = Point {
-        t: instant(NEW_YEAR)?,
+        t: Instant::new(NEW_YEAR).unwrap(),
         x: 1,
         y: -2,
     };
-    let points = Vec::from_array(rt.alloc(), [point])?;
-    let seq = Seq::new(Interp::Step, points).ok().ok_or("a sequence")?;
+    let seq = Seq::new(Interp::Step, Vec::from_array(alloc, [point])?)?;
     let wanted = Action::Step(Event::Submit {
-        node: node(0)?,
+        node: node(0),
         client: 7,
-        number: Number::new(1).ok_or("a number")?,
-        op: Op::Put(Id::new(b"bus-7").ok_or("an id")?, seq),
+        number: Number::new(1).unwrap(),
+        op: Op::Put(bus(), seq),
     });
-    assert!(rt; only_action(rt.alloc(), PUT)? == wanted, "of a put");
+    Ok(action == wanted)
+}
+
+#[test]
+fn put_document(rt: HostRuntime) -> Result<(), Fail> {
+    let action = only_action(rt.alloc(), PUT)?;
+    assert!(rt; is_put(rt.alloc(), action)?, "of a put");
     Ok(())
 }
 
@@ -319,41 +315,33 @@ fn numbers_of_causes(rt: HostRuntime) -> Result<(), Fail> {
 }
 
 // a file, and its transcript
-const TOLD: [(&[u8], &[u8]); 2] = [
-    (b"nodes 3", b""),
-    (
-        b"nodes 3\nsubmit 0 7 1 remove bus-7\ntimeout 0\nflush\n",
-        b"learn 0 0 7:1\nreply 0 7:1 21\nlearn 1 0 7:1\nlearn 2 0 7:1\n",
-    ),
-];
+const ONE_REQUEST: (&[u8], &[u8]) = (
+    b"nodes 3\nsubmit 0 7 1 remove bus-7\ntimeout 0\nflush\n",
+    b"learn 0 0 7:1\nreply 0 7:1 21\nlearn 1 0 7:1\nlearn 2 0 7:1\n",
+);
 
-// A schedule over records in memory of its own, of which one node's hold something, where that is wanted.
-fn run_over_records(
-    alloc: Global,
-    used: bool,
-) -> Result<Result<Replayed<MemStable>, ReplayFault>, Fail> {
-    let schedule = parse_schedule(alloc, TOLD[1].0).ok().ok_or("a schedule")?;
-    let mut stores = Vec::new(alloc);
-    for _ in 0..schedule.nodes().count() {
-        let mut store = MemStable::new(alloc);
-        if used {
-            store.put(alloc, Key::Promise, b"012345678".to_vec(alloc)?)?;
-        }
-        stores.push(store)?;
-    }
+/// Whether a run of one request over these storages has its transcript.
+fn is_told_over(alloc: Global, stores: Vec<MemStable>) -> Result<bool, ReplayFault> {
+    let (file, wanted) = ONE_REQUEST;
+    let schedule = parse_schedule(alloc, file)?;
     if stores.len() != usize::from(schedule.nodes().count()) {
-        return Err(Fail::from("storages"));
+        return Ok(false);
     }
-    Ok(run(alloc, schedule, stores))
+    Ok(run(alloc, schedule, stores)?.text.as_slice() == wanted)
 }
 
-// A run over storages that are handed over has the transcript of a replay, where these are empty.
+/// A run over storages that are handed over has the transcript of a replay, where these are empty.
 #[test]
 fn runs_over_records(rt: HostRuntime) -> Result<(), Fail> {
     let alloc = rt.alloc();
-    let replayed = run_over_records(alloc, false)?.ok().ok_or("a transcript")?;
-    assert!(rt; replayed.text.as_slice() == TOLD[1].1);
-    let fault = run_over_records(alloc, true)?.err().ok_or("a fault")?;
-    assert_eq!(rt; (fault.line, fault.cause), (1, ReplayCause::NotEmpty));
+    assert_eq!(rt; is_told_over(alloc, three_storages(alloc, 3)?), Ok(true));
+    let not_empty = ReplayFault {
+        line: 1,
+        cause: ReplayCause::NotEmpty,
+    };
+    assert_eq!(rt;
+        is_told_over(alloc, three_storages(alloc, 2)?),
+        Err(not_empty)
+    );
     Ok(())
 }

@@ -1,59 +1,42 @@
 //! Worlds: what a whole run leaves in each list, and what a world refuses. What comes of runs of all kinds are the examples.
 
+ghost use Rattle.std.specs.Prelude.{◌≡◌, vec_len, IfOk};
+
+use crate::clusters::{bus, node};
 use sessions::Number;
-use stable::{Key, MemStable, Stable};
-use std::alloc::Global;
+use stable::{Key, MemStable, Stable, StableFault};
+use std::alloc::{AllocError, Global};
 use std::test::Fail;
 use store::{Op, Query};
-use tpoint::{Id, Instant, Interp, Point, Seq};
-use wire::{NodeId, Nodes};
+use tpoint::{Instant, Interp, Point, Seq};
+use wire::{Frame, NodeId, Nodes};
 use world::{
     Event, World, WorldFault, a_start_tells, answers_are_one, lists_are_as_told, steps_tell,
     tellings_are_explained,
 };
 
-fn node(value: u8) -> Result<NodeId, Fail> {
-    Ok(NodeId::new(value).ok_or("a node")?)
-}
-
-fn bus() -> Result<Id, Fail> {
-    Ok(Id::new(b"bus-7").ok_or("an id")?)
-}
-
-fn number() -> Result<Number, Fail> {
-    Ok(Number::new(1).ok_or("a number")?)
-}
-
 // Client 7 asks node 0 for this.
-fn submission(op: Op) -> Result<Event, Fail> {
-    Ok(Event::Submit {
-        node: node(0)?,
+fn submission(op: Op) -> Event {
+    Event::Submit {
+        node: node(0),
         client: 7,
-        number: number()?,
+        number: Number::new(1).unwrap(),
         op,
-    })
-}
-
-fn count_of(value: u8) -> Result<Event, Fail> {
-    Ok(Event::Query(node(value)?, Query::Count))
-}
-
-fn three_nodes(alloc: Global) -> Result<World<MemStable>, Fail> {
-    let nodes = Nodes::new(3).ok_or("nodes")?;
-    Ok(World::new(alloc, nodes)?)
+    }
 }
 
 // A request is submitted at node 0, which leads, and all frames are delivered. Node 1 is asked before and after.
-fn run_of_one(alloc: Global) -> Result<World<MemStable>, Fail> {
-    let (before, after) = (count_of(1)?, count_of(1)?);
-    let submitted = submission(Op::Remove(bus()?))?;
-    let leads = Event::Timeout(node(0)?);
-    let mut world = three_nodes(alloc)?;
-    for event in [before, submitted, leads] {
-        world.step(alloc, event)?;
-    }
+fn run_one(alloc: Global, world: &mut World<MemStable>) -> Result<(), WorldFault> {
+    world.step(alloc, Event::Query(node(1), Query::Count))?;
+    world.step(alloc, submission(Op::Remove(bus())))?;
+    world.step(alloc, Event::Timeout(node(0)))?;
     let _delivered = world.flush(alloc)?;
-    world.step(alloc, after)?;
+    world.step(alloc, Event::Query(node(1), Query::Count))
+}
+
+fn run_of_one(alloc: Global) -> Result<World<MemStable>, WorldFault> {
+    let mut world = World::new(alloc, Nodes::new(3).unwrap())?;
+    run_one(alloc, &mut world)?;
     Ok(world)
 }
 
@@ -90,6 +73,14 @@ const PREPARE: [u8; 19] = [
     0x4D, 0x50, 1, 1, 0, 0, 0, 0, 0, 0, 0, 0, 0, 1, 0, 0, 0, 0, 0,
 ];
 
+// Whether the first frame has these bytes.
+fn begins_with(alloc: Global, frames: &[Frame], bytes: &[u8]) -> Result<bool, AllocError> {
+    Ok(match frames.first() {
+        Some(first) => first.bytes(alloc)?.as_slice() == bytes,
+        None => false,
+    })
+}
+
 // What a whole run of one request leaves in each list.
 #[test]
 fn one_request(rt: HostRuntime) -> Result<(), Fail> {
@@ -103,8 +94,10 @@ fn one_request(rt: HostRuntime) -> Result<(), Fail> {
     ];
     assert_eq!(rt; writes, [Some(3), Some(2), Some(2), None]);
     assert!(rt; is_answered(&world));
-    let first = world.frames().first().ok_or("a frame")?;
-    assert!(rt; first.bytes(rt.alloc())?.as_slice() == PREPARE.as_slice());
+    assert_eq!(rt;
+        begins_with(rt.alloc(), world.frames(), PREPARE.as_slice()),
+        Ok(true)
+    );
     Ok(())
 }
 
@@ -112,24 +105,23 @@ fn one_request(rt: HostRuntime) -> Result<(), Fail> {
 fn ride(alloc: Global) -> Result<Op, Fail> {
     let mut points = Vec::new(alloc);
     for (ms, x, y) in [(0, 0, 0), (3000, 10, 5)] {
-        let t = Instant::new(ms).ok_or("an instant")?;
+        let t = Instant::new(ms).unwrap();
         points.push(Point { t, x, y })?;
     }
-    Ok(Op::Put(bus()?, Seq::new(Interp::Linear, points)?))
+    Ok(Op::Put(bus(), Seq::new(Interp::Linear, points)?))
 }
 
 // Whether the copy of an event is the same event.
-fn is_copied(event: &Event) -> Result<bool, Fail> {
-    let copy = event.clone()?;
-    Ok(copy == *event)
+fn is_copied(event: Event) -> Result<bool, AllocError> {
+    Ok(event.clone()? == event)
 }
 
 #[test]
 fn events_are_copied(rt: HostRuntime) -> Result<(), Fail> {
-    let put = submission(ride(rt.alloc())?)?;
-    assert!(rt; is_copied(&put)?);
-    let question = Event::Query(node(1)?, Query::Get(bus()?));
-    assert!(rt; is_copied(&question)?);
+    let question = Event::Query(node(1), Query::Get(bus()));
+    assert_eq!(rt; is_copied(question), Ok(true));
+    let ride = ride(rt.alloc())?;
+    assert_eq!(rt; is_copied(submission(ride)), Ok(true));
     Ok(())
 }
 
@@ -142,33 +134,39 @@ fn laws_run_nothing() {
     tellings_are_explained::<MemStable>();
 }
 
-// Records in memory, which hold one, or none.
-fn records(alloc: Global, used: bool) -> Result<MemStable, Fail> {
-    let mut store = MemStable::new(alloc);
-    if used {
-        store.put(alloc, Key::Round, b"01234567".to_vec(alloc)?)?;
+// Three storages, of which this one holds a record.
+pub(crate) fn three_storages(alloc: Global, used: usize) -> Result<Vec<MemStable>, StableFault>
+    ensures { IfOk result (λ stores. vec_len stores ≡ 3) }
+{
+    let (first, second, third) = (
+        MemStable::new(alloc),
+        MemStable::new(alloc),
+        MemStable::new(alloc),
+    );
+    let mut stores = Vec::from_array(alloc, [first, second, third])?;
+    if let Some(store) = stores.get_mut(used) {
+        use_records(alloc, store)?;
     }
-    Ok(store)
+    Ok(stores)
 }
 
-// Why no world begins over three storages of which this one holds a record.
-fn refusal(alloc: Global, used: u8) -> Result<Option<WorldFault>, Fail> {
-    let first = records(alloc, used == 0)?;
-    let second = records(alloc, used == 1)?;
-    let third = records(alloc, used == 2)?;
-    let nodes = Nodes::new(3).ok_or("nodes")?;
-    let stores = Vec::from_array(alloc, [first, second, third])?;
-    Ok(World::with(alloc, nodes, stores).err())
+fn use_records(alloc: Global, store: &mut MemStable) -> Result<(), StableFault> {
+    store.put(alloc, Key::Round, b"01234567".to_vec(alloc)?)
+}
+
+// Why no world begins over such storages.
+fn refusal(alloc: Global, used: usize) -> Result<Option<WorldFault>, StableFault> {
+    let stores = three_storages(alloc, used)?;
+    Ok(World::with(alloc, Nodes::new(3).unwrap(), stores).err())
 }
 
 // No run begins over storages of which one holds a record, whichever it is.
 #[test]
-fn no_run_over_used_records(rt: HostRuntime) -> Result<(), Fail> {
+fn no_run_over_used_records(rt: HostRuntime) {
     for used in 0..3 {
-        let fault = refusal(rt.alloc(), used)?;
-        assert_eq!(rt; fault, Some(WorldFault::NotEmpty), "{used}");
+        let fault = refusal(rt.alloc(), used);
+        assert_eq!(rt; fault, Ok(Some(WorldFault::NotEmpty)), "{used}");
     }
-    assert!(rt; refusal(rt.alloc(), 3)?.is_none());
+    assert_eq!(rt; refusal(rt.alloc(), 3), Ok(None));
     assert_eq!(rt; WorldFault::NotEmpty.code(), 55);
-    Ok(())
 }
