@@ -1,6 +1,6 @@
 //! The words after `submit`.
 
-ghost use Rattle.std.specs.Prelude.{◌≡◌, ℕ, ◌<◌, ◌∷◌, ◌++◌, length, MatchOption, MatchResult, codes};
+ghost use Rattle.std.specs.Prelude.{◌≡◌, ℕ, ◌<◌, ◌∷◌, [], ◌++◌, length, MatchOption, MatchResult, codes};
 ghost use Rattle.schedule.specs.Rows.{IsFaultAt, IsRowFault, IsWordsFault};
 ghost use Rattle.schedule.specs.Spelling.{SpellsOp, operation_of};
 ghost use Rattle.schedule.specs.Submissions.{Names, asker_places, asker_words, submit_words};
@@ -132,19 +132,32 @@ fn addition(mut words: Words) -> Result<Op, ScheduleFault>
     let name = words.needed()?;
     let datetime = words.needed()?;
     let (across, along) = words.pair()?;
+    match appended(name, datetime, across, along) {
+        Some(op) => Ok(op),
+        None => Err(ScheduleFault::WordForm),
+    }
+}
+
+/// The point that an id, an instant and two coordinates add to a feature.
+fn appended(name: &[u8], datetime: &[u8], across: &[u8], along: &[u8]) -> Option<Op>
+    ensures { MatchOption result
+        ((n : ℕ) → HasMisfit n (operation_places Operation.Append) (name.now ∷ datetime.now ∷ across.now ∷ along.now ∷ []))
+        (λ op. (operation_of op ≡ Operation.Append)
+        × SpellsOp (name.now ∷ datetime.now ∷ across.now ∷ along.now ∷ []) op) }
+{
     let Some(id) = id(name) else {
-        return Err(ScheduleFault::WordForm);
+        return None;
     };
     let Some(t) = instant(datetime) else {
-        return Err(ScheduleFault::WordForm);
+        return None;
     };
     let Some(x) = coordinate(across) else {
-        return Err(ScheduleFault::WordForm);
+        return None;
     };
     let Some(y) = coordinate(along) else {
-        return Err(ScheduleFault::WordForm);
+        return None;
     };
-    Op::append(id, Point { t, x, y }).ok_or(ScheduleFault::WordForm)
+    Op::append(id, Point { t, x, y })
 }
 
 /// The removal of the feature that the words name.
