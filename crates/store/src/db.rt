@@ -1,6 +1,6 @@
 //! The database.
 
-ghost use Rattle.std.specs.Prelude.{◌≡◌, ◌+◌, ◌<◌, ◌∷◌, ◌++◌, [], false, length, IsTrue, IsOk, IfOk, IfErr, OnOk, OnErr};
+ghost use Rattle.std.specs.Prelude.{◌≡◌, ◌+◌, ◌<◌, ℕ, List, ◌∷◌, ◌++◌, [], false, length, IsTrue, IsOk, IfOk, IfErr, OnOk, OnErr};
 ghost use Rattle.std.specs.Option.{option_copied};
 ghost use Rattle.store.specs.Answers.{IsAnswer};
 ghost use Rattle.store.specs.Features.{IsDatabase, feature_of};
@@ -110,7 +110,7 @@ impl Db {
     {
         match self.place(id) {
             Ok(at) => {
-                self.replace(at, id, seq)?;
+                self.replace(at, seq)?;
                 Ok(Reply::Done)
             }
             Err(at) => {
@@ -124,9 +124,10 @@ impl Db {
     }
 
     /// Gives the feature at a place another sequence.
-    fn replace(&mut self, at: usize, id: &Id, seq: &Seq) -> Result<(), AllocError>
-        requires { IsAt self.old id.now at }
-        ensures effect { OnOk result (self.new ≡ effect self.old (Op.Put id.now seq.now)) }
+    fn replace(&mut self, at: usize, seq: &Seq) -> Result<(), AllocError>
+        requires { at < length self.old }
+        ensures effect { OnOk result ((id : List ℕ) → IsAt self.old id at
+            → self.new ≡ effect self.old (Op.Put id seq.now)) }
         ensures err { OnErr result (self.new ≡ self.old) }
     {
         let seq = seq.clone()?;

@@ -8,6 +8,9 @@ pub returns-in_ok-replace-in-Ok-clause-reply : goal.returns-in_ok-replace-in-Ok-
 returns-in_ok-replace-in-Ok-clause-reply c =
     sym (put_known-reply c.args.self.now c.args.id.now c.args.seq.now _ c.in-Ok.ensures.found)
 
+pub returns-in_ok-replace-in-Ok-clause-effect : goal.returns-in_ok-replace-in-Ok-clause-effect
+returns-in_ok-replace-in-Ok-clause-effect c = c.in_ok-replace-in-Ok.ensures.effect c.args.id.now c.in-Ok.ensures.found
+
 pub returns-in_err-replace-in-Ok-clause-in_place : goal.returns-in_err-replace-in-Ok-clause-in_place
 returns-in_err-replace-in-Ok-clause-in_place c = λ refused.
     let done : true ≡ false =
