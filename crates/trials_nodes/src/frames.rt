@@ -60,10 +60,10 @@ fn fault(alloc: Global, bytes: &[u8]) -> Result<u8, Fail> {
 /// Whether three nodes read a frame, whose copy is the same and is spelled again so.
 fn is_frame(alloc: Global, bytes: &[u8]) -> Result<bool, Fail> {
     let envelope = read(alloc, bytes)?;
-    Ok(is_same(alloc, &envelope, bytes)?)
+    is_same(alloc, &envelope, bytes)
 }
 
-fn is_same(alloc: Global, envelope: &Envelope, bytes: &[u8]) -> Result<bool, AllocError> {
+fn is_same(alloc: Global, envelope: &Envelope, bytes: &[u8]) -> Result<bool, Fail> {
     Ok(is_copied(envelope)? && is_spelled(alloc, envelope, bytes)?)
 }
 

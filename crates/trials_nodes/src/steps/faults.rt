@@ -1,10 +1,9 @@
 //! Nodes that go down, and what a restart finds.
 
-use super::fleet::Member;
-use super::letters::node_id;
+use super::fleet::{Fleet, Member};
 use super::tables_hold;
-use node::{Node, NodeFault};
-use stable::{Key, MemStable, Scripted, Stable};
+use node::NodeFault;
+use stable::{Key, MemStable, Stable};
 use std::alloc::Global;
 use std::test::Fail;
 use synod::Slot;
@@ -120,19 +119,21 @@ fn damaged_records_keep_a_node_down(rt: HostRuntime) -> Result<(), Fail> {
     Ok(())
 }
 
+/// Whether a node stays down where this record of it is of no form.
 fn is_kept_down(alloc: Global, key: Key) -> Result<bool, Fail> {
-    let mut member = damaged(alloc, key)?;
-    Ok(stays_down(alloc, &mut member))
+    let nodes = Nodes::new(3).ok_or("nodes")?;
+    let records = damaged(alloc, key)?;
+    let mut fleet = Fleet::empty(alloc);
+    fleet.start(alloc, records, 0, nodes)?;
+    Ok(stays_down(alloc, fleet.member(0)?))
 }
 
-/// A node one of whose records is of no form.
-fn damaged(alloc: Global, key: Key) -> Result<Member, Fail> {
-    let nodes = Nodes::new(3).ok_or("nodes")?;
-    let id = node_id(0)?;
+/// Records of which one is of no form.
+fn damaged(alloc: Global, key: Key) -> Result<MemStable, Fail> {
     let bytes = [0u8; 8].to_vec(alloc)?;
     let mut records = MemStable::new(alloc);
     records.put(alloc, key, bytes)?;
-    Ok(Node::start(alloc, Scripted::new(alloc, records), id, nodes))
+    Ok(records)
 }
 
 /// Whether a node is down, and a restart finds the damage and leaves it down.

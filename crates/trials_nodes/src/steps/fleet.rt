@@ -44,44 +44,80 @@ impl Fleet {
     /// So many nodes, none of which has a record.
     pub fn new(alloc: Global, count: u8) -> Result<Fleet, Fail> {
         let nodes = Nodes::new(count).ok_or("nodes")?;
-        let mut members = Vec::new(alloc);
+        let mut fleet = Fleet::empty(alloc);
         for value in 0..count {
-            let id = node_id(value)?;
-            let storage = Scripted::new(alloc, MemStable::new(alloc));
-            members.push(Node::start(alloc, storage, id, nodes))?;
+            fleet.start(alloc, MemStable::new(alloc), value, nodes)?;
         }
-        Ok(Fleet {
-            members,
+        Ok(fleet)
+    }
+
+    /// No node.
+    pub fn empty(alloc: Global) -> Fleet {
+        Fleet {
+            members: Vec::new(alloc),
             sent: Vec::new(alloc),
-        })
+        }
+    }
+
+    /// Starts one more node, over these records.
+    pub fn start(
+        &mut self,
+        alloc: Global,
+        records: MemStable,
+        value: u8,
+        nodes: Nodes,
+    ) -> Result<(), Fail> {
+        let id = node_id(value)?;
+        let storage = Scripted::new(alloc, records);
+        self.members.push(Node::start(alloc, storage, id, nodes))?;
+        Ok(())
     }
 
     /// Takes a step: what is told of it.
     pub fn take(&mut self, alloc: Global, step: &str) -> Result<String, Fail> {
-        if let Some((who, said)) = step.split_once(", ") {
-            return self.listen(alloc, who, said);
-        }
-        let numbers = numbers(alloc, step)?;
-        self.follow(alloc, step, numbers.as_slice())
+        let mut text = String::new(alloc);
+        self.tell(alloc, &mut text, step)?;
+        Ok(text)
     }
 
-    /// Takes a step of these numbers: what is told of it.
-    fn follow(&mut self, alloc: Global, step: &str, numbers: &[u64]) -> Result<String, Fail> {
+    /// Takes a step, and tells it.
+    fn tell(&mut self, alloc: Global, text: &mut String, step: &str) -> Result<(), Fail> {
+        if let Some((who, said)) = step.split_once(", ") {
+            return self.listen(alloc, text, who, said);
+        }
+        let numbers = numbers(alloc, step)?;
+        self.follow(alloc, text, step, numbers.as_slice())
+    }
+
+    /// Takes a step of these numbers.
+    fn follow(
+        &mut self,
+        alloc: Global,
+        text: &mut String,
+        step: &str,
+        numbers: &[u64],
+    ) -> Result<(), Fail> {
         match (step.split_once(' '), numbers) {
-            (Some((word, _)), &[at]) => self.act(alloc, word, step, at),
+            (Some((word, _)), &[at]) => self.act(alloc, text, word, step, at),
             (Some(_), &[to, client, value]) => {
-                self.submit(alloc, small(to), small(client), value, removal()?)
+                self.submit(alloc, text, small(to), small(client), value, removal()?)
             }
             (Some(_), &[to, client, value, instants]) => {
                 let ride = ride(alloc, instants)?;
-                self.submit(alloc, small(to), small(client), value, ride)
+                self.submit(alloc, text, small(to), small(client), value, ride)
             }
-            _ => self.flush(alloc),
+            _ => self.flush(alloc, text),
         }
     }
 
     /// A node hears what is said: by whom, and whether it is addressed to it.
-    fn listen(&mut self, alloc: Global, who: &str, said: &str) -> Result<String, Fail> {
+    fn listen(
+        &mut self,
+        alloc: Global,
+        text: &mut String,
+        who: &str,
+        said: &str,
+    ) -> Result<(), Fail> {
         let numbers = numbers(alloc, who)?;
         let &[hearer, from] = numbers.as_slice() else {
             return Err("two nodes".into());
@@ -89,28 +125,27 @@ impl Fleet {
         let (hearer, from) = (small(hearer), small(from));
         let to = if who.starts_with('h') { hearer } else { from };
         let message = Input::Message(envelope(alloc, from, to, said)?);
-        self.give(alloc, hearer, message)
+        self.give(alloc, text, hearer, message)
     }
 
     fn submit(
         &mut self,
         alloc: Global,
+        text: &mut String,
         to: u8,
         client: u8,
         value: u64,
         op: Op,
-    ) -> Result<String, Fail> {
+    ) -> Result<(), Fail> {
         let number = number(value)?;
-        self.give(alloc, to, Input::Submit { client, number, op })
+        self.give(alloc, text, to, Input::Submit { client, number, op })
     }
 
     /// Gives an input to a node: what it tells, and then what it sends.
-    fn give(&mut self, alloc: Global, to: u8, input: Input) -> Result<String, Fail> {
-        let mut text = String::new(alloc);
-        let sends = self.hear(alloc, &mut text, to, input)?;
-        tell_sends(alloc, &mut text, sends.as_slice())?;
-        self.keep(sends)?;
-        Ok(text)
+    fn give(&mut self, alloc: Global, text: &mut String, to: u8, input: Input) -> Result<(), Fail> {
+        let sends = self.hear(alloc, text, to, input)?;
+        tell_sends(alloc, text, sends.as_slice())?;
+        self.keep(sends)
     }
 
     /// Gives an input to a node, which tells what it does: what it sends.
@@ -124,13 +159,7 @@ impl Fleet {
         let Some(member) = self.members.get_mut(usize::from(to)) else {
             return Err("member".into());
         };
-        match member.step(alloc, input) {
-            Ok(outputs) => tell_outputs(text, to, outputs),
-            Err(fault) => {
-                tell_fault(text, to, fault)?;
-                Ok(Vec::new(alloc))
-            }
-        }
+        Ok(tell_outcome(alloc, text, to, member.step(alloc, input))?)
     }
 
     /// What is sent waits to be delivered.
@@ -150,10 +179,10 @@ impl Fleet {
         Ok(Some(sent.frame.open(alloc)?))
     }
 
-    fn deliver(&mut self, alloc: Global, at: usize) -> Result<String, Fail> {
+    fn deliver(&mut self, alloc: Global, text: &mut String, at: usize) -> Result<(), Fail> {
         let envelope = self.open(alloc, at)?.ok_or("frame")?;
         let to = envelope.to.value();
-        self.give(alloc, to, Input::Message(envelope))
+        self.give(alloc, text, to, Input::Message(envelope))
     }
 
     fn waits(&self, at: usize) -> bool {
@@ -163,44 +192,73 @@ impl Fleet {
         }
     }
 
-    fn flush(&mut self, alloc: Global) -> Result<String, Fail> {
-        let mut text = String::new(alloc);
+    fn flush(&mut self, alloc: Global, text: &mut String) -> Result<(), Fail> {
         for at in 0..MOST_FLUSHED {
             if self.waits(at) {
-                let envelope = self.open(alloc, at)?.ok_or("frame")?;
-                let to = envelope.to.value();
-                let sends = self.hear(alloc, &mut text, to, Input::Message(envelope))?;
-                self.keep(sends)?;
+                self.pass_on(alloc, text, at)?;
             }
         }
         if self.sent.len() > MOST_FLUSHED {
             return Err("more frames".into());
         }
-        Ok(text)
+        Ok(())
+    }
+
+    /// Delivers a frame, and doesn't tell what is sent then.
+    fn pass_on(&mut self, alloc: Global, text: &mut String, at: usize) -> Result<(), Fail> {
+        let envelope = self.open(alloc, at)?.ok_or("frame")?;
+        let to = envelope.to.value();
+        let sends = self.hear(alloc, text, to, Input::Message(envelope))?;
+        self.keep(sends)
     }
 
     /// A step of one number.
-    fn act(&mut self, alloc: Global, word: &str, step: &str, at: u64) -> Result<String, Fail> {
+    fn act(
+        &mut self,
+        alloc: Global,
+        text: &mut String,
+        word: &str,
+        step: &str,
+        at: u64,
+    ) -> Result<(), Fail> {
         match word {
-            "timeout" => self.give(alloc, small(at), Input::Timeout),
-            "tick" => self.give(alloc, small(at), Input::Tick),
-            "deliver" => self.deliver(alloc, at as usize),
-            "lose" => {
-                let _ = self.open(alloc, at as usize)?.ok_or("frame")?;
-                Ok(String::new(alloc))
-            }
-            _ => handled(alloc, small(at), self.member(small(at))?, word, step),
+            "timeout" => self.give(alloc, text, small(at), Input::Timeout),
+            "tick" => self.give(alloc, text, small(at), Input::Tick),
+            "deliver" => self.deliver(alloc, text, at as usize),
+            "lose" => self.lose(alloc, at as usize),
+            _ => handle(alloc, text, small(at), self.member(small(at))?, word, step),
         }
     }
 
-    fn member(&mut self, to: u8) -> Result<&mut Member, Fail> {
+    fn lose(&mut self, alloc: Global, at: usize) -> Result<(), Fail> {
+        let _ = self.open(alloc, at)?.ok_or("frame")?;
+        Ok(())
+    }
+
+    /// The node of this number.
+    pub fn member(&mut self, to: u8) -> Result<&mut Member, Fail> {
         let member = self.members.get_mut(usize::from(to)).ok_or("member")?;
         Ok(member)
     }
 }
 
-/// Tells what a node does: what it sends.
-fn tell_outputs(text: &mut String, node: u8, outputs: Outputs) -> Result<Vec<Frame>, Fail> {
+/// Tells what a node does on an input: what it sends.
+fn tell_outcome(
+    alloc: Global,
+    text: &mut String,
+    node: u8,
+    outcome: Result<Outputs, NodeFault>,
+) -> Result<Vec<Frame>, AllocError> {
+    match outcome {
+        Ok(outputs) => tell_outputs(text, node, outputs),
+        Err(fault) => {
+            tell_fault(text, node, fault)?;
+            Ok(Vec::new(alloc))
+        }
+    }
+}
+
+fn tell_outputs(text: &mut String, node: u8, outputs: Outputs) -> Result<Vec<Frame>, AllocError> {
     tell_done(text, node, &outputs)?;
     let Outputs { sends, .. } = outputs;
     Ok(sends)
@@ -214,14 +272,15 @@ fn tell_done(text: &mut String, node: u8, outputs: &Outputs) -> Result<(), Alloc
     tell_replies(text, node, outputs.replies.as_slice())
 }
 
-/// What is told of a node that is armed, stopped, restarted or asked.
-fn handled(
+/// Arms, stops, restarts or asks a node, and tells it.
+fn handle(
     alloc: Global,
+    text: &mut String,
     of: u8,
     member: &mut Member,
     word: &str,
     step: &str,
-) -> Result<String, Fail> {
+) -> Result<(), Fail> {
     match word {
         "arm" => {
             member.arm(if step.ends_with("old") {
@@ -229,51 +288,52 @@ fn handled(
             } else {
                 Failing::New
             });
-            Ok(String::new(alloc))
+            Ok(())
         }
         "stop" => {
             member.stop();
-            Ok(String::new(alloc))
+            Ok(())
         }
         "restart" => {
             let result = member.restart(alloc);
-            restarted(alloc, of, result)
+            Ok(tell_restart(text, of, result)?)
         }
-        "count" => counted(alloc, of, member),
-        "look" => seen(alloc, of, member),
+        "count" => tell_count(alloc, text, of, member),
+        "look" => Ok(tell_seen(text, of, member)?),
         _ => Err("a step".into()),
     }
 }
 
 /// What is told of a restart: nothing where it succeeds.
-fn restarted(alloc: Global, of: u8, outcome: Result<(), NodeFault>) -> Result<String, Fail> {
-    let mut text = String::new(alloc);
-    if let Err(fault) = outcome {
-        tell_fault(&mut text, of, fault)?;
+fn tell_restart(
+    text: &mut String,
+    of: u8,
+    outcome: Result<(), NodeFault>,
+) -> Result<(), AllocError> {
+    match outcome {
+        Ok(()) => Ok(()),
+        Err(fault) => tell_fault(text, of, fault),
     }
-    Ok(text)
 }
 
 /// How many features a node has.
-fn counted(alloc: Global, of: u8, member: &Member) -> Result<String, Fail> {
-    let mut text = String::new(alloc);
+fn tell_count(alloc: Global, text: &mut String, of: u8, member: &Member) -> Result<(), Fail> {
     match member.query(alloc, &Query::Count) {
         Ok((position, answer)) => {
             let answer = str::from_utf8(answer.as_bytes())?;
             write!(text, "answer {of} {position} {answer}")?;
+            Ok(())
         }
-        Err(fault) => tell_fault(&mut text, of, fault)?,
+        Err(fault) => Ok(tell_fault(text, of, fault)?),
     }
-    Ok(text)
 }
 
 /// What is seen of a node from outside.
-fn seen(alloc: Global, of: u8, member: &Member) -> Result<String, Fail> {
+fn tell_seen(text: &mut String, of: u8, member: &Member) -> Result<(), AllocError> {
     let stands = if member.is_up() { "up" } else { "down" };
     let position = member.position();
-    let mut text = format!(in alloc; "{of} {stands} {position}")?;
-    tell_writes(&mut text, member.writes())?;
-    Ok(text)
+    write!(text, "{of} {stands} {position}")?;
+    tell_writes(text, member.writes())
 }
 
 /// The operation that puts `bus-7` at so many instants, a millisecond apart.

@@ -5,7 +5,6 @@ use sessions::Command;
 use stable::{Key, Put};
 use std::alloc::{AllocError, Global};
 use std::fmt::Write;
-use std::test::Fail;
 use synod::{Ballot, Slot, Vote};
 use wire::{Frame, Held, Message, Promise};
 
@@ -61,7 +60,7 @@ pub fn tell_writes(text: &mut String, writes: &[Put]) -> Result<(), AllocError> 
 }
 
 /// What is sent. A message to several nodes in a row is told once.
-pub fn tell_sends(alloc: Global, text: &mut String, sends: &[Frame]) -> Result<(), Fail> {
+pub fn tell_sends(alloc: Global, text: &mut String, sends: &[Frame]) -> Result<(), AllocError> {
     let mut last = String::new(alloc);
     for frame in sends {
         last = tell_sent(alloc, text, frame, last)?;
@@ -75,7 +74,7 @@ fn tell_sent(
     text: &mut String,
     frame: &Frame,
     last: String,
-) -> Result<String, Fail> {
+) -> Result<String, AllocError> {
     let said = said(alloc, frame)?;
     tell_said(text, frame, said.as_str(), last.as_str())?;
     Ok(said)
@@ -91,15 +90,15 @@ fn tell_said(text: &mut String, frame: &Frame, said: &str, last: &str) -> Result
     write!(text, "send {from} {said} to {to}")
 }
 
-fn said(alloc: Global, frame: &Frame) -> Result<String, Fail> {
+fn said(alloc: Global, frame: &Frame) -> Result<String, AllocError> {
     let mut text = String::new(alloc);
     tell_frame(alloc, &mut text, frame)?;
     Ok(text)
 }
 
-fn tell_frame(alloc: Global, text: &mut String, frame: &Frame) -> Result<(), Fail> {
+fn tell_frame(alloc: Global, text: &mut String, frame: &Frame) -> Result<(), AllocError> {
     let envelope = frame.open(alloc)?;
-    Ok(tell_message(text, &envelope.message)?)
+    tell_message(text, &envelope.message)
 }
 
 fn tell_message(text: &mut String, message: &Message) -> Result<(), AllocError> {
