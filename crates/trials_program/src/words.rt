@@ -1,15 +1,31 @@
 //! Words of the command line: what they ask for, and what asks for nothing.
 
+use crate::streams::owned;
 use commandline::{WordsFault, job_of};
 use jobs::{Source, Work};
 use std::test::Fail;
 
-fn owned(rt: &HostRuntime, words: &[&str]) -> Result<Vec<String>, Fail> {
-    let mut all = Vec::new(rt.alloc());
-    for word in words {
-        all.push(String::from_str(rt.alloc(), word)?)?;
-    }
-    Ok(all)
+/// Whether the words ask for this work, on this file or on the input, with records in this folder or in none.
+fn ask_for(
+    rt: &HostRuntime,
+    words: &[&str],
+    work: Work,
+    file: Option<&str>,
+    folder: Option<&str>,
+) -> Result<bool, Fail> {
+    let words = owned(rt, words)?;
+    let job = job_of(rt.alloc(), words.as_slice())?;
+    let named = match job.source {
+        Source::Input => None,
+        Source::File(name) => Some(name),
+    };
+    Ok(job.work == work && named == file && job.folder == folder)
+}
+
+/// Whether the words are none of the forms.
+fn are_no_form(rt: &HostRuntime, words: &[&str]) -> Result<bool, Fail> {
+    let words = owned(rt, words)?;
+    Ok(job_of(rt.alloc(), words.as_slice()).err() == Some(WordsFault::NoForm))
 }
 
 // words, their work, and the file that they name, if they name one
@@ -36,13 +52,7 @@ const JOBS: [(&[&str], Work, Option<&str>); 12] = [
 #[test]
 fn words_and_their_jobs(rt: HostRuntime) -> Result<(), Fail> {
     for (words, work, file) in JOBS {
-        let words = owned(&rt, words)?;
-        let job = job_of(rt.alloc(), words.as_slice())?;
-        assert!(rt; job.work == work, "{words:?}");
-        match job.source {
-            Source::Input => assert!(rt; file.is_none(), "{words:?}"),
-            Source::File(name) => assert_eq!(rt; Some(name), file),
-        }
+        assert!(rt; ask_for(&rt, words, work, file, None)?, "{words:?}");
     }
     Ok(())
 }
@@ -94,35 +104,32 @@ const NONE: [&[&str]; 38] = [
 #[test]
 fn words_that_are_none_of_the_forms(rt: HostRuntime) -> Result<(), Fail> {
     for words in NONE {
-        let words = owned(&rt, words)?;
-        let fault = job_of(rt.alloc(), words.as_slice()).err();
-        assert_eq!(rt; fault, Some(WordsFault::NoForm), "{words:?}");
+        assert!(rt; are_no_form(&rt, words)?, "{words:?}");
     }
     Ok(())
 }
 
-// words, and the folder that they name for the records
-const FOLDERS: [(&[&str], &str); 6] = [
-    (&["replay", "-", "--db", "records"], "records"),
-    (&["replay", "--db", "records", "-"], "records"),
-    (&["replay", "--db=records", "-"], "records"),
-    (&["replay", "-", "--db=a=b"], "a=b"),
-    (&["replay", "--db=--db", "-"], "--db"),
-    (&["replay", "--db=records", "--", "--db=other"], "records"),
+// words of a replay, the file that they name, if they name one, and the folder that they name for the records
+const FOLDERS: [(&[&str], Option<&str>, &str); 6] = [
+    (&["replay", "-", "--db", "records"], None, "records"),
+    (&["replay", "--db", "records", "-"], None, "records"),
+    (&["replay", "--db=records", "-"], None, "records"),
+    (&["replay", "-", "--db=a=b"], None, "a=b"),
+    (&["replay", "--db=--db", "-"], None, "--db"),
+    (
+        &["replay", "--db=records", "--", "--db=other"],
+        Some("--db=other"),
+        "records",
+    ),
 ];
 
 #[test]
 fn words_and_their_folders(rt: HostRuntime) -> Result<(), Fail> {
-    for (words, folder) in FOLDERS {
-        let words = owned(&rt, words)?;
-        let job = job_of(rt.alloc(), words.as_slice())?;
-        assert!(rt; job.work == Work::Replay, "{words:?}");
-        assert_eq!(rt; job.folder, Some(folder), "{words:?}");
-    }
-    for (words, _work, _file) in JOBS {
-        let words = owned(&rt, words)?;
-        let job = job_of(rt.alloc(), words.as_slice())?;
-        assert!(rt; job.folder.is_none(), "{words:?}");
+    for (words, file, folder) in FOLDERS {
+        assert!(rt;
+            ask_for(&rt, words, Work::Replay, file, Some(folder))?,
+            "{words:?}"
+        );
     }
     Ok(())
 }
