@@ -25,3 +25,5 @@ pub mod AllowedStopping
 pub mod AllowedLoading
 pub mod RecordsGoOn
 pub mod RefusalLemmas
+pub mod FaultLemmas
+pub mod StepLemmas

@@ -10,6 +10,13 @@ use Rattle.node.specs.Sending.{to_one, to_all}
 pub to_all-next : (from n : ℕ) (m : Message) → to_all from (n + 1) m ≡ to_all from n m ++ to_one from n m
 to_all-next from n m = ap (λ k. to_all from k m) (add-one n)
 
+pub sent_to_next : (from n : ℕ) (m : Message) (old now then : List Envelope) → now ≡ old ++ to_all from n m
+    → then ≡ now ++ to_one from n m → then ≡ old ++ to_all from (n + 1) m
+sent_to_next from n m old now then so_far more =
+    more ∙ ap (λ (es : List Envelope). es ++ to_one from n m) so_far
+    ∙ append_assoc old (to_all from n m) (to_one from n m)
+    ∙ ap (λ (es : List Envelope). old ++ es) (sym (to_all-next from n m))
+
 -- ---- messages to those that are not in a set
 module _ (set : List Bool) (from n : ℕ) (m : Message) where
   abbrev passes : Envelope → Bool

@@ -1,20 +1,41 @@
-use Rattle.std.proofs.Common.{rules, ap}
+use Rattle.std.proofs.Common.{inl, inr, ◌≡◌, Some, None, option_map, ap}
+use Rattle.std.proofs.lemmas.Result.{IfOk-weaker, IfErr-weaker}
 use Rattle.node.specs.Nodes.{state_of}
 use Rattle.node.specs.Roles.{mind_of}
 use Rattle.node.specs.declared.input.Input.TheVariants as input
 use Rattle.node.proofs.Fewness.{said_few}
 use Rattle.node.proofs.Meanings.{meaning_stays}
+use Rattle.node.proofs.StepLemmas.{steps_up, steps_down, stays_down}
 use Rattle.node.proofs.node.Node.receive.Goals as goal
 
 -- it took the message
-pub returns-clause-meaning : goal.returns-clause-meaning
-returns-clause-meaning g c = record {
-  goes_on = λ base. meaning_stays base (input.Message c.args.envelope.now) _ _ (mind_of c.in-Some.roles)
-      (mind_of c.receive-result.new.self) c.receive-result.result _ (search rules) c.stop_after.ensures.ok
-      (λ same. ap (λ n. (state_of n).up) same) c.receive-result.ensures.takes;
-}
+pub returns : goal.returns
+returns g c =
+    let m = mind_of c.in-Some.roles in
+    let n = mind_of c.receive-result.new.self in
+    let r = c.receive-result.result in
+    let up : (state_of c.args.self.now).up ≡ Some m = ap (λ o. option_map mind_of o) c.in-Some.is in
+    record {
+      steps = steps_up _ (state_of c.args.self.now) c.receive-result.new.storage m n (input.Message c.args.envelope.now) r _ up (record {
+        takes = c.receive-result.ensures.takes;
+        written = c.receive-result.ensures.written;
+        refused = tt;
+        err = IfErr-weaker r _ _ (λ _ w. elim w [ inl device ↦ inl device | inr memory ↦ inr (inl memory) ]) c.receive-result.ensures.err;
+        ignored = c.receive-result.ensures.ignores;
+        device = c.receive-result.ensures.device;
+        memory = c.receive-result.ensures.memory;
+      })
+          (IfOk-weaker r _ _ (λ _ same. ap state_of same) c.stop_after.ensures.ok)
+          (IfErr-weaker r _ _ (λ _ same up. ap state_of (same up)) c.stop_after.ensures.goes_on) c.stop_after.ensures.stops;
+      meaning = record {
+        goes_on = λ base. meaning_stays base (input.Message c.args.envelope.now) _ _ m n r _ up c.stop_after.ensures.ok (λ same. ap (λ n. (state_of n).up) same)
+            c.receive-result.ensures.takes;
+      };
+      few = said_few (input.Message c.args.envelope.now) m n r c.see_small.ensures c.receive-result.ensures.takes;
+    }
 
-pub returns-clause-few : goal.returns-clause-few
-returns-clause-few g c =
-    said_few (input.Message c.args.envelope.now) (mind_of c.in-Some.roles) (mind_of c.receive-result.new.self) c.receive-result.result
-    c.see_small.ensures c.receive-result.ensures.takes
+-- it is down
+pub returns-in_default : goal.returns-in_default
+returns-in_default g c =
+    let down : (state_of c.args.self.now).up ≡ None = ap (λ o. option_map mind_of o) c.in_default.is in
+    record { steps = steps_down _ _ _ down; meaning = stays_down _ down; few = tt }

@@ -1,18 +1,40 @@
-use Rattle.std.proofs.Common.{rules, ap}
+use Rattle.std.proofs.Common.{◌≡◌, Some, None, option_map, ap}
+use Rattle.std.proofs.lemmas.Result.{IfOk-weaker, IfErr-weaker}
 use Rattle.node.specs.Nodes.{state_of}
 use Rattle.node.specs.Roles.{mind_of}
 use Rattle.node.proofs.Fewness.{said_few}
 use Rattle.node.proofs.Meanings.{meaning_stays}
+use Rattle.node.proofs.StepLemmas.{steps_up, steps_down, stays_down}
 use Rattle.node.proofs.node.Node.step.Goals as goal
 
 -- it took the input
-pub returns-clause-meaning : goal.returns-clause-meaning
-returns-clause-meaning g c = record {
-  goes_on = λ base. meaning_stays base c.args.input _ _ (mind_of c.in-Some.roles) (mind_of c.take-result.new.self)
-      c.take-result.result _ (search rules) c.stop_after.ensures.ok (λ same. ap (λ n. (state_of n).up) same) c.take-result.ensures.takes;
-}
+pub returns : goal.returns
+returns g c =
+    let m = mind_of c.in-Some.roles in
+    let n = mind_of c.take-result.new.self in
+    let r = c.take-result.result in
+    let up : (state_of c.args.self.now).up ≡ Some m = ap (λ o. option_map mind_of o) c.in-Some.is in
+    record {
+      steps = steps_up _ (state_of c.args.self.now) c.take-result.new.storage m n c.args.input r _ up (record {
+        takes = c.take-result.ensures.takes;
+        written = c.take-result.ensures.written;
+        refused = c.take-result.ensures.refuses;
+        err = c.take-result.ensures.err;
+        ignored = c.take-result.ensures.ignores;
+        device = c.take-result.ensures.device;
+        memory = c.take-result.ensures.memory;
+      })
+          (IfOk-weaker r _ _ (λ _ same. ap state_of same) c.stop_after.ensures.ok)
+          (IfErr-weaker r _ _ (λ _ same up. ap state_of (same up)) c.stop_after.ensures.goes_on) c.stop_after.ensures.stops;
+      meaning = record {
+        goes_on = λ base. meaning_stays base c.args.input _ _ m n r _ up c.stop_after.ensures.ok (λ same. ap (λ n. (state_of n).up) same)
+            c.take-result.ensures.takes;
+      };
+      few = said_few c.args.input m n r c.see_small.ensures c.take-result.ensures.takes;
+    }
 
-pub returns-clause-few : goal.returns-clause-few
-returns-clause-few g c =
-    said_few c.args.input (mind_of c.in-Some.roles) (mind_of c.take-result.new.self) c.take-result.result c.see_small.ensures
-    c.take-result.ensures.takes
+-- it is down
+pub returns-in_default : goal.returns-in_default
+returns-in_default g c =
+    let down : (state_of c.args.self.now).up ≡ None = ap (λ o. option_map mind_of o) c.in_default.is in
+    record { steps = steps_down _ _ _ down; meaning = stays_down _ down; few = tt }
