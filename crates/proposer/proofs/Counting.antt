@@ -40,3 +40,15 @@ pub none_behind : (rest left : List (Vote Command)) (x : Vote Command) (end' : �
     → up_to end' rest ≡ []
 none_behind rest left x end' first none =
     none_behind_case (nat_le x.slot end') x (up_to end' rest) (sym (ap (λ l. up_to end' l) first) ∙ none)
+
+-- a vote that comes after the end is passed over
+passed_first : (b : Bool) (v : Vote Command) (rest : List (Vote Command)) → b ≡ false → rest ≡ cond b (v ∷ rest) rest
+passed_first true v rest e = absurd (cc)
+passed_first false v rest e = refl
+
+pub passed_one : (now rest left : List (Vote Command)) (x v : Vote Command) (end' : ℕ) → left ≡ x ∷ rest → v ≡ x
+    → nat_le v.slot end' ≡ false → now ++ up_to end' rest ≡ now ++ up_to end' left
+passed_one now rest left x v end' first same late =
+    ap (λ l. now ++ l) (passed_first (nat_le v.slot end') v (up_to end' rest) late)
+    ∙ ap (λ (u : Vote Command). now ++ up_to end' (u ∷ rest)) same
+    ∙ ap (λ l. now ++ up_to end' l) (sym first)

@@ -1,6 +1,6 @@
 -- A window that is filled slot by slot.
 use Rattle.std.proofs.Common.{◌≡◌, ◌≢◌, ℕ, zero, suc, ◌+◌, ◌++◌, ◌∷◌, [], ◌-◌, ◌<◌, List, Bool, true, false, Option, Some, None, IfSome}
-use Rattle.std.proofs.Common.{IsSomeAnd, is_some, ◌||◌, if◌then◌else◌, nat_le, length, refl, sym, ap, ◌∙◌, subst, arith}
+use Rattle.std.proofs.Common.{IsSome, IsSomeAnd, is_some, ◌||◌, if◌then◌else◌, nat_le, length, refl, sym, ap, ◌∙◌, subst, arith}
 use Rattle.std.specs.List.{list_any}
 use Rattle.sessions.specs.Asked.{Asked}
 use Rattle.sessions.specs.declared.command.Command.{Command}
@@ -139,3 +139,20 @@ module _ (k : Campaigning) (waiting : List Asked) (learnt_to : ℕ) (learnt : �
       in
       subst (λ (x : Filling). x.sent ≢ []) (sym (one_more limit number f below))
       (opens_case _ f _ was (sent_stays (limit - (number + 1)) (number + 1)))
+
+-- a step for which there is a command sends it
+some_sent : {A : Type 0} (xs : List A) (x : A) → (xs ++ x ∷ []) ≢ []
+some_sent [] x e = absurd (cc e)
+some_sent (y ∷ ys) x e = absurd (cc e)
+
+sends_choice : (k : Campaigning) (slot : ℕ) (f : Filling) (o : Option Command) → IsSome o
+    → IsSomeAnd (proposing k.ballot slot f o) (λ (g : Filling). g.sent ≢ [])
+sends_choice k slot f None there = absurd (cc)
+sends_choice k slot f (Some command) there = some_sent f.sent _
+
+pub step_sends : (k : Campaigning) (waiting : List Asked) (learnt_to slot : ℕ) (learnt : Bool) (f : Filling)
+    → (learnt || list_any (is_at slot) f.proposals) ≡ false → nat_le MOST_OPEN (length f.proposals) ≡ false
+    → IsSome (choice k waiting learnt_to slot f.proposals)
+    → IsSomeAnd (stepped k waiting learnt_to learnt slot f) (λ (g : Filling). g.sent ≢ [])
+step_sends k waiting learnt_to slot learnt f unsettled room there =
+    rw (unsettled, room) (sends_choice k slot f (choice k waiting learnt_to slot f.proposals) there)
