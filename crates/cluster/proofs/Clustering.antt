@@ -1,10 +1,12 @@
 -- A cluster: what passed through its transport.
-use Rattle.std.proofs.Common.{◌≡◌, ◌⊎◌, inl, inr, ℕ, ◌+◌, ◌<◌, ◌≤◌, List, [], ◌∷◌, ◌++◌, length, map, drop, slice_get, Option, IfSome, IfOk}
-use Rattle.std.proofs.Common.{IfErr, IsErrOf, Result, refl, sym, ap, subst, ◌∙◌, append_assoc, append-nil, arith}
+use Rattle.std.proofs.Common.{◌≡◌, ◌⊎◌, inl, inr, ℕ, ◌+◌, ◌<◌, ◌≤◌, List, [], ◌∷◌, ◌++◌, length, map, drop, slice_get, Option, IfSome}
+use Rattle.std.proofs.Common.{IfOk, IfErr, IsErrOf, Result, refl, sym, ap, subst, ◌∙◌, append_assoc, append-nil, arith}
 use Rattle.std.proofs.lemmas.List.{length-append, map-append, drop_more, drop_all}
-use Rattle.std.proofs.lemmas.Option.{slice_get_cases}
+use Rattle.std.proofs.lemmas.Option.{slice_get_cases, slice_get_read}
+use Rattle.std.proofs.Math.ListN.{get_or}
 use Rattle.stable.specs.Script.{Script}
 use Rattle.stable.specs.declared.stable.Stable.{Ghosts}
+use Rattle.wire.specs.FrameSpelling.{spelling}
 use Rattle.wire.specs.declared.frames.envelope.Envelope.{Envelope}
 use Rattle.world.specs.declared.event.Event.{Event}
 use Rattle.world.specs.declared.fault.WorldFault.{WorldFault}
@@ -14,7 +16,7 @@ use Rattle.world.specs.Rounds.{RoundEnds, IsPartOfRound}
 use Rattle.world.specs.Worlds.{WorldState, Steps}
 use Rattle.world.proofs.FramesGrow.{BeginWith, step_grows, round_grows}
 use Rattle.cluster.specs.Clusters.{HasPassed, sending}
-use Rattle.cluster.specs.Passages.{Passage}
+use Rattle.cluster.specs.Passages.{Passage, Sent}
 use Rattle.cluster.specs.declared.transport.Transport.{Ghosts as Transports}
 
 -- ---- what passes
@@ -30,6 +32,19 @@ module _ {T : Type 0} (transport : Transports T) where
     told = λ tells. one.told (two.told tells);
     tape = λ tells. two.tape tells ∙ ap (λ l. l ++ q) (one.tape (two.told tells)) ∙ append_assoc (transport.tape a) p q;
   }
+
+  -- a frame of a list is given to the transport, as its bytes
+  pub gives_one : (frames : List Envelope) (index : ℕ) (e : Envelope) (from to : ℕ) (bytes : List ℕ) (old new : T)
+      → index < length frames → e ≡ get_or frames index e → from ≡ e.from → to ≡ e.to → bytes ≡ spelling e
+      → (transport.Tells new → transport.tape new ≡ transport.tape old ++ Sent from to bytes ∷ [])
+      → (transport.Tells new → transport.Tells old)
+      → IfSome (slice_get frames index) (λ frame. HasPassed transport old (sending frame ∷ []) new)
+  gives_one frames index e from to bytes old new within is sender receiver spelled tape told =
+      let passage : Sent from to bytes ≡ sending e = rw (sender, receiver, spelled) refl in
+      let passed : HasPassed transport old (sending e ∷ []) new =
+      record { told = told; tape = λ tells. tape tells ∙ ap (λ (p : Passage). transport.tape old ++ p ∷ []) passage } in
+      subst (λ (o : Option Envelope). IfSome o (λ frame. HasPassed transport old (sending frame ∷ []) new))
+      (sym (slice_get_read frames (length frames) index e refl within is)) passed
 
 -- ---- frames that are sent
 -- of the frames from a number on those below another one are sent

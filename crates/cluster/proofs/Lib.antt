@@ -1,3 +1,4 @@
 pub mod Clustering
 pub mod Indexing
 pub mod Pumping
+pub mod Queueing
