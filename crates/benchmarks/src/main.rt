@@ -3,8 +3,8 @@
 //! `benchmarks WORK SIZE ROUNDS` asks for one work in so many rounds, of a moving point with so many
 //! points or of a part of a node that holds so many things, and prints the sum of what was answered,
 //! which is the same on every machine. It reads no clock: the scripts in `bench/` do. Without words it does so for each line of
-//! the input; the sums in `stdout` were computed from the definitions by other programs. There a line `frame NODES FRAME`, whose frame is in
-//! hexadecimal digits, is answered with the frame, read and spelled again, or with its fault.
+//! the input; the sums in `stdout` were computed from the definitions by other programs. There a line `frame NODES FRAME`, whose
+//! frame is in hexadecimal digits, is answered with the frame, read and spelled again, or with its fault.
 //!
 //! `task` reads the words, and `scene` makes a moving point and what is asked of it. `numbers` has
 //! the answers of one moving point as numbers, `queries` and `operations` those of a full database,

@@ -138,8 +138,8 @@ fn text_of(
     folder: Option<&str>,
     bytes: &[u8],
 ) -> Result<Vec<u8>, Failure>
-    ensures makes { IfOk result (λ text. MakesIn (⟦<Scripted<MemStable> as Stable>⟧) (⟦<SqlStable<FileStore<File>> as Stable>⟧) (⟦<Sockets as Transport>⟧)
-        work (name_text folder.entry) bytes.now text.items) }
+    ensures makes { IfOk result (λ text. MakesIn (⟦<Scripted<MemStable> as Stable>⟧)
+        (⟦<SqlStable<FileStore<File>> as Stable>⟧) (⟦<Sockets as Transport>⟧) work (name_text folder.entry) bytes.now text.items) }
     ensures ends { IfErr result (λ failure. failure ≢ Failure.Memory → failure ≢ Failure.Device
         → EndsIn (⟦<Scripted<MemStable> as Stable>⟧) (⟦<SqlStable<FileStore<File>> as Stable>⟧) (⟦<Sockets as Transport>⟧)
         work (name_text folder.entry) bytes.now failure) }

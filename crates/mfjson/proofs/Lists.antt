@@ -1,5 +1,6 @@
 -- What the lists of a document say, element by element.
-use Rattle.std.proofs.Common.{◌≡◌, ℕ, zero, suc, ◌+◌, ◌<◌, List, [], ◌∷◌, ◌++◌, length, map, take, get_or, Some, refl, arith, ◌∙◌, ap, sym, ℤ}
+use Rattle.std.proofs.Common.{◌≡◌, ℕ, zero, suc, ◌+◌, ◌<◌, List, [], ◌∷◌, ◌++◌, length, map, take, get_or, Some, refl, arith, ◌∙◌, ap, sym}
+use Rattle.std.proofs.Common.{ℤ}
 use Rattle.std.proofs.Common.{subst, inl, inr}
 use Rattle.std.proofs.lemmas.List.{map_more, take-map, take_more, map-append}
 use Rattle.std.proofs.lemmas.Bool.{cases_lt}
@@ -90,7 +91,8 @@ fails_first {A} {C} R P f xs done i a w h p is n =
     }
 
 -- one point more was put together
-pub together_more : (points : List Point) (instants : List ℕ) (places : List (ℤ × ℤ)) (i : ℕ) (p : Point) → i < length instants → i < length places →
+pub together_more : (points : List Point) (instants : List ℕ) (places : List (ℤ × ℤ)) (i : ℕ) (p : Point) → i < length instants →
+    i < length places →
     AreTogether points (take i instants) (take i places) → p.t ≡ get_or instants i p.t → (p.x, p.y) ≡ get_or places i (p.x, p.y) →
     AreTogether (points ++ p ∷ []) (take (i + 1) instants) (take (i + 1) places)
 together_more points instants places i p lt le before when where_to =

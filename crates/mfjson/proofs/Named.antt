@@ -1,5 +1,6 @@
 -- An object that has a member of each of some names, and no more members than names: it is read as an object of the same members.
-use Rattle.std.proofs.Common.{◌≡◌, ℕ, suc, ◌+◌, ◌≤◌, List, [], ◌∷◌, length, Option, Some, None, option_and_then, Bool, true, false, cond, bytes_eq}
+use Rattle.std.proofs.Common.{◌≡◌, ℕ, suc, ◌+◌, ◌≤◌, List, [], ◌∷◌, length, Option, Some, None, option_and_then, Bool, true, false, cond}
+use Rattle.std.proofs.Common.{bytes_eq}
 use Rattle.std.proofs.Common.{Ordering, Less, Equal, Greater, nat_cmp, is_eq, true≢false, refl, sym, ap, ◌∙◌, subst, arith}
 use Rattle.std.specs.Cmp.Lexicographic.{slice_cmp}
 use Rattle.std.specs.Ordering.{match_ordering}
@@ -59,7 +60,8 @@ shorter_at (Some x) b l i j ms rest more is = ap suc (more x refl)
 shorter_at None true l i j ms rest more is = refl
 shorter_at None false l i j ms rest more is = absurd (cc)
 
-shorter : (k : List ℕ) (ms : json.Members) (i : json.Json) → found.get_member k ms ≡ Some i → length (keys ms) ≡ suc (length (keys (without k ms)))
+shorter : (k : List ℕ) (ms : json.Members) (i : json.Json) → found.get_member k ms ≡ Some i →
+    length (keys ms) ≡ suc (length (keys (without k ms)))
 shorter k json.no_members i is = absurd (cc)
 shorter k (json.member l j ms) i is = shorter_at (found.get_member k ms) (bytes_eq l k) l i j ms (without k ms) (shorter k ms) is
 
@@ -88,11 +90,14 @@ other q k (json.member l j ms) apart =
 named_after : (n : ℕ) (k : List ℕ) (ms : json.Members) (ks : List (List ℕ)) → Differs k ks → AreNamed n ms ks → AreNamed n (without k ms) ks
 named_after n k ms [] apart named = tt
 named_after n k ms (l ∷ ks) apart named =
-    let one = named.0.1 in
-    ((named.0.0, record { value = one.value; here = other l k ms apart.0 ∙ one.here; means = one.means }), named_after n k ms ks apart.1 named.1)
+    let one = named.0.1 in (
+      (named.0.0, record { value = one.value; here = other l k ms apart.0 ∙ one.here; means = one.means }),
+      named_after n k ms ks apart.1 named.1,
+    )
 
 read_at : (n : ℕ) (o : Option json.Json) (b : Bool) (l : List ℕ) (i j : json.Json) (d : Data) (ms rest : json.Members) →
-    ((x : json.Json) → o ≡ Some x → x ≡ i → AreRead n rest → AreRead n ms) → found.later_or o (cond b (Some j) None) ≡ Some i → Means n i d →
+    ((x : json.Json) → o ≡ Some x → x ≡ i → AreRead n rest → AreRead n ms) → found.later_or o (cond b (Some j) None) ≡ Some i →
+    Means n i d →
     AreRead n (gone o b l j ms rest) → ((e : Data) × Means n j e) × AreRead n ms
 read_at n (Some x) b l i j d ms rest more is means read = (read.0, more x refl (same_Some x i is) read.1)
 read_at n None true l i j d ms rest more is means read = ((d, subst (λ x. Means n x d) (sym (same_Some j i is)) means), read)
@@ -142,7 +147,8 @@ apart_at : (o : Option Data) (k : List ℕ) (j : json.Json) (ms : json.Members) 
 apart_at None k j ms old new is e = absurd (cc)
 apart_at (Some d) k j ms old new is e = record { value = d; read = is; more = e }
 
-taken_apart : (k : List ℕ) (j : json.Json) (ms : json.Members) (old new : Members) → of_members (json.member k j ms) old ≡ Some new → Taken k j ms old new
+taken_apart : (k : List ℕ) (j : json.Json) (ms : json.Members) (old new : Members) → of_members (json.member k j ms) old ≡ Some new →
+    Taken k j ms old new
 taken_apart k j ms old new e = apart_at (of_json j) k j ms old new refl e
 
 -- ---- how many they are
@@ -171,7 +177,8 @@ abbrev Keeps : List ℕ → Option json.Json → Members → Members → Type 0
 Keeps k None old new = get_member k new ≡ get_member k old
 Keeps k (Some j) old new = (d : Data) × (of_json j ≡ Some d) × (get_member k new ≡ Some d)
 
-keeps_at : (o : Option json.Json) (b : Bool) (k l : List ℕ) (j : json.Json) (d : Data) (old new : Members) → bytes_eq l k ≡ b → of_json j ≡ Some d →
+keeps_at : (o : Option json.Json) (b : Bool) (k l : List ℕ) (j : json.Json) (d : Data) (old new : Members) → bytes_eq l k ≡ b →
+    of_json j ≡ Some d →
     Keeps k o (put l d old) new → Keeps k (found.later_or o (cond b (Some j) None)) old new
 keeps_at (Some x) b k l j d old new is read more = more
 keeps_at None true k l j d old new is read more =
@@ -199,7 +206,8 @@ abbrev less : List ℕ → Members → Members
 less k no_members = no_members
 less k (member l e ms) = match_ordering (slice_cmp nat_cmp k l) (member l e (less k ms)) ms (member l e (less k ms))
 
-fewer_at : (o : Ordering) (k l : List ℕ) (d e : Data) (ms : Members) → (get_member k ms ≡ Some d → members_len ms ≡ suc (members_len (less k ms))) →
+fewer_at : (o : Ordering) (k l : List ℕ) (d e : Data) (ms : Members) →
+    (get_member k ms ≡ Some d → members_len ms ≡ suc (members_len (less k ms))) →
     match_ordering o (get_member k ms) (Some e) (get_member k ms) ≡ Some d →
     suc (members_len ms) ≡ suc (members_len (match_ordering o (member l e (less k ms)) ms (member l e (less k ms))))
 fewer_at Less k l d e ms more is = ap suc (more is)
@@ -210,7 +218,8 @@ fewer : (k : List ℕ) (d : Data) (ms : Members) → get_member k ms ≡ Some d 
 fewer k d no_members is = absurd (cc)
 fewer k d (member l e ms) is = fewer_at (slice_cmp nat_cmp k l) k l d e ms (fewer k d ms) is
 
-not_there : (o : Ordering) (q l : List ℕ) (e : Data) (r : Option Data) → slice_cmp nat_cmp q l ≡ o → (q ≡ l → ⊥) → r ≡ match_ordering o r (Some e) r
+not_there : (o : Ordering) (q l : List ℕ) (e : Data) (r : Option Data) → slice_cmp nat_cmp q l ≡ o → (q ≡ l → ⊥) →
+    r ≡ match_ordering o r (Some e) r
 not_there Less q l e r is apart = refl
 not_there Equal q l e r is apart = absurd (apart ((bytes_eq-Decides q l).0 (sym (is_eq-slice_cmp q l) ∙ ap is_eq is)))
 not_there Greater q l e r is apart = refl
@@ -243,7 +252,8 @@ at_least (k ∷ ks) ms apart there =
     let more = at_least ks (less k ms) apart.1 (there_after k ms ks apart.0 there.1) in
     omega (arith, count, more)
 
-all_there : (n : ℕ) (ms : json.Members) (new : Members) (ks : List (List ℕ)) → of_members ms no_members ≡ Some new → AreNamed n ms ks → AreThere new ks
+all_there : (n : ℕ) (ms : json.Members) (new : Members) (ks : List (List ℕ)) → of_members ms no_members ≡ Some new → AreNamed n ms ks →
+    AreThere new ks
 all_there n ms new [] e named = tt
 all_there n ms new (k ∷ ks) e named =
     ((named.0.0, named_there n k named.0.0 ms new e named.0.1), all_there n ms new ks e named.1)
@@ -256,7 +266,8 @@ pub record Whole (n : ℕ) (ms : json.Members) (count : ℕ) : Type 0 where
   pub count_is : members_len members ≡ count
   pub there : (k : List ℕ) (d : Data) → Named n ms k d → get_member k members ≡ Some d
 
-pub whole : (n : ℕ) (ms : json.Members) (ks : List (List ℕ)) → AreApart ks → AreNamed n ms ks → length (keys ms) ≡ length ks → Whole n ms (length ks)
+pub whole : (n : ℕ) (ms : json.Members) (ks : List (List ℕ)) → AreApart ks → AreNamed n ms ks → length (keys ms) ≡ length ks →
+    Whole n ms (length ks)
 whole n ms ks apart named count =
     let read = each_read n ks ms apart named (omega (arith, count)) in
     let new = taken n ms no_members read in

@@ -1,5 +1,6 @@
 -- What is told of a geometry and of a feature by their members.
-use Rattle.std.proofs.Common.{◌≡◌, ℕ, ℤ, ◌≤◌, List, [], ◌∷◌, length, codes, Option, Some, None, refl, sym, ap, ◌∙◌, ◌++◌, append-nil, subst, arith}
+use Rattle.std.proofs.Common.{◌≡◌, ℕ, ℤ, ◌≤◌, List, [], ◌∷◌, length, codes, Option, Some, None, refl, sym, ap, ◌∙◌, ◌++◌, append-nil, subst}
+use Rattle.std.proofs.Common.{arith}
 use Rattle.std.specs.Prelude.{IsSome, IsUtf8, IfSome}
 use Rattle.json.specs.Token.{Token}
 use Rattle.json.specs.Lex.{tokens}
@@ -50,7 +51,10 @@ course_members ms interp ts cs count kind name times places =
     let n_places = named 2 2 (SaysEach SaysCoordinates) ms (codes "coordinates") _ (omega arith) places in
     let w = whole 2 ms (codes "type" ∷ codes "interpolation" ∷ codes "datetimes" ∷ codes "coordinates" ∷ []) (
       (longer _ _ (λ e. omega (arith, e)), (longer _ _ (λ e. omega (arith, e)), (longer _ _ (λ e. omega (arith, e)), tt))),
-      ((longer _ _ (λ e. omega (arith, e)), (longer _ _ (λ e. omega (arith, e)), tt)), ((longer _ _ (λ e. omega (arith, e)), tt), (tt, tt))),
+      (
+        (longer _ _ (λ e. omega (arith, e)), (longer _ _ (λ e. omega (arith, e)), tt)),
+        ((longer _ _ (λ e. omega (arith, e)), tt), (tt, tt)),
+      ),
     )
     ((_, n_kind), ((_, n_name), ((_, n_times), ((_, n_places), tt)))) count in
     let d = object w.members in
@@ -96,7 +100,8 @@ course_told {X} j interp ts cs course h kind name times places =
 
 -- ---- a feature
 
-feature_members : {X : Type 0} (ms : json.Members) (id : List ℕ) (seq : Sequence) (ts : List ℕ) (cs : List (ℤ × ℤ)) (course : X) → length (keys ms) ≡ 3 →
+feature_members : {X : Type 0} (ms : json.Members) (id : List ℕ) (seq : Sequence) (ts : List ℕ) (cs : List (ℤ × ℤ)) (course : X) →
+    length (keys ms) ≡ 3 →
     Member 0 IsText (json.object ms) (codes "type") (codes "Feature") → Member 0 SaysThisId (json.object ms) (codes "id") id →
     Member 3 (λ d (_ : X). SaysCourse d seq.interp ts cs) (json.object ms) (codes "temporalGeometry") course →
     AreTogether seq.points ts cs → IsValid seq → Told 4 StandsFor (json.object ms) (record { id = id; seq = seq })
@@ -133,13 +138,15 @@ feature_members {X} ms id seq ts cs course count kind name place all valid =
       says = feature_stands d id seq.interp says.times says.coordinates ts cs seq.points outline read all valid;
     }
 
-pub feature_told : {X : Type 0} (j : json.Json) (id : List ℕ) (interp : Interp) (seq : Sequence) (ts : List ℕ) (cs : List (ℤ × ℤ)) (course : X) →
+pub feature_told : {X : Type 0} (j : json.Json) (id : List ℕ) (interp : Interp) (seq : Sequence) (ts : List ℕ) (cs : List (ℤ × ℤ))
+    (course : X) →
     HasCount 3 j → Member 0 IsText j (codes "type") (codes "Feature") → Member 0 SaysThisId j (codes "id") id →
     Member 3 (λ d (_ : X). SaysCourse d interp ts cs) j (codes "temporalGeometry") course → seq.interp ≡ interp →
     AreTogether seq.points ts cs → IsValid seq → Told 4 StandsFor j (record { id = id; seq = seq })
 feature_told {X} j id interp seq ts cs course h kind name place same all valid =
     let is = h.is_object in
-    let told = feature_members h.members id seq ts cs course h.count (subst (λ k. Member 0 IsText k (codes "type") (codes "Feature")) is kind)
+    let told = feature_members h.members id seq ts cs course h.count
+    (subst (λ k. Member 0 IsText k (codes "type") (codes "Feature")) is kind)
     (subst (λ k. Member 0 SaysThisId k (codes "id") id) is name)
     (subst (λ k. Member 3 (λ d (_ : X). SaysCourse d seq.interp ts cs) k (codes "temporalGeometry") course) is
     (subst (λ i. Member 3 (λ d (_ : X). SaysCourse d i ts cs) j (codes "temporalGeometry") course) (sym same) place)) all valid in
@@ -167,8 +174,10 @@ document_told text ts f utf8 some begins says =
       stands = told.says;
     }
 
-pub document_answer : (o : Option Feature) (bytes text : List ℕ) (tape root : List Token) → text ≡ bytes → IsUtf8 bytes → IsSome (document text) →
-    ((j : json.Json) → document text ≡ Some j → BeginsWith tape j) → root ≡ tape → IfSome o (λ f. Says 4 StandsFor root f) → IfSome o (λ f. IsDocumentOf bytes f)
+pub document_answer : (o : Option Feature) (bytes text : List ℕ) (tape root : List Token) → text ≡ bytes → IsUtf8 bytes →
+    IsSome (document text) →
+    ((j : json.Json) → document text ≡ Some j → BeginsWith tape j) → root ≡ tape → IfSome o (λ f. Says 4 StandsFor root f) →
+    IfSome o (λ f. IsDocumentOf bytes f)
 document_answer None bytes text tape root same utf8 some begins at says = tt
 document_answer (Some f) bytes text tape root same utf8 some begins at says =
     subst (λ s. IsDocumentOf s f) same

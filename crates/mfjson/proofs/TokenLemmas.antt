@@ -1,5 +1,6 @@
 -- What is told of a value by its tokens: texts, numbers, and the lists of a geometry.
-use Rattle.std.proofs.Common.{◌≡◌, ℕ, suc, ℤ, ◌≤◌, List, [], ◌∷◌, ◌++◌, Option, Some, None, option_map, refl, sym, ap, ◌∙◌, subst, arith, Bor}
+use Rattle.std.proofs.Common.{◌≡◌, ℕ, suc, ℤ, ◌≤◌, List, [], ◌∷◌, ◌++◌, Option, Some, None, option_map, refl, sym, ap, ◌∙◌, subst, arith}
+use Rattle.std.proofs.Common.{Bor}
 use Rattle.std.specs.Prelude.{IfSome, IsSome, ◌↔◌}
 use Rattle.std.proofs.lemmas.Option.{same_Some}
 use Rattle.json.specs.Token.{Token}
@@ -32,12 +33,14 @@ text_told (json.string s) text e =
 text_told (json.array js) text e = absurd (cc)
 text_told (json.object ms) text e = absurd (cc)
 
-pub text_answer : (o : Option (Bor (List ℕ))) (ts : List Token) → ((j : json.Json) → BeginsWith ts j → option_map (λ s. s.now) o ≡ find.as_str j)
+pub text_answer : (o : Option (Bor (List ℕ))) (ts : List Token) →
+    ((j : json.Json) → BeginsWith ts j → option_map (λ s. s.now) o ≡ find.as_str j)
     → IfSome o (λ text. Says 0 IsText ts text.now)
 text_answer None ts found = tt
 text_answer (Some text) ts found = record { told = λ j begins. text_told j text.now (sym (found j begins)) }
 
-coordinate_at : (j : json.Json) (s : List ℕ) (z : ℤ) → find.as_number j ≡ Some s → IsWhole (number_of s) z → InRange z → Told 0 SaysCoordinate j z
+coordinate_at : (j : json.Json) (s : List ℕ) (z : ℤ) → find.as_number j ≡ Some s → IsWhole (number_of s) z → InRange z →
+    Told 0 SaysCoordinate j z
 coordinate_at json.null s z e whole fits = absurd (cc)
 coordinate_at (json.boolean b) s z e whole fits = absurd (cc)
 coordinate_at (json.number t) s z e whole fits =
@@ -51,20 +54,23 @@ coordinate_at (json.array js) s z e whole fits = absurd (cc)
 coordinate_at (json.object ms) s z e whole fits = absurd (cc)
 
 pub coordinate_told : (o : Option (Bor (List ℕ))) (text : Bor (List ℕ)) (ts : List Token) (z : ℤ) →
-    ((j : json.Json) → BeginsWith ts j → option_map (λ s. s.now) o ≡ find.as_number j) → o ≡ Some text → IsWhole (number_of text.now) z → InRange z →
+    ((j : json.Json) → BeginsWith ts j → option_map (λ s. s.now) o ≡ find.as_number j) → o ≡ Some text → IsWhole (number_of text.now) z →
+    InRange z →
     Says 0 SaysCoordinate ts z
 coordinate_told o text ts z found is whole fits =
     record { told = λ j begins. coordinate_at j text.now z (sym (found j begins) ∙ ap (option_map (λ s. s.now)) is) whole fits }
 
 -- what one thing says, says another where it follows
-pub says_so : {X Y : Type 0} (n : ℕ) (R : Data → X → Type 0) (S : Data → Y → Type 0) (ts : List Token) (x : X) (y : Y) → ((d : Data) → R d x → S d y) →
+pub says_so : {X Y : Type 0} (n : ℕ) (R : Data → X → Type 0) (S : Data → Y → Type 0) (ts : List Token) (x : X) (y : Y) →
+    ((d : Data) → R d x → S d y) →
     Says n R ts x → Says n S ts y
 says_so {X} {Y} n R S ts x y so says =
     record { told = λ j begins. let t = says.told j begins in record { value = t.value; means = t.means; says = so t.value t.says } }
 
 -- the tokens of the member say it
 has_member : {X : Type 0} (n : ℕ) (R : Data → X → Type 0) (name : List ℕ) (ts here : List Token) (x : X) →
-    ((j : json.Json) → BeginsWith ts j → (k : json.Json) × (find.get name j ≡ Some k) × BeginsWith here k) → Says n R here x → HasMember n R name ts x
+    ((j : json.Json) → BeginsWith ts j → (k : json.Json) × (find.get name j ≡ Some k) × BeginsWith here k) → Says n R here x →
+    HasMember n R name ts x
 has_member {X} n R name ts here x found says =
     record { told = λ j begins. let at = found j begins in record { value = at.0; here = at.1; told = says.told at.0 at.2 } }
 
@@ -80,10 +86,16 @@ member_so {X} {Y} n R S name ts x y so has =
     record {
       told = λ j begins.
           let m = has.told j begins in
-          record { value = m.value; here = m.here; told = record { value = m.told.value; means = m.told.means; says = so m.told.value m.told.says } };
+          record {
+            value = m.value;
+            here = m.here;
+            told =
+                record { value = m.told.value; means = m.told.means; says = so m.told.value m.told.says };
+          };
     }
 
-pub id_answer : (o : Option (List ℕ)) (name bytes text : List ℕ) (ts : List Token) → bytes ≡ text → (IsSome o → IsId bytes) → IfSome o (λ id. id ≡ bytes) →
+pub id_answer : (o : Option (List ℕ)) (name bytes text : List ℕ) (ts : List Token) → bytes ≡ text → (IsSome o → IsId bytes) →
+    IfSome o (λ id. id ≡ bytes) →
     HasMember 0 IsText name ts text → IfSome o (λ id. HasMember 0 SaysThisId name ts id)
 id_answer None name bytes text ts same valid is has = tt
 id_answer (Some id) name bytes text ts same valid is has =
@@ -99,11 +111,13 @@ pub instant_answer : (o : Option ℕ) (bytes text : List ℕ) (ts : List Token) 
     Says 0 IsText ts text → IfSome o (λ t. Says 0 SaysInstant ts t)
 instant_answer None bytes text ts same reads says = tt
 instant_answer (Some t) bytes text ts same reads says =
-    says_so 0 IsText SaysInstant ts text t (λ d e. record { text = text; is_text = e; read = subst (λ s. ReadsAs s t) same ((reads t).1 refl) }) says
+    says_so 0 IsText SaysInstant ts text t (λ d e. record
+    { text = text; is_text = e; read = subst (λ s. ReadsAs s t) same ((reads t).1 refl) }) says
 
 -- ---- an array
 
-pub place_told : (j jx jy : json.Json) (js more last : json.Items) (x y : ℤ) → j ≡ json.array js → js ≡ json.item jx more → more ≡ json.item jy last →
+pub place_told : (j jx jy : json.Json) (js more last : json.Items) (x y : ℤ) → j ≡ json.array js → js ≡ json.item jx more →
+    more ≡ json.item jy last →
     last ≡ json.no_items → Told 0 SaysCoordinate jx x → Told 0 SaysCoordinate jy y → Told 1 SaysCoordinates j (x, y)
 place_told j jx jy js more last x y is first second over tx ty =
     let whole : j ≡ json.array (json.item jx (json.item jy json.no_items)) =

@@ -1,5 +1,6 @@
 -- A numeral without point and exponent, and the number that it is read as.
-use Rattle.std.proofs.Common.{◌≡◌, ℕ, List, drop, ℤ, pos, ◌^◌, ◌<◌, ◌≤◌, true, false, Option, Some, None, length, refl, sym, ◌∙◌, subst, arith, lt-ltb, le-leb, w64, to_z-of_z}
+use Rattle.std.proofs.Common.{◌≡◌, ℕ, List, drop, ℤ, pos, ◌^◌, ◌<◌, ◌≤◌, true, false, Option, Some, None, length, refl, sym, ◌∙◌, subst}
+use Rattle.std.proofs.Common.{arith, lt-ltb, le-leb, w64, to_z-of_z}
 use mir.Val.{to_z, of_z}
 use Rattle.std.specs.Prelude.{FitsSigned, SomeIff, IfSome, int_lt, slice_index, ◌==◌}
 use Rattle.std.proofs.lemmas.Option.{same_Some}
@@ -11,7 +12,8 @@ use Rattle.mfjson.specs.Tokens.{IsWhole}
 integer : (p : Parts) → IsInteger p → is_integer p ≡ true
 integer p is = rw (lt-ltb 0 (length p.whole) is.0, is.1, is.2) refl
 
-pub unsigned_whole : (p : Parts) → IsInteger p → FitsSigned w64 (with_sign false (digits_of p)) → IsWhole (number_from false p) (with_sign false (digits_of p))
+pub unsigned_whole : (p : Parts) → IsInteger p → FitsSigned w64 (with_sign false (digits_of p)) →
+    IsWhole (number_from false p) (with_sign false (digits_of p))
 unsigned_whole p is fits =
     let small : digits_of p < 2 ^ 63 = grind arith in
     record {
@@ -20,7 +22,8 @@ unsigned_whole p is fits =
       whole = rw (lt-ltb (digits_of p) (2 ^ 63) small) refl;
     }
 
-pub negative_whole : (p : Parts) → IsInteger p → FitsSigned w64 (with_sign true (digits_of p)) → int_lt (with_sign true (digits_of p)) (pos 0) ≡ true
+pub negative_whole : (p : Parts) → IsInteger p → FitsSigned w64 (with_sign true (digits_of p)) →
+    int_lt (with_sign true (digits_of p)) (pos 0) ≡ true
     → IsWhole (number_from true p) (with_sign true (digits_of p))
 negative_whole p is fits below =
     let some : 0 < digits_of p = grind arith in
@@ -32,15 +35,19 @@ negative_whole p is fits below =
     }
 
 pub plain_answer : (text : List ℕ) (p : Parts) (o : Option ℤ) → p ≡ scan text → (slice_index text 0 == 45) ≡ false →
-    SomeIff o (IsInteger p × FitsSigned w64 (with_sign false (digits_of p))) (with_sign false (digits_of p)) → IfSome o (λ z. IsWhole (number_of text) z)
+    SomeIff o (IsInteger p × FitsSigned w64 (with_sign false (digits_of p))) (with_sign false (digits_of p)) →
+    IfSome o (λ z. IsWhole (number_of text) z)
 unfolding number_of
 plain_answer text p None is plain h = tt
 plain_answer text p (Some z) is plain h =
     let read : number_from false p ≡ number_of text = rw (is, plain) refl in
-    subst (λ v. IsWhole (number_of text) v) (sym h.1) (subst (λ o. IsWhole o (with_sign false (digits_of p))) read (unsigned_whole p h.0.0 h.0.1))
+    subst (λ v. IsWhole (number_of text) v) (sym h.1)
+    (subst (λ o. IsWhole o (with_sign false (digits_of p))) read (unsigned_whole p h.0.0 h.0.1))
 
-pub signed_answer : (text : List ℕ) (p : Parts) (o : Option ℤ) (z : ℤ) → p ≡ scan (drop 1 text) → (slice_index text 0 == 45) ≡ true → o ≡ Some z →
-    int_lt (to_z w64 (of_z w64 z)) (pos 0) ≡ true → SomeIff o (IsInteger p × FitsSigned w64 (with_sign true (digits_of p))) (with_sign true (digits_of p))
+pub signed_answer : (text : List ℕ) (p : Parts) (o : Option ℤ) (z : ℤ) → p ≡ scan (drop 1 text) → (slice_index text 0 == 45) ≡ true →
+    o ≡ Some z →
+    int_lt (to_z w64 (of_z w64 z)) (pos 0) ≡ true →
+    SomeIff o (IsInteger p × FitsSigned w64 (with_sign true (digits_of p))) (with_sign true (digits_of p))
     → IsWhole (number_of text) (to_z w64 (of_z w64 z))
 unfolding number_of
 signed_answer text p None z is minus got below h = absurd (cc)

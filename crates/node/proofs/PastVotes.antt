@@ -30,8 +30,12 @@ counts_no_more l p from v is below counts =
 
 module _ (m : Mind) (counted : IsPrefix m.learning.learnt m.learning.first (position m)) where
   message_passes : (from : ℕ) (message : Message) → is_past m message ≡ true → TakesMessage m from message m silence
-  message_passes from (Accepted v) past =
-      (None, m.learning, ignores (counts_no_more m.learning (position m) from v counted (ltb-true v.slot (position m) past)) refl refl, (refl, refl))
+  message_passes from (Accepted v) past = (
+    None,
+    m.learning,
+    ignores (counts_no_more m.learning (position m) from v counted (ltb-true v.slot (position m) past)) refl refl,
+    (refl, refl),
+  )
   message_passes from (Prepare ballot first) past = absurd (cc)
   message_passes from (Promise p) past = absurd (cc)
   message_passes from (Nack n) past = absurd (cc)

@@ -1,5 +1,6 @@
 -- Messages to several nodes.
-use Rattle.std.proofs.Common.{◌≡◌, ℕ, ◌+◌, ◌++◌, List, [], Bool, true, false, cond, filter, not, sym, ap, ◌∙◌, add-one, append_assoc, append-nil}
+use Rattle.std.proofs.Common.{◌≡◌, ℕ, ◌+◌, ◌++◌, List, [], Bool, true, false, cond, filter, not, sym, ap, ◌∙◌, add-one, append_assoc}
+use Rattle.std.proofs.Common.{append-nil}
 use Rattle.std.proofs.lemmas.List.Elements.{filter-append}
 use Rattle.wire.specs.NodeSets.{has_node}
 use Rattle.wire.specs.declared.frames.envelope.Envelope.{Envelope}

@@ -1,5 +1,6 @@
 -- What a node holds while it is up, and which inputs it refuses.
-use Rattle.std.specs.Prelude.{◌≡◌, ℕ, ◌<◌, ◌≤◌, ◌^◌, nat_le, nat_lt, length, not, Bool, true, false, Option, Some, None, IfSome, if◌then◌else◌}
+use Rattle.std.specs.Prelude.{◌≡◌, ℕ, ◌<◌, ◌≤◌, ◌^◌, nat_le, nat_lt, length, not, Bool, true, false, Option, Some, None, IfSome}
+use Rattle.std.specs.Prelude.{if◌then◌else◌}
 use Rattle.std.specs.List.{list_any}
 use Rattle.synod.specs.declared.ballot.Ballot.{Ballot}
 use Rattle.synod.specs.declared.ballot.TheConstants.{MOST_NODES}

@@ -1,6 +1,7 @@
 //! One node: its records, and its roles while it is up.
 
-ghost use Rattle.std.specs.Prelude.{◌≡◌, ◌⊎◌, ◌↔◌, ◌≤◌, ℕ, [], List, length, Ok, IfErr, IfOk, IfSome, OnOk, IsTrue, true, false, IsSome, None, MatchOption};
+ghost use Rattle.std.specs.Prelude.{◌≡◌, ◌⊎◌, ◌↔◌, ◌≤◌, ℕ, [], List, length, Ok, IfErr, IfOk, IfSome, OnOk, IsTrue, true, false, IsSome};
+ghost use Rattle.std.specs.Prelude.{None, MatchOption};
 
 use super::fault::NodeFault;
 use super::input::Input;

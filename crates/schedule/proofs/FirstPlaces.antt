@@ -1,5 +1,6 @@
 -- The first place of a byte, as it is searched for in a long text.
-use Rattle.std.proofs.Common.{◌≡◌, ℕ, zero, suc, ◌+◌, ◌<◌, List, [], ◌∷◌, length, Bool, true, false, Option, Some, None, refl, sym, ap, ◌∙◌, arith}
+use Rattle.std.proofs.Common.{◌≡◌, ℕ, zero, suc, ◌+◌, ◌<◌, List, [], ◌∷◌, length, Bool, true, false, Option, Some, None, refl, sym, ap, ◌∙◌}
+use Rattle.std.proofs.Common.{arith}
 use Rattle.std.specs.Prelude.{position}
 use Rattle.std.specs.List.{position_from}
 use Rattle.std.proofs.lemmas.Iterator.Adapters.{position_from-zero}
@@ -26,4 +27,5 @@ module _ (test : ℕ → Bool) where
 
   pub first_is_position : (xs : List ℕ) (r : Option ℕ) → IsFirstByte test xs r → r ≡ position test xs
   first_is_position xs None h = sym (nowhere xs 0 h) ∙ sym (position_from-zero test xs)
-  first_is_position xs (Some k) h = ap Some (omega arith) ∙ sym (somewhere xs 0 k h.1 h.0.high h.0.before) ∙ sym (position_from-zero test xs)
+  first_is_position xs (Some k) h = ap Some (omega arith) ∙ sym (somewhere xs 0 k h.1 h.0.high h.0.before) ∙ sym
+      (position_from-zero test xs)

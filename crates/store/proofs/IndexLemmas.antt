@@ -1,5 +1,6 @@
 -- The index over time beside the features.
-use Rattle.std.proofs.Common.{◌≡◌, ℕ, suc, ◌<◌, ◌≤◌, List, ◌∷◌, ◌++◌, length, take, drop, get_or, slice_get, Bool, true, false, nat_le, nat_lt}
+use Rattle.std.proofs.Common.{◌≡◌, ℕ, suc, ◌<◌, ◌≤◌, List, ◌∷◌, ◌++◌, length, take, drop, get_or, slice_get, Bool, true, false, nat_le}
+use Rattle.std.proofs.Common.{nat_lt}
 use Rattle.std.proofs.Common.{if◌then◌else◌, Some, refl, sym, ap, subst, ◌∙◌, arith}
 use Rattle.std.specs.List.{remove}
 use Rattle.std.specs.Option.{option_map}

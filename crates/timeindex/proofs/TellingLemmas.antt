@@ -1,5 +1,6 @@
 -- Where an entry overlaps, an id is told.
-use Rattle.std.proofs.Common.{◌≡◌, ℕ, zero, suc, ◌<◌, List, [], ◌∷◌, Bool, true, false, cond, length, get_or, map, filter, ◌∙◌, sym, ap, arith}
+use Rattle.std.proofs.Common.{◌≡◌, ℕ, zero, suc, ◌<◌, List, [], ◌∷◌, Bool, true, false, cond, length, get_or, map, filter, ◌∙◌, sym, ap}
+use Rattle.std.proofs.Common.{arith}
 use Rattle.tpoint.specs.Extents.{Span}
 use Rattle.timeindex.specs.Entries.{Entry, id_of, overlaps, ids_overlapping}
 

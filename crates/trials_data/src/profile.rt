@@ -6,15 +6,28 @@ use std::test::Fail;
 use tpoint::{Instant, Interp, Point};
 
 // in the canonical order, and no blanks
-const CANONICAL: &str =
-    r#"{"id":"bus-7","temporalGeometry":{"coordinates":[[0,0],[10,5]],"datetimes":["2020-01-01T00:00:00.000Z","2020-01-01T00:00:03.000Z"],"interpolation":"Linear","type":"MovingPoint"},"type":"Feature"}"#;
+const CANONICAL: &str = concat!(
+    r#"{"id":"bus-7","temporalGeometry":{"coordinates":[[0,0],[10,5]],"#,
+    r#""datetimes":["2020-01-01T00:00:00.000Z","2020-01-01T00:00:03.000Z"],"#,
+    r#""interpolation":"Linear","type":"MovingPoint"},"type":"Feature"}"#
+);
 
 // the same in other words
 const SAME: [&str; 4] = [
     CANONICAL,
-    r#" { "type" : "Feature" , "id" : "bus-7" , "temporalGeometry" : { "type" : "MovingPoint" , "datetimes" : [ "2020-01-01T00:00:00Z" , "2020-01-01T00:00:03Z" ] , "coordinates" : [ [ 0 , 0 ] , [ 10 , 5 ] ] , "interpolation" : "Linear" } } "#,
-    "{\"type\":\"Feature\",\r\n\t\"temporalGeometry\":{\"interpolation\":\"Linear\",\"coordinates\":[[0,0],[10,5]],\n\"type\":\"MovingPoint\",\"datetimes\":[\"2020-01-01T00:00:00Z\",\"2020-01-01T00:00:03.000Z\"]},\"id\":\"bus-7\"}\n",
-    r#"{"type":"Feature","id":"bus\u002d7","temporalGeometry":{"type":"Moving\u0050oint","datetimes":["2020-01-01T00:00:00.000Z","2020-01-01T00:00:03\u005a"],"coordinates":[[0,0],[10,5]],"interpol\u0061tion":"Linear"}}"#,
+    concat!(
+        r#" { "type" : "Feature" , "id" : "bus-7" , "temporalGeometry" : { "type" : "MovingPoint" , "#,
+        r#""datetimes" : [ "2020-01-01T00:00:00Z" , "2020-01-01T00:00:03Z" ] , "#,
+        r#""coordinates" : [ [ 0 , 0 ] , [ 10 , 5 ] ] , "interpolation" : "Linear" } } "#
+    ),
+    "{\"type\":\"Feature\",\r\n\
+     \t\"temporalGeometry\":{\"interpolation\":\"Linear\",\"coordinates\":[[0,0],[10,5]],\n\
+     \"type\":\"MovingPoint\",\"datetimes\":[\"2020-01-01T00:00:00Z\",\"2020-01-01T00:00:03.000Z\"]},\"id\":\"bus-7\"}\n",
+    concat!(
+        r#"{"type":"Feature","id":"bus\u002d7","temporalGeometry":{"type":"Moving\u0050oint","#,
+        r#""datetimes":["2020-01-01T00:00:00.000Z","2020-01-01T00:00:03\u005a"],"#,
+        r#""coordinates":[[0,0],[10,5]],"interpol\u0061tion":"Linear"}}"#
+    ),
 ];
 
 #[test]

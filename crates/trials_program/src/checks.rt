@@ -22,8 +22,11 @@ impl Read for Broken {
 }
 
 // in the canonical order, with no blanks: 195 bytes
-const CANONICAL: &str =
-    r#"{"id":"bus-7","temporalGeometry":{"coordinates":[[0,0],[10,5]],"datetimes":["2020-01-01T00:00:00.000Z","2020-01-01T00:00:03.000Z"],"interpolation":"Linear","type":"MovingPoint"},"type":"Feature"}"#;
+const CANONICAL: &str = concat!(
+    r#"{"id":"bus-7","temporalGeometry":{"coordinates":[[0,0],[10,5]],"#,
+    r#""datetimes":["2020-01-01T00:00:00.000Z","2020-01-01T00:00:03.000Z"],"#,
+    r#""interpolation":"Linear","type":"MovingPoint"},"type":"Feature"}"#
+);
 
 /// It comes back with a line feed, whichever of its forms asks for it.
 #[test]

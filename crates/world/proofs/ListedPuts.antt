@@ -259,7 +259,8 @@ module _ {S : Type 0} (storages : Ghosts S) (laws : IsLawful storages) where
   failed_unsure a b key bytes (inr (inl f)) sure = inl f.adds.unsure
   failed_unsure a b key bytes (inr (inr (inl f))) sure = inr (ap (λ (x : Script S). x.writes) f.after
       ∙ (reads_listed a f.between sure f.before).0)
-  failed_unsure a b key bytes (inr (inr (inr f))) sure = elim (read_failed_unsure a b (inr f.inner)) [ inl now ↦ inl now | inr same ↦ inr same.0 ]
+  failed_unsure a b key bytes (inr (inr (inr f))) sure =
+      elim (read_failed_unsure a b (inr f.inner)) [ inl now ↦ inl now | inr same ↦ inr same.0 ]
 
   pub script_puts : KeepsPuts (scripted storages)
   script_puts = record {

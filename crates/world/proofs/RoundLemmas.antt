@@ -21,8 +21,10 @@ use Rattle.world.specs.declared.lists.Outcome.TheVariants as outcome
 use Rattle.world.specs.declared.round_end.RoundEnd.{RoundEnd}
 use Rattle.world.specs.declared.round_end.RoundEnd.TheVariants.{NotAQuorum, Down, Refused, Stopped, TooLow, Decided}
 use Rattle.world.specs.Rounds.{is_up, DeliversTo, nothing, elsewhere, there, GoesDownOn, DeliversPart, NoneRefuses, IsInterrupted, CanMeet}
-use Rattle.world.specs.Rounds.{BreaksOff, GoesOn, GoesToItsEnd, MeetingEnds, Phase, begun, asked, answered, voted, heard, receivers_after, ComesThrough, begins, asks}
-use Rattle.world.specs.Rounds.{answers, votes, hears, GoesDown, at_once, on_the_way, EndsIn, HasBegun, RoundEnds, IsPartOfRound, none, some, untold}
+use Rattle.world.specs.Rounds.{BreaksOff, GoesOn, GoesToItsEnd, MeetingEnds, Phase, begun, asked, answered, voted, heard, receivers_after}
+use Rattle.world.specs.Rounds.{ComesThrough, begins, asks}
+use Rattle.world.specs.Rounds.{answers, votes, hears, GoesDown, at_once, on_the_way, EndsIn, HasBegun, RoundEnds, IsPartOfRound, none, some}
+use Rattle.world.specs.Rounds.{untold}
 use Rattle.world.specs.Worlds.{WorldState, TakesAt, ReceivesAt, DeliversFrame, Steps, recorded, with_node, with_outcome, without_wait}
 
 abbrev failed : WorldFault → Result RoundEnd WorldFault

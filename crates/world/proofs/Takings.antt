@@ -38,7 +38,8 @@ module _ {S : Type 0} {st : Ghosts (Script S)} (nodes : List (Node (Script S))) 
   }
 
   -- it keeps its name
-  pub lent_keeps_fleet : (frames : List Envelope) → IsFleet (map state_of nodes) frames → IsFleet (map state_of (slice_set nodes j m)) frames
+  pub lent_keeps_fleet : (frames : List Envelope) → IsFleet (map state_of nodes) frames →
+      IsFleet (map state_of (slice_set nodes j m)) frames
   lent_keeps_fleet frames fleet = lent_fleet nodes frames len i j n m counted named there lent fleet
       (λ _. (stepped nodes frames len i j n m input r counted named there lent fleet steps).member)
 

@@ -1,6 +1,7 @@
 //! The world: all nodes, everything that was sent, and everything that came of it.
 
-ghost use Rattle.std.specs.Prelude.{◌≡◌, ◌≤◌, ◌<◌, ◌+◌, ◌++◌, ◌∷◌, [], ◌↔◌, ℕ, true, false, length, vec_len, vec_capacity, Some, None, IsNone};
+ghost use Rattle.std.specs.Prelude.{◌≡◌, ◌≤◌, ◌<◌, ◌+◌, ◌++◌, ◌∷◌, [], ◌↔◌, ℕ, true, false, length, vec_len, vec_capacity, Some, None};
+ghost use Rattle.std.specs.Prelude.{IsNone};
 ghost use Rattle.std.specs.Prelude.{OnOk, OnErr, IsOk, IsErrOf, ◌⊎◌, Bool, IfOk, IfErr, IfSome, IsTrue, is_ok, slice_get, MatchBool};
 ghost use Rattle.std.specs.Prelude.{MatchOption, All, map};
 ghost use Rattle.store.specs.Operations.{IsSound};

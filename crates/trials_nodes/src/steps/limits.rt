@@ -117,7 +117,8 @@ submit 0 7 3
 submit 0 7 4
 timeout 0 > send 0 prepare 1.0 65533 to 0 1 2
 hear 0 0, promise 1.0 65533 65535
-hear 0 1, promise 1.0 65533 65535 > send 0 accept 1.0 65533 7:1 to 0 1 2; send 0 accept 1.0 65534 7:2 to 0 1 2; send 0 accept 1.0 65535 7:3 to 0 1 2
+hear 0 1, promise 1.0 65533 65535 > send 0 accept 1.0 65533 7:1 to 0 1 2; send 0 accept 1.0 65534 7:2 to 0 1 2; \
+    send 0 accept 1.0 65535 7:3 to 0 1 2
 hear 0 1, decided 65535 0:0 > learn 0 65535 noop; send 0 ask 65533 to 1
 hear 0 1, decided 65533 0:0 > learn 0 65533 noop; send 0 ask 65534 to 1
 hear 0 1, decided 65534 0:0 > learn 0 65534 noop

@@ -48,7 +48,8 @@ lose 13
 lose 22
 lose 23
 lose 24
-flush > learn 0 0 1:1; learn 1 0 1:1; learn 2 0 1:1; learn 3 0 1:1; learn 4 0 1:1; learn 5 0 1:1; learn 6 0 1:1; reply 6 1:1 21 1; learn 0 1 2:1; learn 1 1 2:1; learn 2 1 2:1; learn 3 1 2:1; learn 4 1 2:1; learn 5 1 2:1; learn 6 1 2:1; reply 6 2:1 21 2";
+flush > learn 0 0 1:1; learn 1 0 1:1; learn 2 0 1:1; learn 3 0 1:1; learn 4 0 1:1; learn 5 0 1:1; learn 6 0 1:1; reply 6 1:1 21 1; \
+    learn 0 1 2:1; learn 1 1 2:1; learn 2 1 2:1; learn 3 1 2:1; learn 4 1 2:1; learn 5 1 2:1; learn 6 1 2:1; reply 6 2:1 21 2";
 
 // A tick asks again the nodes whose promise didn't count, and then for the votes for each open proposal.
 const SENT_AGAIN: &str = "\
@@ -148,7 +149,9 @@ submit 0 7 8
 submit 0 7 9
 timeout 0 > send 0 prepare 1.0 0 to 0 1 2
 hear 0 0, promise 1.0 0 65535
-hear 0 1, promise 1.0 0 65535 > send 0 accept 1.0 0 7:1 to 0 1 2; send 0 accept 1.0 1 7:2 to 0 1 2; send 0 accept 1.0 2 7:3 to 0 1 2; send 0 accept 1.0 3 7:4 to 0 1 2; send 0 accept 1.0 4 7:5 to 0 1 2; send 0 accept 1.0 5 7:6 to 0 1 2; send 0 accept 1.0 6 7:7 to 0 1 2; send 0 accept 1.0 7 7:8 to 0 1 2
+hear 0 1, promise 1.0 0 65535 > send 0 accept 1.0 0 7:1 to 0 1 2; send 0 accept 1.0 1 7:2 to 0 1 2; send 0 accept 1.0 2 7:3 to 0 1 2; \
+    send 0 accept 1.0 3 7:4 to 0 1 2; send 0 accept 1.0 4 7:5 to 0 1 2; send 0 accept 1.0 5 7:6 to 0 1 2; \
+    send 0 accept 1.0 6 7:7 to 0 1 2; send 0 accept 1.0 7 7:8 to 0 1 2
 hear 0 1, decided 0 7:1 > learn 0 0 7:1; reply 0 7:1 21 1; send 0 accept 1.0 8 7:9 to 0 1 2; send 0 ask 1 to 1";
 
 // The told vote of the highest ballot is proposed again, and a gap below one is filled with a no-op.
@@ -158,7 +161,8 @@ timeout 0 > send 0 prepare 1.0 0 to 0 1 2
 hear 0 1, nack 1.0 5.0
 timeout 0 > send 0 prepare 6.0 0 to 0 1 2
 hear 0 0, promise 6.0 0 65535 (2.0 0 7:1) (3.0 2 8:1)
-hear 0 1, promise 6.0 0 65535 (4.0 0 9:1) (1.0 2 5:1) > send 0 accept 6.0 0 9:1 to 0 1 2; send 0 accept 6.0 1 noop to 0 1 2; send 0 accept 6.0 2 8:1 to 0 1 2; send 0 accept 6.0 3 3:1 to 0 1 2";
+hear 0 1, promise 6.0 0 65535 (4.0 0 9:1) (1.0 2 5:1) > send 0 accept 6.0 0 9:1 to 0 1 2; send 0 accept 6.0 1 noop to 0 1 2; \
+    send 0 accept 6.0 2 8:1 to 0 1 2; send 0 accept 6.0 3 3:1 to 0 1 2";
 
 // The least of the last slots is the last to be proposed, and a vote behind it isn't told. Who promised further on isn't asked again.
 const ENDS: &str = "\

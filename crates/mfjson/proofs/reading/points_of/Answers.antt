@@ -4,7 +4,8 @@ use Rattle.mfjson.proofs.reading.points_of.Goals as goal
 
 pub loop-i-preserved : goal.loop-i-preserved
 loop-i-preserved c =
-    rw c.in_ok-push.ensures.items (together_more c.loop-i.points.items c.args.instants.now c.args.places.now c.loop-i.i _ (omega arith) (omega arith)
+    rw c.in_ok-push.ensures.items (together_more c.loop-i.points.items c.args.instants.now c.args.places.now c.loop-i.i _ (omega arith)
+    (omega arith)
     c.loop-i.invariant c.index-instants-i.is (search rules))
 
 pub returns : goal.returns

@@ -3,5 +3,6 @@ use Rattle.mfjson.proofs.tokens.instant_in.Goals as goal
 
 pub returns : goal.returns
 returns c =
-    instant_answer c.datetime_read.result c.as_bytes.result.now c.in_ok-text_in.field-0.now c.args.value.now c.as_bytes.ensures.value c.datetime_read.ensures
+    instant_answer c.datetime_read.result c.as_bytes.result.now c.in_ok-text_in.field-0.now c.args.value.now c.as_bytes.ensures.value
+    c.datetime_read.ensures
     c.in_ok-text_in.ensures

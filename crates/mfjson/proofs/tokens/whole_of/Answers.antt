@@ -10,5 +10,7 @@ returns-then-not-has_minus c =
 pub returns-then-z-lt0 : goal.returns-then-z-lt0
 returns-then-z-lt0 c =
     let text = c.args.text.now in
-    let parts : c.scan-2.result ≡ scan (drop 1 text) = c.scan-2.ensures.parts ∙ ap scan (take_all _ (drop 1 text) (omega (arith, length-drop 1 text))) in
-    signed_answer text c.scan-2.result c.to_i64-2.result _ parts (sym c.if-not-has_minus.ensures.value) c.in_ok-z.was c.if-z-lt0.true c.to_i64-2.ensures
+    let parts : c.scan-2.result ≡ scan (drop 1 text) =
+    c.scan-2.ensures.parts ∙ ap scan (take_all _ (drop 1 text) (omega (arith, length-drop 1 text))) in
+    signed_answer text c.scan-2.result c.to_i64-2.result _ parts (sym c.if-not-has_minus.ensures.value) c.in_ok-z.was c.if-z-lt0.true
+    c.to_i64-2.ensures

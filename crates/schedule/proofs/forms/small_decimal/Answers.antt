@@ -22,4 +22,5 @@ overflow_add-value c =
 
 pub loop-byte-preserved : goal.loop-byte-preserved
 loop-byte-preserved c =
-    rw c.from.ensures (digit_more _ _ _ _ c.loop-byte-test.true refl c.if-not-is_ascii_digit.ensures.cases c.loop-byte.invariant.0 c.loop-byte.invariant.1)
+    rw c.from.ensures (digit_more _ _ _ _ c.loop-byte-test.true refl c.if-not-is_ascii_digit.ensures.cases c.loop-byte.invariant.0
+    c.loop-byte.invariant.1)

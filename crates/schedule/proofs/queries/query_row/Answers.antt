@@ -11,7 +11,8 @@ returns-in_err-target c =
 pub returns-in_err-query : goal.returns-in_err-query
 returns-in_err-query c =
     err_told _ _ _ _ c.from_residual-in_err-query.ensures.1
-    (rw (c.in_ok-target.ensures, c.in-Some.ensures) (query_fault c.args.nodes c.in-Some.question c.in_ok-target.target.now _ _ (c.in_err-query.ensures c.args.nodes)))
+    (rw (c.in_ok-target.ensures, c.in-Some.ensures)
+    (query_fault c.args.nodes c.in-Some.question c.in_ok-target.target.now _ _ (c.in_err-query.ensures c.args.nodes)))
 
 pub returns-in_default : goal.returns-in_default
 returns-in_default c =

@@ -41,7 +41,8 @@ returns-in_err-frame_row-in-Drop c =
 
 pub returns-in_err-node_row-in-Timeout : goal.returns-in_err-node_row-in-Timeout
 returns-in_err-node_row-in-Timeout c =
-    refused_row c.args.nodes Timeout _ c.args.words _ _ _ c.in-Timeout.is (λ e. cc) (λ e. cc) c.from_residual-in_err-node_row-in-Timeout.ensures.1
+    refused_row c.args.nodes Timeout _ c.args.words _ _ _ c.in-Timeout.is (λ e. cc) (λ e. cc)
+    c.from_residual-in_err-node_row-in-Timeout.ensures.1
     c.in_err-node_row-in-Timeout.ensures
 
 pub returns-in_err-node_row-in-Tick : goal.returns-in_err-node_row-in-Tick
@@ -51,12 +52,14 @@ returns-in_err-node_row-in-Tick c =
 
 pub returns-in_err-node_row-in-Restart : goal.returns-in_err-node_row-in-Restart
 returns-in_err-node_row-in-Restart c =
-    refused_row c.args.nodes Restart _ c.args.words _ _ _ c.in-Restart.is (λ e. cc) (λ e. cc) c.from_residual-in_err-node_row-in-Restart.ensures.1
+    refused_row c.args.nodes Restart _ c.args.words _ _ _ c.in-Restart.is (λ e. cc) (λ e. cc)
+    c.from_residual-in_err-node_row-in-Restart.ensures.1
     c.in_err-node_row-in-Restart.ensures
 
 pub returns-in_err-fault_row-in-Fault : goal.returns-in_err-fault_row-in-Fault
 returns-in_err-fault_row-in-Fault c =
-    refused_row c.args.nodes Fault _ c.args.words _ _ _ c.in-Fault.is (λ e. cc) (λ e. cc) c.from_residual-in_err-fault_row-in-Fault.ensures.1
+    refused_row c.args.nodes Fault _ c.args.words _ _ _ c.in-Fault.is (λ e. cc) (λ e. cc)
+    c.from_residual-in_err-fault_row-in-Fault.ensures.1
     c.in_err-fault_row-in-Fault.ensures
 
 pub returns-in_err-end-in-Flush : goal.returns-in_err-end-in-Flush

@@ -6,7 +6,8 @@ use Rattle.schedule.proofs.replaying.do_lines.Goals as goal
 
 pub loop-line-preserved : goal.loop-line-preserved
 loop-line-preserved g c =
-    one_more_taken (IsDone (scripted.ghosts g.row.S g.S.Stable g.S.Stable-dict)) _ _ _ _ _ _ _ _ _ _ c.loop-line.invariant c.in-Some.ensures.steps c.in_ok-do_line.ensures.done
+    one_more_taken (IsDone (scripted.ghosts g.row.S g.S.Stable g.S.Stable-dict)) _ _ _ _ _ _ _ _ _ _ c.loop-line.invariant
+    c.in-Some.ensures.steps c.in_ok-do_line.ensures.done
 
 pub returns-in_err-do_line-clause-ends : goal.returns-in_err-do_line-clause-ends
 returns-in_err-do_line-clause-ends g c =
@@ -18,5 +19,6 @@ returns-in_err-do_line-clause-ends g c =
 
 pub returns-clause-ends : goal.returns-clause-ends
 returns-clause-ends g c =
-    all_taken (IsDone (scripted.ghosts g.row.S g.S.Stable g.S.Stable-dict)) _ _ _ _ _ _ _ c.into_iter-line-iterator.ensures.into_iter_gives.0 c.loop-line.invariant
+    all_taken (IsDone (scripted.ghosts g.row.S g.S.Stable g.S.Stable-dict)) _ _ _ _ _ _ _
+    c.into_iter-line-iterator.ensures.into_iter_gives.0 c.loop-line.invariant
     c.in-None.ensures.steps.0

@@ -25,7 +25,8 @@ returns-in-Some-clause-stands g c =
     let slot = c.args.slot in
     let lt : slot < 65536 = omega (arith, c.value-place.ensures.value, c.value-place.ensures.in_log) in
     let within : slot < length mid.row.items = grind arith in
-    row_set mid.row.items (slice_set mid.row.items c.value-place.result c.replace.new.self) (get nat_cmp mid.others) slot (Some c.args.value)
+    row_set mid.row.items (slice_set mid.row.items c.value-place.result c.replace.new.self) (get nat_cmp mid.others) slot
+    (Some c.args.value)
     (λ k. slice_set mid.row.items (c.value-place.ensures.value k) (c.replace.ensures.after k)) lt within
     ∙ ap (λ f. put f slot (Some c.args.value)) c.lengthen.ensures.same
 

@@ -46,5 +46,6 @@ returns-clause-heard c =
     let self = c.args.self.now in
     let next : c.args.slot ≡ length self.settled.items = omega (arith, c.if-value-len.false, c.value.ensures.value, c.len.ensures) in
     let longer : c.push.new.self.items ≡ self.settled.items ++ c.args.command ∷ [] = search rules in
-    rw longer (row_joined (λ _. unheard) self.settled.items c.args.command (heard_of self.others) (heard_of c.forget.new.self) c.args.slot unheard
+    rw longer (row_joined (λ _. unheard) self.settled.items c.args.command (heard_of self.others) (heard_of c.forget.new.self) c.args.slot
+    unheard
     next c.forget.ensures.heard)

@@ -1,7 +1,8 @@
 use Rattle.std.proofs.Common.{rules}
 use Rattle.std.specs.BTreeMap.{get}
 use Rattle.std.specs.Ordering.{nat_cmp}
-use Rattle.learner.proofs.SlotLemmas.{IsReadAlike, opened, hears_there, learnt_stays, heard_stays, unlearnt_before, unheard_before, untold_before}
+use Rattle.learner.proofs.SlotLemmas.{IsReadAlike, opened, hears_there, learnt_stays, heard_stays, unlearnt_before, unheard_before}
+use Rattle.learner.proofs.SlotLemmas.{untold_before}
 use Rattle.learner.proofs.slots.Slots.hear.Goals as goal
 
 -- the entry's value is what was known of the slot

@@ -34,10 +34,12 @@ invariant_of-self c =
     let self = c.args.self.now in
     let voters = c.voters_with-voters in
     let place = c.position-place in
-    let there = read_there self.tallies.items c.args.ballot c.args.command.now place.result place.ensures c.in-Some-place.place c.in-Some-place.is
+    let there = read_there self.tallies.items c.args.ballot c.args.command.now place.result place.ensures c.in-Some-place.place
+    c.in-Some-place.is
     c.index_mut.result.now c.index_mut.ensures.value in record {
       apart = revised_apart self.tallies.items self.apart c.args.ballot c.args.from c.args.command.now place.result place.ensures
-          voters.result voters.ensures.member voters.ensures.others c.requires c.in-Some-place.place c.index_mut.result.now c.in-Some-place.is there;
+          voters.result voters.ensures.member voters.ensures.others c.requires c.in-Some-place.place c.index_mut.result.now
+          c.in-Some-place.is there;
     }
 
 pub returns-in-Some-place-clause-heard : goal.returns-in-Some-place-clause-heard
@@ -45,14 +47,16 @@ returns-in-Some-place-clause-heard c =
     let self = c.args.self.now in
     let voters = c.voters_with-voters in
     let place = c.position-place in
-    let there = read_there self.tallies.items c.args.ballot c.args.command.now place.result place.ensures c.in-Some-place.place c.in-Some-place.is
+    let there = read_there self.tallies.items c.args.ballot c.args.command.now place.result place.ensures c.in-Some-place.place
+    c.in-Some-place.is
     c.index_mut.result.now c.index_mut.ensures.value in
     λ _. (
       decides_not_there self.tallies.items self.apart c.args.ballot c.args.from c.args.command.now place.result place.ensures
           voters.result voters.ensures.member voters.ensures.others c.requires c.args.nodes
           (λ most. let bad : c.is_majority_of.result ≡ true = c.is_majority_of.ensures.1 most in cc),
       revised_told self.tallies.items self.apart c.args.ballot c.args.from c.args.command.now place.result place.ensures
-          voters.result voters.ensures.member voters.ensures.others c.requires c.in-Some-place.place c.index_mut.result.now c.in-Some-place.is there,
+          voters.result voters.ensures.member voters.ensures.others c.requires c.in-Some-place.place c.index_mut.result.now
+          c.in-Some-place.is there,
     )
 
 -- it is the first to tell the command under the ballot
@@ -62,7 +66,8 @@ invariant_of-self-in-None-place c =
     let voters = c.voters_with-voters in
     let place = c.position-place in record {
       apart = pushed_or_not self.tallies.items self.apart c.args.ballot c.args.from c.args.command.now place.result place.ensures
-          voters.result voters.ensures.member voters.ensures.others c.requires c.in-None-place.is (is_ok c.push.result) c.push.new.self.items
+          voters.result voters.ensures.member voters.ensures.others c.requires c.in-None-place.is (is_ok c.push.result)
+          c.push.new.self.items
           (rw (sym c.in_ok-command-in-None-place.ensures) c.push.ensures.items);
     }
 

@@ -28,7 +28,8 @@ returns g c =
           (IfOk-weaker r _ _ (λ _ same. ap state_of same) c.stop_after.ensures.ok)
           (IfErr-weaker r _ _ (λ _ same up. ap state_of (same up)) c.stop_after.ensures.goes_on) c.stop_after.ensures.stops;
       meaning = record {
-        goes_on = λ base. meaning_stays base (input.Message c.args.envelope.now) _ _ m n r _ up c.stop_after.ensures.ok (λ same. ap (λ n. (state_of n).up) same)
+        goes_on = λ base. meaning_stays base (input.Message c.args.envelope.now) _ _ m n r _ up c.stop_after.ensures.ok
+            (λ same. ap (λ n. (state_of n).up) same)
             c.receive-result.ensures.takes;
       };
       few = said_few (input.Message c.args.envelope.now) m n r c.see_small.ensures c.receive-result.ensures.takes;

@@ -12,7 +12,8 @@ returns-in-Submit g c = rw c.in-Submit.is (record {
   refuses = storage_too _ _ _ _ _ c.submit.ensures.refuses;
   err = IfErr-weaker c.submit.result _ _ (λ _ w. inr w) c.submit.ensures.err;
   ignores = λ is. let w = c.submit.ensures.repeats is.0 is.1 in (w.0, w.1, refl);
-  device = λ is. absurd (memory_or_refused _ (mind_of c.args.self.now) (input.Submit c.in-Submit.client c.in-Submit.number c.in-Submit.op) c.submit.ensures.err is);
+  device = λ is. absurd (memory_or_refused _ (mind_of c.args.self.now) (input.Submit c.in-Submit.client c.in-Submit.number c.in-Submit.op)
+      c.submit.ensures.err is);
   memory = λ _. inl (g.met.S.Stable.laws.reads_none _);
 })
 

@@ -12,7 +12,8 @@ use Rattle.world.proofs.run.Run.begin.Goals as goal
 pub returns-in-Ok-clause-begins : goal.returns-in-Ok-clause-begins
 returns-in-Ok-clause-begins g c =
     takes_lent c.args.self.now.nodes.items (vec_len c.args.self.now.nodes) c.args.node c.from.result c.index_mut-at.result.now
-    c.step.new.self input.Timeout c.step.result (search rules) (search rules) c.requires.there c.index_mut-at.ensures.value c.step.ensures.steps
+    c.step.new.self input.Timeout c.step.result (search rules) (search rules) c.requires.there c.index_mut-at.ensures.value
+    c.step.ensures.steps
     (run_of c.args.self.now) _ (Ok c.in-Ok.begun) refl c.step.ensures.meaning c.in-Ok.is c.record.ensures.lists
 
 -- the node goes down on it
@@ -61,12 +62,14 @@ returns-else-is_stop-clause-fails g c =
 pub invariant_of-self-clause-fleet : goal.invariant_of-self-clause-fleet
 invariant_of-self-clause-fleet g c =
     lent_keeps_fleet c.args.self.now.nodes.items (vec_len c.args.self.now.nodes) c.args.node c.from.result c.index_mut-at.result.now
-    c.step.new.self input.Timeout c.step.result (search rules) (search rules) c.requires.there c.index_mut-at.ensures.value c.step.ensures.steps
+    c.step.new.self input.Timeout c.step.result (search rules) (search rules) c.requires.there c.index_mut-at.ensures.value
+    c.step.ensures.steps
     c.args.self.now.frames.items c.args.self.now.fleet
 
 -- what it sends goes between nodes of the run
 pub record-requires-clause-between : goal.record-requires-clause-between
 record-requires-clause-between g c =
     lent_sends_between c.args.self.now.nodes.items (vec_len c.args.self.now.nodes) c.args.node c.from.result c.index_mut-at.result.now
-    c.step.new.self input.Timeout c.step.result (search rules) (search rules) c.requires.there c.index_mut-at.ensures.value c.step.ensures.steps
+    c.step.new.self input.Timeout c.step.result (search rules) (search rules) c.requires.there c.index_mut-at.ensures.value
+    c.step.ensures.steps
     c.args.self.now.frames.items c.in-Ok.begun c.args.self.now.fleet c.in-Ok.is

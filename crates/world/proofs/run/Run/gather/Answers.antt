@@ -69,7 +69,8 @@ returns-in-Some-refusal-clause-ends g c = λ old comes.
       first = end;
       between = run_of c.hand_on.new.self;
       comes = asked_by st old c.args.node c.args.members.now c.args.prepares c.args.prepares end (run_of c.args.self.now)
-          (run_of c.hand_on.new.self) comes refl (at_none _ _ c.in_ok-down.field-0 (search rules) c.in_ok-down.ensures.delivers) (search rules);
+          (run_of c.hand_on.new.self) comes refl (at_none _ _ c.in_ok-down.field-0 (search rules) c.in_ok-down.ensures.delivers)
+          (search rules);
       greatest_ = subst (λ l. IsGreatestTold l c.in-Some-refusal.promised)
           (sliced c.frames.result.now (run_of c.hand_on.new.self).frames (length c.frames-answers.result.now) end c.frames.ensures
           (search rules))
