@@ -15,14 +15,14 @@ use Rattle.wire.specs.FrameSpelling.{spelling}
 use Rattle.wire.specs.declared.frames.envelope.Envelope.{Envelope}
 use Rattle.stable.specs.Script.{Script}
 use Rattle.stable.specs.declared.stable.Stable.{Ghosts}
-use Rattle.world.specs.declared.event.Event.{Event}
-use Rattle.world.specs.declared.fault.WorldFault.{WorldFault}
-use Rattle.world.specs.declared.fault.WorldFault.TheVariants as fault
-use Rattle.world.specs.declared.round_end.RoundEnd.{RoundEnd}
-use Rattle.world.specs.Rounds.{RoundEnds, IsPartOfRound}
-use Rattle.world.specs.Worlds.{WorldState, Steps}
-use Rattle.world.proofs.FramesGrow.{BeginWith, step_grows, round_grows}
-use Rattle.world.proofs.Handing.{within_more}
+use Rattle.history.specs.declared.event.Event.{Event}
+use Rattle.history.specs.declared.fault.WorldFault.{WorldFault}
+use Rattle.history.specs.declared.fault.WorldFault.TheVariants as fault
+use Rattle.history.specs.declared.round_end.RoundEnd.{RoundEnd}
+use Rattle.history.specs.Rounds.{RoundEnds, IsPartOfRound}
+use Rattle.history.specs.Worlds.{WorldState, Steps}
+use Rattle.history.proofs.FramesGrow.{BeginWith, step_grows, round_grows}
+use Rattle.history.proofs.Handing.{within_more}
 use Rattle.cluster.specs.Indexes.{Indexes, IsFirst, NoneBelow, number_of, spellings}
 use Rattle.cluster.specs.Lowest.{GoesAs, IsLowest, IsStranger}
 

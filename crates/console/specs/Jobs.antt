@@ -9,7 +9,7 @@ use Rattle.endings.specs.declared.failure.Failure.{Failure}
 use Rattle.cluster.specs.declared.transport.Transport.{Ghosts as Transports}
 use Rattle.datagrams.specs.Counts.{socket_count}
 use Rattle.datagrams.specs.declared.sockets.Sockets.{Sockets}
-use Rattle.schedule.specs.Runs.{IsReplay, IsRunOver}
+use Rattle.replay.specs.Runs.{IsReplay, IsRunOver}
 use Rattle.schedule.specs.Schedules.{IsScheduleOf, Plan}
 use Rattle.works.specs.Works.{CheckStops, IsChecked, IsLoopedOver, IsUnread, LoopStopsOver, ReplayStops, StopsOver}
 

@@ -6,7 +6,7 @@ ghost use Rattle.endings.specs.Failures.{line_text, status_of};
 ghost use Rattle.commandline.specs.Forms.{AskFor, NameInput, text_of as name_text};
 ghost use Rattle.console.specs.Jobs.{EndsIn, IsAnswer, IsFaulty, IsKept, IsLooped, LoopStops, MakesIn, Stops};
 ghost use Rattle.datagrams.specs.Counts.{socket_count};
-ghost use Rattle.schedule.specs.Runs.{IsRunOver};
+ghost use Rattle.replay.specs.Runs.{IsRunOver};
 ghost use Rattle.works.specs.Works.{IsUnread, StopsOver};
 ghost use Rattle.endings.specs.Streams.{Takes, Tells};
 

@@ -4,7 +4,7 @@ use Rattle.stable.specs.Script.{Script}
 use Rattle.stable.specs.declared.stable.Stable.{Ghosts}
 use Rattle.endings.specs.Failures.{line_text}
 use Rattle.endings.specs.declared.failure.Failure.{Failure}
-use Rattle.schedule.specs.Runs.{IsReplay}
+use Rattle.replay.specs.Runs.{IsReplay}
 use Rattle.works.specs.Works.{CheckStops, IsChecked, ReplayStops}
 use Rattle.examples.specs.declared.outcome.Kind.{Kind}
 use Rattle.examples.specs.declared.outcome.Kind.TheVariants.{Schedule, Document}

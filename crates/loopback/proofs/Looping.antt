@@ -1,23 +1,23 @@
 -- Doing a schedule's lines to a cluster.
 use Rattle.std.proofs.Common.{◌≡◌, ◌⊎◌, inl, inr, ℕ, List, sym, ap, subst, length, Result, Ok, Err, IsErrOf}
 use Rattle.stable.specs.declared.memory.MemStable.{MemStable}
-use Rattle.world.specs.Events.{NamesNoFrame, NamesNoNode}
-use Rattle.world.specs.Rounds.{IsPartOfRound, NamesNoMember, RoundEnds}
-use Rattle.world.specs.declared.event.Event.{Event}
-use Rattle.world.specs.declared.fault.WorldFault.{WorldFault}
-use Rattle.world.specs.declared.fault.WorldFault.TheVariants as world_fault
-use Rattle.world.specs.declared.round_end.RoundEnd.{RoundEnd}
+use Rattle.history.specs.Events.{NamesNoFrame, NamesNoNode}
+use Rattle.history.specs.Rounds.{IsPartOfRound, NamesNoMember, RoundEnds}
+use Rattle.history.specs.declared.event.Event.{Event}
+use Rattle.history.specs.declared.fault.WorldFault.{WorldFault}
+use Rattle.history.specs.declared.fault.WorldFault.TheVariants as world_fault
+use Rattle.history.specs.declared.round_end.RoundEnd.{RoundEnd}
 use Rattle.cluster.specs.Clusters.{ClusterState}
 use Rattle.cluster.specs.declared.transport.Transport.{Ghosts as Transports}
-use Rattle.schedule.specs.Causes.{cause_of}
-use Rattle.schedule.proofs.LineByLine.{ends_at_a_line, ends_at_the_last}
-use Rattle.schedule.specs.LineByLine.{AllDone, StopsAtOne}
+use Rattle.replay.specs.Causes.{cause_of}
+use Rattle.replay.proofs.LineByLine.{ends_at_a_line, ends_at_the_last}
+use Rattle.replay.specs.LineByLine.{AllDone, StopsAtOne}
 use Rattle.schedule.specs.Schedules.{Plan, last_number}
 use Rattle.schedule.specs.declared.action.Action.TheVariants.{Flush, Round}
 use Rattle.schedule.specs.declared.plan.ScheduleLine.{ScheduleLine}
-use Rattle.schedule.specs.declared.replay_fault.ReplayCause.TheVariants.{Memory}
-use Rattle.schedule.specs.declared.replay_fault.ReplayFault.{ReplayFault}
-use Rattle.world.specs.Staying.{IsSafeOver}
+use Rattle.replay.specs.declared.replay_fault.ReplayCause.TheVariants.{Memory}
+use Rattle.replay.specs.declared.replay_fault.ReplayFault.{ReplayFault}
+use Rattle.history.specs.Staying.{IsSafeOver}
 use Rattle.loopback.specs.Loops.{IsDone, IsRefused, PumpsTo, RunFails, RunsTo, SendsOn, storages, text_of}
 
 abbrev failed : WorldFault → Result ℕ WorldFault

@@ -5,25 +5,25 @@ use Rattle.stable.specs.Script.{Script}
 use Rattle.stable.specs.Storages.{scripted}
 use Rattle.stable.specs.declared.memory.MemStable.{MemStable}
 use Rattle.stable.specs.declared.stable.Stable.{Ghosts}
-use Rattle.world.specs.Events.{NamesNoFrame, NamesNoNode}
-use Rattle.world.specs.Rounds.{IsPartOfRound, NamesNoMember, RoundEnds}
-use Rattle.world.specs.Staying.{IsSafeOver}
-use Rattle.world.specs.Worlds.{Steps, WorldState}
-use Rattle.world.specs.declared.fault.WorldFault.{WorldFault}
-use Rattle.world.specs.declared.fault.WorldFault.TheVariants as world_fault
-use Rattle.world.specs.declared.round_end.RoundEnd.{RoundEnd}
+use Rattle.history.specs.Events.{NamesNoFrame, NamesNoNode}
+use Rattle.history.specs.Rounds.{IsPartOfRound, NamesNoMember, RoundEnds}
+use Rattle.history.specs.Staying.{IsSafeOver}
+use Rattle.history.specs.Worlds.{Steps, WorldState}
+use Rattle.history.specs.declared.fault.WorldFault.{WorldFault}
+use Rattle.history.specs.declared.fault.WorldFault.TheVariants as world_fault
+use Rattle.history.specs.declared.round_end.RoundEnd.{RoundEnd}
 use Rattle.cluster.specs.Clusters.{ClusterState, HasPassed, sendings}
 use Rattle.cluster.specs.Passages.{Passage}
 use Rattle.cluster.specs.Pumps.{Pumps}
 use Rattle.cluster.specs.declared.transport.Transport.{Ghosts as Transports}
-use Rattle.schedule.specs.LineByLine.{AllDone, EndsWithout}
-use Rattle.schedule.specs.Runs.{NamesWhatIsThere, told_of}
+use Rattle.replay.specs.LineByLine.{AllDone, EndsWithout}
+use Rattle.replay.specs.Runs.{NamesWhatIsThere, told_of}
 use Rattle.schedule.specs.Schedules.{Plan}
 use Rattle.schedule.specs.declared.action.Action.{Action}
 use Rattle.schedule.specs.declared.action.Action.TheVariants.{Step, Flush, Round}
-use Rattle.schedule.specs.declared.replay_fault.ReplayCause.{ReplayCause}
-use Rattle.schedule.specs.declared.replay_fault.ReplayCause.TheVariants.{NoSuchMessage, NoSuchNode, FlushLimit, Memory}
-use Rattle.schedule.specs.declared.replay_fault.ReplayFault.{ReplayFault}
+use Rattle.replay.specs.declared.replay_fault.ReplayCause.{ReplayCause}
+use Rattle.replay.specs.declared.replay_fault.ReplayCause.TheVariants.{NoSuchMessage, NoSuchNode, FlushLimit, Memory}
+use Rattle.replay.specs.declared.replay_fault.ReplayFault.{ReplayFault}
 
 -- ---- what is told
 -- how many datagrams came that weren't sent to the node to which they came

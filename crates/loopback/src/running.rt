@@ -2,13 +2,14 @@
 
 ghost use Rattle.std.specs.Prelude.{◌≡◌, ◌++◌, IfErr, IfOk, MatchResult, OnErr, OnOk};
 ghost use Rattle.cluster.specs.ClusterViews.{cluster_of, world_in};
-ghost use Rattle.schedule.specs.Causes.{cause_of};
-ghost use Rattle.schedule.specs.LineByLine.{AllDone, LineStops, StopsAtOne};
-ghost use Rattle.world.specs.Staying.{IsSafeOver};
+ghost use Rattle.replay.specs.Causes.{cause_of};
+ghost use Rattle.replay.specs.LineByLine.{AllDone, LineStops, StopsAtOne};
+ghost use Rattle.history.specs.Staying.{IsSafeOver};
 ghost use Rattle.loopback.specs.Loops.{IsDone, IsRefused, RunFails, RunsTo, strangers_line, text_of};
 
 use cluster::{Cluster, Transport};
-use schedule::{Action, ReplayCause, ReplayFault, Schedule, ScheduleLine, transcript};
+use replay::{ReplayCause, ReplayFault, transcript};
+use schedule::{Action, Schedule, ScheduleLine};
 use stable::{MemStable, Scripted, Stable};
 use std::alloc::{AllocError, Global};
 use std::io::{self, Write};

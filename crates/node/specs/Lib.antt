@@ -1,13 +1,2 @@
-pub mod Composition
-pub mod Executing
-pub mod Faults
-pub mod Inputs
-pub mod Loading
-pub mod Minds
-pub mod Nodes
-pub mod Outputs
-pub mod Protocol
 pub mod Roles
-pub mod Sending
-pub mod States
-pub mod Taking
+pub mod Seen

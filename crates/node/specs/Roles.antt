@@ -2,7 +2,7 @@
 use Rattle.acceptor.specs.State.{accepting_of}
 use Rattle.learner.specs.State.{learning_of}
 use Rattle.node.specs.declared.roles.Roles.{Roles}
-use Rattle.node.specs.Minds.{Mind}
+use Rattle.minds.specs.Minds.{Mind}
 
 abbrev pub mind_of : Roles → Mind
 mind_of r = record {

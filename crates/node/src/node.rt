@@ -3,10 +3,8 @@
 ghost use Rattle.std.specs.Prelude.{◌≡◌, ◌⊎◌, ◌↔◌, ◌≤◌, ℕ, [], List, length, Ok, IfErr, IfOk, IfSome, OnOk, IsTrue, true, false, IsSome};
 ghost use Rattle.std.specs.Prelude.{None, MatchOption};
 
-use super::fault::NodeFault;
-use super::input::Input;
-use super::outputs::{Outputs, Text};
 use super::roles::Roles;
+use minds::{Input, NodeFault, Outputs, Text};
 use proposer::MOST_WAITING;
 use stable::{Failing, Put, Scripted, Stable};
 use std::alloc::Global;
@@ -23,14 +21,15 @@ pub struct Node<S> {
 }
 
 impl<S: Stable> Node<S> {
-    ghost use Rattle.node.specs.Composition.{IsMeaningOf};
-    ghost use Rattle.node.specs.Faults.{is_stop_fault};
+    ghost use Rattle.minds.specs.Composition.{IsMeaningOf};
+    ghost use Rattle.minds.specs.Faults.{is_stop_fault};
     ghost use Rattle.learner.specs.Prefixes.{IsPrefix};
-    ghost use Rattle.node.specs.Loading.{IsLoaded, IsFresh, IsDamaged, IsMember, Restarts};
-    ghost use Rattle.node.specs.Minds.{is_past, position};
-    ghost use Rattle.node.specs.Nodes.{state_of, NodeSteps, NodeAnswers, StaysMeaning, AnswersMeaning};
-    ghost use Rattle.node.specs.Outputs.{IsFew, silence};
-    ghost use Rattle.node.specs.declared.input.Input.TheVariants as input;
+    ghost use Rattle.minds.specs.Loading.{IsLoaded, IsFresh, IsDamaged, IsMember, Restarts};
+    ghost use Rattle.minds.specs.Minds.{is_past, position};
+    ghost use Rattle.minds.specs.Nodes.{NodeSteps, NodeAnswers, StaysMeaning, AnswersMeaning};
+    ghost use Rattle.node.specs.Seen.{state_of};
+    ghost use Rattle.minds.specs.Outputs.{IsFew, silence};
+    ghost use Rattle.minds.specs.declared.input.Input.TheVariants as input;
 
     /// A node over these records, which it loads. It begins down where they can't be loaded.
     pub fn start(alloc: Global, storage: S, id: NodeId, nodes: Nodes) -> Node<S>
@@ -198,7 +197,7 @@ impl<S: Stable> Node<S> {
 }
 
 impl<S: Stable> Node<Scripted<S>> {
-    ghost use Rattle.node.specs.Nodes.{state_of};
+    ghost use Rattle.node.specs.Seen.{state_of};
 
     /// The next put, or the reading with which the next restart begins, fails so.
     pub fn arm(&mut self, failing: Failing)

@@ -11,16 +11,14 @@ ghost use Rattle.learner.specs.Learning.{learnt_at};
 ghost use Rattle.learner.specs.Prefixes.{IsPrefix};
 ghost use Rattle.proposer.specs.Proposing.{next_round};
 ghost use Rattle.wire.specs.declared.frames.message.Message.TheVariants as message;
-ghost use Rattle.node.specs.declared.input.Input.TheVariants as input;
-ghost use Rattle.node.specs.Composition.{IsMeaningOf, StandsForMore, RepliesToMore, AddsReplies};
-ghost use Rattle.node.specs.Executing.{executed, with_command};
+ghost use Rattle.minds.specs.declared.input.Input.TheVariants as input;
+ghost use Rattle.minds.specs.Composition.{IsMeaningOf, StandsForMore, RepliesToMore, AddsReplies};
+ghost use Rattle.minds.specs.Executing.{executed, with_command};
 
-use super::fault::NodeFault;
-use super::input::{Input, concerns};
-use super::outputs::{Executed, LogEntry, Outputs};
 use super::sends::{send_answer, send_ask, send_asks, send_decided, send_each, send_outgoing};
 use acceptor::Acceptor;
 use learner::{Learned, Learner};
+use minds::{Executed, Input, LogEntry, NodeFault, Outputs, concerns};
 use proposer::{MOST_WAITING, Proposer};
 use sessions::{Command, Machine, Number, Request};
 use stable::{Stable, StableFault};
@@ -45,15 +43,15 @@ pub struct Roles {
 }
 
 impl Roles {
-    ghost use Rattle.node.specs.Loading.{IsLoaded, IsFresh, IsDamaged, IsMindOf};
-    ghost use Rattle.node.specs.Inputs.{concerns};
-    ghost use Rattle.node.specs.Minds.{Mind, IsSmall, position, asked, waits, refuses, refuses_submit, refuses_timeout, Ignores};
+    ghost use Rattle.minds.specs.Loading.{IsLoaded, IsFresh, IsDamaged, IsMindOf};
+    ghost use Rattle.minds.specs.Inputs.{concerns};
+    ghost use Rattle.minds.specs.Minds.{Mind, IsSmall, position, asked, waits, refuses, refuses_submit, refuses_timeout, Ignores};
     ghost use Rattle.node.specs.Roles.{mind_of};
-    ghost use Rattle.node.specs.Nodes.{HasMade, HasFailedToMake};
-    ghost use Rattle.node.specs.Outputs.{sent, silence};
-    ghost use Rattle.node.specs.Sending.{to_one, ask_sends, decided_sends};
-    ghost use Rattle.node.specs.Taking.{Writes, WritesOnMessage, Takes, TakesMessage, Learns, with_proposer, proposer_sends, proposed};
-    ghost use Rattle.node.specs.Taking.{executing_of, with_executing, learnt_from};
+    ghost use Rattle.minds.specs.Nodes.{HasMade, HasFailedToMake};
+    ghost use Rattle.minds.specs.Outputs.{sent, silence};
+    ghost use Rattle.minds.specs.Sending.{to_one, ask_sends, decided_sends};
+    ghost use Rattle.minds.specs.Taking.{Writes, WritesOnMessage, Takes, TakesMessage, Learns, with_proposer, proposer_sends, proposed};
+    ghost use Rattle.minds.specs.Taking.{executing_of, with_executing, learnt_from};
 
     /// What the records leave of a node.
     pub fn load<S: Stable>(

@@ -6,16 +6,13 @@ pub mod Decimals
 pub mod Faults
 pub mod FirstLines
 pub mod FirstPlaces
-pub mod LineByLine
 pub mod Naming
 pub mod NoSchedule
-pub mod NodeCount
 pub mod One
 pub mod OneAction
 pub mod OneFault
 pub mod Progress
 pub mod RowLemmas
-pub mod Running
 pub mod Spelled
 pub mod SpelledRows
 pub mod Told

@@ -17,7 +17,7 @@ use Rattle.store.specs.declared.query.Query.{Query}
 use Rattle.store.specs.declared.query.Query.TheVariants as query
 use Rattle.stable.specs.declared.scripted.Failing.{Failing}
 use Rattle.stable.specs.declared.scripted.Failing.TheVariants.{Old, New, Read}
-use Rattle.world.specs.declared.event.Event.TheVariants as event
+use Rattle.history.specs.declared.event.Event.TheVariants as event
 use Rattle.schedule.specs.Extents.{IsPeriod, IsRect}
 use Rattle.schedule.specs.Keywords.{failing_text}
 use Rattle.schedule.specs.Numbers.{Writes, IsCoordinate}

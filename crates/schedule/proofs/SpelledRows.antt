@@ -4,7 +4,7 @@ use Rattle.store.specs.declared.op.Op.{Op}
 use Rattle.store.specs.declared.op.Op.TheVariants as op
 use Rattle.store.specs.declared.query.Query.{Query}
 use Rattle.store.specs.declared.query.Query.TheVariants as query
-use Rattle.world.specs.declared.event.Event.TheVariants as event
+use Rattle.history.specs.declared.event.Event.TheVariants as event
 use Rattle.schedule.specs.Spelling.{WordsSpell, operation_of, question_of}
 use Rattle.schedule.specs.Table.{Row, line_of, submit_of, query_of, HasItsWords, HasItsCount, operation_places, question_places, places}
 use Rattle.schedule.specs.declared.action.Action.{Action}

@@ -3,9 +3,9 @@
 ghost use Rattle.std.specs.Prelude.{◌≡◌};
 
 use super::members::Members;
+use history::Event;
 use std::alloc::AllocError;
 use wire::NodeId;
-use world::Event;
 
 /// What is done at one line.
 #[derive(Debug, Drop, PartialEq, Eq)]

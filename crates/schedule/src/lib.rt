@@ -2,12 +2,12 @@
 //!
 //! `parse_schedule` reads the schedule that bytes spell, or tells the first faulty line and the
 //! lowest of its faults. Which bytes spell which schedule stands in `specs/Schedules.antt`, and
-//! below it in `specs/Spelling.antt` and `specs/Table.antt`; no bytes spell two.
+//! below it in `specs/Spelling.antt` and `specs/Table.antt`; no bytes spell two. Nothing runs here:
+//! the crate `replay` does what a schedule says.
 #![tactic(auto)]
 
 mod action;
 mod cut;
-mod entry_lines;
 mod fault;
 mod forms;
 mod keyword;
@@ -16,13 +16,8 @@ mod lines;
 mod members;
 mod parse;
 mod plan;
-mod print;
 mod queries;
 mod reading;
-mod replay_fault;
-mod replayed;
-mod replaying;
-mod report;
 mod rows;
 mod submits;
 mod unread;
@@ -34,7 +29,3 @@ pub use laws::{faulty_is_no_schedule, first_faults_are_one, schedules_are_one};
 pub use members::Members;
 pub use parse::parse_schedule;
 pub use plan::{Schedule, ScheduleLine};
-pub use replay_fault::{ReplayCause, ReplayFault};
-pub use replayed::Replayed;
-pub use replaying::{replay, run, run_lines};
-pub use report::transcript;

@@ -13,10 +13,10 @@ use super::lines::{Line, Lines};
 use super::plan::{Schedule, ScheduleLine};
 use super::reading::{later_line, nodes_line};
 use super::unread::completed;
+use history::Event;
 use std::alloc::Global;
 use store::Op;
 use wire::Nodes;
-use world::Event;
 
 /// The schedule that the bytes spell; else the first faulty line and the lowest of its faults.
 ///

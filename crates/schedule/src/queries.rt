@@ -10,10 +10,10 @@ use super::fault::ScheduleFault;
 use super::forms::{id, instant, node, period, rect};
 use super::keyword::{Question, question_of};
 use super::words::Words;
+use history::Event;
 use store::Query;
 use tpoint::{Id, Period, Rect};
 use wire::Nodes;
-use world::Event;
 
 /// After `query`: a node, and what it is asked.
 pub(crate) fn query_row(nodes: Nodes, mut words: Words) -> Result<Event, ScheduleFault>

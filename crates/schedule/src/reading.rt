@@ -15,8 +15,8 @@ use super::rows::{fault_row, frame_row, node_row, round_row};
 use super::submits::submit_row;
 use super::unread::Unread;
 use super::words::Words;
+use history::Event;
 use wire::Nodes;
-use world::Event;
 
 /// How many nodes the first line says that there are.
 pub(crate) fn nodes_line(text: &[u8]) -> Result<Nodes, ScheduleFault>

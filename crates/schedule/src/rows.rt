@@ -13,8 +13,8 @@ use super::forms::{decimal, failing, node};
 use super::keyword::Keyword;
 use super::unread::{Rounding, Unread};
 use super::words::Words;
+use history::Event;
 use wire::{NodeId, Nodes};
-use world::Event;
 
 /// After `deliver` and `drop`: the number of a frame.
 pub(crate) fn frame_row(words: Words) -> Result<u64, ScheduleFault>

@@ -13,11 +13,11 @@ use super::forms::{client, coordinate, id, instant, node, request_number};
 use super::keyword::{Operation, operation_of};
 use super::unread::{Putting, Unread};
 use super::words::Words;
+use history::Event;
 use sessions::Number;
 use store::Op;
 use tpoint::Point;
 use wire::{NodeId, Nodes};
-use world::Event;
 
 /// The words that say who asks whom, and under which number.
 #[derive(Clone, Copy)]

@@ -11,12 +11,12 @@ use super::fault::{LineFault, ParseFault, ScheduleFault};
 use super::forms::node;
 use super::members::Members;
 use super::words::Words;
+use history::Event;
 use mfjson::{Feature, MfFault};
 use sessions::Number;
 use std::alloc::Global;
 use store::Op;
 use wire::{NodeId, Nodes};
-use world::Event;
 
 /// A client asks a node to put the feature that a document stands for.
 #[derive(Debug, Drop)]

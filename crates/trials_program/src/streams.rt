@@ -51,18 +51,32 @@ pub(crate) fn owned(rt: &HostRuntime, words: &[&str]) -> Result<Vec<String>, Fai
     Ok(all)
 }
 
+/// The status of a run over these streams, and the writers as it leaves them.
+///
+/// Nothing else calls the program: what its contract names is looked at here, once.
+fn run_over<R: Read, O: Write + Drop, E: Write + Drop>(
+    rt: &HostRuntime,
+    words: &[&str],
+    input: &mut R,
+    out: O,
+    err: E,
+) -> Result<(u8, O, E), Fail> {
+    let words = owned(rt, words)?;
+    let mut out = Tracked::new(out);
+    let mut err = Tracked::new(err);
+    let status = command(rt, words, input, &mut out, &mut err);
+    Ok((status, out.into_inner(), err.into_inner()))
+}
+
 /// The status, and what went to each stream.
 pub(crate) fn answer(
     rt: &HostRuntime,
     words: &[&str],
     input: &[u8],
 ) -> Result<(u8, Vec<u8>, Vec<u8>), Fail> {
-    let words = owned(rt, words)?;
     let mut input = input;
-    let mut out = Tracked::new(Vec::new(rt.alloc()));
-    let mut err = Tracked::new(Vec::new(rt.alloc()));
-    let status = command(rt, words, &mut input, &mut out, &mut err);
-    Ok((status, out.into_inner(), err.into_inner()))
+    let out = Vec::new(rt.alloc());
+    run_over(rt, words, &mut input, out, Vec::new(rt.alloc()))
 }
 
 /// Whether a run of these words on this input has this status, and these texts in its streams.
@@ -88,11 +102,8 @@ pub(crate) fn tells_a_device<R: Read, O: Write + Drop>(
     input: &mut R,
     out: O,
 ) -> Result<bool, Fail> {
-    let words = owned(rt, words)?;
-    let mut out = Tracked::new(out);
-    let mut err = Tracked::new(Vec::new(rt.alloc()));
-    let status = command(rt, words, input, &mut out, &mut err);
-    Ok(status == 3 && err.into_inner().as_slice() == b"mfpx: device\n".as_slice())
+    let (status, _out, err) = run_over(rt, words, input, out, Vec::new(rt.alloc()))?;
+    Ok(status == 3 && err.as_slice() == b"mfpx: device\n".as_slice())
 }
 
 #[test]
@@ -139,12 +150,10 @@ fn streams_and_files_that_fail(rt: HostRuntime) -> Result<(), Fail> {
 
 /// The status where nothing can be told, and whether nothing was printed.
 fn untold(rt: &HostRuntime, words: &[&str], input: &[u8]) -> Result<(u8, bool), Fail> {
-    let words = owned(rt, words)?;
     let mut input = input;
-    let mut out = Tracked::new(Vec::new(rt.alloc()));
-    let mut err = Tracked::new(Unwritable);
-    let status = command(rt, words, &mut input, &mut out, &mut err);
-    Ok((status, out.into_inner().is_empty()))
+    let out = Vec::new(rt.alloc());
+    let (status, out, _err) = run_over(rt, words, &mut input, out, Unwritable)?;
+    Ok((status, out.is_empty()))
 }
 
 #[test]

@@ -3,7 +3,7 @@
 ghost use Rattle.std.specs.Prelude.{[], ◌<◌};
 
 use cluster::{Cluster, Queues, Transport, TransportFault};
-use schedule::transcript;
+use replay::transcript;
 use sessions::Number;
 use stable::MemStable;
 use std::alloc::{AllocError, Global};

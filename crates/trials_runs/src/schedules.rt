@@ -2,9 +2,10 @@
 
 use crate::clusters::{bus, node};
 use crate::worlds::three_storages;
+use replay::{ReplayCause, ReplayFault, run};
 use schedule::{
-    Action, ParseFault, ReplayCause, ReplayFault, ScheduleFault, faulty_is_no_schedule,
-    first_faults_are_one, parse_schedule, run, schedules_are_one,
+    Action, ParseFault, ScheduleFault, faulty_is_no_schedule, first_faults_are_one, parse_schedule,
+    schedules_are_one,
 };
 use sessions::Number;
 use stable::MemStable;

@@ -3,6 +3,9 @@
 ghost use Rattle.std.specs.Prelude.{◌≡◌, vec_len, IfOk};
 
 use crate::clusters::{bus, node};
+use history::{
+    Event, a_start_tells, answers_are_one, lists_are_as_told, steps_tell, tellings_are_explained,
+};
 use sessions::Number;
 use stable::{Key, MemStable, Stable, StableFault};
 use std::alloc::{AllocError, Global};
@@ -10,10 +13,7 @@ use std::test::Fail;
 use store::{Op, Query};
 use tpoint::{Instant, Interp, Point, Seq};
 use wire::{Frame, NodeId, Nodes};
-use world::{
-    Event, World, WorldFault, a_start_tells, answers_are_one, lists_are_as_told, steps_tell,
-    tellings_are_explained,
-};
+use world::{World, WorldFault};
 
 // Client 7 asks node 0 for this.
 fn submission(op: Op) -> Event {

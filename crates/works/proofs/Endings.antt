@@ -2,8 +2,8 @@
 use Rattle.std.proofs.Common.{◌≡◌, ◌≢◌, ◌∙◌, ℕ, List, refl, sym, subst}
 use Rattle.stable.specs.Script.{Script}
 use Rattle.stable.specs.declared.stable.Stable.{Ghosts}
-use Rattle.schedule.specs.Causes.{cause_code, fault_of}
-use Rattle.schedule.specs.Runs.{EndsOver, ReplayEnds}
+use Rattle.replay.specs.Causes.{cause_code, fault_of}
+use Rattle.replay.specs.Runs.{EndsOver, ReplayEnds}
 use Rattle.schedule.specs.Schedules.{IsRefusal, IsScheduleOf, Plan}
 use Rattle.stable.specs.declared.memory.MemStable.{MemStable}
 use Rattle.cluster.specs.Clusters.{ClusterState}
@@ -11,12 +11,12 @@ use Rattle.cluster.specs.declared.transport.Transport.{Ghosts as Transports}
 use Rattle.loopback.specs.Loops.{RunFails, RunsTo}
 use Rattle.stable.specs.Memory.{in_memory}
 use Rattle.stable.specs.Storages.{scripted}
-use Rattle.world.specs.Flushing.{IsStart}
-use Rattle.world.specs.Worlds.{WorldState}
+use Rattle.history.specs.Flushing.{IsStart}
+use Rattle.history.specs.Worlds.{WorldState}
 use Rattle.schedule.specs.declared.fault.ParseFault.{ParseFault}
-use Rattle.schedule.specs.declared.replay_fault.ReplayCause.{ReplayCause}
-use Rattle.schedule.specs.declared.replay_fault.ReplayCause.TheVariants as cause
-use Rattle.schedule.specs.declared.replay_fault.ReplayFault.{ReplayFault}
+use Rattle.replay.specs.declared.replay_fault.ReplayCause.{ReplayCause}
+use Rattle.replay.specs.declared.replay_fault.ReplayCause.TheVariants as cause
+use Rattle.replay.specs.declared.replay_fault.ReplayFault.{ReplayFault}
 use Rattle.mfjson.specs.Faults.{IsFaultOf, code_of, index_of}
 use Rattle.mfjson.specs.declared.fault.MfFault.{MfFault}
 use Rattle.mfjson.specs.declared.fault.MfFault.TheVariants as document

@@ -10,13 +10,13 @@ use Rattle.stable.specs.Script.{Script}
 use Rattle.stable.specs.Storages.{scripted}
 use Rattle.stable.specs.declared.memory.MemStable.{MemStable}
 use Rattle.stable.specs.declared.stable.Stable.{Ghosts}
-use Rattle.schedule.specs.Causes.{cause_code, fault_of}
-use Rattle.schedule.specs.Runs.{EndsOver, ReplayEnds}
+use Rattle.replay.specs.Causes.{cause_code, fault_of}
+use Rattle.replay.specs.Runs.{EndsOver, ReplayEnds}
 use Rattle.schedule.specs.Schedules.{IsRefusal, IsScheduleOf, Plan}
 use Rattle.schedule.specs.declared.fault.ParseFault.{ParseFault}
-use Rattle.schedule.specs.declared.replay_fault.ReplayCause.TheVariants as cause
-use Rattle.schedule.specs.declared.replay_fault.ReplayFault.{ReplayFault}
-use Rattle.world.specs.Flushing.{IsStart}
+use Rattle.replay.specs.declared.replay_fault.ReplayCause.TheVariants as cause
+use Rattle.replay.specs.declared.replay_fault.ReplayFault.{ReplayFault}
+use Rattle.history.specs.Flushing.{IsStart}
 use Rattle.cluster.specs.Clusters.{ClusterState}
 use Rattle.cluster.specs.declared.transport.Transport.{Ghosts as Transports}
 use Rattle.loopback.specs.Loops.{RunFails, RunsTo}

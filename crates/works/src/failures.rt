@@ -1,12 +1,12 @@
 //! What the faults of schedules and documents are to the program.
 
 ghost use Rattle.std.specs.Prelude.{◌≡◌, ◌≢◌};
-ghost use Rattle.schedule.specs.Causes.{cause_code};
+ghost use Rattle.replay.specs.Causes.{cause_code};
 ghost use Rattle.mfjson.specs.Faults.{code_of, index_of};
 
 use endings::{Failure, FaultyDocument, FaultyLine};
 use mfjson::MfFault;
-use schedule::{ReplayCause, ReplayFault};
+use replay::{ReplayCause, ReplayFault};
 
 /// What a replay's fault is to the program. Want of memory has no line, wherever it came.
 pub(crate) fn replay_failure(fault: ReplayFault) -> Failure

@@ -2,7 +2,7 @@
 
 ghost use Rattle.std.specs.Prelude.{◌≡◌, ◌≢◌, [], ◌∷◌, ◌++◌, ℕ, List, IfErr, IfOk, vec_len};
 ghost use Rattle.cluster.specs.ClusterViews.{cluster_of};
-ghost use Rattle.schedule.specs.Runs.{IsReplay, IsRunOver};
+ghost use Rattle.replay.specs.Runs.{IsReplay, IsRunOver};
 ghost use Rattle.schedule.specs.Schedules.{IsScheduleOf};
 ghost use Rattle.mfjson.specs.Document.{IsCanonical};
 ghost use Rattle.works.specs.Works.{CheckStops, IsChecked, IsJoined, IsLoopedOver, IsUnread, LoopStopsOver, ReplayStops, StopsOver};
@@ -12,7 +12,8 @@ use cluster::{Cluster, Transport};
 use endings::Failure;
 use loopback::run_through;
 use mfjson::Feature;
-use schedule::{ReplayFault, Replayed, Schedule, parse_schedule, replay, run};
+use replay::{ReplayFault, Replayed, replay, run};
+use schedule::{Schedule, parse_schedule};
 use stable::{MemStable, Scripted, Stable};
 use std::alloc::{AllocError, Global};
 use std::mem;

@@ -1,53 +1,10 @@
--- one node of a world
-pub mod StorageLaws
+-- a node that an index lends
 pub mod WorldLemmas
-pub mod RestartLemmas
-pub mod NodeMoves
-pub mod Casting
-pub mod ListedPuts
-pub mod VotesStand
-pub mod NodeComes
--- the fleet: each node has its place as its number
-pub mod FleetLemmas
-pub mod FleetSteps
+pub mod Lent
 pub mod Takings
--- what moves of the protocol lead to
-pub mod MovingLemmas
-pub mod WorldMoves
-pub mod SafetyLemmas
--- what the lists tell, and the list that explains them
-pub mod Tellings
-pub mod Longer
-pub mod Explained
-pub mod Validity
-pub mod InLog
-pub mod PromisesStand
-pub mod OneAnswer
-pub mod TallyLemmas
--- the start, deliveries one after the other, and rounds
+-- the start, and deliveries one after the other
 pub mod UsedStorages
 pub mod StartLemmas
 pub mod FlushLemmas
-pub mod RoundMembers
-pub mod RoundBeginnings
-pub mod RoundLemmas
--- what a round that nothing disturbs comes to, phase by phase
-pub mod OwnBallots
-pub mod RoundPremises
-pub mod Handing
-pub mod Leading
-pub mod Hearing
-pub mod RoundAsked
-pub mod RoundAnswered
-pub mod RoundVoted
-pub mod RoundHeard
-pub mod RoundDecides
-pub mod RefusedGrows
-pub mod NextBallots
-pub mod RoundProgress
-pub mod RoundsProgress
-pub mod FiredLemmas
-pub mod FramesGrow
 -- all of it, for the public calls
-pub mod SoundSteps
 pub mod WorldSound

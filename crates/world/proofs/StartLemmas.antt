@@ -8,12 +8,13 @@ use Rattle.stable.specs.Script.{Script}
 use Rattle.stable.specs.declared.stable.Stable.{Ghosts}
 use Rattle.wire.specs.declared.frames.envelope.Envelope.{Envelope}
 use Rattle.node.specs.declared.node.Node.{Node}
-use Rattle.node.specs.Loading.{IsMember}
-use Rattle.node.specs.Sending.{IsBetween}
-use Rattle.world.specs.Fleets.{IsFleet}
-use Rattle.world.specs.Flushing.{IsStarted, HaveStarted}
-use Rattle.world.specs.Starting.{AreOver, WasRead}
-use Rattle.node.specs.Nodes.{NodeState, state_of}
+use Rattle.minds.specs.Loading.{IsMember}
+use Rattle.minds.specs.Sending.{IsBetween}
+use Rattle.history.specs.Fleets.{IsFleet}
+use Rattle.history.specs.Flushing.{IsStarted, HaveStarted}
+use Rattle.history.specs.Starting.{AreOver, WasRead}
+use Rattle.minds.specs.Nodes.{NodeState}
+use Rattle.node.specs.Seen.{state_of}
 
 -- what stands in a list with one element more at its end: that one, or what stood there
 pub pushed_at : {A : Type 0} (xs : List A) (i : ℕ) (y z : A) → slice_get (xs ++ y ∷ []) i ≡ Some z

@@ -5,15 +5,16 @@ use Rattle.std.proofs.Math.ListN.{get_or}
 use Rattle.stable.specs.Script.{Script}
 use Rattle.stable.specs.declared.stable.Stable.{Ghosts}
 use Rattle.wire.specs.declared.frames.envelope.Envelope.{Envelope}
-use Rattle.node.specs.declared.fault.NodeFault.{NodeFault}
-use Rattle.node.specs.declared.input.Input.{Input}
+use Rattle.minds.specs.declared.fault.NodeFault.{NodeFault}
+use Rattle.minds.specs.declared.input.Input.{Input}
 use Rattle.node.specs.declared.node.Node.{Node}
-use Rattle.node.specs.Nodes.{NodeSteps, StaysMeaning, state_of}
-use Rattle.node.specs.Outputs.{Response}
-use Rattle.node.specs.Sending.{IsBetween}
-use Rattle.world.specs.Fleets.{IsFleet}
-use Rattle.world.specs.Worlds.{WorldState, TakesAt, recorded}
-use Rattle.world.proofs.FleetSteps.{lent_fleet, stepped}
+use Rattle.minds.specs.Nodes.{NodeSteps, StaysMeaning}
+use Rattle.node.specs.Seen.{state_of}
+use Rattle.minds.specs.Outputs.{Response}
+use Rattle.minds.specs.Sending.{IsBetween}
+use Rattle.history.specs.Fleets.{IsFleet}
+use Rattle.history.specs.Worlds.{WorldState, TakesAt, recorded}
+use Rattle.world.proofs.Lent.{lent_fleet, stepped}
 use Rattle.world.proofs.WorldLemmas.{lent_at, left_by}
 
 -- the node of number i of so many, which index j lends, was n and is m, and answered r

@@ -1,15 +1,16 @@
 -- One node of a world is changed.
-use Rattle.std.proofs.Common.{◌≡◌, ℕ, ◌<◌, List, map, length, slice_get, slice_set, Option, Some, None, IsSome, option_map, sym, ap, ◌∙◌}
-use Rattle.std.proofs.Common.{subst, refl, rules, arith, append-nil}
+use Rattle.std.proofs.Common.{◌≡◌, ℕ, ◌<◌, List, map, length, slice_get, slice_set, Some, option_map, sym, ap, ◌∙◌, subst, refl, arith}
+use Rattle.std.proofs.Common.{append-nil}
 use Rattle.std.proofs.lemmas.List.{map-set, set-get_or}
 use Rattle.std.proofs.lemmas.Option.{slice_get-map, slice_get_read, get_or_from_slice_get}
 use Rattle.std.proofs.Math.ListN.{get_or}
 use Rattle.stable.specs.Script.{Script}
 use Rattle.stable.specs.declared.stable.Stable.{Ghosts}
 use Rattle.node.specs.declared.node.Node.{Node}
-use Rattle.node.specs.Nodes.{NodeState, state_of}
-use Rattle.node.specs.Outputs.{silence}
-use Rattle.world.specs.Worlds.{WorldState, DeliversFrame, with_node, with_response, quiet}
+use Rattle.minds.specs.Nodes.{NodeState}
+use Rattle.node.specs.Seen.{state_of}
+use Rattle.minds.specs.Outputs.{silence}
+use Rattle.history.specs.Worlds.{WorldState, DeliversFrame, with_node, with_response, quiet}
 
 -- the node at a place, as it shows
 pub shown_at : {S : Type 0} (nodes : List (Node (Script S))) (i : ℕ) (n : Node (Script S)) → slice_get nodes i ≡ Some n
@@ -59,8 +60,3 @@ pub delivers_same : {S : Type 0} (storages : Ghosts (Script S)) (v w : WorldStat
     → DeliversFrame storages v j new → DeliversFrame storages w k new
 delivers_same storages v w j k new same named d =
     subst (λ i. DeliversFrame storages w i new) named (subst (λ u. DeliversFrame storages u j new) same d)
-
--- none is not some
-pub none_is_not_some : {A : Type 0} (o : Option A) → o ≡ None → IsSome o → ⊥
-none_is_not_some (Some x) e s = absurd (cc)
-none_is_not_some None e s = search rules

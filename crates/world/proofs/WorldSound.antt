@@ -1,30 +1,32 @@
 -- The world's calls keep it sound.
-use Rattle.std.proofs.Common.{◌≡◌, ◌⊎◌, ℕ, List, inl, inr, Result, Ok, Err, OnOk, OnErr, IfOk, IfErr, IsErrOf, refl, sym, ap, subst}
+use Rattle.std.proofs.Common.{◌≡◌, ◌⊎◌, ℕ, ◌^◌, ◌<◌, List, length, inl, inr, Result, Ok, Err, OnOk, OnErr, IfOk, IfErr, IsErrOf}
+use Rattle.std.proofs.Common.{refl, sym, ap, subst, arith}
 use mathlib.Core.Logic.{∥∥₁_map}
 use Rattle.stable.specs.Records.{Records}
 use Rattle.stable.specs.Script.{Script}
 use Rattle.stable.specs.ScriptLaws.{scripted_laws}
 use Rattle.stable.specs.declared.stable.Stable.{Ghosts}
 use Rattle.stable.specs.Storages.{IsLawful, scripted}
-use Rattle.world.specs.declared.event.Event.{Event}
-use Rattle.world.specs.declared.fault.WorldFault.{WorldFault}
-use Rattle.world.specs.declared.fault.WorldFault.TheVariants as fault
+use Rattle.history.specs.declared.event.Event.{Event}
+use Rattle.history.specs.declared.fault.WorldFault.{WorldFault}
+use Rattle.history.specs.declared.fault.WorldFault.TheVariants as fault
 use Rattle.world.specs.declared.log.TheConstants.{MOST_DELIVERIES}
 use Rattle.world.specs.declared.run.Run.{Run}
-use Rattle.world.specs.Fired.{HasFewFaults}
-use Rattle.world.specs.Fleets.{IsFleet}
-use Rattle.world.specs.Progress.{MakesProgress, PromisesProgress}
-use Rattle.world.specs.Flushing.{IsStart, Delivers, DeliversSome}
-use Rattle.world.specs.Reaching.{AreHonest}
-use Rattle.world.specs.Safety.{IsSafe, IsSoundIfHonest, contents_inside, honest_inside}
-use Rattle.world.specs.Staying.{StaysSafe}
-use Rattle.world.specs.Worlds.{WorldState, run_of, Steps}
-use Rattle.world.proofs.FiredLemmas.{honest_outside}
-use Rattle.world.proofs.ListedPuts.{script_puts}
-use Rattle.world.specs.Rounds.{RoundEnds, IsPartOfRound}
-use Rattle.world.specs.declared.round_end.RoundEnd.{RoundEnd}
-use Rattle.world.proofs.RoundsProgress.{makes_progress}
-use Rattle.world.proofs.SoundSteps.{start_sound, safe_if_honest, step_sound, delivers_sound, round_sound}
+use Rattle.history.specs.Fired.{HasFewFaults}
+use Rattle.history.specs.Fleets.{IsFleet}
+use Rattle.history.specs.Progress.{MakesProgress, PromisesProgress}
+use Rattle.history.specs.Flushing.{IsStart, Delivers, DeliversSome}
+use Rattle.history.specs.Reaching.{AreHonest}
+use Rattle.history.specs.Safety.{IsSafe, IsSoundIfHonest, contents_inside, honest_inside}
+use Rattle.history.specs.Staying.{StaysSafe}
+use Rattle.history.specs.Worlds.{WorldState, Steps}
+use Rattle.world.specs.Runs.{run_of}
+use Rattle.history.proofs.FiredLemmas.{honest_outside}
+use Rattle.history.proofs.ListedPuts.{script_puts}
+use Rattle.history.specs.Rounds.{RoundEnds, IsPartOfRound}
+use Rattle.history.specs.declared.round_end.RoundEnd.{RoundEnd}
+use Rattle.history.proofs.RoundsProgress.{makes_progress}
+use Rattle.history.proofs.SoundSteps.{start_sound, safe_if_honest, step_sound, delivers_sound, round_sound}
 
 abbrev failed : WorldFault → Result ℕ WorldFault
 failed f = Err f
@@ -35,12 +37,16 @@ pub safe_where_honest : {S : Type 0} {contents : Script S → Records} {IsHonest
     → AreHonest IsHonest w.nodes → ∥ IsSafe w ∥₁
 safe_where_honest w sound honest = ∥∥₁_map sound (λ h. safe_if_honest w h honest)
 
+-- the outcomes are in a Vec, whose length a u64 counts
+outcomes_fit : {S : Type 0} (r : Run S) → length (run_of r).outcomes < 2 ^ 64
+outcomes_fit r = let ok = r.outcomes.ok in let small = r.outcomes.small in omega arith
+
 -- so it is of a run at which few armed faults have come
 pub stays_safe : {S : Type 0} (storages : Ghosts S) (r : Run S) → HasFewFaults (run_of r)
     → ∥ IsSoundIfHonest (contents_inside storages.contents) (honest_inside storages.IsHonest) (run_of r) ∥₁
     → StaysSafe (scripted storages) storages.IsHonest (run_of r)
 stays_safe storages r few sound inside =
-    let honest = honest_outside storages.IsHonest r few inside in
+    let honest = honest_outside storages.IsHonest (run_of r) (outcomes_fit r) few inside in
     record {
       honest = honest;
       safe = safe_where_honest {contents = contents_inside storages.contents} {IsHonest = honest_inside storages.IsHonest}
@@ -63,7 +69,7 @@ pub round_progress : {S : Type 0} (storages : Ghosts S) (r : Run S) (node : ℕ)
     → IfOk result (λ end. PromisesProgress storages.IsHonest (run_of r) node members end new)
 round_progress storages r node members (Ok end) new few sound fleet ends = λ inside.
     progress_where_honest (scripted storages) (run_of r) node members end new fleet ends sound
-    (honest_outside storages.IsHonest r few inside)
+    (honest_outside storages.IsHonest (run_of r) (outcomes_fit r) few inside)
 round_progress storages r node members (Err f) new few sound fleet ends = ends
 
 pub started : {S : Type 0} {storages : Ghosts (Script S)} (count : ℕ) (w : WorldState S) → IsStart storages count w

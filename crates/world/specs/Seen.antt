@@ -1,7 +1,8 @@
 -- What a world is seen as: its run.
 use Rattle.stable.specs.declared.stable.Stable.{Ghosts}
 use Rattle.world.specs.declared.world.World.{World}
-use Rattle.world.specs.Worlds.{WorldState, run_of}
+use Rattle.history.specs.Worlds.{WorldState}
+use Rattle.world.specs.Runs.{run_of}
 
 abbrev pub world_of : {S : Type 0} {storage : Ghosts S} → World S storage → WorldState S
 world_of w = run_of w.run

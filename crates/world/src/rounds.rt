@@ -2,13 +2,12 @@
 
 ghost use Rattle.std.specs.Prelude.{◌≡◌, ◌≢◌, ◌≤◌, ◌<◌, ◌↔◌, ◌⊎◌, ℕ, All, AllPairs, Any, Contains, length, drop, vec_len, true, IfErr};
 ghost use Rattle.std.specs.Prelude.{IfOk, IfSome, Ok, Err, IsErrOf, IsTrue, MatchBool, MatchOption, OnErr, OnOk};
-ghost use Rattle.node.specs.Faults.{is_stop_fault};
-ghost use Rattle.world.specs.Rounds.{IsGreatestTold, IsQuorum, NoneRefuses, greater, refusal_in};
-ghost use Rattle.world.specs.declared.round_end.RoundEnd.TheVariants as end;
+ghost use Rattle.minds.specs.Faults.{is_stop_fault};
+ghost use Rattle.history.specs.Rounds.{IsGreatestTold, IsQuorum, NoneRefuses, greater, refusal_in};
+ghost use Rattle.history.specs.declared.round_end.RoundEnd.TheVariants as end;
 
-use super::fault::WorldFault;
-use super::round_end::RoundEnd;
 use super::run::Run;
+use history::{RoundEnd, WorldFault};
 use node::NodeFault;
 use stable::{Scripted, Stable};
 use std::alloc::Global;
@@ -16,10 +15,10 @@ use synod::{Ballot, Slot};
 use wire::{Envelope, Frame, Message, NodeId};
 
 impl<S: Stable> Run<S> {
-    ghost use Rattle.world.specs.Worlds.{run_of};
-    ghost use Rattle.world.specs.Rounds.{NamesNoMember, IsLowestDown, CanMeet, IsAt, DeliversTo, DeliversPart, GoesDownOn, EndsIn};
-    ghost use Rattle.world.specs.Rounds.{MeetingEnds, IsInterrupted, RoundEnds, IsPartOfRound, is_up};
-    ghost use Rattle.world.specs.Rounds.{GoesOn, GoesToItsEnd, BreaksOff, begun, answered, heard};
+    ghost use Rattle.world.specs.Runs.{run_of};
+    ghost use Rattle.history.specs.Rounds.{NamesNoMember, IsLowestDown, CanMeet, IsAt, DeliversTo, DeliversPart, GoesDownOn, EndsIn};
+    ghost use Rattle.history.specs.Rounds.{MeetingEnds, IsInterrupted, RoundEnds, IsPartOfRound, is_up};
+    ghost use Rattle.history.specs.Rounds.{GoesOn, GoesToItsEnd, BreaksOff, begun, answered, heard};
 
     /// A round of a node with these members, by hand, and how it ended.
     pub fn round(

@@ -5,25 +5,22 @@ ghost use Rattle.std.specs.Prelude.{IsNone};
 ghost use Rattle.std.specs.Prelude.{OnOk, OnErr, IsOk, IsErrOf, ◌⊎◌, Bool, IfOk, IfErr, IfSome, IsTrue, is_ok, slice_get, MatchBool};
 ghost use Rattle.std.specs.Prelude.{MatchOption, All, map};
 ghost use Rattle.store.specs.Operations.{IsSound};
-ghost use Rattle.node.specs.Faults.{is_stop_fault};
-ghost use Rattle.node.specs.Nodes.{state_of};
-ghost use Rattle.node.specs.declared.input.Input.TheVariants as input;
-ghost use Rattle.world.specs.declared.lists.Outcome.TheVariants as outcome;
-ghost use Rattle.node.specs.Outputs.{IsFew};
-ghost use Rattle.node.specs.Sending.{IsBetween};
-ghost use Rattle.world.specs.Fleets.{IsFleet};
+ghost use Rattle.minds.specs.Faults.{is_stop_fault};
+ghost use Rattle.node.specs.Seen.{state_of};
+ghost use Rattle.minds.specs.declared.input.Input.TheVariants as input;
+ghost use Rattle.history.specs.declared.lists.Outcome.TheVariants as outcome;
+ghost use Rattle.minds.specs.Outputs.{IsFew};
+ghost use Rattle.minds.specs.Sending.{IsBetween};
+ghost use Rattle.history.specs.Fleets.{IsFleet};
 ghost use Rattle.wire.specs.FrameSpelling.{Fits};
-ghost use Rattle.world.specs.Outputs.{replied_at, replied_by};
-ghost use Rattle.world.specs.Waiting.{NoneWaits, NoneWaitsBelow, OneWaits, IsLowestWaiting};
+ghost use Rattle.history.specs.Outputs.{replied_at, replied_by};
+ghost use Rattle.history.specs.Waiting.{NoneWaits, NoneWaitsBelow, OneWaits, IsLowestWaiting};
 
-use super::event::Event;
-use super::fault::WorldFault;
 use super::flags::first_set;
-use super::lists::{Answered, Learnt, Outcome, Replied, Submission};
 use super::log::MOST_DELIVERIES;
-use super::round_end::RoundEnd;
 use super::start::start_nodes;
 use byslot::BySlot;
+use history::{Answered, Event, Learnt, Outcome, Replied, RoundEnd, Submission, WorldFault};
 use learner::Held;
 use node::{Executed, Input, LogEntry, MOST_SENDS, MOST_WAITING, Node, NodeFault, Outputs, Text};
 use sessions::Number;
@@ -55,9 +52,9 @@ pub struct Run<S> {
 }
 
 impl<S: Stable + Drop> Run<S> {
-    ghost use Rattle.world.specs.Worlds.{run_of};
-    ghost use Rattle.world.specs.Flushing.{IsStart};
-    ghost use Rattle.world.specs.Starting.{AreOver, OneIsUsed};
+    ghost use Rattle.world.specs.Runs.{run_of};
+    ghost use Rattle.history.specs.Flushing.{IsStart};
+    ghost use Rattle.history.specs.Starting.{AreOver, OneIsUsed};
 
     /// A world of so many nodes, each over its own of these storages, which hold no record yet.
     pub fn with(alloc: Global, count: Nodes, stores: Vec<S>) -> Result<Run<S>, WorldFault>
@@ -86,11 +83,13 @@ impl<S: Stable + Drop> Run<S> {
 }
 
 impl<S: Stable> Run<S> {
-    ghost use Rattle.world.specs.Worlds.{run_of, with_response, with_outcome, outcome_of, TakesAt, SubmitsAt, ArmsAt, AsksAt, ReceivesAt};
-    ghost use Rattle.world.specs.Worlds.{DeliversFrame, RestartsAt, Steps, with_answer, quiet, without_wait, HasRoom};
-    ghost use Rattle.world.specs.Events.{NamesNoFrame, NamesNoNode};
-    ghost use Rattle.world.specs.Flushing.{Delivers, DeliversSome};
-    ghost use Rattle.world.specs.Rounds.{is_up, IsAt, RefusesToBegin, FailsToBegin};
+    ghost use Rattle.history.specs.Worlds.{with_response, with_outcome, outcome_of, TakesAt, SubmitsAt, ArmsAt, AsksAt, ReceivesAt};
+    ghost use Rattle.world.specs.Runs.{run_of};
+    ghost use Rattle.history.specs.Worlds.{DeliversFrame, RestartsAt, Steps, with_answer, quiet, without_wait};
+    ghost use Rattle.world.specs.Runs.{HasRoom};
+    ghost use Rattle.history.specs.Events.{NamesNoFrame, NamesNoNode};
+    ghost use Rattle.history.specs.Flushing.{Delivers, DeliversSome};
+    ghost use Rattle.history.specs.Rounds.{is_up, IsAt, RefusesToBegin, FailsToBegin};
 
     /// The requests that nodes took.
     pub fn submitted(&self) -> &[Submission]

@@ -1,13 +1,13 @@
 //! The nodes with which a run begins.
 
 ghost use Rattle.std.specs.Prelude.{◌≡◌, ◌≤◌, ◌⊎◌, All, IfErr, IfOk, OnOk, map, vec_len};
-ghost use Rattle.node.specs.Nodes.{state_of};
+ghost use Rattle.node.specs.Seen.{state_of};
 ghost use Rattle.stable.specs.Memory.{stored};
 ghost use Rattle.stable.specs.Records.{no_records};
-ghost use Rattle.world.specs.Flushing.{IsStarted, HaveStarted};
-ghost use Rattle.world.specs.Starting.{AreOver, IsUsed, OneIsUsed, WasRead};
+ghost use Rattle.history.specs.Flushing.{IsStarted, HaveStarted};
+ghost use Rattle.history.specs.Starting.{AreOver, IsUsed, OneIsUsed, WasRead};
 
-use super::fault::WorldFault;
+use history::WorldFault;
 use node::Node;
 use stable::{MemStable, Scripted, Stable, StableFault};
 use std::alloc::{AllocError, Global};

@@ -1,6 +1,6 @@
 use Rattle.std.specs.Vec.Iter.{into_iter_items, into_iter_len}
 use Rattle.cluster.specs.ClusterViews.{cluster_of}
-use Rattle.schedule.proofs.LineByLine.{DoneSoFar}
+use Rattle.replay.proofs.LineByLine.{DoneSoFar}
 use Rattle.loopback.specs.Loops.{IsDone}
 use Rattle.loopback.proofs.running.do_lines.Given as goal
 

@@ -1,4 +1,4 @@
-use Rattle.std.proofs.Common.{◌==◌, length}
+use Rattle.std.proofs.Common.{◌==◌}
 use Rattle.schedule.proofs.Cuts.{position_or_end}
 use Rattle.schedule.proofs.cut.first_end.Goals as goal
 

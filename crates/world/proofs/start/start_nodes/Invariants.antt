@@ -1,9 +1,9 @@
 use Rattle.std.proofs.Common.{◌≡◌, ◌++◌, length, map}
 use Rattle.std.specs.Vec.Iter.{into_iter_items, into_iter_len}
 use Rattle.stable.specs.Storages.{scripted}
-use Rattle.world.specs.Flushing.{HaveStarted}
-use Rattle.world.specs.Starting.{AreOver}
-use Rattle.node.specs.Nodes.{state_of}
+use Rattle.history.specs.Flushing.{HaveStarted}
+use Rattle.history.specs.Starting.{AreOver}
+use Rattle.node.specs.Seen.{state_of}
 use Rattle.world.proofs.start.start_nodes.Given as goal
 
 -- the storages that were taken have a node each, which has started over its own, and the others are left

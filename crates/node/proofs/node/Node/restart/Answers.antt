@@ -1,7 +1,7 @@
 use Rattle.std.proofs.Common.{◌≡◌, Some, refl, ap, rules, subst}
 use Rattle.std.proofs.lemmas.Option.{same_Some}
-use Rattle.node.specs.Loading.{IsFresh, IsMindOf}
-use Rattle.node.specs.Minds.{Mind}
+use Rattle.minds.specs.Loading.{IsFresh, IsMindOf}
+use Rattle.minds.specs.Minds.{Mind}
 use Rattle.node.specs.Roles.{mind_of}
 use Rattle.node.proofs.node.Node.restart.Goals as goal
 

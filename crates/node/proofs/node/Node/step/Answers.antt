@@ -1,10 +1,10 @@
 use Rattle.std.proofs.Common.{◌≡◌, Some, None, option_map, ap}
 use Rattle.std.proofs.lemmas.Result.{IfOk-weaker, IfErr-weaker}
-use Rattle.node.specs.Nodes.{state_of}
+use Rattle.node.specs.Seen.{state_of}
 use Rattle.node.specs.Roles.{mind_of}
-use Rattle.node.proofs.Fewness.{said_few}
-use Rattle.node.proofs.Meanings.{meaning_stays}
-use Rattle.node.proofs.StepLemmas.{steps_up, steps_down, stays_down}
+use Rattle.minds.proofs.Fewness.{said_few}
+use Rattle.minds.proofs.Meanings.{meaning_stays}
+use Rattle.minds.proofs.StepLemmas.{steps_up, steps_down, stays_down}
 use Rattle.node.proofs.node.Node.step.Goals as goal
 
 -- it took the input

@@ -1,7 +1,7 @@
 use Rattle.std.proofs.Common.{◌≡◌, ◌∙◌, inl, inr, refl, sym, ap}
 use Rattle.std.proofs.lemmas.Result.{IfOk-weaker, err_from_is_err_and}
 use Rattle.wire.specs.declared.frames.message.Message.TheVariants.{Promise, Accept, Decided}
-use Rattle.node.proofs.FaultLemmas.{memory_not_device, no_fault, memory_of_two, memory_alone, on_ok, made_none}
+use Rattle.minds.proofs.FaultLemmas.{memory_not_device, no_fault, memory_of_two, memory_alone, on_ok, made_none}
 use Rattle.node.proofs.roles.Roles.hear.Goals as goal
 
 -- a prepare: the acceptor's write is the one to be made

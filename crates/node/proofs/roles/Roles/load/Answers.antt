@@ -4,9 +4,9 @@ use Rattle.stable.specs.declared.key.Key.TheVariants as key
 use Rattle.acceptor.specs.Forms.{IsOfItsForm, AreOfTheirForm, HasDamagedRecord}
 use Rattle.wire.specs.RecordForms.{IsRoundRecord}
 use Rattle.learner.specs.Learning.{Learning}
-use Rattle.node.specs.Loading.{LoadsRound}
+use Rattle.minds.specs.Loading.{LoadsRound}
 use Rattle.proposer.specs.Proposing.{Proposing, loaded}
-use Rattle.node.proofs.Meanings.{meaning_begun}
+use Rattle.minds.proofs.Meanings.{meaning_begun}
 use Rattle.node.proofs.roles.Roles.load.Goals as goal
 
 round_loaded : (found : Option (List ℕ)) (id nodes : ℕ) (p : Proposing)

@@ -1,10 +1,10 @@
 use Rattle.std.proofs.Common.{◌≡◌, ◌++◌, List, ap, ◌∙◌, subst}
 use Rattle.learner.specs.Learning.{learnt_at}
 use Rattle.wire.specs.declared.frames.envelope.Envelope.{Envelope}
-use Rattle.node.specs.Minds.{Mind}
-use Rattle.node.specs.Outputs.{sent}
+use Rattle.minds.specs.Minds.{Mind}
+use Rattle.minds.specs.Outputs.{sent}
 use Rattle.node.specs.Roles.{mind_of}
-use Rattle.node.specs.Sending.{decided_sends}
+use Rattle.minds.specs.Sending.{decided_sends}
 use Rattle.node.proofs.roles.Roles.on_ask.Goals as goal
 
 -- the room that was taken changes nothing of what is known

@@ -1,7 +1,7 @@
 use Rattle.std.proofs.Common.{◌≡◌, inl, inr, false, Some, None, Ok, refl, ap, rules}
 use Rattle.std.proofs.lemmas.Result.{err_from_is_err_and}
-use Rattle.node.specs.declared.fault.NodeFault.TheVariants.{LogFull, TooLong}
-use Rattle.node.specs.Minds.{asked, waits, refuses_submit}
+use Rattle.minds.specs.declared.fault.NodeFault.TheVariants.{LogFull, TooLong}
+use Rattle.minds.specs.Minds.{asked, waits, refuses_submit}
 use Rattle.node.specs.Roles.{mind_of}
 use Rattle.node.proofs.roles.Roles.submit.Goals as goal
 

@@ -1,5 +1,5 @@
 use Rattle.std.proofs.Common.{◌≡◌, rules, vec_len, Ok, Err}
-use Rattle.node.specs.Nodes.{state_of}
+use Rattle.node.specs.Seen.{state_of}
 use Rattle.world.proofs.WorldLemmas.{lent_at}
 use Rattle.world.proofs.run.Run.ask.Goals as goal
 

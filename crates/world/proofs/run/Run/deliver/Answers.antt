@@ -1,7 +1,8 @@
 use Rattle.std.proofs.Common.{◌≡◌, rules, ap, ◌∙◌, subst, vec_len, slice_get, Some, IfOk}
 use Rattle.std.proofs.lemmas.Option.{slice_get_read}
 use Rattle.wire.specs.FrameSpelling.{Fits}
-use Rattle.world.specs.Worlds.{run_of, without_wait}
+use Rattle.history.specs.Worlds.{without_wait}
+use Rattle.world.specs.Runs.{run_of}
 use Rattle.world.proofs.WorldLemmas.{delivers_same}
 use Rattle.world.proofs.run.Run.deliver.Goals as goal
 

@@ -1,5 +1,5 @@
 use Rattle.std.proofs.Common.{◌≡◌, refl, ◌∙◌, arith, rules, length, ◌≤◌}
-use Rattle.world.specs.Worlds.{run_of}
+use Rattle.world.specs.Runs.{run_of}
 use Rattle.world.proofs.FlushLemmas.{as_delivered, none_delivered, one_delivered, waiting_was_sent}
 use Rattle.world.proofs.run.Run.flush.Goals as goal
 

@@ -1,6 +1,6 @@
 use Rattle.stable.specs.Storages.{scripted}
-use Rattle.world.specs.Flushing.{Delivers}
-use Rattle.world.specs.Worlds.{run_of}
+use Rattle.history.specs.Flushing.{Delivers}
+use Rattle.world.specs.Runs.{run_of}
 use Rattle.world.proofs.run.Run.flush.Given as goal
 
 abbrev pub invariant-loop-delivered : goal.invariant-loop-delivered

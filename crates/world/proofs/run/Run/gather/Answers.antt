@@ -1,10 +1,10 @@
 use Rattle.std.proofs.Common.{arith, refl, subst, rules, ℕ, length, drop, vec_len, [], ◌∷◌}
 use Rattle.std.proofs.lemmas.Option.{MatchOption-at_some}
 use Rattle.stable.specs.Storages.{scripted}
-use Rattle.world.specs.Rounds.{BreaksOff, ComesThrough, NoneRefuses, IsGreatestTold}
-use Rattle.world.specs.Rounds as rounds
-use Rattle.world.specs.Worlds.{run_of}
-use Rattle.world.proofs.RoundLemmas.{on_err, at_none, sliced, moved, asked_by, answered_by, down_by, broken_by}
+use Rattle.history.specs.Rounds.{BreaksOff, ComesThrough, NoneRefuses, IsGreatestTold}
+use Rattle.history.specs.Rounds as rounds
+use Rattle.world.specs.Runs.{run_of}
+use Rattle.history.proofs.RoundLemmas.{on_err, at_none, sliced, moved, asked_by, answered_by, down_by, broken_by}
 use Rattle.world.proofs.run.Run.gather.Goals as goal
 
 -- the prepares: memory is wanting

@@ -1,9 +1,9 @@
 use Rattle.std.proofs.Common.{◌≡◌, ◌<◌, true, false, refl, sym, subst, rules, arith, length, slice_get, Some, vec_len, ◌≤◌, Contains}
 use Rattle.std.proofs.lemmas.Option.{slice_get_read}
 use Rattle.stable.specs.Storages.{scripted}
-use Rattle.world.specs.Rounds.{DeliversTo, DeliversPart, nothing}
-use Rattle.world.specs.Worlds.{run_of}
-use Rattle.world.proofs.RoundLemmas.{on_err, passed_by, came}
+use Rattle.history.specs.Rounds.{DeliversTo, DeliversPart, nothing}
+use Rattle.world.specs.Runs.{run_of}
+use Rattle.history.proofs.RoundLemmas.{on_err, passed_by, came}
 use Rattle.world.proofs.run.Run.hand_on.Goals.{then-is_among+in_ok-deliver+else-not-is_up, else-is_among}
 use Rattle.world.proofs.run.Run.hand_on.Goals as goal
 

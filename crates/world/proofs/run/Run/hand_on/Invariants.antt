@@ -1,7 +1,7 @@
 use Rattle.std.proofs.Common.{◌≤◌, length}
 use Rattle.stable.specs.Storages.{scripted}
-use Rattle.world.specs.Rounds.{DeliversTo}
-use Rattle.world.specs.Worlds.{run_of}
+use Rattle.history.specs.Rounds.{DeliversTo}
+use Rattle.world.specs.Runs.{run_of}
 use Rattle.world.proofs.run.Run.hand_on.Given as goal
 
 abbrev pub invariant-loop-index : goal.invariant-loop-index

@@ -2,12 +2,12 @@ use Rattle.std.proofs.Common.{inr, rules, length}
 use Rattle.std.proofs.lemmas.Option.{MatchOption-at_some}
 use Rattle.std.proofs.lemmas.Result.{IfErr-at_err, IfOk-at_ok}
 use Rattle.stable.specs.Storages.{scripted}
-use Rattle.world.specs.Rounds.{GoesOn, GoesToItsEnd, IsInterrupted}
-use Rattle.world.specs.Rounds as rounds
-use Rattle.world.specs.declared.round_end.RoundEnd.TheVariants.{Stopped}
-use Rattle.world.specs.Worlds.{run_of}
-use Rattle.world.proofs.RoundLemmas.{at_none, on_err, begun_by}
-use Rattle.world.proofs.RoundBeginnings.{without}
+use Rattle.history.specs.Rounds.{GoesOn, GoesToItsEnd, IsInterrupted}
+use Rattle.history.specs.Rounds as rounds
+use Rattle.history.specs.declared.round_end.RoundEnd.TheVariants.{Stopped}
+use Rattle.world.specs.Runs.{run_of}
+use Rattle.history.proofs.RoundLemmas.{at_none, on_err, begun_by}
+use Rattle.history.proofs.RoundBeginnings.{without}
 use Rattle.world.proofs.run.Run.hold.Goals as goal
 
 -- no campaign has begun

@@ -1,6 +1,6 @@
 use Rattle.std.proofs.Common.{rules, arith}
-use Rattle.world.specs.Worlds.{run_of}
-use Rattle.world.proofs.RoundMembers.{next_up}
+use Rattle.world.specs.Runs.{run_of}
+use Rattle.history.proofs.RoundMembers.{next_up}
 use Rattle.world.proofs.run.Run.lowest_down.Goals.{in-Some+else-is_among, else-is_among-via-then-is_among+else-not-is_up}
 use Rattle.world.proofs.run.Run.lowest_down.Goals.{else-is_among-via-else-is_among, in_default}
 use Rattle.world.proofs.run.Run.lowest_down.Goals as goal

@@ -1,6 +1,6 @@
 use Rattle.std.proofs.Common.{◌≡◌, ℕ, ◌<◌, true, Contains}
-use Rattle.world.specs.Rounds.{is_up}
-use Rattle.world.specs.Worlds.{run_of}
+use Rattle.history.specs.Rounds.{is_up}
+use Rattle.world.specs.Runs.{run_of}
 use Rattle.world.proofs.run.Run.lowest_down.Given as goal
 
 abbrev pub invariant-loop-number : goal.invariant-loop-number

@@ -1,8 +1,8 @@
 use Rattle.std.proofs.Common.{rules, subst}
 use Rattle.stable.specs.Storages.{scripted}
-use Rattle.world.specs.Rounds.{IsQuorum, CanMeet}
-use Rattle.world.specs.Worlds.{run_of}
-use Rattle.world.proofs.RoundLemmas.{at_none, meeting_ends, meeting_breaks}
+use Rattle.history.specs.Rounds.{IsQuorum, CanMeet}
+use Rattle.world.specs.Runs.{run_of}
+use Rattle.history.proofs.RoundLemmas.{at_none, meeting_ends, meeting_breaks}
 use Rattle.world.proofs.run.Run.meet.Goals as goal
 
 pub returns-clause-ends : goal.returns-clause-ends

@@ -2,10 +2,11 @@ use Rattle.std.proofs.Common.{◌≡◌, ◌<◌, ◌∙◌, rules, arith, Ok, t
 use Rattle.std.proofs.lemmas.Option.{slice_get_read}
 use Rattle.std.proofs.lemmas.List.Elements.{All-get_or}
 use Rattle.std.proofs.lemmas.List.{length-map}
-use Rattle.node.specs.Nodes.{state_of}
-use Rattle.node.specs.Outputs.{silence}
-use Rattle.node.specs.Sending.{IsBetween}
-use Rattle.world.specs.Worlds.{run_of, without_wait, quiet}
+use Rattle.node.specs.Seen.{state_of}
+use Rattle.minds.specs.Outputs.{silence}
+use Rattle.minds.specs.Sending.{IsBetween}
+use Rattle.history.specs.Worlds.{without_wait, quiet}
+use Rattle.world.specs.Runs.{run_of}
 use Rattle.world.proofs.WorldLemmas.{lent_at, nothing_comes}
 use Rattle.world.proofs.run.Run.passes.Goals as goal
 

@@ -1,6 +1,7 @@
 use Rattle.std.proofs.Common.{◌≡◌, rules, vec_len, true}
-use Rattle.node.specs.Nodes.{state_of}
-use Rattle.world.proofs.WorldLemmas.{lent_at, none_is_not_some}
+use Rattle.node.specs.Seen.{state_of}
+use Rattle.history.proofs.NodeComes.{none_is_not_some}
+use Rattle.world.proofs.WorldLemmas.{lent_at}
 use Rattle.world.proofs.run.Run.receive.Goals as goal
 
 pub returns-then-not-is_up : goal.returns-then-not-is_up

@@ -1,7 +1,7 @@
 use Rattle.std.proofs.Common.{subst, sym}
 use Rattle.stable.specs.Storages.{scripted}
-use Rattle.world.specs.Rounds.{IsPartOfRound, untold}
-use Rattle.world.specs.Worlds.{run_of}
+use Rattle.history.specs.Rounds.{IsPartOfRound, untold}
+use Rattle.world.specs.Runs.{run_of}
 use Rattle.world.proofs.run.Run.round.Goals as goal
 
 -- the round is over, and its end is not told

@@ -1,5 +1,5 @@
 use Rattle.std.proofs.Common.{rules}
-use Rattle.world.specs.Worlds.{run_of}
+use Rattle.world.specs.Runs.{run_of}
 use Rattle.world.proofs.run.Run.submit.Goals as goal
 
 -- the request was taken, and joins the list

@@ -1,5 +1,5 @@
 use Rattle.std.proofs.Common.{refl, rules, Ok, Err, vec_len}
-use Rattle.world.specs.Worlds.{run_of}
+use Rattle.world.specs.Runs.{run_of}
 use Rattle.world.proofs.Takings.{takes_lent, lent_keeps_fleet, lent_sends_between}
 use Rattle.world.proofs.run.Run.take.Goals as goal
 

@@ -1,6 +1,7 @@
 use Rattle.std.proofs.Common.{rules}
-use Rattle.world.specs.Worlds.{run_of}
-use Rattle.world.proofs.FiredLemmas.{flush_keeps_few}
+use Rattle.world.specs.Runs.{run_of}
+use Rattle.world.specs.declared.log.TheConstants.{MOST_DELIVERIES}
+use Rattle.history.proofs.FiredLemmas.{flush_keeps_few}
 use Rattle.world.proofs.WorldSound.{flush_kept, stays_safe}
 use Rattle.world.proofs.world.World.flush.Goals as goal
 
@@ -12,7 +13,7 @@ invariant_of-self g c =
     record {
       sound = flush_kept g.S.Stable g.met.S.Stable.laws old new c.flush.result c.flush.ensures.delivers c.flush.ensures.limit
           c.flush.ensures.memory c.flush.ensures.faults c.args.self.now.run.fleet c.args.self.now.sound;
-      few_faults = flush_keeps_few g.S.Stable old new c.flush.result c.flush.ensures.delivers c.flush.ensures.limit
+      few_faults = flush_keeps_few g.S.Stable old new MOST_DELIVERIES c.flush.result c.flush.ensures.delivers c.flush.ensures.limit
           c.flush.ensures.memory c.flush.ensures.faults c.args.self.now.few_faults;
     }
 

@@ -1,6 +1,6 @@
 use Rattle.stable.specs.Storages.{scripted}
-use Rattle.world.specs.Worlds.{run_of}
-use Rattle.world.proofs.FiredLemmas.{start_few}
+use Rattle.world.specs.Runs.{run_of}
+use Rattle.history.proofs.FiredLemmas.{start_few}
 use Rattle.world.proofs.WorldSound.{started, stays_safe}
 use Rattle.world.proofs.world.World.with.Goals as goal
 

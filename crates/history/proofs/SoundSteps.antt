@@ -1,0 +1,172 @@
+-- A sound world stays sound, and what is sound is safe.
+use Rattle.std.proofs.Common.{◌≡◌, ◌⊎◌, ℕ, List, Option, Some, None, IsSome, Result, IfOk, IfErr, IsErrOf, refl, sym, ap, subst, ◌∙◌}
+use Rattle.stable.specs.Records.{Records}
+use Rattle.stable.specs.Script.{Script}
+use Rattle.stable.specs.declared.scripted.Failing.{Failing}
+use Rattle.stable.specs.declared.stable.Stable.{Ghosts}
+use Rattle.stable.specs.Storages.{IsLawful}
+use Rattle.sessions.specs.Asked.{Asked}
+use Rattle.history.specs.declared.event.Event.{Event}
+use Rattle.history.specs.declared.event.Event.TheVariants as event
+use Rattle.minds.specs.declared.input.Input.TheVariants as input
+use Rattle.history.specs.Fleets.{IsFleet}
+use Rattle.history.specs.Flushing.{IsStart, Delivers}
+use Rattle.minds.specs.Minds.{Mind}
+use Rattle.minds.specs.Nodes.{NodeState}
+use Rattle.history.specs.Reaching.{AreHonest}
+use Rattle.history.specs.Safety.{HasAgreed, IsSafe, IsSound, IsSoundIfHonest}
+use Rattle.history.specs.Worlds.{WorldState, Steps, ReceivesAt, with_outcome, without_wait}
+use Rattle.history.specs.declared.fault.WorldFault.{WorldFault}
+use Rattle.history.specs.declared.fault.WorldFault.TheVariants as fault
+use Rattle.history.specs.declared.lists.Outcome.{Outcome}
+use Rattle.history.specs.declared.round_end.RoundEnd.{RoundEnd}
+use Rattle.history.specs.Rounds.{RoundEnds, IsPartOfRound}
+use Rattle.history.proofs.RoundLemmas.{call_keeps}
+use Rattle.history.proofs.Explained.{explained}
+use Rattle.history.proofs.FleetSteps.{step_fleet}
+use Rattle.history.proofs.InLog.{start_in_log, step_in_log}
+use Rattle.history.proofs.ListedPuts.{KeepsPuts}
+use Rattle.history.proofs.PromisesStand.{start_promises, step_promises}
+use Rattle.history.proofs.RestartLemmas.{restart_honest}
+use Rattle.history.proofs.SafetyLemmas.{allowed_agrees, has_chosen, learnt_agree, learnt_grounded, start_allowed}
+use Rattle.history.proofs.Tellings.{steps_tell, start_tells}
+use Rattle.history.proofs.Validity.{start_valid, step_valid}
+use Rattle.history.proofs.WorldMoves.{honest_nodes, honest_took, step_allowed, submission_nodes, answered_nodes}
+
+-- what is sound is safe
+pub sound_is_safe : {S : Type 0} {contents : Script S → Records} (w : WorldState S) → IsSound contents w → IsSafe w
+sound_is_safe w sound =
+    let agreed : HasAgreed w = allowed_agrees w sound.allowed in
+    record {
+      agreed = agreed;
+      chosen = has_chosen w agreed;
+      explained = explained w sound.tells (learnt_agree w agreed) sound.in_log (learnt_grounded w agreed);
+      valid = sound.valid;
+    }
+
+pub safe_if_honest : {S : Type 0} {contents : Script S → Records} {IsHonest : Script S → Type 0} (w : WorldState S)
+    → IsSoundIfHonest contents IsHonest w
+    → AreHonest IsHonest w.nodes → IsSafe w
+safe_if_honest w h honest = sound_is_safe w (h.sound honest)
+
+-- ---- the start
+pub start_sound : {S : Type 0} (storages : Ghosts (Script S)) (count : ℕ) (w : WorldState S) → IsStart storages count w
+    → IsSoundIfHonest storages.contents storages.IsHonest w
+start_sound storages count w start = record {
+  sound = λ honest. record {
+    allowed = start_allowed count w start honest;
+    tells = start_tells storages count w start;
+    in_log = start_in_log w.learnt (ap (λ (x : WorldState _). x.learnt) start.nothing);
+    valid = start_valid w (ap (λ (x : WorldState _). x.submitted) start.nothing);
+    promises = start_promises storages count w start;
+  };
+}
+
+module _ {S : Type 0} {storages : Ghosts (Script S)} (laws : IsLawful storages)
+    (armed_honest : (s : Script S) (f : Failing) → storages.IsHonest (record s { armed = Some f }) → storages.IsHonest s)
+    (armed_contents : (s : Script S) (f : Failing) → storages.contents (record s { armed = Some f }) ≡ storages.contents s)
+    (lists : KeepsPuts storages) where
+  -- ---- where every storage is honest after a step it was so before
+  abbrev Honest : WorldState S → Type 0
+  Honest w = AreHonest storages.IsHonest w.nodes
+
+  same_nodes : (old new : WorldState S) → new.nodes ≡ old.nodes → Honest new → Honest old
+  same_nodes old new e honest = subst (λ (x : List (NodeState (Script S))). AreHonest storages.IsHonest x) e honest
+
+  received_honest : (old : WorldState S) (frame : _) (new : WorldState S) (o : Option Mind) (h : ReceivesAt storages old frame new)
+      → h.receiver.up ≡ o
+      → IsFleet old.nodes old.frames → Honest new → Honest old
+  received_honest old frame new None h up fleet honest = same_nodes old new (ap (λ (w : WorldState S). w.nodes) (h.lost up)) honest
+  received_honest old frame new (Some m) h up fleet honest =
+      let takes = h.taken (subst (λ (o : Option Mind). IsSome o) (sym up) refl) in
+      honest_took laws armed_honest armed_contents lists old frame.to (input.Message frame) takes.0 new takes.1 fleet honest
+
+  step_honest : (old : WorldState S) (e : Event) (new : WorldState S) → Steps storages old e new
+      → IsFleet old.nodes old.frames → Honest new → Honest old
+  step_honest old (event.Submit node client number op) new h fleet honest =
+      let r : Asked = record { client = client; number = number; op = op } in
+      let then : Honest h.between = same_nodes h.between new
+      (ap (λ (w : WorldState S). w.nodes) h.leaves ∙ submission_nodes laws armed_honest armed_contents lists h.between h.taken node r)
+      honest in
+      honest_took laws armed_honest armed_contents lists old node (input.Submit client number op) h.taken h.between h.takes fleet then
+  step_honest old (event.Deliver k) new h fleet honest =
+      received_honest (without_wait old k) h.frame new h.receives.receiver.up h.receives refl fleet honest
+  step_honest old (event.Drop k) new h fleet honest = same_nodes old new (ap (λ (w : WorldState S). w.nodes) h) honest
+  step_honest old (event.Timeout node) new h fleet honest = honest_took laws armed_honest armed_contents lists old node input.Timeout h.0
+      new h.1 fleet honest
+  step_honest old (event.Tick node) new h fleet honest = honest_took laws armed_honest armed_contents lists old node input.Tick h.0 new h.1
+      fleet honest
+  step_honest old (event.Restart node) new h fleet honest =
+      honest_nodes laws armed_honest armed_contents lists old.nodes node h.before h.after h.here
+      (restart_honest laws h.before h.after h.result h.restarts)
+      (subst (λ (x : List (NodeState (Script S))). AreHonest storages.IsHonest x) (ap (λ (w : WorldState S). w.nodes) h.leaves) honest)
+  step_honest old (event.Fault node failing) new h fleet honest =
+      honest_nodes laws armed_honest armed_contents lists old.nodes node h.before _ h.here (armed_honest h.before.storage failing)
+      (subst (λ (x : List (NodeState (Script S))). AreHonest storages.IsHonest x) (ap (λ (w : WorldState S). w.nodes) h.leaves) honest)
+  step_honest old (event.Query node query) new h fleet honest =
+      same_nodes old new (ap (λ (w : WorldState S). w.nodes) h.leaves
+      ∙ answered_nodes laws armed_honest armed_contents lists old node query h.result) honest
+
+  -- ---- a step
+  pub step_sound : (old : WorldState S) (e : Event) (new : WorldState S) → Steps storages old e new
+      → IsFleet old.nodes old.frames → IsSoundIfHonest storages.contents storages.IsHonest old
+      → IsSoundIfHonest storages.contents storages.IsHonest new
+  step_sound old e new h fleet before = record {
+    sound = λ honest.
+        let was = before.sound (step_honest old e new h fleet honest) in
+        record {
+          allowed = step_allowed laws armed_honest armed_contents lists old e new h fleet (λ then. (before.sound then).allowed) honest;
+          tells = steps_tell storages old new e h was.tells;
+          in_log = step_in_log storages old e new h was.in_log;
+          valid = step_valid storages old e new h was.valid;
+          promises = step_promises laws lists armed_contents old e new h fleet was.allowed was.promises honest;
+        };
+  }
+
+  record Kept (w : WorldState S) : Type 0 where
+    fleet : IsFleet w.nodes w.frames
+    sound : IsSoundIfHonest storages.contents storages.IsHonest w
+
+  -- ---- an outcome more is told
+  pub told_sound : (w : WorldState S) (o : Outcome) → IsSoundIfHonest storages.contents storages.IsHonest w
+      → IsSoundIfHonest storages.contents storages.IsHonest (with_outcome w o)
+  told_sound w o h = record {
+    sound = λ honest.
+        let was = h.sound honest in
+        record { allowed = was.allowed; tells = was.tells; in_log = was.in_log; valid = was.valid; promises = was.promises };
+  }
+
+  -- ---- a round, whatever comes of it
+  step_keeps : (old : WorldState S) (e : Event) (new : WorldState S) → Steps storages old e new → Kept old → Kept new
+  step_keeps old e new h kept = record {
+    fleet = step_fleet storages old e new h kept.fleet;
+    sound = step_sound old e new h kept.fleet kept.sound;
+  }
+
+  told_keeps : (w : WorldState S) (o : Outcome) → Kept w → Kept (with_outcome w o)
+  told_keeps w o kept = record { fleet = kept.fleet; sound = told_sound w o kept.sound }
+
+  pub round_sound : (old new : WorldState S) (node : ℕ) (members : List ℕ) (result : Result RoundEnd WorldFault)
+      → IfOk result (λ end. RoundEnds storages old node members end new)
+      → (IsErrOf result fault.NoSuchNode → new ≡ old)
+      → (IsErrOf result fault.Memory → IsPartOfRound storages old node members new)
+      → IfErr result (λ f. (f ≡ fault.NoSuchNode) ⊎ (f ≡ fault.Memory))
+      → IsFleet old.nodes old.frames → IsSoundIfHonest storages.contents storages.IsHonest old
+      → IsSoundIfHonest storages.contents storages.IsHonest new
+  round_sound old new node members result ends unchanged part faults fleet sound =
+      (call_keeps storages (λ w. Kept w) step_keeps told_keeps old node members (record { fleet = fleet; sound = sound })
+      new result ends unchanged part faults).sound
+
+  -- ---- deliveries one after the other
+  delivers_kept : (old : WorldState S) (n : ℕ) (new : WorldState S) → Delivers storages old n new → Kept old → Kept new
+  delivers_kept old _ new Delivers.none kept = kept
+  delivers_kept old _ new (Delivers.more n k between new_ before lowest delivers) kept =
+      let then = delivers_kept old n between before kept in
+      record {
+        fleet = step_fleet storages between (event.Deliver k) new delivers then.fleet;
+        sound = step_sound between (event.Deliver k) new delivers then.fleet then.sound;
+      }
+
+  pub delivers_sound : (old : WorldState S) (n : ℕ) (new : WorldState S) → Delivers storages old n new → IsFleet old.nodes old.frames
+      → IsSoundIfHonest storages.contents storages.IsHonest old → IsSoundIfHonest storages.contents storages.IsHonest new
+  delivers_sound old n new h fleet sound = (delivers_kept old n new h (record { fleet = fleet; sound = sound })).sound

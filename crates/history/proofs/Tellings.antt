@@ -1,0 +1,350 @@
+-- Each step keeps what the lists of a world tell of one another.
+use Rattle.std.proofs.Common.{◌≡◌, ℕ, zero, suc, ◌⊎◌, inl, inr, List, [], ◌∷◌, ◌++◌, map, Bool, true, false, Option}
+use Rattle.std.proofs.Common.{Some, None, Result, Ok, Err, IsSome, IfSome, IfOk, IfErr, MatchBool, Contains, slice_get}
+use Rattle.std.proofs.Common.{slice_set, refl, sym, ap, ◌∙◌, subst, append-nil, arith}
+use Rattle.std.proofs.lemmas.List.Elements.{Contains-append_left, Contains-append_right, Contains-append_cases, Contains-push}
+use Rattle.std.proofs.lemmas.List.Elements.{Contains-push_cases}
+use Rattle.std.proofs.lemmas.Option.{same_Some}
+use Rattle.stable.specs.Script.{Script}
+use Rattle.stable.specs.declared.scripted.Failing.{Failing}
+use Rattle.stable.specs.declared.stable.Stable.{Ghosts}
+use Rattle.synod.proofs.Thinking.{none_in}
+use Rattle.sessions.specs.Asked.{Asked}
+use Rattle.sessions.specs.Meaning.{Answers}
+use Rattle.sessions.specs.declared.command.Command.{Command}
+use Rattle.store.specs.declared.query.Query.{Query}
+use Rattle.wire.specs.declared.frames.envelope.Envelope.{Envelope}
+use Rattle.minds.specs.declared.fault.NodeFault.{NodeFault}
+use Rattle.minds.specs.declared.fault.NodeFault.TheVariants as fault
+use Rattle.minds.specs.declared.input.Input.{Input}
+use Rattle.minds.specs.declared.input.Input.TheVariants as input
+use Rattle.minds.specs.declared.outputs.Executed.{Executed}
+use Rattle.minds.specs.declared.outputs.LogEntry.{LogEntry}
+use Rattle.minds.specs.Composition.{IsMeaningOf, IsReplyOf, GoesOnFrom, executed_from}
+use Rattle.minds.specs.Faults.{is_stop_fault}
+use Rattle.minds.specs.Loading.{IsFresh}
+use Rattle.minds.specs.Minds.{Mind, position}
+use Rattle.minds.specs.Nodes.{TakesInput, RefusesInput, StopsOnInput, NodeAnswers, AnswersMeaning}
+use Rattle.minds.specs.Outputs.{Response, silence}
+use Rattle.minds.specs.States.{NodeState}
+use Rattle.minds.specs.Taking.{Takes}
+use Rattle.minds.proofs.Learnt.{takes_tells, learnt_behind, fresh_means_nothing}
+use Rattle.minds.proofs.Meanings.{as_many}
+use Rattle.history.specs.declared.event.Event.{Event}
+use Rattle.history.specs.declared.event.Event.TheVariants as event
+use Rattle.history.specs.declared.lists.Learnt.{Learnt}
+use Rattle.history.specs.declared.lists.Replied.{Replied}
+use Rattle.history.specs.declared.lists.Answered.{Answered}
+use Rattle.history.specs.Flushing.{IsStart, IsStarted}
+use Rattle.history.specs.Outputs.{replied_at, replied_by}
+use Rattle.history.specs.Telling.{WasLearnt, WereLearnt, TellsReply, TellsAnswer, Knows, ListsTell, Tells}
+use Rattle.history.specs.Worlds.{WorldState, TakesAt, SubmitsAt, ReceivesAt, AsksAt, ArmsAt, RestartsAt, Steps, recorded, with_node}
+use Rattle.history.specs.Worlds.{with_submission, without_wait, learnt_by, answered}
+
+-- ---- lists
+-- what stands in a list to which a function is applied is its value at an element
+out_of_map : {A B : Type 0} (f : A → B) (xs : List A) (y : B) → Contains (map f xs) y → (x : A) × Contains xs x × (f x ≡ y)
+out_of_map f [] y c = absurd (none_in y c)
+out_of_map f (x ∷ xs) y c = elim (Contains-append_cases (f x ∷ []) (map f xs) y c) [
+  | inl first ↦ elim (Contains-push_cases [] (f x) y first) [
+    | inl nothing ↦ absurd (none_in y nothing)
+    | inr same ↦ (x, Contains-append_left (x ∷ []) xs x (Contains-push [] x), same)
+  ]
+  | inr later ↦
+      let rest = out_of_map f xs y later in (rest.0, Contains-append_right (x ∷ []) xs rest.0 rest.1, rest.2)
+]
+
+-- what stands at a place once one place is written
+set_cases : {A : Type 0} (xs : List A) (i j : ℕ) (y z : A) → slice_get (slice_set xs i y) j ≡ Some z
+    → ((j ≡ i) × (y ≡ z)) ⊎ (slice_get xs j ≡ Some z)
+set_cases [] i j y z e = inr e
+set_cases (x ∷ xs) zero zero y z e = inl (refl, same_Some y z e)
+set_cases (x ∷ xs) zero (suc j) y z e = inr e
+set_cases (x ∷ xs) (suc i) zero y z e = inr e
+set_cases (x ∷ xs) (suc i) (suc j) y z e = elim (set_cases xs i j y z e) [
+  | inl here ↦ inl (ap suc here.0, here.1)
+  | inr there ↦ inr there
+]
+
+-- ---- what was learnt stays so
+abbrev was_still : (learnt more : List Learnt) (slot : ℕ) (c : Command) → WasLearnt learnt slot c → WasLearnt (learnt ++ more) slot c
+was_still learnt more slot c was = record {
+  entry = was.entry;
+  there = Contains-append_left learnt more was.entry was.there;
+  at = was.at;
+  holds = was.holds;
+}
+
+module _ (learnt more : List Learnt) where
+  reply_still : (p : Replied) → TellsReply learnt p → TellsReply (learnt ++ more) p
+  reply_still p t = record {
+    log = t.log;
+    known = λ slot c e. was_still learnt more slot c (t.known slot c e);
+    replies = t.replies;
+  }
+
+  answer_still : (a : Answered) → TellsAnswer learnt a → TellsAnswer (learnt ++ more) a
+  answer_still a t = record {
+    log = t.log;
+    known = λ slot c e. was_still learnt more slot c (t.known slot c e);
+    position = t.position;
+    answers = t.answers;
+  }
+
+  knows_still : (m : Mind) → Knows learnt m → Knows (learnt ++ more) m
+  knows_still m k = record {
+    listed = λ slot c e. was_still learnt more slot c (k.listed slot c e);
+    meaning = k.meaning;
+  }
+
+-- what is told now is in the longer list
+now_learnt : (learnt : List Learnt) (i : ℕ) (o : Option LogEntry) (slot : ℕ) (c : Command)
+    → o ≡ Some (record { slot = slot; command = c }) → WasLearnt (learnt ++ learnt_by i o) slot c
+now_learnt learnt i None slot c e = absurd (cc)
+now_learnt learnt i (Some d) slot c e =
+    let is : d ≡ record { slot = slot; command = c } = same_Some d (record { slot = slot; command = c }) e in
+    record {
+      entry = record { node = i; slot = d.slot; command = d.command };
+      there = Contains-push learnt (record { node = i; slot = d.slot; command = d.command });
+      at = ap (λ (x : LogEntry). x.slot) is;
+      holds = ap (λ (x : LogEntry). x.command) is;
+    }
+
+-- of what a node is the meaning was learnt
+known_of : (learnt : List Learnt) (m : Mind) → Knows learnt m → WereLearnt learnt (executed_from [] m)
+known_of learnt m k slot c e = k.listed slot c (learnt_behind [] m k.meaning slot c (omega arith) e)
+
+-- ---- what a node tells
+-- what it knows then, and of what its replies are
+record Says (learnt : List Learnt) (after : Option Mind) (replies : List Executed) : Type 0 where
+  knows : (m : Mind) → after ≡ Some m → Knows learnt m
+  replied : (e : Executed) → Contains replies e → (log : List Command) × WereLearnt learnt log × IsReplyOf log e
+
+-- one that is down, and one that knows what it knew
+says_down : (learnt : List Learnt) (after : Option Mind) → after ≡ None → Says learnt after []
+says_down learnt after gone = record {
+  knows = λ m e. absurd (let h : None ≡ Some m = sym gone ∙ e in cc);
+  replied = λ e c. absurd (none_in e c);
+}
+
+says_still : (learnt : List Learnt) (before after : Option Mind) → after ≡ before
+    → ((m : Mind) → before ≡ Some m → Knows learnt m) → Says learnt after []
+says_still learnt before after same knew = record {
+  knows = λ m e. knew m (sym same ∙ e);
+  replied = λ e c. absurd (none_in e c);
+}
+
+-- one that takes an input
+says_taken : (learnt : List Learnt) (i : ℕ) (old new : Mind) (input : Input) (said : Response) → Takes old input new said
+    → Knows learnt old → GoesOnFrom [] old new said → Says (learnt ++ learnt_by i said.learnt) (Some new) said.replies
+says_taken learnt i old new input said takes knew goes =
+    let known : Knows (learnt ++ learnt_by i said.learnt) new = record {
+      listed = λ slot c there. elim ((takes_tells old new said input takes).told slot c there) [
+        | inl before ↦ was_still learnt (learnt_by i said.learnt) slot c (knew.listed slot c before)
+        | inr now ↦ now_learnt learnt i said.learnt slot c now
+      ];
+      meaning = goes.meaning;
+    } in
+    record {
+      knows = λ m e. subst (Knows (learnt ++ learnt_by i said.learnt)) (same_Some new m e) known;
+      replied = λ e c. (executed_from [] new, known_of (learnt ++ learnt_by i said.learnt) new known, goes.replies_ e c);
+    }
+
+-- ---- what a node tells on an input
+abbrev said_of : Result Response NodeFault → Response
+said_of (Ok said) = said
+said_of (Err f) = silence
+
+stops_or_refuses : (b : Bool) {P Q : Type 0} → MatchBool b P Q → P ⊎ Q
+stops_or_refuses true h = inl h
+stops_or_refuses false h = inr h
+
+module _ {S : Type 0} (storages : Ghosts S) (learnt : List Learnt) (i : ℕ) (before after : NodeState S) (input : Input) where
+  -- by whether it was up, and whether it took the input
+  node_says : (up : Option Mind) (result : Result Response NodeFault) → before.up ≡ up → ((m : Mind) → up ≡ Some m → Knows learnt m)
+      → (up ≡ None → (result ≡ Err fault.Down) × (after ≡ before))
+      → IfSome up (λ m. IfOk result (λ said. TakesInput storages before m input said after))
+      → IfSome up (λ m. IfErr result (λ f. MatchBool (is_stop_fault f)
+      (StopsOnInput storages before m input f after) (RefusesInput before m input f after)))
+      → IfSome up (λ m. IsMeaningOf [] m → IfOk result (λ said. IfSome after.up (λ n. GoesOnFrom [] m n said)))
+      → Says (learnt ++ learnt_by i (said_of result).learnt) after.up (said_of result).replies
+  node_says None (Ok said) here knew down taken refused goes =
+      absurd (let h : ◌≡◌ {A = Result Response NodeFault} (Ok said) (Err fault.Down) = (down refl).0 in cc)
+  node_says None (Err f) here knew down taken refused goes =
+      says_down (learnt ++ []) after.up (ap (λ (n : NodeState S). n.up) (down refl).1 ∙ here)
+  node_says (Some m) (Ok said) here knew down taken refused goes =
+      let is : after.up ≡ Some taken.mind = ap (λ (n : NodeState S). n.up) taken.leaves in
+      let goes_on : GoesOnFrom [] m taken.mind said =
+      subst (λ (o : Option Mind). IfSome o (λ n. GoesOnFrom [] m n said)) is (goes (knew m refl).meaning) in
+      subst (λ (o : Option Mind). Says (learnt ++ learnt_by i said.learnt) o said.replies) (sym is)
+      (says_taken learnt i m taken.mind input said taken.takes (knew m refl) goes_on)
+  node_says (Some m) (Err f) here knew down taken refused goes = elim (stops_or_refuses (is_stop_fault f) refused) [
+    | inl stops ↦ says_down (learnt ++ []) after.up (ap (λ (n : NodeState S). n.up) stops.leaves)
+    | inr refuses ↦
+        says_still (learnt ++ []) (Some m) after.up (ap (λ (n : NodeState S). n.up) refuses.leaves ∙ here)
+        (λ k e. knows_still learnt [] k (knew k e))
+  ]
+
+-- ---- and the lists
+new_reply : (learnt : List Learnt) (i : ℕ) (after : Option Mind) (replies : List Executed) → Says learnt after replies
+    → (p : Replied) → Contains (replied_by i replies) p → TellsReply learnt p
+new_reply learnt i after replies says p c =
+    let of = out_of_map (replied_at i) replies p c in
+    let reply = says.replied of.0 of.1 in
+    subst (TellsReply learnt) of.2 (record { log = reply.0; known = reply.1; replies = reply.2 })
+
+said_tells : {S : Type 0} (nodes : List (NodeState S)) (learnt : List Learnt) (replies : List Replied) (answers : List Answered)
+    (i : ℕ) (after : NodeState S) (said : Response) → ListsTell nodes learnt replies answers
+    → Says (learnt ++ learnt_by i said.learnt) after.up said.replies
+    → ListsTell (slice_set nodes i after) (learnt ++ learnt_by i said.learnt) (replies ++ replied_by i said.replies) answers
+said_tells {S} nodes learnt replies answers i after said t says = record {
+  replied = λ p c. elim (Contains-append_cases replies (replied_by i said.replies) p c) [
+    | inl old ↦ reply_still learnt (learnt_by i said.learnt) p (t.replied p old)
+    | inr new ↦ new_reply (learnt ++ learnt_by i said.learnt) i after.up said.replies says p new
+  ];
+  answered = λ a c. answer_still learnt (learnt_by i said.learnt) a (t.answered a c);
+  knows = λ j n m there up. elim (set_cases nodes i j after n there) [
+    | inl at ↦ says.knows m (ap (λ (x : NodeState S). x.up) at.1 ∙ up)
+    | inr elsewhere ↦ knows_still learnt (learnt_by i said.learnt) m (t.knows j n m elsewhere up)
+  ];
+}
+
+-- nothing is told
+quiet_tells : {S : Type 0} (nodes : List (NodeState S)) (learnt : List Learnt) (replies : List Replied) (answers : List Answered)
+    → ListsTell nodes (learnt ++ []) (replies ++ []) answers → ListsTell nodes learnt replies answers
+quiet_tells nodes learnt replies answers t =
+    subst (λ (ls : List Learnt). ListsTell nodes ls replies answers) (append-nil learnt)
+    (subst (λ (rs : List Replied). ListsTell nodes (learnt ++ []) rs answers) (append-nil replies) t)
+
+changed_tells : {S : Type 0} (old : WorldState S) (node : ℕ) (after : NodeState (Script S)) → Tells old → Says old.learnt after.up []
+    → ListsTell (slice_set old.nodes node after) old.learnt old.replies old.answers
+changed_tells old node after tells says =
+    quiet_tells (slice_set old.nodes node after) old.learnt old.replies old.answers
+    (said_tells old.nodes old.learnt old.replies old.answers node after silence tells
+    (subst (λ (ls : List Learnt). Says ls after.up []) (sym (append-nil old.learnt)) says))
+
+-- ---- the kinds of step
+module _ {S : Type 0} (storages : Ghosts (Script S)) where
+  recorded_result : (old : WorldState S) (i : ℕ) (after : NodeState (Script S)) (result : Result Response NodeFault)
+      → ListsTell (slice_set old.nodes i after) (old.learnt ++ learnt_by i (said_of result).learnt)
+      (old.replies ++ replied_by i (said_of result).replies) old.answers → Tells (recorded (with_node old i after) i result)
+  recorded_result old i after (Ok said) t = t
+  recorded_result old i after (Err f) t = quiet_tells (slice_set old.nodes i after) old.learnt old.replies old.answers t
+
+  takes_at : (old : WorldState S) (node : ℕ) (i : Input) (taken : Bool) (new : WorldState S)
+      → TakesAt storages old node i taken new → Tells old → Tells new
+  takes_at old node i taken new t tells =
+      subst (λ (w : WorldState S). Tells w) (sym t.leaves)
+      (recorded_result old node t.after t.result
+      (said_tells old.nodes old.learnt old.replies old.answers node t.after (said_of t.result) tells
+      (node_says storages old.learnt node t.before t.after i t.before.up t.result refl (λ m up. tells.knows node t.before m t.here up)
+      t.steps.down t.steps.taken t.steps.refused (t.meaning.goes_on []))))
+
+  submission_tells : (w : WorldState S) (taken : Bool) (node : ℕ) (r : Asked) → Tells w → Tells (with_submission w taken node r)
+  submission_tells w true node r t = t
+  submission_tells w false node r t = t
+
+  submits_at : (old : WorldState S) (node : ℕ) (r : Asked) (new : WorldState S)
+      → SubmitsAt storages old node r new → Tells old → Tells new
+  submits_at old node r new s tells =
+      subst (λ (w : WorldState S). Tells w) (sym s.leaves)
+      (submission_tells s.between s.taken node r
+      (takes_at old node (input.Submit r.client r.number r.op) s.taken s.between s.takes tells))
+
+  up_or_down : (o : Option Mind) → (o ≡ None) ⊎ IsSome o
+  up_or_down None = inl refl
+  up_or_down (Some m) = inr refl
+
+  receives_at : (old : WorldState S) (frame : Envelope) (new : WorldState S) → ReceivesAt storages old frame new → Tells old → Tells new
+  receives_at old frame new r tells = elim (up_or_down r.receiver.up) [
+    | inl gone ↦ subst (λ (w : WorldState S). Tells w) (sym (r.lost gone)) tells
+    | inr up ↦ takes_at old frame.to (input.Message frame) (r.taken up).0 new (r.taken up).1 tells
+  ]
+
+  -- a node that has restarted has learnt and executed nothing
+  fresh_knows : (learnt : List Learnt) (id nodes : ℕ) (m : Mind) → IsFresh id nodes m → Knows learnt m
+  fresh_knows learnt id nodes m fresh =
+      let nothing = fresh_means_nothing id nodes m fresh in
+      record {
+        listed = λ slot c e. absurd (let h : None ≡ Some c = sym (nothing.1 slot) ∙ e in cc);
+        meaning = nothing.0;
+      }
+
+  restarts_at : (old : WorldState S) (node : ℕ) (new : WorldState S) → RestartsAt storages old node new → Tells old → Tells new
+  restarts_at old node new r tells =
+      subst (λ (w : WorldState S). Tells w) (sym r.leaves)
+      (changed_tells old node r.after tells (record {
+        knows = λ m up. fresh_knows old.learnt r.before.id r.before.nodes m (r.restarts.fresh m up);
+        replied = λ e c. absurd (none_in e c);
+      }))
+
+  arms_at : (old : WorldState S) (node : ℕ) (failing : Failing) (new : WorldState S) → ArmsAt old node failing new → Tells old → Tells new
+  arms_at old node failing new a tells =
+      subst (λ (w : WorldState S). Tells w) (sym a.leaves)
+      (changed_tells old node (record a.before { storage = record a.before.storage { armed = Some failing } }) tells
+      (says_still old.learnt a.before.up a.before.up refl (λ m up. tells.knows node a.before m a.here up)))
+
+  -- ---- queries
+  abbrev answer_at : ℕ → Query → ℕ → List ℕ → Answered
+  answer_at node query position text = record { node = node; position = position; query = query; text = text }
+
+  answer_tells : (learnt : List Learnt) (node : ℕ) (query : Query) (at : ℕ) (text : List ℕ) (up : Option Mind)
+      → ((m : Mind) → up ≡ Some m → Knows learnt m) → (up ≡ None → ⊥) → IfSome up (λ m. at ≡ position m)
+      → IfSome up (λ m. IsMeaningOf [] m → Answers (executed_from [] m) query text)
+      → TellsAnswer learnt (answer_at node query at text)
+  answer_tells learnt node query at text None knew some says_at says = absurd (some refl)
+  answer_tells learnt node query at text (Some m) knew some says_at says =
+      let knows : Knows learnt m = knew m refl in
+      record {
+        log = executed_from [] m;
+        known = known_of learnt m knows;
+        position = says_at ∙ sym (as_many [] m knows.meaning);
+        answers = says knows.meaning;
+      }
+
+  answered_tells : (old : WorldState S) (node : ℕ) (n : NodeState (Script S)) (query : Query)
+      (result : Result (ℕ × List ℕ) NodeFault) → slice_get old.nodes node ≡ Some n → NodeAnswers n query result
+      → AnswersMeaning n query result → Tells old → Tells (answered old node query result)
+  answered_tells old node n query (Ok answer) here says means t =
+      let new : TellsAnswer old.learnt (answer_at node query answer.0 answer.1) =
+      answer_tells old.learnt node query answer.0 answer.1 n.up (λ m up. t.knows node n m here up)
+      (λ gone. let h : ◌≡◌ {A = Result (ℕ × List ℕ) NodeFault} (Ok answer) (Err fault.Down) = says.down gone in cc)
+      says.position_ (means.answers []) in
+      record {
+        replied = t.replied;
+        answered = λ a c. elim (Contains-push_cases old.answers (answer_at node query answer.0 answer.1) a c) [
+          | inl before ↦ t.answered a before
+          | inr same ↦ subst (TellsAnswer old.learnt) same new
+        ];
+        knows = t.knows;
+      }
+  answered_tells old node n query (Err f) here says means t = t
+
+  asks_at : (old : WorldState S) (node : ℕ) (query : Query) (new : WorldState S) → AsksAt old node query new → Tells old → Tells new
+  asks_at old node query new a tells =
+      subst (λ (w : WorldState S). Tells w) (sym a.leaves)
+      (answered_tells old node a.asked query a.result a.here a.answers a.meaning tells)
+
+  -- ---- each step, by its kind
+  pub steps_tell : (old new : WorldState S) (e : Event) → Steps storages old e new → Tells old → Tells new
+  steps_tell old new (event.Submit node client number op) s tells =
+      submits_at old node (record { client = client; number = number; op = op }) new s tells
+  steps_tell old new (event.Deliver k) s tells = receives_at (without_wait old k) s.frame new s.receives tells
+  steps_tell old new (event.Drop k) s tells = subst (λ (w : WorldState S). Tells w) (sym s) tells
+  steps_tell old new (event.Timeout node) s tells = takes_at old node input.Timeout s.0 new s.1 tells
+  steps_tell old new (event.Tick node) s tells = takes_at old node input.Tick s.0 new s.1 tells
+  steps_tell old new (event.Restart node) s tells = restarts_at old node new s tells
+  steps_tell old new (event.Fault node failing) s tells = arms_at old node failing new s tells
+  steps_tell old new (event.Query node query) s tells = asks_at old node query new s tells
+
+  -- ---- the start
+  -- nothing is told, and no node has learnt or executed anything
+  pub start_tells : (count : ℕ) (w : WorldState S) → IsStart storages count w → Tells w
+  start_tells count w s =
+      subst (λ (x : WorldState S). Tells x) (sym s.nothing) (record {
+        replied = λ p c. absurd (none_in p c);
+        answered = λ a c. absurd (none_in a c);
+        knows = λ i n m here up.
+            let started : IsStarted storages i count n = s.nodes.each i n here in
+            fresh_knows [] i count m (subst (λ (o : Option Mind). IfSome o (IsFresh i count)) up started.fresh);
+      })

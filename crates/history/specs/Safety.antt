@@ -1,0 +1,76 @@
+-- What is promised of a world whose storages are honest.
+use Rattle.std.specs.Prelude.{◌≡◌, ◌↔◌, ℕ, ◌<◌, List, map, length, slice_get, Some, IsSome}
+use Rattle.stable.specs.Records.{Records}
+use Rattle.stable.specs.Script.{Script, Write}
+use Rattle.stable.specs.declared.key.Key.TheVariants as key
+use Rattle.synod.specs.History.{Voted}
+use Rattle.synod.specs.Invariant.{IsAgreed}
+use Rattle.synod.specs.Runs as synod_runs
+use Rattle.synod.specs.Runs.{IsReached}
+use Rattle.synod.specs.declared.ballot.Ballot.{Ballot}
+use Rattle.synod.specs.declared.vote.Vote.{Vote}
+use Rattle.acceptor.specs.Spelling.{ballot_bytes}
+use Rattle.sessions.specs.declared.command.Command.{Command}
+use Rattle.history.specs.Explaining.{IsExplained, LearntInLog}
+use Rattle.history.specs.Protocol.{fleet, frame_of, learning_of, command_of}
+use Rattle.history.specs.Reaching.{TookEffect, IsAllowed, AreHonest}
+use Rattle.minds.specs.States.{NodeState}
+use Rattle.history.specs.Submissions.{BringValid}
+use Rattle.history.specs.Telling.{Tells}
+use Rattle.history.specs.Voting.{HasVote, HasChosen}
+use Rattle.history.specs.Worlds.{WorldState}
+
+-- the writes of each node
+abbrev pub writes_of : {S : Type 0} → List (NodeState (Script S)) → List (List Write)
+writes_of nodes = map (λ n. n.storage.writes) nodes
+
+-- moves that the protocol allows lead from its start to this state: its past has these frames, all that any node learnt,
+-- what was submitted, and the votes that the lists of writes tell; in it no two commands are chosen for one slot,
+-- whatever any node learnt is chosen, and each chosen command is a no-op or was submitted
+pub record HasAgreed {S : Type 0} (w : WorldState S) : Type 0 where
+  pub state : synod_runs.World Command
+  pub reached : IsReached (fleet (length w.nodes)) state
+  pub frames : state.past.frames ≡ map frame_of w.frames
+  pub learnt : state.past.learnt ≡ map learning_of w.learnt
+  pub submitted : state.past.submitted ≡ map command_of w.submitted
+  pub votes : (i : ℕ) (n : NodeState (Script S)) → slice_get w.nodes i ≡ Some n
+      → (v : Vote Command) → Voted state.past i v ↔ HasVote n.storage.writes v
+  pub agreed : IsAgreed (fleet (length w.nodes)) state.past
+
+-- so whatever any node learnt is chosen by the lists of writes, and one list of commands explains everything that any
+-- node told. What the requests bring is valid, so that a query has one answer over such a list
+pub record IsSafe {S : Type 0} (w : WorldState S) : Type 0 where
+  pub agreed : HasAgreed w
+  pub chosen : HasChosen (writes_of w.nodes) w.learnt w.submitted
+  pub explained : IsExplained w.submitted w.learnt w.replies w.answers
+  pub valid : BringValid w.submitted
+
+-- ---- what is kept from call to call
+-- each promise that was put and took effect is of one of so many nodes
+abbrev pub PromisesAmong : {S : Type 0} → (Script S → Records) → ℕ → Script S → Type 0
+PromisesAmong contents nodes s = (b : Ballot) → TookEffect contents s (key.Promise, ballot_bytes b) → b.node < nodes
+
+-- so it is at each node, of the nodes of the run
+abbrev pub PromisesOfRun : {S : Type 0} → (Script S → Records) → List (NodeState (Script S)) → Type 0
+PromisesOfRun {S} contents nodes =
+    (i : ℕ) (n : NodeState (Script S)) → slice_get nodes i ≡ Some n → PromisesAmong contents (length nodes) n.storage
+
+-- moves that the protocol allows lead there, the lists tell what the nodes know, whatever was learnt was learnt at a slot of the log,
+-- what was submitted is valid, and what was promised is of a node of the run
+pub record IsSound {S : Type 0} (contents : Script S → Records) (w : WorldState S) : Type 0 where
+  pub allowed : IsAllowed contents w.nodes w.frames w.learnt w.submitted
+  pub tells : Tells w
+  pub in_log : LearntInLog w.learnt
+  pub valid : BringValid w.submitted
+  pub promises : PromisesOfRun contents w.nodes
+
+-- of a scripted storage, by what holds of the storage inside
+abbrev pub contents_inside : {S : Type 0} → (S → Records) → Script S → Records
+contents_inside contents s = contents s.inner
+
+abbrev pub honest_inside : {S : Type 0} → (S → Type 0) → Script S → Type 0
+honest_inside IsHonest s = IsHonest s.inner × IsSome s.fired
+
+-- where every storage is honest
+pub record IsSoundIfHonest {S : Type 0} (contents : Script S → Records) (IsHonest : Script S → Type 0) (w : WorldState S) : Type 0 where
+  pub sound : AreHonest IsHonest w.nodes → IsSound contents w

@@ -1,0 +1,50 @@
+-- What the lists of a world tell of one another: whatever a reply or an answer rests on was learnt by some node.
+use Rattle.std.specs.Prelude.{◌≡◌, ℕ, List, [], length, Some, Contains, slice_get}
+use Rattle.sessions.specs.Meaning.{Answers}
+use Rattle.sessions.specs.declared.command.Command.{Command}
+use Rattle.minds.specs.Composition.{IsMeaningOf, IsReplyOf}
+use Rattle.minds.specs.Minds.{Mind, learnt_in}
+use Rattle.minds.specs.States.{NodeState}
+use Rattle.history.specs.declared.lists.Learnt.{Learnt}
+use Rattle.history.specs.declared.lists.Replied.{Replied}
+use Rattle.history.specs.declared.lists.Answered.{Answered}
+use Rattle.history.specs.Outputs.{executed_of}
+use Rattle.history.specs.Worlds.{WorldState}
+
+-- some node learnt the command at the slot
+pub record WasLearnt (learnt : List Learnt) (slot : ℕ) (c : Command) : Type 0 where
+  pub entry : Learnt
+  pub there : Contains learnt entry
+  pub at : entry.slot ≡ slot
+  pub holds : entry.command ≡ c
+
+-- each of these commands was learnt at its slot, from the first on
+abbrev pub WereLearnt : List Learnt → List Command → Type 0
+WereLearnt learnt log = (slot : ℕ) (c : Command) → slice_get log slot ≡ Some c → WasLearnt learnt slot c
+
+-- a reply is that of a list of what was learnt, to one of its requests
+pub record TellsReply (learnt : List Learnt) (p : Replied) : Type 0 where
+  pub log : List Command
+  pub known : WereLearnt learnt log
+  pub replies : IsReplyOf log (executed_of p)
+
+-- an answer is that of a list of what was learnt, as long as its position says
+pub record TellsAnswer (learnt : List Learnt) (a : Answered) : Type 0 where
+  pub log : List Command
+  pub known : WereLearnt learnt log
+  pub position : a.position ≡ length log
+  pub answers : Answers log a.query a.text
+
+-- what a node that is up has learnt is listed, and it is the meaning of what it has learnt from the first slot on
+pub record Knows (learnt : List Learnt) (m : Mind) : Type 0 where
+  pub listed : (slot : ℕ) (c : Command) → learnt_in m slot ≡ Some c → WasLearnt learnt slot c
+  pub meaning : IsMeaningOf [] m
+
+pub record ListsTell {S : Type 0} (nodes : List (NodeState S)) (learnt : List Learnt) (replies : List Replied)
+    (answers : List Answered) : Type 0 where
+  pub replied : (p : Replied) → Contains replies p → TellsReply learnt p
+  pub answered : (a : Answered) → Contains answers a → TellsAnswer learnt a
+  pub knows : (i : ℕ) (n : NodeState S) (m : Mind) → slice_get nodes i ≡ Some n → n.up ≡ Some m → Knows learnt m
+
+abbrev pub Tells : {S : Type 0} → WorldState S → Type 0
+Tells w = ListsTell w.nodes w.learnt w.replies w.answers

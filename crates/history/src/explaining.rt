@@ -1,0 +1,30 @@
+//! One list of commands explains what any node told.
+//!
+//! Each law is the contract of a function that does nothing.
+
+ghost use Rattle.std.specs.Prelude.{ℕ};
+ghost use Rattle.history.specs.Explaining.{IsExplained, LearntAgree, LearntGrounded, LearntInLog};
+ghost use Rattle.history.specs.Flushing.{IsStart};
+ghost use Rattle.history.specs.Telling.{Tells};
+ghost use Rattle.history.specs.Worlds.{WorldState, Steps};
+ghost use Rattle.history.specs.declared.event.Event.{Event};
+
+use stable::{Scripted, Stable};
+
+/// At the start the lists tell no more than the nodes know.
+pub fn a_start_tells<S: Stable>()
+    ensures { (count : ℕ) (w : WorldState S) → IsStart (⟦<Scripted<S> as Stable>⟧) count w → Tells w }
+{}
+
+/// Each step keeps what the lists of a world tell of one another.
+pub fn steps_tell<S: Stable>()
+    ensures { (old new : WorldState S) (event : Event)
+        → Steps (⟦<Scripted<S> as Stable>⟧) old event new → Tells old → Tells new }
+{}
+
+/// Where any two nodes that learnt a slot learnt one command there, at a slot of the log, a no-op or a request that was
+/// submitted, one list of commands explains everything that any node told.
+pub fn tellings_are_explained<S>()
+    ensures { (w : WorldState S) → Tells w → LearntAgree w.learnt → LearntInLog w.learnt → LearntGrounded w.submitted w.learnt
+        → IsExplained w.submitted w.learnt w.replies w.answers }
+{}

@@ -1,0 +1,27 @@
+//! What holds of all runs. Nothing runs.
+
+ghost use Rattle.std.specs.Prelude.{◌≡◌, Contains};
+ghost use Rattle.history.specs.Progress.{BallotsNeverFall};
+ghost use Rattle.history.specs.Safety.{IsSafe};
+ghost use Rattle.history.specs.Tallies.{StepsTally};
+ghost use Rattle.history.specs.Worlds.{WorldState};
+ghost use Rattle.history.specs.declared.lists.Answered.{Answered};
+
+use stable::{Scripted, Stable};
+
+/// As many learnt slots, replies and answers are listed as outcomes tell of: at the start, and after every step.
+#[tactic(auto, using(crate::proofs::TallyLemmas::steps_tally))]
+pub fn lists_are_as_told<S: Stable>()
+    ensures { StepsTally (⟦<Scripted<S> as Stable>⟧) }
+{}
+
+/// In every world that is safe two answers to one query at one position are equal, byte for byte, whoever gave them.
+pub fn answers_are_one<S>()
+    ensures { (w : WorldState S) → ∥ IsSafe w ∥₁ → (a b : Answered) → Contains w.answers a → Contains w.answers b
+        → a.query ≡ b.query → a.position ≡ b.position → a.text ≡ b.text }
+{}
+
+/// No step but its restart makes the next ballot of a node lower, as long as it stays up: what a round was told of stays below it.
+pub fn ballots_never_fall<S: Stable>()
+    ensures { BallotsNeverFall (⟦<Scripted<S> as Stable>⟧) }
+{}

@@ -1,0 +1,93 @@
+-- A node that has loaded its records holds what they say, and nothing else.
+use Rattle.std.proofs.Common.{◌≡◌, ℕ, zero, ◌<◌, ◌^◌, List, [], Option, Some, None, true, false, refl, sym, ap, subst, ◌∙◌, arith}
+use Rattle.std.proofs.Common.{◌≤◌}
+use Rattle.byteorder.specs.Endian.{big_number, big_bytes}
+use Rattle.byteorder.specs.Numbers.{big_number-reads_back}
+use Rattle.synod.specs.Minds as synod_minds
+use Rattle.synod.specs.Minds.{blank}
+use Rattle.synod.specs.Acts.{Local}
+use Rattle.synod.proofs.Thinking.{none_in}
+use Rattle.stable.specs.Records.{Records}
+use Rattle.stable.specs.declared.key.Key.TheVariants as key
+use Rattle.acceptor.specs.Accepting.{Accepting}
+use Rattle.acceptor.specs.Protocol.{RecordsStand}
+use Rattle.acceptor.proofs.SayingOne.{one_promise, one_floor, one_vote_each}
+use Rattle.sessions.specs.declared.command.Command.{Command}
+use Rattle.learner.specs.Learning.{Learning, prefix, unlearnt}
+use Rattle.learner.specs.Protocol.{LearnerStands}
+use Rattle.learner.proofs.PrefixLemmas.{prefix_only}
+use Rattle.proposer.specs.Proposing.{Proposing, loaded}
+use Rattle.proposer.specs.Protocol.{ProposerStands}
+use Rattle.minds.specs.Loading.{IsLoaded, LoadsRound}
+use Rattle.minds.specs.Minds.{Mind}
+use Rattle.minds.specs.Protocol.{MindStands, RecordsHold, SaysRound}
+
+-- ---- a record says one round
+read_again : (n : ℕ) → n < 2 ^ 64 → big_number 8 (big_bytes 8 n) ≡ n
+read_again n fits = big_number-reads_back 8 n [] fits
+
+one_round : (o : Option (List ℕ)) (a b : ℕ) → SaysRound o a → SaysRound o b → a ≡ b
+one_round None a b x y = x ∙ sym y
+one_round (Some bytes) a b x y =
+    sym (read_again a x.fits) ∙ ap (big_number 8) (sym x.spelled ∙ y.spelled) ∙ read_again b y.fits
+
+-- ---- a node that has loaded its records
+loads_round : (o : Option (List ℕ)) (id nodes : ℕ) (p : Proposing) → LoadsRound o id nodes p
+    → SaysRound o p.round × (p ≡ loaded id nodes p.round)
+loads_round None id nodes p h =
+    let none : p.round ≡ zero = ap (λ (q : Proposing). q.round) h in
+    (none, h ∙ ap (loaded id nodes) (sym none))
+loads_round (Some bytes) id nodes p h = (h.0, h.1)
+
+-- nothing is learnt
+unlearnt_prefix : (nodes : ℕ) → zero ≡ prefix (unlearnt nodes)
+unlearnt_prefix nodes = prefix_only (unlearnt nodes) zero (record {
+  learnt_to = record { from = omega arith; in_log = omega arith; below = λ s from to. absurd (omega (arith, to)) };
+  here = λ _ some. (let bad : false ≡ true = some in absurd (cc));
+})
+
+unlearnt_stands : (nodes : ℕ) → LearnerStands (unlearnt nodes) (blank {C = Command})
+unlearnt_stands nodes = record {
+  learnt = λ s. refl;
+  heard = λ s a b c within told. (let bad : None ≡ Some c = told in absurd (cc));
+}
+
+idle_stands : (id nodes round : ℕ) (x : Local Command) → x.records.round ≡ round → x.mind ≡ blank → ProposerStands (loaded id nodes round) x
+idle_stands id nodes round x same none = record {
+  round = same;
+  campaign = ap (λ (s : synod_minds.Mind Command). s.campaign) none;
+  waiting = λ r c. absurd (none_in r c);
+}
+
+module _ (records : Records) (id nodes : ℕ) (m : Mind) (loads : IsLoaded records id nodes m) where
+  round_loaded : SaysRound (records key.Round) m.proposing.round × (m.proposing ≡ loaded id nodes m.proposing.round)
+  round_loaded = loads_round (records key.Round) id nodes m.proposing loads.proposing
+
+  pub loaded_holds : RecordsHold records m.accepting m.proposing.round
+  loaded_holds = record { acceptor = loads.accepting; proposer = round_loaded.0 }
+
+  module _ (a : Accepting) (round : ℕ) (x : Local Command) (holds : RecordsHold records a round) (stands : RecordsStand a round x.records)
+      (none : x.mind ≡ blank) where
+    floors_one : a.floor ≡ m.accepting.floor
+    floors_one = one_floor records a m.accepting holds.acceptor loads.accepting
+
+    records_stand : RecordsStand m.accepting m.proposing.round x.records
+    records_stand = record {
+      promise = stands.promise ∙ one_promise records a m.accepting holds.acceptor loads.accepting;
+      vote = λ s from.
+          let also : a.floor ≤ s = omega (arith, floors_one, from) in
+          stands.vote s also ∙ one_vote_each records a m.accepting holds.acceptor loads.accepting s also;
+      round_ = stands.round_ ∙ one_round (records key.Round) round m.proposing.round holds.proposer round_loaded.0;
+      floor_ = stands.floor_ ∙ floors_one;
+    }
+
+    -- what it holds stands
+    pub loaded_stands : MindStands m x
+    loaded_stands = record {
+      records = records_stand;
+      learner = subst (LearnerStands m.learning) (sym none)
+          (subst (λ (l : Learning). LearnerStands l (blank {C = Command})) (sym loads.learning) (unlearnt_stands nodes));
+      proposer = subst (λ (p : Proposing). ProposerStands p x) (sym round_loaded.1)
+          (idle_stands id nodes m.proposing.round x records_stand.round_ none);
+      position_ = ap (λ (s : synod_minds.Mind Command). s.position) none ∙ unlearnt_prefix nodes ∙ ap prefix (sym loads.learning);
+    }

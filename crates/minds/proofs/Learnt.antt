@@ -1,0 +1,162 @@
+-- What a node has learnt, and what it tells as learnt.
+use Rattle.std.proofs.Common.{◌≡◌, ℕ, zero, suc, ◌+◌, ◌-◌, ◌<◌, ◌≤◌, ◌⊎◌, Bool, true, false, List, [], ◌∷◌, ◌++◌, length, slice_get}
+use Rattle.std.proofs.Common.{Option, Some, None, IsSome, inl, inr, refl, sym, ap, ◌∙◌, subst, arith}
+use Rattle.std.proofs.lemmas.Option.{same_Some}
+use Rattle.synod.specs.Records.{put}
+use Rattle.synod.specs.declared.vote.Vote.{Vote}
+use Rattle.synod.proofs.Puts.{put_cases, put_same}
+use Rattle.sessions.specs.declared.command.Command.{Command}
+use Rattle.learner.specs.Learning.{Learning, with_learnt, HearsVote, HearsDecided}
+use Rattle.learner.specs.Learning.HearsVote.{ignores, hears, learns}
+use Rattle.learner.specs.Learning.HearsDecided.{ignores_decided, learns_decided}
+use Rattle.learner.specs.declared.learned.Learned.{Learned}
+use Rattle.wire.specs.declared.frames.envelope.Envelope.{Envelope}
+use Rattle.wire.specs.declared.frames.message.Message.{Message}
+use Rattle.wire.specs.declared.frames.message.Message.TheVariants.{Prepare, Promise, Nack, Accept, Accepted, Ask, Decided}
+use Rattle.minds.specs.declared.input.Input.{Input}
+use Rattle.minds.specs.declared.input.Input.TheVariants as input
+use Rattle.minds.specs.declared.outputs.LogEntry.{LogEntry}
+use Rattle.minds.specs.Composition.{IsMeaningOf, executed_from}
+use Rattle.minds.specs.Executing.{commands, with_command}
+use Rattle.minds.specs.Inputs.{concerns}
+use Rattle.minds.specs.Loading.{IsFresh}
+use Rattle.minds.specs.Minds.{Mind, learnt_in, position}
+use Rattle.minds.specs.Outputs.{Response}
+use Rattle.minds.specs.Taking.{Takes, TakesEnvelope, TakesMessage, Hears, Learns}
+use Rattle.minds.proofs.Meanings.{learnt_below, meaning_begun}
+
+-- ---- what a node newly learns it tells
+pub record Tells (old new : Mind) (said : Response) : Type 0 where
+  pub told : (slot : ℕ) (c : Command) → learnt_in new slot ≡ Some c
+      → (learnt_in old slot ≡ Some c) ⊎ (said.learnt ≡ Some (record { slot = slot; command = c }))
+  pub news : (e : LogEntry) → said.learnt ≡ Some e → (learnt_in new e.slot ≡ Some e.command) × (learnt_in old e.slot ≡ None)
+
+abbrev entry : ℕ → Command → LogEntry
+entry slot c = record { slot = slot; command = c }
+
+module _ (old new : Mind) (said : Response) where
+  -- nothing is learnt
+  tells_nothing : new.learning.learnt ≡ old.learning.learnt → said.learnt ≡ None → Tells old new said
+  tells_nothing same none = record {
+    told = λ slot c there. inl (ap (λ (f : ℕ → Option Command). f slot) (sym same) ∙ there);
+    news = λ e says. absurd (let clash : None ≡ Some e = sym none ∙ says in cc);
+  }
+
+  still : new.learning ≡ old.learning → said.learnt ≡ None → Tells old new said
+  still same = tells_nothing (ap (λ (l : Learning). l.learnt) same)
+
+  module _ (l : Learning) (c : Command) (asks : List Envelope) where
+    -- a slot is newly learnt
+    learns_tells : (slot : ℕ) → old.learning.learnt slot ≡ None → l ≡ with_learnt old.learning slot c
+        → Learns old slot c l asks new said → Tells old new said
+    learns_tells slot vacant same k =
+        let learnt : new.learning.learnt ≡ put old.learning.learnt slot (Some c) =
+        ap (λ (m : Mind). m.learning.learnt) k.leaves ∙ ap (λ (x : Learning). x.learnt) same in
+        let says : said.learnt ≡ Some (entry slot c) = ap (λ (r : Response). r.learnt) k.says in
+        let there : new.learning.learnt slot ≡ Some c =
+        ap (λ (f : ℕ → Option Command). f slot) learnt ∙ put_same old.learning.learnt slot (Some c) in
+        record {
+          told = λ s d here. put_cases
+              (λ (o : Option Command). o ≡ Some d → (learnt_in old s ≡ Some d) ⊎ (said.learnt ≡ Some (entry s d)))
+              old.learning.learnt slot (Some c) s
+              (λ at e. inr (says ∙ ap (λ (i : ℕ). Some (entry i c)) (sym at)
+              ∙ ap (λ (x : Command). Some (entry s x)) (same_Some c d e)))
+              (λ other e. inl e)
+              (ap (λ (f : ℕ → Option Command). f s) (sym learnt) ∙ here);
+          news = λ e told. subst (λ (x : LogEntry). (learnt_in new x.slot ≡ Some x.command) × (learnt_in old x.slot ≡ None))
+              (same_Some (entry slot c) e (sym says ∙ told)) (there, vacant);
+        }
+
+    hears_tells : (o : Option Learned) (slot : ℕ) → o ≡ Some (record { slot = slot }) → old.learning.learnt slot ≡ None
+        → l ≡ with_learnt old.learning slot c → Hears old c o l asks new said → Tells old new said
+    hears_tells None slot e vacant same k = absurd (cc)
+    hears_tells (Some learned) slot e vacant same k =
+        let at : learned.slot ≡ slot = ap (λ (x : Learned). x.slot) (same_Some learned (record { slot = slot }) e) in
+        learns_tells slot vacant same (subst (λ (s : ℕ). Learns old s c l asks new said) at k)
+
+    hears_nothing : (o : Option Learned) → o ≡ None → l.learnt ≡ old.learning.learnt → Hears old c o l asks new said
+        → Tells old new said
+    hears_nothing None e same k =
+        tells_nothing (ap (λ (m : Mind). m.learning.learnt) k.0 ∙ same) (ap (λ (r : Response). r.learnt) k.1)
+    hears_nothing (Some learned) e same k = absurd (cc)
+
+  vote_tells : (from : ℕ) (v : Vote Command) (o : Option Learned) (l : Learning) → HearsVote old.learning from v o l
+      → Hears old v.command o l [] new said → Tells old new said
+  vote_tells from v o l (ignores never none same) k = hears_nothing l v.command [] o none (ap (λ (x : Learning). x.learnt) same) k
+  vote_tells from v o l (hears counts undecided none same) k =
+      hears_nothing l v.command [] o none (ap (λ (x : Learning). x.learnt) same) k
+  vote_tells from v o l (learns counts decided some same) k =
+      hears_tells l v.command [] o v.slot some counts.in_time.unlearnt same k
+
+  decided_tells : (slot : ℕ) (c : Command) (asks : List Envelope) (o : Option Learned) (l : Learning)
+      → HearsDecided old.learning slot c o l → Hears old c o l asks new said → Tells old new said
+  decided_tells slot c asks o l (ignores_decided never none same) k =
+      hears_nothing l c asks o none (ap (λ (x : Learning). x.learnt) same) k
+  decided_tells slot c asks o l (learns_decided opened some same) k = hears_tells l c asks o slot some opened.unlearnt same k
+
+  message_tells : (from : ℕ) (message : Message) → TakesMessage old from message new said → Tells old new said
+  message_tells from (Prepare ballot first) k = still (ap (λ (m : Mind). m.learning) k.2) (ap (λ (r : Response). r.learnt) k.3)
+  message_tells from (Promise p) k = still (ap (λ (m : Mind). m.learning) k.0) (ap (λ (r : Response). r.learnt) k.1)
+  message_tells from (Nack n) k = still (ap (λ (m : Mind). m.learning) k.0) (ap (λ (r : Response). r.learnt) k.1)
+  message_tells from (Accept v) k = still (ap (λ (m : Mind). m.learning) k.0) (ap (λ (r : Response). r.learnt) k.1)
+  message_tells from (Accepted v) (o, l, heard, k) = vote_tells from v o l heard k
+  message_tells from (Ask slot) k = still (ap (λ (m : Mind). m.learning) k.0) (ap (λ (r : Response). r.learnt) k.1)
+  message_tells from (Decided slot c) (o, l, heard, k) = decided_tells slot c _ o l heard k
+
+  envelope_tells : (e : Envelope) (b : Bool) → TakesEnvelope old e b new said → Tells old new said
+  envelope_tells e false k = still (ap (λ (m : Mind). m.learning) k.0) (ap (λ (r : Response). r.learnt) k.1)
+  envelope_tells e true k = message_tells e.from e.message k
+
+  pub takes_tells : (i : Input) → Takes old i new said → Tells old new said
+  takes_tells (input.Submit client number op) k = still (ap (λ (m : Mind). m.learning) k.0) (ap (λ (r : Response). r.learnt) k.1)
+  takes_tells (input.Message e) k = envelope_tells e (concerns old.id old.nodes e) k
+  takes_tells input.Timeout k = still (ap (λ (m : Mind). m.learning) k.2) (ap (λ (r : Response). r.learnt) k.3)
+  takes_tells input.Tick k = still (ap (λ (m : Mind). m.learning) k.0) (ap (λ (r : Response). r.learnt) k.1)
+
+-- ---- of what it is the meaning
+get_behind : {A : Type 0} (xs ys : List A) (k : ℕ) → length xs ≤ k → slice_get (xs ++ ys) k ≡ slice_get ys (k - length xs)
+get_behind [] ys k h = ap (λ (i : ℕ). slice_get ys i) (let e : k ≡ k - 0 = omega arith in e)
+get_behind (x ∷ xs) ys zero h = absurd (omega (arith, h))
+get_behind (x ∷ xs) ys (suc k) h =
+    get_behind xs ys k (omega (arith, h))
+    ∙ ap (λ (i : ℕ). slice_get ys i) (let e : k - length xs ≡ suc k - suc (length xs) = omega arith in e)
+
+-- the first of them, where it is learnt, and those behind it
+get_first : (o : Option Command) (cs : List Command) (c : Command) → IsSome o → slice_get (with_command o cs) 0 ≡ Some c → o ≡ Some c
+get_first None cs c some h = absurd (let f : false ≡ true = some in cc)
+get_first (Some d) cs c some h = h
+
+get_next : (o : Option Command) (cs : List Command) (i : ℕ) → IsSome o → slice_get (with_command o cs) (suc i) ≡ slice_get cs i
+get_next None cs i some = absurd (let f : false ≡ true = some in cc)
+get_next (Some d) cs i some = refl
+
+-- a command of those that are learnt from a slot on is learnt at its slot
+learnt_there : (learnt : ℕ → Option Command) (slot n i : ℕ) (c : Command)
+    → ((s : ℕ) → slot ≤ s → s < slot + n → IsSome (learnt s)) → slice_get (commands learnt slot n) i ≡ Some c
+    → learnt (slot + i) ≡ Some c
+unfolding commands
+learnt_there learnt slot zero i c all h = absurd (let clash : None ≡ Some c = h in cc)
+learnt_there learnt slot (suc n) zero c all h =
+    let at : slot + 0 ≡ slot = omega arith in
+    ap learnt at ∙ get_first (learnt slot) (commands learnt (suc slot) n) c (all slot (omega arith) (omega arith)) h
+learnt_there learnt slot (suc n) (suc i) c all h =
+    let at : slot + suc i ≡ suc slot + i = omega arith in
+    ap learnt at ∙ learnt_there learnt (suc slot) n i c (λ s from to. all s (omega (arith, from)) (omega (arith, to)))
+    (sym (get_next (learnt slot) (commands learnt (suc slot) n) i (all slot (omega arith) (omega arith))) ∙ h)
+
+pub learnt_behind : (base : List Command) (m : Mind) → IsMeaningOf base m → (slot : ℕ) (c : Command) → length base ≤ slot
+    → slice_get (executed_from base m) slot ≡ Some c → learnt_in m slot ≡ Some c
+learnt_behind base m h slot c above there =
+    let first : ℕ = m.learning.first in
+    let n : ℕ = position m - first in
+    let at : first + (slot - length base) ≡ slot = omega (arith, h.begun, above) in
+    ap m.learning.learnt (sym at)
+    ∙ learnt_there m.learning.learnt first n (slot - length base) c (learnt_below base m h)
+    (sym (get_behind base (commands m.learning.learnt first n) slot above) ∙ there)
+
+-- one that has just begun is the meaning of nothing, and has learnt nothing
+pub fresh_means_nothing : (id nodes : ℕ) (m : Mind) → IsFresh id nodes m → IsMeaningOf [] m × ((slot : ℕ) → learnt_in m slot ≡ None)
+fresh_means_nothing id nodes m h = (
+  meaning_begun m nodes h.learning h.machine,
+  λ slot. ap (λ (l : Learning). l.learnt slot) h.learning,
+)

@@ -1,0 +1,165 @@
+-- Records go on saying what a node holds.
+use Rattle.std.proofs.Common.{◌≡◌, ℕ, ◌^◌, List, [], ◌∷◌, Option, Some, None, Bool, true, false, nat_lt, nat_le}
+use Rattle.std.proofs.Common.{refl, sym, ap, ◌∙◌, subst, arith}
+use Rattle.std.proofs.lemmas.Bool.{cond_both, leb-false}
+use Rattle.byteorder.specs.Endian.{big_bytes}
+use Rattle.stable.specs.Records.{Records}
+use Rattle.acceptor.specs.Accepting.{Accepting, Write, records_after, after_prepare, after_accept}
+use Rattle.acceptor.proofs.RecordLemmas.{prepare_kept, accept_kept, RecordsSay-round, prepare_leaves_round, accept_leaves_round}
+use Rattle.learner.specs.Learning.{Learning, prefix}
+use Rattle.learner.specs.declared.learned.Learned.{Learned}
+use Rattle.proposer.specs.Proposing.{Proposing, next_round, with_promised, gathers, gathers_on, fills, leads, proposes}
+use Rattle.proposer.specs.Campaigning.{Campaigning, begun, prepare, closed_below, window_filled}
+use Rattle.proposer.specs.declared.outgoing.Outgoing.{Outgoing}
+use Rattle.sessions.specs.Asked.{Asked}
+use Rattle.sessions.specs.declared.command.Command.{Command}
+use Rattle.wire.specs.FrameSpelling.{MessageFits}
+use Rattle.wire.specs.RecordForms.{IsRoundRecord}
+use Rattle.wire.specs.declared.frames.envelope.Envelope.{Envelope}
+use Rattle.wire.specs.declared.frames.message.Message.{Message}
+use Rattle.wire.specs.declared.frames.message.Message.TheVariants.{Prepare, Promise, Nack, Accept, Accepted, Ask, Decided}
+use Rattle.minds.specs.declared.fault.NodeFault.TheVariants as fault
+use Rattle.minds.specs.declared.input.Input.{Input}
+use Rattle.minds.specs.declared.input.Input.TheVariants as input
+use Rattle.minds.specs.Inputs.{concerns}
+use Rattle.minds.specs.Minds.{Mind, is_full, refuses, asked, waits}
+use Rattle.minds.specs.Outputs.{Response}
+use Rattle.minds.specs.Protocol.{InputFits, accepting_on, accepting_if, accepting_after, round_after, RecordsHold, SaysRound}
+use Rattle.minds.specs.Taking.{Writes, WritesOnEnvelope, WritesOnMessage, Takes, TakesMessage, TakesEnvelope, Hears}
+use Rattle.minds.specs.Taking.{proposed, after_promise, begins_to_lead, after_submit, with_request, proposer_of, execution}
+
+-- ---- what the records say once the write is made
+no_write : (records : Records) (w : Write) (a : Accepting) (round : ℕ) → w ≡ None → RecordsHold records a round
+    → RecordsHold (records_after records w) a round
+no_write records w a round e both = subst (λ (x : Write). RecordsHold (records_after records x) a round) (sym e) both
+
+message_holds : (m : Mind) (message : Message) (records : Records) (w : Write) → WritesOnMessage m message w → MessageFits 7 message
+    → RecordsHold records m.accepting m.proposing.round → RecordsHold (records_after records w) (accepting_on m message) m.proposing.round
+message_holds m (Prepare ballot first) records w e fits both =
+    subst (λ (x : Write). RecordsHold (records_after records x) (after_prepare m.accepting ballot) m.proposing.round) (sym e) (record {
+      acceptor = prepare_kept records m.accepting ballot fits.0 both.acceptor;
+      proposer = subst (λ (o : Option (List ℕ)). SaysRound o m.proposing.round)
+          (sym (prepare_leaves_round records m.accepting ballot)) both.proposer;
+    })
+message_holds m (Promise p) records w e fits both = no_write records w m.accepting m.proposing.round e both
+message_holds m (Nack n) records w e fits both = no_write records w m.accepting m.proposing.round e both
+message_holds m (Accept v) records w is fits both = record {
+  acceptor = accept_kept records m.accepting v w (record { ballot = fits.ballot; command = fits.command }) is both.acceptor;
+  proposer = subst (λ (o : Option (List ℕ)). SaysRound o m.proposing.round)
+      (sym (accept_leaves_round records m.accepting v w is)) both.proposer;
+}
+message_holds m (Accepted v) records w e fits both = no_write records w m.accepting m.proposing.round e both
+message_holds m (Ask slot) records w e fits both = no_write records w m.accepting m.proposing.round e both
+message_holds m (Decided slot command) records w e fits both = no_write records w m.accepting m.proposing.round e both
+
+envelope_holds : (m : Mind) (e : Envelope) (b : Bool) (records : Records) (w : Write) → WritesOnEnvelope m e b w → MessageFits 7 e.message
+    → RecordsHold records m.accepting m.proposing.round → RecordsHold (records_after records w) (accepting_if m e b) m.proposing.round
+envelope_holds m e false records w none fits both = no_write records w m.accepting m.proposing.round none both
+envelope_holds m e true records w writes fits both = message_holds m e.message records w writes fits both
+
+-- a round that is begun has its eight bytes
+round_left : (m : Mind) (full used : Bool) → is_full m ≡ full → nat_le (2 ^ 64) (next_round m.proposing) ≡ used
+    → refuses m input.Timeout ≡ None → used ≡ false
+round_left m true used e f none = (let bad : Some fault.LogFull ≡ None = rw e at none in absurd cc)
+round_left m false true e f none = (let bad : Some fault.RoundsUsedUp ≡ None = rw f at (rw e at none) in absurd cc)
+round_left m false false e f none = refl
+
+drawn : (m : Mind) → refuses m input.Timeout ≡ None → IsRoundRecord (big_bytes 8 (next_round m.proposing)) (next_round m.proposing)
+drawn m none =
+    let left = round_left m (is_full m) (nat_le (2 ^ 64) (next_round m.proposing)) refl refl none in
+    record { begun = omega arith; fits = leb-false (2 ^ 64) (next_round m.proposing) left; spelled = refl }
+
+pub written_holds : (m : Mind) (i : Input) (records : Records) (w : Write) → refuses m i ≡ None → Writes m i w → InputFits i
+    → RecordsHold records m.accepting m.proposing.round → RecordsHold (records_after records w) (accepting_after m i) (round_after m i)
+written_holds m (input.Submit client number op) records w none e fits both = no_write records w m.accepting m.proposing.round e both
+written_holds m (input.Message e) records w none writes fits both = envelope_holds m e (concerns m.id m.nodes e) records w writes fits both
+written_holds m input.Timeout records w none e fits both =
+    subst (λ (x : Write). RecordsHold (records_after records x) m.accepting (next_round m.proposing)) (sym e) (record {
+      acceptor = RecordsSay-round records m.accepting (big_bytes 8 (next_round m.proposing)) both.acceptor;
+      proposer = drawn m none;
+    })
+written_holds m input.Tick records w none e fits both = no_write records w m.accepting m.proposing.round e both
+
+-- ---- that is what the node holds then
+-- a proposer proposes under the round that it has
+gathered_round : (p : Proposing) (k : Campaigning) (position : ℕ) → (gathers_on p (Some k) position).0.round ≡ p.round
+gathered_round p k position =
+    cond_both (gathers p.waiting position) (record p { campaign = Some (begun k.ballot position) }, prepare k.ballot position ∷ []) (p, [])
+    (λ (r : Proposing × List Outgoing). r.0.round ≡ p.round) (λ _. refl) (λ _. refl)
+
+led_round : (p : Proposing) (k : Campaigning) (l : Learning) → (leads p k l).0.round ≡ p.round
+led_round p k l =
+    cond_both (nat_lt k.end (prefix l)) (gathers_on p (Some k) (prefix l))
+    (fills p k (window_filled (closed_below (prefix l) k) p.waiting p.learnt_to l))
+    (λ (r : Proposing × List Outgoing). r.0.round ≡ p.round) (λ _. gathered_round p k (prefix l)) (λ _. refl)
+
+proposed_round : (p : Proposing) (o : Option Campaigning) (l : Learning) → (proposes p o l).0.round ≡ p.round
+proposed_round p None l = refl
+proposed_round p (Some k) l =
+    cond_both k.leading (leads p k l) (p, []) (λ (r : Proposing × List Outgoing). r.0.round ≡ p.round) (λ _. led_round p k l) (λ _. refl)
+
+promised_round : (m : Mind) (from : ℕ) (p : _) → (after_promise m from p).0.round ≡ m.proposing.round
+promised_round m from p =
+    let then : Proposing = with_promised m.proposing from p in
+    cond_both (begins_to_lead m.proposing then) (proposed then m.learning) (then, [])
+    (λ (r : Proposing × List Outgoing). r.0.round ≡ m.proposing.round) (λ _. proposed_round then then.campaign m.learning) (λ _. refl)
+
+submitted_round : (m : Mind) (r : Asked) → (after_submit m r).0.round ≡ m.proposing.round
+submitted_round m r =
+    let then : Proposing = with_request m.proposing r in
+    cond_both (waits m r.client r.number) (m.proposing, []) (proposed then m.learning)
+    (λ (q : Proposing × List Outgoing). q.0.round ≡ m.proposing.round) (λ _. refl) (λ _. proposed_round then then.campaign m.learning)
+
+-- the acceptor and the round are these
+pub record HoldsRecords (new : Mind) (a : Accepting) (round : ℕ) : Type 0 where
+  pub accepting_ : new.accepting ≡ a
+  pub round_ : new.proposing.round ≡ round
+
+-- it is as this mind
+held_as : (new m : Mind) → new ≡ m → HoldsRecords new m.accepting m.proposing.round
+held_as new m e = record { accepting_ = ap (λ (n : Mind). n.accepting) e; round_ = ap (λ (n : Mind). n.proposing.round) e }
+
+-- and this mind has that round
+with_its_round : (new : Mind) (a : Accepting) (p q : ℕ) → HoldsRecords new a p → p ≡ q → HoldsRecords new a q
+with_its_round new a p q h e = record { accepting_ = h.accepting_; round_ = h.round_ ∙ e }
+
+held_after_news : (m : Mind) (c : Command) (learned : Option Learned) (l : Learning) (asks : List Envelope) (new : Mind) (said : Response)
+    → Hears m c learned l asks new said → HoldsRecords new m.accepting m.proposing.round
+held_after_news m c None l asks new said h = held_as new (record m { learning = l }) h.0
+held_after_news m c (Some n) l asks new said h =
+    let then : Proposing = proposer_of m n.slot (execution m l) in
+    with_its_round new m.accepting _ _ (held_as new _ h.leaves) (proposed_round then then.campaign l)
+
+held_after_message : (m : Mind) (from : ℕ) (message : Message) (new : Mind) (said : Response) → TakesMessage m from message new said
+    → HoldsRecords new (accepting_on m message) m.proposing.round
+held_after_message m from (Prepare ballot first) new said h = held_as new (record m { accepting = after_prepare m.accepting ballot }) h.2
+held_after_message m from (Promise p) new said h = with_its_round new m.accepting _ _ (held_as new _ h.0) (promised_round m from p)
+held_after_message m from (Nack n) new said h = held_as new _ h.0
+held_after_message m from (Accept v) new said h = held_as new (record m { accepting = after_accept m.accepting v }) h.0
+held_after_message m from (Accepted v) new said h = held_after_news m v.command h.0 h.1 [] new said h.3
+held_after_message m from (Ask slot) new said h = held_as new m h.0
+held_after_message m from (Decided slot command) new said h = held_after_news m command h.0 h.1 _ new said h.3
+
+held_after_envelope : (m : Mind) (e : Envelope) (b : Bool) (new : Mind) (said : Response) → TakesEnvelope m e b new said
+    → HoldsRecords new (accepting_if m e b) m.proposing.round
+held_after_envelope m e false new said h = held_as new m h.0
+held_after_envelope m e true new said h = held_after_message m e.from e.message new said h
+
+held_after : (m : Mind) (i : Input) (new : Mind) (said : Response) → Takes m i new said
+    → HoldsRecords new (accepting_after m i) (round_after m i)
+held_after m (input.Submit client number op) new said h =
+    with_its_round new m.accepting _ _ (held_as new _ h.0) (submitted_round m (asked client number op))
+held_after m (input.Message e) new said h = held_after_envelope m e (concerns m.id m.nodes e) new said h
+held_after m input.Timeout new said h =
+    with_its_round new m.accepting _ _ (held_as new (record m { proposing = new.proposing }) h.2)
+    (ap (λ (p : Proposing). p.round) h.1.leaves)
+held_after m input.Tick new said h = held_as new m h.0
+
+pub taken_holds : (m : Mind) (i : Input) (new : Mind) (said : Response) (records : Records) (w : Write) → refuses m i ≡ None
+    → Takes m i new said → Writes m i w → InputFits i → RecordsHold records m.accepting m.proposing.round
+    → RecordsHold (records_after records w) new.accepting new.proposing.round
+taken_holds m i new said records w none takes writes fits both =
+    let held = held_after m i new said takes in
+    subst (λ (a : Accepting). RecordsHold (records_after records w) a new.proposing.round) (sym held.accepting_)
+    (subst (λ (n : ℕ). RecordsHold (records_after records w) (accepting_after m i) n) (sym held.round_)
+    (written_holds m i records w none writes fits both))

@@ -1,0 +1,12 @@
+pub mod Composition
+pub mod Executing
+pub mod Faults
+pub mod Inputs
+pub mod Loading
+pub mod Minds
+pub mod Nodes
+pub mod Outputs
+pub mod Protocol
+pub mod Sending
+pub mod States
+pub mod Taking

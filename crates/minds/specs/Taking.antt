@@ -1,0 +1,176 @@
+-- What an input makes of a node that takes it: the one write, what it holds then, and what it says.
+use Rattle.std.specs.Prelude.{◌≡◌, ℕ, ◌-◌, ◌&&◌, List, [], ◌++◌, ◌∷◌, Bool, true, false, Option, Some, None, not, if◌then◌else◌}
+use Rattle.byteorder.specs.Endian.{big_bytes}
+use Rattle.synod.specs.declared.vote.Vote.{Vote}
+use Rattle.stable.specs.declared.key.Key.TheVariants as key
+use Rattle.sessions.specs.Asked.{Asked}
+use Rattle.sessions.specs.declared.command.Command.{Command}
+use Rattle.acceptor.specs.declared.answer.Answer.{Answer}
+use Rattle.acceptor.specs.Accepting.{Write, AnswersPrepare, prepare_write, after_prepare, accept_answer, after_accept, IsAcceptWrite}
+use Rattle.learner.specs.Learning.{Learning, prefix, learnt_at, HearsVote, HearsDecided}
+use Rattle.learner.specs.declared.learned.Learned.{Learned}
+use Rattle.proposer.specs.Proposing.{Proposing, next_round, StartsCampaign, with_promised, after_nack, after_learned, is_led, proposes}
+use Rattle.proposer.specs.Proposing.{sends_again}
+use Rattle.proposer.specs.declared.outgoing.Outgoing.{Outgoing}
+use Rattle.wire.specs.Promises.{Promised}
+use Rattle.wire.specs.declared.frames.envelope.Envelope.{Envelope}
+use Rattle.wire.specs.declared.frames.message.Message.{Message}
+use Rattle.wire.specs.declared.frames.message.Message.TheVariants.{Prepare, Promise, Nack, Accept, Accepted, Ask, Decided}
+use Rattle.minds.specs.declared.input.Input.{Input}
+use Rattle.minds.specs.declared.input.Input.TheVariants as input
+use Rattle.minds.specs.declared.outputs.Executed.{Executed}
+use Rattle.minds.specs.Composition.{StandsForMore, RepliesToMore}
+use Rattle.minds.specs.Executing.{Executing, executed, commands}
+use Rattle.minds.specs.Inputs.{concerns}
+use Rattle.minds.specs.Minds.{Mind, position, asked, waits}
+use Rattle.minds.specs.Outputs.{Response, sent, silence}
+use Rattle.minds.specs.Sending.{envelopes_of, envelopes, answer_sends, decided_sends, ask_sends, ask_others}
+
+-- ---- the one write that an input makes, if it makes one
+abbrev pub WritesOnMessage : Mind → Message → Write → Type 0
+WritesOnMessage m (Prepare ballot first) write = write ≡ prepare_write m.accepting ballot
+WritesOnMessage m (Promise p) write = write ≡ None
+WritesOnMessage m (Nack n) write = write ≡ None
+WritesOnMessage m (Accept v) write = IsAcceptWrite m.accepting v write
+WritesOnMessage m (Accepted v) write = write ≡ None
+WritesOnMessage m (Ask slot) write = write ≡ None
+WritesOnMessage m (Decided slot command) write = write ≡ None
+
+abbrev pub WritesOnEnvelope : Mind → Envelope → Bool → Write → Type 0
+WritesOnEnvelope m e false write = write ≡ None
+WritesOnEnvelope m e true write = WritesOnMessage m e.message write
+
+abbrev pub Writes : Mind → Input → Write → Type 0
+Writes m (input.Submit client number op) write = write ≡ None
+Writes m (input.Message e) write = WritesOnEnvelope m e (concerns m.id m.nodes e) write
+Writes m input.Timeout write = write ≡ Some (key.Round, big_bytes 8 (next_round m.proposing))
+Writes m input.Tick write = write ≡ None
+
+-- ---- a proposer's part
+-- what a node holds and says where its proposer comes to this, and sends this
+abbrev pub with_proposer : Mind → Proposing × List Outgoing → Mind
+with_proposer m p = record m { proposing = p.0 }
+
+abbrev pub proposer_sends : Mind → Proposing × List Outgoing → List Envelope
+proposer_sends m p = envelopes m.id m.nodes p.1
+
+-- the proposer proposes what it may
+abbrev pub proposed : Proposing → Learning → Proposing × List Outgoing
+proposed p l = proposes p p.campaign l
+
+-- a campaign begins to lead
+abbrev pub begins_to_lead : Proposing → Proposing → Bool
+begins_to_lead old new = not (is_led old.campaign) && is_led new.campaign
+
+-- a promise is counted; where its campaign begins to lead by it, the proposer proposes
+abbrev pub after_counting : Proposing → Proposing → Learning → Proposing × List Outgoing
+after_counting old new l = if begins_to_lead old new then proposed new l else (new, [])
+
+abbrev pub after_promise : Mind → ℕ → Promised → Proposing × List Outgoing
+after_promise m from p = after_counting m.proposing (with_promised m.proposing from p) m.learning
+
+-- a request waits from now on, and the proposer proposes
+abbrev pub with_request : Proposing → Asked → Proposing
+with_request p r = record p { waiting = p.waiting ++ r ∷ [] }
+
+abbrev pub after_submit : Mind → Asked → Proposing × List Outgoing
+after_submit m r = if waits m r.client r.number then (m.proposing, []) else proposed (with_request m.proposing r) m.learning
+
+-- ---- a command is newly learnt
+-- the machine and the requests that wait, where these replies are there
+abbrev pub executing_of : Mind → List Executed → Executing
+executing_of m replies = record { machine = m.machine; waiting = m.proposing.waiting; replies = replies }
+
+abbrev pub with_executing : Mind → Executing → Mind
+with_executing m e = record m { machine = e.machine; proposing = record m.proposing { waiting = e.waiting } }
+
+-- what is learnt, from a slot to the position
+abbrev pub learnt_from : Mind → ℕ → List Command
+learnt_from m slot = commands m.learning.learnt slot (position m - slot)
+
+-- what is learnt by now is executed, from the position before on
+abbrev pub news : Mind → Learning → List Command
+news m l = commands l.learnt (position m) (prefix l - position m)
+
+abbrev pub execution : Mind → Learning → Executing
+execution m l = executed (executing_of m []) (position m) (news m l)
+
+-- no proposal for the slot is open any more, and no request that was executed waits
+abbrev pub proposer_of : Mind → ℕ → Executing → Proposing
+proposer_of m slot e = record (after_learned m.proposing slot) { waiting = e.waiting }
+
+-- the proposer proposes then
+abbrev pub after_news : Mind → ℕ → Learning → Proposing × List Outgoing
+after_news m slot l = proposed (proposer_of m slot (execution m l)) l
+
+-- what a node makes of it: `asks` is what it sends last
+pub record Learns (old : Mind) (slot : ℕ) (c : Command) (l : Learning) (asks : List Envelope) (new : Mind) (said : Response) : Type 0
+  where
+    pub leaves : new ≡ record old {
+      learning = l;
+      proposing = (after_news old slot l).0;
+      machine = (execution old l).machine;
+    }
+    pub says : said ≡ record {
+      learnt = Some (record { slot = slot; command = c });
+      replies = (execution old l).replies;
+      sends = proposer_sends old (after_news old slot l) ++ asks;
+    }
+    -- what that is to each list of commands that its machine stands for
+    pub stands : StandsForMore old.machine new.machine (news old l)
+    pub replies : RepliesToMore old.machine (position old) (news old l) said.replies
+
+-- a learner has heard some news, by which a slot is newly learnt or none is
+abbrev pub Hears : Mind → Command → Option Learned → Learning → List Envelope → Mind → Response → Type 0
+Hears old c None l asks new said = (new ≡ record old { learning = l }) × (said ≡ silence)
+Hears old c (Some learned) l asks new said = Learns old learned.slot c l asks new said
+
+-- a node that has learnt a slot from another asks that one for the next, last
+abbrev pub HearsOfDecided : Mind → ℕ → ℕ → Command → Mind → Response → Type 0
+HearsOfDecided old from slot c new said =
+    (learned : Option Learned) × (l : Learning) × HearsDecided old.learning slot c learned l
+    × Hears old c learned l (ask_sends old.id from (prefix l)) new said
+
+abbrev pub HearsOfVote : Mind → ℕ → Vote Command → Mind → Response → Type 0
+HearsOfVote old from v new said =
+    (learned : Option Learned) × (l : Learning) × HearsVote old.learning from v learned l
+    × Hears old v.command learned l [] new said
+
+-- ---- what an input makes of a node, and what the node says
+abbrev pub TakesMessage : Mind → ℕ → Message → Mind → Response → Type 0
+TakesMessage old from (Prepare ballot first) new said =
+    (answer : Answer) × AnswersPrepare old.accepting ballot first answer
+    × (new ≡ record old { accepting = after_prepare old.accepting ballot })
+    × (said ≡ sent (answer_sends old.id old.nodes from answer))
+TakesMessage old from (Promise p) new said =
+    (new ≡ with_proposer old (after_promise old from p)) × (said ≡ sent (proposer_sends old (after_promise old from p)))
+TakesMessage old from (Nack n) new said =
+    (new ≡ record old { proposing = after_nack old.proposing n }) × (said ≡ silence)
+TakesMessage old from (Accept v) new said =
+    (new ≡ record old { accepting = after_accept old.accepting v })
+    × (said ≡ sent (answer_sends old.id old.nodes from (accept_answer old.accepting v)))
+TakesMessage old from (Accepted v) new said = HearsOfVote old from v new said
+TakesMessage old from (Ask slot) new said =
+    (new ≡ old) × (said ≡ sent (decided_sends old.id from slot (learnt_at old.learning slot)))
+TakesMessage old from (Decided slot command) new said = HearsOfDecided old from slot command new said
+
+-- an envelope that doesn't concern the node is ignored
+abbrev pub TakesEnvelope : Mind → Envelope → Bool → Mind → Response → Type 0
+TakesEnvelope old e false new said = (new ≡ old) × (said ≡ silence)
+TakesEnvelope old e true new said = TakesMessage old e.from e.message new said
+
+-- a campaign begins, and its prepares are sent
+abbrev pub TakesTimeout : Mind → Mind → Response → Type 0
+TakesTimeout old new said =
+    (prepare : Outgoing) × StartsCampaign old.proposing (position old) new.proposing prepare
+    × (new ≡ record old { proposing = new.proposing }) × (said ≡ sent (envelopes_of old.id old.nodes prepare))
+
+abbrev pub Takes : Mind → Input → Mind → Response → Type 0
+Takes old (input.Submit client number op) new said =
+    (new ≡ with_proposer old (after_submit old (asked client number op)))
+    × (said ≡ sent (proposer_sends old (after_submit old (asked client number op))))
+Takes old (input.Message e) new said = TakesEnvelope old e (concerns old.id old.nodes e) new said
+Takes old input.Timeout new said = TakesTimeout old new said
+Takes old input.Tick new said =
+    (new ≡ old)
+    × (said ≡ sent (envelopes old.id old.nodes (sends_again old.proposing.campaign) ++ ask_others old.id old.nodes (position old)))

@@ -1,0 +1,48 @@
+//! What holds of every node. Nothing runs.
+
+ghost use Rattle.std.specs.Prelude.{◌≡◌, ◌⊎◌, ◌<◌, ◌≤◌, ℕ, List, [], Some, None, All, Result, IfOk, length, slice_get};
+ghost use Rattle.synod.specs.declared.slot.TheConstants.{SLOTS};
+ghost use Rattle.sessions.specs.declared.command.Command.{Command};
+ghost use Rattle.minds.specs.Composition.{IsMeaningOf, executed_from};
+ghost use Rattle.minds.specs.declared.fault.NodeFault.{NodeFault};
+ghost use Rattle.minds.specs.declared.input.Input.{Input};
+ghost use Rattle.minds.specs.declared.outputs.LogEntry.{LogEntry};
+ghost use Rattle.minds.specs.Loading.{IsFresh, IsMember};
+ghost use Rattle.minds.specs.Minds.{Mind, learnt_in, position};
+ghost use Rattle.minds.specs.Nodes.{NodeState, NodeSteps};
+ghost use Rattle.minds.specs.Outputs.{Response};
+ghost use Rattle.minds.specs.Protocol.{InputFits};
+ghost use Rattle.minds.specs.Sending.{IsBetween};
+ghost use Rattle.minds.specs.Taking.{Takes};
+
+use stable::Stable;
+
+/// Of the commands of which a node is the meaning there are as many as its position says, and those behind its first are learnt at
+/// their slots. A node that has just loaded its records has learnt nothing, and is the meaning of no command.
+pub fn meanings_are_of_learnt_slots()
+    ensures as_many { (base : List Command) (m : Mind) → IsMeaningOf base m → length (executed_from base m) ≡ position m }
+    ensures learnt { (base : List Command) (m : Mind) → IsMeaningOf base m → (slot : ℕ) (c : Command) → length base ≤ slot
+        → slice_get (executed_from base m) slot ≡ Some c → learnt_in m slot ≡ Some c }
+    ensures fresh { (id nodes : ℕ) (m : Mind) → IsFresh id nodes m
+        → IsMeaningOf [] m × ((slot : ℕ) → learnt_in m slot ≡ None) }
+{}
+
+/// A node of a run stays that node, whatever comes to it, and what it sends goes between nodes of the run.
+pub fn members_stay<S: Stable>()
+    ensures stays { (id nodes : ℕ) (old new : NodeState S) (input : Input) (result : Result Response NodeFault)
+        → NodeSteps S.Stable old input result new → IsMember id nodes old → IsMember id nodes new }
+    ensures sends { (id nodes : ℕ) (old new : NodeState S) (input : Input) (result : Result Response NodeFault)
+        → NodeSteps S.Stable old input result new → IsMember id nodes old → id < nodes
+        → IfOk result (λ said. All (IsBetween nodes) said.sends) }
+{}
+
+/// What a node newly learns it tells, and it tells nothing else as learnt. Where what comes fits, that is at a slot of the log.
+pub fn learnt_is_told()
+    ensures told { (old new : Mind) (input : Input) (said : Response) → Takes old input new said
+        → (slot : ℕ) (c : Command) → learnt_in new slot ≡ Some c
+        → (learnt_in old slot ≡ Some c) ⊎ (said.learnt ≡ Some (record { slot = slot; command = c })) }
+    ensures news { (old new : Mind) (input : Input) (said : Response) → Takes old input new said
+        → (e : LogEntry) → said.learnt ≡ Some e → (learnt_in new e.slot ≡ Some e.command) × (learnt_in old e.slot ≡ None) }
+    ensures in_log { (old new : Mind) (input : Input) (said : Response) → InputFits input → Takes old input new said
+        → (e : LogEntry) → said.learnt ≡ Some e → e.slot < SLOTS }
+{}

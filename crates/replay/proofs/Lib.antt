@@ -1,0 +1,3 @@
+pub mod LineByLine
+pub mod NodeCount
+pub mod Running

@@ -1,0 +1,32 @@
+-- The numbers under which it is told why a run ended.
+use Rattle.std.specs.Prelude.{ℕ}
+use Rattle.history.specs.declared.fault.WorldFault.{WorldFault}
+use Rattle.history.specs.declared.fault.WorldFault.TheVariants as world_fault
+use Rattle.schedule.specs.Codes.{code_of}
+use Rattle.schedule.specs.declared.fault.ParseFault.{ParseFault}
+use Rattle.schedule.specs.declared.fault.ParseFault.TheVariants as parse_fault
+use Rattle.replay.specs.declared.replay_fault.ReplayCause.{ReplayCause}
+use Rattle.replay.specs.declared.replay_fault.ReplayFault.{ReplayFault}
+use Rattle.replay.specs.declared.replay_fault.ReplayCause.TheVariants.{Schedule, NoSuchMessage, NoSuchNode, FlushLimit, Memory, NotEmpty}
+
+-- the number of a cause
+abbrev pub cause_code : ReplayCause → ℕ
+cause_code (Schedule fault) = code_of fault
+cause_code NoSuchMessage = 51
+cause_code NoSuchNode = 52
+cause_code FlushLimit = 53
+cause_code Memory = 54
+cause_code NotEmpty = 55
+
+-- a world's fault, as the cause
+abbrev pub cause_of : WorldFault → ReplayCause
+cause_of world_fault.NoSuchMessage = NoSuchMessage
+cause_of world_fault.NoSuchNode = NoSuchNode
+cause_of world_fault.FlushLimit = FlushLimit
+cause_of world_fault.Memory = Memory
+cause_of world_fault.NotEmpty = NotEmpty
+
+-- what is told of a schedule that was not read
+abbrev pub fault_of : ParseFault → ReplayFault
+fault_of (parse_fault.Line at) = record { line = at.line; cause = Schedule at.fault }
+fault_of (parse_fault.Memory line) = record { line = line; cause = Memory }

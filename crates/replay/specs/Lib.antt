@@ -1,0 +1,4 @@
+pub mod Causes
+pub mod LineByLine
+pub mod Runs
+pub mod Transcripts

@@ -1,8 +1,0 @@
-use Rattle.std.proofs.Common.{◌≡◌, ◌++◌, drop, flat_map}
-use Rattle.schedule.specs.Transcripts.{answer_line}
-use Rattle.schedule.proofs.print.print_answers.Given as goal
-
--- what is written, and the lines that are left, make the whole
-abbrev pub invariant-loop-answered : goal.invariant-loop-answered
-invariant-loop-answered l = l.text.items ++ flat_map answer_line (drop l.answered-index l.answers) ≡ l.initial.text.items
-    ++ flat_map answer_line l.answers

@@ -1,6 +1,0 @@
-use Rattle.stable.specs.Storages.{scripted}
-use Rattle.world.proofs.Tellings.{steps_tell}
-use Rattle.world.proofs.explaining.steps_tell.Goals as goal
-
-pub returns : goal.returns
-returns g c = steps_tell {S = g.row.S.Denot} (scripted g.S.Stable)
