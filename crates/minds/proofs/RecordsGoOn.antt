@@ -4,7 +4,7 @@ use Rattle.std.proofs.Common.{refl, sym, ap, ◌∙◌, subst, arith}
 use Rattle.std.proofs.lemmas.Bool.{cond_both, leb-false}
 use Rattle.byteorder.specs.Endian.{big_bytes}
 use Rattle.stable.specs.Records.{Records}
-use Rattle.acceptor.specs.Accepting.{Accepting, Write, records_after, after_prepare, after_accept}
+use Rattle.acceptor.specs.Accepting.{Accepting, Write, records_after, after_prepare}
 use Rattle.acceptor.proofs.RecordLemmas.{prepare_kept, accept_kept, RecordsSay-round, prepare_leaves_round, accept_leaves_round}
 use Rattle.learner.specs.Learning.{Learning, prefix}
 use Rattle.learner.specs.declared.learned.Learned.{Learned}
@@ -17,7 +17,7 @@ use Rattle.wire.specs.FrameSpelling.{MessageFits}
 use Rattle.wire.specs.RecordForms.{IsRoundRecord}
 use Rattle.wire.specs.declared.frames.envelope.Envelope.{Envelope}
 use Rattle.wire.specs.declared.frames.message.Message.{Message}
-use Rattle.wire.specs.declared.frames.message.Message.TheVariants.{Prepare, Promise, Nack, Accept, Accepted, Ask, Decided}
+use Rattle.wire.specs.declared.frames.message.Message.TheVariants.{Prepare, Promise, Accept, Accepted, Decided}
 use Rattle.minds.specs.declared.fault.NodeFault.TheVariants as fault
 use Rattle.minds.specs.declared.input.Input.{Input}
 use Rattle.minds.specs.declared.input.Input.TheVariants as input
@@ -41,16 +41,12 @@ message_holds m (Prepare ballot first) records w e fits both =
       proposer = subst (λ (o : Option (List ℕ)). SaysRound o m.proposing.round)
           (sym (prepare_leaves_round records m.accepting ballot)) both.proposer;
     })
-message_holds m (Promise p) records w e fits both = no_write records w m.accepting m.proposing.round e both
-message_holds m (Nack n) records w e fits both = no_write records w m.accepting m.proposing.round e both
 message_holds m (Accept v) records w is fits both = record {
   acceptor = accept_kept records m.accepting v w (record { ballot = fits.ballot; command = fits.command }) is both.acceptor;
   proposer = subst (λ (o : Option (List ℕ)). SaysRound o m.proposing.round)
       (sym (accept_leaves_round records m.accepting v w is)) both.proposer;
 }
-message_holds m (Accepted v) records w e fits both = no_write records w m.accepting m.proposing.round e both
-message_holds m (Ask slot) records w e fits both = no_write records w m.accepting m.proposing.round e both
-message_holds m (Decided slot command) records w e fits both = no_write records w m.accepting m.proposing.round e both
+message_holds m other records w e fits both = no_write records w m.accepting m.proposing.round e both
 
 envelope_holds : (m : Mind) (e : Envelope) (b : Bool) (records : Records) (w : Write) → WritesOnEnvelope m e b w → MessageFits 7 e.message
     → RecordsHold records m.accepting m.proposing.round → RecordsHold (records_after records w) (accepting_if m e b) m.proposing.round
@@ -132,13 +128,11 @@ held_after_news m c (Some n) l asks new said h =
 
 held_after_message : (m : Mind) (from : ℕ) (message : Message) (new : Mind) (said : Response) → TakesMessage m from message new said
     → HoldsRecords new (accepting_on m message) m.proposing.round
-held_after_message m from (Prepare ballot first) new said h = held_as new (record m { accepting = after_prepare m.accepting ballot }) h.2
+held_after_message m from (Prepare ballot first) new said h = held_as new _ h.2
 held_after_message m from (Promise p) new said h = with_its_round new m.accepting _ _ (held_as new _ h.0) (promised_round m from p)
-held_after_message m from (Nack n) new said h = held_as new _ h.0
-held_after_message m from (Accept v) new said h = held_as new (record m { accepting = after_accept m.accepting v }) h.0
 held_after_message m from (Accepted v) new said h = held_after_news m v.command h.0 h.1 [] new said h.3
-held_after_message m from (Ask slot) new said h = held_as new m h.0
 held_after_message m from (Decided slot command) new said h = held_after_news m command h.0 h.1 _ new said h.3
+held_after_message m from other new said h = held_as new _ h.0
 
 held_after_envelope : (m : Mind) (e : Envelope) (b : Bool) (new : Mind) (said : Response) → TakesEnvelope m e b new said
     → HoldsRecords new (accepting_if m e b) m.proposing.round
