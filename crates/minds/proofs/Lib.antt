@@ -2,6 +2,8 @@
 pub mod Commands
 pub mod Executions
 pub mod Replying
+-- what a node's learner hears
+pub mod Hearings
 -- what a node is the meaning of
 pub mod Meanings
 pub mod News
