@@ -13,15 +13,17 @@ use Rattle.learner.specs.declared.learned.Learned.{Learned}
 use Rattle.learner.specs.Learning.{Learning, Heard, HearsVote, HearsDecided, told_too, is_same_ballot, with_heard, with_learnt}
 use Rattle.learner.specs.Learning.HearsVote.{ignores, hears, learns}
 use Rattle.learner.specs.Learning.HearsDecided.{ignores_decided, learns_decided}
-use Rattle.wire.specs.Promises.{Promised, Refused}
 use Rattle.wire.specs.declared.frames.envelope.Envelope.{Envelope}
-use Rattle.wire.specs.declared.frames.message.Message.{Message}
-use Rattle.wire.specs.declared.frames.message.Message.TheVariants.{Prepare, Promise, Nack, Accept, Accepted, Ask, Decided}
+use Rattle.wire.specs.declared.frames.message.Message.TheVariants.{Accepted}
+use Rattle.minds.specs.declared.input.Input.{Input}
 use Rattle.minds.specs.declared.input.Input.TheVariants as input
-use Rattle.minds.specs.Inputs.{concerns}
+use Rattle.minds.specs.Inputs.{role_of, concerns}
+use Rattle.minds.specs.Inputs.Role.{Learner}
 use Rattle.minds.specs.Minds.{Mind}
 use Rattle.minds.specs.Outputs.{Response}
 use Rattle.minds.specs.Taking.{Takes, TakesEnvelope, TakesMessage, Hears}
+use Rattle.minds.proofs.Hearings.{Hearing, learns_nothing, heard_of}
+use Rattle.minds.proofs.Hearings.Hearing.{of_vote, of_decision, of_nothing}
 use Rattle.history.proofs.Leading.{members_counted}
 
 -- what a learner knows of the slot when the members below k have told of their votes: each of these was heard, and nobody else, and
@@ -199,87 +201,39 @@ hears_of_vote old from v new said (learned, l, heard, k) = (
 )
 
 -- ---- its learner is as it was
--- where the message asks for a promise, promises, refuses, asks for a vote, or asks for what is learnt
-pub same_by_prepare : (old : Mind) (from : ℕ) (ballot : Ballot) (first : ℕ) (new : Mind) (said : Response)
-    → TakesMessage old from (Prepare ballot first) new said → new.learning ≡ old.learning
-same_by_prepare old from ballot first new said h = ap learner_of h.2
-
-pub same_by_promise : (old : Mind) (from : ℕ) (p : Promised) (new : Mind) (said : Response)
-    → TakesMessage old from (Promise p) new said → new.learning ≡ old.learning
-same_by_promise old from p new said h = ap learner_of h.0
-
-pub same_by_nack : (old : Mind) (from : ℕ) (n : Refused) (new : Mind) (said : Response)
-    → TakesMessage old from (Nack n) new said → new.learning ≡ old.learning
-same_by_nack old from n new said h = ap learner_of h.0
-
-pub same_by_accept : (old : Mind) (from : ℕ) (v : Vote Command) (new : Mind) (said : Response)
-    → TakesMessage old from (Accept v) new said → new.learning ≡ old.learning
-same_by_accept old from v new said h = ap learner_of h.0
-
-pub same_by_ask : (old : Mind) (from slot : ℕ) (new : Mind) (said : Response)
-    → TakesMessage old from (Ask slot) new said → new.learning ≡ old.learning
-same_by_ask old from slot new said h = ap learner_of h.0
-
--- the message is no news of a vote and tells of no slot that is decided
-abbrev pub is_no_news : Message → Bool
-is_no_news (Prepare ballot first) = true
-is_no_news (Promise p) = true
-is_no_news (Nack n) = true
-is_no_news (Accept v) = true
-is_no_news (Accepted v) = false
-is_no_news (Ask slot) = true
-is_no_news (Decided slot c) = false
-
-same_by_message : (old : Mind) (from : ℕ) (message : Message) (new : Mind) (said : Response) → is_no_news message ≡ true
-    → TakesMessage old from message new said → new.learning ≡ old.learning
-same_by_message old from (Prepare ballot first) new said e h = same_by_prepare old from ballot first new said h
-same_by_message old from (Promise p) new said e h = same_by_promise old from p new said h
-same_by_message old from (Nack n) new said e h = same_by_nack old from n new said h
-same_by_message old from (Accept v) new said e h = same_by_accept old from v new said h
-same_by_message old from (Accepted v) new said e h = absurd (cc)
-same_by_message old from (Ask slot) new said e h = same_by_ask old from slot new said h
-same_by_message old from (Decided slot c) new said e h = absurd (cc)
-
-same_by_envelope : (old : Mind) (e : Envelope) (b : Bool) (new : Mind) (said : Response) → is_no_news e.message ≡ true
+-- where the message is for another role
+same_by_envelope : (old : Mind) (e : Envelope) (b : Bool) (new : Mind) (said : Response) → role_of e.message ≢ Learner
     → TakesEnvelope old e b new said → new.learning ≡ old.learning
-same_by_envelope old e false new said is h = ap learner_of h.0
-same_by_envelope old e true new said is h = same_by_message old e.from e.message new said is h
+same_by_envelope old e false new said other h = ap learner_of h.0
+same_by_envelope old e true new said other h = (learns_nothing old new said e.from e.message other h).learner
 
-pub same_learner : (old : Mind) (e : Envelope) (new : Mind) (said : Response) → is_no_news e.message ≡ true
+pub same_learner : (old : Mind) (e : Envelope) (new : Mind) (said : Response) → role_of e.message ≢ Learner
     → Takes old (input.Message e) new said → new.learning ≡ old.learning
-same_learner old e new said is h = same_by_envelope old e (concerns old.id old.nodes e) new said is h
+same_learner old e new said other h = same_by_envelope old e (concerns old.id old.nodes e) new said other h
 
 -- ---- whatever message comes
 -- a fact about learners that news doesn't end
 module _ (P : Learning → Type 0) (old : Mind) (here : P old.learning)
     (votes : (from : ℕ) (v : Vote Command) (learned : Option Learned) (l : Learning) → HearsVote old.learning from v learned l → P l)
     (decisions : (s : ℕ) (d : Command) (learned : Option Learned) (l : Learning) → HearsDecided old.learning s d learned l → P l) where
-  kept_as : (new : Learning) → new ≡ old.learning → P new
-  kept_as new e = subst P (sym e) here
-
-  kept_by_message : (from : ℕ) (message : Message) (new : Mind) (said : Response) → TakesMessage old from message new said → P new.learning
-  kept_by_message from (Prepare ballot first) new said h = kept_as new.learning (same_by_prepare old from ballot first new said h)
-  kept_by_message from (Promise p) new said h = kept_as new.learning (same_by_promise old from p new said h)
-  kept_by_message from (Nack n) new said h = kept_as new.learning (same_by_nack old from n new said h)
-  kept_by_message from (Accept v) new said h = kept_as new.learning (same_by_accept old from v new said h)
-  kept_by_message from (Accepted v) new said (learned, l, heard, k) =
+  kept_by_hearing : (i : Input) (new : Mind) (said : Response) → Hearing old i new said → P new.learning
+  kept_by_hearing i new said (of_vote from to v is (learned, l, heard, k)) =
       subst P (sym (heard_learner old v.command learned l _ new said k)) (votes from v learned l heard)
-  kept_by_message from (Ask slot) new said h = kept_as new.learning (same_by_ask old from slot new said h)
-  kept_by_message from (Decided slot c) new said (learned, l, heard, k) =
+  kept_by_hearing i new said (of_decision from to slot c is (learned, l, heard, k)) =
       subst P (sym (heard_learner old c learned l _ new said k)) (decisions slot c learned l heard)
+  kept_by_hearing i new said (of_nothing none) = subst P (sym none.learner) here
 
-  kept_by_envelope : (e : Envelope) (b : Bool) (new : Mind) (said : Response) → TakesEnvelope old e b new said → P new.learning
-  kept_by_envelope e false new said h = kept_as new.learning (ap learner_of h.0)
-  kept_by_envelope e true new said h = kept_by_message e.from e.message new said h
+  kept : (e : Envelope) (new : Mind) (said : Response) → Takes old (input.Message e) new said → P new.learning
+  kept e new said takes = kept_by_hearing (input.Message e) new said (heard_of old new said (input.Message e) takes)
 
 -- what is learnt stays learnt
 pub stays_learnt : (m : Mind) (e : Envelope) (new : Mind) (said : Response) (slot : ℕ) (c : Command) → Takes m (input.Message e) new said
     → m.learning.learnt slot ≡ Some c → new.learning.learnt slot ≡ Some c
 stays_learnt m e new said slot c takes is =
-    kept_by_envelope (λ (l : Learning). l.learnt slot ≡ Some c) m is
+    kept (λ (l : Learning). l.learnt slot ≡ Some c) m is
     (λ from v learned l heard. vote_keeps m.learning from v learned l slot c heard is)
     (λ s d learned l heard. decided_keeps m.learning s d learned l slot c heard is)
-    e (concerns m.id m.nodes e) new said takes
+    e new said takes
 
 -- it has as many nodes
 vote_number : (old : Learning) (from : ℕ) (v : Vote Command) (learned : Option Learned) (l : Learning)
@@ -296,7 +250,7 @@ decided_number old s d learned l (learns_decided open' some same) = ap (λ (x : 
 pub same_number : (m : Mind) (e : Envelope) (new : Mind) (said : Response) → Takes m (input.Message e) new said
     → new.learning.nodes ≡ m.learning.nodes
 same_number m e new said takes =
-    kept_by_envelope (λ (l : Learning). l.nodes ≡ m.learning.nodes) m refl
+    kept (λ (l : Learning). l.nodes ≡ m.learning.nodes) m refl
     (λ from v learned l heard. vote_number m.learning from v learned l heard)
     (λ s d learned l heard. decided_number m.learning s d learned l heard)
-    e (concerns m.id m.nodes e) new said takes
+    e new said takes

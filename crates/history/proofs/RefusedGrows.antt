@@ -14,7 +14,7 @@ use Rattle.proposer.proofs.Votes.{in_cons, in_head, in_none}
 use Rattle.wire.specs.Promises.{Refused}
 use Rattle.wire.specs.declared.frames.envelope.Envelope.{Envelope}
 use Rattle.wire.specs.declared.frames.message.Message.{Message}
-use Rattle.wire.specs.declared.frames.message.Message.TheVariants.{Prepare, Promise, Nack, Accept, Accepted, Ask, Decided}
+use Rattle.wire.specs.declared.frames.message.Message.TheVariants.{Prepare, Promise, Nack, Accepted, Decided}
 use Rattle.minds.specs.Inputs.{concerns, names_run}
 use Rattle.minds.specs.Minds.{Mind, asked, waits}
 use Rattle.minds.specs.Outputs.{Response}
@@ -92,10 +92,9 @@ message_grows old from (Nack n) new said h =
     let is : refused_of new ≡ max (refused_of old) n.promised.round = ap (λ (m : Mind). refused_of m) h.0 in
     let round : new.proposing.round ≡ old.proposing.round = ap (λ (m : Mind). m.proposing.round) h.0 in
     record { own = ap (λ (m : Mind). m.id) h.0; refused_ = omega (arith, is); round_ = omega (arith, round) }
-message_grows old from (Accept v) new said h = with_grows old new _ h.0 refl (same_rounds old.proposing)
 message_grows old from (Accepted v) new said (learned, l, heard, k) = hears_grows old v.command learned l _ new said k
-message_grows old from (Ask slot) new said h = with_grows old new _ h.0 refl (same_rounds old.proposing)
 message_grows old from (Decided slot c) new said (learned, l, heard, k) = hears_grows old c learned l _ new said k
+message_grows old from other new said h = with_grows old new _ h.0 refl (same_rounds old.proposing)
 
 envelope_grows : (old : Mind) (e : Envelope) (b : Bool) (new : Mind) (said : Response) → TakesEnvelope old e b new said → Grows old new
 envelope_grows old e false new said h = with_grows old new _ h.0 refl (same_rounds old.proposing)
