@@ -18,13 +18,14 @@ is_short (Append addition) = true
 is_short (Remove id) = true
 
 -- ---- each message is for one role of a node
+-- an acceptor is asked for a promise or a vote, a proposer is answered, a learner hears what was voted or decided, and the log is
+-- asked what was decided
 pub data Role : Type 0 where
   Acceptor : Role
   Proposer : Role
   Learner : Role
   Log : Role
 
--- who is asked for a promise or a vote, who is answered, who hears what was voted or decided, and what is asked for a decision
 abbrev pub role_of : Message → Role
 role_of (Prepare ballot first) = Acceptor
 role_of (Promise p) = Proposer
