@@ -12,7 +12,6 @@ use Rattle.acceptor.specs.Accepting.{Accepting, refusing, unless_refused, nack, 
 use Rattle.acceptor.specs.declared.answer.Answer.{Answer}
 use Rattle.acceptor.specs.declared.answer.Answer.TheVariants as answer
 use Rattle.wire.specs.declared.frames.envelope.Envelope.{Envelope}
-use Rattle.wire.specs.declared.frames.message.Message.{Message}
 use Rattle.wire.specs.declared.frames.message.Message.TheVariants.{Accept, Accepted}
 use Rattle.minds.specs.Loading.{IsMindOf}
 use Rattle.minds.specs.Minds.{Mind, promised}
