@@ -2,12 +2,9 @@
 use Rattle.std.proofs.Common.{◌≡◌, ℕ, Bool, true, false, List, Option, Some, None, Result, Ok, Err, IfSome, IfOk}
 use Rattle.std.proofs.Common.{IfErr, MatchBool, refl, sym, ap, ◌∙◌, subst}
 use Rattle.std.proofs.lemmas.Bool.{cond_both}
-use Rattle.synod.specs.declared.vote.Vote.{Vote}
 use Rattle.stable.specs.declared.stable.Stable.{Ghosts}
 use Rattle.sessions.specs.declared.command.Command.{Command}
-use Rattle.learner.specs.Learning.{Learning, HearsVote, HearsDecided}
-use Rattle.learner.specs.Learning.HearsVote.{ignores, hears, learns}
-use Rattle.learner.specs.Learning.HearsDecided.{ignores_decided, learns_decided}
+use Rattle.learner.specs.Learning.{Learning}
 use Rattle.learner.specs.declared.learned.Learned.{Learned}
 use Rattle.proposer.specs.Proposing.{Proposing, with_promised}
 use Rattle.proposer.specs.declared.outgoing.Outgoing.{Outgoing}
@@ -26,6 +23,7 @@ use Rattle.minds.specs.Outputs.{Response}
 use Rattle.minds.specs.Taking.{Takes, TakesEnvelope, TakesMessage, Hears, after_counting, with_request, proposer_of, proposed}
 use Rattle.minds.specs.Taking.{execution}
 use Rattle.minds.proofs.Campaigns.{KeepsRest, proposes_keeps, counting_keeps}
+use Rattle.minds.proofs.Keeping.{vote_keeps, decided_keeps}
 
 -- ---- a proposer
 pub record KeepsOwn (old new : Proposing) : Type 0 where
@@ -63,17 +61,6 @@ module _ (id nodes : ℕ) (old : Mind) (is : IsMindOf id nodes old) where
       changes new _ k.leaves refl refl e
       (then_own old.proposing p (proposed p l) (record { id_ = refl; nodes_ = refl }) (proposes_keeps p p.campaign l))
 
-  vote_nodes : (l : Learning) (from : ℕ) (v : Vote Command) (learned : Option Learned) → HearsVote old.learning from v learned l
-      → l.nodes ≡ old.learning.nodes
-  vote_nodes l from v learned (ignores never none same) = ap (λ (x : Learning). x.nodes) same
-  vote_nodes l from v learned (hears counts undecided none same) = ap (λ (x : Learning). x.nodes) same
-  vote_nodes l from v learned (learns counts decided some same) = ap (λ (x : Learning). x.nodes) same
-
-  decided_nodes : (l : Learning) (slot : ℕ) (c : Command) (learned : Option Learned) → HearsDecided old.learning slot c learned l
-      → l.nodes ≡ old.learning.nodes
-  decided_nodes l slot c learned (ignores_decided never none same) = ap (λ (x : Learning). x.nodes) same
-  decided_nodes l slot c learned (learns_decided opened some same) = ap (λ (x : Learning). x.nodes) same
-
   message_own : (from : ℕ) (message : Message) (new : Mind) (said : Response) → TakesMessage old from message new said
       → IsMindOf id nodes new
   message_own from (Prepare ballot first) new said k = changes new _ k.2 refl refl refl (own old.proposing)
@@ -82,9 +69,9 @@ module _ (id nodes : ℕ) (old : Mind) (is : IsMindOf id nodes old) where
       (after_counting old.proposing (with_promised old.proposing from p) old.learning) (record { id_ = refl; nodes_ = refl })
       (counting_keeps old.proposing (with_promised old.proposing from p) old.learning))
   message_own from (Accepted v) new said (learned, l, heard, k) =
-      learner_changes l learned v.command _ new said (vote_nodes l from v learned heard) k
+      learner_changes l learned v.command _ new said (vote_keeps old.learning l from v learned heard).nodes_ k
   message_own from (Decided slot c) new said (learned, l, heard, k) =
-      learner_changes l learned c _ new said (decided_nodes l slot c learned heard) k
+      learner_changes l learned c _ new said (decided_keeps old.learning l slot c learned heard).nodes_ k
   message_own from other new said k = changes new _ k.0 refl refl refl (record { id_ = refl; nodes_ = refl })
 
   envelope_own : (e : Envelope) (b : Bool) (new : Mind) (said : Response) → TakesEnvelope old e b new said → IsMindOf id nodes new
