@@ -1,27 +1,27 @@
 -- A node hears of a majority's votes for one command, and learns it.
 use Rattle.std.proofs.Common.{◌≡◌, ◌≢◌, ◌⊎◌, ℕ, suc, ◌<◌, ◌≤◌, ◌&&◌, inl, inr, List, length, nat_eq, Bool, true, false, Option, Some, None}
-use Rattle.std.proofs.Common.{AllPairs, Contains, refl, sym, ap, subst, ◌∙◌, arith}
+use Rattle.std.proofs.Common.{AllPairs, Contains, IsSome, refl, sym, ap, subst, ◌∙◌, arith}
 use Rattle.std.proofs.lemmas.Bool.{cond-true, cond-false, cases_lt, and_from, and_right, eq-eqb, ne_eqb}
 use Rattle.synod.specs.Majorities.{IsMajority, Majority, counted}
 use Rattle.synod.specs.declared.ballot.Ballot.{Ballot}
 use Rattle.synod.specs.declared.vote.Vote.{Vote}
 use Rattle.synod.proofs.Meeting.{tests_meet}
-use Rattle.synod.proofs.Puts.{put_cases, put_same}
+use Rattle.synod.proofs.Puts.{put_same}
 use Rattle.sessions.specs.Same.{same_command, same_command_Decides}
 use Rattle.sessions.specs.declared.command.Command.{Command}
 use Rattle.learner.specs.declared.learned.Learned.{Learned}
-use Rattle.learner.specs.Learning.{Learning, Heard, HearsVote, HearsDecided, told_too, is_same_ballot, with_heard, with_learnt}
+use Rattle.learner.specs.Learning.{Learning, Heard, HearsVote, told_too, is_same_ballot, with_heard}
 use Rattle.learner.specs.Learning.HearsVote.{ignores, hears, learns}
-use Rattle.learner.specs.Learning.HearsDecided.{ignores_decided, learns_decided}
-use Rattle.wire.specs.Promises.{Promised, Refused}
 use Rattle.wire.specs.declared.frames.envelope.Envelope.{Envelope}
-use Rattle.wire.specs.declared.frames.message.Message.{Message}
-use Rattle.wire.specs.declared.frames.message.Message.TheVariants.{Prepare, Promise, Nack, Accept, Accepted, Ask, Decided}
+use Rattle.wire.specs.declared.frames.message.Message.TheVariants.{Accepted}
 use Rattle.minds.specs.declared.input.Input.TheVariants as input
-use Rattle.minds.specs.Inputs.{concerns}
+use Rattle.minds.specs.Inputs.{role_of, concerns}
+use Rattle.minds.specs.Inputs.Role.{Learner}
 use Rattle.minds.specs.Minds.{Mind}
 use Rattle.minds.specs.Outputs.{Response}
-use Rattle.minds.specs.Taking.{Takes, TakesEnvelope, TakesMessage, Hears}
+use Rattle.minds.specs.Taking.{Takes, TakesEnvelope, TakesMessage}
+use Rattle.minds.proofs.Hearings.{learns_nothing}
+use Rattle.minds.proofs.Keeping.{KeepsLearnt, vote_keeps, heard_learner, takes_keeps}
 use Rattle.history.proofs.Leading.{members_counted}
 
 -- what a learner knows of the slot when the members below k have told of their votes: each of these was heard, and nobody else, and
@@ -121,32 +121,17 @@ module _ (l : Learning) (slot : ℕ) (ballot : Ballot) (c : Command) (members : 
   heard_cases learned new below (learns counts decided some same) h =
       inl (ap (λ (x : Learning). x.learnt slot) same ∙ put_same l.learnt slot (Some c))
 
--- ---- what is learnt stays learnt
-still_learnt : (l : Learning) (s slot : ℕ) (c d : Command) → l.learnt s ≡ None → l.learnt slot ≡ Some c
-    → (with_learnt l s d).learnt slot ≡ Some c
-still_learnt l s slot c d open' is =
-    put_cases (λ (o : Option Command). o ≡ Some c) l.learnt s (Some d) slot
-    (λ same. absurd (let clash : None ≡ Some c = sym open' ∙ ap l.learnt (sym same) ∙ is in cc)) (λ _. is)
-
-pub vote_keeps : (old : Learning) (from : ℕ) (v : Vote Command) (learned : Option Learned) (new : Learning) (slot : ℕ) (c : Command)
-    → HearsVote old from v learned new → old.learnt slot ≡ Some c → new.learnt slot ≡ Some c
-vote_keeps old from v learned new slot c (ignores never none same) is = ap (λ (l : Learning). l.learnt slot) same ∙ is
-vote_keeps old from v learned new slot c (hears counts few none same) is = ap (λ (l : Learning). l.learnt slot) same ∙ is
-vote_keeps old from v learned new slot c (learns counts decided some same) is =
-    ap (λ (l : Learning). l.learnt slot) same ∙ still_learnt old v.slot slot c v.command counts.in_time.unlearnt is
-
-pub decided_keeps : (old : Learning) (s : ℕ) (d : Command) (learned : Option Learned) (new : Learning) (slot : ℕ) (c : Command)
-    → HearsDecided old s d learned new → old.learnt slot ≡ Some c → new.learnt slot ≡ Some c
-decided_keeps old s d learned new slot c (ignores_decided never none same) is = ap (λ (l : Learning). l.learnt slot) same ∙ is
-decided_keeps old s d learned new slot c (learns_decided open' some same) is =
-    ap (λ (l : Learning). l.learnt slot) same ∙ still_learnt old s slot c d open'.unlearnt is
+-- what is learnt stays learnt
+still_learnt : (old new : Learning) (slot : ℕ) (c : Command) → KeepsLearnt old new → old.learnt slot ≡ Some c → new.learnt slot ≡ Some c
+still_learnt old new slot c keeps is = keeps.still slot (subst (λ (o : Option Command). IsSome o) (sym is) refl) ∙ is
 
 -- a member's telling
 pub heard_one : (l : Learning) (slot : ℕ) (ballot : Ballot) (c : Command) (members : List ℕ) (k : ℕ) (learned : Option Learned)
     (new : Learning) → HasHeard l slot ballot c members k → k < l.nodes
     → HearsVote l k (record { slot = slot; ballot = ballot; command = c }) learned new → HasHeard new slot ballot c members (suc k)
 heard_one l slot ballot c members k learned new h below hears' = elim h [
-  | inl learnt ↦ inl (vote_keeps l k (vote l slot ballot c members k) learned new slot c hears' learnt)
+  | inl learnt ↦
+      inl (still_learnt l new slot c (vote_keeps l new k (vote l slot ballot c members k) learned hears') learnt)
   | inr heard ↦ heard_cases l slot ballot c members k learned new below hears' heard
 ]
 
@@ -181,122 +166,31 @@ heard_all l slot ballot c members most pairs below h = elim h [
 ]
 
 -- ---- a node
-abbrev learner_of : Mind → Learning
-learner_of m = m.learning
-
--- its learner is the one that has heard the news
-heard_learner : (old : Mind) (c : Command) (learned : Option Learned) (l : Learning) (asks : List Envelope) (new : Mind) (said : Response)
-    → Hears old c learned l asks new said → new.learning ≡ l
-heard_learner old c None l asks new said h = ap learner_of h.0
-heard_learner old c (Some learned) l asks new said h = ap learner_of h.leaves
-
 -- where the message tells of a vote, it has heard of the vote
 pub hears_of_vote : (old : Mind) (from : ℕ) (v : Vote Command) (new : Mind) (said : Response)
     → TakesMessage old from (Accepted v) new said → (learned : Option Learned) × HearsVote old.learning from v learned new.learning
 hears_of_vote old from v new said (learned, l, heard, k) = (
   learned,
-  subst (λ (x : Learning). HearsVote old.learning from v learned x) (sym (heard_learner old v.command learned l _ new said k)) heard,
+  subst (λ (x : Learning). HearsVote old.learning from v learned x) (sym (heard_learner old new said v.command learned l _ k)) heard,
 )
 
--- ---- its learner is as it was
--- where the message asks for a promise, promises, refuses, asks for a vote, or asks for what is learnt
-pub same_by_prepare : (old : Mind) (from : ℕ) (ballot : Ballot) (first : ℕ) (new : Mind) (said : Response)
-    → TakesMessage old from (Prepare ballot first) new said → new.learning ≡ old.learning
-same_by_prepare old from ballot first new said h = ap learner_of h.2
-
-pub same_by_promise : (old : Mind) (from : ℕ) (p : Promised) (new : Mind) (said : Response)
-    → TakesMessage old from (Promise p) new said → new.learning ≡ old.learning
-same_by_promise old from p new said h = ap learner_of h.0
-
-pub same_by_nack : (old : Mind) (from : ℕ) (n : Refused) (new : Mind) (said : Response)
-    → TakesMessage old from (Nack n) new said → new.learning ≡ old.learning
-same_by_nack old from n new said h = ap learner_of h.0
-
-pub same_by_accept : (old : Mind) (from : ℕ) (v : Vote Command) (new : Mind) (said : Response)
-    → TakesMessage old from (Accept v) new said → new.learning ≡ old.learning
-same_by_accept old from v new said h = ap learner_of h.0
-
-pub same_by_ask : (old : Mind) (from slot : ℕ) (new : Mind) (said : Response)
-    → TakesMessage old from (Ask slot) new said → new.learning ≡ old.learning
-same_by_ask old from slot new said h = ap learner_of h.0
-
--- the message is no news of a vote and tells of no slot that is decided
-abbrev pub is_no_news : Message → Bool
-is_no_news (Prepare ballot first) = true
-is_no_news (Promise p) = true
-is_no_news (Nack n) = true
-is_no_news (Accept v) = true
-is_no_news (Accepted v) = false
-is_no_news (Ask slot) = true
-is_no_news (Decided slot c) = false
-
-same_by_message : (old : Mind) (from : ℕ) (message : Message) (new : Mind) (said : Response) → is_no_news message ≡ true
-    → TakesMessage old from message new said → new.learning ≡ old.learning
-same_by_message old from (Prepare ballot first) new said e h = same_by_prepare old from ballot first new said h
-same_by_message old from (Promise p) new said e h = same_by_promise old from p new said h
-same_by_message old from (Nack n) new said e h = same_by_nack old from n new said h
-same_by_message old from (Accept v) new said e h = same_by_accept old from v new said h
-same_by_message old from (Accepted v) new said e h = absurd (cc)
-same_by_message old from (Ask slot) new said e h = same_by_ask old from slot new said h
-same_by_message old from (Decided slot c) new said e h = absurd (cc)
-
-same_by_envelope : (old : Mind) (e : Envelope) (b : Bool) (new : Mind) (said : Response) → is_no_news e.message ≡ true
+-- its learner is as it was, where the message is for another role
+same_by_envelope : (old : Mind) (e : Envelope) (b : Bool) (new : Mind) (said : Response) → role_of e.message ≢ Learner
     → TakesEnvelope old e b new said → new.learning ≡ old.learning
-same_by_envelope old e false new said is h = ap learner_of h.0
-same_by_envelope old e true new said is h = same_by_message old e.from e.message new said is h
+same_by_envelope old e false new said other h = ap (λ (m : Mind). m.learning) h.0
+same_by_envelope old e true new said other h = (learns_nothing old new said e.from e.message other h).learner
 
-pub same_learner : (old : Mind) (e : Envelope) (new : Mind) (said : Response) → is_no_news e.message ≡ true
+pub same_learner : (old : Mind) (e : Envelope) (new : Mind) (said : Response) → role_of e.message ≢ Learner
     → Takes old (input.Message e) new said → new.learning ≡ old.learning
-same_learner old e new said is h = same_by_envelope old e (concerns old.id old.nodes e) new said is h
+same_learner old e new said other h = same_by_envelope old e (concerns old.id old.nodes e) new said other h
 
 -- ---- whatever message comes
--- a fact about learners that news doesn't end
-module _ (P : Learning → Type 0) (old : Mind) (here : P old.learning)
-    (votes : (from : ℕ) (v : Vote Command) (learned : Option Learned) (l : Learning) → HearsVote old.learning from v learned l → P l)
-    (decisions : (s : ℕ) (d : Command) (learned : Option Learned) (l : Learning) → HearsDecided old.learning s d learned l → P l) where
-  kept_as : (new : Learning) → new ≡ old.learning → P new
-  kept_as new e = subst P (sym e) here
-
-  kept_by_message : (from : ℕ) (message : Message) (new : Mind) (said : Response) → TakesMessage old from message new said → P new.learning
-  kept_by_message from (Prepare ballot first) new said h = kept_as new.learning (same_by_prepare old from ballot first new said h)
-  kept_by_message from (Promise p) new said h = kept_as new.learning (same_by_promise old from p new said h)
-  kept_by_message from (Nack n) new said h = kept_as new.learning (same_by_nack old from n new said h)
-  kept_by_message from (Accept v) new said h = kept_as new.learning (same_by_accept old from v new said h)
-  kept_by_message from (Accepted v) new said (learned, l, heard, k) =
-      subst P (sym (heard_learner old v.command learned l _ new said k)) (votes from v learned l heard)
-  kept_by_message from (Ask slot) new said h = kept_as new.learning (same_by_ask old from slot new said h)
-  kept_by_message from (Decided slot c) new said (learned, l, heard, k) =
-      subst P (sym (heard_learner old c learned l _ new said k)) (decisions slot c learned l heard)
-
-  kept_by_envelope : (e : Envelope) (b : Bool) (new : Mind) (said : Response) → TakesEnvelope old e b new said → P new.learning
-  kept_by_envelope e false new said h = kept_as new.learning (ap learner_of h.0)
-  kept_by_envelope e true new said h = kept_by_message e.from e.message new said h
-
 -- what is learnt stays learnt
 pub stays_learnt : (m : Mind) (e : Envelope) (new : Mind) (said : Response) (slot : ℕ) (c : Command) → Takes m (input.Message e) new said
     → m.learning.learnt slot ≡ Some c → new.learning.learnt slot ≡ Some c
-stays_learnt m e new said slot c takes is =
-    kept_by_envelope (λ (l : Learning). l.learnt slot ≡ Some c) m is
-    (λ from v learned l heard. vote_keeps m.learning from v learned l slot c heard is)
-    (λ s d learned l heard. decided_keeps m.learning s d learned l slot c heard is)
-    e (concerns m.id m.nodes e) new said takes
+stays_learnt m e new said slot c takes = still_learnt m.learning new.learning slot c (takes_keeps m new said (input.Message e) takes)
 
 -- it has as many nodes
-vote_number : (old : Learning) (from : ℕ) (v : Vote Command) (learned : Option Learned) (l : Learning)
-    → HearsVote old from v learned l → l.nodes ≡ old.nodes
-vote_number old from v learned l (ignores never none same) = ap (λ (x : Learning). x.nodes) same
-vote_number old from v learned l (hears counts few none same) = ap (λ (x : Learning). x.nodes) same
-vote_number old from v learned l (learns counts decided some same) = ap (λ (x : Learning). x.nodes) same
-
-decided_number : (old : Learning) (s : ℕ) (d : Command) (learned : Option Learned) (l : Learning)
-    → HearsDecided old s d learned l → l.nodes ≡ old.nodes
-decided_number old s d learned l (ignores_decided never none same) = ap (λ (x : Learning). x.nodes) same
-decided_number old s d learned l (learns_decided open' some same) = ap (λ (x : Learning). x.nodes) same
-
 pub same_number : (m : Mind) (e : Envelope) (new : Mind) (said : Response) → Takes m (input.Message e) new said
     → new.learning.nodes ≡ m.learning.nodes
-same_number m e new said takes =
-    kept_by_envelope (λ (l : Learning). l.nodes ≡ m.learning.nodes) m refl
-    (λ from v learned l heard. vote_number m.learning from v learned l heard)
-    (λ s d learned l heard. decided_number m.learning s d learned l heard)
-    e (concerns m.id m.nodes e) new said takes
+same_number m e new said takes = (takes_keeps m new said (input.Message e) takes).nodes_

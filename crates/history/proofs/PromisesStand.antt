@@ -20,7 +20,7 @@ use Rattle.sessions.specs.Asked.{Asked}
 use Rattle.store.specs.declared.query.Query.{Query}
 use Rattle.wire.specs.declared.frames.envelope.Envelope.{Envelope}
 use Rattle.wire.specs.declared.frames.message.Message.{Message}
-use Rattle.wire.specs.declared.frames.message.Message.TheVariants.{Prepare, Promise, Nack, Accept, Accepted, Ask, Decided}
+use Rattle.wire.specs.declared.frames.message.Message.TheVariants.{Prepare, Accept}
 use Rattle.acceptor.specs.Accepting.{Accepting, Write, HasWritten, HasFailed, records_after, refusing, unless_refused, IsAcceptWrite}
 use Rattle.acceptor.specs.Spelling.{ballot_bytes}
 use Rattle.minds.specs.declared.fault.NodeFault.{NodeFault}
@@ -109,12 +109,8 @@ message_among m (Prepare ballot first) write names w =
     subst (λ (x : Write). WritesAmong m.nodes x) (sym w)
     (prepared_among m.nodes ballot (ltb-true ballot.node m.nodes names) (refusing m.accepting.promise ballot)
     (ballots.rank ballot == rank_of m.accepting.promise))
-message_among m (Promise p) write names w = none_among m.nodes write w
-message_among m (Nack n) write names w = none_among m.nodes write w
 message_among m (Accept v) write names w = cast_among m.nodes m.accepting v write w (refusing m.accepting.promise v.ballot) refl
-message_among m (Accepted v) write names w = none_among m.nodes write w
-message_among m (Ask slot) write names w = none_among m.nodes write w
-message_among m (Decided slot command) write names w = none_among m.nodes write w
+message_among m other write names w = none_among m.nodes write w
 
 -- a message that concerns a node names the run
 names_the_run : (id nodes : ℕ) (e : Envelope) → concerns id nodes e ≡ true → names_run nodes e.message ≡ true

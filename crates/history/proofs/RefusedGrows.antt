@@ -1,25 +1,25 @@
 -- The greatest round of any refusal that a node was told is forgotten by a restart alone.
 use Rattle.std.proofs.Common.{◌≡◌, inl, inr, ℕ, ◌+◌, ◌<◌, ◌≤◌, List, [], ◌∷◌, Contains, Bool, true, false, Option, Some, None, refl, sym}
 use Rattle.std.proofs.Common.{ap, subst, ◌∙◌, arith}
-use Rattle.std.specs.Prelude.{nat_lt, max}
+use Rattle.std.specs.Prelude.{max}
 use Rattle.std.proofs.lemmas.Bool.{cond_both}
 use Rattle.synod.specs.declared.ballot.Ballot.{Ballot}
 use Rattle.sessions.specs.declared.command.Command.{Command}
-use Rattle.learner.specs.Learning.{Learning, prefix}
+use Rattle.learner.specs.Learning.{Learning}
 use Rattle.learner.specs.declared.learned.Learned.{Learned}
-use Rattle.proposer.specs.Campaigning.{Campaigning}
-use Rattle.proposer.specs.Proposing.{Proposing, gathers, gathers_on, leads, proposes, with_promised, next_round}
+use Rattle.proposer.specs.Proposing.{Proposing, with_promised, next_round}
 use Rattle.proposer.specs.declared.outgoing.Outgoing.{Outgoing}
 use Rattle.proposer.proofs.Votes.{in_cons, in_head, in_none}
 use Rattle.wire.specs.Promises.{Refused}
 use Rattle.wire.specs.declared.frames.envelope.Envelope.{Envelope}
 use Rattle.wire.specs.declared.frames.message.Message.{Message}
-use Rattle.wire.specs.declared.frames.message.Message.TheVariants.{Prepare, Promise, Nack, Accept, Accepted, Ask, Decided}
+use Rattle.wire.specs.declared.frames.message.Message.TheVariants.{Prepare, Promise, Nack, Accepted, Decided}
 use Rattle.minds.specs.Inputs.{concerns, names_run}
 use Rattle.minds.specs.Minds.{Mind, asked, waits}
 use Rattle.minds.specs.Outputs.{Response}
-use Rattle.minds.specs.Taking.{Takes, TakesEnvelope, TakesMessage, Hears, begins_to_lead, after_counting, proposer_of, proposed, execution}
+use Rattle.minds.specs.Taking.{Takes, TakesEnvelope, TakesMessage, Hears, after_counting, proposer_of, proposed, execution}
 use Rattle.minds.specs.Taking.{with_request}
+use Rattle.minds.proofs.Campaigns.{KeepsRest, proposes_keeps, counting_keeps}
 use Rattle.minds.specs.declared.input.Input.{Input}
 use Rattle.minds.specs.declared.input.Input.TheVariants as input
 use Rattle.history.specs.Progress.{mind_at, IsAbove}
@@ -38,26 +38,12 @@ same_rounds p = record { refused_ = refl; round_ = refl }
 abbrev Keeps : Proposing → Proposing × List Outgoing → Type 0
 Keeps p x = KeepsRounds p x.0
 
-gathers_keeps : (p : Proposing) (k : Option Campaigning) (position : ℕ) → Keeps p (gathers_on p k position)
-gathers_keeps p None position = same_rounds p
-gathers_keeps p (Some k) position =
-    cond_both (gathers p.waiting position) _ _ (Keeps p) (λ _. record { refused_ = refl; round_ = refl }) (λ _. same_rounds p)
-
-leads_keeps : (p : Proposing) (k : Campaigning) (l : Learning) → Keeps p (leads p k l)
-leads_keeps p k l = cond_both (nat_lt k.end (prefix l)) _ _ (Keeps p) (λ _. gathers_keeps p (Some k) (prefix l))
-    (λ _. record { refused_ = refl; round_ = refl })
-
-proposes_keeps : (p : Proposing) (k : Option Campaigning) (l : Learning) → Keeps p (proposes p k l)
-proposes_keeps p None l = same_rounds p
-proposes_keeps p (Some k) l = cond_both k.leading _ _ (Keeps p) (λ _. leads_keeps p k l) (λ _. same_rounds p)
-
--- what is made of another proposer of the same rounds
-over : (p q : Proposing) (x : Proposing × List Outgoing) → KeepsRounds p q → Keeps q x → Keeps p x
-over p q x h k = record { refused_ = k.refused_ ∙ h.refused_; round_ = k.round_ ∙ h.round_ }
-
-counting_keeps : (p q : Proposing) (l : Learning) → KeepsRounds p q → Keeps p (after_counting p q l)
-counting_keeps p q l h =
-    cond_both (begins_to_lead p q) _ _ (Keeps p) (λ _. over p q (proposed q l) h (proposes_keeps q q.campaign l)) (λ _. h)
+-- one that goes on from it, and keeps all but its campaign then
+over : (p q : Proposing) (x : Proposing × List Outgoing) → KeepsRounds p q → KeepsRest q x → Keeps p x
+over p q x h k = record {
+  refused_ = ap (λ (r : Proposing). r.refused) k ∙ h.refused_;
+  round_ = ap (λ (r : Proposing). r.round) k ∙ h.round_;
+}
 
 -- ---- a node
 abbrev refused_of : Mind → ℕ
@@ -87,15 +73,16 @@ message_grows : (old : Mind) (from : ℕ) (message : Message) (new : Mind) (said
     → Grows old new
 message_grows old from (Prepare ballot first) new said h = with_grows old new _ h.2 refl (same_rounds old.proposing)
 message_grows old from (Promise p) new said h = with_grows old new _ h.0 refl
-    (counting_keeps old.proposing (with_promised old.proposing from p) old.learning (record { refused_ = refl; round_ = refl }))
+    (over old.proposing (with_promised old.proposing from p)
+    (after_counting old.proposing (with_promised old.proposing from p) old.learning) (record { refused_ = refl; round_ = refl })
+    (counting_keeps old.proposing (with_promised old.proposing from p) old.learning))
 message_grows old from (Nack n) new said h =
     let is : refused_of new ≡ max (refused_of old) n.promised.round = ap (λ (m : Mind). refused_of m) h.0 in
     let round : new.proposing.round ≡ old.proposing.round = ap (λ (m : Mind). m.proposing.round) h.0 in
     record { own = ap (λ (m : Mind). m.id) h.0; refused_ = omega (arith, is); round_ = omega (arith, round) }
-message_grows old from (Accept v) new said h = with_grows old new _ h.0 refl (same_rounds old.proposing)
 message_grows old from (Accepted v) new said (learned, l, heard, k) = hears_grows old v.command learned l _ new said k
-message_grows old from (Ask slot) new said h = with_grows old new _ h.0 refl (same_rounds old.proposing)
 message_grows old from (Decided slot c) new said (learned, l, heard, k) = hears_grows old c learned l _ new said k
+message_grows old from other new said h = with_grows old new _ h.0 refl (same_rounds old.proposing)
 
 envelope_grows : (old : Mind) (e : Envelope) (b : Bool) (new : Mind) (said : Response) → TakesEnvelope old e b new said → Grows old new
 envelope_grows old e false new said h = with_grows old new _ h.0 refl (same_rounds old.proposing)

@@ -12,19 +12,20 @@ use Rattle.acceptor.specs.Accepting.{Accepting, refusing, unless_refused, nack, 
 use Rattle.acceptor.specs.declared.answer.Answer.{Answer}
 use Rattle.acceptor.specs.declared.answer.Answer.TheVariants as answer
 use Rattle.wire.specs.declared.frames.envelope.Envelope.{Envelope}
-use Rattle.wire.specs.declared.frames.message.Message.{Message}
 use Rattle.wire.specs.declared.frames.message.Message.TheVariants.{Accept, Accepted}
 use Rattle.minds.specs.Loading.{IsMindOf}
 use Rattle.minds.specs.Minds.{Mind, promised}
 use Rattle.minds.specs.Outputs.{Response}
 use Rattle.minds.specs.Sending.{to_all, answer_sends}
+use Rattle.minds.specs.Inputs.{role_of}
+use Rattle.minds.specs.Inputs.Role.{Acceptor, Learner}
 use Rattle.minds.specs.Taking.{Takes, TakesMessage}
 use Rattle.minds.specs.declared.input.Input.TheVariants as input
 use Rattle.minds.proofs.Members.{takes_own}
 use Rattle.history.specs.Progress.{mind_at}
 use Rattle.history.specs.Worlds.{WorldState}
 use Rattle.history.proofs.Handing.{Took, HandsOn, ends, skips, takes, hands_apart, same_or_not}
-use Rattle.history.proofs.Hearing.{same_learner, is_no_news}
+use Rattle.history.proofs.Hearing.{same_learner}
 use Rattle.history.proofs.Leading.{AsksForVote}
 use Rattle.history.proofs.RoundAsked.{takes_message, it_concerns, is_below}
 
@@ -159,7 +160,8 @@ module _ {S : Type 0} (w : WorldState S) (nodes node : ℕ) (members : List ℕ)
   -- who is asked for a vote learns nothing by it
   no_news : (e : Envelope) (m new : Mind) (said : Response) → AsksForVote e → Takes m (input.Message e) new said
       → new.learning ≡ m.learning
-  no_news e m new said asks h = same_learner m e new said (ap (λ (x : Message). is_no_news x) asks.1) h
+  no_news e m new said asks h =
+      same_learner m e new said (λ is. let clash : Acceptor ≡ Learner = ap role_of (sym asks.1) ∙ is in cc) h
 
   pub learns_no_more : (mind : Mind) (es : List Envelope) → All AsksForVote es → (old new : WorldState S) → HandsOn members es old new
       → LearnsAs mind old → LearnsAs mind new

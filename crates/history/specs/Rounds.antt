@@ -9,7 +9,7 @@ use Rattle.synod.specs.Majorities.{IsMajority}
 use Rattle.synod.specs.declared.ballot.Ballot.{Ballot}
 use Rattle.wire.specs.declared.frames.envelope.Envelope.{Envelope}
 use Rattle.wire.specs.declared.frames.message.Message.{Message}
-use Rattle.wire.specs.declared.frames.message.Message.TheVariants.{Prepare, Promise, Nack, Accept, Accepted, Ask, Decided as DecidedMessage}
+use Rattle.wire.specs.declared.frames.message.Message.TheVariants.{Nack}
 use Rattle.minds.specs.declared.fault.NodeFault.{NodeFault}
 use Rattle.minds.specs.declared.input.Input.TheVariants as input
 use Rattle.minds.specs.Minds.{Mind, position, refuses}
@@ -69,13 +69,8 @@ pub record RefusesToBegin {S : Type 0} (w : WorldState S) (node : ℕ) (f : Node
 -- ---- refusals
 -- the promise that a message tells by which its sender refuses a ballot
 abbrev pub refusal_in : Message → Option Ballot
-refusal_in (Prepare ballot first) = None
-refusal_in (Promise p) = None
 refusal_in (Nack n) = Some n.promised
-refusal_in (Accept v) = None
-refusal_in (Accepted v) = None
-refusal_in (Ask slot) = None
-refusal_in (DecidedMessage slot command) = None
+refusal_in other = None
 
 -- the one of two that isn't below the other, if there are any
 abbrev pub greater : Option Ballot → Option Ballot → Option Ballot

@@ -12,7 +12,7 @@ use Rattle.proposer.specs.Proposing.{next_round}
 use Rattle.proposer.proofs.AllowedMoves.{stop_lem, stop_written_lem}
 use Rattle.wire.specs.declared.frames.envelope.Envelope.{Envelope}
 use Rattle.wire.specs.declared.frames.message.Message.{Message}
-use Rattle.wire.specs.declared.frames.message.Message.TheVariants.{Prepare, Promise, Nack, Accept, Accepted, Ask, Decided}
+use Rattle.wire.specs.declared.frames.message.Message.TheVariants.{Prepare, Accept}
 use Rattle.minds.specs.declared.input.Input.{Input}
 use Rattle.minds.specs.declared.input.Input.TheVariants as input
 use Rattle.minds.specs.Inputs.{concerns}
@@ -59,14 +59,10 @@ module _ (m : Mind) (x : Local Command) (stands : MindStands m x) where
   message_stops from (Prepare ballot first) =
       let in' : act.Input Command = act.Came from (message_of (Prepare ballot first)) in
       stops_written in' _ (prepare_writes (fleet m.nodes) m.id in' x m.accepting m.proposing.round stands.records ballot)
-  message_stops from (Promise p) = stops_at_once _
-  message_stops from (Nack n) = stops_at_once _
   message_stops from (Accept v) =
       let in' : act.Input Command = act.Came from (message_of (Accept v)) in
       stops_written in' _ (accept_writes (fleet m.nodes) m.id in' x m.accepting m.proposing.round stands.records v refl)
-  message_stops from (Accepted v) = stops_at_once _
-  message_stops from (Ask slot) = stops_at_once _
-  message_stops from (Decided slot command) = stops_at_once _
+  message_stops from other = stops_at_once _
 
   envelope_stops : (e : Envelope) (b : Bool) → May (coming e b) (accepting_if m e b) m.proposing.round
   envelope_stops e false = stops_at_once act.Nothing

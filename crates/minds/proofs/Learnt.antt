@@ -1,5 +1,5 @@
 -- What a node has learnt, and what it tells as learnt.
-use Rattle.std.proofs.Common.{◌≡◌, ℕ, zero, suc, ◌+◌, ◌-◌, ◌<◌, ◌≤◌, ◌⊎◌, Bool, true, false, List, [], ◌∷◌, ◌++◌, length, slice_get}
+use Rattle.std.proofs.Common.{◌≡◌, ℕ, zero, suc, ◌+◌, ◌-◌, ◌<◌, ◌≤◌, ◌⊎◌, true, false, List, [], ◌∷◌, ◌++◌, length, slice_get}
 use Rattle.std.proofs.Common.{Option, Some, None, IsSome, inl, inr, refl, sym, ap, ◌∙◌, subst, arith}
 use Rattle.std.proofs.lemmas.Option.{same_Some}
 use Rattle.synod.specs.Records.{put}
@@ -11,18 +11,16 @@ use Rattle.learner.specs.Learning.HearsVote.{ignores, hears, learns}
 use Rattle.learner.specs.Learning.HearsDecided.{ignores_decided, learns_decided}
 use Rattle.learner.specs.declared.learned.Learned.{Learned}
 use Rattle.wire.specs.declared.frames.envelope.Envelope.{Envelope}
-use Rattle.wire.specs.declared.frames.message.Message.{Message}
-use Rattle.wire.specs.declared.frames.message.Message.TheVariants.{Prepare, Promise, Nack, Accept, Accepted, Ask, Decided}
 use Rattle.minds.specs.declared.input.Input.{Input}
-use Rattle.minds.specs.declared.input.Input.TheVariants as input
 use Rattle.minds.specs.declared.outputs.LogEntry.{LogEntry}
 use Rattle.minds.specs.Composition.{IsMeaningOf, executed_from}
 use Rattle.minds.specs.Executing.{commands, with_command}
-use Rattle.minds.specs.Inputs.{concerns}
 use Rattle.minds.specs.Loading.{IsFresh}
 use Rattle.minds.specs.Minds.{Mind, learnt_in, position}
 use Rattle.minds.specs.Outputs.{Response}
-use Rattle.minds.specs.Taking.{Takes, TakesEnvelope, TakesMessage, Hears, Learns}
+use Rattle.minds.specs.Taking.{Takes, Hears, Learns}
+use Rattle.minds.proofs.Hearings.{Hearing, heard_of}
+use Rattle.minds.proofs.Hearings.Hearing.{of_vote, of_decision, of_nothing}
 use Rattle.minds.proofs.Meanings.{learnt_below, meaning_begun}
 
 -- ---- what a node newly learns it tells
@@ -41,9 +39,6 @@ module _ (old new : Mind) (said : Response) where
     told = λ slot c there. inl (ap (λ (f : ℕ → Option Command). f slot) (sym same) ∙ there);
     news = λ e says. absurd (let clash : None ≡ Some e = sym none ∙ says in cc);
   }
-
-  still : new.learning ≡ old.learning → said.learnt ≡ None → Tells old new said
-  still same = tells_nothing (ap (λ (l : Learning). l.learnt) same)
 
   module _ (l : Learning) (c : Command) (asks : List Envelope) where
     -- a slot is newly learnt
@@ -94,24 +89,13 @@ module _ (old new : Mind) (said : Response) where
       hears_nothing l c asks o none (ap (λ (x : Learning). x.learnt) same) k
   decided_tells slot c asks o l (learns_decided opened some same) k = hears_tells l c asks o slot some opened.unlearnt same k
 
-  message_tells : (from : ℕ) (message : Message) → TakesMessage old from message new said → Tells old new said
-  message_tells from (Prepare ballot first) k = still (ap (λ (m : Mind). m.learning) k.2) (ap (λ (r : Response). r.learnt) k.3)
-  message_tells from (Promise p) k = still (ap (λ (m : Mind). m.learning) k.0) (ap (λ (r : Response). r.learnt) k.1)
-  message_tells from (Nack n) k = still (ap (λ (m : Mind). m.learning) k.0) (ap (λ (r : Response). r.learnt) k.1)
-  message_tells from (Accept v) k = still (ap (λ (m : Mind). m.learning) k.0) (ap (λ (r : Response). r.learnt) k.1)
-  message_tells from (Accepted v) (o, l, heard, k) = vote_tells from v o l heard k
-  message_tells from (Ask slot) k = still (ap (λ (m : Mind). m.learning) k.0) (ap (λ (r : Response). r.learnt) k.1)
-  message_tells from (Decided slot c) (o, l, heard, k) = decided_tells slot c _ o l heard k
-
-  envelope_tells : (e : Envelope) (b : Bool) → TakesEnvelope old e b new said → Tells old new said
-  envelope_tells e false k = still (ap (λ (m : Mind). m.learning) k.0) (ap (λ (r : Response). r.learnt) k.1)
-  envelope_tells e true k = message_tells e.from e.message k
+  hearing_tells : (i : Input) → Hearing old i new said → Tells old new said
+  hearing_tells i (of_vote from to v is (o, l, heard, k)) = vote_tells from v o l heard k
+  hearing_tells i (of_decision from to slot c is (o, l, heard, k)) = decided_tells slot c _ o l heard k
+  hearing_tells i (of_nothing none) = tells_nothing (ap (λ (l : Learning). l.learnt) none.learner) none.learnt
 
   pub takes_tells : (i : Input) → Takes old i new said → Tells old new said
-  takes_tells (input.Submit client number op) k = still (ap (λ (m : Mind). m.learning) k.0) (ap (λ (r : Response). r.learnt) k.1)
-  takes_tells (input.Message e) k = envelope_tells e (concerns old.id old.nodes e) k
-  takes_tells input.Timeout k = still (ap (λ (m : Mind). m.learning) k.2) (ap (λ (r : Response). r.learnt) k.3)
-  takes_tells input.Tick k = still (ap (λ (m : Mind). m.learning) k.0) (ap (λ (r : Response). r.learnt) k.1)
+  takes_tells i k = hearing_tells i (heard_of old new said i k)
 
 -- ---- of what it is the meaning
 get_behind : {A : Type 0} (xs ys : List A) (k : ℕ) → length xs ≤ k → slice_get (xs ++ ys) k ≡ slice_get ys (k - length xs)

@@ -2,6 +2,9 @@
 pub mod Commands
 pub mod Executions
 pub mod Replying
+-- what a node's learner hears, and keeps
+pub mod Hearings
+pub mod Keeping
 -- what a node is the meaning of
 pub mod Meanings
 pub mod News

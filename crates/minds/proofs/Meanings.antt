@@ -1,35 +1,32 @@
 -- A node goes on being the meaning of what it has learnt.
-use Rattle.std.proofs.Common.{◌≡◌, ℕ, ◌+◌, ◌-◌, ◌<◌, ◌≤◌, Bool, true, false, List, [], ◌++◌, length, Option, Some, None, IsSome, IfSome}
-use Rattle.std.proofs.Common.{IfOk, OnOk, Result, Ok, Err, Contains, inl, inr, refl, sym, ap, ◌∙◌, subst, append_assoc, append-nil, arith}
+use Rattle.std.proofs.Common.{◌≡◌, ℕ, ◌+◌, ◌-◌, ◌<◌, ◌≤◌, List, [], ◌++◌, length, Option, Some, None, IsSome, IfSome}
+use Rattle.std.proofs.Common.{IfOk, OnOk, Result, Ok, Err, Contains, refl, sym, ap, ◌∙◌, subst, append_assoc, append-nil, arith}
 use Rattle.std.proofs.Common.{rules}
 use Rattle.std.proofs.lemmas.List.{length-append}
-use Rattle.std.proofs.lemmas.Bool.Decides.{eqb_tells}
-use Rattle.synod.specs.Records.{put}
 use Rattle.synod.specs.declared.slot.TheConstants.{SLOTS}
 use Rattle.synod.specs.declared.vote.Vote.{Vote}
 use Rattle.sessions.specs.Meaning.{Answers}
 use Rattle.sessions.specs.Standing.{StandsFor, AnswersAll}
 use Rattle.sessions.specs.declared.command.Command.{Command}
-use Rattle.learner.specs.Learning.{Learning, prefix, unlearnt, with_learnt, HearsVote, HearsDecided}
+use Rattle.learner.specs.Learning.{Learning, prefix, unlearnt, HearsVote, HearsDecided}
 use Rattle.learner.specs.Learning.HearsVote.{ignores, hears, learns}
 use Rattle.learner.specs.Learning.HearsDecided.{ignores_decided, learns_decided}
 use Rattle.learner.specs.Prefixes.{IsPrefix}
 use Rattle.learner.specs.declared.learned.Learned.{Learned}
-use Rattle.learner.proofs.PrefixLemmas.{prefix_is, vote_grows, decided_grows}
+use Rattle.learner.proofs.PrefixLemmas.{prefix_is}
 use Rattle.wire.specs.declared.frames.envelope.Envelope.{Envelope}
-use Rattle.wire.specs.declared.frames.message.Message.{Message}
-use Rattle.wire.specs.declared.frames.message.Message.TheVariants.{Prepare, Promise, Nack, Accept, Accepted, Ask, Decided}
 use Rattle.store.specs.declared.query.Query.{Query}
 use Rattle.minds.specs.declared.fault.NodeFault.{NodeFault}
 use Rattle.minds.specs.declared.input.Input.{Input}
-use Rattle.minds.specs.declared.input.Input.TheVariants as input
 use Rattle.minds.specs.Composition.{IsMeaningOf, executed_from, GoesOnFrom}
 use Rattle.minds.specs.Executing.{commands}
-use Rattle.minds.specs.Inputs.{concerns}
 use Rattle.minds.specs.Minds.{Mind, position}
 use Rattle.minds.specs.Outputs.{Response}
-use Rattle.minds.specs.Taking.{Takes, TakesEnvelope, TakesMessage, Hears, Learns, news}
+use Rattle.minds.specs.Taking.{Takes, HearsOfVote, HearsOfDecided, Hears, Learns, news}
 use Rattle.minds.proofs.Commands.{commands_append, commands_same, commands_length, commands_none}
+use Rattle.minds.proofs.Hearings.{Hearing, heard_of}
+use Rattle.minds.proofs.Hearings.Hearing.{of_vote, of_decision, of_nothing}
+use Rattle.minds.proofs.Keeping.{KeepsLearnt, vote_keeps, decided_keeps}
 
 -- ---- nothing is learnt
 -- where neither what is learnt nor the machine changes, and there is no reply
@@ -51,52 +48,6 @@ goes_on_same base old new said h learning machine none = record {
 }
 
 -- ---- a learner has heard some news
--- the learner goes on from the same slot, and keeps what it has learnt
-pub record KeepsLearnt (old new : Learning) : Type 0 where
-  pub first : new.first ≡ old.first
-  pub still : (s : ℕ) → IsSome (old.learnt s) → new.learnt s ≡ old.learnt s
-  pub grows : prefix old ≤ prefix new
-
-put_elsewhere : (learnt : ℕ → Option Command) (slot : ℕ) (c : Command) → learnt slot ≡ None → (s : ℕ) → IsSome (learnt s)
-    → put learnt slot (Some c) s ≡ learnt s
-put_elsewhere learnt slot c vacant s was = elim (eqb_tells s slot) [
-  | inl same ↦ absurd (let here : IsSome {T = Command} None = subst IsSome vacant (subst (λ (i : ℕ). IsSome (learnt i)) same.1 was) in let f
-      : false ≡ true = here in cc)
-  | inr other ↦ rw other.0 refl
-]
-
-kept_same : (old new : Learning) → new ≡ old → prefix old ≤ prefix new → KeepsLearnt old new
-kept_same old new e grows = record {
-  first = ap (λ (l : Learning). l.first) e;
-  still = λ s _. ap (λ (l : Learning). l.learnt s) e;
-  grows = grows;
-}
-
-kept_put : (old new : Learning) (slot : ℕ) (c : Command) → old.learnt slot ≡ None → new ≡ with_learnt old slot c
-    → prefix old ≤ prefix new → KeepsLearnt old new
-kept_put old new slot c vacant e grows = record {
-  first = ap (λ (l : Learning). l.first) e;
-  still = λ s was. ap (λ (l : Learning). l.learnt s) e ∙ put_elsewhere old.learnt slot c vacant s was;
-  grows = grows;
-}
-
-vote_keeps : (old new : Learning) (from : ℕ) (v : Vote Command) (learned : Option Learned) → HearsVote old from v learned new
-    → prefix old ≤ prefix new → KeepsLearnt old new
-vote_keeps old new from v learned (ignores never none same) grows = kept_same old new same grows
-vote_keeps old new from v learned (hears counts undecided none same) grows = record {
-  first = ap (λ (l : Learning). l.first) same;
-  still = λ s _. ap (λ (l : Learning). l.learnt s) same;
-  grows = grows;
-}
-vote_keeps old new from v learned (learns counts decided some same) grows =
-    kept_put old new v.slot v.command counts.in_time.unlearnt same grows
-
-decided_keeps : (old new : Learning) (slot : ℕ) (c : Command) (learned : Option Learned) → HearsDecided old slot c learned new
-    → prefix old ≤ prefix new → KeepsLearnt old new
-decided_keeps old new slot c learned (ignores_decided never none same) grows = kept_same old new same grows
-decided_keeps old new slot c learned (learns_decided opened some same) grows =
-    kept_put old new slot c opened.unlearnt same grows
-
 same_prefix : (a b : Learning) → a.learnt ≡ b.learnt → a.first ≡ b.first → prefix a ≡ prefix b
 unfolding prefix
 same_prefix a b learnt first = rw learnt (rw first refl)
@@ -192,12 +143,9 @@ module _ (base : List Command) (old : Mind) (l : Learning) (h : IsMeaningOf base
 
 -- ---- each input
 module _ (base : List Command) (old new : Mind) (said : Response) (h : IsMeaningOf base old) where
-  still : new.learning ≡ old.learning → new.machine ≡ old.machine → said.replies ≡ [] → GoesOnFrom base old new said
-  still = goes_on_same base old new said h
-
-  vote_goes_on : (from : ℕ) (v : Vote Command) → TakesMessage old from (Accepted v) new said → GoesOnFrom base old new said
+  vote_goes_on : (from : ℕ) (v : Vote Command) → HearsOfVote old from v new said → GoesOnFrom base old new said
   vote_goes_on from v (learned, l, hears_, k) =
-      goes_on_hearing base old l h (vote_keeps old.learning l from v learned hears_ (vote_grows old.learning l from v learned hears_))
+      goes_on_hearing base old l h (vote_keeps old.learning l from v learned hears_)
       learned v.command [] new said (unlearnt_by_vote l learned from v hears_) k
     where
       unlearnt_by_vote : (l : Learning) (learned : Option Learned) (from : ℕ) (v : Vote Command) → HearsVote old.learning from v learned l
@@ -206,9 +154,9 @@ module _ (base : List Command) (old new : Mind) (said : Response) (h : IsMeaning
       unlearnt_by_vote l learned from v (hears counts undecided none same) e = ap (λ (x : Learning). x.learnt) same
       unlearnt_by_vote l learned from v (learns counts decided some same) e = absurd (cc)
 
-  decided_goes_on : (from slot : ℕ) (c : Command) → TakesMessage old from (Decided slot c) new said → GoesOnFrom base old new said
+  decided_goes_on : (from slot : ℕ) (c : Command) → HearsOfDecided old from slot c new said → GoesOnFrom base old new said
   decided_goes_on from slot c (learned, l, hears_, k) =
-      goes_on_hearing base old l h (decided_keeps old.learning l slot c learned hears_ (decided_grows old.learning l slot c learned hears_))
+      goes_on_hearing base old l h (decided_keeps old.learning l slot c learned hears_)
       learned c _ new said (unlearnt_by_decided l learned slot c hears_) k
     where
       unlearnt_by_decided : (l : Learning) (learned : Option Learned) (slot : ℕ) (c : Command) → HearsDecided old.learning slot c learned l
@@ -216,33 +164,13 @@ module _ (base : List Command) (old new : Mind) (said : Response) (h : IsMeaning
       unlearnt_by_decided l learned slot c (ignores_decided never none same) e = ap (λ (x : Learning). x.learnt) same
       unlearnt_by_decided l learned slot c (learns_decided opened some same) e = absurd (cc)
 
-  message_goes_on : (from : ℕ) (message : Message) → TakesMessage old from message new said → GoesOnFrom base old new said
-  message_goes_on from (Prepare ballot first) k =
-      still (ap (λ (m : Mind). m.learning) k.2) (ap (λ (m : Mind). m.machine) k.2) (ap (λ (r : Response). r.replies) k.3)
-  message_goes_on from (Promise p) k =
-      still (ap (λ (m : Mind). m.learning) k.0) (ap (λ (m : Mind). m.machine) k.0) (ap (λ (r : Response). r.replies) k.1)
-  message_goes_on from (Nack n) k =
-      still (ap (λ (m : Mind). m.learning) k.0) (ap (λ (m : Mind). m.machine) k.0) (ap (λ (r : Response). r.replies) k.1)
-  message_goes_on from (Accept v) k =
-      still (ap (λ (m : Mind). m.learning) k.0) (ap (λ (m : Mind). m.machine) k.0) (ap (λ (r : Response). r.replies) k.1)
-  message_goes_on from (Accepted v) k = vote_goes_on from v k
-  message_goes_on from (Ask slot) k =
-      still (ap (λ (m : Mind). m.learning) k.0) (ap (λ (m : Mind). m.machine) k.0) (ap (λ (r : Response). r.replies) k.1)
-  message_goes_on from (Decided slot c) k = decided_goes_on from slot c k
-
-  envelope_goes_on : (e : Envelope) (b : Bool) → TakesEnvelope old e b new said → GoesOnFrom base old new said
-  envelope_goes_on e false k =
-      still (ap (λ (m : Mind). m.learning) k.0) (ap (λ (m : Mind). m.machine) k.0) (ap (λ (r : Response). r.replies) k.1)
-  envelope_goes_on e true k = message_goes_on e.from e.message k
+  hearing_goes_on : (i : Input) → Hearing old i new said → GoesOnFrom base old new said
+  hearing_goes_on i (of_vote from to v is k) = vote_goes_on from v k
+  hearing_goes_on i (of_decision from to slot c is k) = decided_goes_on from slot c k
+  hearing_goes_on i (of_nothing none) = goes_on_same base old new said h none.learner none.machine none.replies
 
   pub goes_on : (i : Input) → Takes old i new said → GoesOnFrom base old new said
-  goes_on (input.Submit client number op) k =
-      still (ap (λ (m : Mind). m.learning) k.0) (ap (λ (m : Mind). m.machine) k.0) (ap (λ (r : Response). r.replies) k.1)
-  goes_on (input.Message e) k = envelope_goes_on e (concerns old.id old.nodes e) k
-  goes_on input.Timeout k =
-      still (ap (λ (m : Mind). m.learning) k.2) (ap (λ (m : Mind). m.machine) k.2) (ap (λ (r : Response). r.replies) k.3)
-  goes_on input.Tick k =
-      still (ap (λ (m : Mind). m.learning) k.0) (ap (λ (m : Mind). m.machine) k.0) (ap (λ (r : Response). r.replies) k.1)
+  goes_on i k = hearing_goes_on i (heard_of old new said i k)
 
 -- ---- a node
 -- one that has just begun, and has learnt nothing

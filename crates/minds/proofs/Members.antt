@@ -2,19 +2,15 @@
 use Rattle.std.proofs.Common.{◌≡◌, ℕ, Bool, true, false, List, Option, Some, None, Result, Ok, Err, IfSome, IfOk}
 use Rattle.std.proofs.Common.{IfErr, MatchBool, refl, sym, ap, ◌∙◌, subst}
 use Rattle.std.proofs.lemmas.Bool.{cond_both}
-use Rattle.synod.specs.declared.vote.Vote.{Vote}
 use Rattle.stable.specs.declared.stable.Stable.{Ghosts}
 use Rattle.sessions.specs.declared.command.Command.{Command}
-use Rattle.acceptor.specs.Accepting.{Accepting}
-use Rattle.learner.specs.Learning.{Learning, HearsVote, HearsDecided}
-use Rattle.learner.specs.Learning.HearsVote.{ignores, hears, learns}
-use Rattle.learner.specs.Learning.HearsDecided.{ignores_decided, learns_decided}
+use Rattle.learner.specs.Learning.{Learning}
 use Rattle.learner.specs.declared.learned.Learned.{Learned}
 use Rattle.proposer.specs.Proposing.{Proposing, with_promised}
 use Rattle.proposer.specs.declared.outgoing.Outgoing.{Outgoing}
 use Rattle.wire.specs.declared.frames.envelope.Envelope.{Envelope}
 use Rattle.wire.specs.declared.frames.message.Message.{Message}
-use Rattle.wire.specs.declared.frames.message.Message.TheVariants.{Prepare, Promise, Nack, Accept, Accepted, Ask, Decided}
+use Rattle.wire.specs.declared.frames.message.Message.TheVariants.{Prepare, Promise, Accepted, Decided}
 use Rattle.minds.specs.declared.fault.NodeFault.{NodeFault}
 use Rattle.minds.specs.declared.input.Input.{Input}
 use Rattle.minds.specs.declared.input.Input.TheVariants as input
@@ -24,9 +20,10 @@ use Rattle.minds.specs.Loading.{IsMindOf, IsMember}
 use Rattle.minds.specs.Minds.{Mind, waits, asked}
 use Rattle.minds.specs.Nodes.{NodeState, NodeSteps, TakesInput, StopsOnInput, RefusesInput}
 use Rattle.minds.specs.Outputs.{Response}
-use Rattle.minds.specs.Taking.{Takes, TakesEnvelope, TakesMessage, Hears, after_news, after_counting, with_request, proposer_of, proposed}
+use Rattle.minds.specs.Taking.{Takes, TakesEnvelope, TakesMessage, Hears, after_counting, with_request, proposer_of, proposed}
 use Rattle.minds.specs.Taking.{execution}
 use Rattle.minds.proofs.Campaigns.{KeepsRest, proposes_keeps, counting_keeps}
+use Rattle.minds.proofs.Keeping.{vote_keeps, decided_keeps}
 
 -- ---- a proposer
 pub record KeepsOwn (old new : Proposing) : Type 0 where
@@ -45,83 +42,54 @@ then_own p q x h k = record {
 
 -- ---- a node
 module _ (id nodes : ℕ) (old : Mind) (is : IsMindOf id nodes old) where
-  with_own : (new : Mind) → new.id ≡ old.id → new.nodes ≡ old.nodes → new.learning.nodes ≡ old.learning.nodes
-      → KeepsOwn old.proposing new.proposing → IsMindOf id nodes new
-  with_own new number of_all learning proposing = record {
+  -- it is the same node as the mind that it comes to
+  changes : (new then : Mind) → new ≡ then → then.id ≡ old.id → then.nodes ≡ old.nodes → then.learning.nodes ≡ old.learning.nodes
+      → KeepsOwn old.proposing then.proposing → IsMindOf id nodes new
+  changes new then e number of_all learning proposing = subst (λ (m : Mind). IsMindOf id nodes m) (sym e) (record {
     number = number ∙ is.number;
     of_all = of_all ∙ is.of_all;
     learning = learning ∙ is.learning;
     proposing = (proposing.id_ ∙ is.proposing.0, proposing.nodes_ ∙ is.proposing.1);
-  }
-
-  -- nothing but its proposer changes
-  proposer_changes : (new : Mind) (p : Proposing) → new ≡ record old { proposing = p } → KeepsOwn old.proposing p → IsMindOf id nodes new
-  proposer_changes new p e h = subst (λ (m : Mind). IsMindOf id nodes m) (sym e) (with_own (record old { proposing = p }) refl refl refl h)
+  })
 
   -- a learner has heard some news
   learner_changes : (l : Learning) (learned : Option Learned) (c : Command) (asks : List Envelope) (new : Mind) (said : Response)
       → l.nodes ≡ old.learning.nodes → Hears old c learned l asks new said → IsMindOf id nodes new
-  learner_changes l None c asks new said e k = subst (λ (m : Mind). IsMindOf id nodes m) (sym k.0)
-      (with_own (record old { learning = l }) refl refl e (own old.proposing))
+  learner_changes l None c asks new said e k = changes new _ k.0 refl refl e (own old.proposing)
   learner_changes l (Some learned) c asks new said e k =
       let p : Proposing = proposer_of old learned.slot (execution old l) in
-      subst (λ (m : Mind). IsMindOf id nodes m) (sym k.leaves)
-      (with_own (record old {
-        learning = l;
-        proposing = (after_news old learned.slot l).0;
-        machine = (execution old l).machine;
-      }) refl refl e
-      (then_own old.proposing p (proposed p l) (record { id_ = refl; nodes_ = refl }) (proposes_keeps p p.campaign l)))
-
-  vote_nodes : (l : Learning) (from : ℕ) (v : Vote Command) (learned : Option Learned) → HearsVote old.learning from v learned l
-      → l.nodes ≡ old.learning.nodes
-  vote_nodes l from v learned (ignores never none same) = ap (λ (x : Learning). x.nodes) same
-  vote_nodes l from v learned (hears counts undecided none same) = ap (λ (x : Learning). x.nodes) same
-  vote_nodes l from v learned (learns counts decided some same) = ap (λ (x : Learning). x.nodes) same
-
-  decided_nodes : (l : Learning) (slot : ℕ) (c : Command) (learned : Option Learned) → HearsDecided old.learning slot c learned l
-      → l.nodes ≡ old.learning.nodes
-  decided_nodes l slot c learned (ignores_decided never none same) = ap (λ (x : Learning). x.nodes) same
-  decided_nodes l slot c learned (learns_decided opened some same) = ap (λ (x : Learning). x.nodes) same
-
-  acceptor_changes : (new : Mind) (a : Accepting) → new ≡ record old { accepting = a } → IsMindOf id nodes new
-  acceptor_changes new a e = subst (λ (m : Mind). IsMindOf id nodes m) (sym e)
-      (with_own (record old { accepting = a }) refl refl refl (own old.proposing))
-
-  nothing_changes : (new : Mind) → new ≡ old → IsMindOf id nodes new
-  nothing_changes new e = subst (λ (m : Mind). IsMindOf id nodes m) (sym e) is
+      changes new _ k.leaves refl refl e
+      (then_own old.proposing p (proposed p l) (record { id_ = refl; nodes_ = refl }) (proposes_keeps p p.campaign l))
 
   message_own : (from : ℕ) (message : Message) (new : Mind) (said : Response) → TakesMessage old from message new said
       → IsMindOf id nodes new
-  message_own from (Prepare ballot first) new said k = acceptor_changes new _ k.2
-  message_own from (Promise p) new said k = proposer_changes new _ k.0
+  message_own from (Prepare ballot first) new said k = changes new _ k.2 refl refl refl (own old.proposing)
+  message_own from (Promise p) new said k = changes new _ k.0 refl refl refl
       (then_own old.proposing (with_promised old.proposing from p)
       (after_counting old.proposing (with_promised old.proposing from p) old.learning) (record { id_ = refl; nodes_ = refl })
       (counting_keeps old.proposing (with_promised old.proposing from p) old.learning))
-  message_own from (Nack n) new said k = proposer_changes new _ k.0 (record { id_ = refl; nodes_ = refl })
-  message_own from (Accept v) new said k = acceptor_changes new _ k.0
   message_own from (Accepted v) new said (learned, l, heard, k) =
-      learner_changes l learned v.command _ new said (vote_nodes l from v learned heard) k
-  message_own from (Ask slot) new said k = nothing_changes new k.0
+      learner_changes l learned v.command _ new said (vote_keeps old.learning l from v learned heard).nodes_ k
   message_own from (Decided slot c) new said (learned, l, heard, k) =
-      learner_changes l learned c _ new said (decided_nodes l slot c learned heard) k
+      learner_changes l learned c _ new said (decided_keeps old.learning l slot c learned heard).nodes_ k
+  message_own from other new said k = changes new _ k.0 refl refl refl (record { id_ = refl; nodes_ = refl })
 
   envelope_own : (e : Envelope) (b : Bool) (new : Mind) (said : Response) → TakesEnvelope old e b new said → IsMindOf id nodes new
-  envelope_own e false new said k = nothing_changes new k.0
+  envelope_own e false new said k = changes new old k.0 refl refl refl (own old.proposing)
   envelope_own e true new said k = message_own e.from e.message new said k
 
   pub takes_own : (i : Input) (new : Mind) (said : Response) → Takes old i new said → IsMindOf id nodes new
-  takes_own (input.Submit client number op) new said k = proposer_changes new _ k.0
+  takes_own (input.Submit client number op) new said k = changes new _ k.0 refl refl refl
       (cond_both (waits old client number) _ _ (λ (x : Proposing × List Outgoing). KeepsOwn old.proposing x.0) (λ _. own old.proposing)
       (λ _. let p : Proposing = with_request old.proposing (asked client number op) in
       then_own old.proposing p (proposed p old.learning) (record { id_ = refl; nodes_ = refl })
       (proposes_keeps p p.campaign old.learning)))
   takes_own (input.Message e) new said k = envelope_own e (concerns old.id old.nodes e) new said k
-  takes_own input.Timeout new said k = proposer_changes new new.proposing k.2 (record {
+  takes_own input.Timeout new said k = changes new _ k.2 refl refl refl (record {
     id_ = ap (λ (p : Proposing). p.id) k.1.leaves;
     nodes_ = ap (λ (p : Proposing). p.nodes) k.1.leaves;
   })
-  takes_own input.Tick new said k = nothing_changes new k.0
+  takes_own input.Tick new said k = changes new old k.0 refl refl refl (own old.proposing)
 
 -- ---- a step of it
 module _ {S : Type 0} (storages : Ghosts S) (id nodes : ℕ) (old new : NodeState S) (i : Input) (is : IsMember id nodes old) where

@@ -9,7 +9,7 @@ use Rattle.learner.specs.Learning.HearsVote.{ignores}
 use Rattle.learner.specs.Prefixes.{IsPrefix}
 use Rattle.wire.specs.declared.frames.envelope.Envelope.{Envelope}
 use Rattle.wire.specs.declared.frames.message.Message.{Message}
-use Rattle.wire.specs.declared.frames.message.Message.TheVariants.{Prepare, Promise, Nack, Accept, Accepted, Ask, Decided}
+use Rattle.wire.specs.declared.frames.message.Message.TheVariants.{Accepted}
 use Rattle.minds.specs.declared.input.Input.TheVariants as input
 use Rattle.minds.specs.Inputs.{concerns}
 use Rattle.minds.specs.Minds.{Mind, position, is_past}
@@ -36,21 +36,11 @@ module _ (m : Mind) (counted : IsPrefix m.learning.learnt m.learning.first (posi
     ignores (counts_no_more m.learning (position m) from v counted (ltb-true v.slot (position m) past)) refl refl,
     (refl, refl),
   )
-  message_passes from (Prepare ballot first) past = absurd (cc)
-  message_passes from (Promise p) past = absurd (cc)
-  message_passes from (Nack n) past = absurd (cc)
-  message_passes from (Accept v) past = absurd (cc)
-  message_passes from (Ask slot) past = absurd (cc)
-  message_passes from (Decided slot command) past = absurd (cc)
+  message_passes from other past = absurd (cc)
 
   message_writes : (message : Message) → is_past m message ≡ true → WritesOnMessage m message None
   message_writes (Accepted v) past = refl
-  message_writes (Prepare ballot first) past = absurd (cc)
-  message_writes (Promise p) past = absurd (cc)
-  message_writes (Nack n) past = absurd (cc)
-  message_writes (Accept v) past = absurd (cc)
-  message_writes (Ask slot) past = absurd (cc)
-  message_writes (Decided slot command) past = absurd (cc)
+  message_writes other past = absurd (cc)
 
   envelope_passes : (e : Envelope) (b : Bool) → is_past m e.message ≡ true → TakesEnvelope m e b m silence
   envelope_passes e false past = (refl, refl)

@@ -1,15 +1,14 @@
 -- Records go on saying what a node holds.
-use Rattle.std.proofs.Common.{◌≡◌, ℕ, ◌^◌, List, [], ◌∷◌, Option, Some, None, Bool, true, false, nat_lt, nat_le}
+use Rattle.std.proofs.Common.{◌≡◌, ℕ, ◌^◌, List, [], Option, Some, None, Bool, true, false, nat_le}
 use Rattle.std.proofs.Common.{refl, sym, ap, ◌∙◌, subst, arith}
 use Rattle.std.proofs.lemmas.Bool.{cond_both, leb-false}
 use Rattle.byteorder.specs.Endian.{big_bytes}
 use Rattle.stable.specs.Records.{Records}
-use Rattle.acceptor.specs.Accepting.{Accepting, Write, records_after, after_prepare, after_accept}
+use Rattle.acceptor.specs.Accepting.{Accepting, Write, records_after, after_prepare}
 use Rattle.acceptor.proofs.RecordLemmas.{prepare_kept, accept_kept, RecordsSay-round, prepare_leaves_round, accept_leaves_round}
-use Rattle.learner.specs.Learning.{Learning, prefix}
+use Rattle.learner.specs.Learning.{Learning}
 use Rattle.learner.specs.declared.learned.Learned.{Learned}
-use Rattle.proposer.specs.Proposing.{Proposing, next_round, with_promised, gathers, gathers_on, fills, leads, proposes}
-use Rattle.proposer.specs.Campaigning.{Campaigning, begun, prepare, closed_below, window_filled}
+use Rattle.proposer.specs.Proposing.{Proposing, next_round, with_promised}
 use Rattle.proposer.specs.declared.outgoing.Outgoing.{Outgoing}
 use Rattle.sessions.specs.Asked.{Asked}
 use Rattle.sessions.specs.declared.command.Command.{Command}
@@ -17,7 +16,7 @@ use Rattle.wire.specs.FrameSpelling.{MessageFits}
 use Rattle.wire.specs.RecordForms.{IsRoundRecord}
 use Rattle.wire.specs.declared.frames.envelope.Envelope.{Envelope}
 use Rattle.wire.specs.declared.frames.message.Message.{Message}
-use Rattle.wire.specs.declared.frames.message.Message.TheVariants.{Prepare, Promise, Nack, Accept, Accepted, Ask, Decided}
+use Rattle.wire.specs.declared.frames.message.Message.TheVariants.{Prepare, Promise, Accept, Accepted, Decided}
 use Rattle.minds.specs.declared.fault.NodeFault.TheVariants as fault
 use Rattle.minds.specs.declared.input.Input.{Input}
 use Rattle.minds.specs.declared.input.Input.TheVariants as input
@@ -26,7 +25,8 @@ use Rattle.minds.specs.Minds.{Mind, is_full, refuses, asked, waits}
 use Rattle.minds.specs.Outputs.{Response}
 use Rattle.minds.specs.Protocol.{InputFits, accepting_on, accepting_if, accepting_after, round_after, RecordsHold, SaysRound}
 use Rattle.minds.specs.Taking.{Writes, WritesOnEnvelope, WritesOnMessage, Takes, TakesMessage, TakesEnvelope, Hears}
-use Rattle.minds.specs.Taking.{proposed, after_promise, begins_to_lead, after_submit, with_request, proposer_of, execution}
+use Rattle.minds.specs.Taking.{proposed, after_promise, after_submit, with_request, proposer_of, execution}
+use Rattle.minds.proofs.Campaigns.{proposes_keeps, counting_keeps}
 
 -- ---- what the records say once the write is made
 no_write : (records : Records) (w : Write) (a : Accepting) (round : ℕ) → w ≡ None → RecordsHold records a round
@@ -41,16 +41,12 @@ message_holds m (Prepare ballot first) records w e fits both =
       proposer = subst (λ (o : Option (List ℕ)). SaysRound o m.proposing.round)
           (sym (prepare_leaves_round records m.accepting ballot)) both.proposer;
     })
-message_holds m (Promise p) records w e fits both = no_write records w m.accepting m.proposing.round e both
-message_holds m (Nack n) records w e fits both = no_write records w m.accepting m.proposing.round e both
 message_holds m (Accept v) records w is fits both = record {
   acceptor = accept_kept records m.accepting v w (record { ballot = fits.ballot; command = fits.command }) is both.acceptor;
   proposer = subst (λ (o : Option (List ℕ)). SaysRound o m.proposing.round)
       (sym (accept_leaves_round records m.accepting v w is)) both.proposer;
 }
-message_holds m (Accepted v) records w e fits both = no_write records w m.accepting m.proposing.round e both
-message_holds m (Ask slot) records w e fits both = no_write records w m.accepting m.proposing.round e both
-message_holds m (Decided slot command) records w e fits both = no_write records w m.accepting m.proposing.round e both
+message_holds m other records w e fits both = no_write records w m.accepting m.proposing.round e both
 
 envelope_holds : (m : Mind) (e : Envelope) (b : Bool) (records : Records) (w : Write) → WritesOnEnvelope m e b w → MessageFits 7 e.message
     → RecordsHold records m.accepting m.proposing.round → RecordsHold (records_after records w) (accepting_if m e b) m.proposing.round
@@ -82,33 +78,18 @@ written_holds m input.Tick records w none e fits both = no_write records w m.acc
 
 -- ---- that is what the node holds then
 -- a proposer proposes under the round that it has
-gathered_round : (p : Proposing) (k : Campaigning) (position : ℕ) → (gathers_on p (Some k) position).0.round ≡ p.round
-gathered_round p k position =
-    cond_both (gathers p.waiting position) (record p { campaign = Some (begun k.ballot position) }, prepare k.ballot position ∷ []) (p, [])
-    (λ (r : Proposing × List Outgoing). r.0.round ≡ p.round) (λ _. refl) (λ _. refl)
-
-led_round : (p : Proposing) (k : Campaigning) (l : Learning) → (leads p k l).0.round ≡ p.round
-led_round p k l =
-    cond_both (nat_lt k.end (prefix l)) (gathers_on p (Some k) (prefix l))
-    (fills p k (window_filled (closed_below (prefix l) k) p.waiting p.learnt_to l))
-    (λ (r : Proposing × List Outgoing). r.0.round ≡ p.round) (λ _. gathered_round p k (prefix l)) (λ _. refl)
-
-proposed_round : (p : Proposing) (o : Option Campaigning) (l : Learning) → (proposes p o l).0.round ≡ p.round
-proposed_round p None l = refl
-proposed_round p (Some k) l =
-    cond_both k.leading (leads p k l) (p, []) (λ (r : Proposing × List Outgoing). r.0.round ≡ p.round) (λ _. led_round p k l) (λ _. refl)
+proposed_round : (p : Proposing) (l : Learning) → (proposed p l).0.round ≡ p.round
+proposed_round p l = ap (λ (q : Proposing). q.round) (proposes_keeps p p.campaign l)
 
 promised_round : (m : Mind) (from : ℕ) (p : _) → (after_promise m from p).0.round ≡ m.proposing.round
 promised_round m from p =
-    let then : Proposing = with_promised m.proposing from p in
-    cond_both (begins_to_lead m.proposing then) (proposed then m.learning) (then, [])
-    (λ (r : Proposing × List Outgoing). r.0.round ≡ m.proposing.round) (λ _. proposed_round then then.campaign m.learning) (λ _. refl)
+    ap (λ (q : Proposing). q.round) (counting_keeps m.proposing (with_promised m.proposing from p) m.learning)
 
 submitted_round : (m : Mind) (r : Asked) → (after_submit m r).0.round ≡ m.proposing.round
 submitted_round m r =
     let then : Proposing = with_request m.proposing r in
     cond_both (waits m r.client r.number) (m.proposing, []) (proposed then m.learning)
-    (λ (q : Proposing × List Outgoing). q.0.round ≡ m.proposing.round) (λ _. refl) (λ _. proposed_round then then.campaign m.learning)
+    (λ (q : Proposing × List Outgoing). q.0.round ≡ m.proposing.round) (λ _. refl) (λ _. proposed_round then m.learning)
 
 -- the acceptor and the round are these
 pub record HoldsRecords (new : Mind) (a : Accepting) (round : ℕ) : Type 0 where
@@ -128,17 +109,15 @@ held_after_news : (m : Mind) (c : Command) (learned : Option Learned) (l : Learn
 held_after_news m c None l asks new said h = held_as new (record m { learning = l }) h.0
 held_after_news m c (Some n) l asks new said h =
     let then : Proposing = proposer_of m n.slot (execution m l) in
-    with_its_round new m.accepting _ _ (held_as new _ h.leaves) (proposed_round then then.campaign l)
+    with_its_round new m.accepting _ _ (held_as new _ h.leaves) (proposed_round then l)
 
 held_after_message : (m : Mind) (from : ℕ) (message : Message) (new : Mind) (said : Response) → TakesMessage m from message new said
     → HoldsRecords new (accepting_on m message) m.proposing.round
-held_after_message m from (Prepare ballot first) new said h = held_as new (record m { accepting = after_prepare m.accepting ballot }) h.2
+held_after_message m from (Prepare ballot first) new said h = held_as new _ h.2
 held_after_message m from (Promise p) new said h = with_its_round new m.accepting _ _ (held_as new _ h.0) (promised_round m from p)
-held_after_message m from (Nack n) new said h = held_as new _ h.0
-held_after_message m from (Accept v) new said h = held_as new (record m { accepting = after_accept m.accepting v }) h.0
 held_after_message m from (Accepted v) new said h = held_after_news m v.command h.0 h.1 [] new said h.3
-held_after_message m from (Ask slot) new said h = held_as new m h.0
 held_after_message m from (Decided slot command) new said h = held_after_news m command h.0 h.1 _ new said h.3
+held_after_message m from other new said h = held_as new _ h.0
 
 held_after_envelope : (m : Mind) (e : Envelope) (b : Bool) (new : Mind) (said : Response) → TakesEnvelope m e b new said
     → HoldsRecords new (accepting_if m e b) m.proposing.round

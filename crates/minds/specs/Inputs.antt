@@ -17,6 +17,24 @@ is_short (Put id seq) = nat_le (length seq.points) MOST_PUT_POINTS
 is_short (Append addition) = true
 is_short (Remove id) = true
 
+-- ---- each message is for one role of a node
+-- an acceptor is asked for a promise or a vote, a proposer is answered, a learner hears what was voted or decided, and the log is
+-- asked what was decided
+pub data Role : Type 0 where
+  Acceptor : Role
+  Proposer : Role
+  Learner : Role
+  Log : Role
+
+abbrev pub role_of : Message → Role
+role_of (Prepare ballot first) = Acceptor
+role_of (Promise p) = Proposer
+role_of (Nack n) = Proposer
+role_of (Accept v) = Acceptor
+role_of (Accepted v) = Learner
+role_of (Ask slot) = Log
+role_of (Decided slot command) = Learner
+
 -- ---- a message names a node by each of its ballots
 -- the ballot is of a node of so many
 abbrev pub is_of_run : ℕ → Ballot → Bool

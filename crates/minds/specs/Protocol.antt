@@ -17,7 +17,7 @@ use Rattle.wire.specs.FrameSpelling.{MessageFits}
 use Rattle.wire.specs.RecordForms.{IsRoundRecord}
 use Rattle.wire.specs.declared.frames.envelope.Envelope.{Envelope}
 use Rattle.wire.specs.declared.frames.message.Message.{Message}
-use Rattle.wire.specs.declared.frames.message.Message.TheVariants.{Prepare, Promise, Nack, Accept, Accepted, Ask, Decided}
+use Rattle.wire.specs.declared.frames.message.Message.TheVariants.{Prepare, Accept}
 pub use Rattle.wire.specs.Protocol.{message_of, frame_of}
 use Rattle.minds.specs.declared.input.Input.{Input}
 use Rattle.minds.specs.declared.input.Input.TheVariants as input
@@ -90,12 +90,8 @@ InputFits input.Tick = ⊤
 -- what the acceptor holds once the write of a message, and of an input, is made
 abbrev pub accepting_on : Mind → Message → Accepting
 accepting_on m (Prepare ballot first) = after_prepare m.accepting ballot
-accepting_on m (Promise p) = m.accepting
-accepting_on m (Nack n) = m.accepting
 accepting_on m (Accept v) = after_accept m.accepting v
-accepting_on m (Accepted v) = m.accepting
-accepting_on m (Ask slot) = m.accepting
-accepting_on m (Decided slot command) = m.accepting
+accepting_on m other = m.accepting
 
 abbrev pub accepting_if : Mind → Envelope → Bool → Accepting
 accepting_if m e false = m.accepting

@@ -27,14 +27,11 @@ use Rattle.minds.specs.Outputs.{Response, sent, silence}
 use Rattle.minds.specs.Sending.{envelopes_of, envelopes, answer_sends, decided_sends, ask_sends, ask_others}
 
 -- ---- the one write that an input makes, if it makes one
+-- on a message only an acceptor writes
 abbrev pub WritesOnMessage : Mind → Message → Write → Type 0
 WritesOnMessage m (Prepare ballot first) write = write ≡ prepare_write m.accepting ballot
-WritesOnMessage m (Promise p) write = write ≡ None
-WritesOnMessage m (Nack n) write = write ≡ None
 WritesOnMessage m (Accept v) write = IsAcceptWrite m.accepting v write
-WritesOnMessage m (Accepted v) write = write ≡ None
-WritesOnMessage m (Ask slot) write = write ≡ None
-WritesOnMessage m (Decided slot command) write = write ≡ None
+WritesOnMessage m other write = write ≡ None
 
 abbrev pub WritesOnEnvelope : Mind → Envelope → Bool → Write → Type 0
 WritesOnEnvelope m e false write = write ≡ None
