@@ -74,12 +74,7 @@ question_back w =
 
 question_is_back : (question : Question) → question_back (question_text question) ≡ Some question
 question_is_back At = refl
-question_is_back Cut = refl
-question_is_back Ever = refl
-question_is_back Always = refl
-question_is_back Within = refl
-question_is_back Get = refl
-question_is_back Count = refl
+question_is_back _ = refl
 
 pub question_text-injective : (a b : Question) → question_text a ≡ question_text b → a ≡ b
 question_text-injective = one_by_text question_text question_back question_is_back
@@ -281,7 +276,7 @@ pub record IsRowOf (n : ℕ) (words : List (List ℕ)) : Type 0 where
 fit_its_words : (n : ℕ) (at : List Place) (words : List (List ℕ)) → AllFit n at words → HasItsWords at words
 fit_its_words n [] words f = tt
 fit_its_words n (the_word wanted ∷ others) [] f = tt
-fit_its_words n (the_word wanted ∷ others) (word ∷ words) f = (f.0, fit_its_words n others words f.1)
+fit_its_words n (the_word wanted ∷ others) (word ∷ words) f = (f.0.1, fit_its_words n others words f.1)
 fit_its_words n (a_run_size ∷ others) words f = fit_its_words n others (drop 1 words) f.1
 fit_its_words n (a_node ∷ others) words f = fit_its_words n others (drop 1 words) f.1
 fit_its_words n (a_client ∷ others) words f = fit_its_words n others (drop 1 words) f.1

@@ -11,6 +11,7 @@ pub mod NoSchedule
 pub mod One
 pub mod OneAction
 pub mod OneFault
+pub mod OneValue
 pub mod Progress
 pub mod RowLemmas
 pub mod Spelled

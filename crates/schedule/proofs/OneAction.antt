@@ -1,29 +1,23 @@
 -- Words spell one action.
-use Rattle.std.proofs.Common.{◌≡◌, ℕ, ◌≤◌, ◌^◌, ℤ, List, [], ◌∷◌, cond, codes, refl, sym, ◌∙◌, ap, subst, arith}
+use Rattle.std.proofs.Common.{◌≡◌, ℕ, ◌≤◌, ◌^◌, ℤ, List, [], ◌∷◌, refl, sym, ◌∙◌, ap, subst, arith}
 use Rattle.std.specs.List.{join_with_byte}
-use Rattle.std.specs.Str.{bytes_eq}
-use Rattle.std.proofs.lemmas.Fmt.{decimal_injective}
 use Rattle.std.proofs.lemmas.List.Splits.{join_with_byte-slice_split}
 use Rattle.mfjson.specs.Datetime.{ReadsAs}
 use Rattle.mfjson.specs.Document.{IsDocumentOf}
 use Rattle.mfjson.specs.declared.feature.Feature.{Feature}
 use Rattle.mfjson.proofs.OneText.{instant_of_one}
 use Rattle.mfjson.proofs.OneFeature.{document_of_one}
-use Rattle.tpoint.specs.Extents.{Span, Area}
 use Rattle.store.specs.Additions.{Added}
 use Rattle.store.specs.declared.op.Op.{Op}
 use Rattle.store.specs.declared.op.Op.TheVariants as op
 use Rattle.store.specs.declared.query.Query.{Query}
-use Rattle.store.specs.declared.query.Query.TheVariants as query
 use Rattle.stable.specs.declared.scripted.Failing.{Failing}
-use Rattle.stable.specs.declared.scripted.Failing.TheVariants.{Old, New, Read}
 use Rattle.history.specs.declared.event.Event.TheVariants as event
-use Rattle.schedule.specs.Extents.{IsPeriod, IsRect}
 use Rattle.schedule.specs.Keywords.{failing_text}
 use Rattle.schedule.specs.Numbers.{Writes, IsCoordinate}
-use Rattle.schedule.specs.Spelling.{WordsSpell, SpellsOp, SpellsAddition, SpellsInstant, SpellsPeriod, SpellsVisit, SpellsQuery, OfFeature}
-use Rattle.schedule.specs.Spelling.{BeginsWith, IsOneWord, ArmsNode, SpellsRound, Submits, Asks, operation_of, question_of}
-use Rattle.schedule.specs.Table.{Row, line_of, submit_of, query_of, NameEach}
+use Rattle.schedule.specs.Spelling.{WordsSpell, SpellsOp, SpellsAddition, SpellsQuery, query_made}
+use Rattle.schedule.specs.Spelling.{BeginsWith, IsOneWord, ArmsNode, SpellsRound, Submits, Asks, operation_of}
+use Rattle.schedule.specs.Table.{Row, line_of, submit_of, query_of, NameEach, question_places}
 use Rattle.schedule.specs.Words.{blank, words_of}
 use Rattle.schedule.specs.declared.action.Action.{Action}
 use Rattle.schedule.specs.declared.action.Action.TheVariants.{Step, Flush, Round}
@@ -31,8 +25,8 @@ use Rattle.schedule.specs.declared.keyword.Keyword.TheVariants as keyword
 use Rattle.schedule.specs.declared.keyword.Operation.{Operation}
 use Rattle.schedule.specs.declared.keyword.Operation.TheVariants as operation
 use Rattle.schedule.specs.declared.keyword.Question.{Question}
-use Rattle.schedule.specs.declared.keyword.Question.TheVariants as question
-use Rattle.schedule.proofs.Coordinates.{one_coordinate, one_rect, one_period}
+use Rattle.schedule.proofs.Coordinates.{one_coordinate}
+use Rattle.schedule.proofs.OneValue.{one_number, one_naming, one_values, failing_text-injective}
 use Rattle.schedule.proofs.SpelledRows.{row_of, row_has_words, no_other_row}
 
 -- ---- words
@@ -40,11 +34,6 @@ use Rattle.schedule.proofs.SpelledRows.{row_of, row_has_words, no_other_row}
 words_of-injective : (a b : List ℕ) → words_of a ≡ words_of b → a ≡ b
 words_of-injective a b same =
     sym (join_with_byte-slice_split blank a) ∙ ap (join_with_byte blank) same ∙ join_with_byte-slice_split blank b
-
-one_number : (least limit : ℕ) (word other : List ℕ) (m n : ℕ) → limit ≤ 2 ^ 64 → word ≡ other
-    → Writes least limit word m → Writes least limit other n → m ≡ n
-one_number least limit word other m n small same a b =
-    decimal_injective m n (omega (arith, a.below)) (omega (arith, b.below)) (sym a.text ∙ same ∙ b.text)
 
 at_one_instant : (word other : List ℕ) (t u : ℕ) → word ≡ other → ReadsAs word t → ReadsAs other u → t ≡ u
 at_one_instant word other t u same a b = instant_of_one other t u (subst (λ (w : List ℕ). ReadsAs w t) same a) b
@@ -91,105 +80,10 @@ one_op words a b same sa sb =
     op_of_one (operation_of b) words a b (subst (λ (o : Operation). OpOf o words a) same (as_op words a sa)) (as_op words b sb)
 
 -- ---- what a node is asked, by the word that says which question it is
-one_feature : (words : List (List ℕ)) (id other : List ℕ) (P Q : List (List ℕ) → Type 0) → OfFeature id P words
-    → OfFeature other Q words → (id ≡ other) × ((others : List (List ℕ)) × P others × Q others)
-one_feature words id other P Q (xs, ex, of_id, p) (ys, ey, of_other, q) =
-    let same : xs ≡ ys = cc in
-    let ids : id ≡ other = cc in
-    (ids, (ys, subst P same p, q))
-
-one_moment : (words : List (List ℕ)) (t u : ℕ) → SpellsInstant words t → SpellsInstant words u → t ≡ u
-one_moment words t u (d, ed, a) (e, ee, b) = let same : d ≡ e = cc in at_one_instant d e t u same a b
-
-period_moved : (a b c d : List ℕ) (p : Span) → a ≡ c → b ≡ d → IsPeriod a b p → IsPeriod c d p
-period_moved a b c d p e f s = subst (λ (w : List ℕ). IsPeriod w d p) e (subst (λ (w : List ℕ). IsPeriod a w p) f s)
-
-one_span : (words : List (List ℕ)) (p q : Span) → SpellsPeriod words p → SpellsPeriod words q → p ≡ q
-one_span words p q s r =
-    let all : s.begin ∷ s.end ∷ [] ≡ r.begin ∷ r.end ∷ [] = sym s.words_are ∙ r.words_are in
-    let begin : s.begin ≡ r.begin = cc in
-    let end : s.end ≡ r.end = cc in
-    one_period r.begin r.end p q (period_moved _ _ _ _ p begin end s.is_period) r.is_period
-
-rect_moved : (a b c d x0 y0 x1 y1 : List ℕ) (r : Area) → a ≡ x0 → b ≡ y0 → c ≡ x1 → d ≡ y1 → IsRect a b c d r
-    → IsRect x0 y0 x1 y1 r
-rect_moved a b c d x0 y0 x1 y1 r e f g h s = record {
-  left = subst (λ (w : List ℕ). IsCoordinate w r.x0) e s.left;
-  bottom = subst (λ (w : List ℕ). IsCoordinate w r.y0) f s.bottom;
-  right = subst (λ (w : List ℕ). IsCoordinate w r.x1) g s.right;
-  top = subst (λ (w : List ℕ). IsCoordinate w r.y1) h s.top;
-  in_order = s.in_order;
-}
-
-one_visit : (words : List (List ℕ)) (p q : Span) (r u : Area) → SpellsVisit words p r → SpellsVisit words q u → (p ≡ q) × (r ≡ u)
-one_visit words p q r u s v =
-    let all : s.begin ∷ s.end ∷ s.x0 ∷ s.y0 ∷ s.x1 ∷ s.y1 ∷ [] ≡ v.begin ∷ v.end ∷ v.x0 ∷ v.y0 ∷ v.x1 ∷ v.y1 ∷ [] =
-    sym s.words_are ∙ v.words_are in
-    let begin : s.begin ≡ v.begin = cc in
-    let end : s.end ≡ v.end = cc in
-    let x0 : s.x0 ≡ v.x0 = cc in
-    let y0 : s.y0 ≡ v.y0 = cc in
-    let x1 : s.x1 ≡ v.x1 = cc in
-    let y1 : s.y1 ≡ v.y1 = cc in (
-      one_period v.begin v.end p q (period_moved _ _ _ _ p begin end s.is_period) v.is_period,
-      one_rect v.x0 v.y0 v.x1 v.y1 r u (rect_moved _ _ _ _ _ _ _ _ r x0 y0 x1 y1 s.is_rect) v.is_rect,
-    )
-
-abbrev QueryOf : Question → List (List ℕ) → Query → Type 0
-QueryOf question.At words asked =
-    (id : List ℕ) × (t : ℕ) × (asked ≡ query.At id t) × SpellsQuery words (query.At id t)
-QueryOf question.Cut words asked =
-    (id : List ℕ) × (p : Span) × (asked ≡ query.Cut id p) × SpellsQuery words (query.Cut id p)
-QueryOf question.Ever words asked =
-    (id : List ℕ) × (p : Span) × (r : Area) × (asked ≡ query.Ever id p r) × SpellsQuery words (query.Ever id p r)
-QueryOf question.Always words asked =
-    (id : List ℕ) × (p : Span) × (r : Area) × (asked ≡ query.Always id p r) × SpellsQuery words (query.Always id p r)
-QueryOf question.Within words asked =
-    (p : Span) × (r : Area) × (asked ≡ query.Within p r) × SpellsVisit words p r
-QueryOf question.Get words asked = (id : List ℕ) × (asked ≡ query.Get id) × SpellsQuery words (query.Get id)
-QueryOf question.Count words asked = asked ≡ query.Count
-
-as_query : (words : List (List ℕ)) (asked : Query) → SpellsQuery words asked → QueryOf (question_of asked) words asked
-as_query words (query.At id t) s = (id, t, refl, s)
-as_query words (query.Cut id p) s = (id, p, refl, s)
-as_query words (query.Ever id p r) s = (id, p, r, refl, s)
-as_query words (query.Always id p r) s = (id, p, r, refl, s)
-as_query words (query.Within p r) s = (p, r, refl, s)
-as_query words (query.Get id) s = (id, refl, s)
-as_query words query.Count s = refl
-
-query_of_one : (which : Question) (words : List (List ℕ)) (a b : Query) → QueryOf which words a → QueryOf which words b → a ≡ b
-query_of_one question.At words a b (id, t, ea, sa) (other, u, eb, sb) =
-    let both = one_feature words id other (λ xs. SpellsInstant xs t) (λ xs. SpellsInstant xs u) sa sb in
-    let when : t ≡ u = one_moment both.1.0 t u both.1.1 both.1.2 in
-    let ids : id ≡ other = both.0 in
-    cc
-query_of_one question.Cut words a b (id, p, ea, sa) (other, q, eb, sb) =
-    let both = one_feature words id other (λ xs. SpellsPeriod xs p) (λ xs. SpellsPeriod xs q) sa sb in
-    let spans : p ≡ q = one_span both.1.0 p q both.1.1 both.1.2 in
-    let ids : id ≡ other = both.0 in
-    cc
-query_of_one question.Ever words a b (id, p, r, ea, sa) (other, q, u, eb, sb) =
-    let both = one_feature words id other (λ xs. SpellsVisit xs p r) (λ xs. SpellsVisit xs q u) sa sb in
-    let visits : (p ≡ q) × (r ≡ u) = one_visit both.1.0 p q r u both.1.1 both.1.2 in
-    let ids : id ≡ other = both.0 in
-    cc
-query_of_one question.Always words a b (id, p, r, ea, sa) (other, q, u, eb, sb) =
-    let both = one_feature words id other (λ xs. SpellsVisit xs p r) (λ xs. SpellsVisit xs q u) sa sb in
-    let visits : (p ≡ q) × (r ≡ u) = one_visit both.1.0 p q r u both.1.1 both.1.2 in
-    let ids : id ≡ other = both.0 in
-    cc
-query_of_one question.Within words a b (p, r, ea, sa) (q, u, eb, sb) =
-    let visits : (p ≡ q) × (r ≡ u) = one_visit words p q r u sa sb in cc
-query_of_one question.Get words a b (id, ea, (xs, ex, of_id, none)) (other, eb, (ys, ey, of_other, empty)) =
-    let ids : id ≡ other = cc in ea ∙ ap (λ (i : List ℕ). query.Get i) ids ∙ sym eb
-query_of_one question.Count words a b ea eb = ea ∙ sym eb
-
-one_query : (words : List (List ℕ)) (a b : Query) → question_of a ≡ question_of b → SpellsQuery words a → SpellsQuery words b
-    → a ≡ b
-one_query words a b same sa sb =
-    query_of_one (question_of b) words a b (subst (λ (q : Question). QueryOf q words a) same (as_query words a sa))
-    (as_query words b sb)
+one_query : (n : ℕ) (question : Question) (words : List (List ℕ)) (a b : Query) → n ≤ 2 ^ 64 → SpellsQuery n question words a
+    → SpellsQuery n question words b → a ≡ b
+one_query n question words a b small (v, s, ea) (w, r, eb) =
+    ea ∙ ap (query_made question) (one_values n (question_places question) words v w small s.1 r.1) ∙ sym eb
 
 -- ---- what is done, by the row of the line
 -- a client asks a node
@@ -209,10 +103,8 @@ record Asking (n : ℕ) (which : Question) (words : List (List ℕ)) (action : A
   node : ℕ
   asked : Query
   is : action ≡ Step (event.Query node asked)
-  kind : question_of asked ≡ which
-  others : List (List ℕ)
-  asks : Asks n (question_of asked) words others node
-  query : SpellsQuery others asked
+  asks : Asks n which words node
+  query : SpellsQuery n which asks.others asked
 
 abbrev ActionOf : ℕ → Row → List (List ℕ) → Action → Type 0
 ActionOf n (line_of keyword.Nodes) words action = ⊥
@@ -235,7 +127,8 @@ ActionOf n (line_of keyword.Fault) words action =
 ActionOf n (submit_of which) words action = Submission n which words action
 ActionOf n (query_of which) words action = Asking n which words action
 
-as_row : (n : ℕ) (words : List (List ℕ)) (action : Action) → WordsSpell n words action → ActionOf n (row_of action) words action
+as_row : (n : ℕ) (words : List (List ℕ)) (action : Action) (s : WordsSpell n words action)
+    → ActionOf n (row_of n words action s) words action
 as_row n words (Step (event.Submit node client number asked)) (others, submits, op) = record {
   node = node;
   client = client;
@@ -255,33 +148,14 @@ as_row n words (Step (event.Timeout node)) s = (node, refl, s)
 as_row n words (Step (event.Tick node)) s = (node, refl, s)
 as_row n words (Step (event.Restart node)) s = (node, refl, s)
 as_row n words (Step (event.Fault node failing)) s = (node, failing, refl, s)
-as_row n words (Step (event.Query node asked)) (others, asks, query) = record {
-  node = node;
-  asked = asked;
-  is = refl;
-  kind = refl;
-  others = others;
-  asks = asks;
-  query = query;
-}
+as_row n words (Step (event.Query node asked)) (question, asks, query) =
+    record { node = node; asked = asked; is = refl; asks = asks; query = query }
 
 one_numbered : (least limit : ℕ) (first : List ℕ) (words : List (List ℕ)) (m n : ℕ) → limit ≤ 2 ^ 64
     → BeginsWith first words (IsOneWord (λ word. Writes least limit word m))
     → BeginsWith first words (IsOneWord (λ word. Writes least limit word n)) → m ≡ n
 one_numbered least limit first words m n small (xs, ex, (v, ev, a)) (ys, ey, (w, ew, b)) =
     let same : v ≡ w = cc in one_number least limit v w m n small same a b
-
--- the three ways to fail have three texts
-abbrev failing_back : List ℕ → Failing
-failing_back word = cond (bytes_eq word (codes "old")) Old (cond (bytes_eq word (codes "new")) New Read)
-
-failing_is_back : (failing : Failing) → failing_back (failing_text failing) ≡ failing
-failing_is_back Old = refl
-failing_is_back New = refl
-failing_is_back Read = refl
-
-failing_text-injective : (a b : Failing) → failing_text a ≡ failing_text b → a ≡ b
-failing_text-injective a b same = sym (failing_is_back a) ∙ ap failing_back same ∙ failing_is_back b
 
 one_arming : (n : ℕ) (first : List ℕ) (words : List (List ℕ)) (node other : ℕ) (f g : Failing) → n ≤ 2 ^ 64
     → BeginsWith first words (λ others. ArmsNode n others node f)
@@ -291,18 +165,6 @@ one_arming n first words node other f g small (xs, ex, (v, ev, a)) (ys, ey, (w, 
     let same : v ≡ w = cc in
     let texts : failing_text f ≡ failing_text g = cc in
     (one_number 0 n v w node other small same a b, failing_text-injective f g texts)
-
--- words name one list of nodes
-one_naming : (n : ℕ) (words : List (List ℕ)) (a b : List ℕ) → n ≤ 2 ^ 64 → NameEach n words a → NameEach n words b → a ≡ b
-one_naming n [] [] [] small p q = refl
-one_naming n [] [] (y ∷ ys) small p q = absurd q
-one_naming n [] (x ∷ xs) b small p q = absurd p
-one_naming n (word ∷ words) [] b small p q = absurd p
-one_naming n (word ∷ words) (x ∷ xs) [] small p q = absurd q
-one_naming n (word ∷ words) (x ∷ xs) (y ∷ ys) small p q =
-    let first : x ≡ y = one_number 0 n word word x y small refl p.0 q.0 in
-    let rest : xs ≡ ys = one_naming n words xs ys small p.1 q.1 in
-    cc
 
 one_round : (n : ℕ) (first : List ℕ) (words : List (List ℕ)) (node other : ℕ) (a b : List ℕ) → n ≤ 2 ^ 64
     → BeginsWith first words (λ others. SpellsRound n others node a)
@@ -342,10 +204,10 @@ one_asking n which words a b small s r =
     let v = r.asks in
     let all = sym u.words_are ∙ v.words_are in
     let node_words : u.node_word ≡ v.node_word = cc in
-    let others : s.others ≡ r.others = cc in
+    let others : u.others ≡ v.others = cc in
     let nodes : s.node ≡ r.node = one_number 0 n _ _ s.node r.node small node_words u.to_node v.to_node in
-    let queries : s.asked ≡ r.asked = one_query r.others s.asked r.asked (s.kind ∙ sym r.kind)
-    (subst (λ (xs : List (List ℕ)). SpellsQuery xs s.asked) others s.query) r.query in
+    let queries : s.asked ≡ r.asked = one_query n which v.others s.asked r.asked small
+    (subst (λ (xs : List (List ℕ)). SpellsQuery n which xs s.asked) others s.query) r.query in
     s.is ∙ (λ i. Step (event.Query (nodes i) (queries i))) ∙ sym r.is
 
 action_of_one : (n : ℕ) (row : Row) (words : List (List ℕ)) (a b : Action) → n ≤ 2 ^ 64 → ActionOf n row words a
@@ -378,6 +240,7 @@ action_of_one n (query_of which) words a b small sa sb = one_asking n which word
 
 pub one_action : (n : ℕ) (words : List (List ℕ)) (a b : Action) → n ≤ 2 ^ 64 → WordsSpell n words a → WordsSpell n words b → a ≡ b
 one_action n words a b small sa sb =
-    let row : row_of a ≡ row_of b = no_other_row n words a (row_of b) sa (row_has_words n words b sb) in
-    action_of_one n (row_of b) words a b small
+    let row : row_of n words a sa ≡ row_of n words b sb =
+    no_other_row n words a (row_of n words b sb) sa (row_has_words n words b sb) in
+    action_of_one n (row_of n words b sb) words a b small
     (subst (λ (r : Row). ActionOf n r words a) row (as_row n words a sa)) (as_row n words b sb)

@@ -1,17 +1,16 @@
 -- What is wrong with the words of a row, as its parts tell it.
 use Rattle.std.proofs.Common.{◌≡◌, ◌≢◌, ◌==◌, ℕ, ◌<◌, ◌≤◌, List, [], ◌∷◌, ◌++◌, length, Result, Ok, Err, MatchResult, codes, refl, sym, ap}
-use Rattle.std.proofs.Common.{◌↔◌, subst, inl, inr, arith}
+use Rattle.std.proofs.Common.{◌↔◌, inl, inr, arith}
 use Rattle.std.specs.Prelude.{IsErrAnd}
 use Rattle.std.proofs.lemmas.List.Splits.{length-slice_split}
 use Rattle.store.specs.declared.op.Op.{Op}
 use Rattle.store.specs.declared.op.Op.TheVariants as op
 use Rattle.store.specs.declared.query.Query.{Query}
-use Rattle.store.specs.declared.query.Query.TheVariants as query
 use Rattle.tpoint.specs.Extents.{Span}
 use Rattle.schedule.specs.Extents.{IsPeriod}
 use Rattle.schedule.specs.Keywords.{text_of, operation_text, question_text}
 use Rattle.schedule.specs.Rows.{IsFaultAt, IsRowFault, IsWordsFault}
-use Rattle.schedule.specs.Spelling.{SpellsOp, SpellsQuery, WordsSpell, operation_of, question_of}
+use Rattle.schedule.specs.Spelling.{SpellsOp, SpellsQuery, WordsSpell, operation_of}
 use Rattle.schedule.specs.Submissions.{Names, asker_places, asker_words, submit_words}
 use Rattle.schedule.specs.declared.submits.Asker.{Asker}
 use Rattle.schedule.specs.declared.submits.AskerWords.{AskerWords}
@@ -27,7 +26,7 @@ use Rattle.schedule.specs.declared.keyword.Keyword.TheVariants.{Nodes, Deliver, 
 use Rattle.schedule.specs.declared.keyword.Operation.{Operation}
 use Rattle.schedule.specs.declared.keyword.Operation.TheVariants.{Put, Append, Remove}
 use Rattle.schedule.specs.declared.keyword.Question.{Question}
-use Rattle.schedule.specs.declared.keyword.Question.TheVariants.{At, Cut, Ever, Always, Within, Get, Count}
+use Rattle.schedule.specs.declared.keyword.Question.TheVariants.{At, Cut, Ever, Within, Count}
 use Rattle.schedule.specs.declared.fault.ScheduleFault.{ScheduleFault}
 use Rattle.schedule.specs.declared.fault.ScheduleFault.TheVariants.{NotPrintable, UnknownWord, NodesLine, WordCount, WordForm, Document}
 use Rattle.schedule.proofs.Told.{err_told}
@@ -42,12 +41,7 @@ operation_words Remove words = tt
 
 pub question_words : (question : Question) (words : List (List ℕ)) → HasItsWords (question_places question) words
 question_words At words = tt
-question_words Cut words = tt
-question_words Ever words = tt
-question_words Always words = tt
-question_words Within words = tt
-question_words Get words = tt
-question_words Count words = tt
+question_words _ words = tt
 
 pub keyword_words : (keyword : Keyword) (words : List (List ℕ)) → HasItsWords (keyword_places keyword) words
 keyword_words Nodes words = tt
@@ -94,15 +88,9 @@ op_count (op.Put id seq) a b c words (document, same, is) = put_count a b c docu
 op_count (op.Append addition) a b c words is = rw is.words_are refl
 op_count (op.Remove id) a b c words is = rw is.0 refl
 
-pub query_count : (asked : Query) (a : List ℕ) (words : List (List ℕ)) → SpellsQuery words asked
-    → HasItsCount (query_of (question_of asked)) (codes "query" ∷ a ∷ question_text (question_of asked) ∷ words)
-query_count (query.At id t) a words (others, same, of_id, (datetime, one, at)) = rw (same, one) refl
-query_count (query.Cut id period) a words (others, same, of_id, is) = rw (same, is.words_are) refl
-query_count (query.Ever id period rect) a words (others, same, of_id, is) = rw (same, is.words_are) refl
-query_count (query.Always id period rect) a words (others, same, of_id, is) = rw (same, is.words_are) refl
-query_count (query.Within period rect) a words is = rw is.words_are refl
-query_count (query.Get id) a words (others, same, of_id, none) = rw (same, none) refl
-query_count query.Count a words none = rw none refl
+pub query_count : (question : Question) (a : List ℕ) (words : List (List ℕ)) → length words ≡ count (question_places question)
+    → HasItsCount (query_of question) (codes "query" ∷ a ∷ question_text question ∷ words)
+query_count question a words same = omega (arith, same)
 
 -- ---- what is wrong with the words of a part is wrong with the line
 -- at places that want no certain word, only a count or a form is wrong
@@ -174,30 +162,30 @@ query_fault n question a words =
       λ others. query_is_no_nodes _ others,
     ))
     (λ same misfit. (
-      record { row = query_of question; its_words = its; its_count = omega (arith, same); misfit = inr (inr (inr misfit)) },
+      record { row = query_of question; its_words = its; its_count = query_count question a words same; misfit = inr (inr (inr misfit)) },
       λ others. query_is_no_nodes _ others,
     ))
 
 -- which node is asked
-target_fault : (n : ℕ) (asked : Query) (a : List ℕ) (words : List (List ℕ)) → SpellsQuery words asked
-    → ((node : ℕ) → ¬ (IsNode n a node))
-    → IsWordsFault n (codes "query" ∷ a ∷ question_text (question_of asked) ∷ words) WordForm
-target_fault n asked a words spells none = (
+pub asked_fault : (n : ℕ) (question : Question) (a : List ℕ) (words : List (List ℕ))
+    → length words ≡ count (question_places question) → ((node : ℕ) → ¬ (IsNode n a node))
+    → IsWordsFault n (codes "query" ∷ a ∷ question_text question ∷ words) WordForm
+asked_fault n question a words its_count none = (
   record {
-    row = query_of (question_of asked);
-    its_words = (refl, (refl, question_words (question_of asked) words));
-    its_count = query_count asked a words spells;
+    row = query_of question;
+    its_words = (refl, (refl, question_words question words));
+    its_count = query_count question a words its_count;
     misfit = inr (inl (λ is. none is.0 is.1));
   },
   λ others. query_is_no_nodes _ others,
 )
 
-pub asked_fault : (n : ℕ) (question : Question) (asked : Query) (a : List ℕ) (words : List (List ℕ))
-    → question_of asked ≡ question → SpellsQuery words asked → ((node : ℕ) → ¬ (IsNode n a node))
-    → IsWordsFault n (codes "query" ∷ a ∷ question_text question ∷ words) WordForm
-asked_fault n question asked a words same spells none =
-    subst (λ (q : Question). IsWordsFault n (codes "query" ∷ a ∷ question_text q ∷ words) WordForm) same
-    (target_fault n asked a words spells none)
+-- what is asked, and whom, are a query
+pub asks : (n : ℕ) (question : Question) (asked : Query) (a : List ℕ) (words : List (List ℕ)) (node : ℕ) → IsNode n a node
+    → SpellsQuery n question words asked
+    → WordsSpell n (codes "query" ∷ a ∷ question_text question ∷ words) (Step (event.Query node asked))
+asks n question asked a words node is spells =
+    (question, record { node_word = a; others = words; words_are = refl; to_node = is }, spells)
 
 -- what is asked for, and who asks, are a submission
 pub submits : (n : ℕ) (operation : Operation) (asking : AskerWords) (asker : Asker) (asked : Op) (words : List (List ℕ))

@@ -1,6 +1,6 @@
 -- A line that spells an action has no fault.
 use Rattle.std.proofs.Common.{◌≡◌, ◌≢◌, ◌==◌, ◌⊎◌, ℕ, ◌≤◌, List, [], ◌∷◌, length, Result, Ok, Err, MatchResult, codes, refl, sym, ◌∙◌, ap}
-use Rattle.std.proofs.Common.{subst, inl, inr, arith}
+use Rattle.std.proofs.Common.{drop, subst, inl, inr, arith}
 use Rattle.std.specs.List.{All, join_with_byte}
 use Rattle.std.proofs.lemmas.List.Splits.{join_with_byte-slice_split, length-slice_split}
 use Rattle.mfjson.specs.Document.{IsDocumentOf}
@@ -9,8 +9,6 @@ use Rattle.mfjson.specs.declared.fault.MfFault.TheVariants as mf_fault
 use Rattle.mfjson.specs.declared.feature.Feature.{Feature}
 use Rattle.store.specs.declared.op.Op.{Op}
 use Rattle.store.specs.declared.op.Op.TheVariants as op
-use Rattle.store.specs.declared.query.Query.{Query}
-use Rattle.store.specs.declared.query.Query.TheVariants as query
 use Rattle.stable.specs.declared.scripted.Failing.{Failing}
 use Rattle.history.specs.declared.event.Event.TheVariants as event
 use Rattle.schedule.specs.Codes.{code_of, IsLowest}
@@ -18,10 +16,10 @@ use Rattle.schedule.specs.Keywords.{text_of, failing_text, operation_text}
 use Rattle.schedule.specs.Lines.{NumberedText}
 use Rattle.schedule.specs.Reading.{IsLineRefusal}
 use Rattle.schedule.specs.Rows.{IsWordsFault, in_first_line}
-use Rattle.schedule.specs.Spelling.{Spells, SpellsOp, SpellsQuery, SpellsRound, Submits, WordsSpell, operation_of}
-use Rattle.schedule.specs.Spelling.{question_of}
+use Rattle.schedule.specs.Spelling.{Spells, SpellsOp, SpellsRound, Submits, WordsSpell, operation_of}
 use Rattle.schedule.specs.Table.{a_failing, line_of, submit_of, query_of, IsOfForm, HasItsCount, HasFault, HasFirstFault, HasUnknownWord}
-use Rattle.schedule.specs.Table.{HasWrongDocument, IsPrintable, keyword_places, operation_places, question_places}
+use Rattle.schedule.specs.Table.{HasWrongDocument, IsPrintable, Place, SayEach, Values, keyword_places, operation_places, question_places}
+use Rattle.schedule.specs.Table.{width}
 use Rattle.schedule.specs.Unread.{Becomes, Gives, IsNotRead, Puts, WordsGive}
 use Rattle.schedule.specs.Words.{blank, words_of}
 use Rattle.schedule.specs.declared.action.Action.{Action}
@@ -48,29 +46,21 @@ document_is_there words document same = rw same (omega (arith, length-slice_spli
 
 put_fits : (n : ℕ) (words : List (List ℕ)) → 1 ≤ length words → AllFit n (operation_places operation.Put) words
 put_fits n [] some = absurd (omega (arith, some))
-put_fits n (word ∷ words) some = (tt, tt)
+put_fits n (word ∷ words) some = ((tt, tt), tt)
 
 -- the words behind `put`, `append` or `remove` fit
 op_fits : (n : ℕ) (asked : Op) (words : List (List ℕ)) → SpellsOp words asked
     → AllFit n (operation_places (operation_of asked)) words
 op_fits n (op.Put id seq) words (document, same, is) = put_fits n words (document_is_there words document same)
 op_fits n (op.Append addition) words is =
-    rw is.words_are (is.of_id, ((_, is.at), ((_, is.x_is), ((_, is.y_is), tt))))
-op_fits n (op.Remove id) words is = rw is.0 (is.1, tt)
+    rw is.words_are ((_, (refl, is.of_id)), ((_, is.at), ((_, is.x_is), ((_, is.y_is), tt))))
+op_fits n (op.Remove id) words is = rw is.0 ((_, (refl, is.1)), tt)
 
-query_fits : (n : ℕ) (asked : Query) (words : List (List ℕ)) → SpellsQuery words asked
-    → AllFit n (question_places (question_of asked)) words
-query_fits n (query.At id t) words (others, same, of_id, (datetime, one, at)) = rw (same, one) (of_id, ((t, at), tt))
-query_fits n (query.Cut id period) words (others, same, of_id, is) =
-    rw (same, is.words_are) (of_id, ((period, is.is_period), tt))
-query_fits n (query.Ever id period rect) words (others, same, of_id, is) =
-    rw (same, is.words_are) (of_id, ((period, is.is_period), ((rect, is.is_rect), tt)))
-query_fits n (query.Always id period rect) words (others, same, of_id, is) =
-    rw (same, is.words_are) (of_id, ((period, is.is_period), ((rect, is.is_rect), tt)))
-query_fits n (query.Within period rect) words is =
-    rw is.words_are ((period, is.is_period), ((rect, is.is_rect), tt))
-query_fits n (query.Get id) words (others, same, of_id, none) = rw same (of_id, tt)
-query_fits n query.Count words none = tt
+-- words that say a value for each place fit
+values_fit : (n : ℕ) (at : List Place) (words : List (List ℕ)) (values : Values at) → SayEach n at words values → AllFit n at words
+values_fit n [] words values s = tt
+values_fit n (place ∷ others) words values s =
+    ((values.0, s.0), values_fit n others (drop (width place) words) values.1 s.1)
 
 -- a submission's words are a row's where those of its operation fit
 submission_row : (n : ℕ) (operation : Operation) (words others : List (List ℕ)) (node client number : ℕ)
@@ -79,7 +69,7 @@ submission_row : (n : ℕ) (operation : Operation) (words others : List (List �
     → IsRowOf n words
 submission_row n operation words others node client number s fit its_count = rw s.words_are (record {
   row = submit_of operation;
-  fit = (refl, ((node, s.to_node), ((client, s.of_client), ((number, s.under_number), (refl, fit)))));
+  fit = ((tt, refl), ((node, s.to_node), ((client, s.of_client), ((number, s.under_number), ((tt, refl), fit)))));
   its_count = its_count;
   no_nodes = λ more. submit_is_no_nodes _ more;
 })
@@ -89,7 +79,7 @@ one_row_of : (n : ℕ) (key : Keyword) (words others : List (List ℕ)) → key 
     → AllFit n (keyword_places key) others → HasItsCount (line_of key) (text_of key ∷ others) → IsRowOf n words
 one_row_of n key words others other e fit its_count = rw e (record {
   row = line_of key;
-  fit = (refl, fit);
+  fit = ((tt, refl), fit);
   its_count = its_count;
   no_nodes = λ more. other_is_no_nodes key others more other;
 })
@@ -117,10 +107,10 @@ row_of n words (Step (event.Restart node)) (others, e, (word, one, w)) =
     one_row_of n keyword.Restart words others (λ q. cc) e (rw one ((node, w), tt)) (rw one refl)
 row_of n words (Step (event.Fault node failing)) (others, e, (word, two, w)) =
     one_row_of n keyword.Fault words others (λ q. cc) e (rw two ((node, w), (a_failing_text failing, tt))) (rw two refl)
-row_of n words (Step (event.Query node asked)) (others, asks, spells) = rw asks.words_are (record {
-  row = query_of (question_of asked);
-  fit = (refl, ((node, asks.to_node), (refl, query_fits n asked others spells)));
-  its_count = query_count asked asks.node_word others spells;
+row_of n words (Step (event.Query node asked)) (question, asks, (values, said, made)) = rw asks.words_are (record {
+  row = query_of question;
+  fit = ((tt, refl), ((node, asks.to_node), ((tt, refl), values_fit n (question_places question) asks.others values said.1)));
+  its_count = query_count question asks.node_word asks.others said.0;
   no_nodes = λ more. query_is_no_nodes _ more;
 })
 
@@ -197,7 +187,7 @@ no_wrong_document n words (Step (event.Restart node)) (others, e, one) h =
     other_first words others _ (text_of keyword.Restart) (λ q. not_submit keyword.Restart (sym q)) e h.words_are
 no_wrong_document n words (Step (event.Fault node failing)) (others, e, one) h =
     other_first words others _ (text_of keyword.Fault) (λ q. not_submit keyword.Fault (sym q)) e h.words_are
-no_wrong_document n words (Step (event.Query node asked)) (others, asks, spells) h =
+no_wrong_document n words (Step (event.Query node asked)) (question, asks, spells) h =
     other_first words _ _ (codes "query") (λ q. submit_is_no_query (sym q)) asks.words_are h.words_are
 
 -- a line that spells an action has none of the faults

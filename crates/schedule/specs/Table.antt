@@ -124,23 +124,39 @@ IsRequestNumber = Writes 1 (2 ^ 64)
 abbrev pub IsFrameNumber : List ℕ → ℕ → Type 0
 IsFrameNumber = Writes 0 (2 ^ 64)
 
--- the words are what the place wants, in a run of n nodes
+-- what the words at a place say: a number where nothing else is told; a certain word says nothing
+abbrev pub Value : Place → Type 0
+Value (the_word wanted) = Unit {0}
+Value a_failing = Failing
+Value an_id = List ℕ
+Value a_coordinate = ℤ
+Value a_period = Span
+Value a_rectangle = Area
+Value a_document = Unit {0}
+Value some_nodes = List ℕ
+Value _ = ℕ
+
+-- the words are what the place wants, in a run of n nodes, and say this value
+abbrev pub Says : ℕ → (place : Place) → List (List ℕ) → Value place → Type 0
+Says n (the_word wanted) (word ∷ []) nothing = word ≡ wanted
+Says n a_run_size (word ∷ []) size = IsRunSize size × (word ≡ decimal size)
+Says n a_node (word ∷ []) node = IsNode n word node
+Says n a_client (word ∷ []) client = IsClient word client
+Says n a_request_number (word ∷ []) number = IsRequestNumber word number
+Says n a_frame_number (word ∷ []) frame = IsFrameNumber word frame
+Says n a_failing (word ∷ []) failing = word ≡ failing_text failing
+Says n an_id (word ∷ []) id = (id ≡ word) × IsId word
+Says n a_datetime (word ∷ []) t = ReadsAs word t
+Says n a_coordinate (word ∷ []) value = IsCoordinate word value
+Says n a_period (begin ∷ end ∷ []) period = IsPeriod begin end period
+Says n a_rectangle (x0 ∷ y0 ∷ x1 ∷ y1 ∷ []) rect = IsRect x0 y0 x1 y1 rect
+Says n a_document (word ∷ []) nothing = Unit {0}
+Says n some_nodes words nodes = NameEach n words nodes
+Says n _ _ _ = ⊥
+
+-- the words are what the place wants
 abbrev pub IsOfForm : ℕ → Place → List (List ℕ) → Type 0
-IsOfForm n (the_word wanted) (word ∷ []) = word ≡ wanted
-IsOfForm n a_run_size (word ∷ []) = (size : ℕ) × IsRunSize size × (word ≡ decimal size)
-IsOfForm n a_node (word ∷ []) = (node : ℕ) × IsNode n word node
-IsOfForm n a_client (word ∷ []) = (client : ℕ) × IsClient word client
-IsOfForm n a_request_number (word ∷ []) = (number : ℕ) × IsRequestNumber word number
-IsOfForm n a_frame_number (word ∷ []) = (frame : ℕ) × IsFrameNumber word frame
-IsOfForm n a_failing (word ∷ []) = (failing : Failing) × (word ≡ failing_text failing)
-IsOfForm n an_id (word ∷ []) = IsId word
-IsOfForm n a_datetime (word ∷ []) = (t : ℕ) × ReadsAs word t
-IsOfForm n a_coordinate (word ∷ []) = (value : ℤ) × IsCoordinate word value
-IsOfForm n a_period (begin ∷ end ∷ []) = (period : Span) × IsPeriod begin end period
-IsOfForm n a_rectangle (x0 ∷ y0 ∷ x1 ∷ y1 ∷ []) = (rect : Area) × IsRect x0 y0 x1 y1 rect
-IsOfForm n a_document (word ∷ []) = Unit {0}
-IsOfForm n some_nodes words = (nodes : List ℕ) × NameEach n words nodes
-IsOfForm n _ _ = ⊥
+IsOfForm n place words = (value : Value place) × Says n place words value
 
 -- as far as there are words, those that have to be certain words are
 abbrev pub HasItsWords : List Place → List (List ℕ) → Type 0
@@ -153,6 +169,21 @@ HasItsWords (place ∷ others) words = HasItsWords others (drop (width place) wo
 abbrev pub words_at : Place → List (List ℕ) → List (List ℕ)
 words_at some_nodes words = words
 words_at place words = take (width place) words
+
+-- a value for each place
+abbrev pub Values : List Place → Type 0
+Values [] = Unit {0}
+Values (place ∷ others) = Value place × Values others
+
+-- the words say these values, place by place
+abbrev pub SayEach : ℕ → (at : List Place) → List (List ℕ) → Values at → Type 0
+SayEach n [] words values = Unit {0}
+SayEach n (place ∷ others) words values =
+    Says n place (words_at place words) values.0 × SayEach n others (drop (width place) words) values.1
+
+-- there are as many words as the places want, and they say these values
+abbrev pub SayAll : ℕ → (at : List Place) → List (List ℕ) → Values at → Type 0
+SayAll n at words values = (length words ≡ count at) × SayEach n at words values
 
 -- the words at some place aren't what it wants
 abbrev pub HasMisfit : ℕ → List Place → List (List ℕ) → Type 0
