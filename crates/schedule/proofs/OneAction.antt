@@ -1,85 +1,28 @@
 -- Words spell one action.
-use Rattle.std.proofs.Common.{◌≡◌, ℕ, ◌≤◌, ◌^◌, ℤ, List, [], ◌∷◌, refl, sym, ◌∙◌, ap, subst, arith}
-use Rattle.std.specs.List.{join_with_byte}
-use Rattle.std.proofs.lemmas.List.Splits.{join_with_byte-slice_split}
-use Rattle.mfjson.specs.Datetime.{ReadsAs}
-use Rattle.mfjson.specs.Document.{IsDocumentOf}
-use Rattle.mfjson.specs.declared.feature.Feature.{Feature}
-use Rattle.mfjson.proofs.OneText.{instant_of_one}
-use Rattle.mfjson.proofs.OneFeature.{document_of_one}
-use Rattle.store.specs.Additions.{Added}
+use Rattle.std.proofs.Common.{◌≡◌, ℕ, ◌≤◌, ◌^◌, List, ◌∷◌, refl, sym, ◌∙◌, ap, subst, arith}
 use Rattle.store.specs.declared.op.Op.{Op}
-use Rattle.store.specs.declared.op.Op.TheVariants as op
 use Rattle.store.specs.declared.query.Query.{Query}
 use Rattle.stable.specs.declared.scripted.Failing.{Failing}
 use Rattle.history.specs.declared.event.Event.TheVariants as event
 use Rattle.schedule.specs.Keywords.{failing_text}
-use Rattle.schedule.specs.Numbers.{Writes, IsCoordinate}
-use Rattle.schedule.specs.Spelling.{WordsSpell, SpellsOp, SpellsAddition, SpellsQuery, query_made}
-use Rattle.schedule.specs.Spelling.{BeginsWith, IsOneWord, ArmsNode, SpellsRound, Submits, Asks, operation_of}
-use Rattle.schedule.specs.Table.{Row, line_of, submit_of, query_of, NameEach, question_places}
-use Rattle.schedule.specs.Words.{blank, words_of}
+use Rattle.schedule.specs.Numbers.{Writes}
+use Rattle.schedule.specs.Spelling.{WordsSpell, SpellsOp, op_made, SpellsQuery, query_made}
+use Rattle.schedule.specs.Spelling.{BeginsWith, IsOneWord, ArmsNode, SpellsRound, Submits, Asks}
+use Rattle.schedule.specs.Table.{Row, line_of, submit_of, query_of, NameEach, operation_places, question_places}
 use Rattle.schedule.specs.declared.action.Action.{Action}
 use Rattle.schedule.specs.declared.action.Action.TheVariants.{Step, Flush, Round}
 use Rattle.schedule.specs.declared.keyword.Keyword.TheVariants as keyword
 use Rattle.schedule.specs.declared.keyword.Operation.{Operation}
-use Rattle.schedule.specs.declared.keyword.Operation.TheVariants as operation
 use Rattle.schedule.specs.declared.keyword.Question.{Question}
-use Rattle.schedule.proofs.Coordinates.{one_coordinate}
 use Rattle.schedule.proofs.OneValue.{one_number, one_naming, one_values, failing_text-injective}
 use Rattle.schedule.proofs.SpelledRows.{row_of, row_has_words, no_other_row}
 
--- ---- words
--- a text is its words, joined again
-words_of-injective : (a b : List ℕ) → words_of a ≡ words_of b → a ≡ b
-words_of-injective a b same =
-    sym (join_with_byte-slice_split blank a) ∙ ap (join_with_byte blank) same ∙ join_with_byte-slice_split blank b
+-- ---- what is asked for, by the word that says what
+one_op : (n : ℕ) (operation : Operation) (words : List (List ℕ)) (a b : Op) → n ≤ 2 ^ 64 → SpellsOp n operation words a
+    → SpellsOp n operation words b → a ≡ b
+one_op n operation words a b small (v, s, ea) (w, r, eb) =
+    ea ∙ ap (op_made operation) (one_values n (operation_places operation) words v w small s.1 r.1) ∙ sym eb
 
-at_one_instant : (word other : List ℕ) (t u : ℕ) → word ≡ other → ReadsAs word t → ReadsAs other u → t ≡ u
-at_one_instant word other t u same a b = instant_of_one other t u (subst (λ (w : List ℕ). ReadsAs w t) same a) b
-
-at_one_place : (word other : List ℕ) (x y : ℤ) → word ≡ other → IsCoordinate word x → IsCoordinate other y → x ≡ y
-at_one_place word other x y same a b = one_coordinate other x y (subst (λ (w : List ℕ). IsCoordinate w x) same a) b
-
--- ---- what is asked for, by the word that says which operation it is
-abbrev OpOf : Operation → List (List ℕ) → Op → Type 0
-OpOf operation.Put words asked = (f : Feature) × (asked ≡ op.Put f.id f.seq) × SpellsOp words (op.Put f.id f.seq)
-OpOf operation.Append words asked =
-    (a : Added) × (asked ≡ op.Append a) × SpellsAddition words a.id a.point
-OpOf operation.Remove words asked = (id : List ℕ) × (asked ≡ op.Remove id) × (words ≡ id ∷ [])
-
-as_op : (words : List (List ℕ)) (asked : Op) → SpellsOp words asked → OpOf (operation_of asked) words asked
-as_op words (op.Put id seq) s = (record { id = id; seq = seq }, refl, s)
-as_op words (op.Append addition) s = (addition, refl, s)
-as_op words (op.Remove id) s = (id, refl, s.0)
-
-one_addition : (words : List (List ℕ)) (a b : Added) → SpellsAddition words a.id a.point → SpellsAddition words b.id b.point → a ≡ b
-one_addition words a b s r =
-    let all : a.id ∷ s.datetime ∷ s.x ∷ s.y ∷ [] ≡ b.id ∷ r.datetime ∷ r.x ∷ r.y ∷ [] = sym s.words_are ∙ r.words_are in
-    let id : a.id ≡ b.id = cc in
-    let datetime : s.datetime ≡ r.datetime = cc in
-    let left : s.x ≡ r.x = cc in
-    let up : s.y ≡ r.y = cc in
-    let t = at_one_instant s.datetime r.datetime a.point.t b.point.t datetime s.at r.at in
-    let x = at_one_place s.x r.x a.point.x b.point.x left s.x_is r.x_is in
-    let y = at_one_place s.y r.y a.point.y b.point.y up s.y_is r.y_is in
-    λ i. record { id = id i; point = record { t = t i; x = x i; y = y i } }
-
-op_of_one : (which : Operation) (words : List (List ℕ)) (a b : Op) → OpOf which words a → OpOf which words b → a ≡ b
-op_of_one operation.Put words a b (f, ea, (d, da, fa)) (g, eb, (e, db, gb)) =
-    let same : d ≡ e = words_of-injective d e (sym da ∙ db) in
-    let one : f ≡ g = document_of_one e f g (subst (λ (t : List ℕ). IsDocumentOf t f) same fa) gb in
-    ea ∙ ap (λ (h : Feature). op.Put h.id h.seq) one ∙ sym eb
-op_of_one operation.Append words a b (p, ea, sa) (q, eb, sb) =
-    let one : p ≡ q = one_addition words p q sa sb in ea ∙ ap (λ (r : Added). op.Append r) one ∙ sym eb
-op_of_one operation.Remove words a b (id, ea, sa) (other, eb, sb) =
-    let one : id ≡ other = cc in ea ∙ ap (λ (i : List ℕ). op.Remove i) one ∙ sym eb
-
-one_op : (words : List (List ℕ)) (a b : Op) → operation_of a ≡ operation_of b → SpellsOp words a → SpellsOp words b → a ≡ b
-one_op words a b same sa sb =
-    op_of_one (operation_of b) words a b (subst (λ (o : Operation). OpOf o words a) same (as_op words a sa)) (as_op words b sb)
-
--- ---- what a node is asked, by the word that says which question it is
 one_query : (n : ℕ) (question : Question) (words : List (List ℕ)) (a b : Query) → n ≤ 2 ^ 64 → SpellsQuery n question words a
     → SpellsQuery n question words b → a ≡ b
 one_query n question words a b small (v, s, ea) (w, r, eb) =
@@ -93,10 +36,8 @@ record Submission (n : ℕ) (which : Operation) (words : List (List ℕ)) (actio
   number : ℕ
   asked : Op
   is : action ≡ Step (event.Submit node client number asked)
-  kind : operation_of asked ≡ which
-  others : List (List ℕ)
-  submits : Submits n (operation_of asked) words others node client number
-  op : SpellsOp others asked
+  submits : Submits n which words node client number
+  op : SpellsOp n which submits.others asked
 
 -- a node is asked
 record Asking (n : ℕ) (which : Question) (words : List (List ℕ)) (action : Action) : Type 0 where
@@ -129,17 +70,8 @@ ActionOf n (query_of which) words action = Asking n which words action
 
 as_row : (n : ℕ) (words : List (List ℕ)) (action : Action) (s : WordsSpell n words action)
     → ActionOf n (row_of n words action s) words action
-as_row n words (Step (event.Submit node client number asked)) (others, submits, op) = record {
-  node = node;
-  client = client;
-  number = number;
-  asked = asked;
-  is = refl;
-  kind = refl;
-  others = others;
-  submits = submits;
-  op = op;
-}
+as_row n words (Step (event.Submit node client number asked)) (operation, submits, op) =
+    record { node = node; client = client; number = number; asked = asked; is = refl; submits = submits; op = op }
 as_row n words (Step (event.Deliver frame)) s = (frame, refl, s)
 as_row n words (Step (event.Drop frame)) s = (frame, refl, s)
 as_row n words Flush s = refl
@@ -188,13 +120,13 @@ one_submission n which words a b small s r =
     let node_words : u.node_word ≡ v.node_word = cc in
     let client_words : u.client_word ≡ v.client_word = cc in
     let number_words : u.number_word ≡ v.number_word = cc in
-    let others : s.others ≡ r.others = cc in
+    let others : u.others ≡ v.others = cc in
     let nodes : s.node ≡ r.node = one_number 0 n _ _ s.node r.node small node_words u.to_node v.to_node in
     let clients : s.client ≡ r.client = one_number 0 256 _ _ s.client r.client (omega arith) client_words u.of_client v.of_client in
     let numbers : s.number ≡ r.number =
     one_number 1 (2 ^ 64) _ _ s.number r.number (omega arith) number_words u.under_number v.under_number in
-    let ops : s.asked ≡ r.asked = one_op r.others s.asked r.asked (s.kind ∙ sym r.kind)
-    (subst (λ (xs : List (List ℕ)). SpellsOp xs s.asked) others s.op) r.op in
+    let ops : s.asked ≡ r.asked = one_op n which v.others s.asked r.asked small
+    (subst (λ (xs : List (List ℕ)). SpellsOp n which xs s.asked) others s.op) r.op in
     s.is ∙ (λ i. Step (event.Submit (nodes i) (clients i) (numbers i) (ops i))) ∙ sym r.is
 
 one_asking : (n : ℕ) (which : Question) (words : List (List ℕ)) (a b : Action) → n ≤ 2 ^ 64 → Asking n which words a

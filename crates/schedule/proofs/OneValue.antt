@@ -1,8 +1,10 @@
 -- Words say one value for each place.
-use Rattle.std.proofs.Common.{◌≡◌, ℕ, ◌≤◌, ◌^◌, List, [], ◌∷◌, cond, codes, drop, refl, sym, ◌∙◌, ap, arith}
+use Rattle.std.proofs.Common.{◌≡◌, ℕ, ◌≤◌, ◌^◌, List, [], ◌∷◌, cond, codes, drop, refl, sym, ◌∙◌, ap, subst, arith}
 use Rattle.std.specs.Str.{bytes_eq}
 use Rattle.std.proofs.lemmas.Fmt.{decimal_injective}
+use Rattle.mfjson.specs.Document.{IsDocumentOf}
 use Rattle.mfjson.proofs.OneText.{instant_of_one}
+use Rattle.mfjson.proofs.OneFeature.{document_of_one}
 use Rattle.stable.specs.declared.scripted.Failing.{Failing}
 use Rattle.stable.specs.declared.scripted.Failing.TheVariants.{Old, New, Read}
 use Rattle.schedule.specs.Keywords.{failing_text}
@@ -12,7 +14,9 @@ use Rattle.schedule.specs.Table.{a_datetime, a_coordinate, a_period, a_rectangle
 use Rattle.schedule.specs.Table.{Value, Says, Values, SayEach, NameEach, width, words_at}
 use Rattle.schedule.proofs.Coordinates.{one_coordinate, one_rect, one_period}
 use Rattle.schedule.proofs.FirstLines.{small_size}
+use Rattle.schedule.proofs.Spelled.{same_text}
 
+-- a word is the text of one number
 pub one_number : (least limit : ℕ) (word other : List ℕ) (m n : ℕ) → limit ≤ 2 ^ 64 → word ≡ other
     → Writes least limit word m → Writes least limit other n → m ≡ n
 one_number least limit word other m n small same a b =
@@ -42,7 +46,7 @@ one_naming n (word ∷ words) (x ∷ xs) (y ∷ ys) small p q =
     let rest : xs ≡ ys = one_naming n words xs ys small p.1 q.1 in
     cc
 
--- words say one value
+-- words say one value for a place
 one_value : (n : ℕ) (place : Place) (words : List (List ℕ)) (v w : Value place) → n ≤ 2 ^ 64 → Says n place words v
     → Says n place words w → v ≡ w
 one_value n (the_word wanted) words v w small s r = refl
@@ -58,10 +62,13 @@ one_value n a_datetime (word ∷ []) v w small s r = instant_of_one word v w s r
 one_value n a_coordinate (word ∷ []) v w small s r = one_coordinate word v w s r
 one_value n a_period (begin ∷ end ∷ []) v w small s r = one_period begin end v w s r
 one_value n a_rectangle (x0 ∷ y0 ∷ x1 ∷ y1 ∷ []) v w small s r = one_rect x0 y0 x1 y1 v w s r
-one_value n a_document words v w small s r = refl
+one_value n a_document words v w small (document, same, is) (other, also, it) =
+    let one : document ≡ other = same_text document other (sym same ∙ also) in
+    document_of_one other v w (subst (λ (text : List ℕ). IsDocumentOf text v) one is) it
 one_value n some_nodes words v w small s r = one_naming n words v w small s r
 one_value n _ _ v w small s r = absurd s
 
+-- and one list of values
 pub one_values : (n : ℕ) (at : List Place) (words : List (List ℕ)) (v w : Values at) → n ≤ 2 ^ 64 → SayEach n at words v
     → SayEach n at words w → v ≡ w
 one_values n [] words v w small s r = refl

@@ -1,8 +1,8 @@
 -- A line that spells an action has no fault.
-use Rattle.std.proofs.Common.{◌≡◌, ◌≢◌, ◌==◌, ◌⊎◌, ℕ, ◌≤◌, List, [], ◌∷◌, length, Result, Ok, Err, MatchResult, codes, refl, sym, ◌∙◌, ap}
+use Rattle.std.proofs.Common.{◌≡◌, ◌≢◌, ◌⊎◌, ℕ, ◌≤◌, List, [], ◌∷◌, length, Result, Ok, Err, MatchResult, codes, refl, sym, ◌∙◌, ap}
 use Rattle.std.proofs.Common.{drop, subst, inl, inr, arith}
 use Rattle.std.specs.List.{All, join_with_byte}
-use Rattle.std.proofs.lemmas.List.Splits.{join_with_byte-slice_split, length-slice_split}
+use Rattle.std.proofs.lemmas.List.Splits.{join_with_byte-slice_split}
 use Rattle.mfjson.specs.Document.{IsDocumentOf}
 use Rattle.mfjson.specs.declared.fault.MfFault.{MfFault}
 use Rattle.mfjson.specs.declared.fault.MfFault.TheVariants as mf_fault
@@ -12,14 +12,14 @@ use Rattle.store.specs.declared.op.Op.TheVariants as op
 use Rattle.stable.specs.declared.scripted.Failing.{Failing}
 use Rattle.history.specs.declared.event.Event.TheVariants as event
 use Rattle.schedule.specs.Codes.{code_of, IsLowest}
-use Rattle.schedule.specs.Keywords.{text_of, failing_text, operation_text}
+use Rattle.schedule.specs.Keywords.{text_of, failing_text}
 use Rattle.schedule.specs.Lines.{NumberedText}
 use Rattle.schedule.specs.Reading.{IsLineRefusal}
 use Rattle.schedule.specs.Rows.{IsWordsFault, in_first_line}
-use Rattle.schedule.specs.Spelling.{Spells, SpellsOp, SpellsRound, Submits, WordsSpell, operation_of}
+use Rattle.schedule.specs.Spelling.{Spells, SpellsOp, SpellsRound, Submits, WordsSpell}
 use Rattle.schedule.specs.Table.{a_failing, line_of, submit_of, query_of, IsOfForm, HasItsCount, HasFault, HasFirstFault, HasUnknownWord}
 use Rattle.schedule.specs.Table.{HasWrongDocument, IsPrintable, Place, SayEach, Values, keyword_places, operation_places, question_places}
-use Rattle.schedule.specs.Table.{width}
+use Rattle.schedule.specs.Table.{Value, Says, a_document, places, width, words_at}
 use Rattle.schedule.specs.Unread.{Becomes, Gives, IsNotRead, Puts, WordsGive}
 use Rattle.schedule.specs.Words.{blank, words_of}
 use Rattle.schedule.specs.declared.action.Action.{Action}
@@ -38,45 +38,33 @@ use Rattle.schedule.specs.declared.unread.Putting.{Putting}
 use Rattle.schedule.proofs.Faults.{AllFit, IsRowOf, document_lowest, from_two, from_three, lowest_unprintable, not_submit}
 use Rattle.schedule.proofs.Faults.{operation_text-injective, other_is_no_nodes, prints_throughout, query_is_no_nodes, row_faultless}
 use Rattle.schedule.proofs.Faults.{row_words, submit_is_no_nodes, submit_is_no_query, words_fault_lowest}
-use Rattle.schedule.proofs.RowLemmas.{members_fault, op_count, put_count, query_count}
+use Rattle.schedule.proofs.RowLemmas.{document_is_there, members_fault, op_count, query_count}
 
 -- ---- the row of a line that spells an action
-document_is_there : (words : List (List ℕ)) (document : List ℕ) → words ≡ words_of document → 1 ≤ length words
-document_is_there words document same = rw same (omega (arith, length-slice_split (λ b. b == blank) document))
-
-put_fits : (n : ℕ) (words : List (List ℕ)) → 1 ≤ length words → AllFit n (operation_places operation.Put) words
-put_fits n [] some = absurd (omega (arith, some))
-put_fits n (word ∷ words) some = ((tt, tt), tt)
-
--- the words behind `put`, `append` or `remove` fit
-op_fits : (n : ℕ) (asked : Op) (words : List (List ℕ)) → SpellsOp words asked
-    → AllFit n (operation_places (operation_of asked)) words
-op_fits n (op.Put id seq) words (document, same, is) = put_fits n words (document_is_there words document same)
-op_fits n (op.Append addition) words is =
-    rw is.words_are ((_, (refl, is.of_id)), ((_, is.at), ((_, is.x_is), ((_, is.y_is), tt))))
-op_fits n (op.Remove id) words is = rw is.0 ((_, (refl, is.1)), tt)
-
 -- words that say a value for each place fit
+value_fits : (n : ℕ) (place : Place) (words : List (List ℕ)) (value : Value place) → Says n place words value → IsOfForm n place words
+value_fits n a_document words value says = tt
+value_fits n _ words value says = (value, says)
+
 values_fit : (n : ℕ) (at : List Place) (words : List (List ℕ)) (values : Values at) → SayEach n at words values → AllFit n at words
 values_fit n [] words values s = tt
 values_fit n (place ∷ others) words values s =
-    ((values.0, s.0), values_fit n others (drop (width place) words) values.1 s.1)
+    (value_fits n place (words_at place words) values.0 s.0, values_fit n others (drop (width place) words) values.1 s.1)
 
 -- a submission's words are a row's where those of its operation fit
-submission_row : (n : ℕ) (operation : Operation) (words others : List (List ℕ)) (node client number : ℕ)
-    (s : Submits n operation words others node client number) → AllFit n (operation_places operation) others
-    → HasItsCount (submit_of operation) (codes "submit" ∷ s.node_word ∷ s.client_word ∷ s.number_word ∷ operation_text operation ∷ others)
-    → IsRowOf n words
-submission_row n operation words others node client number s fit its_count = rw s.words_are (record {
+submission_row : (n : ℕ) (operation : Operation) (words : List (List ℕ)) (node client number : ℕ)
+    (s : Submits n operation words node client number) → AllFit n (operation_places operation) s.others
+    → HasItsCount (operation_places operation) s.others → IsRowOf n words
+submission_row n operation words node client number s fit its_count = rw s.words_are (record {
   row = submit_of operation;
   fit = ((tt, refl), ((node, s.to_node), ((client, s.of_client), ((number, s.under_number), ((tt, refl), fit)))));
-  its_count = its_count;
+  its_count = (op_count operation s.node_word s.client_word s.number_word s.others).0 its_count;
   no_nodes = λ more. submit_is_no_nodes _ more;
 })
 
 -- one word behind a keyword
 one_row_of : (n : ℕ) (key : Keyword) (words others : List (List ℕ)) → key ≢ keyword.Nodes → words ≡ text_of key ∷ others
-    → AllFit n (keyword_places key) others → HasItsCount (line_of key) (text_of key ∷ others) → IsRowOf n words
+    → AllFit n (keyword_places key) others → HasItsCount (places (line_of key)) (text_of key ∷ others) → IsRowOf n words
 one_row_of n key words others other e fit its_count = rw e (record {
   row = line_of key;
   fit = ((tt, refl), fit);
@@ -88,9 +76,9 @@ a_failing_text : (failing : Failing) → IsOfForm 0 a_failing (failing_text fail
 a_failing_text failing = (failing, refl)
 
 pub row_of : (n : ℕ) (words : List (List ℕ)) (action : Action) → WordsSpell n words action → IsRowOf n words
-row_of n words (Step (event.Submit node client number asked)) (others, s, spells) =
-    submission_row n (operation_of asked) words others node client number s (op_fits n asked others spells)
-    (op_count asked s.node_word s.client_word s.number_word others spells)
+row_of n words (Step (event.Submit node client number asked)) (operation, submits, (values, said, made)) =
+    submission_row n operation words node client number submits
+    (values_fit n (operation_places operation) submits.others values said.1) said.0
 row_of n words (Step (event.Deliver frame)) (others, e, (word, one, w)) =
     one_row_of n keyword.Deliver words others (λ q. cc) e (rw one ((frame, w), tt)) (rw one refl)
 row_of n words (Step (event.Drop frame)) (others, e, (word, one, w)) =
@@ -110,16 +98,18 @@ row_of n words (Step (event.Fault node failing)) (others, e, (word, two, w)) =
 row_of n words (Step (event.Query node asked)) (question, asks, (values, said, made)) = rw asks.words_are (record {
   row = query_of question;
   fit = ((tt, refl), ((node, asks.to_node), ((tt, refl), values_fit n (question_places question) asks.others values said.1)));
-  its_count = query_count question asks.node_word asks.others said.0;
+  its_count = (query_count question asks.node_word asks.others).0 said.0;
   no_nodes = λ more. query_is_no_nodes _ more;
 })
 
+-- a document is one word at least
+document_behind : (words : List (List ℕ)) (document : List ℕ) → words ≡ words_of document → 1 ≤ length words
+document_behind words document same = rw same (document_is_there document)
+
 -- the same where a document is unread
 put_row_of : (n : ℕ) (words : List (List ℕ)) (p : Putting) → Puts n words p → IsRowOf n words
-put_row_of n words p s =
-    submission_row n operation.Put words (words_of p.document.now) p.node p.client p.number s
-    (put_fits n (words_of p.document.now) (document_is_there _ p.document.now refl))
-    (put_count s.node_word s.client_word s.number_word p.document.now _ refl)
+put_row_of n words p puts =
+    submission_row n operation.Put words p.node p.client p.number puts.0 (tt, tt) (document_behind puts.0.others p.document.now puts.1)
 
 -- words that were read begin as a row
 given_known : (n : ℕ) (words : List (List ℕ)) (unread : Unread) → WordsGive n words unread → ¬ (HasUnknownWord words)
@@ -158,19 +148,24 @@ other_first : (words others more : List (List ℕ)) (word : List ℕ) → word �
     → words ≡ word ∷ others → words ≡ codes "submit" ∷ more → ⊥
 other_first words others more word other p q = other (heads _ _ _ _ (sym p ∙ q))
 
-no_wrong_document : (n : ℕ) (words : List (List ℕ)) (action : Action) → WordsSpell n words action
-    → ¬ (HasWrongDocument words)
-no_wrong_document n words (Step (event.Submit node client number (op.Put id seq))) (others, s, (document, same, is)) h =
+-- a submission that words spell puts no wrong document
+no_wrong_put : (n : ℕ) (operation : Operation) (words : List (List ℕ)) (node client number : ℕ) (asked : Op)
+    (s : Submits n operation words node client number) → SpellsOp n operation s.others asked → ¬ (HasWrongDocument words)
+no_wrong_put n operation.Put words node client number asked s ((feature, none), (its_count, ((document, same, is), end)), made) h =
     let text : h.document ≡ document = put_text words _ _ _ _ _ _ h.document document h.words_are
     (s.words_are ∙ ap (λ (ws : List (List ℕ)). codes "submit" ∷ s.node_word ∷ s.client_word ∷ s.number_word ∷ codes "put" ∷ ws) same) in
-    h.stands_for_none (record { id = id; seq = seq })
-    (subst (λ (t : List ℕ). IsDocumentOf t (record { id = id; seq = seq })) (sym text) is)
-no_wrong_document n words (Step (event.Submit node client number (op.Append addition))) (others, s, spells) h =
+    h.stands_for_none feature (subst (λ (t : List ℕ). IsDocumentOf t feature) (sym text) is)
+no_wrong_put n operation.Append words node client number asked s spells h =
     let e : operation.Append ≡ operation.Put = operation_text-injective operation.Append operation.Put
     (fifth_word _ _ _ _ _ _ _ _ _ _ _ _ (sym s.words_are ∙ h.words_are)) in cc
-no_wrong_document n words (Step (event.Submit node client number (op.Remove id))) (others, s, spells) h =
+no_wrong_put n operation.Remove words node client number asked s spells h =
     let e : operation.Remove ≡ operation.Put = operation_text-injective operation.Remove operation.Put
     (fifth_word _ _ _ _ _ _ _ _ _ _ _ _ (sym s.words_are ∙ h.words_are)) in cc
+
+no_wrong_document : (n : ℕ) (words : List (List ℕ)) (action : Action) → WordsSpell n words action
+    → ¬ (HasWrongDocument words)
+no_wrong_document n words (Step (event.Submit node client number asked)) (operation, submits, spells) h =
+    no_wrong_put n operation words node client number asked submits spells h
 no_wrong_document n words (Step (event.Deliver frame)) (others, e, one) h =
     other_first words others _ (text_of keyword.Deliver) (λ q. not_submit keyword.Deliver (sym q)) e h.words_are
 no_wrong_document n words (Step (event.Drop frame)) (others, e, one) h =
@@ -224,7 +219,11 @@ pub line_spells : (n : ℕ) (text : List ℕ) (unread : Unread) (action : Action
     → Spells n text action
 line_spells n text (given.Whole whole) action gives same = rw same (record { prints = gives.prints; words = gives.words })
 line_spells n text (given.Put p) action gives (feature, is, same) =
-    rw same (record { prints = gives.prints; words = (words_of p.document.now, gives.words, (p.document.now, refl, is)) })
+    let puts = gives.words in
+    let its_count = document_behind puts.0.others p.document.now puts.1 in
+    let spells : SpellsOp n operation.Put puts.0.others (op.Put feature.id feature.seq) =
+    ((feature, tt), (its_count, ((p.document.now, puts.1, is), tt)), refl) in
+    rw same (record { prints = gives.prints; words = (operation.Put, puts.0, spells) })
 line_spells n text (given.Round r) action gives (members, named, same) =
     let leads = gives.words in
     let spells : SpellsRound n (leads.node_word ∷ words_of r.members.now) r.node members = record {
@@ -232,7 +231,7 @@ line_spells n text (given.Round r) action gives (members, named, same) =
       others = words_of r.members.now;
       words_are = refl;
       leader = leads.leader;
-      some = document_is_there _ r.members.now refl;
+      some = document_is_there r.members.now;
       named = named;
     } in
     rw same (record { prints = gives.prints; words = (_, leads.words_are, spells) })
@@ -243,13 +242,13 @@ pub line_refused : (n : ℕ) (line : NumberedText) (unread : Unread) (fault : Pa
 line_refused n line (given.Whole whole) fault gives not = absurd not
 line_refused n line (given.Put p) (Memory number) gives not = not
 line_refused n line (given.Put p) (Line at) gives not =
-    let s = gives.words in
+    let s = gives.words.0 in
     let wrong : HasWrongDocument (words_of line.text) = record {
       node = s.node_word;
       client = s.client_word;
       number = s.number_word;
       document = p.document.now;
-      words_are = s.words_are;
+      words_are = rw (← gives.words.1) s.words_are;
       stands_for_none = not.2;
     } in
     let lowest = document_lowest n line.text gives.prints (put_row_of n (words_of line.text) p gives.words) wrong in
