@@ -1,7 +1,8 @@
 -- Which fault of a line is its lowest.
-use Rattle.std.proofs.Common.{◌≡◌, ◌≢◌, ℕ, ◌≤◌, List, [], ◌∷◌, length, get_or, drop, Option, Some, None, cond, codes, refl, sym, ◌∙◌, ap}
+use Rattle.std.proofs.Common.{◌≡◌, ◌≢◌, ℕ, ◌≤◌, List, [], ◌∷◌, length, drop, cond, codes, refl, sym, ◌∙◌, ap}
 use Rattle.std.proofs.Common.{◌==◌, suc, Bool, true, false, subst, lit≤, inl, inr, arith}
 use Rattle.std.proofs.lemmas.Bool.{cases_lt}
+use Rattle.std.proofs.lemmas.Slice.Eq.{bytes_eq-Decides}
 use Rattle.std.specs.List.{All}
 use Rattle.std.specs.Str.{bytes_eq}
 use Rattle.schedule.specs.Codes.{code_of, IsLowest}
@@ -12,83 +13,55 @@ use Rattle.schedule.specs.Table.{IsOfForm, HasItsWords, HasItsCount, HasMisfit, 
 use Rattle.schedule.specs.Table.{places, width, words_at}
 use Rattle.schedule.specs.Words.{words_of}
 use Rattle.schedule.specs.declared.keyword.Keyword.{Keyword}
-use Rattle.schedule.specs.declared.keyword.Keyword.TheVariants.{Nodes, Deliver, Drop, Flush, Timeout, Tick, Restart, Fault, Round}
+use Rattle.schedule.specs.declared.keyword.Keyword.TheVariants.{Nodes}
 use Rattle.schedule.specs.declared.keyword.Operation.{Operation}
-use Rattle.schedule.specs.declared.keyword.Operation.TheVariants.{Put, Append, Remove}
+use Rattle.schedule.specs.declared.keyword.Operation.TheVariants.{Put}
 use Rattle.schedule.specs.declared.keyword.Question.{Question}
-use Rattle.schedule.specs.declared.keyword.Question.TheVariants.{At, Cut, Ever, Always, Within, Get, Count}
+use Rattle.schedule.specs.declared.keyword.Question.TheVariants.{At}
 use Rattle.schedule.specs.declared.fault.ScheduleFault.{ScheduleFault}
 use Rattle.schedule.specs.declared.fault.ScheduleFault.TheVariants.{NotPrintable, UnknownWord, NodesLine, WordCount, WordForm, Document}
 
 -- ---- no two rows begin with the same words
--- a text that can be read back is that of one thing
-pub one_by_text : {A : Type 0} (text : A → List ℕ) (back : List ℕ → Option A) → ((a : A) → back (text a) ≡ Some a)
-    → (a b : A) → text a ≡ text b → a ≡ b
-one_by_text text back reads a b same = let e = sym (reads a) ∙ ap back same ∙ reads b in cc
+-- texts that are not equal byte by byte are not the same
+unlike : (a b : List ℕ) → bytes_eq a b ≡ false → a ≢ b
+unlike a b differ same = let e = sym differ ∙ (bytes_eq-Decides a b).1 same in cc
 
--- the keyword that a text is
-abbrev pub read_back : List ℕ → Option Keyword
-read_back w =
-    cond (bytes_eq w (codes "nodes")) (Some Nodes) (cond (bytes_eq w (codes "deliver")) (Some Deliver)
-    (cond (bytes_eq w (codes "drop")) (Some Drop) (cond (bytes_eq w (codes "flush")) (Some Flush)
-    (cond (bytes_eq w (codes "timeout")) (Some Timeout) (cond (bytes_eq w (codes "tick")) (Some Tick)
-    (cond (bytes_eq w (codes "restart")) (Some Restart) (cond (bytes_eq w (codes "fault")) (Some Fault)
-    (cond (bytes_eq w (codes "round")) (Some Round) None))))))))
-
-reads_back : (keyword : Keyword) → read_back (text_of keyword) ≡ Some keyword
-reads_back Nodes = refl
-reads_back Deliver = refl
-reads_back Drop = refl
-reads_back Flush = refl
-reads_back Timeout = refl
-reads_back Tick = refl
-reads_back Restart = refl
-reads_back Fault = refl
-reads_back Round = refl
+-- no two keywords have one text, nor two operations, nor two questions: each two of them are compared
+keywords_differ : (a b : Keyword) → bytes_eq (text_of a) (text_of b) ≡ true → a ≡ b
+keywords_differ Nodes Nodes same = cc
+keywords_differ _ Nodes same = cc
+keywords_differ _ _ same = cc
 
 pub text_of-injective : (a b : Keyword) → text_of a ≡ text_of b → a ≡ b
-text_of-injective = one_by_text text_of read_back reads_back
+text_of-injective a b same = keywords_differ a b ((bytes_eq-Decides (text_of a) (text_of b)).1 same)
 
--- the operation that a text is
-abbrev pub operation_back : List ℕ → Option Operation
-operation_back w =
-    cond (bytes_eq w (codes "put")) (Some Put) (cond (bytes_eq w (codes "append")) (Some Append)
-    (cond (bytes_eq w (codes "remove")) (Some Remove) None))
-
-operation_is_back : (operation : Operation) → operation_back (operation_text operation) ≡ Some operation
-operation_is_back Put = refl
-operation_is_back Append = refl
-operation_is_back Remove = refl
+operations_differ : (a b : Operation) → bytes_eq (operation_text a) (operation_text b) ≡ true → a ≡ b
+operations_differ Put Put same = cc
+operations_differ _ Put same = cc
+operations_differ _ _ same = cc
 
 pub operation_text-injective : (a b : Operation) → operation_text a ≡ operation_text b → a ≡ b
-operation_text-injective = one_by_text operation_text operation_back operation_is_back
+operation_text-injective a b same = operations_differ a b ((bytes_eq-Decides (operation_text a) (operation_text b)).1 same)
 
--- the question that a text is
-abbrev pub question_back : List ℕ → Option Question
-question_back w =
-    cond (bytes_eq w (codes "at")) (Some At) (cond (bytes_eq w (codes "cut")) (Some Cut)
-    (cond (bytes_eq w (codes "ever")) (Some Ever) (cond (bytes_eq w (codes "always")) (Some Always)
-    (cond (bytes_eq w (codes "within")) (Some Within) (cond (bytes_eq w (codes "get")) (Some Get)
-    (cond (bytes_eq w (codes "count")) (Some Count) None))))))
-
-question_is_back : (question : Question) → question_back (question_text question) ≡ Some question
-question_is_back At = refl
-question_is_back _ = refl
+questions_differ : (a b : Question) → bytes_eq (question_text a) (question_text b) ≡ true → a ≡ b
+questions_differ At At same = cc
+questions_differ _ At same = cc
+questions_differ _ _ same = cc
 
 pub question_text-injective : (a b : Question) → question_text a ≡ question_text b → a ≡ b
-question_text-injective = one_by_text question_text question_back question_is_back
+question_text-injective a b same = questions_differ a b ((bytes_eq-Decides (question_text a) (question_text b)).1 same)
 
 -- no keyword is `submit` or `query`
 pub not_submit : (keyword : Keyword) → codes "submit" ≢ text_of keyword
-not_submit keyword same = let e = ap read_back same ∙ reads_back keyword in cc
+not_submit Nodes = unlike (codes "submit") (text_of Nodes) refl
+not_submit keyword = unlike (codes "submit") (text_of keyword) refl
 
 pub not_query : (keyword : Keyword) → codes "query" ≢ text_of keyword
-not_query keyword same = let e = ap read_back same ∙ reads_back keyword in cc
+not_query Nodes = unlike (codes "query") (text_of Nodes) refl
+not_query keyword = unlike (codes "query") (text_of keyword) refl
 
 pub submit_is_no_query : codes "submit" ≢ codes "query"
-submit_is_no_query same =
-    let e : 115 ≡ 113 = ap (λ (word : List ℕ). get_or word 0 0) same in
-    absurd (omega (arith, e))
+submit_is_no_query = unlike (codes "submit") (codes "query") refl
 
 -- the first of two lists
 heads : {X : Type 0} (x y : X) (xs ys : List X) → x ∷ xs ≡ y ∷ ys → x ≡ y

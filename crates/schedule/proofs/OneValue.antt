@@ -1,12 +1,13 @@
 -- Words say one value for each place.
-use Rattle.std.proofs.Common.{◌≡◌, ℕ, ◌≤◌, ◌^◌, List, [], ◌∷◌, cond, codes, drop, refl, sym, ◌∙◌, ap, subst, arith}
+use Rattle.std.proofs.Common.{◌≡◌, ℕ, ◌≤◌, ◌^◌, true, List, [], ◌∷◌, drop, refl, sym, ◌∙◌, subst, arith}
 use Rattle.std.specs.Str.{bytes_eq}
 use Rattle.std.proofs.lemmas.Fmt.{decimal_injective}
+use Rattle.std.proofs.lemmas.Slice.Eq.{bytes_eq-Decides}
 use Rattle.mfjson.specs.Document.{IsDocumentOf}
 use Rattle.mfjson.proofs.OneText.{instant_of_one}
 use Rattle.mfjson.proofs.OneFeature.{document_of_one}
 use Rattle.stable.specs.declared.scripted.Failing.{Failing}
-use Rattle.stable.specs.declared.scripted.Failing.TheVariants.{Old, New, Read}
+use Rattle.stable.specs.declared.scripted.Failing.TheVariants.{Old}
 use Rattle.schedule.specs.Keywords.{failing_text}
 use Rattle.schedule.specs.Numbers.{Writes}
 use Rattle.schedule.specs.Table.{Place, the_word, a_run_size, a_node, a_client, a_request_number, a_frame_number, a_failing, an_id}
@@ -22,17 +23,14 @@ pub one_number : (least limit : ℕ) (word other : List ℕ) (m n : ℕ) → lim
 one_number least limit word other m n small same a b =
     decimal_injective m n (omega (arith, a.below)) (omega (arith, b.below)) (sym a.text ∙ same ∙ b.text)
 
--- the three ways to fail have three texts
-abbrev failing_back : List ℕ → Failing
-failing_back word = cond (bytes_eq word (codes "old")) Old (cond (bytes_eq word (codes "new")) New Read)
-
-failing_is_back : (failing : Failing) → failing_back (failing_text failing) ≡ failing
-failing_is_back Old = refl
-failing_is_back New = refl
-failing_is_back Read = refl
+-- no two ways to fail have one text
+failings_differ : (a b : Failing) → bytes_eq (failing_text a) (failing_text b) ≡ true → a ≡ b
+failings_differ Old Old same = cc
+failings_differ _ Old same = cc
+failings_differ _ _ same = cc
 
 pub failing_text-injective : (a b : Failing) → failing_text a ≡ failing_text b → a ≡ b
-failing_text-injective a b same = sym (failing_is_back a) ∙ ap failing_back same ∙ failing_is_back b
+failing_text-injective a b same = failings_differ a b ((bytes_eq-Decides (failing_text a) (failing_text b)).1 same)
 
 -- words name one list of nodes
 pub one_naming : (n : ℕ) (words : List (List ℕ)) (a b : List ℕ) → n ≤ 2 ^ 64 → NameEach n words a → NameEach n words b → a ≡ b
