@@ -235,7 +235,7 @@ pub record IsRowOf (n : ℕ) (words : List (List ℕ)) : Type 0 where
   pub its_count : HasItsCount (places row) words
   pub no_nodes : (others : List (List ℕ)) → words ≢ codes "nodes" ∷ others
 
-fit_its_words : (n : ℕ) (at : List Place) (words : List (List ℕ)) → AllFit n at words → HasItsWords at words
+pub fit_its_words : (n : ℕ) (at : List Place) (words : List (List ℕ)) → AllFit n at words → HasItsWords at words
 fit_its_words n [] words f = tt
 fit_its_words n (the_word wanted ∷ others) [] f = tt
 fit_its_words n (the_word wanted ∷ others) (word ∷ words) f = (f.0.1, fit_its_words n others words f.1)

@@ -18,7 +18,7 @@ use Rattle.schedule.proofs.FirstLines.{small_size}
 use Rattle.schedule.proofs.Spelled.{same_text}
 
 -- a word is the text of one number
-pub one_number : (least limit : ℕ) (word other : List ℕ) (m n : ℕ) → limit ≤ 2 ^ 64 → word ≡ other
+one_number : (least limit : ℕ) (word other : List ℕ) (m n : ℕ) → limit ≤ 2 ^ 64 → word ≡ other
     → Writes least limit word m → Writes least limit other n → m ≡ n
 one_number least limit word other m n small same a b =
     decimal_injective m n (omega (arith, a.below)) (omega (arith, b.below)) (sym a.text ∙ same ∙ b.text)
@@ -29,11 +29,11 @@ failings_differ Old Old same = cc
 failings_differ _ Old same = cc
 failings_differ _ _ same = cc
 
-pub failing_text-injective : (a b : Failing) → failing_text a ≡ failing_text b → a ≡ b
+failing_text-injective : (a b : Failing) → failing_text a ≡ failing_text b → a ≡ b
 failing_text-injective a b same = failings_differ a b ((bytes_eq-Decides (failing_text a) (failing_text b)).1 same)
 
 -- words name one list of nodes
-pub one_naming : (n : ℕ) (words : List (List ℕ)) (a b : List ℕ) → n ≤ 2 ^ 64 → NameEach n words a → NameEach n words b → a ≡ b
+one_naming : (n : ℕ) (words : List (List ℕ)) (a b : List ℕ) → n ≤ 2 ^ 64 → NameEach n words a → NameEach n words b → a ≡ b
 one_naming n [] [] [] small p q = refl
 one_naming n [] [] (y ∷ ys) small p q = absurd q
 one_naming n [] (x ∷ xs) b small p q = absurd p
