@@ -86,10 +86,10 @@ in_bounds x0 y0 x1 y1 bounds None a b c d valid value = λ rect is.
 in_bounds x0 y0 x1 y1 bounds (Some made) a b c d valid value =
     rw value (record { left = a; bottom = b; right = c; top = d; in_order = valid.0 refl })
 
-abbrev kept : ℤ → ℤ
+abbrev pub kept : ℤ → ℤ
 kept z = to_z w64 (of_z w64 z)
 
-is_kept : (word : List ℕ) (value : ℤ) → IsCoordinate word value → kept value ≡ value
+pub is_kept : (word : List ℕ) (value : ℤ) → IsCoordinate word value → kept value ≡ value
 is_kept word value c = omega (arith, ints, c.in_range.least, c.in_range.greatest)
 
 pub rect_made : (x0 y0 x1 y1 : List ℕ) (a b c d : ℤ) (made : Option Area)

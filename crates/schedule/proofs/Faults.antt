@@ -1,100 +1,67 @@
 -- Which fault of a line is its lowest.
-use Rattle.std.proofs.Common.{◌≡◌, ◌≢◌, ℕ, ◌≤◌, List, [], ◌∷◌, length, get_or, drop, Option, Some, None, cond, codes, refl, sym, ◌∙◌, ap}
-use Rattle.std.proofs.Common.{◌==◌, suc, subst, lit≤, inl, inr, arith}
+use Rattle.std.proofs.Common.{◌≡◌, ◌≢◌, ℕ, ◌≤◌, List, [], ◌∷◌, length, drop, cond, codes, refl, sym, ◌∙◌, ap}
+use Rattle.std.proofs.Common.{◌==◌, suc, Bool, true, false, subst, lit≤, inl, inr, arith}
 use Rattle.std.proofs.lemmas.Bool.{cases_lt}
+use Rattle.std.proofs.lemmas.Slice.Eq.{bytes_eq-Decides}
 use Rattle.std.specs.List.{All}
 use Rattle.std.specs.Str.{bytes_eq}
 use Rattle.schedule.specs.Codes.{code_of, IsLowest}
 use Rattle.schedule.specs.Keywords.{text_of, operation_text, question_text}
 use Rattle.schedule.specs.Rows.{IsWordsFault}
-use Rattle.schedule.specs.Table.{Place, the_word, a_run_size, a_node, a_client, a_request_number, a_frame_number, a_failing, an_id}
-use Rattle.schedule.specs.Table.{a_datetime, a_coordinate, a_period, a_rectangle, a_document, some_nodes, Row, line_of, submit_of, query_of}
+use Rattle.schedule.specs.Table.{Place, the_word, Row, line_of, submit_of, query_of, IsCount, count, takes_more}
 use Rattle.schedule.specs.Table.{IsOfForm, HasItsWords, HasItsCount, HasMisfit, HasFault, HasOtherCount, IsNotPrintable, IsPrintable}
 use Rattle.schedule.specs.Table.{places, width, words_at}
 use Rattle.schedule.specs.Words.{words_of}
 use Rattle.schedule.specs.declared.keyword.Keyword.{Keyword}
-use Rattle.schedule.specs.declared.keyword.Keyword.TheVariants.{Nodes, Deliver, Drop, Flush, Timeout, Tick, Restart, Fault, Round}
+use Rattle.schedule.specs.declared.keyword.Keyword.TheVariants.{Nodes}
 use Rattle.schedule.specs.declared.keyword.Operation.{Operation}
-use Rattle.schedule.specs.declared.keyword.Operation.TheVariants.{Put, Append, Remove}
+use Rattle.schedule.specs.declared.keyword.Operation.TheVariants.{Put}
 use Rattle.schedule.specs.declared.keyword.Question.{Question}
-use Rattle.schedule.specs.declared.keyword.Question.TheVariants.{At, Cut, Ever, Always, Within, Get, Count}
+use Rattle.schedule.specs.declared.keyword.Question.TheVariants.{At}
 use Rattle.schedule.specs.declared.fault.ScheduleFault.{ScheduleFault}
 use Rattle.schedule.specs.declared.fault.ScheduleFault.TheVariants.{NotPrintable, UnknownWord, NodesLine, WordCount, WordForm, Document}
 
 -- ---- no two rows begin with the same words
--- a text that can be read back is that of one thing
-pub one_by_text : {A : Type 0} (text : A → List ℕ) (back : List ℕ → Option A) → ((a : A) → back (text a) ≡ Some a)
-    → (a b : A) → text a ≡ text b → a ≡ b
-one_by_text text back reads a b same = let e = sym (reads a) ∙ ap back same ∙ reads b in cc
+-- texts that are not equal byte by byte are not the same
+unlike : (a b : List ℕ) → bytes_eq a b ≡ false → a ≢ b
+unlike a b differ same = let e = sym differ ∙ (bytes_eq-Decides a b).1 same in cc
 
--- the keyword that a text is
-abbrev pub read_back : List ℕ → Option Keyword
-read_back w =
-    cond (bytes_eq w (codes "nodes")) (Some Nodes) (cond (bytes_eq w (codes "deliver")) (Some Deliver)
-    (cond (bytes_eq w (codes "drop")) (Some Drop) (cond (bytes_eq w (codes "flush")) (Some Flush)
-    (cond (bytes_eq w (codes "timeout")) (Some Timeout) (cond (bytes_eq w (codes "tick")) (Some Tick)
-    (cond (bytes_eq w (codes "restart")) (Some Restart) (cond (bytes_eq w (codes "fault")) (Some Fault)
-    (cond (bytes_eq w (codes "round")) (Some Round) None))))))))
-
-reads_back : (keyword : Keyword) → read_back (text_of keyword) ≡ Some keyword
-reads_back Nodes = refl
-reads_back Deliver = refl
-reads_back Drop = refl
-reads_back Flush = refl
-reads_back Timeout = refl
-reads_back Tick = refl
-reads_back Restart = refl
-reads_back Fault = refl
-reads_back Round = refl
+-- no two keywords have one text, nor two operations, nor two questions: each two of them are compared
+keywords_differ : (a b : Keyword) → bytes_eq (text_of a) (text_of b) ≡ true → a ≡ b
+keywords_differ Nodes Nodes same = cc
+keywords_differ _ Nodes same = cc
+keywords_differ _ _ same = cc
 
 pub text_of-injective : (a b : Keyword) → text_of a ≡ text_of b → a ≡ b
-text_of-injective = one_by_text text_of read_back reads_back
+text_of-injective a b same = keywords_differ a b ((bytes_eq-Decides (text_of a) (text_of b)).1 same)
 
--- the operation that a text is
-abbrev pub operation_back : List ℕ → Option Operation
-operation_back w =
-    cond (bytes_eq w (codes "put")) (Some Put) (cond (bytes_eq w (codes "append")) (Some Append)
-    (cond (bytes_eq w (codes "remove")) (Some Remove) None))
-
-operation_is_back : (operation : Operation) → operation_back (operation_text operation) ≡ Some operation
-operation_is_back Put = refl
-operation_is_back Append = refl
-operation_is_back Remove = refl
+operations_differ : (a b : Operation) → bytes_eq (operation_text a) (operation_text b) ≡ true → a ≡ b
+operations_differ Put Put same = cc
+operations_differ _ Put same = cc
+operations_differ _ _ same = cc
 
 pub operation_text-injective : (a b : Operation) → operation_text a ≡ operation_text b → a ≡ b
-operation_text-injective = one_by_text operation_text operation_back operation_is_back
+operation_text-injective a b same = operations_differ a b ((bytes_eq-Decides (operation_text a) (operation_text b)).1 same)
 
--- the question that a text is
-abbrev pub question_back : List ℕ → Option Question
-question_back w =
-    cond (bytes_eq w (codes "at")) (Some At) (cond (bytes_eq w (codes "cut")) (Some Cut)
-    (cond (bytes_eq w (codes "ever")) (Some Ever) (cond (bytes_eq w (codes "always")) (Some Always)
-    (cond (bytes_eq w (codes "within")) (Some Within) (cond (bytes_eq w (codes "get")) (Some Get)
-    (cond (bytes_eq w (codes "count")) (Some Count) None))))))
-
-question_is_back : (question : Question) → question_back (question_text question) ≡ Some question
-question_is_back At = refl
-question_is_back Cut = refl
-question_is_back Ever = refl
-question_is_back Always = refl
-question_is_back Within = refl
-question_is_back Get = refl
-question_is_back Count = refl
+questions_differ : (a b : Question) → bytes_eq (question_text a) (question_text b) ≡ true → a ≡ b
+questions_differ At At same = cc
+questions_differ _ At same = cc
+questions_differ _ _ same = cc
 
 pub question_text-injective : (a b : Question) → question_text a ≡ question_text b → a ≡ b
-question_text-injective = one_by_text question_text question_back question_is_back
+question_text-injective a b same = questions_differ a b ((bytes_eq-Decides (question_text a) (question_text b)).1 same)
 
 -- no keyword is `submit` or `query`
 pub not_submit : (keyword : Keyword) → codes "submit" ≢ text_of keyword
-not_submit keyword same = let e = ap read_back same ∙ reads_back keyword in cc
+not_submit Nodes = unlike (codes "submit") (text_of Nodes) refl
+not_submit keyword = unlike (codes "submit") (text_of keyword) refl
 
 pub not_query : (keyword : Keyword) → codes "query" ≢ text_of keyword
-not_query keyword same = let e = ap read_back same ∙ reads_back keyword in cc
+not_query Nodes = unlike (codes "query") (text_of Nodes) refl
+not_query keyword = unlike (codes "query") (text_of keyword) refl
 
 pub submit_is_no_query : codes "submit" ≢ codes "query"
-submit_is_no_query same =
-    let e : 115 ≡ 113 = ap (λ (word : List ℕ). get_or word 0 0) same in
-    absurd (omega (arith, e))
+submit_is_no_query = unlike (codes "submit") (codes "query") refl
 
 -- the first of two lists
 heads : {X : Type 0} (x y : X) (xs ys : List X) → x ∷ xs ≡ y ∷ ys → x ≡ y
@@ -110,24 +77,14 @@ pub other_is_no_nodes : (keyword : Keyword) (words others : List (List ℕ)) →
     → text_of keyword ∷ words ≢ codes "nodes" ∷ others
 other_is_no_nodes keyword words others other same = other (text_of-injective keyword Nodes (heads _ _ _ _ same))
 
-keyword_is_long : (keyword : Keyword) (words : List (List ℕ)) → HasItsCount (line_of keyword) words → 1 ≤ length words
-keyword_is_long Nodes words h = omega (arith, h)
-keyword_is_long Deliver words h = omega (arith, h)
-keyword_is_long Drop words h = omega (arith, h)
-keyword_is_long Flush words h = omega (arith, h)
-keyword_is_long Timeout words h = omega (arith, h)
-keyword_is_long Tick words h = omega (arith, h)
-keyword_is_long Restart words h = omega (arith, h)
-keyword_is_long Fault words h = omega (arith, h)
-keyword_is_long Round words h = omega (arith, h)
+-- there are no fewer than are wanted
+count_is_least : (more : Bool) (wanted there : ℕ) → IsCount more wanted there → wanted ≤ there
+count_is_least true wanted there is = is
+count_is_least false wanted there is = omega (arith, is)
 
-submit_is_long : (operation : Operation) (words : List (List ℕ)) → HasItsCount (submit_of operation) words → 5 ≤ length words
-submit_is_long Put words h = omega (arith, h)
-submit_is_long Append words h = omega (arith, h)
-submit_is_long Remove words h = omega (arith, h)
-
-query_is_long : (question : Question) (words : List (List ℕ)) → HasItsCount (query_of question) words → 3 ≤ length words
-query_is_long question words h = omega (arith, h)
+-- no fewer words than the row wants
+row_is_long : (row : Row) (words : List (List ℕ)) → HasItsCount (places row) words → count (places row) ≤ length words
+row_is_long row words is = count_is_least (takes_more (places row)) (count (places row)) (length words) is
 
 one_operation : (words : List (List ℕ)) (a b : Operation) → 5 ≤ length words → HasItsWords (places (submit_of a)) words
     → HasItsWords (places (submit_of b)) words → a ≡ b
@@ -148,22 +105,22 @@ one_question (w ∷ x ∷ o ∷ words) a b long p q =
     question_text-injective a b (sym p.1.0 ∙ q.1.0)
 
 -- words with all words of a row begin as no other row
-pub one_row : (words : List (List ℕ)) (a b : Row) → HasItsCount a words → HasItsWords (places a) words
+pub one_row : (words : List (List ℕ)) (a b : Row) → HasItsCount (places a) words → HasItsWords (places a) words
     → HasItsWords (places b) words → a ≡ b
-one_row [] (line_of k) b count p q = absurd (omega (arith, keyword_is_long k [] count))
-one_row [] (submit_of o) b count p q = absurd (omega (arith, submit_is_long o [] count))
-one_row [] (query_of o) b count p q = absurd (omega (arith, query_is_long o [] count))
-one_row (w ∷ words) (line_of k) (line_of l) count p q = ap line_of (text_of-injective k l (sym p.0 ∙ q.0))
-one_row (w ∷ words) (line_of k) (submit_of o) count p q = absurd (not_submit k (sym q.0 ∙ p.0))
-one_row (w ∷ words) (line_of k) (query_of o) count p q = absurd (not_query k (sym q.0 ∙ p.0))
-one_row (w ∷ words) (submit_of o) (line_of k) count p q = absurd (not_submit k (sym p.0 ∙ q.0))
-one_row (w ∷ words) (submit_of o) (submit_of u) count p q =
-    ap submit_of (one_operation (w ∷ words) o u (submit_is_long o (w ∷ words) count) p q)
-one_row (w ∷ words) (submit_of o) (query_of u) count p q = absurd (submit_is_no_query (sym p.0 ∙ q.0))
-one_row (w ∷ words) (query_of o) (line_of k) count p q = absurd (not_query k (sym p.0 ∙ q.0))
-one_row (w ∷ words) (query_of o) (submit_of u) count p q = absurd (submit_is_no_query (sym q.0 ∙ p.0))
-one_row (w ∷ words) (query_of o) (query_of u) count p q =
-    ap query_of (one_question (w ∷ words) o u (query_is_long o (w ∷ words) count) p q)
+one_row [] (line_of k) b its p q = absurd (omega (arith, row_is_long (line_of k) [] its))
+one_row [] (submit_of o) b its p q = absurd (omega (arith, row_is_long (submit_of o) [] its))
+one_row [] (query_of o) b its p q = absurd (omega (arith, row_is_long (query_of o) [] its))
+one_row (w ∷ words) (line_of k) (line_of l) its p q = ap line_of (text_of-injective k l (sym p.0 ∙ q.0))
+one_row (w ∷ words) (line_of k) (submit_of o) its p q = absurd (not_submit k (sym q.0 ∙ p.0))
+one_row (w ∷ words) (line_of k) (query_of o) its p q = absurd (not_query k (sym q.0 ∙ p.0))
+one_row (w ∷ words) (submit_of o) (line_of k) its p q = absurd (not_submit k (sym p.0 ∙ q.0))
+one_row (w ∷ words) (submit_of o) (submit_of u) its p q =
+    ap submit_of (one_operation (w ∷ words) o u (omega (arith, row_is_long (submit_of o) (w ∷ words) its)) p q)
+one_row (w ∷ words) (submit_of o) (query_of u) its p q = absurd (submit_is_no_query (sym p.0 ∙ q.0))
+one_row (w ∷ words) (query_of o) (line_of k) its p q = absurd (not_query k (sym p.0 ∙ q.0))
+one_row (w ∷ words) (query_of o) (submit_of u) its p q = absurd (submit_is_no_query (sym q.0 ∙ p.0))
+one_row (w ∷ words) (query_of o) (query_of u) its p q =
+    ap query_of (one_question (w ∷ words) o u (omega (arith, row_is_long (query_of o) (w ∷ words) its)) p q)
 
 -- ---- the numbers of faults
 -- a line of bytes that print has no other byte
@@ -232,11 +189,11 @@ from_six Has first second third fourth fifth = from_above Has WordForm (from_fiv
 
 -- ---- the lowest fault of a line is that of its words
 -- where a row has its words and their count, no row has another count
-pub not_count : (words : List (List ℕ)) (row : Row) → HasItsCount row words → HasItsWords (places row) words
+pub not_count : (words : List (List ℕ)) (row : Row) → HasItsCount (places row) words → HasItsWords (places row) words
     → ¬ (HasOtherCount words)
-not_count words row count its other =
-    let same : row ≡ other.row = one_row words row other.row count its other.its_words in
-    other.other_count (subst (λ (r : Row). HasItsCount r words) same count)
+not_count words row is its other =
+    let same : row ≡ other.row = one_row words row other.row is its other.its_words in
+    other.other_count (subst (λ (r : Row). HasItsCount (places r) words) same is)
 
 begins_as_nodes : (others : List (List ℕ)) → HasItsWords (places (line_of Nodes)) (codes "nodes" ∷ others)
 begins_as_nodes others = (refl, tt)
@@ -275,26 +232,14 @@ AllFit n (place ∷ others) words = IsOfForm n place (words_at place words) × A
 pub record IsRowOf (n : ℕ) (words : List (List ℕ)) : Type 0 where
   pub row : Row
   pub fit : AllFit n (places row) words
-  pub its_count : HasItsCount row words
+  pub its_count : HasItsCount (places row) words
   pub no_nodes : (others : List (List ℕ)) → words ≢ codes "nodes" ∷ others
 
-fit_its_words : (n : ℕ) (at : List Place) (words : List (List ℕ)) → AllFit n at words → HasItsWords at words
+pub fit_its_words : (n : ℕ) (at : List Place) (words : List (List ℕ)) → AllFit n at words → HasItsWords at words
 fit_its_words n [] words f = tt
 fit_its_words n (the_word wanted ∷ others) [] f = tt
-fit_its_words n (the_word wanted ∷ others) (word ∷ words) f = (f.0, fit_its_words n others words f.1)
-fit_its_words n (a_run_size ∷ others) words f = fit_its_words n others (drop 1 words) f.1
-fit_its_words n (a_node ∷ others) words f = fit_its_words n others (drop 1 words) f.1
-fit_its_words n (a_client ∷ others) words f = fit_its_words n others (drop 1 words) f.1
-fit_its_words n (a_request_number ∷ others) words f = fit_its_words n others (drop 1 words) f.1
-fit_its_words n (a_frame_number ∷ others) words f = fit_its_words n others (drop 1 words) f.1
-fit_its_words n (a_failing ∷ others) words f = fit_its_words n others (drop 1 words) f.1
-fit_its_words n (an_id ∷ others) words f = fit_its_words n others (drop 1 words) f.1
-fit_its_words n (a_datetime ∷ others) words f = fit_its_words n others (drop 1 words) f.1
-fit_its_words n (a_coordinate ∷ others) words f = fit_its_words n others (drop 1 words) f.1
-fit_its_words n (a_period ∷ others) words f = fit_its_words n others (drop 2 words) f.1
-fit_its_words n (a_rectangle ∷ others) words f = fit_its_words n others (drop 4 words) f.1
-fit_its_words n (a_document ∷ others) words f = fit_its_words n others (drop 1 words) f.1
-fit_its_words n (some_nodes ∷ others) words f = fit_its_words n others (drop 1 words) f.1
+fit_its_words n (the_word wanted ∷ others) (word ∷ words) f = (f.0.1, fit_its_words n others words f.1)
+fit_its_words n (place ∷ others) words f = fit_its_words n others (drop (width place) words) f.1
 
 fit_throughout : (n : ℕ) (at : List Place) (words : List (List ℕ)) → AllFit n at words → ¬ (HasMisfit n at words)
 fit_throughout n [] words f m = m

@@ -1,5 +1,6 @@
 pub mod PeriodMarks
 pub mod OneMark
+pub mod ByPlaces
 pub mod Coordinates
 pub mod Cuts
 pub mod Decimals
@@ -11,8 +12,8 @@ pub mod NoSchedule
 pub mod One
 pub mod OneAction
 pub mod OneFault
+pub mod OneValue
 pub mod Progress
 pub mod RowLemmas
 pub mod Spelled
-pub mod SpelledRows
 pub mod Told

@@ -1,33 +1,31 @@
 -- What is wrong with the words of a row, as its parts tell it.
-use Rattle.std.proofs.Common.{◌≡◌, ◌≢◌, ◌==◌, ℕ, ◌<◌, ◌≤◌, List, [], ◌∷◌, ◌++◌, length, Result, Ok, Err, MatchResult, codes, refl, sym, ap}
-use Rattle.std.proofs.Common.{◌↔◌, subst, inl, inr, arith}
+use Rattle.std.proofs.Common.{◌≡◌, ◌≢◌, ◌==◌, ℕ, ◌<◌, ◌≤◌, List, [], ◌∷◌, ◌++◌, length, Result, Ok, Err, MatchResult, codes, refl, sym}
+use Rattle.std.proofs.Common.{◌↔◌, ◌+◌, Bool, true, false, Option, None, Some, IsSome, IfSome, MatchOption, subst, inl, inr, arith}
 use Rattle.std.specs.Prelude.{IsErrAnd}
 use Rattle.std.proofs.lemmas.List.Splits.{length-slice_split}
 use Rattle.store.specs.declared.op.Op.{Op}
-use Rattle.store.specs.declared.op.Op.TheVariants as op
 use Rattle.store.specs.declared.query.Query.{Query}
-use Rattle.store.specs.declared.query.Query.TheVariants as query
 use Rattle.tpoint.specs.Extents.{Span}
 use Rattle.schedule.specs.Extents.{IsPeriod}
 use Rattle.schedule.specs.Keywords.{text_of, operation_text, question_text}
 use Rattle.schedule.specs.Rows.{IsFaultAt, IsRowFault, IsWordsFault}
-use Rattle.schedule.specs.Spelling.{SpellsOp, SpellsQuery, WordsSpell, operation_of, question_of}
+use Rattle.schedule.specs.Spelling.{SpellsOp, SpellsQuery, Submits, WordsSpell}
 use Rattle.schedule.specs.Submissions.{Names, asker_places, asker_words, submit_words}
 use Rattle.schedule.specs.declared.submits.Asker.{Asker}
 use Rattle.schedule.specs.declared.submits.AskerWords.{AskerWords}
 use Rattle.schedule.specs.declared.action.Action.TheVariants.{Step}
 use Rattle.history.specs.declared.event.Event.TheVariants as event
 use Rattle.schedule.specs.Table.{line_of, submit_of, query_of, count, IsNode, NameEach, HasItsWords, HasItsCount, HasMisfit, HasUnknownWord}
-use Rattle.schedule.specs.Table.{Place, places, keyword_places, operation_places, question_places}
+use Rattle.schedule.specs.Table.{IsCount, takes_more, Place, places, keyword_places, operation_places, question_places}
 use Rattle.schedule.specs.Unread.{WordsGive}
 use Rattle.schedule.specs.declared.unread.Unread.{Unread}
 use Rattle.schedule.specs.Words.{blank, words_of}
 use Rattle.schedule.specs.declared.keyword.Keyword.{Keyword}
-use Rattle.schedule.specs.declared.keyword.Keyword.TheVariants.{Nodes, Deliver, Drop, Flush, Timeout, Tick, Restart, Fault, Round}
+use Rattle.schedule.specs.declared.keyword.Keyword.TheVariants.{Nodes, Flush, Round}
 use Rattle.schedule.specs.declared.keyword.Operation.{Operation}
-use Rattle.schedule.specs.declared.keyword.Operation.TheVariants.{Put, Append, Remove}
+use Rattle.schedule.specs.declared.keyword.Operation.TheVariants.{Put, Remove}
 use Rattle.schedule.specs.declared.keyword.Question.{Question}
-use Rattle.schedule.specs.declared.keyword.Question.TheVariants.{At, Cut, Ever, Always, Within, Get, Count}
+use Rattle.schedule.specs.declared.keyword.Question.TheVariants.{At, Cut, Ever, Within, Count}
 use Rattle.schedule.specs.declared.fault.ScheduleFault.{ScheduleFault}
 use Rattle.schedule.specs.declared.fault.ScheduleFault.TheVariants.{NotPrintable, UnknownWord, NodesLine, WordCount, WordForm, Document}
 use Rattle.schedule.proofs.Told.{err_told}
@@ -37,77 +35,57 @@ use Rattle.schedule.proofs.Faults.{not_submit, not_query, submit_is_no_query, su
 -- behind the word that says what is submitted or asked, none has to be a certain one
 pub operation_words : (operation : Operation) (words : List (List ℕ)) → HasItsWords (operation_places operation) words
 operation_words Put words = tt
-operation_words Append words = tt
-operation_words Remove words = tt
+operation_words _ words = tt
 
 pub question_words : (question : Question) (words : List (List ℕ)) → HasItsWords (question_places question) words
 question_words At words = tt
-question_words Cut words = tt
-question_words Ever words = tt
-question_words Always words = tt
-question_words Within words = tt
-question_words Get words = tt
-question_words Count words = tt
+question_words _ words = tt
 
 pub keyword_words : (keyword : Keyword) (words : List (List ℕ)) → HasItsWords (keyword_places keyword) words
 keyword_words Nodes words = tt
-keyword_words Deliver words = tt
-keyword_words Drop words = tt
-keyword_words Flush words = tt
-keyword_words Timeout words = tt
-keyword_words Tick words = tt
-keyword_words Restart words = tt
-keyword_words Fault words = tt
-keyword_words Round words = tt
+keyword_words _ words = tt
 
--- a submission has as many words as it has places, unless it puts a document
-operation_counts : (operation : Operation) (words : List (List ℕ)) → operation ≢ Put
-    → HasItsCount (submit_of operation) words ↔ (length words ≡ count (places (submit_of operation)))
-operation_counts Put words other = absurd (other refl)
-operation_counts Append words other = (λ h. h, λ h. h)
-operation_counts Remove words other = (λ h. h, λ h. h)
+-- ---- how many words a line has
+-- where so many more are there as are wanted, the count is right as before
+alike : (more : Bool) (wanted there all line : ℕ) → line + wanted ≡ there + all → IsCount more wanted there ↔ IsCount more all line
+alike true wanted there all line same = (λ is. omega (arith, same, is), λ is. omega (arith, same, is))
+alike false wanted there all line same = (λ is. omega (arith, same, is), λ is. omega (arith, same, is))
 
--- and so has a line after its keyword, unless it is a round
-keyword_counts : (keyword : Keyword) (words : List (List ℕ)) → keyword ≢ Round
-    → HasItsCount (line_of keyword) words ↔ (length words ≡ count (places (line_of keyword)))
-keyword_counts Nodes words other = (λ h. h, λ h. h)
-keyword_counts Deliver words other = (λ h. h, λ h. h)
-keyword_counts Drop words other = (λ h. h, λ h. h)
-keyword_counts Flush words other = (λ h. h, λ h. h)
-keyword_counts Timeout words other = (λ h. h, λ h. h)
-keyword_counts Tick words other = (λ h. h, λ h. h)
-keyword_counts Restart words other = (λ h. h, λ h. h)
-keyword_counts Fault words other = (λ h. h, λ h. h)
-keyword_counts Round words other = absurd (other refl)
+-- as many as its row wants, where those behind its own words are
+keyword_count : (keyword : Keyword) (words : List (List ℕ))
+    → HasItsCount (keyword_places keyword) words ↔ HasItsCount (places (line_of keyword)) (text_of keyword ∷ words)
+keyword_count keyword words =
+    let at = keyword_places keyword in
+    alike (takes_more at) (count at) (length words) (count (places (line_of keyword))) (length (text_of keyword ∷ words)) (omega arith)
 
--- ---- what the words of an operation or a query count
-document_is_there : (document : List ℕ) → 1 ≤ length (words_of document)
+pub op_count : (operation : Operation) (a b c : List ℕ) (words : List (List ℕ)) → HasItsCount (operation_places operation) words
+    ↔ HasItsCount (places (submit_of operation)) (codes "submit" ∷ a ∷ b ∷ c ∷ operation_text operation ∷ words)
+op_count operation a b c words =
+    let at = operation_places operation in
+    alike (takes_more at) (count at) (length words) (count (places (submit_of operation)))
+    (length (codes "submit" ∷ a ∷ b ∷ c ∷ operation_text operation ∷ words)) (omega arith)
+
+pub query_count : (question : Question) (a : List ℕ) (words : List (List ℕ)) → HasItsCount (question_places question) words
+    ↔ HasItsCount (places (query_of question)) (codes "query" ∷ a ∷ question_text question ∷ words)
+query_count question a words =
+    let at = question_places question in
+    alike (takes_more at) (count at) (length words) (count (places (query_of question)))
+    (length (codes "query" ∷ a ∷ question_text question ∷ words)) (omega arith)
+
+-- a document has a word at least
+pub document_is_there : (document : List ℕ) → 1 ≤ length (words_of document)
 document_is_there document = omega (arith, length-slice_split (λ b. b == blank) document)
 
-pub put_count : (a b c document : List ℕ) (words : List (List ℕ)) → words ≡ words_of document
-    → HasItsCount (submit_of Put) (codes "submit" ∷ a ∷ b ∷ c ∷ codes "put" ∷ words)
-put_count a b c document words same = rw same (omega (arith, document_is_there document))
-
-pub op_count : (asked : Op) (a b c : List ℕ) (words : List (List ℕ)) → SpellsOp words asked
-    → HasItsCount (submit_of (operation_of asked)) (codes "submit" ∷ a ∷ b ∷ c ∷ operation_text (operation_of asked) ∷ words)
-op_count (op.Put id seq) a b c words (document, same, is) = put_count a b c document words same
-op_count (op.Append addition) a b c words is = rw is.words_are refl
-op_count (op.Remove id) a b c words is = rw is.0 refl
-
-pub query_count : (asked : Query) (a : List ℕ) (words : List (List ℕ)) → SpellsQuery words asked
-    → HasItsCount (query_of (question_of asked)) (codes "query" ∷ a ∷ question_text (question_of asked) ∷ words)
-query_count (query.At id t) a words (others, same, of_id, (datetime, one, at)) = rw (same, one) refl
-query_count (query.Cut id period) a words (others, same, of_id, is) = rw (same, is.words_are) refl
-query_count (query.Ever id period rect) a words (others, same, of_id, is) = rw (same, is.words_are) refl
-query_count (query.Always id period rect) a words (others, same, of_id, is) = rw (same, is.words_are) refl
-query_count (query.Within period rect) a words is = rw is.words_are refl
-query_count (query.Get id) a words (others, same, of_id, none) = rw (same, none) refl
-query_count query.Count a words none = rw none refl
+-- an operation that there is, and of which this holds
+pub some_op : (made : Option Op) (asked : Op) (Not : Type 0) (Is : Op → Type 0) → IsSome made → IfSome made (λ op. op ≡ asked)
+    → Is asked → MatchOption made Not Is
+some_op None asked Not Is some same is = let e = some in cc
+some_op (Some op) asked Not Is some same is = subst Is (sym same) is
 
 -- ---- what is wrong with the words of a part is wrong with the line
 -- at places that want no certain word, only a count or a form is wrong
 fault_at : (n : ℕ) (at : List Place) (words : List (List ℕ)) (Told : ScheduleFault → Type 0)
-    → ((length words ≢ count at) → Told WordCount) → ((length words ≡ count at) → HasMisfit n at words → Told WordForm)
+    → (¬ (HasItsCount at words) → Told WordCount) → (HasItsCount at words → HasMisfit n at words → Told WordForm)
     → (fault : ScheduleFault) → IsFaultAt n at words fault → Told fault
 fault_at n at words Told counted formed NotPrintable is = absurd is
 fault_at n at words Told counted formed UnknownWord is = absurd is
@@ -134,24 +112,23 @@ no_period_to_look_in n begin end x0 y0 x1 y1 none = (refl, inl (λ is. none is.0
 
 -- what an operation needs, behind the words that say who asks
 pub operation_fault : (n : ℕ) (operation : Operation) (a b c : List ℕ) (words : List (List ℕ)) (fault : ScheduleFault)
-    → operation ≢ Put → IsFaultAt n (operation_places operation) words fault
+    → IsFaultAt n (operation_places operation) words fault
     → IsRowFault n (submit_of operation) (codes "submit" ∷ a ∷ b ∷ c ∷ operation_text operation ∷ words) fault
-operation_fault n operation a b c words fault other =
+operation_fault n operation a b c words =
     let line = codes "submit" ∷ a ∷ b ∷ c ∷ operation_text operation ∷ words in
-    let counts = operation_counts operation line other in
+    let counts = op_count operation a b c words in
     let its_words : HasItsWords (places (submit_of operation)) line = (refl, (refl, operation_words operation words)) in
     fault_at n (operation_places operation) words (λ told. IsRowFault n (submit_of operation) line told)
-    (λ wrong. (its_words, λ same. let all = counts.0 same in wrong (omega (arith, all))))
-    (λ same misfit. (its_words, counts.1 (omega (arith, same)), inr (inr (inr (inr (inr misfit)))))) fault
+    (λ wrong. (its_words, λ all. wrong (counts.1 all)))
+    (λ its misfit. (its_words, counts.0 its, inr (inr (inr (inr (inr misfit))))))
 
 -- the words that say who asks
 pub asker_fault : (n : ℕ) (operation : Operation) (a b c : List ℕ) (words : List (List ℕ))
-    → HasItsCount (submit_of operation) (codes "submit" ∷ a ∷ b ∷ c ∷ operation_text operation ∷ words)
-    → HasMisfit n asker_places (a ∷ b ∷ c ∷ [])
+    → HasItsCount (operation_places operation) words → HasMisfit n asker_places (a ∷ b ∷ c ∷ [])
     → IsRowFault n (submit_of operation) (codes "submit" ∷ a ∷ b ∷ c ∷ operation_text operation ∷ words) WordForm
 asker_fault n operation a b c words its_count misfit = (
   (refl, (refl, operation_words operation words)),
-  its_count,
+  (op_count operation a b c words).0 its_count,
   elim misfit [
     | inl node ↦ inr (inl node)
     | inr more ↦ elim more [
@@ -167,55 +144,57 @@ pub query_fault : (n : ℕ) (question : Question) (a : List ℕ) (words : List (
     → IsWordsFault n (codes "query" ∷ a ∷ question_text question ∷ words) fault
 query_fault n question a words =
     let line = codes "query" ∷ a ∷ question_text question ∷ words in
+    let counts = query_count question a words in
     let its : HasItsWords (places (query_of question)) line = (refl, (refl, question_words question words)) in
     fault_at n (question_places question) words (λ told. IsWordsFault n line told)
     (λ wrong. (
-      record { row = query_of question; its_words = its; other_count = λ same. wrong (omega (arith, same)) },
+      record { row = query_of question; its_words = its; other_count = λ all. wrong (counts.1 all) },
       λ others. query_is_no_nodes _ others,
     ))
     (λ same misfit. (
-      record { row = query_of question; its_words = its; its_count = omega (arith, same); misfit = inr (inr (inr misfit)) },
+      record { row = query_of question; its_words = its; its_count = counts.0 same; misfit = inr (inr (inr misfit)) },
       λ others. query_is_no_nodes _ others,
     ))
 
 -- which node is asked
-target_fault : (n : ℕ) (asked : Query) (a : List ℕ) (words : List (List ℕ)) → SpellsQuery words asked
-    → ((node : ℕ) → ¬ (IsNode n a node))
-    → IsWordsFault n (codes "query" ∷ a ∷ question_text (question_of asked) ∷ words) WordForm
-target_fault n asked a words spells none = (
+pub asked_fault : (n : ℕ) (question : Question) (a : List ℕ) (words : List (List ℕ))
+    → HasItsCount (question_places question) words → ((node : ℕ) → ¬ (IsNode n a node))
+    → IsWordsFault n (codes "query" ∷ a ∷ question_text question ∷ words) WordForm
+asked_fault n question a words its_count none = (
   record {
-    row = query_of (question_of asked);
-    its_words = (refl, (refl, question_words (question_of asked) words));
-    its_count = query_count asked a words spells;
+    row = query_of question;
+    its_words = (refl, (refl, question_words question words));
+    its_count = (query_count question a words).0 its_count;
     misfit = inr (inl (λ is. none is.0 is.1));
   },
   λ others. query_is_no_nodes _ others,
 )
 
-pub asked_fault : (n : ℕ) (question : Question) (asked : Query) (a : List ℕ) (words : List (List ℕ))
-    → question_of asked ≡ question → SpellsQuery words asked → ((node : ℕ) → ¬ (IsNode n a node))
-    → IsWordsFault n (codes "query" ∷ a ∷ question_text question ∷ words) WordForm
-asked_fault n question asked a words same spells none =
-    subst (λ (q : Question). IsWordsFault n (codes "query" ∷ a ∷ question_text q ∷ words) WordForm) same
-    (target_fault n asked a words spells none)
+-- what is asked, and whom, are a query
+pub asks : (n : ℕ) (question : Question) (asked : Query) (a : List ℕ) (words : List (List ℕ)) (node : ℕ) → IsNode n a node
+    → SpellsQuery n question words asked
+    → WordsSpell n (codes "query" ∷ a ∷ question_text question ∷ words) (Step (event.Query node asked))
+asks n question asked a words node is spells =
+    (question, record { node_word = a; others = words; words_are = refl; to_node = is }, spells)
 
 -- what is asked for, and who asks, are a submission
+abbrev pub named : (n : ℕ) (operation : Operation) (asking : AskerWords) (asker : Asker) (words : List (List ℕ)) → Names n asking asker
+    → Submits n operation (submit_words asking operation words) asker.node asker.client asker.number
+named n operation asking asker words names = record {
+  node_word = asking.node.now;
+  client_word = asking.client.now;
+  number_word = asking.number.now;
+  others = words;
+  words_are = refl;
+  to_node = names.node;
+  of_client = names.client;
+  under_number = names.number;
+}
+
 pub submits : (n : ℕ) (operation : Operation) (asking : AskerWords) (asker : Asker) (asked : Op) (words : List (List ℕ))
-    → operation_of asked ≡ operation → SpellsOp words asked → Names n asking asker
+    → SpellsOp n operation words asked → Names n asking asker
     → WordsSpell n (submit_words asking operation words) (Step (event.Submit asker.node asker.client asker.number asked))
-submits n operation asking asker asked words same spells names = (
-  words,
-  record {
-    node_word = asking.node.now;
-    client_word = asking.client.now;
-    number_word = asking.number.now;
-    words_are = ap (λ (o : Operation). submit_words asking o words) (sym same);
-    to_node = names.node;
-    of_client = names.client;
-    under_number = names.number;
-  },
-  spells,
-)
+submits n operation asking asker asked words spells names = (operation, named n operation asking asker words names, spells)
 
 -- a row's fault is that of its words
 pub submit_fault : (n : ℕ) (operation : Operation) (words : List (List ℕ)) (fault : ScheduleFault)
@@ -241,33 +220,29 @@ submit_result n operation asking word all words (Err fault) same is wrong =
     rw (same, is) (submit_fault n operation _ fault wrong)
 
 -- the words after a keyword
-pub keyword_fault : (n : ℕ) (keyword : Keyword) (words : List (List ℕ)) (fault : ScheduleFault) → keyword ≢ Nodes → keyword ≢ Round
+pub keyword_fault : (n : ℕ) (keyword : Keyword) (words : List (List ℕ)) (fault : ScheduleFault) → keyword ≢ Nodes
     → IsFaultAt n (keyword_places keyword) words fault → IsWordsFault n (text_of keyword ∷ words) fault
-keyword_fault n keyword words fault other counted =
-    let counts = keyword_counts keyword (text_of keyword ∷ words) counted in
+keyword_fault n keyword words fault other =
+    let counts = keyword_count keyword words in
     let its : HasItsWords (places (line_of keyword)) (text_of keyword ∷ words) = (refl, keyword_words keyword words) in
     fault_at n (keyword_places keyword) words (λ told. IsWordsFault n (text_of keyword ∷ words) told)
     (λ wrong. (
-      record {
-        row = line_of keyword;
-        its_words = its;
-        other_count = λ same. let all = counts.0 same in wrong (omega (arith, all));
-      },
+      record { row = line_of keyword; its_words = its; other_count = λ all. wrong (counts.1 all) },
       λ others. other_is_no_nodes keyword words others other,
     ))
     (λ same misfit. (
-      record { row = line_of keyword; its_words = its; its_count = counts.1 (omega (arith, same)); misfit = inr misfit },
+      record { row = line_of keyword; its_words = its; its_count = counts.0 same; misfit = inr misfit },
       λ others. other_is_no_nodes keyword words others other,
     )) fault
 
 -- what is told of a row whose words after the keyword are faulty
 pub refused_row : {A : Type 0} (n : ℕ) (keyword met : Keyword) (words : List (List ℕ)) (fault : ScheduleFault)
-    (result : Result A ScheduleFault) (IsRead : A → Type 0) → met ≡ keyword → keyword ≢ Nodes → keyword ≢ Round
+    (result : Result A ScheduleFault) (IsRead : A → Type 0) → met ≡ keyword → keyword ≢ Nodes
     → IsErrAnd result (λ told. told ≡ fault) → IsFaultAt n (keyword_places keyword) words fault
     → MatchResult result IsRead (IsWordsFault n (text_of met ∷ words))
-refused_row n keyword met words fault result IsRead is other counted left at =
+refused_row n keyword met words fault result IsRead is other left at =
     err_told result fault IsRead (IsWordsFault n (text_of met ∷ words)) left
-    (rw is (keyword_fault n keyword words fault other counted at))
+    (rw is (keyword_fault n keyword words fault other at))
 
 -- a round's line with fewer words than it wants
 pub short_round : (n : ℕ) (words : List (List ℕ)) → length words < 2 → IsWordsFault n (text_of Round ∷ words) WordCount

@@ -1,135 +1,53 @@
 -- A line that spells an action has no fault.
-use Rattle.std.proofs.Common.{◌≡◌, ◌≢◌, ◌==◌, ◌⊎◌, ℕ, ◌≤◌, List, [], ◌∷◌, length, Result, Ok, Err, MatchResult, codes, refl, sym, ◌∙◌, ap}
+use Rattle.std.proofs.Common.{◌≡◌, ◌⊎◌, ℕ, ◌≤◌, List, ◌∷◌, length, Result, Ok, Err, MatchResult, refl, sym, ◌∙◌, ap}
 use Rattle.std.proofs.Common.{subst, inl, inr, arith}
 use Rattle.std.specs.List.{All, join_with_byte}
-use Rattle.std.proofs.lemmas.List.Splits.{join_with_byte-slice_split, length-slice_split}
+use Rattle.std.proofs.lemmas.List.Splits.{join_with_byte-slice_split}
 use Rattle.mfjson.specs.Document.{IsDocumentOf}
 use Rattle.mfjson.specs.declared.fault.MfFault.{MfFault}
 use Rattle.mfjson.specs.declared.fault.MfFault.TheVariants as mf_fault
 use Rattle.mfjson.specs.declared.feature.Feature.{Feature}
-use Rattle.store.specs.declared.op.Op.{Op}
 use Rattle.store.specs.declared.op.Op.TheVariants as op
-use Rattle.store.specs.declared.query.Query.{Query}
-use Rattle.store.specs.declared.query.Query.TheVariants as query
-use Rattle.stable.specs.declared.scripted.Failing.{Failing}
-use Rattle.history.specs.declared.event.Event.TheVariants as event
 use Rattle.schedule.specs.Codes.{code_of, IsLowest}
-use Rattle.schedule.specs.Keywords.{text_of, failing_text, operation_text}
 use Rattle.schedule.specs.Lines.{NumberedText}
 use Rattle.schedule.specs.Reading.{IsLineRefusal}
 use Rattle.schedule.specs.Rows.{IsWordsFault, in_first_line}
-use Rattle.schedule.specs.Spelling.{Spells, SpellsOp, SpellsQuery, SpellsRound, Submits, WordsSpell, operation_of}
-use Rattle.schedule.specs.Spelling.{question_of}
-use Rattle.schedule.specs.Table.{a_failing, line_of, submit_of, query_of, IsOfForm, HasItsCount, HasFault, HasFirstFault, HasUnknownWord}
-use Rattle.schedule.specs.Table.{HasWrongDocument, IsPrintable, keyword_places, operation_places, question_places}
+use Rattle.schedule.specs.Spelling.{Spells, SpellsOp, SpellsRound, WordsSpell}
+use Rattle.schedule.specs.Table.{line_of, submit_of, HasFault, HasFirstFault, HasUnknownWord}
+use Rattle.schedule.specs.Table.{HasWrongDocument, IsPrintable, SayEach}
+use Rattle.schedule.specs.Table.{places}
 use Rattle.schedule.specs.Unread.{Becomes, Gives, IsNotRead, Puts, WordsGive}
 use Rattle.schedule.specs.Words.{blank, words_of}
 use Rattle.schedule.specs.declared.action.Action.{Action}
-use Rattle.schedule.specs.declared.action.Action.TheVariants.{Step, Flush, Round}
 use Rattle.schedule.specs.declared.fault.ParseFault.{ParseFault}
 use Rattle.schedule.specs.declared.fault.ParseFault.TheVariants.{Line, Memory}
 use Rattle.schedule.specs.declared.fault.ScheduleFault.{ScheduleFault}
 use Rattle.schedule.specs.declared.fault.ScheduleFault.TheVariants.{NotPrintable, UnknownWord, NodesLine, WordCount, WordForm, Document}
-use Rattle.schedule.specs.declared.keyword.Keyword.{Keyword}
 use Rattle.schedule.specs.declared.keyword.Keyword.TheVariants as keyword
-use Rattle.schedule.specs.declared.keyword.Operation.{Operation}
 use Rattle.schedule.specs.declared.keyword.Operation.TheVariants as operation
 use Rattle.schedule.specs.declared.unread.Unread.{Unread}
 use Rattle.schedule.specs.declared.unread.Unread.TheVariants as given
 use Rattle.schedule.specs.declared.unread.Putting.{Putting}
-use Rattle.schedule.proofs.Faults.{AllFit, IsRowOf, document_lowest, from_two, from_three, lowest_unprintable, not_submit}
-use Rattle.schedule.proofs.Faults.{operation_text-injective, other_is_no_nodes, prints_throughout, query_is_no_nodes, row_faultless}
-use Rattle.schedule.proofs.Faults.{row_words, submit_is_no_nodes, submit_is_no_query, words_fault_lowest}
-use Rattle.schedule.proofs.RowLemmas.{members_fault, op_count, put_count, query_count}
+use Rattle.schedule.proofs.Faults.{IsRowOf, document_lowest, from_two, from_three, lowest_unprintable}
+use Rattle.schedule.proofs.Faults.{prints_throughout, row_faultless}
+use Rattle.schedule.proofs.Faults.{row_words, submit_is_no_nodes, words_fault_lowest}
+use Rattle.schedule.proofs.ByPlaces.{IsLine, of_row, row_of}
+use Rattle.schedule.proofs.RowLemmas.{document_is_there, members_fault, op_count}
 
--- ---- the row of a line that spells an action
-document_is_there : (words : List (List ℕ)) (document : List ℕ) → words ≡ words_of document → 1 ≤ length words
-document_is_there words document same = rw same (omega (arith, length-slice_split (λ b. b == blank) document))
+-- ---- the row of a line
+-- a document is one word at least
+document_behind : (words : List (List ℕ)) (document : List ℕ) → words ≡ words_of document → 1 ≤ length words
+document_behind words document same = rw same (document_is_there document)
 
-put_fits : (n : ℕ) (words : List (List ℕ)) → 1 ≤ length words → AllFit n (operation_places operation.Put) words
-put_fits n [] some = absurd (omega (arith, some))
-put_fits n (word ∷ words) some = (tt, tt)
-
--- the words behind `put`, `append` or `remove` fit
-op_fits : (n : ℕ) (asked : Op) (words : List (List ℕ)) → SpellsOp words asked
-    → AllFit n (operation_places (operation_of asked)) words
-op_fits n (op.Put id seq) words (document, same, is) = put_fits n words (document_is_there words document same)
-op_fits n (op.Append addition) words is =
-    rw is.words_are (is.of_id, ((_, is.at), ((_, is.x_is), ((_, is.y_is), tt))))
-op_fits n (op.Remove id) words is = rw is.0 (is.1, tt)
-
-query_fits : (n : ℕ) (asked : Query) (words : List (List ℕ)) → SpellsQuery words asked
-    → AllFit n (question_places (question_of asked)) words
-query_fits n (query.At id t) words (others, same, of_id, (datetime, one, at)) = rw (same, one) (of_id, ((t, at), tt))
-query_fits n (query.Cut id period) words (others, same, of_id, is) =
-    rw (same, is.words_are) (of_id, ((period, is.is_period), tt))
-query_fits n (query.Ever id period rect) words (others, same, of_id, is) =
-    rw (same, is.words_are) (of_id, ((period, is.is_period), ((rect, is.is_rect), tt)))
-query_fits n (query.Always id period rect) words (others, same, of_id, is) =
-    rw (same, is.words_are) (of_id, ((period, is.is_period), ((rect, is.is_rect), tt)))
-query_fits n (query.Within period rect) words is =
-    rw is.words_are ((period, is.is_period), ((rect, is.is_rect), tt))
-query_fits n (query.Get id) words (others, same, of_id, none) = rw same (of_id, tt)
-query_fits n query.Count words none = tt
-
--- a submission's words are a row's where those of its operation fit
-submission_row : (n : ℕ) (operation : Operation) (words others : List (List ℕ)) (node client number : ℕ)
-    (s : Submits n operation words others node client number) → AllFit n (operation_places operation) others
-    → HasItsCount (submit_of operation) (codes "submit" ∷ s.node_word ∷ s.client_word ∷ s.number_word ∷ operation_text operation ∷ others)
-    → IsRowOf n words
-submission_row n operation words others node client number s fit its_count = rw s.words_are (record {
-  row = submit_of operation;
-  fit = (refl, ((node, s.to_node), ((client, s.of_client), ((number, s.under_number), (refl, fit)))));
-  its_count = its_count;
+-- words that put a document are those of a row, whatever it stands for
+put_row_of : (n : ℕ) (words : List (List ℕ)) (p : Putting) → Puts n words p → IsRowOf n words
+put_row_of n words p (s, behind) = rw s.words_are (record {
+  row = submit_of operation.Put;
+  fit = ((tt, refl), ((p.node, s.to_node), ((p.client, s.of_client), ((p.number, s.under_number), ((tt, refl), (tt, tt))))));
+  its_count =
+      (op_count operation.Put s.node_word s.client_word s.number_word s.others).0 (document_behind s.others p.document.now behind);
   no_nodes = λ more. submit_is_no_nodes _ more;
 })
-
--- one word behind a keyword
-one_row_of : (n : ℕ) (key : Keyword) (words others : List (List ℕ)) → key ≢ keyword.Nodes → words ≡ text_of key ∷ others
-    → AllFit n (keyword_places key) others → HasItsCount (line_of key) (text_of key ∷ others) → IsRowOf n words
-one_row_of n key words others other e fit its_count = rw e (record {
-  row = line_of key;
-  fit = (refl, fit);
-  its_count = its_count;
-  no_nodes = λ more. other_is_no_nodes key others more other;
-})
-
-a_failing_text : (failing : Failing) → IsOfForm 0 a_failing (failing_text failing ∷ [])
-a_failing_text failing = (failing, refl)
-
-pub row_of : (n : ℕ) (words : List (List ℕ)) (action : Action) → WordsSpell n words action → IsRowOf n words
-row_of n words (Step (event.Submit node client number asked)) (others, s, spells) =
-    submission_row n (operation_of asked) words others node client number s (op_fits n asked others spells)
-    (op_count asked s.node_word s.client_word s.number_word others spells)
-row_of n words (Step (event.Deliver frame)) (others, e, (word, one, w)) =
-    one_row_of n keyword.Deliver words others (λ q. cc) e (rw one ((frame, w), tt)) (rw one refl)
-row_of n words (Step (event.Drop frame)) (others, e, (word, one, w)) =
-    one_row_of n keyword.Drop words others (λ q. cc) e (rw one ((frame, w), tt)) (rw one refl)
-row_of n words Flush (others, e, none) = one_row_of n keyword.Flush words others (λ q. cc) e tt (rw none refl)
-row_of n words (Round node members) (others, e, s) =
-    one_row_of n keyword.Round words others (λ q. cc) e (rw s.words_are ((node, s.leader), ((members, s.named), tt)))
-    (rw s.words_are (omega (arith, s.some)))
-row_of n words (Step (event.Timeout node)) (others, e, (word, one, w)) =
-    one_row_of n keyword.Timeout words others (λ q. cc) e (rw one ((node, w), tt)) (rw one refl)
-row_of n words (Step (event.Tick node)) (others, e, (word, one, w)) =
-    one_row_of n keyword.Tick words others (λ q. cc) e (rw one ((node, w), tt)) (rw one refl)
-row_of n words (Step (event.Restart node)) (others, e, (word, one, w)) =
-    one_row_of n keyword.Restart words others (λ q. cc) e (rw one ((node, w), tt)) (rw one refl)
-row_of n words (Step (event.Fault node failing)) (others, e, (word, two, w)) =
-    one_row_of n keyword.Fault words others (λ q. cc) e (rw two ((node, w), (a_failing_text failing, tt))) (rw two refl)
-row_of n words (Step (event.Query node asked)) (others, asks, spells) = rw asks.words_are (record {
-  row = query_of (question_of asked);
-  fit = (refl, ((node, asks.to_node), (refl, query_fits n asked others spells)));
-  its_count = query_count asked asks.node_word others spells;
-  no_nodes = λ more. query_is_no_nodes _ more;
-})
-
--- the same where a document is unread
-put_row_of : (n : ℕ) (words : List (List ℕ)) (p : Putting) → Puts n words p → IsRowOf n words
-put_row_of n words p s =
-    submission_row n operation.Put words (words_of p.document.now) p.node p.client p.number s
-    (put_fits n (words_of p.document.now) (document_is_there _ p.document.now refl))
-    (put_count s.node_word s.client_word s.number_word p.document.now _ refl)
 
 -- words that were read begin as a row
 given_known : (n : ℕ) (words : List (List ℕ)) (unread : Unread) → WordsGive n words unread → ¬ (HasUnknownWord words)
@@ -140,65 +58,25 @@ given_known n words (given.Put p) puts unknown =
 given_known n words (given.Round r) leads unknown = unknown (line_of keyword.Round) (rw leads.words_are (refl, tt))
 
 -- ---- documents
-heads : {X : Type 0} (x y : X) (xs ys : List X) → x ∷ xs ≡ y ∷ ys → x ≡ y
-heads x y xs ys e = cc
-
--- lists of five and others are the same
-pub fifth : {X : Type 0} (a b c d e a' b' c' d' e' : X) (xs ys : List X)
-    → a ∷ b ∷ c ∷ d ∷ e ∷ xs ≡ a' ∷ b' ∷ c' ∷ d' ∷ e' ∷ ys → xs ≡ ys
-fifth a b c d e a' b' c' d' e' xs ys same = cc
-
-pub fifth_word : {X : Type 0} (a b c d e a' b' c' d' e' : X) (xs ys : List X)
-    → a ∷ b ∷ c ∷ d ∷ e ∷ xs ≡ a' ∷ b' ∷ c' ∷ d' ∷ e' ∷ ys → e ≡ e'
-fifth_word a b c d e a' b' c' d' e' xs ys same = cc
-
 -- one text has these words
 pub same_text : (a b : List ℕ) → words_of a ≡ words_of b → a ≡ b
 same_text a b same =
     sym (join_with_byte-slice_split blank a) ∙ ap (join_with_byte blank) same ∙ join_with_byte-slice_split blank b
 
--- the document that words put
-put_text : (words : List (List ℕ)) (a b c d e f : List ℕ) (x y : List ℕ)
-    → words ≡ codes "submit" ∷ a ∷ b ∷ c ∷ codes "put" ∷ words_of x
-    → words ≡ codes "submit" ∷ d ∷ e ∷ f ∷ codes "put" ∷ words_of y → x ≡ y
-put_text words a b c d e f x y p q = same_text x y (fifth _ _ _ _ _ _ _ _ _ _ _ _ (sym p ∙ q))
-
--- words that put no document have no wrong one
-other_first : (words others more : List (List ℕ)) (word : List ℕ) → word ≢ codes "submit"
-    → words ≡ word ∷ others → words ≡ codes "submit" ∷ more → ⊥
-other_first words others more word other p q = other (heads _ _ _ _ (sym p ∙ q))
+-- a line that puts a feature has no wrong document
+no_wrong_put : (n : ℕ) (words : List (List ℕ)) (action : Action) → IsLine n words action (submit_of operation.Put)
+    → ¬ (HasWrongDocument words)
+no_wrong_put n words action l h =
+    let said = subst (λ (ws : List (List ℕ)). SayEach n (places (submit_of operation.Put)) ws l.values) h.words_are l.said in
+    let says = said.1.1.1.1.1.0 in
+    let text : says.0 ≡ h.document = same_text says.0 h.document (sym says.1) in
+    let feature = l.values.1.1.1.1.1.0 in
+    h.stands_for_none feature (subst (λ (t : List ℕ). IsDocumentOf t feature) text says.2)
 
 no_wrong_document : (n : ℕ) (words : List (List ℕ)) (action : Action) → WordsSpell n words action
     → ¬ (HasWrongDocument words)
-no_wrong_document n words (Step (event.Submit node client number (op.Put id seq))) (others, s, (document, same, is)) h =
-    let text : h.document ≡ document = put_text words _ _ _ _ _ _ h.document document h.words_are
-    (s.words_are ∙ ap (λ (ws : List (List ℕ)). codes "submit" ∷ s.node_word ∷ s.client_word ∷ s.number_word ∷ codes "put" ∷ ws) same) in
-    h.stands_for_none (record { id = id; seq = seq })
-    (subst (λ (t : List ℕ). IsDocumentOf t (record { id = id; seq = seq })) (sym text) is)
-no_wrong_document n words (Step (event.Submit node client number (op.Append addition))) (others, s, spells) h =
-    let e : operation.Append ≡ operation.Put = operation_text-injective operation.Append operation.Put
-    (fifth_word _ _ _ _ _ _ _ _ _ _ _ _ (sym s.words_are ∙ h.words_are)) in cc
-no_wrong_document n words (Step (event.Submit node client number (op.Remove id))) (others, s, spells) h =
-    let e : operation.Remove ≡ operation.Put = operation_text-injective operation.Remove operation.Put
-    (fifth_word _ _ _ _ _ _ _ _ _ _ _ _ (sym s.words_are ∙ h.words_are)) in cc
-no_wrong_document n words (Step (event.Deliver frame)) (others, e, one) h =
-    other_first words others _ (text_of keyword.Deliver) (λ q. not_submit keyword.Deliver (sym q)) e h.words_are
-no_wrong_document n words (Step (event.Drop frame)) (others, e, one) h =
-    other_first words others _ (text_of keyword.Drop) (λ q. not_submit keyword.Drop (sym q)) e h.words_are
-no_wrong_document n words Flush (others, e, none) h =
-    other_first words others _ (text_of keyword.Flush) (λ q. not_submit keyword.Flush (sym q)) e h.words_are
-no_wrong_document n words (Round node members) (others, e, s) h =
-    other_first words others _ (text_of keyword.Round) (λ q. not_submit keyword.Round (sym q)) e h.words_are
-no_wrong_document n words (Step (event.Timeout node)) (others, e, one) h =
-    other_first words others _ (text_of keyword.Timeout) (λ q. not_submit keyword.Timeout (sym q)) e h.words_are
-no_wrong_document n words (Step (event.Tick node)) (others, e, one) h =
-    other_first words others _ (text_of keyword.Tick) (λ q. not_submit keyword.Tick (sym q)) e h.words_are
-no_wrong_document n words (Step (event.Restart node)) (others, e, one) h =
-    other_first words others _ (text_of keyword.Restart) (λ q. not_submit keyword.Restart (sym q)) e h.words_are
-no_wrong_document n words (Step (event.Fault node failing)) (others, e, one) h =
-    other_first words others _ (text_of keyword.Fault) (λ q. not_submit keyword.Fault (sym q)) e h.words_are
-no_wrong_document n words (Step (event.Query node asked)) (others, asks, spells) h =
-    other_first words _ _ (codes "query") (λ q. submit_is_no_query (sym q)) asks.words_are h.words_are
+no_wrong_document n words action s h =
+    no_wrong_put n words action (of_row n words action (submit_of operation.Put) s (rw h.words_are (refl, (refl, tt)))) h
 
 -- a line that spells an action has none of the faults
 pub spelled_faultless : (n : ℕ) (text : List ℕ) (action : Action) → Spells n text action → (fault : ScheduleFault)
@@ -234,7 +112,11 @@ pub line_spells : (n : ℕ) (text : List ℕ) (unread : Unread) (action : Action
     → Spells n text action
 line_spells n text (given.Whole whole) action gives same = rw same (record { prints = gives.prints; words = gives.words })
 line_spells n text (given.Put p) action gives (feature, is, same) =
-    rw same (record { prints = gives.prints; words = (words_of p.document.now, gives.words, (p.document.now, refl, is)) })
+    let puts = gives.words in
+    let its_count = document_behind puts.0.others p.document.now puts.1 in
+    let spells : SpellsOp n operation.Put puts.0.others (op.Put feature.id feature.seq) =
+    ((feature, tt), (its_count, ((p.document.now, puts.1, is), tt)), refl) in
+    rw same (record { prints = gives.prints; words = (operation.Put, puts.0, spells) })
 line_spells n text (given.Round r) action gives (members, named, same) =
     let leads = gives.words in
     let spells : SpellsRound n (leads.node_word ∷ words_of r.members.now) r.node members = record {
@@ -242,7 +124,7 @@ line_spells n text (given.Round r) action gives (members, named, same) =
       others = words_of r.members.now;
       words_are = refl;
       leader = leads.leader;
-      some = document_is_there _ r.members.now refl;
+      some = document_is_there r.members.now;
       named = named;
     } in
     rw same (record { prints = gives.prints; words = (_, leads.words_are, spells) })
@@ -253,13 +135,13 @@ pub line_refused : (n : ℕ) (line : NumberedText) (unread : Unread) (fault : Pa
 line_refused n line (given.Whole whole) fault gives not = absurd not
 line_refused n line (given.Put p) (Memory number) gives not = not
 line_refused n line (given.Put p) (Line at) gives not =
-    let s = gives.words in
+    let s = gives.words.0 in
     let wrong : HasWrongDocument (words_of line.text) = record {
       node = s.node_word;
       client = s.client_word;
       number = s.number_word;
       document = p.document.now;
-      words_are = s.words_are;
+      words_are = rw (← gives.words.1) s.words_are;
       stands_for_none = not.2;
     } in
     let lowest = document_lowest n line.text gives.prints (put_row_of n (words_of line.text) p gives.words) wrong in

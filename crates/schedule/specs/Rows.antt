@@ -1,6 +1,6 @@
 -- What is wrong with the words of a line, as far as they are read with no document in hand.
-use Rattle.std.specs.Prelude.{◌≡◌, ◌≢◌, ℕ, List, ◌∷◌, length, codes}
-use Rattle.schedule.specs.Table.{Place, Row, count, HasItsWords, HasItsCount, HasMisfit, HasUnknownWord, HasOtherCount, HasWrongWord}
+use Rattle.std.specs.Prelude.{◌≡◌, ◌≢◌, ℕ, List, ◌∷◌, codes}
+use Rattle.schedule.specs.Table.{Place, Row, HasItsWords, HasItsCount, HasMisfit, HasUnknownWord, HasOtherCount, HasWrongWord}
 use Rattle.schedule.specs.Table.{places}
 use Rattle.schedule.specs.declared.fault.ScheduleFault.{ScheduleFault}
 use Rattle.schedule.specs.declared.fault.ScheduleFault.TheVariants.{NotPrintable, UnknownWord, NodesLine, WordCount, WordForm}
@@ -8,15 +8,15 @@ use Rattle.schedule.specs.declared.fault.ScheduleFault.TheVariants.{NotPrintable
 -- this is the fault of the lowest number that the words at these places have, of which none wants
 -- a certain word
 abbrev pub IsFaultAt : ℕ → List Place → List (List ℕ) → ScheduleFault → Type 0
-IsFaultAt n at words WordCount = length words ≢ count at
-IsFaultAt n at words WordForm = (length words ≡ count at) × HasMisfit n at words
+IsFaultAt n at words WordCount = ¬ (HasItsCount at words)
+IsFaultAt n at words WordForm = HasItsCount at words × HasMisfit n at words
 IsFaultAt n at words _ = ⊥
 
 -- this is the fault of the lowest number that words have which begin as the row's
 abbrev pub IsRowFault : ℕ → Row → List (List ℕ) → ScheduleFault → Type 0
-IsRowFault n row words WordCount = HasItsWords (places row) words × ¬ (HasItsCount row words)
+IsRowFault n row words WordCount = HasItsWords (places row) words × ¬ (HasItsCount (places row) words)
 IsRowFault n row words WordForm =
-    HasItsWords (places row) words × HasItsCount row words × HasMisfit n (places row) words
+    HasItsWords (places row) words × HasItsCount (places row) words × HasMisfit n (places row) words
 IsRowFault n row words _ = ⊥
 
 -- this is the fault of the lowest number that the words have

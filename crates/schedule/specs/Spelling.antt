@@ -1,20 +1,14 @@
 -- Which lines spell which actions.
 use Rattle.std.specs.Prelude.{◌≡◌, ℕ, ◌≤◌, List, [], ◌∷◌, length, codes, All}
-use Rattle.mfjson.specs.Datetime.{ReadsAs}
-use Rattle.mfjson.specs.Document.{IsDocumentOf}
-use Rattle.tpoint.specs.Extents.{Span, Area}
-use Rattle.tpoint.specs.Ids.{IsId}
-use Rattle.tpoint.specs.declared.point.Point.{Point}
 use Rattle.store.specs.declared.op.Op.{Op}
 use Rattle.store.specs.declared.op.Op.TheVariants as op
 use Rattle.store.specs.declared.query.Query.{Query}
 use Rattle.store.specs.declared.query.Query.TheVariants as query
 use Rattle.stable.specs.declared.scripted.Failing.{Failing}
 use Rattle.history.specs.declared.event.Event.TheVariants as event
-use Rattle.schedule.specs.Extents.{IsPeriod, IsRect}
 use Rattle.schedule.specs.Keywords.{failing_text, operation_text, question_text}
-use Rattle.schedule.specs.Numbers.{IsCoordinate}
 use Rattle.schedule.specs.Table.{IsNode, NameEach, IsClient, IsRequestNumber, IsFrameNumber, IsPrintable}
+use Rattle.schedule.specs.Table.{Values, SayAll, operation_places, question_places}
 use Rattle.schedule.specs.Words.{words_of}
 use Rattle.schedule.specs.declared.action.Action.{Action}
 use Rattle.schedule.specs.declared.action.Action.TheVariants.{Step, Flush, Round}
@@ -24,36 +18,23 @@ use Rattle.schedule.specs.declared.keyword.Question.{Question}
 use Rattle.schedule.specs.declared.keyword.Question.TheVariants as question
 
 -- ---- submissions
-abbrev pub operation_of : Op → Operation
-operation_of (op.Put id seq) = operation.Put
-operation_of (op.Append addition) = operation.Append
-operation_of (op.Remove id) = operation.Remove
+-- what is asked for, made of the values at the operation's places
+abbrev pub op_made : (operation : Operation) → Values (operation_places operation) → Op
+op_made operation.Put (feature, _) = op.Put feature.id feature.seq
+op_made operation.Append (id, (t, (x, (y, _)))) = op.Append (record { id = id; point = record { t = t; x = x; y = y } })
+op_made operation.Remove (id, _) = op.Remove id
 
--- the words are an id, a datetime and two coordinates
-pub record SpellsAddition (words : List (List ℕ)) (id : List ℕ) (point : Point) : Type 0 where
-  pub datetime : List ℕ
-  pub x : List ℕ
-  pub y : List ℕ
-  pub words_are : words ≡ id ∷ datetime ∷ x ∷ y ∷ []
-  pub of_id : IsId id
-  pub at : ReadsAs datetime point.t
-  pub x_is : IsCoordinate x point.x
-  pub y_is : IsCoordinate y point.y
+-- the words after `put`, `append` or `remove` spell what is asked for
+abbrev pub SpellsOp : ℕ → Operation → List (List ℕ) → Op → Type 0
+SpellsOp n operation words asked = (values : Values (operation_places operation))
+    × SayAll n (operation_places operation) words values × (asked ≡ op_made operation values)
 
--- the words after `put`, `append` or `remove` spell what is asked for; a document is all that
--- follows `put` and one blank
-abbrev pub SpellsOp : List (List ℕ) → Op → Type 0
-SpellsOp words (op.Put id seq) = (document : List ℕ) × (words ≡ words_of document)
-    × IsDocumentOf document (record { id = id; seq = seq })
-SpellsOp words (op.Append addition) = SpellsAddition words addition.id addition.point
-SpellsOp words (op.Remove id) = (words ≡ id ∷ []) × IsId id
-
--- the words submit a client's request to the node, and others are left for what it asks for
-pub record Submits (n : ℕ) (operation : Operation) (words others : List (List ℕ)) (node client number : ℕ)
-    : Type 0 where
+-- the words submit a client's request to the node, and others are left for what the operation needs
+pub record Submits (n : ℕ) (operation : Operation) (words : List (List ℕ)) (node client number : ℕ) : Type 0 where
   pub node_word : List ℕ
   pub client_word : List ℕ
   pub number_word : List ℕ
+  pub others : List (List ℕ)
   pub words_are : words ≡ codes "submit" ∷ node_word ∷ client_word ∷ number_word
       ∷ operation_text operation ∷ others
   pub to_node : IsNode n node_word node
@@ -61,55 +42,25 @@ pub record Submits (n : ℕ) (operation : Operation) (words others : List (List 
   pub under_number : IsRequestNumber number_word number
 
 -- ---- queries
-abbrev pub question_of : Query → Question
-question_of (query.At id t) = question.At
-question_of (query.Cut id period) = question.Cut
-question_of (query.Ever id period rect) = question.Ever
-question_of (query.Always id period rect) = question.Always
-question_of (query.Within period rect) = question.Within
-question_of (query.Get id) = question.Get
-question_of query.Count = question.Count
+-- the query, made of the values at the question's places
+abbrev pub query_made : (question : Question) → Values (question_places question) → Query
+query_made question.At (id, (t, _)) = query.At id t
+query_made question.Cut (id, (period, _)) = query.Cut id period
+query_made question.Ever (id, (period, (rect, _))) = query.Ever id period rect
+query_made question.Always (id, (period, (rect, _))) = query.Always id period rect
+query_made question.Within (period, (rect, _)) = query.Within period rect
+query_made question.Get (id, _) = query.Get id
+query_made question.Count _ = query.Count
 
--- the words are a datetime
-abbrev pub SpellsInstant : List (List ℕ) → ℕ → Type 0
-SpellsInstant words t = (datetime : List ℕ) × (words ≡ datetime ∷ []) × ReadsAs datetime t
+-- the words after the one that says which question it is spell the query
+abbrev pub SpellsQuery : ℕ → Question → List (List ℕ) → Query → Type 0
+SpellsQuery n question words asked = (values : Values (question_places question))
+    × SayAll n (question_places question) words values × (asked ≡ query_made question values)
 
--- the words are a period
-pub record SpellsPeriod (words : List (List ℕ)) (period : Span) : Type 0 where
-  pub begin : List ℕ
-  pub end : List ℕ
-  pub words_are : words ≡ begin ∷ end ∷ []
-  pub is_period : IsPeriod begin end period
-
--- the words are a period and a rectangle
-pub record SpellsVisit (words : List (List ℕ)) (period : Span) (rect : Area) : Type 0 where
-  pub begin : List ℕ
-  pub end : List ℕ
-  pub x0 : List ℕ
-  pub y0 : List ℕ
-  pub x1 : List ℕ
-  pub y1 : List ℕ
-  pub words_are : words ≡ begin ∷ end ∷ x0 ∷ y0 ∷ x1 ∷ y1 ∷ []
-  pub is_period : IsPeriod begin end period
-  pub is_rect : IsRect x0 y0 x1 y1 rect
-
--- the words are the id, and others of which P holds
-abbrev pub OfFeature : List ℕ → (List (List ℕ) → Type 0) → List (List ℕ) → Type 0
-OfFeature id P words = (others : List (List ℕ)) × (words ≡ id ∷ others) × IsId id × P others
-
--- the words after the one that says which question it is
-abbrev pub SpellsQuery : List (List ℕ) → Query → Type 0
-SpellsQuery words (query.At id t) = OfFeature id (λ others. SpellsInstant others t) words
-SpellsQuery words (query.Cut id period) = OfFeature id (λ others. SpellsPeriod others period) words
-SpellsQuery words (query.Ever id period rect) = OfFeature id (λ others. SpellsVisit others period rect) words
-SpellsQuery words (query.Always id period rect) = OfFeature id (λ others. SpellsVisit others period rect) words
-SpellsQuery words (query.Within period rect) = SpellsVisit words period rect
-SpellsQuery words (query.Get id) = OfFeature id (λ others. others ≡ []) words
-SpellsQuery words query.Count = words ≡ []
-
--- the words ask the node, and others are left for what it is asked
-pub record Asks (n : ℕ) (question : Question) (words others : List (List ℕ)) (node : ℕ) : Type 0 where
+-- the words ask the node this question, and others are left for what it needs
+pub record Asks (n : ℕ) (question : Question) (words : List (List ℕ)) (node : ℕ) : Type 0 where
   pub node_word : List ℕ
+  pub others : List (List ℕ)
   pub words_are : words ≡ codes "query" ∷ node_word ∷ question_text question ∷ others
   pub to_node : IsNode n node_word node
 
@@ -139,8 +90,8 @@ pub record SpellsRound (n : ℕ) (words : List (List ℕ)) (node : ℕ) (members
 -- the words spell the action, in a run of n nodes
 abbrev pub WordsSpell : ℕ → List (List ℕ) → Action → Type 0
 WordsSpell n words (Step (event.Submit node client number asked)) =
-    (others : List (List ℕ)) × Submits n (operation_of asked) words others node client number
-    × SpellsOp others asked
+    (operation : Operation) × (submits : Submits n operation words node client number)
+    × SpellsOp n operation submits.others asked
 WordsSpell n words (Step (event.Deliver frame)) =
     BeginsWith (codes "deliver") words (IsOneWord (λ word. IsFrameNumber word frame))
 WordsSpell n words (Step (event.Drop frame)) =
@@ -157,7 +108,7 @@ WordsSpell n words (Step (event.Restart node)) =
 WordsSpell n words (Step (event.Fault node failing)) =
     BeginsWith (codes "fault") words (λ others. ArmsNode n others node failing)
 WordsSpell n words (Step (event.Query node asked)) =
-    (others : List (List ℕ)) × Asks n (question_of asked) words others node × SpellsQuery others asked
+    (question : Question) × (asks : Asks n question words node) × SpellsQuery n question asks.others asked
 
 -- the line spells the action, in a run of n nodes
 pub record Spells (n : ℕ) (text : List ℕ) (action : Action) : Type 0 where

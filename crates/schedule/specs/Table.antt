@@ -1,5 +1,6 @@
 -- The lines of a schedule: which words each has, and what is wrong with other lines.
-use Rattle.std.specs.Prelude.{◌≡◌, ℕ, ℤ, ◌+◌, ◌≤◌, ◌^◌, ◌⊎◌, List, [], ◌∷◌, ◌++◌, length, take, drop, codes, decimal, Any}
+use Rattle.std.specs.Prelude.{◌≡◌, ℕ, ℤ, ◌+◌, ◌≤◌, ◌^◌, ◌⊎◌, Bool, true, false, List, [], ◌∷◌, ◌++◌, length, take, drop, codes, decimal}
+use Rattle.std.specs.Prelude.{Any}
 use Rattle.mfjson.specs.Datetime.{ReadsAs}
 use Rattle.mfjson.specs.Document.{IsDocumentOf}
 use Rattle.mfjson.specs.declared.feature.Feature.{Feature}
@@ -36,7 +37,7 @@ pub data Place : Type 0 where
   a_period : Place
   -- four words
   a_rectangle : Place
-  -- one word and all others that are left; what these have to be is told by the sixth fault alone
+  -- one word and all others that are left, which are the words of a document
   a_document : Place
   -- one word and all others that are left, each of which names a node
   some_nodes : Place
@@ -94,11 +95,21 @@ abbrev pub count : List Place → ℕ
 count [] = 0
 count (place ∷ others) = width place + count others
 
--- there are as many words as the row wants; a document and a list of nodes have any number more
-abbrev pub HasItsCount : Row → List (List ℕ) → Type 0
-HasItsCount (submit_of Put) words = count (places (submit_of Put)) ≤ length words
-HasItsCount (line_of Round) words = count (places (line_of Round)) ≤ length words
-HasItsCount row words = length words ≡ count (places row)
+-- any number of words more may stand at the places: one wants a document or a list of nodes
+abbrev pub takes_more : List Place → Bool
+takes_more [] = false
+takes_more (a_document ∷ others) = true
+takes_more (some_nodes ∷ others) = true
+takes_more (place ∷ others) = takes_more others
+
+-- as many are there as are wanted, or more where more may be
+abbrev pub IsCount : Bool → ℕ → ℕ → Type 0
+IsCount true wanted there = wanted ≤ there
+IsCount false wanted there = there ≡ wanted
+
+-- there are as many words as the places want; a document and a list of nodes have any number more
+abbrev pub HasItsCount : List Place → List (List ℕ) → Type 0
+HasItsCount at words = IsCount (takes_more at) (count at) (length words)
 
 -- ---- which words
 -- how many nodes a run has
@@ -124,23 +135,40 @@ IsRequestNumber = Writes 1 (2 ^ 64)
 abbrev pub IsFrameNumber : List ℕ → ℕ → Type 0
 IsFrameNumber = Writes 0 (2 ^ 64)
 
--- the words are what the place wants, in a run of n nodes
+-- what the words at a place say; a certain word says nothing, and the places that are not named say a number
+abbrev pub Value : Place → Type 0
+Value (the_word wanted) = Unit {0}
+Value a_failing = Failing
+Value an_id = List ℕ
+Value a_coordinate = ℤ
+Value a_period = Span
+Value a_rectangle = Area
+Value a_document = Feature
+Value some_nodes = List ℕ
+Value _ = ℕ
+
+-- the words are what the place wants, in a run of n nodes, and say this value
+abbrev pub Says : ℕ → (place : Place) → List (List ℕ) → Value place → Type 0
+Says n (the_word wanted) (word ∷ []) nothing = word ≡ wanted
+Says n a_run_size (word ∷ []) size = IsRunSize size × (word ≡ decimal size)
+Says n a_node (word ∷ []) node = IsNode n word node
+Says n a_client (word ∷ []) client = IsClient word client
+Says n a_request_number (word ∷ []) number = IsRequestNumber word number
+Says n a_frame_number (word ∷ []) frame = IsFrameNumber word frame
+Says n a_failing (word ∷ []) failing = word ≡ failing_text failing
+Says n an_id (word ∷ []) id = (id ≡ word) × IsId word
+Says n a_datetime (word ∷ []) t = ReadsAs word t
+Says n a_coordinate (word ∷ []) value = IsCoordinate word value
+Says n a_period (begin ∷ end ∷ []) period = IsPeriod begin end period
+Says n a_rectangle (x0 ∷ y0 ∷ x1 ∷ y1 ∷ []) rect = IsRect x0 y0 x1 y1 rect
+Says n a_document words feature = (document : List ℕ) × (words ≡ words_of document) × IsDocumentOf document feature
+Says n some_nodes words nodes = NameEach n words nodes
+Says n _ _ _ = ⊥
+
+-- the words are what the place wants; that a document stands for no feature is told by the sixth fault alone
 abbrev pub IsOfForm : ℕ → Place → List (List ℕ) → Type 0
-IsOfForm n (the_word wanted) (word ∷ []) = word ≡ wanted
-IsOfForm n a_run_size (word ∷ []) = (size : ℕ) × IsRunSize size × (word ≡ decimal size)
-IsOfForm n a_node (word ∷ []) = (node : ℕ) × IsNode n word node
-IsOfForm n a_client (word ∷ []) = (client : ℕ) × IsClient word client
-IsOfForm n a_request_number (word ∷ []) = (number : ℕ) × IsRequestNumber word number
-IsOfForm n a_frame_number (word ∷ []) = (frame : ℕ) × IsFrameNumber word frame
-IsOfForm n a_failing (word ∷ []) = (failing : Failing) × (word ≡ failing_text failing)
-IsOfForm n an_id (word ∷ []) = IsId word
-IsOfForm n a_datetime (word ∷ []) = (t : ℕ) × ReadsAs word t
-IsOfForm n a_coordinate (word ∷ []) = (value : ℤ) × IsCoordinate word value
-IsOfForm n a_period (begin ∷ end ∷ []) = (period : Span) × IsPeriod begin end period
-IsOfForm n a_rectangle (x0 ∷ y0 ∷ x1 ∷ y1 ∷ []) = (rect : Area) × IsRect x0 y0 x1 y1 rect
-IsOfForm n a_document (word ∷ []) = Unit {0}
-IsOfForm n some_nodes words = (nodes : List ℕ) × NameEach n words nodes
-IsOfForm n _ _ = ⊥
+IsOfForm n a_document words = Unit {0}
+IsOfForm n place words = (value : Value place) × Says n place words value
 
 -- as far as there are words, those that have to be certain words are
 abbrev pub HasItsWords : List Place → List (List ℕ) → Type 0
@@ -151,8 +179,24 @@ HasItsWords (place ∷ others) words = HasItsWords others (drop (width place) wo
 
 -- the words at a place, of those that are left
 abbrev pub words_at : Place → List (List ℕ) → List (List ℕ)
+words_at a_document words = words
 words_at some_nodes words = words
 words_at place words = take (width place) words
+
+-- a value for each place
+abbrev pub Values : List Place → Type 0
+Values [] = Unit {0}
+Values (place ∷ others) = Value place × Values others
+
+-- the words say these values, place by place
+abbrev pub SayEach : ℕ → (at : List Place) → List (List ℕ) → Values at → Type 0
+SayEach n [] words values = Unit {0}
+SayEach n (place ∷ others) words values =
+    Says n place (words_at place words) values.0 × SayEach n others (drop (width place) words) values.1
+
+-- there are as many words as the places want, and they say these values
+abbrev pub SayAll : ℕ → (at : List Place) → List (List ℕ) → Values at → Type 0
+SayAll n at words values = HasItsCount at words × SayEach n at words values
 
 -- the words at some place aren't what it wants
 abbrev pub HasMisfit : ℕ → List Place → List (List ℕ) → Type 0
@@ -177,13 +221,13 @@ HasUnknownWord words = (row : Row) → ¬ (HasItsWords (places row) words)
 pub record HasOtherCount (words : List (List ℕ)) : Type 0 where
   pub row : Row
   pub its_words : HasItsWords (places row) words
-  pub other_count : ¬ (HasItsCount row words)
+  pub other_count : ¬ (HasItsCount (places row) words)
 
 -- there are as many words as the row has that begins so, and some aren't what their place wants
 pub record HasWrongWord (n : ℕ) (words : List (List ℕ)) : Type 0 where
   pub row : Row
   pub its_words : HasItsWords (places row) words
-  pub its_count : HasItsCount row words
+  pub its_count : HasItsCount (places row) words
   pub misfit : HasMisfit n (places row) words
 
 -- the words put a document that stands for no feature

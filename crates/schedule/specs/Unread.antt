@@ -20,7 +20,8 @@ use Rattle.schedule.specs.declared.unread.Rounding.{Rounding}
 
 -- the words put the document, whatever it stands for
 abbrev pub Puts : ℕ → List (List ℕ) → Putting → Type 0
-Puts n words p = Submits n operation.Put words (words_of p.document.now) p.node p.client p.number
+Puts n words p = (submits : Submits n operation.Put words p.node p.client p.number)
+    × (submits.others ≡ words_of p.document.now)
 
 -- the words have the node lead a round, whomever they name as members
 pub record LeadsRound (n : ℕ) (words : List (List ℕ)) (r : Rounding) : Type 0 where

@@ -1,9 +1,9 @@
 //! The words after `query`.
 
-ghost use Rattle.std.specs.Prelude.{◌≡◌, ℕ, [], ◌∷◌, MatchResult, codes};
+ghost use Rattle.std.specs.Prelude.{ℕ, ◌∷◌, MatchResult, codes};
 ghost use Rattle.schedule.specs.Rows.{IsFaultAt, IsWordsFault};
-ghost use Rattle.schedule.specs.Spelling.{OfFeature, SpellsQuery, SpellsVisit, WordsSpell, question_of};
-ghost use Rattle.schedule.specs.Table.{question_places};
+ghost use Rattle.schedule.specs.Spelling.{SpellsQuery, WordsSpell};
+ghost use Rattle.schedule.specs.Table.{SayAll, question_places};
 ghost use Rattle.schedule.specs.declared.action.Action.TheVariants.{Step};
 
 use super::fault::ScheduleFault;
@@ -35,7 +35,7 @@ pub(crate) fn query_row(nodes: Nodes, mut words: Words) -> Result<Event, Schedul
 /// After the word that says which question it is: the query.
 fn query_of(question: Question, words: Words) -> Result<Query, ScheduleFault>
     ensures { MatchResult result
-        (λ query. (question_of query ≡ question) × SpellsQuery words.entry query)
+        (λ query. (n : ℕ) → SpellsQuery n question words.entry query)
         (λ fault. (n : ℕ) → IsFaultAt n (question_places question) words.entry fault) }
 {
     match question {
@@ -64,7 +64,7 @@ fn query_of(question: Question, words: Words) -> Result<Query, ScheduleFault>
 /// After `at`: an id and an instant.
 fn at_row(words: Words) -> Result<Query, ScheduleFault>
     ensures { MatchResult result
-        (λ query. (question_of query ≡ Question.At) × SpellsQuery words.entry query)
+        (λ query. (n : ℕ) → SpellsQuery n Question.At words.entry query)
         (λ fault. (n : ℕ) → IsFaultAt n (question_places Question.At) words.entry fault) }
 {
     let (name, datetime) = words.pair()?;
@@ -80,7 +80,7 @@ fn at_row(words: Words) -> Result<Query, ScheduleFault>
 /// After `cut`: an id and a period.
 fn cut_row(mut words: Words) -> Result<Query, ScheduleFault>
     ensures { MatchResult result
-        (λ query. (question_of query ≡ Question.Cut) × SpellsQuery words.entry query)
+        (λ query. (n : ℕ) → SpellsQuery n Question.Cut words.entry query)
         (λ fault. (n : ℕ) → IsFaultAt n (question_places Question.Cut) words.entry fault) }
 {
     let name = words.needed()?;
@@ -98,7 +98,7 @@ fn cut_row(mut words: Words) -> Result<Query, ScheduleFault>
 /// After `ever` and `always`: an id, a period and a rectangle.
 fn visit_row(mut words: Words) -> Result<(Id, Period, Rect), ScheduleFault>
     ensures { MatchResult result
-        (λ visit. OfFeature visit.0 (λ others. SpellsVisit others visit.1 visit.2) words.entry)
+        (λ visit. (n : ℕ) → SayAll n (question_places Question.Ever) words.entry (visit.0, (visit.1, (visit.2, tt))))
         (λ fault. (n : ℕ) → IsFaultAt n (question_places Question.Ever) words.entry fault) }
 {
     let name = words.needed()?;
@@ -111,7 +111,8 @@ fn visit_row(mut words: Words) -> Result<(Id, Period, Rect), ScheduleFault>
 
 /// After `within`: a period and a rectangle.
 fn within_row(mut words: Words) -> Result<(Period, Rect), ScheduleFault>
-    ensures { MatchResult result (λ visit. SpellsVisit words.entry visit.0 visit.1)
+    ensures { MatchResult result
+        (λ visit. (n : ℕ) → SayAll n (question_places Question.Within) words.entry (visit.0, (visit.1, tt)))
         (λ fault. (n : ℕ) → IsFaultAt n (question_places Question.Within) words.entry fault) }
 {
     let datetimes = words.needed_period()?;
@@ -127,7 +128,7 @@ fn within_row(mut words: Words) -> Result<(Period, Rect), ScheduleFault>
 
 /// After `get`: an id.
 fn get_row(words: Words) -> Result<Id, ScheduleFault>
-    ensures { MatchResult result (λ id. OfFeature id (λ others. others ≡ []) words.entry)
+    ensures { MatchResult result (λ id. (n : ℕ) → SayAll n (question_places Question.Get) words.entry (id, tt))
         (λ fault. (n : ℕ) → IsFaultAt n (question_places Question.Get) words.entry fault) }
 {
     id(words.only()?).ok_or(ScheduleFault::WordForm)

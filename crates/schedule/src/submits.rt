@@ -2,7 +2,7 @@
 
 ghost use Rattle.std.specs.Prelude.{◌≡◌, ℕ, ◌<◌, ◌∷◌, [], ◌++◌, length, MatchOption, MatchResult, codes};
 ghost use Rattle.schedule.specs.Rows.{IsFaultAt, IsRowFault, IsWordsFault};
-ghost use Rattle.schedule.specs.Spelling.{SpellsOp, operation_of};
+ghost use Rattle.schedule.specs.Spelling.{SpellsOp};
 ghost use Rattle.schedule.specs.Submissions.{Names, asker_places, asker_words, submit_words};
 ghost use Rattle.schedule.specs.Table.{HasMisfit, operation_places, submit_of};
 ghost use Rattle.schedule.specs.Unread.{WordsGive};
@@ -126,7 +126,7 @@ fn remove_row<'a>(
 /// The point that the words add to a feature.
 fn addition(mut words: Words) -> Result<Op, ScheduleFault>
     ensures { MatchResult result
-        (λ op. (operation_of op ≡ Operation.Append) × SpellsOp words.entry op)
+        (λ op. (n : ℕ) → SpellsOp n Operation.Append words.entry op)
         (λ fault. (n : ℕ) → IsFaultAt n (operation_places Operation.Append) words.entry fault) }
 {
     let name = words.needed()?;
@@ -142,8 +142,7 @@ fn addition(mut words: Words) -> Result<Op, ScheduleFault>
 fn appended(name: &[u8], datetime: &[u8], across: &[u8], along: &[u8]) -> Option<Op>
     ensures { MatchOption result
         ((n : ℕ) → HasMisfit n (operation_places Operation.Append) (name.now ∷ datetime.now ∷ across.now ∷ along.now ∷ []))
-        (λ op. (operation_of op ≡ Operation.Append)
-        × SpellsOp (name.now ∷ datetime.now ∷ across.now ∷ along.now ∷ []) op) }
+        (λ op. (n : ℕ) → SpellsOp n Operation.Append (name.now ∷ datetime.now ∷ across.now ∷ along.now ∷ []) op) }
 {
     let Some(id) = id(name) else {
         return None;
@@ -163,7 +162,7 @@ fn appended(name: &[u8], datetime: &[u8], across: &[u8], along: &[u8]) -> Option
 /// The removal of the feature that the words name.
 fn removal(words: Words) -> Result<Op, ScheduleFault>
     ensures { MatchResult result
-        (λ op. (operation_of op ≡ Operation.Remove) × SpellsOp words.entry op)
+        (λ op. (n : ℕ) → SpellsOp n Operation.Remove words.entry op)
         (λ fault. (n : ℕ) → IsFaultAt n (operation_places Operation.Remove) words.entry fault) }
 {
     let Some(id) = id(words.only()?) else {

@@ -1,6 +1,6 @@
 -- The words after `query`, of which the node is read last.
 use Rattle.schedule.proofs.Told.{err_told}
-use Rattle.schedule.proofs.RowLemmas.{asked_fault, query_fault, short_query, unknown_question}
+use Rattle.schedule.proofs.RowLemmas.{asked_fault, asks, query_fault, short_query, unknown_question}
 use Rattle.schedule.proofs.queries.query_row.Goals as goal
 
 pub returns-in_err-target : goal.returns-in_err-target
@@ -21,5 +21,11 @@ returns-in_default c =
 pub returns-in_default-node : goal.returns-in_default-node
 returns-in_default-node c =
     rw (c.in_ok-target.ensures, c.in-Some.ensures)
-    (asked_fault c.args.nodes c.in-Some.question c.in_ok-query.query c.in_ok-target.target.now _ c.in_ok-query.ensures.0
-    c.in_ok-query.ensures.1 c.in_default-node.ensures)
+    (asked_fault c.args.nodes c.in-Some.question c.in_ok-target.target.now _ (c.in_ok-query.ensures c.args.nodes).1.0
+    c.in_default-node.ensures)
+
+pub returns : goal.returns
+returns c =
+    rw (c.in_ok-target.ensures, c.in-Some.ensures)
+    (asks c.args.nodes c.in-Some.question c.in_ok-query.query c.in_ok-target.target.now _ c.in-Some-node.node c.in-Some-node.ensures
+    (c.in_ok-query.ensures c.args.nodes))

@@ -31,40 +31,40 @@ returns-in_ok-node_row-in-Restart c =
 
 pub returns-in_err-frame_row-in-Deliver : goal.returns-in_err-frame_row-in-Deliver
 returns-in_err-frame_row-in-Deliver c =
-    refused_row c.args.nodes Deliver _ c.args.words _ _ _ c.in-Deliver.is (λ e. cc) (λ e. cc) c.from_residual.ensures.1
+    refused_row c.args.nodes Deliver _ c.args.words _ _ _ c.in-Deliver.is (λ e. cc) c.from_residual.ensures.1
     (c.in_err-frame_row-in-Deliver.ensures c.args.nodes)
 
 pub returns-in_err-frame_row-in-Drop : goal.returns-in_err-frame_row-in-Drop
 returns-in_err-frame_row-in-Drop c =
-    refused_row c.args.nodes Drop _ c.args.words _ _ _ c.in-Drop.is (λ e. cc) (λ e. cc) c.from_residual-in_err-frame_row-in-Drop.ensures.1
+    refused_row c.args.nodes Drop _ c.args.words _ _ _ c.in-Drop.is (λ e. cc) c.from_residual-in_err-frame_row-in-Drop.ensures.1
     (c.in_err-frame_row-in-Drop.ensures c.args.nodes)
 
 pub returns-in_err-node_row-in-Timeout : goal.returns-in_err-node_row-in-Timeout
 returns-in_err-node_row-in-Timeout c =
-    refused_row c.args.nodes Timeout _ c.args.words _ _ _ c.in-Timeout.is (λ e. cc) (λ e. cc)
+    refused_row c.args.nodes Timeout _ c.args.words _ _ _ c.in-Timeout.is (λ e. cc)
     c.from_residual-in_err-node_row-in-Timeout.ensures.1
     c.in_err-node_row-in-Timeout.ensures
 
 pub returns-in_err-node_row-in-Tick : goal.returns-in_err-node_row-in-Tick
 returns-in_err-node_row-in-Tick c =
-    refused_row c.args.nodes Tick _ c.args.words _ _ _ c.in-Tick.is (λ e. cc) (λ e. cc) c.from_residual-in_err-node_row-in-Tick.ensures.1
+    refused_row c.args.nodes Tick _ c.args.words _ _ _ c.in-Tick.is (λ e. cc) c.from_residual-in_err-node_row-in-Tick.ensures.1
     c.in_err-node_row-in-Tick.ensures
 
 pub returns-in_err-node_row-in-Restart : goal.returns-in_err-node_row-in-Restart
 returns-in_err-node_row-in-Restart c =
-    refused_row c.args.nodes Restart _ c.args.words _ _ _ c.in-Restart.is (λ e. cc) (λ e. cc)
+    refused_row c.args.nodes Restart _ c.args.words _ _ _ c.in-Restart.is (λ e. cc)
     c.from_residual-in_err-node_row-in-Restart.ensures.1
     c.in_err-node_row-in-Restart.ensures
 
 pub returns-in_err-fault_row-in-Fault : goal.returns-in_err-fault_row-in-Fault
 returns-in_err-fault_row-in-Fault c =
-    refused_row c.args.nodes Fault _ c.args.words _ _ _ c.in-Fault.is (λ e. cc) (λ e. cc)
+    refused_row c.args.nodes Fault _ c.args.words _ _ _ c.in-Fault.is (λ e. cc)
     c.from_residual-in_err-fault_row-in-Fault.ensures.1
     c.in_err-fault_row-in-Fault.ensures
 
 pub returns-in_err-end-in-Flush : goal.returns-in_err-end-in-Flush
 returns-in_err-end-in-Flush c =
-    refused_row c.args.nodes Flush _ c.args.words _ _ _ c.in-Flush.is (λ e. cc) (λ e. cc) c.from_residual-in_err-end-in-Flush.ensures.1
+    refused_row c.args.nodes Flush _ c.args.words _ _ _ c.in-Flush.is (λ e. cc) c.from_residual-in_err-end-in-Flush.ensures.1
     (rw c.in_err-end-in-Flush.ensures.0 c.in_err-end-in-Flush.ensures.1)
 
 pub returns-in-Round : goal.returns-in-Round
