@@ -3,6 +3,7 @@
 //!
 //! `mfpx replay FILE` and `mfpx check FILE` read the file, or standard input where FILE is `-`.
 //! `mfpx replay FILE --db DIR` keeps the records of the nodes in files of the folder DIR.
+//! `mfpx loopback FILE` runs the schedule with a socket of 127.0.0.1 for each node.
 //! No words stand for `replay -`. What a run does and how it ends is the affair of the crate
 //! `console`; here its words and its streams are those of the process.
 #![tactic(auto)]
