@@ -1,8 +1,7 @@
 //! The world: all nodes, everything that was sent, and everything that came of it.
 
 ghost use Rattle.std.specs.Prelude.{◌≡◌, ◌≤◌, ◌<◌, ◌+◌, ◌++◌, ◌∷◌, [], ◌↔◌, ℕ, true, false, length, vec_len, vec_capacity, Some, None};
-ghost use Rattle.std.specs.Prelude.{IsNone};
-ghost use Rattle.std.specs.Prelude.{OnOk, OnErr, IsOk, IsErrOf, ◌⊎◌, Bool, IfOk, IfErr, IfSome, IsTrue, is_ok, slice_get, MatchBool};
+ghost use Rattle.std.specs.Prelude.{OnOk, OnErr, IsOk, IsErrOf, ◌⊎◌, Bool, IfOk, IfErr, IsTrue, is_ok, MatchBool};
 ghost use Rattle.std.specs.Prelude.{MatchOption, All, map};
 ghost use Rattle.store.specs.Operations.{IsSound};
 ghost use Rattle.minds.specs.Faults.{is_stop_fault};
@@ -24,7 +23,7 @@ use history::{Answered, Event, Learnt, Outcome, Replied, RoundEnd, Submission, W
 use learner::Held;
 use node::{Executed, Input, LogEntry, MOST_SENDS, MOST_WAITING, Node, NodeFault, Outputs, Text};
 use sessions::Number;
-use stable::{Failing, Put, Scripted, Stable};
+use stable::{Failing, Scripted, Stable};
 use std::alloc::Global;
 use store::{Op, Query};
 use synod::{MOST_NODES, Slot};
@@ -33,18 +32,18 @@ use wire::{Envelope, Frame, NodeId, Nodes};
 /// All nodes of a run, over storages of one kind.
 #[derive(Drop)]
 pub struct Run<S> {
-    nodes: Vec<Node<Scripted<S>>>,
-    submitted: Vec<Submission>,
+    pub(super) nodes: Vec<Node<Scripted<S>>>,
+    pub(super) submitted: Vec<Submission>,
     frames: Vec<Frame>,
     // Which frames wait to be delivered. No frame below `lowest` waits.
     waiting: Vec<bool>,
     lowest: usize,
-    learnt: Vec<Learnt>,
+    pub(super) learnt: Vec<Learnt>,
     // Of each slot a command that was learnt there, to be shared by all who learn it. No clause speaks of it.
     known: BySlot<Held>,
-    replies: Vec<Replied>,
-    answers: Vec<Answered>,
-    outcomes: Vec<Outcome>,
+    pub(super) replies: Vec<Replied>,
+    pub(super) answers: Vec<Answered>,
+    pub(super) outcomes: Vec<Outcome>,
     ghost flags: { vec_len waiting ≡ vec_len frames },
     ghost within: { lowest ≤ vec_len waiting },
     ghost swept: { NoneWaitsBelow waiting.items lowest },
@@ -91,56 +90,11 @@ impl<S: Stable> Run<S> {
     ghost use Rattle.history.specs.Flushing.{Delivers, DeliversSome};
     ghost use Rattle.history.specs.Rounds.{is_up, IsAt, RefusesToBegin, FailsToBegin};
 
-    /// The requests that nodes took.
-    pub fn submitted(&self) -> &[Submission]
-        ensures { result.now ≡ (run_of self.now).submitted }
-    {
-        self.submitted.as_slice()
-    }
-
     /// Every frame that was sent.
     pub fn frames(&self) -> &[Frame]
         ensures { result.now ≡ (run_of self.now).frames }
     {
         self.frames.as_slice()
-    }
-
-    /// What nodes learnt.
-    pub fn learnt(&self) -> &[Learnt]
-        ensures { result.now ≡ (run_of self.now).learnt }
-    {
-        self.learnt.as_slice()
-    }
-
-    /// The replies to requests.
-    pub fn replies(&self) -> &[Replied]
-        ensures { result.now ≡ (run_of self.now).replies }
-    {
-        self.replies.as_slice()
-    }
-
-    /// The answers to queries.
-    pub fn answers(&self) -> &[Answered]
-        ensures { result.now ≡ (run_of self.now).answers }
-    {
-        self.answers.as_slice()
-    }
-
-    /// What came of each step.
-    pub fn outcomes(&self) -> &[Outcome]
-        ensures { result.now ≡ (run_of self.now).outcomes }
-    {
-        self.outcomes.as_slice()
-    }
-
-    /// The puts that took effect at a node, the oldest first; None where the run has no such node.
-    pub fn writes(&self, node: NodeId) -> Option<&[Put]>
-        ensures no_node { IsNone result ↔ (length (run_of self.now).nodes ≤ node) }
-        ensures writes { IfSome result (λ puts. IfSome (slice_get (run_of self.now).nodes node) (λ n.
-            puts.now ≡ n.storage.writes)) }
-    {
-        let at = self.nodes.get(usize::from(node.value()))?;
-        Some(at.writes())
     }
 
     /// How many nodes there are.

@@ -95,7 +95,7 @@ impl<S: Stable> World<S> {
     pub fn submitted(&self) -> &[Submission]
         ensures { result.now ≡ (world_of self.now).submitted }
     {
-        self.run.submitted()
+        self.run.submitted.as_slice()
     }
 
     /// Every frame that was sent, as its bytes.
@@ -109,21 +109,21 @@ impl<S: Stable> World<S> {
     pub fn learnt(&self) -> &[Learnt]
         ensures { result.now ≡ (world_of self.now).learnt }
     {
-        self.run.learnt()
+        self.run.learnt.as_slice()
     }
 
     /// The replies to requests.
     pub fn replies(&self) -> &[Replied]
         ensures { result.now ≡ (world_of self.now).replies }
     {
-        self.run.replies()
+        self.run.replies.as_slice()
     }
 
     /// The answers to queries.
     pub fn answers(&self) -> &[Answered]
         ensures { result.now ≡ (world_of self.now).answers }
     {
-        self.run.answers()
+        self.run.answers.as_slice()
     }
 
     /// What came of each step. Whoever looks knows that all of it is safe.
@@ -131,7 +131,7 @@ impl<S: Stable> World<S> {
         ensures outcomes { result.now ≡ (world_of self.now).outcomes }
         ensures safe { StaysSafe (⟦<Scripted<S> as Stable>⟧) S.IsHonest (world_of self.now) }
     {
-        self.run.outcomes()
+        self.run.outcomes.as_slice()
     }
 
     /// The puts that took effect at a node, the oldest first; None where the run has no such node.
@@ -140,7 +140,8 @@ impl<S: Stable> World<S> {
         ensures writes { IfSome result (λ puts. IfSome (slice_get (world_of self.now).nodes node) (λ n.
             puts.now ≡ n.storage.writes)) }
     {
-        self.run.writes(node)
+        let at = self.run.nodes.get(usize::from(node.value()))?;
+        Some(at.writes())
     }
 
     /// One atomic step. After a fault the world is as it was.

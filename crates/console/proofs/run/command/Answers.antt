@@ -1,3 +1,4 @@
+use Rattle.std.proofs.Common.{sym, ◌∙◌}
 use Rattle.console.proofs.run.command.Goals as goal
 
 -- the words that were handed on are those of the call
@@ -13,3 +14,11 @@ returns-in-Ok-clause-file_alone g c = rw (← c.as_slice.ensures.value) c.run.en
 -- what was left unprinted is what the call's words ask for
 pub returns-clause-failed_unprinted : goal.returns-clause-failed_unprinted
 returns-clause-failed_unprinted g c = λ e. rw (← c.as_slice.ensures.value) c.in-Err.ensures.unprinted
+
+-- the failure whose line is written is the one that the run ended with
+pub returns-clause-faulty : goal.returns-clause-faulty
+returns-clause-faulty g c = λ one. (
+  c.in-Err.failure,
+  rw (← c.as_slice.ensures.value) (c.in-Err.ensures.faulty (sym c.status.ensures ∙ one)),
+  c.tell.ensures,
+)

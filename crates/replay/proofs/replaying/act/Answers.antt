@@ -1,3 +1,4 @@
+use Rattle.std.proofs.Common.{rules}
 use Rattle.std.proofs.lemmas.Result.{err_from_is_err_and}
 use Rattle.stable.specs.Storages.{scripted}
 use Rattle.world.specs.Seen.{world_of}
@@ -26,3 +27,6 @@ returns-in_err-_end-in-Round-clause-done g c =
     let failed = c.in_err-_end-in-Round.ensures in
     rw (p.1, p.2, c.in-Round.is) (round_refused (scripted g.S.Stable) (world_of c.args.world.now) (world_of c.round.new.self) _ _ _ _
     c.as_slice.ensures failed.no_node.0 failed.unchanged failed.memory failed.faults)
+
+pub returns-in-Step-clause-done : goal.returns-in-Step-clause-done
+returns-in-Step-clause-done g c = search rules

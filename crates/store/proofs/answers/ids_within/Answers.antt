@@ -1,3 +1,4 @@
+use Rattle.std.proofs.lemmas.Grind.{common_steps}
 use Rattle.std.proofs.Common.{◌≡◌, ◌+◌, ℕ, List, rules, true, sym, subst, take, get_or, arith}
 use Rattle.predicates.specs.Predicates.{IsEver}
 use Rattle.predicates.specs.declared.questions.Tri.TheVariants.{Yes}
@@ -44,3 +45,6 @@ loop-place-preserved c =
     subst (AreIdsOf (λ f. IsEver f.seq c.args.period.now c.args.area.now Yes) (take (l.place + 1) fs)) (sym c.in_ok-push.ensures.items)
     (are_ids_more (λ f. IsEver f.seq c.args.period.now c.args.area.now Yes) fs l.place f _
     (omega arith) is l.invariant holds)
+
+pub returns : goal.returns
+returns c = grind (arith, common_steps)

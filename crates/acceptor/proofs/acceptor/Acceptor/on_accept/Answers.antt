@@ -36,3 +36,6 @@ returns-clause-written g c =
 -- a way out is answered whole: its clauses are found together
 pub returns-in-Some : goal.returns-in-Some
 returns-in-Some g c = search rules
+
+pub returns-clause-state : goal.returns-clause-state
+returns-clause-state g c = search rules

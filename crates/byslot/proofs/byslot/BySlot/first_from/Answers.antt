@@ -1,4 +1,4 @@
-use Rattle.std.proofs.Common.{◌≤◌, arith}
+use Rattle.std.proofs.Common.{◌≤◌, arith, rules}
 use Rattle.std.specs.BTreeMap.{get}
 use Rattle.std.specs.Ordering.{nat_cmp}
 use Rattle.byslot.specs.Values.{in_row}
@@ -11,3 +11,6 @@ returns g c =
     let self = c.args.self.now in
     let all : 65536 ≤ c.loop-value.value = omega (arith, c.loop-value-test.false) in
     none_up_to (in_row self.row.items (get nat_cmp self.others)) c.args.from c.loop-value.value all c.loop-value.invariant
+
+pub loop-value-init : goal.loop-value-init
+loop-value-init g c = search rules

@@ -25,3 +25,6 @@ loop-value-preserved c =
       learnt_to = λ first to. subst (IsLearntTo (known_learnt c.args.self.now) first) (omega arith)
           (one_more (known_learnt c.args.self.now) first c.loop-value.value (c.loop-value.invariant.learnt_to first to) (search rules) is);
     }
+
+pub returns-clause-prefix : goal.returns-clause-prefix
+returns-clause-prefix c = search rules

@@ -1,3 +1,4 @@
+use Rattle.std.proofs.Common.{rules}
 use Rattle.learner.specs.Known.{known_learnt}
 use Rattle.learner.proofs.PrefixLemmas.{learnt_on}
 use Rattle.learner.proofs.SlotLemmas.{some_put}
@@ -12,3 +13,15 @@ invariant_of-self-2 c =
           (some_put (known_learnt self.slots) c.args.slot c.args.command (known_learnt c.learn.new.self) c.in_ok-learn.ensures.learnt)
           self.counted.learnt_to));
     }
+
+pub returns-then-value-self-clause-hears : goal.returns-then-value-self-clause-hears
+returns-then-value-self-clause-hears c = search rules
+
+pub learn-requires : goal.learn-requires
+learn-requires c = search rules
+
+pub returns-in_err-learn-clause-unlearnt : goal.returns-in_err-learn-clause-unlearnt
+returns-in_err-learn-clause-unlearnt c = search rules
+
+pub returns-clause-hears : goal.returns-clause-hears
+returns-clause-hears c = search rules

@@ -11,3 +11,6 @@ returns-clause-meaning g c = record {
       (subst (λ (t : List ℕ). AnswersAll (mind_of c.in-Some.roles).machine c.args.query.now t) (sym c.new.ensures)
       c.in_ok-text.ensures.answers);
 }
+
+pub returns-clause-answers : goal.returns-clause-answers
+returns-clause-answers g c = search rules

@@ -26,3 +26,6 @@ pub returns-in-Err-clause-memory : goal.returns-in-Err-clause-memory
 returns-in-Err-clause-memory g c is =
     read_made g.S.Store c.args.self.now c.write.new.connection c.blame.new.self c.write.ensures.follows c.in-Err.ensures.refused
     c.blame.ensures.same (c.blame.ensures.memory (search rules))
+
+pub returns-in-Err-clause-ok : goal.returns-in-Err-clause-ok
+returns-in-Err-clause-ok g c = search rules

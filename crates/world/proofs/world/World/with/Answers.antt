@@ -1,3 +1,4 @@
+use Rattle.std.proofs.Common.{rules}
 use Rattle.stable.specs.Storages.{scripted}
 use Rattle.world.specs.Runs.{run_of}
 use Rattle.history.proofs.FiredLemmas.{start_few}
@@ -16,3 +17,10 @@ returns-clause-safe g c =
     stays_safe g.S.Stable c.in_ok-run.run' (start_few (scripted g.S.Stable) c.args.count
     (run_of c.in_ok-run.run') c.in_ok-run.ensures.start)
     (started c.args.count (run_of c.in_ok-run.run') c.in_ok-run.ensures.start)
+
+-- each node is over its own of the storages that were given
+pub returns-clause-over : goal.returns-clause-over
+returns-clause-over g c = c.in_ok-run.ensures.over
+
+pub returns-in_err-run-clause-used : goal.returns-in_err-run-clause-used
+returns-in_err-run-clause-used g c = search rules

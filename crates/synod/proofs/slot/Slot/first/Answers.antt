@@ -1,0 +1,5 @@
+use Rattle.std.proofs.Common.{rules}
+use Rattle.synod.proofs.slot.Slot.first.Goals as goal
+
+pub returns : goal.returns
+returns c = search rules
