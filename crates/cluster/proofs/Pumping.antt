@@ -256,7 +256,7 @@ module _ {S : Type 0} (storages : Ghosts (Script S)) where
       then_delivers old.world h.between.world new.world (polls_deliver old h.between h.node h.made h.before h.part.polls)
       (poll_delivers h.between new h.node 1 h.datagram h.last)
   break_delivers left old new passed fault.Memory h = polls_deliver old new h.node h.made h.before h.part.polls
-  break_delivers left old new passed fault.NoSuchMessage h = absurd h
+  break_delivers left old new passed fault.NoSuchFrame h = absurd h
   break_delivers left old new passed fault.NoSuchNode h = absurd h
   break_delivers left old new passed fault.NotEmpty h = absurd h
 
@@ -272,7 +272,7 @@ module _ {S : Type 0} (storages : Ghosts (Script S)) where
       → (f ≡ fault.FlushLimit) ⊎ (f ≡ fault.Memory)
   break_faults left old new passed fault.FlushLimit h = inl refl
   break_faults left old new passed fault.Memory h = inr refl
-  break_faults left old new passed fault.NoSuchMessage h = absurd h
+  break_faults left old new passed fault.NoSuchFrame h = absurd h
   break_faults left old new passed fault.NoSuchNode h = absurd h
   break_faults left old new passed fault.NotEmpty h = absurd h
 

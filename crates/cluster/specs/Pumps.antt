@@ -82,7 +82,7 @@ module _ {S : Type 0} (storages : Ghosts (Script S)) where
   abbrev pub BreaksOff : ℕ → Pumped S → List Passage → WorldFault → Pumped S → Type 0
   BreaksOff left old passed fault.FlushLimit new = HitsLimit left old passed new
   BreaksOff left old passed fault.Memory new = WantsMemory left old passed new
-  BreaksOff left old passed fault.NoSuchMessage new = ⊥
+  BreaksOff left old passed fault.NoSuchFrame new = ⊥
   BreaksOff left old passed fault.NoSuchNode new = ⊥
   BreaksOff left old passed fault.NotEmpty new = ⊥
 

@@ -110,11 +110,11 @@ impl<T: Transport> Cluster<T> {
         ensures err { OnErr result (cluster_of self.new ≡ cluster_of self.old) }
 
         // Each fault.
-        ensures no_frame { IsErrOf result WorldFault.NoSuchMessage
+        ensures no_frame { IsErrOf result WorldFault.NoSuchFrame
             ↔ NamesNoFrame (length (world_in self.old).frames) event }
         ensures no_node { IsErrOf result WorldFault.NoSuchNode
             ↔ NamesNoNode (length (world_in self.old).nodes) event }
-        ensures faults { IfErr result (λ f. (f ≡ WorldFault.NoSuchMessage) ⊎ (f ≡ WorldFault.NoSuchNode)
+        ensures faults { IfErr result (λ f. (f ≡ WorldFault.NoSuchFrame) ⊎ (f ≡ WorldFault.NoSuchNode)
             ⊎ (f ≡ WorldFault.Memory)) }
 
         // Whatever came of it.

@@ -54,11 +54,11 @@ impl IndexedWorld {
         ensures err { OnErr result (world_of self.new.world ≡ world_of self.old.world) }
 
         // Each fault.
-        ensures no_frame { IsErrOf result WorldFault.NoSuchMessage
+        ensures no_frame { IsErrOf result WorldFault.NoSuchFrame
             ↔ NamesNoFrame (length (world_of self.old.world).frames) event }
         ensures no_node { IsErrOf result WorldFault.NoSuchNode
             ↔ NamesNoNode (length (world_of self.old.world).nodes) event }
-        ensures faults { IfErr result (λ f. (f ≡ WorldFault.NoSuchMessage) ⊎ (f ≡ WorldFault.NoSuchNode)
+        ensures faults { IfErr result (λ f. (f ≡ WorldFault.NoSuchFrame) ⊎ (f ≡ WorldFault.NoSuchNode)
             ⊎ (f ≡ WorldFault.Memory)) }
 
         // Whatever came of it.

@@ -17,7 +17,7 @@ use Rattle.wire.specs.declared.frames.envelope.Envelope.{Envelope}
 use Rattle.history.specs.declared.lists.Submission.{Submission}
 use Rattle.history.specs.declared.lists.Learnt.{Learnt}
 use Rattle.minds.specs.States.{NodeState}
-use Rattle.history.specs.Protocol.{fleet, frame_of, learning_of, command_of}
+use Rattle.history.specs.Protocol.{fleet, frame_of, learnt_as, command_of}
 use Rattle.history.specs.Reaching.{StandsAt, IsAllowed}
 use Rattle.history.proofs.NodeComes.{local_of, stands_elsewhere}
 
@@ -59,7 +59,7 @@ module _ {S : Type 0} {contents : Script S → Records} where
       (y : Local Command)
       → HasCome old.state.past input → Does (fleet (length nodes)) i input (local_of old.state i) y
       → StandsAt contents (length nodes) i (placed old.state i y).past (local_of (placed old.state i y) i) after
-      → y.sent ≡ map frame_of more → y.learnt ≡ map learning_of news → y.submitted ≡ map command_of asked
+      → y.sent ≡ map frame_of more → y.learnt ≡ map learnt_as news → y.submitted ≡ map command_of asked
       → IsAllowed contents (slice_set nodes i after) (frames ++ more) (learnt ++ news) (submitted ++ asked)
   moved nodes frames more learnt news submitted asked old i after input y came does now sent heard asks =
       let same : length (slice_set nodes i after) ≡ length nodes = length-set nodes i after in
@@ -72,8 +72,8 @@ module _ {S : Type 0} {contents : Script S → Records} where
               (node_placed nodes (length nodes) old.state i after y old.stands.node now j n e);
           frames_ = ap (λ l. old.state.past.frames ++ l) sent ∙ ap (λ l. l ++ map frame_of more) old.stands.frames_
               ∙ sym (map-append frame_of frames more);
-          learnt_ = ap (λ l. old.state.past.learnt ++ l) heard ∙ ap (λ l. l ++ map learning_of news) old.stands.learnt_
-              ∙ sym (map-append learning_of learnt news);
+          learnt_ = ap (λ l. old.state.past.learnt ++ l) heard ∙ ap (λ l. l ++ map learnt_as news) old.stands.learnt_
+              ∙ sym (map-append learnt_as learnt news);
           submitted_ = ap (λ l. old.state.past.submitted ++ l) asks ∙ ap (λ l. l ++ map command_of asked) old.stands.submitted_
               ∙ sym (map-append command_of submitted asked);
         };

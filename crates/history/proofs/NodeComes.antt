@@ -6,7 +6,7 @@ use Rattle.std.proofs.lemmas.List.Elements.{Contains-append_left}
 use Rattle.std.proofs.lemmas.Option.{none-some}
 use Rattle.synod.specs.Records as synod_records
 use Rattle.synod.specs.Records.{VoteWrite}
-use Rattle.synod.specs.Minds as synod_minds
+use Rattle.synod.specs.Volatile as synod_volatile
 use Rattle.synod.specs.Acts as act
 use Rattle.synod.specs.Acts.{Local, Does}
 use Rattle.synod.specs.Invariant.{AreSound}
@@ -50,7 +50,7 @@ abbrev pub local_of : synod_runs.World Command → ℕ → Local Command
 local_of = synod_runs.here
 
 -- a node with such records and such a mind at the beginning of a step
-abbrev begins : synod_records.Records Command → synod_minds.Mind Command → Local Command
+abbrev begins : synod_records.Records Command → synod_volatile.Volatile Command → Local Command
 begins r m = record { records = r; mind = m; sent = []; learnt = []; submitted = [] }
 
 -- where a node has come to with its records and its mind, the rest aside
@@ -74,12 +74,12 @@ begun contents n y h = record { records = h.records; up = begun_up (contents n.s
 here_placed : (w : synod_runs.World Command) (i : ℕ) (y : Local Command) → local_of (placed w i y) i ≡ begins y.records y.mind
 here_placed w i y =
     ap (λ (r : synod_records.Records Command). begins r ((placed w i y).mind i)) (put_same w.past.records i y.records)
-    ∙ ap (λ (m : synod_minds.Mind Command). begins y.records m) (put_same w.mind i y.mind)
+    ∙ ap (λ (m : synod_volatile.Volatile Command). begins y.records m) (put_same w.mind i y.mind)
 
 there_placed : (w : synod_runs.World Command) (i : ℕ) (y : Local Command) (j : ℕ) → (j ≡ i → ⊥) → local_of (placed w i y) j ≡ local_of w j
 there_placed w i y j other =
     ap (λ (r : synod_records.Records Command). begins r ((placed w i y).mind j)) (put_other w.past.records i y.records j other)
-    ∙ ap (λ (m : synod_minds.Mind Command). begins (w.past.records j) m) (put_other w.mind i y.mind j other)
+    ∙ ap (λ (m : synod_volatile.Volatile Command). begins (w.past.records j) m) (put_other w.mind i y.mind j other)
 
 come_longer : (w : synod_runs.World Command) (i : ℕ) (y : Local Command) (input : act.Input Command) → HasCome w.past input
     → HasCome (placed w i y).past input

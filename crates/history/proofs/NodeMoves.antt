@@ -35,7 +35,7 @@ abbrev pub sends_of : Result Response NodeFault → List Envelope
 sends_of (Ok said) = said.sends
 sends_of (Err f) = []
 
-abbrev pub learnt_of : ℕ → Result Response NodeFault → List (history.Learning Command)
+abbrev pub learnt_of : ℕ → Result Response NodeFault → List (history.Lesson Command)
 learnt_of i (Ok said) = learnings i said.learnt
 learnt_of i (Err f) = []
 

@@ -4,7 +4,7 @@ use Rattle.std.proofs.lemmas.List.Elements.{Contains-push_cases, Contains-append
 use Rattle.synod.specs.declared.vote.Vote.{Vote}
 use Rattle.synod.specs.Messages.{Message, Promise, Accept, Accepted, Decided, Plain, Frame}
 use Rattle.synod.specs.History.{Sent}
-use Rattle.synod.specs.Minds.{Campaign, Mind, blank, campaigning, proposal}
+use Rattle.synod.specs.Volatile.{Campaign, Volatile, blank, campaigning, proposal}
 use Rattle.synod.specs.Acts as act
 use Rattle.synod.specs.Acts.{Fleet, Local, Input, Act, MayAct, MayDo, acted, done, sends, thinks, campaigns}
 use Rattle.synod.specs.Runs.{World, Step, start, here, MayStep, stepped, Run, IsReached}
@@ -20,7 +20,7 @@ abbrev AreOwn : {C : Type 0} → List (Frame C) → Type 0
 AreOwn {C} frames = (r : Frame C) → Contains frames r → IsOwn r
 
 -- the mind's campaign is under a ballot of node i
-abbrev HasOwn : {C : Type 0} → ℕ → Mind C → Type 0
+abbrev HasOwn : {C : Type 0} → ℕ → Volatile C → Type 0
 HasOwn {C} i m = (k : Campaign C) → m.campaign ≡ Some k → k.ballot.node ≡ i
 
 -- what node i has in its step is under its own ballots
@@ -43,11 +43,11 @@ module _ {C : Type 0} where
   own_append xs ys p q z c = elim (Contains-append_cases xs ys z c) [ inl old ↦ p z old | inr new ↦ q z new ]
 
   -- another campaign under the node's ballot
-  own_campaign : (i : ℕ) (m : Mind C) (k : Campaign C) → k.ballot.node ≡ i → HasOwn i (campaigning m k)
+  own_campaign : (i : ℕ) (m : Volatile C) (k : Campaign C) → k.ballot.node ≡ i → HasOwn i (campaigning m k)
   own_campaign i m k mine j e = subst (λ (q : Campaign C). q.ballot.node ≡ i) (some_is k j e) mine
 
   -- no campaign
-  own_none : (i : ℕ) (m : Mind C) → m.campaign ≡ None → HasOwn i m
+  own_none : (i : ℕ) (m : Volatile C) → m.campaign ≡ None → HasOwn i m
   own_none i m none k e = absurd (cc)
 
   -- an accept request carries one vote
@@ -60,7 +60,7 @@ module _ {C : Type 0} where
 
   module _ (i : ℕ) (x : Local C) (keeps : Keeps i x) where
     -- the node thinks on
-    thinks_own : (m : Mind C) → HasOwn i m → Keeps i (thinks x m)
+    thinks_own : (m : Volatile C) → HasOwn i m → Keeps i (thinks x m)
     thinks_own m own = record { campaign = own; sent = keeps.sent }
 
     -- it goes on with this campaign
@@ -117,7 +117,7 @@ module _ {C : Type 0} where
       let at_start : Keeps s.node (here w s.node) = record { campaign = all.minds s.node; sent = λ r c. absurd (none_in r c) } in
       let after : Keeps s.node y = acts_own f s.node s.input s.acts (here w s.node) may.acts at_start in
       record {
-        minds = all_put (λ i (m : Mind C). HasOwn i m) w.mind s.node y.mind after.campaign (λ j other. all.minds j);
+        minds = all_put (λ i (m : Volatile C). HasOwn i m) w.mind s.node y.mind after.campaign (λ j other. all.minds j);
         frames = own_append w.past.frames y.sent all.frames after.sent;
       }
 

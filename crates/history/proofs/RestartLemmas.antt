@@ -1,6 +1,6 @@
 -- A node that restarts has forgotten what was not in its records.
 use Rattle.std.proofs.Common.{◌≡◌, inl, inr, Option, Some, None, IfSome, Result, Ok, Err, refl, sym, ap, subst}
-use Rattle.synod.specs.Minds.{blank}
+use Rattle.synod.specs.Volatile.{blank}
 use Rattle.synod.specs.Acts.{Local}
 use Rattle.stable.specs.Records.{Records}
 use Rattle.stable.specs.Script.{Script}

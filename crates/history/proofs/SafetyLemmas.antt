@@ -5,7 +5,7 @@ use Rattle.std.proofs.Math.ListN.{get_or}
 use Rattle.std.proofs.lemmas.List.{length-map}
 use Rattle.std.proofs.lemmas.Option.{slice_get_read, slice_get-get_or, slice_get-map, slice_get_within, get_or_from_slice_get, none-some}
 use Rattle.synod.specs.Records.{no_records as nothing_written}
-use Rattle.synod.specs.History.{Learning}
+use Rattle.synod.specs.History.{Lesson}
 use Rattle.synod.specs.Chosen.{Chosen}
 use Rattle.synod.specs.Majorities.{IsMajority, counted}
 use Rattle.synod.specs.Runs as synod_runs
@@ -28,7 +28,7 @@ use Rattle.history.specs.Explaining.{LearntAgree, LearntGrounded}
 use Rattle.history.specs.Flushing.{IsUnused, IsStart, IsStarted}
 use Rattle.minds.specs.Loading.{IsLoaded}
 use Rattle.minds.specs.Protocol.{RecordsAgree}
-use Rattle.history.specs.Protocol.{fleet, frame_of, learning_of}
+use Rattle.history.specs.Protocol.{fleet, frame_of, learnt_as}
 use Rattle.history.specs.Reaching.{NodeStands, TookEffect, StandsAt, IsAllowed, AreHonest}
 use Rattle.history.specs.Safety.{HasAgreed, writes_of}
 use Rattle.minds.specs.States.{NodeState}
@@ -65,8 +65,8 @@ submitted_in submitted (Request r) (inr c) =
 module _ {S : Type 0} where
   chosen_of : (w : WorldState S) (h : HasAgreed w) (t : Learnt) → Contains w.learnt t
       → Chosen (length w.nodes) h.state.past t.slot t.command
-  chosen_of w h t c = h.agreed.learnt (learning_of t) (subst (λ (l : List (Learning Command)). Contains l (learning_of t)) (sym h.learnt)
-      (map_contains learning_of w.learnt t c))
+  chosen_of w h t c = h.agreed.learnt (learnt_as t) (subst (λ (l : List (Lesson Command)). Contains l (learnt_as t)) (sym h.learnt)
+      (map_contains learnt_as w.learnt t c))
 
   grounded_of : (w : WorldState S) (h : HasAgreed w) (slot : ℕ) (c : Command) → Chosen (length w.nodes) h.state.past slot c
       → IsGrounded w.submitted c
@@ -221,7 +221,7 @@ module _ {S : Type 0} {storages : Ghosts (Script S)} where
     stands = record {
       node = λ i n e. stands_at_start i count n (h.nodes.each i n e) (honest i n e) (length w.nodes);
       frames_ = sym (ap (λ (x : WorldState S). map frame_of x.frames) h.nothing);
-      learnt_ = sym (ap (λ (x : WorldState S). map learning_of x.learnt) h.nothing);
+      learnt_ = sym (ap (λ (x : WorldState S). map learnt_as x.learnt) h.nothing);
       submitted_ = sym (ap (λ (x : WorldState S). map command_of x.submitted) h.nothing);
     };
   }

@@ -34,7 +34,7 @@ use Rattle.minds.specs.Outputs.{Response}
 use Rattle.wire.specs.FrameSpelling.{Fits}
 use Rattle.minds.specs.Inputs.{concerns}
 use Rattle.minds.specs.Protocol.{learnings, input_of, coming, InputFits, RecordsAgree, HoldsRecords, MindStands}
-use Rattle.history.specs.Protocol.{fleet, frame_of, learning_of, command_of}
+use Rattle.history.specs.Protocol.{fleet, frame_of, learnt_as, command_of}
 use Rattle.history.specs.Reaching.{NodeStands, StandsAt, IsAllowed, AreHonest}
 use Rattle.history.specs.Worlds.{WorldState, submission_of, quiet, TakesAt, ReceivesAt, ArmsAt, RestartsAt, Steps, with_node, recorded}
 use Rattle.history.specs.Worlds.{with_submission, answered, without_wait, learnt_by}
@@ -70,10 +70,10 @@ taken_of node (input.Message e) b = []
 taken_of node input.Timeout b = []
 taken_of node input.Tick b = []
 
-news_listed : (node : ℕ) (r : Result Response NodeFault) → learnt_of node r ≡ map learning_of (news_of node r)
+news_listed : (node : ℕ) (r : Result Response NodeFault) → learnt_of node r ≡ map learnt_as (news_of node r)
 news_listed node (Ok told) = by_option told.learnt
   where
-    by_option : (o : Option LogEntry) → learnings node o ≡ map learning_of (learnt_by node o)
+    by_option : (o : Option LogEntry) → learnings node o ≡ map learnt_as (learnt_by node o)
     by_option None = refl
     by_option (Some c) = refl
 news_listed node (Err f) = refl

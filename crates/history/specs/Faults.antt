@@ -4,7 +4,7 @@ use Rattle.history.specs.declared.fault.WorldFault.{WorldFault}
 use Rattle.history.specs.declared.fault.WorldFault.TheVariants as world_fault
 
 abbrev pub world_code : WorldFault → ℕ
-world_code world_fault.NoSuchMessage = 51
+world_code world_fault.NoSuchFrame = 51
 world_code world_fault.NoSuchNode = 52
 world_code world_fault.FlushLimit = 53
 world_code world_fault.Memory = 54

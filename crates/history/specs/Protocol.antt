@@ -5,5 +5,5 @@ use Rattle.history.specs.declared.lists.Learnt.{Learnt}
 pub use Rattle.minds.specs.Protocol.{fleet, frame_of}
 pub use Rattle.history.specs.Submissions.{asked_of, command_of}
 
-abbrev pub learning_of : Learnt → history.Learning Command
-learning_of l = record { node = l.node; slot = l.slot; command = l.command }
+abbrev pub learnt_as : Learnt → history.Lesson Command
+learnt_as l = record { node = l.node; slot = l.slot; command = l.command }

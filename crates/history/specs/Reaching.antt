@@ -18,7 +18,7 @@ use Rattle.history.specs.declared.lists.Submission.{Submission}
 use Rattle.history.specs.declared.lists.Learnt.{Learnt}
 use Rattle.minds.specs.Protocol.{RecordsAgree, HoldsRecords, MindStands}
 use Rattle.minds.specs.States.{NodeState}
-use Rattle.history.specs.Protocol.{fleet, frame_of, learning_of, command_of}
+use Rattle.history.specs.Protocol.{fleet, frame_of, learnt_as, command_of}
 use Rattle.history.specs.Voting.{vote_put, HasVote}
 
 -- a node's records say what the protocol's records do, and where it is up it holds what they say, and stands for the
@@ -70,7 +70,7 @@ pub record WorldStands {S : Type 0} (contents : Script S → Records) (nodes : L
   pub node : (i : ℕ) (n : NodeState (Script S)) → slice_get nodes i ≡ Some n
       → StandsAt contents (length nodes) i w.past (synod_runs.here w i) n
   pub frames_ : w.past.frames ≡ map frame_of frames
-  pub learnt_ : w.past.learnt ≡ map learning_of learnt
+  pub learnt_ : w.past.learnt ≡ map learnt_as learnt
   pub submitted_ : w.past.submitted ≡ map command_of submitted
 
 -- moves that the protocol allows lead there

@@ -12,7 +12,7 @@ use Rattle.synod.specs.declared.vote.Vote.{Vote}
 use Rattle.acceptor.specs.Spelling.{ballot_bytes}
 use Rattle.sessions.specs.declared.command.Command.{Command}
 use Rattle.history.specs.Explaining.{IsExplained, LearntInLog}
-use Rattle.history.specs.Protocol.{fleet, frame_of, learning_of, command_of}
+use Rattle.history.specs.Protocol.{fleet, frame_of, learnt_as, command_of}
 use Rattle.history.specs.Reaching.{TookEffect, IsAllowed, AreHonest}
 use Rattle.minds.specs.States.{NodeState}
 use Rattle.history.specs.Submissions.{BringValid}
@@ -31,7 +31,7 @@ pub record HasAgreed {S : Type 0} (w : WorldState S) : Type 0 where
   pub state : synod_runs.World Command
   pub reached : IsReached (fleet (length w.nodes)) state
   pub frames : state.past.frames ≡ map frame_of w.frames
-  pub learnt : state.past.learnt ≡ map learning_of w.learnt
+  pub learnt : state.past.learnt ≡ map learnt_as w.learnt
   pub submitted : state.past.submitted ≡ map command_of w.submitted
   pub votes : (i : ℕ) (n : NodeState (Script S)) → slice_get w.nodes i ≡ Some n
       → (v : Vote Command) → Voted state.past i v ↔ HasVote n.storage.writes v

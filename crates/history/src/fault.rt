@@ -12,7 +12,7 @@ use std::fmt;
 #[derive(Clone, Copy, Debug, PartialEq, Eq)]
 pub enum WorldFault {
     /// No frame of this number was sent.
-    NoSuchMessage,
+    NoSuchFrame,
     /// The run has no such node.
     NoSuchNode,
     /// As many frames were delivered as one flush may, and one still waits. They stay delivered.
@@ -29,7 +29,7 @@ impl WorldFault {
         ensures { result ≡ world_code self }
     {
         match self {
-            WorldFault::NoSuchMessage => 51,
+            WorldFault::NoSuchFrame => 51,
             WorldFault::NoSuchNode => 52,
             WorldFault::FlushLimit => 53,
             WorldFault::Memory => 54,
@@ -41,7 +41,7 @@ impl WorldFault {
 impl fmt::Display for WorldFault {
     fn fmt<W: fmt::Write>(&self, f: &mut fmt::Formatter<W>) -> fmt::Result {
         f.write_str(match self {
-            WorldFault::NoSuchMessage => "no frame of this number was sent",
+            WorldFault::NoSuchFrame => "no frame of this number was sent",
             WorldFault::NoSuchNode => "the run has no such node",
             WorldFault::FlushLimit => "a frame still waits after the most that a flush delivers",
             WorldFault::Memory => "out of memory",

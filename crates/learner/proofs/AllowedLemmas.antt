@@ -5,7 +5,7 @@ use Rattle.std.proofs.lemmas.Bool.Decides.{nat_tests, eqb_tells}
 use Rattle.std.proofs.lemmas.List.Elements.{Contains-append_left, Contains-push}
 use Rattle.synod.specs.Majorities.{Majority}
 use Rattle.synod.specs.Messages.{Accepted, Decided}
-use Rattle.synod.specs.Minds.{Mind}
+use Rattle.synod.specs.Volatile.{Volatile}
 use Rattle.synod.specs.Records.{put}
 use Rattle.synod.specs.Acts as act
 use Rattle.synod.specs.Acts.{Fleet, Input, Local, Does, Came, Brings, acted, thinks}
@@ -36,7 +36,7 @@ along {f} {i} {input} {x} {c} {learned} {other} {new} {state} e k may =
 
 module _ (f : Fleet Command) (i : ℕ) (x : Local Command) (old : Learning) (stands : LearnerStands old x.mind) where
   -- nothing joins the history
-  none_learnt : (input : Input Command) (m : Mind Command) → Does f i input x (thinks x m)
+  none_learnt : (input : Input Command) (m : Volatile Command) → Does f i input x (thinks x m)
       → Does f i input x (record x { mind = m; learnt = x.learnt ++ [] })
   none_learnt input m does = subst (λ l. Does f i input x (record x { mind = m; learnt = l })) (sym (append-nil x.learnt)) does
 
@@ -49,7 +49,7 @@ module _ (f : Fleet Command) (i : ℕ) (x : Local Command) (old : Learning) (sta
   }
 
   -- what stands once the slot is learnt, whatever else is heard
-  abbrev learnt_mind : ℕ → Command → List (ℕ × Vote Command) → Mind Command
+  abbrev learnt_mind : ℕ → Command → List (ℕ × Vote Command) → Volatile Command
   learnt_mind s c heard = record x.mind { learnt = put x.mind.learnt s (Some c); heard = heard }
 
   stands_learnt : (s : ℕ) (c : Command) (more : List (ℕ × Vote Command))

@@ -2,7 +2,7 @@
 use Rattle.std.specs.Prelude.{◌≡◌, ℕ, ◌<◌, List, [], ◌∷◌, ◌++◌, Option, Some, None, Contains}
 use Rattle.synod.specs.Acts.{Fleet, Input, Local, Does}
 use Rattle.synod.specs.History as history
-use Rattle.synod.specs.Minds.{Mind}
+use Rattle.synod.specs.Volatile.{Volatile}
 use Rattle.synod.specs.declared.ballot.Ballot.{Ballot}
 use Rattle.synod.specs.declared.vote.Vote.{Vote}
 use Rattle.sessions.specs.declared.command.Command.{Command}
@@ -10,13 +10,13 @@ use Rattle.learner.specs.Learning.{Learning}
 use Rattle.learner.specs.declared.learned.Learned.{Learned}
 
 -- the protocol's mind has learnt what the learner has, and has heard all that the learner keeps
-pub record LearnerStands (l : Learning) (m : Mind Command) : Type 0 where
+pub record LearnerStands (l : Learning) (m : Volatile Command) : Type 0 where
   pub learnt : (s : ℕ) → m.learnt s ≡ l.learnt s
   pub heard : (s a : ℕ) (b : Ballot) (c : Command) → a < l.nodes → l.heard s b a ≡ Some c
       → Contains m.heard (a, record { slot = s; ballot = b; command = c })
 
 -- what joins the history where node i newly learns the command at a slot
-abbrev pub learnt_by : ℕ → Command → Option Learned → List (history.Learning Command)
+abbrev pub learnt_by : ℕ → Command → Option Learned → List (history.Lesson Command)
 learnt_by i c None = []
 learnt_by i c (Some learned) = record { node = i; slot = learned.slot; command = c } ∷ []
 

@@ -14,7 +14,7 @@ use Rattle.replay.proofs.LineByLine.{ends_at_a_line, ends_at_the_last}
 use Rattle.replay.specs.LineByLine.{AllDone, StopsAtOne}
 use Rattle.schedule.specs.Schedules.{Plan, last_number}
 use Rattle.schedule.specs.declared.action.Action.TheVariants.{Flush, Round}
-use Rattle.schedule.specs.declared.plan.ScheduleLine.{ScheduleLine}
+use Rattle.schedule.specs.declared.schedule.ScheduleLine.{ScheduleLine}
 use Rattle.replay.specs.declared.replay_fault.ReplayCause.TheVariants.{Memory}
 use Rattle.replay.specs.declared.replay_fault.ReplayFault.{ReplayFault}
 use Rattle.history.specs.Staying.{IsSafeOver}

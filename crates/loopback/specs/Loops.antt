@@ -22,7 +22,7 @@ use Rattle.schedule.specs.Schedules.{Plan}
 use Rattle.schedule.specs.declared.action.Action.{Action}
 use Rattle.schedule.specs.declared.action.Action.TheVariants.{Step, Flush, Round}
 use Rattle.replay.specs.declared.replay_fault.ReplayCause.{ReplayCause}
-use Rattle.replay.specs.declared.replay_fault.ReplayCause.TheVariants.{NoSuchMessage, NoSuchNode, FlushLimit, Memory}
+use Rattle.replay.specs.declared.replay_fault.ReplayCause.TheVariants.{NoSuchFrame, NoSuchNode, FlushLimit, Memory}
 use Rattle.replay.specs.declared.replay_fault.ReplayFault.{ReplayFault}
 
 -- ---- what is told
@@ -66,7 +66,7 @@ module _ {T : Type 0} (transport : Transports T) where
   -- why it isn't done, and what there is then: what was there, but for what a pump has done, and the steps that a round has
   -- made
   abbrev pub IsRefused : Action → At → ReplayCause → At → Type 0
-  IsRefused (Step event) old NoSuchMessage new = NamesNoFrame (length old.pumped.world.frames) event × (new ≡ old)
+  IsRefused (Step event) old NoSuchFrame new = NamesNoFrame (length old.pumped.world.frames) event × (new ≡ old)
   IsRefused (Step event) old NoSuchNode new = NamesNoNode (length old.pumped.world.nodes) event × (new ≡ old)
   IsRefused (Step event) old Memory new = NamesWhatIsThere old.pumped.world event × (new ≡ old)
   IsRefused Flush old FlushLimit new = PumpsTo old (Err world_fault.FlushLimit) new

@@ -3,8 +3,8 @@ use Rattle.std.proofs.Common.{◌≡◌, ℕ, zero, ◌<◌, ◌^◌, List, [], 
 use Rattle.std.proofs.Common.{◌≤◌}
 use Rattle.byteorder.specs.Endian.{big_number, big_bytes}
 use Rattle.byteorder.specs.Numbers.{big_number-reads_back}
-use Rattle.synod.specs.Minds as synod_minds
-use Rattle.synod.specs.Minds.{blank}
+use Rattle.synod.specs.Volatile as synod_volatile
+use Rattle.synod.specs.Volatile.{blank}
 use Rattle.synod.specs.Acts.{Local}
 use Rattle.synod.proofs.Thinking.{none_in}
 use Rattle.stable.specs.Records.{Records}
@@ -55,7 +55,7 @@ unlearnt_stands nodes = record {
 idle_stands : (id nodes round : ℕ) (x : Local Command) → x.records.round ≡ round → x.mind ≡ blank → ProposerStands (loaded id nodes round) x
 idle_stands id nodes round x same none = record {
   round = same;
-  campaign = ap (λ (s : synod_minds.Mind Command). s.campaign) none;
+  campaign = ap (λ (s : synod_volatile.Volatile Command). s.campaign) none;
   waiting = λ r c. absurd (none_in r c);
 }
 
@@ -89,5 +89,5 @@ module _ (records : Records) (id nodes : ℕ) (m : Mind) (loads : IsLoaded recor
           (subst (λ (l : Learning). LearnerStands l (blank {C = Command})) (sym loads.learning) (unlearnt_stands nodes));
       proposer = subst (λ (p : Proposing). ProposerStands p x) (sym round_loaded.1)
           (idle_stands id nodes m.proposing.round x records_stand.round_ none);
-      position_ = ap (λ (s : synod_minds.Mind Command). s.position) none ∙ unlearnt_prefix nodes ∙ ap prefix (sym loads.learning);
+      position_ = ap (λ (s : synod_volatile.Volatile Command). s.position) none ∙ unlearnt_prefix nodes ∙ ap prefix (sym loads.learning);
     }

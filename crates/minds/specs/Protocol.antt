@@ -51,7 +51,7 @@ submissions input.Timeout = []
 submissions input.Tick = []
 
 -- what node `id` learnt
-abbrev pub learnings : ℕ → Option LogEntry → List (history.Learning Command)
+abbrev pub learnings : ℕ → Option LogEntry → List (history.Lesson Command)
 learnings id None = []
 learnings id (Some e) = record { node = id; slot = e.slot; command = e.command } ∷ []
 

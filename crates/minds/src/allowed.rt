@@ -3,7 +3,7 @@
 //! Each law is the contract of a function that does nothing.
 
 ghost use Rattle.std.specs.Prelude.{◌≡◌, ◌<◌, ◌≤◌, ℕ, Some, None, false};
-ghost use Rattle.synod.specs.Minds.{blank};
+ghost use Rattle.synod.specs.Volatile.{blank};
 ghost use Rattle.synod.specs.Acts as acts;
 ghost use Rattle.synod.specs.Acts.{Local};
 ghost use Rattle.sessions.specs.declared.command.Command.{Command};

@@ -3,8 +3,8 @@ use Rattle.std.proofs.Common.{◌≡◌, ◌⊎◌, ℕ, ◌==◌, Bool, true, f
 use Rattle.std.proofs.Common.{subst}
 use Rattle.std.proofs.lemmas.Bool.{cond_both}
 use Rattle.std.proofs.lemmas.Bool.Decides.{eqb_tells}
-use Rattle.synod.specs.Minds as synod_minds
-use Rattle.synod.specs.Minds.{IsSettled}
+use Rattle.synod.specs.Volatile as synod_volatile
+use Rattle.synod.specs.Volatile.{IsSettled}
 use Rattle.synod.specs.Acts as act
 use Rattle.synod.specs.Acts.{Fleet, Input, Local, Does, MayClose, campaigns}
 use Rattle.synod.proofs.Doing.{does_nothing, does_one}
@@ -20,15 +20,15 @@ was_there true o c e = e
 was_there false o c e = absurd (cc)
 
 -- the protocol's campaign where some slots stay
-abbrev pub closing : (ℕ → Bool) → Campaigning → synod_minds.Campaign Command → synod_minds.Campaign Command
+abbrev pub closing : (ℕ → Bool) → Campaigning → synod_volatile.Campaign Command → synod_volatile.Campaign Command
 closing stays k q = record q { proposals = proposed_at (left stays k.proposals) }
 
-module _ (stays : ℕ → Bool) (k : Campaigning) (q : synod_minds.Campaign Command) (h : CampaignStands k q) where
+module _ (stays : ℕ → Bool) (k : Campaigning) (q : synod_volatile.Campaign Command) (h : CampaignStands k q) where
   pub closing_stands : CampaignStands (record k { proposals = left stays k.proposals }) (closing stays k q)
   closing_stands = stands_with k q (left stays k.proposals) _ h (λ s. refl) (apart_left stays k.proposals h.apart)
 
   -- where those that go are settled
-  pub may_close : (m : synod_minds.Mind Command) → ((s : ℕ) → stays s ≡ false → IsSettled m.position m.learnt s)
+  pub may_close : (m : synod_volatile.Volatile Command) → ((s : ℕ) → stays s ≡ false → IsSettled m.position m.learnt s)
       → MayClose m q (proposed_at (left stays k.proposals))
   may_close m settled = record {
     only = λ s c e. h.proposals s ∙ was_there (stays s) (proposed_at k.proposals s) c (sym (proposed_left stays k.proposals s) ∙ e);

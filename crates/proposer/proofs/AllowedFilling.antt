@@ -7,8 +7,8 @@ use Rattle.std.proofs.lemmas.Bool.{cond_both, or_parts}
 use Rattle.synod.specs.Messages as synod
 use Rattle.synod.specs.Messages.{Frame, to_first}
 use Rattle.synod.specs.Records.{put}
-use Rattle.synod.specs.Minds as synod_minds
-use Rattle.synod.specs.Minds.{proposal}
+use Rattle.synod.specs.Volatile as synod_volatile
+use Rattle.synod.specs.Volatile.{proposal}
 use Rattle.synod.specs.Acts.{Fleet, Input, Local, Does, IsChoice, MayPropose, campaigns}
 use Rattle.synod.proofs.Doing.{sending, does_nothing, does_then, proposes_to_first}
 use Rattle.sessions.specs.Asked.{Asked}
@@ -46,13 +46,13 @@ module _ (f : Fleet Command) (i : ℕ) (input : Input Command) (nodes : ℕ) (so
 
   -- its campaign is this one, with these proposals
   pub record Holds (x : Local Command) (old : Filling) : Type 0 where
-    pub campaign : synod_minds.Campaign Command
+    pub campaign : synod_volatile.Campaign Command
     pub here : x.mind.campaign ≡ Some campaign
     pub stands : CampaignStands (record k { proposals = old.proposals }) campaign
 
   -- the window may be filled on from one to another
   pub record Fills (x : Local Command) (old new : Filling) : Type 0 where
-    pub campaign : synod_minds.Campaign Command
+    pub campaign : synod_volatile.Campaign Command
     pub sent : List Outgoing
     pub sends : new.sent ≡ old.sent ++ sent
     pub does : Does f i input x (sending (campaigns x campaign) (frames_of_all i nodes sent))
@@ -64,7 +64,7 @@ module _ (f : Fleet Command) (i : ℕ) (input : Input Command) (nodes : ℕ) (so
     sent = [];
     sends = sym (append-nil g.sent);
     does = subst (Does f i input x)
-        (ap (λ (o : Option (synod_minds.Campaign Command)). record x { mind = record x.mind { campaign = o } }) h.here
+        (ap (λ (o : Option (synod_volatile.Campaign Command)). record x { mind = record x.mind { campaign = o } }) h.here
         ∙ sym (sending_nothing (campaigns x h.campaign))) (does_nothing f i input x);
     stands = h.stands;
   }
@@ -84,7 +84,7 @@ module _ (f : Fleet Command) (i : ℕ) (input : Input Command) (nodes : ℕ) (so
     stands = h.stands;
   }
 
-  opens : (n : ℕ) (x : Local Command) (q : synod_minds.Campaign Command) (s : ℕ) (c : Command) → 1 ≤ n → x.mind.campaign ≡ Some q
+  opens : (n : ℕ) (x : Local Command) (q : synod_volatile.Campaign Command) (s : ℕ) (c : Command) → 1 ≤ n → x.mind.campaign ≡ Some q
       → MayPropose f x.mind q s c
       → Does f i input x (sending (campaigns x (record q { proposals = put q.proposals s (Some c) }))
       (to_first n i (synod.Accept (proposal q s c))))

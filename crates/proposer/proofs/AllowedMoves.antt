@@ -6,7 +6,7 @@ use Rattle.std.proofs.lemmas.Grind.{common_steps}
 use Rattle.synod.specs.declared.ballot.Ballot.{Ballot}
 use Rattle.synod.specs.Messages.{Plain, to_first}
 use Rattle.synod.specs.Records.{with_round}
-use Rattle.synod.specs.Minds as synod_minds
+use Rattle.synod.specs.Volatile as synod_volatile
 use Rattle.synod.specs.Acts as act
 use Rattle.synod.specs.Acts.{Fleet, Input, Local, Does, acted}
 use Rattle.synod.proofs.Doing.{does_nothing, does_one, does_then, says_to_first}
@@ -40,7 +40,7 @@ waited_before client number (r ∷ rs) s c =
 nobody : (a : ℕ) → false ≡ has_node no_nodes a
 nobody a = grind (arith, common_steps)
 
-pub begun_stands : (b : Ballot) (position : ℕ) → CampaignStands (begun b position) (synod_minds.begun b position 65535)
+pub begun_stands : (b : Ballot) (position : ℕ) → CampaignStands (begun b position) (synod_volatile.begun b position 65535)
 begun_stands b position = record {
   ballot = refl;
   first = refl;
@@ -70,13 +70,13 @@ module _ (f : Fleet Command) (i : ℕ) (input : Input Command) (x : Local Comman
       subst (λ (p : Proposing). MaySend f i input x p (frames_of i nodes sent)) (sym s.leaves)
       (subst (λ l. MaySend f i input x (record old { round = next_round old; campaign = Some (begun b x.mind.position) }) l) frames
       (record {
-        campaign = Some (synod_minds.begun b x.mind.position 65535);
+        campaign = Some (synod_volatile.begun b x.mind.position 65535);
         records = with_round x.records b.round;
         keeps = (refl, refl, refl);
         does = all;
         stands = record {
           round = s.round;
-          campaign = (synod_minds.begun b x.mind.position 65535, refl, begun_stands b x.mind.position);
+          campaign = (synod_volatile.begun b x.mind.position 65535, refl, begun_stands b x.mind.position);
           waiting = stands.waiting;
         };
       }))

@@ -9,7 +9,7 @@ use Rattle.synod.specs.declared.vote.Vote.{Vote}
 use Rattle.synod.specs.Majorities.{counted, IsMajority, Majority}
 use Rattle.synod.specs.Messages as synod
 use Rattle.synod.specs.Records.{put}
-use Rattle.synod.specs.Minds as synod_minds
+use Rattle.synod.specs.Volatile as synod_volatile
 use Rattle.synod.specs.Acts as act
 use Rattle.synod.specs.Acts.{Fleet, Input, Local, Does, acted}
 use Rattle.synod.proofs.Doing.{does_nothing, does_one, does_then}
@@ -54,7 +54,7 @@ module _ (f : Fleet Command) (i from : ℕ) (x : Local Command) (p : Proposing) 
   abbrev in' : Input Command
   in' = act.Came from (synod.Promise promise.ballot promise.first promise.last promise.entries)
 
-  module _ (k : Campaigning) (q : synod_minds.Campaign Command) (here : x.mind.campaign ≡ Some q) (h : CampaignStands k q)
+  module _ (k : Campaigning) (q : synod_volatile.Campaign Command) (here : x.mind.campaign ≡ Some q) (h : CampaignStands k q)
       (counted' : counts k from promise ≡ true) where
     abbrev last' : ℕ
     last' = min k.end promise.last
@@ -68,7 +68,7 @@ module _ (f : Fleet Command) (i from : ℕ) (x : Local Command) (p : Proposing) 
     abbrev counting : act.Act Command
     counting = act.Counts q from promise.last promise.entries last' told'
 
-    abbrev more : synod_minds.Campaign Command
+    abbrev more : synod_volatile.Campaign Command
     more = record q { promised = put q.promised from true; end = last'; told = told' }
 
     abbrev now : Bool → Campaigning
@@ -91,7 +91,7 @@ module _ (f : Fleet Command) (i from : ℕ) (x : Local Command) (p : Proposing) 
       came = came;
       before = omega (arith, h.end_);
       within = omega arith;
-      covers_old = subst (λ l. synod_minds.Covers l last' told') (sym h.told)
+      covers_old = subst (λ l. synod_volatile.Covers l last' told') (sym h.told)
           (λ v c l. (v, in_up_to last' (k.told ++ promise.entries) v (Contains-append_left k.told promise.entries v c) l, refl, le_refl _));
       covers_new = λ v c l.
           (v, in_up_to last' (k.told ++ promise.entries) v (Contains-append_right k.told promise.entries v c) l, refl, le_refl _);
@@ -149,7 +149,7 @@ module _ (f : Fleet Command) (i from : ℕ) (x : Local Command) (p : Proposing) 
           };
         }
 
-  goes_counting : (k : Campaigning) (q : synod_minds.Campaign Command) → x.mind.campaign ≡ Some q → CampaignStands k q
+  goes_counting : (k : Campaigning) (q : synod_volatile.Campaign Command) → x.mind.campaign ≡ Some q → CampaignStands k q
       → (b : Bool) → counts k from promise ≡ b
       → MayHold f i in' x (record p { campaign = Some (cond b (with_promise p.nodes k from promise) k) })
   goes_counting k q here h true e = counted_flag k q here h e (is_most p.nodes (with_node k.promised from)) refl

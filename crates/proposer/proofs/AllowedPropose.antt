@@ -4,7 +4,7 @@ use Rattle.std.proofs.Common.{subst, arith, append-nil}
 use Rattle.std.proofs.lemmas.Bool.{cond_both, ltb-true, ltb-false, leb-false}
 use Rattle.synod.specs.declared.ballot.Ballot.{Ballot}
 use Rattle.synod.specs.Messages.{Frame, Plain, to_first}
-use Rattle.synod.specs.Minds as synod_minds
+use Rattle.synod.specs.Volatile as synod_volatile
 use Rattle.synod.specs.Acts as act
 use Rattle.synod.specs.Acts.{Fleet, Input, Local, Does, acted, campaigns}
 use Rattle.synod.proofs.Doing.{sending, does_nothing, does_one, does_then, says_to_first}
@@ -40,7 +40,7 @@ module _ (f : Fleet Command) (i : ℕ) (input : Input Command) (x : Local Comman
     stands = record { round = stands.round; campaign = stands.campaign; waiting = stands.waiting };
   }
 
-  module _ (k : Campaigning) (q : synod_minds.Campaign Command) (here : x.mind.campaign ≡ Some q) (h : CampaignStands k q)
+  module _ (k : Campaigning) (q : synod_volatile.Campaign Command) (here : x.mind.campaign ≡ Some q) (h : CampaignStands k q)
       (is_leader : k.leading ≡ true) where
     -- ---- further on
     gathering : k.end < prefix l → May (record p { campaign = Some (begun k.ballot (prefix l)) }, prepare k.ballot (prefix l) ∷ [])
@@ -50,7 +50,7 @@ module _ (f : Fleet Command) (i : ℕ) (input : Input Command) (x : Local Comman
         (here, h.leading ∙ is_leader, (let low : q.end < x.mind.position = omega (arith, past, at, h.end_) in low)) in
         let plain : List (Frame Command) = to_first nodes i Plain in
         let two : Does f i input x (sending y plain) = does_then f i input one (says_to_first f i input y nodes) in
-        let k' = synod_minds.begun q.ballot x.mind.position 65535 in
+        let k' = synod_volatile.begun q.ballot x.mind.position 65535 in
         let same : CampaignStands (begun k.ballot (prefix l)) k' =
         subst (λ (n : ℕ). CampaignStands (begun k.ballot n) k') at
         (subst (λ (b : Ballot). CampaignStands (begun b x.mind.position) k') h.ballot (begun_stands q.ballot x.mind.position)) in

@@ -6,7 +6,7 @@ use Rattle.std.proofs.lemmas.List.Elements.{Contains-append_left, Contains-push,
 use Rattle.synod.specs.declared.ballot.Ballot.{Ballot}
 use Rattle.synod.specs.Messages as synod
 use Rattle.synod.specs.Messages.{Frame, to_first}
-use Rattle.synod.specs.Minds as synod_minds
+use Rattle.synod.specs.Volatile as synod_volatile
 use Rattle.synod.specs.Acts as act
 use Rattle.synod.specs.Acts.{Fleet, Input, Local, Does, acted}
 use Rattle.synod.proofs.Doing.{sending, does_nothing, does_one, does_then, repeats_to_first}
@@ -30,8 +30,8 @@ pub sending_both : (x : Local Command) (first next : List (Frame Command)) → s
 sending_both x first next = ap (λ l. record x { sent = l }) (append_assoc x.sent first next)
 
 -- the accepts of a proposal to all nodes
-pub accept_frames : (nodes i : ℕ) (b : Ballot) (p : Proposal) (q : synod_minds.Campaign Command) → q.ballot ≡ b
-    → to_first nodes i (synod.Accept (synod_minds.proposal q p.slot p.command)) ≡ frames_of i nodes (accept b p)
+pub accept_frames : (nodes i : ℕ) (b : Ballot) (p : Proposal) (q : synod_volatile.Campaign Command) → q.ballot ≡ b
+    → to_first nodes i (synod.Accept (synod_volatile.proposal q p.slot p.command)) ≡ frames_of i nodes (accept b p)
 accept_frames nodes i b p q same =
     ap (λ (e : Ballot). to_first nodes i (synod.Accept (record { slot = p.slot; ballot = e; command = p.command }))) same
 
@@ -68,7 +68,7 @@ module _ (f : Fleet Command) (i : ℕ) (input : Input Command) where
       subst (Does f i input x) (sending_both x (g ∷ []) gs) (does_then f i input one (says (sending x (g ∷ [])) gs h.1))
 
   -- open proposals go to all nodes again
-  repeats : (x : Local Command) (nodes : ℕ) (b : Ballot) (q : synod_minds.Campaign Command) → x.mind.campaign ≡ Some q → q.ballot ≡ b
+  repeats : (x : Local Command) (nodes : ℕ) (b : Ballot) (q : synod_volatile.Campaign Command) → x.mind.campaign ≡ Some q → q.ballot ≡ b
       → (ps : List Proposal) → AreApart ps → ((s : ℕ) (c : Command) → proposed_at ps s ≡ Some c → q.proposals s ≡ Some c)
       → Does f i input x (sending x (frames_of_all i nodes (map (accept b) ps)))
   repeats x nodes b q here same [] apart open' = subst (Does f i input x) (sym (sending_nothing x)) (does_nothing f i input x)
@@ -92,7 +92,7 @@ module _ (f : Fleet Command) (i : ℕ) (input : Input Command) where
       stands = record { round = stands.round; campaign = stands.campaign; waiting = stands.waiting };
     }
 
-    again_flag : (k : Campaigning) (q : synod_minds.Campaign Command) → x.mind.campaign ≡ Some q → CampaignStands k q → (b : Bool)
+    again_flag : (k : Campaigning) (q : synod_volatile.Campaign Command) → x.mind.campaign ≡ Some q → CampaignStands k q → (b : Bool)
         → Does f i input x (sending x (frames_of_all i nodes (cond b (map (accept k.ballot) k.proposals)
         (campaign.sends_again (record k { leading = false })))))
     again_flag k q here h true =

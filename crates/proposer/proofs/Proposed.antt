@@ -3,7 +3,7 @@ use Rattle.std.proofs.Common.{◌≡◌, ℕ, ◌==◌, List, [], ◌∷◌, Boo
 use Rattle.std.specs.List.{list_any}
 use Rattle.std.proofs.lemmas.Bool.{cond_both, cond-true, cond-false, eq-eqb, eqb-true, eqb-false, ne_eqb, or_parts}
 use Rattle.synod.specs.Records.{put}
-use Rattle.synod.specs.Minds.{Campaign}
+use Rattle.synod.specs.Volatile.{Campaign}
 use Rattle.synod.proofs.Puts.{put_cases}
 use Rattle.sessions.specs.declared.command.Command.{Command}
 use Rattle.proposer.specs.declared.window.Proposal.{Proposal}

@@ -2,7 +2,7 @@
 use Rattle.std.specs.Prelude.{◌≡◌, ℕ, ◌==◌, List, [], ◌∷◌, ◌++◌, Option, Some, None, Contains, not, if◌then◌else◌}
 use Rattle.std.specs.Prelude.{filter, length}
 use Rattle.synod.specs.Messages.{Frame, to_first}
-use Rattle.synod.specs.Minds.{Campaign, blank}
+use Rattle.synod.specs.Volatile.{Campaign, blank}
 use Rattle.synod.specs.Records as synod
 use Rattle.synod.specs.Acts.{Fleet, Input, Local, Does}
 use Rattle.sessions.specs.Asked.{Asked}

@@ -3,7 +3,7 @@
 //! Each law is the contract of a function that does nothing.
 
 ghost use Rattle.std.specs.Prelude.{◌≡◌, ◌<◌, ◌≤◌, ◌++◌, ◌∷◌, [], ℕ};
-ghost use Rattle.synod.specs.Minds.{IsSettled};
+ghost use Rattle.synod.specs.Volatile.{IsSettled};
 ghost use Rattle.synod.specs.Messages.{Promise};
 ghost use Rattle.synod.specs.Records.{with_round};
 ghost use Rattle.synod.specs.Acts.{Fleet, Input, Came, Local};

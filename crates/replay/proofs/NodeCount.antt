@@ -31,7 +31,7 @@ use Rattle.schedule.specs.Words.{words_of}
 use Rattle.schedule.specs.declared.action.Action.{Action}
 use Rattle.schedule.specs.declared.action.Action.TheVariants.{Step, Flush, Round}
 use Rattle.schedule.specs.declared.fault.ParseFault.TheVariants.{Line, Memory}
-use Rattle.schedule.specs.declared.plan.ScheduleLine.{ScheduleLine}
+use Rattle.schedule.specs.declared.schedule.ScheduleLine.{ScheduleLine}
 use Rattle.replay.specs.declared.replay_fault.ReplayCause.{ReplayCause}
 use Rattle.replay.specs.declared.replay_fault.ReplayCause.TheVariants.{NoSuchNode}
 use Rattle.replay.specs.declared.replay_fault.ReplayFault.{ReplayFault}

@@ -21,7 +21,7 @@ use Rattle.replay.proofs.LineByLine.{ends_at_a_line, ends_at_the_last}
 use Rattle.replay.specs.Runs.{IsDone, IsRefused, Leads, EndsAt, RunsTo, RunFails, IsReplay, ReplayEnds}
 use Rattle.replay.specs.Runs.{not_begun, not_run, told_of, IsRunOver, EndsOver, is_used, no_world, no_end}
 use Rattle.schedule.specs.Schedules.{Plan, IsScheduleOf, last_number}
-use Rattle.schedule.specs.declared.plan.ScheduleLine.{ScheduleLine}
+use Rattle.schedule.specs.declared.schedule.ScheduleLine.{ScheduleLine}
 use Rattle.replay.specs.declared.replay_fault.ReplayCause.{ReplayCause}
 use Rattle.replay.specs.declared.replay_fault.ReplayFault.{ReplayFault}
 use Rattle.replay.specs.declared.replay_fault.ReplayCause.TheVariants.{Memory}

@@ -7,12 +7,12 @@ use Rattle.schedule.specs.declared.fault.ParseFault.{ParseFault}
 use Rattle.schedule.specs.declared.fault.ParseFault.TheVariants as parse_fault
 use Rattle.replay.specs.declared.replay_fault.ReplayCause.{ReplayCause}
 use Rattle.replay.specs.declared.replay_fault.ReplayFault.{ReplayFault}
-use Rattle.replay.specs.declared.replay_fault.ReplayCause.TheVariants.{Schedule, NoSuchMessage, NoSuchNode, FlushLimit, Memory, NotEmpty}
+use Rattle.replay.specs.declared.replay_fault.ReplayCause.TheVariants.{Schedule, NoSuchFrame, NoSuchNode, FlushLimit, Memory, NotEmpty}
 
 -- the number of a cause
 abbrev pub cause_code : ReplayCause → ℕ
 cause_code (Schedule fault) = code_of fault
-cause_code NoSuchMessage = 51
+cause_code NoSuchFrame = 51
 cause_code NoSuchNode = 52
 cause_code FlushLimit = 53
 cause_code Memory = 54
@@ -20,7 +20,7 @@ cause_code NotEmpty = 55
 
 -- a world's fault, as the cause
 abbrev pub cause_of : WorldFault → ReplayCause
-cause_of world_fault.NoSuchMessage = NoSuchMessage
+cause_of world_fault.NoSuchFrame = NoSuchFrame
 cause_of world_fault.NoSuchNode = NoSuchNode
 cause_of world_fault.FlushLimit = FlushLimit
 cause_of world_fault.Memory = Memory

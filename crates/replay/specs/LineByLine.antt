@@ -2,7 +2,7 @@
 use Rattle.std.specs.Prelude.{◌≡◌, List, [], ◌∷◌, ◌++◌}
 use Rattle.schedule.specs.Schedules.{Plan, last_number}
 use Rattle.schedule.specs.declared.action.Action.{Action}
-use Rattle.schedule.specs.declared.plan.ScheduleLine.{ScheduleLine}
+use Rattle.schedule.specs.declared.schedule.ScheduleLine.{ScheduleLine}
 use Rattle.replay.specs.declared.replay_fault.ReplayCause.{ReplayCause}
 use Rattle.replay.specs.declared.replay_fault.ReplayCause.TheVariants.{Memory}
 use Rattle.replay.specs.declared.replay_fault.ReplayFault.{ReplayFault}

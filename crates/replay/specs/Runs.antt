@@ -20,9 +20,9 @@ use Rattle.replay.specs.Transcripts.{transcript_of}
 use Rattle.schedule.specs.declared.action.Action.{Action}
 use Rattle.schedule.specs.declared.action.Action.TheVariants.{Step, Flush, Round}
 use Rattle.schedule.specs.declared.fault.ParseFault.{ParseFault}
-use Rattle.schedule.specs.declared.plan.ScheduleLine.{ScheduleLine}
+use Rattle.schedule.specs.declared.schedule.ScheduleLine.{ScheduleLine}
 use Rattle.replay.specs.declared.replay_fault.ReplayCause.{ReplayCause}
-use Rattle.replay.specs.declared.replay_fault.ReplayCause.TheVariants.{NoSuchMessage, NoSuchNode, FlushLimit, Memory, NotEmpty}
+use Rattle.replay.specs.declared.replay_fault.ReplayCause.TheVariants.{NoSuchFrame, NoSuchNode, FlushLimit, Memory, NotEmpty}
 use Rattle.replay.specs.declared.replay_fault.ReplayFault.{ReplayFault}
 
 -- the transcript of all that happened in a world
@@ -63,7 +63,7 @@ module _ {S : Type 0} (storages : Ghosts (Script S)) where
   -- why a world does not do what a line asks for, and what it is then: as it was, but for the frames that a flush has
   -- delivered, and the steps that a round has made
   abbrev pub IsRefused : Action → WorldState S → ReplayCause → WorldState S → Type 0
-  IsRefused (Step event) old NoSuchMessage new = NamesNoFrame (length old.frames) event × (new ≡ old)
+  IsRefused (Step event) old NoSuchFrame new = NamesNoFrame (length old.frames) event × (new ≡ old)
   IsRefused (Step event) old NoSuchNode new = NamesNoNode (length old.nodes) event × (new ≡ old)
   IsRefused (Step event) old Memory new = NamesWhatIsThere old event × (new ≡ old)
   IsRefused Flush old FlushLimit new = MeetsLimit old new

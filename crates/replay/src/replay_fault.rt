@@ -14,7 +14,7 @@ pub enum ReplayCause {
     /// The line is none of a schedule.
     Schedule(ScheduleFault),
     /// No frame of this number was sent.
-    NoSuchMessage,
+    NoSuchFrame,
     /// The run has no such node. No line that was read from bytes names one.
     NoSuchNode,
     /// A flush delivered as many frames as it may, and one still waits.
@@ -32,7 +32,7 @@ impl ReplayCause {
     {
         match self {
             ReplayCause::Schedule(fault) => fault.code(),
-            ReplayCause::NoSuchMessage => 51,
+            ReplayCause::NoSuchFrame => 51,
             ReplayCause::NoSuchNode => 52,
             ReplayCause::FlushLimit => 53,
             ReplayCause::Memory => 54,
@@ -45,7 +45,7 @@ impl fmt::Display for ReplayCause {
     fn fmt<W: fmt::Write>(&self, f: &mut fmt::Formatter<W>) -> fmt::Result {
         match self {
             ReplayCause::Schedule(fault) => fault.fmt(f),
-            ReplayCause::NoSuchMessage => f.write_str("no frame of this number was sent"),
+            ReplayCause::NoSuchFrame => f.write_str("no frame of this number was sent"),
             ReplayCause::NoSuchNode => f.write_str("the run has no such node"),
             ReplayCause::FlushLimit => f.write_str(
                 "a frame still waits after the most that a flush delivers",
@@ -63,7 +63,7 @@ impl From<WorldFault> for ReplayCause {
 
     fn from(fault: WorldFault) -> ReplayCause {
         match fault {
-            WorldFault::NoSuchMessage => ReplayCause::NoSuchMessage,
+            WorldFault::NoSuchFrame => ReplayCause::NoSuchFrame,
             WorldFault::NoSuchNode => ReplayCause::NoSuchNode,
             WorldFault::FlushLimit => ReplayCause::FlushLimit,
             WorldFault::Memory => ReplayCause::Memory,

@@ -3,7 +3,7 @@ use Rattle.std.proofs.Common.{◌≡◌, ℕ, ◌≤◌, ◌^◌, List, [], ◌�
 use Rattle.schedule.specs.Lines.{NumberedText}
 use Rattle.schedule.specs.Schedules.{Plan, SpellEach, IsScheduleOf}
 use Rattle.schedule.specs.Words.{words_of}
-use Rattle.schedule.specs.declared.plan.ScheduleLine.{ScheduleLine}
+use Rattle.schedule.specs.declared.schedule.ScheduleLine.{ScheduleLine}
 use Rattle.schedule.proofs.FirstLines.{one_size, small_size}
 use Rattle.schedule.proofs.NoSchedule.{heads, tails}
 use Rattle.schedule.proofs.OneAction.{one_action}

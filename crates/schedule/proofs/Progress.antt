@@ -10,7 +10,7 @@ use Rattle.schedule.specs.Table.{IsNodesLine}
 use Rattle.schedule.specs.declared.action.Action.{Action}
 use Rattle.schedule.specs.declared.fault.ParseFault.{ParseFault}
 use Rattle.schedule.specs.declared.fault.ParseFault.TheVariants.{Line, Memory}
-use Rattle.schedule.specs.declared.plan.ScheduleLine.{ScheduleLine}
+use Rattle.schedule.specs.declared.schedule.ScheduleLine.{ScheduleLine}
 use Rattle.schedule.proofs.Spelled.{spelled_faultless}
 
 -- one line more

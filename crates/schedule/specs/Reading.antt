@@ -6,7 +6,7 @@ use Rattle.schedule.specs.Schedules.{ComesNext, SpellEach}
 use Rattle.schedule.specs.Table.{HasFault}
 use Rattle.schedule.specs.declared.fault.ParseFault.{ParseFault}
 use Rattle.schedule.specs.declared.fault.ParseFault.TheVariants.{Line, Memory}
-use Rattle.schedule.specs.declared.plan.ScheduleLine.{ScheduleLine}
+use Rattle.schedule.specs.declared.schedule.ScheduleLine.{ScheduleLine}
 
 -- the first lines of the list were read as these, and the others are left
 pub record AreRead (n : ℕ) (lines left : List NumberedText) (read : List ScheduleLine)

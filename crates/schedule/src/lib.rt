@@ -7,18 +7,18 @@
 #![tactic(auto)]
 
 mod action;
-mod cut;
 mod fault;
+mod first_mark;
 mod forms;
 mod keyword;
 mod laws;
 mod lines;
 mod members;
 mod parse;
-mod plan;
 mod queries;
 mod reading;
 mod rows;
+mod schedule;
 mod submits;
 mod unread;
 mod words;
@@ -28,4 +28,4 @@ pub use fault::{LineFault, ParseFault, ScheduleFault};
 pub use laws::{faulty_is_no_schedule, first_faults_are_one, schedules_are_one};
 pub use members::Members;
 pub use parse::parse_schedule;
-pub use plan::{Schedule, ScheduleLine};
+pub use schedule::{Schedule, ScheduleLine};

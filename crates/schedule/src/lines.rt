@@ -3,7 +3,7 @@
 ghost use Rattle.std.specs.Prelude.{◌≡◌, [], ◌∷◌, Some, filter, MatchOption};
 ghost use Rattle.schedule.specs.Lines.{pieces, numbered, is_filled, line_feed, lines_of};
 
-use super::cut::cut;
+use super::first_mark::cut;
 use std::marker::Model;
 
 /// A line, without its line feed.

@@ -4,8 +4,8 @@ ghost use Rattle.std.specs.Prelude.{◌≡◌, ◌≢◌, ◌<◌, [], ◌∷◌
 ghost use Rattle.schedule.specs.Words.{words_of};
 ghost use Rattle.schedule.specs.WordLists.{period_words, rect_words};
 
-use super::cut::first_end;
 use super::fault::ScheduleFault;
+use super::first_mark::first_end;
 use std::marker::Model;
 
 /// The words of a period.

@@ -303,7 +303,7 @@ fn laws_run_nothing() {
 fn numbers_of_causes(rt: HostRuntime) -> Result<(), Fail> {
     let causes = [
         (ReplayCause::Schedule(ScheduleFault::WordForm), 5),
-        (ReplayCause::NoSuchMessage, 51),
+        (ReplayCause::NoSuchFrame, 51),
         (ReplayCause::NoSuchNode, 52),
         (ReplayCause::FlushLimit, 53),
         (ReplayCause::Memory, 54),

@@ -78,7 +78,7 @@ module _ {S : Type 0} (storages : Ghosts S) (stores : List S) (plan : Plan) wher
       subst (λ (f : Failure). StopsOver storages stores plan f) (sym (used is)) (record { fault = fault; ends = ends; used = is })
   by_cause fault (cause.Schedule which) failure is ends named used line = with_line fault failure ends named line
       (λ e. let both = sym is ∙ e in cc)
-  by_cause fault cause.NoSuchMessage failure is ends named used line = with_line fault failure ends named line
+  by_cause fault cause.NoSuchFrame failure is ends named used line = with_line fault failure ends named line
       (λ e. let both = sym is ∙ e in cc)
   by_cause fault cause.NoSuchNode failure is ends named used line = with_line fault failure ends named line
       (λ e. let both = sym is ∙ e in cc)

@@ -167,11 +167,11 @@ impl<S: Stable> Run<S> {
         ensures err { OnErr result (run_of self.new ≡ run_of self.old) }
 
         // Each fault.
-        ensures no_frame { IsErrOf result WorldFault.NoSuchMessage
+        ensures no_frame { IsErrOf result WorldFault.NoSuchFrame
             ↔ NamesNoFrame (length (run_of self.old).frames) event }
         ensures no_node { IsErrOf result WorldFault.NoSuchNode
             ↔ NamesNoNode (length (run_of self.old).nodes) event }
-        ensures faults { IfErr result (λ f. (f ≡ WorldFault.NoSuchMessage) ⊎ (f ≡ WorldFault.NoSuchNode)
+        ensures faults { IfErr result (λ f. (f ≡ WorldFault.NoSuchFrame) ⊎ (f ≡ WorldFault.NoSuchNode)
             ⊎ (f ≡ WorldFault.Memory)) }
     {
         match event {
@@ -281,9 +281,9 @@ impl<S: Stable> Run<S> {
         ensures delivers { OnOk result (DeliversFrame (⟦<Scripted<S> as Stable>⟧)
             (run_of self.old) frame (run_of self.new)) }
         ensures err { OnErr result (run_of self.new ≡ run_of self.old) }
-        ensures no_frame { IsErrOf result WorldFault.NoSuchMessage
+        ensures no_frame { IsErrOf result WorldFault.NoSuchFrame
             ↔ (length (run_of self.old).frames ≤ frame) }
-        ensures faults { IfErr result (λ f. (f ≡ WorldFault.NoSuchMessage) ⊎ (f ≡ WorldFault.Memory)) }
+        ensures faults { IfErr result (λ f. (f ≡ WorldFault.NoSuchFrame) ⊎ (f ≡ WorldFault.Memory)) }
     {
         let index = self.sent(frame)?;
         self.reserve()?;
@@ -354,9 +354,9 @@ impl<S: Stable> Run<S> {
     fn drop_frame(&mut self, frame: u64) -> Result<(), WorldFault>
         ensures drops { OnOk result (run_of self.new ≡ quiet (without_wait (run_of self.old) frame)) }
         ensures err { OnErr result (run_of self.new ≡ run_of self.old) }
-        ensures no_frame { IsErrOf result WorldFault.NoSuchMessage
+        ensures no_frame { IsErrOf result WorldFault.NoSuchFrame
             ↔ (length (run_of self.old).frames ≤ frame) }
-        ensures faults { IfErr result (λ f. (f ≡ WorldFault.NoSuchMessage) ⊎ (f ≡ WorldFault.Memory)) }
+        ensures faults { IfErr result (λ f. (f ≡ WorldFault.NoSuchFrame) ⊎ (f ≡ WorldFault.Memory)) }
     {
         let index = self.sent(frame)?;
         self.reserve()?;
@@ -489,15 +489,15 @@ impl<S: Stable> Run<S> {
     fn sent(&self, frame: u64) -> Result<usize, WorldFault>
         ensures found { IfOk result (λ index. (index ≡ frame) × (index < vec_len self.now.frames)) }
         ensures no_frame { IfErr result (λ f.
-            (f ≡ WorldFault.NoSuchMessage) × (vec_len self.now.frames ≤ frame)) }
+            (f ≡ WorldFault.NoSuchFrame) × (vec_len self.now.frames ≤ frame)) }
     {
         let Ok(index) = usize::try_from(frame) else {
-            return Err(WorldFault::NoSuchMessage);
+            return Err(WorldFault::NoSuchFrame);
         };
         if index < self.frames.len() {
             Ok(index)
         } else {
-            Err(WorldFault::NoSuchMessage)
+            Err(WorldFault::NoSuchFrame)
         }
     }
 

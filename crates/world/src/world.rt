@@ -150,11 +150,11 @@ impl<S: Stable> World<S> {
         ensures err { OnErr result (world_of self.new ≡ world_of self.old) }
 
         // Each fault.
-        ensures no_frame { IsErrOf result WorldFault.NoSuchMessage
+        ensures no_frame { IsErrOf result WorldFault.NoSuchFrame
             ↔ NamesNoFrame (length (world_of self.old).frames) event }
         ensures no_node { IsErrOf result WorldFault.NoSuchNode
             ↔ NamesNoNode (length (world_of self.old).nodes) event }
-        ensures faults { IfErr result (λ f. (f ≡ WorldFault.NoSuchMessage) ⊎ (f ≡ WorldFault.NoSuchNode)
+        ensures faults { IfErr result (λ f. (f ≡ WorldFault.NoSuchFrame) ⊎ (f ≡ WorldFault.NoSuchNode)
             ⊎ (f ≡ WorldFault.Memory)) }
 
         // Whatever came of it.

@@ -1,6 +1,6 @@
 use Rattle.std.proofs.Common.{◌==◌}
 use Rattle.schedule.proofs.Cuts.{slice_split-at, slice_split-whole}
-use Rattle.schedule.proofs.cut.cut.Goals as goal
+use Rattle.schedule.proofs.first_mark.cut.Goals as goal
 
 pub returns-then-end-bytes : goal.returns-then-end-bytes
 returns-then-end-bytes c =

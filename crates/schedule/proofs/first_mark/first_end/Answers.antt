@@ -1,6 +1,6 @@
 use Rattle.std.proofs.Common.{◌==◌}
 use Rattle.schedule.proofs.Cuts.{position_or_end}
-use Rattle.schedule.proofs.cut.first_end.Goals as goal
+use Rattle.schedule.proofs.first_mark.first_end.Goals as goal
 
 pub returns : goal.returns
 returns c =
