@@ -4,19 +4,27 @@ use crate::calls::{fill, is_filled, keeps_records, put, vote};
 use sqlite::{Connection, Error, FileStore, Files, MemStore, Options, params};
 use sqlite_disk::{Disk, Fuse, Memory};
 use sqlstable::SqlStable;
-use stable::StableFault;
+use stable::{Stable, StableFault};
 use std::alloc::Global;
 use std::fs;
 
-// A storage over files, with what `fill` puts.
+// Drops a storage over files, which isn't closed.
 //
-// A storage over files is handed from one function to the next, and dropped by few: each drop of one is checked.
+// Whoever has such a storage lends it, or hands it on, to here at last: each function that drops one has that checked.
+fn leave<D: Disk + Drop>(_storage: SqlStable<FileStore<D>>) {}
+
+// A storage over files, with what `fill` puts.
 fn filled<D: Disk + Drop>(
     alloc: Global,
     mut storage: SqlStable<FileStore<D>>,
 ) -> Result<SqlStable<FileStore<D>>, StableFault> {
-    fill(alloc, &mut storage)?;
-    Ok(storage)
+    match fill(alloc, &mut storage) {
+        Ok(()) => Ok(storage),
+        Err(fault) => {
+            leave(storage);
+            Err(fault)
+        }
+    }
 }
 
 // Whether a storage over files holds what `fill` puts. It is dropped, and not closed.
@@ -24,7 +32,9 @@ fn was_filled<D: Disk + Drop>(
     alloc: Global,
     mut storage: SqlStable<FileStore<D>>,
 ) -> Result<bool, StableFault> {
-    is_filled(alloc, &mut storage)
+    let found = is_filled(alloc, &mut storage);
+    leave(storage);
+    found
 }
 
 // Whether a storage in memory keeps what is put, and can count its failures.
@@ -69,16 +79,23 @@ fn over_a_fuse(
 }
 
 // The fault of the first of 200 puts that isn't done.
-fn first_fault<D: Disk + Drop>(
-    alloc: Global,
-    mut storage: SqlStable<FileStore<D>>,
-) -> Option<StableFault> {
+fn fault_of_puts<S: Stable>(alloc: Global, storage: &mut S) -> Option<StableFault> {
     for slot in 0..200 {
-        if let Err(fault) = put(alloc, &mut storage, vote(slot), b"a") {
+        if let Err(fault) = put(alloc, storage, vote(slot), b"a") {
             return Some(fault);
         }
     }
     None
+}
+
+// The same of a storage over files.
+fn first_fault<D: Disk + Drop>(
+    alloc: Global,
+    mut storage: SqlStable<FileStore<D>>,
+) -> Option<StableFault> {
+    let fault = fault_of_puts(alloc, &mut storage);
+    leave(storage);
+    fault
 }
 
 fn fault_over_a_fuse(alloc: Global) -> Result<Option<StableFault>, StableFault> {
