@@ -5,7 +5,7 @@ ghost use Rattle.benchmarks.specs.Tasks.{name_of, scene_name, point_name, query_
 ghost use Rattle.benchmarks.specs.Tasks.{IsReadAs, Names, Asks};
 
 /// What is timed.
-#[derive(Clone, Copy, Debug, PartialEq, Eq)]
+#[derive(Clone, Copy)]
 pub enum Work {
     /// What is done with a moving point of so many points.
     Scene(SceneWork),
@@ -14,7 +14,7 @@ pub enum Work {
 }
 
 /// What is done with a moving point of so many points.
-#[derive(Clone, Copy, Debug, PartialEq, Eq)]
+#[derive(Clone, Copy)]
 pub enum SceneWork {
     /// A question of one moving point.
     Point(PointWork),
@@ -33,7 +33,7 @@ pub enum SceneWork {
 }
 
 /// What is asked of one moving point.
-#[derive(Clone, Copy, Debug, PartialEq, Eq)]
+#[derive(Clone, Copy)]
 pub enum PointWork {
     /// A value at an instant.
     ValueAt,
@@ -56,7 +56,7 @@ pub enum PointWork {
 }
 
 /// What a full database of moving points is asked, each round another one of them.
-#[derive(Clone, Copy, Debug, PartialEq, Eq)]
+#[derive(Clone, Copy)]
 pub enum QueryWork {
     /// Its value at an instant.
     At,
@@ -79,7 +79,7 @@ pub enum QueryWork {
 }
 
 /// What is done to a full database of moving points.
-#[derive(Clone, Copy, Debug, PartialEq, Eq)]
+#[derive(Clone, Copy)]
 pub enum ApplyWork {
     /// Each round puts another known one.
     Put,
@@ -90,7 +90,7 @@ pub enum ApplyWork {
 }
 
 /// A message that is spelled or read. Each sequence that it puts has as many instants as a request may put.
-#[derive(Clone, Copy, Debug, PartialEq, Eq)]
+#[derive(Clone, Copy)]
 pub enum Sent {
     /// The smallest message of a campaign.
     Prepare,
@@ -103,7 +103,7 @@ pub enum Sent {
 }
 
 /// What is asked of a part of a node.
-#[derive(Clone, Copy, Debug, PartialEq, Eq)]
+#[derive(Clone, Copy)]
 pub enum PartWork {
     /// Votes are told to a learner that has learnt so many slots.
     Tellings,
@@ -120,7 +120,7 @@ pub enum PartWork {
 }
 
 /// A work, how large that is on which it is done, and how many times.
-#[derive(Clone, Copy, Debug)]
+#[derive(Clone, Copy)]
 pub struct Task {
     pub work: Work,
     /// How many points a moving point has, or how many things a part of a node holds.

@@ -7,7 +7,7 @@ ghost use Rattle.schedule.specs.declared.keyword.Operation.{Operation};
 ghost use Rattle.schedule.specs.declared.keyword.Question.{Question};
 
 /// A word that a line begins with and that alone says what the line is.
-#[derive(Clone, Copy, Debug, PartialEq, Eq)]
+#[derive(Clone, Copy)]
 pub enum Keyword {
     Nodes,
     Deliver,
@@ -21,7 +21,7 @@ pub enum Keyword {
 }
 
 /// The word after `submit NODE CLIENT NUMBER`. It says what a client asks for.
-#[derive(Clone, Copy, Debug, PartialEq, Eq)]
+#[derive(Clone, Copy)]
 pub enum Operation {
     Put,
     Append,
@@ -29,7 +29,7 @@ pub enum Operation {
 }
 
 /// The word after `query NODE`. It says what the node is asked.
-#[derive(Clone, Copy, Debug, PartialEq, Eq)]
+#[derive(Clone, Copy)]
 pub enum Question {
     At,
     Cut,

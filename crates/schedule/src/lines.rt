@@ -7,7 +7,7 @@ use super::first_mark::cut;
 use std::marker::Model;
 
 /// A line, without its line feed.
-#[derive(Clone, Copy, Debug)]
+#[derive(Clone, Copy)]
 pub(crate) struct Line<'a> {
     /// Which line of the file it is, counted from 1.
     pub number: u64,
@@ -15,7 +15,7 @@ pub(crate) struct Line<'a> {
 }
 
 /// The lines that were not read yet.
-#[derive(Debug, Drop)]
+#[derive(Drop)]
 pub(crate) struct Lines<'a> {
     rest: Option<&'a [u8]>,
     /// The number of the first of them.

@@ -19,7 +19,7 @@ use store::Op;
 use wire::{NodeId, Nodes};
 
 /// A client asks a node to put the feature that a document stands for.
-#[derive(Debug, Drop)]
+#[derive(Drop)]
 pub(crate) struct Putting<'a> {
     pub node: NodeId,
     pub client: u8,
@@ -29,7 +29,7 @@ pub(crate) struct Putting<'a> {
 }
 
 /// A node leads a round of the members that are named.
-#[derive(Debug, Drop)]
+#[derive(Drop)]
 pub(crate) struct Rounding<'a> {
     pub node: NodeId,
     /// All that follows the node and one blank.
@@ -37,7 +37,7 @@ pub(crate) struct Rounding<'a> {
 }
 
 /// What a line spells, before what wants memory is read.
-#[derive(Debug, Drop)]
+#[derive(Drop)]
 pub(crate) enum Unread<'a> {
     /// Nothing of the line does.
     Whole(Action),

@@ -9,14 +9,14 @@ use super::first_mark::first_end;
 use std::marker::Model;
 
 /// The words of a period.
-#[derive(Clone, Copy, Debug)]
+#[derive(Clone, Copy)]
 pub(crate) struct PeriodWords<'a> {
     pub begin: &'a [u8],
     pub end: &'a [u8],
 }
 
 /// The words of a rectangle.
-#[derive(Clone, Copy, Debug)]
+#[derive(Clone, Copy)]
 pub(crate) struct RectWords<'a> {
     pub x0: &'a [u8],
     pub y0: &'a [u8],
@@ -25,7 +25,7 @@ pub(crate) struct RectWords<'a> {
 }
 
 /// The words that were not read yet.
-#[derive(Debug, Drop)]
+#[derive(Drop)]
 pub(crate) struct Words<'a> {
     rest: Option<&'a [u8]>,
 }
