@@ -1,5 +1,7 @@
 -- clap's parse succeeds only on words of the forms, and on these only want of memory refuses it.
 use Rattle.std.proofs.Common.{rules, ◌≡◌, ◌≢◌, ◌∙◌, ap, ap₂, refl, sym, subst, codes, true, map, string_bytes, List, [], ◌∷◌, None, Some}
+use Rattle.std.proofs.Common.{arith}
+use Rattle.std.proofs.lemmas.Grind.{common_steps, elements}
 use Rattle.clap.specs.Words.{HasKind, Text, is_simple, kind_of, subcommand_of, subcommand_rows_of, takes}
 use Rattle.clap.specs.Faults.{fault_of, is_simple_and_free}
 use Rattle.clap.proofs.OnLiterals.{clap_on_literals}
@@ -79,3 +81,18 @@ pub returns-in-Err-clause-dash : goal.returns-in-Err-clause-dash
 returns-in-Err-clause-dash c = λ work words_are.
     c.fault_of_refusal.ensures.memory
     (c.in-Err.ensures.passes (ap₂ takes c.in_ok-command.ensures words_are ∙ is_taken work))
+
+pub returns-then-is_empty-clause-work : goal.returns-then-is_empty-clause-work
+returns-then-is_empty-clause-work c = grind (arith, common_steps)
+
+pub returns-then-is_empty-clause-source : goal.returns-then-is_empty-clause-source
+returns-then-is_empty-clause-source c = grind (arith, common_steps)
+
+pub returns-then-is_empty-clause-folder : goal.returns-then-is_empty-clause-folder
+returns-then-is_empty-clause-folder c = grind (arith, common_steps)
+
+pub returns-then-is_empty-clause-dash : goal.returns-then-is_empty-clause-dash
+returns-then-is_empty-clause-dash c = grind (arith, common_steps)
+
+pub returns-in-Ok-clause-source : goal.returns-in-Ok-clause-source
+returns-in-Ok-clause-source c = grind (arith, elements)

@@ -1,4 +1,5 @@
 use Rattle.std.proofs.Common.{refl, arith}
+use Rattle.std.proofs.lemmas.Grind.{common_steps}
 use Rattle.serde_json.specs.View.{view}
 use Rattle.mfjson.specs.Document.{SaysInstant}
 use Rattle.mfjson.specs.Faults.{IsInstantText}
@@ -20,3 +21,6 @@ loop-i-preserved c =
     let says = (c.in-Some.ensures c.in-Some.instant).1 refl in
     rw c.in_ok-push.ensures.items (read_more SaysInstant view c.args.datetimes.now c.loop-i.instants.items c.loop-i.i _ _ (omega arith)
     c.loop-i.invariant c.index-datetimes-i.is says)
+
+pub returns : goal.returns
+returns c = grind (arith, common_steps)

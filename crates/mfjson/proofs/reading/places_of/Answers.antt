@@ -1,4 +1,5 @@
 use Rattle.std.proofs.Common.{refl, arith}
+use Rattle.std.proofs.lemmas.Grind.{common_steps}
 use Rattle.serde_json.specs.View.{view}
 use Rattle.mfjson.specs.Faults.{IsPlace, SaysCoordinates}
 use Rattle.mfjson.proofs.Lists.{fails_first, read_more}
@@ -16,3 +17,6 @@ pub loop-i-preserved : goal.loop-i-preserved
 loop-i-preserved c =
     rw c.in_ok-push.ensures.items (read_more SaysCoordinates view c.args.coordinates.now c.loop-i.places.items c.loop-i.i _ _ (omega arith)
     c.loop-i.invariant c.index-coordinates-i.is c.in-Some.ensures)
+
+pub returns : goal.returns
+returns c = grind (arith, common_steps)

@@ -1,4 +1,5 @@
 use Rattle.std.proofs.Common.{[], ◌∷◌, ◌++◌, refl, ap, sym, subst, ◌∙◌, arith}
+use Rattle.std.proofs.lemmas.Grind.{common_steps}
 use Rattle.serde_json.specs.Data.{string}
 use Rattle.mfjson.specs.Document.{WritesWhen}
 use Rattle.mfjson.proofs.AsciiTexts.{datetime_as_it_is}
@@ -17,3 +18,6 @@ loop-point-preserved c =
     one_more WritesWhen c.args.points.now c.loop-point.point-index c.args.text.now.items c.loop-point.text.items _ (string e.0) point
     (omega arith) c.loop-point.invariant there
     (e.2 ∙ ap (λ s. c.loop-point.text.items ++ 44 ∷ 34 ∷ (s ++ 34 ∷ [])) (sym (datetime_as_it_is e.0 point.t e.1)))
+
+pub returns : goal.returns
+returns c = grind (arith, common_steps)

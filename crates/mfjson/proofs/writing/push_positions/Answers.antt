@@ -1,4 +1,5 @@
 use Rattle.std.proofs.Common.{◌∷◌, ◌++◌, refl, ap, subst, ◌∙◌, arith}
+use Rattle.std.proofs.lemmas.Grind.{common_steps}
 use Rattle.mfjson.specs.Document.{WritesWhere, position}
 use Rattle.mfjson.proofs.Pieces.{none_yet, one_more, position_spelled}
 use Rattle.mfjson.proofs.writing.push_positions.Goals as goal
@@ -14,3 +15,6 @@ loop-point-preserved c =
     one_more WritesWhere c.args.points.now c.loop-point.point-index c.args.text.now.items c.loop-point.text.items _ written point
     (omega arith) c.loop-point.invariant there
     (c.in_ok-push_position.ensures ∙ ap (λ s. c.loop-point.text.items ++ 44 ∷ s) (position_spelled point))
+
+pub returns : goal.returns
+returns c = grind (arith, common_steps)

@@ -1,4 +1,5 @@
-use Rattle.std.proofs.Common.{◌≡◌, ◌+◌, length, rules}
+use Rattle.std.proofs.Common.{◌≡◌, ◌+◌, length, rules, arith}
+use Rattle.std.proofs.lemmas.Grind.{elements}
 use Rattle.tpoint.proofs.PlaceLemmas.{stands_at}
 use Rattle.tpoint.specs.Moving.{OnLeg, vertex}
 use Rattle.tpoint.specs.Pieces.{AtPoint, HeldUntil}
@@ -80,3 +81,9 @@ returns-else-points-eq1 c =
     let ps = c.args.points.now in
     let many : length ps ≡ 1 → ⊥ = search rules in
     rw c.in-Linear.is (answers_nothing c.args.question _ _ _ (no_leg ps c.args.i c.if-i-points-2.false many))
+
+pub held-requires : goal.held-requires
+held-requires c = grind (arith, elements)
+
+pub leg-requires-clause-later : goal.leg-requires-clause-later
+leg-requires-clause-later c = grind (arith, elements)

@@ -1,5 +1,6 @@
 use Rattle.std.proofs.Common.{◌≢◌, ◌∙◌, sym, arith, rules}
 use Rattle.std.proofs.lemmas.Bool.{eqb-false}
+use Rattle.std.proofs.lemmas.Grind.{elements}
 use Rattle.tpoint.specs.declared.interp.Interp.TheVariants.{Discrete}
 use Rattle.restrict.proofs.InsideLemmas.{begin_not_listed, first_added, none_listed}
 use Rattle.restrict.proofs.cutting.at_begin.Goals.{in_default-via-then-inside-lt1, in_default-via-in-len1-up+else-eq}
@@ -18,3 +19,6 @@ returns-in_default-2 c =
           (λ e. other (e ∙ sym same))
     ])
     goes_on c.value_at.ensures
+
+pub returns-in-len1-up : goal.returns-in-len1-up
+returns-in-len1-up c = grind (arith, elements)

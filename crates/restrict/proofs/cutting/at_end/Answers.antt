@@ -1,5 +1,6 @@
 use Rattle.std.proofs.Common.{◌≢◌, ◌∙◌, ◌-◌, length, sym, arith, rules}
 use Rattle.std.proofs.lemmas.Bool.{eqb-false}
+use Rattle.std.proofs.lemmas.Grind.{elements}
 use Rattle.tpoint.specs.declared.interp.Interp.TheVariants.{Discrete}
 use Rattle.restrict.proofs.InsideLemmas.{end_not_listed, last_added, none_listed}
 use Rattle.restrict.proofs.cutting.at_end.Goals.{in_default-via-then-inside-lt1, in_default-via-in-len1-up+else-eq}
@@ -21,3 +22,6 @@ returns-in_default-3 c =
     ])
     (λ e. apart (c.begin.ensures.value ∙ e ∙ sym same))
     goes_on c.value_up_to_end.ensures
+
+pub returns-in-len1-up : goal.returns-in-len1-up
+returns-in-len1-up c = grind (arith, elements)

@@ -48,3 +48,6 @@ loop-place-preserved c =
 
 pub returns : goal.returns
 returns c = grind (arith, common_steps)
+
+pub overlaps-requires : goal.overlaps-requires
+overlaps-requires c = grind (arith, common_steps)

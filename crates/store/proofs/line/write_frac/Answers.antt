@@ -7,3 +7,6 @@ returns-clause-start c = grind (arith, common_steps)
 
 pub returns-clause-written : goal.returns-clause-written
 returns-clause-written c = grind (arith, common_steps)
+
+pub returns-clause-short : goal.returns-clause-short
+returns-clause-short c = grind (arith, common_steps)

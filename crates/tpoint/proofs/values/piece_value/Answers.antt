@@ -1,4 +1,5 @@
-use Rattle.std.proofs.Common.{◌≡◌, ◌+◌, ◌<◌, ◌≤◌, length, rules}
+use Rattle.std.proofs.Common.{◌≡◌, ◌+◌, ◌<◌, ◌≤◌, length, rules, arith}
+use Rattle.std.proofs.lemmas.Grind.{elements}
 use Rattle.tpoint.proofs.PlaceLemmas.{stands_at}
 use Rattle.tpoint.specs.Moving.{OnLeg, moment, vertex}
 use Rattle.tpoint.specs.Pieces.{AtPoint, HeldUntil}
@@ -74,3 +75,6 @@ returns-else-last-2 c =
     let f = stands_at ps (c.args.i + 1) q within c.index-points-i-else-last-2-3.is in
     rw c.in-Linear.is (value_same (OnLeg (vertex p) (vertex q) t) _ _ (leg_to ps c.args.i p q e f t)
     (leg_from ps c.args.i p q within e f t) c.on_leg.ensures)
+
+pub on_leg-requires-clause-later : goal.on_leg-requires-clause-later
+on_leg-requires-clause-later c = grind (arith, elements)

@@ -1,6 +1,7 @@
 use Rattle.std.proofs.Common.{◌≡◌, ◌∷◌, [], length, map, refl, sym, ap, subst, ◌∙◌, append_assoc, arith, rules, vec_len, ℕ}
 use Rattle.std.proofs.lemmas.List.{length-append, length-map}
 use Rattle.std.proofs.lemmas.Result.{err_from_is_err_and}
+use Rattle.std.proofs.lemmas.Grind.{common_steps}
 use Rattle.std.specs.Vec.Iter.{into_iter_items}
 use Rattle.stable.specs.Storages.{scripted}
 use Rattle.node.specs.Seen.{state_of}
@@ -57,3 +58,12 @@ returns-clause-started g c =
     (at.invariant.parts ∙ c.into_iter-store-iterator.ensures.into_iter_gives.0) at.invariant.counted c.in-None.ensures.steps.0
     (search rules) c.requires.one_each)
     at.invariant.started
+
+pub overflow_cast-len : goal.overflow_cast-len
+overflow_cast-len g c = grind (arith, common_steps)
+
+pub returns-clause-few : goal.returns-clause-few
+returns-clause-few g c = grind (arith, common_steps)
+
+pub returns-clause-over : goal.returns-clause-over
+returns-clause-over g c = grind (arith, common_steps)

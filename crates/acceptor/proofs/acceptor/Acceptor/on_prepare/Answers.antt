@@ -1,17 +1,36 @@
-use Rattle.std.proofs.Common.{rules, ◌≡◌, None, refl, arith}
-use Rattle.acceptor.specs.Accepting.{refusing, AnswersPrepare, TellsFrom}
+use Rattle.std.proofs.Common.{◌≡◌, ◌==◌, ◌≤◌, ℕ, Some, None, Bool, true, false, Ok, Err, IsErrOf, not, inl, inr, refl, sym, ap}
+use Rattle.std.proofs.Common.{rules, arith}
+use Rattle.std.proofs.lemmas.Result.{err_from_is_err_and}
+use Rattle.synod.specs.Ballots.{rank, rank_of}
+use Rattle.stable.specs.declared.key.Key.TheVariants as key
+use Rattle.acceptor.specs.Accepting.{refusing, prepare_write}
+use Rattle.acceptor.specs.Spelling.{ballot_bytes}
 use Rattle.acceptor.specs.State.{accepting_of}
-use Rattle.acceptor.specs.declared.answer.Answer.TheVariants.{Promise}
+use Rattle.acceptor.specs.declared.answer.Answer.TheVariants.{Nack}
 use Rattle.acceptor.proofs.RecordLemmas.{taken_is_above}
 use Rattle.acceptor.proofs.acceptor.Acceptor.on_prepare.Goals as goal
+use Rattle.acceptor.proofs.acceptor.Acceptor.on_prepare.Goals.{then-ne+in_ok-write_promise, else-ne}
+
+turned : (b c : Bool) → b ≡ not c → c ≡ not b
+turned b true is = rw is refl
+turned b false is = rw is refl
+
+from_zero : (n : ℕ) → 0 ≤ n
+from_zero n = omega arith
+
+-- what succeeded failed with no fault, and a fault is the same of any result
+no_fault : {T E : Type 0} (x : T) (e : E) → ¬ IsErrOf (Ok x) e
+no_fault x e is = absurd (cc)
+
+same_fault : {T U E : Type 0} (e d : E) → IsErrOf {T = T} (Err e) d → IsErrOf {T = U} (Err e) d
+same_fault e d is = let same : e ≡ d = cc in rw same refl
 
 -- no vote is of a ballot above the one that is promised now
 pub invariant_of-self : goal.invariant_of-self
 invariant_of-self g c = record {
   bounded = λ s v held.
       let promise = c.args.self.now.promise in
-      let taken : refusing promise c.args.ballot ≡ None = search rules in
-      let above = taken_is_above promise c.args.ballot taken in
+      let above = taken_is_above promise c.args.ballot (sym c.in_default.ensures.value) in
       let below = c.args.self.now.bounded s v held in
       omega arith;
 }
@@ -20,22 +39,77 @@ invariant_of-self g c = record {
 pub returns : goal.returns
 returns g c =
     let a = accepting_of c.args.self.now in
-    let taken : refusing a.promise c.args.ballot ≡ None = search rules in
-    let told : TellsFrom a c.args.ballot c.args.first (Promise c.in_ok-promise.promise) = record {
-      promise = c.in_ok-promise.promise;
-      is = refl;
-      from_the_floor = omega arith;
-      tells = search rules;
-    } in
-    let answer : AnswersPrepare a c.args.ballot c.args.first (Promise c.in_ok-promise.promise) = rw taken told in
-    search (rules, answer)
+    let taken : refusing a.promise c.args.ballot ≡ None = sym c.in_default.ensures.value in record {
+      answer = rw taken (record {
+        promise = c.in_ok-promise.promise;
+        is = refl;
+        from_the_floor = from_zero _;
+        tells = c.in_ok-promise.ensures.tells;
+      });
+      state = rw taken refl;
+      written = elim c.if-ne.branch [
+        | then-ne+in_ok-write_promise w ↦
+            let other : true ≡ not (rank c.args.ballot == rank_of a.promise) = search rules in
+            rw (taken, turned _ _ other, w.storage-is) w.in_ok-write_promise.ensures.written
+        | else-ne w ↦
+            let same : false ≡ not (rank c.args.ballot == rank_of a.promise) = search rules in
+            rw (taken, turned _ _ same, w.storage-is) (g.met.S.Stable.laws.reads_none _)
+      ];
+      taken = tt;
+      wanted = tt;
+      device = λ is. absurd (no_fault _ _ is);
+      memory = λ is. absurd (no_fault _ _ is);
+      err_state = tt;
+      not_damaged = λ is. no_fault _ _ is;
+    }
 
--- a way out is answered whole: its clauses are found together
+-- a ballot that is refused is answered without a write
 pub returns-in-Some : goal.returns-in-Some
-returns-in-Some g c = search rules
+returns-in-Some g c =
+    let refused : refusing c.args.self.now.promise c.args.ballot ≡ Some c.in-Some.promised = sym c.in-Some.ensures.value in record {
+      answer = rw refused (ap Nack c.refusal.ensures);
+      state = rw refused refl;
+      written = rw refused (g.met.S.Stable.laws.reads_none _);
+      taken = tt;
+      wanted = tt;
+      device = λ is. absurd (no_fault _ _ is);
+      memory = λ is. absurd (no_fault _ _ is);
+      err_state = tt;
+      not_damaged = λ is. no_fault _ _ is;
+    }
 
+-- memory is wanting where a vote is to be told
 pub returns-in_err-promise : goal.returns-in_err-promise
-returns-in_err-promise g c = search rules
+returns-in_err-promise g c =
+    let exit = err_from_is_err_and c.from_residual.result c.from_residual.ensures.1 in
+    rw (exit.1, exit.2) (record {
+      answer = tt;
+      state = tt;
+      written = tt;
+      taken = sym c.in_default.ensures.value;
+      wanted = inl c.in_err-promise.ensures.stands;
+      device = λ is. absurd (cc);
+      memory = λ _. g.met.S.Stable.laws.reads_none _;
+      err_state = refl;
+      not_damaged = λ is. absurd (cc);
+    })
 
+-- the write failed
 pub returns-in_err-write_promise : goal.returns-in_err-write_promise
-returns-in_err-write_promise g c = search rules
+returns-in_err-write_promise g c =
+    let exit = err_from_is_err_and c.from_residual-in_err-write_promise.result c.from_residual-in_err-write_promise.ensures.1 in
+    let a = accepting_of c.args.self.now in
+    let taken : refusing a.promise c.args.ballot ≡ None = sym c.in_default.ensures.value in
+    let other : true ≡ not (rank c.args.ballot == rank_of a.promise) = search rules in
+    let write : prepare_write a c.args.ballot ≡ Some (key.Promise, ballot_bytes c.args.ballot) = rw (taken, turned _ _ other) refl in
+    rw (exit.1, exit.2) (record {
+      answer = tt;
+      state = tt;
+      written = tt;
+      taken = taken;
+      wanted = inr (rw write refl);
+      device = λ is. rw write (c.in_err-write_promise.ensures.device (same_fault _ _ is));
+      memory = λ is. c.in_err-write_promise.ensures.memory (same_fault _ _ is);
+      err_state = refl;
+      not_damaged = λ is. c.in_err-write_promise.ensures.not_damaged (same_fault _ _ is);
+    })

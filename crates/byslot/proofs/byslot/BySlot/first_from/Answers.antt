@@ -1,4 +1,5 @@
 use Rattle.std.proofs.Common.{◌≤◌, arith, rules}
+use Rattle.std.proofs.lemmas.Grind.{elements}
 use Rattle.std.specs.BTreeMap.{get}
 use Rattle.std.specs.Ordering.{nat_cmp}
 use Rattle.byslot.specs.Values.{in_row}
@@ -14,3 +15,12 @@ returns g c =
 
 pub loop-value-init : goal.loop-value-init
 loop-value-init g c = search rules
+
+pub returns-in-Some-Some : goal.returns-in-Some-Some
+returns-in-Some-Some g c = grind (arith, elements)
+
+pub returns-in-None : goal.returns-in-None
+returns-in-None g c = grind (arith, elements)
+
+pub loop-value-preserved : goal.loop-value-preserved
+loop-value-preserved g c = grind (arith, elements)

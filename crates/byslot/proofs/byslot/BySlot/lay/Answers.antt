@@ -1,4 +1,5 @@
-use Rattle.std.proofs.Common.{rules, ◌≡◌, ◌<◌, ◌++◌, ◌∷◌, [], length, Some}
+use Rattle.std.proofs.Common.{rules, ◌≡◌, ◌<◌, ◌++◌, ◌∷◌, [], length, Some, arith}
+use Rattle.std.proofs.lemmas.Grind.{elements}
 use Rattle.std.specs.BTreeMap.{get}
 use Rattle.std.specs.Ordering.{nat_cmp}
 use Rattle.byslot.proofs.ValueLemmas.{row_next, get-updated}
@@ -12,3 +13,6 @@ returns-clause-stands g c =
     let longer : c.push.new.self.items ≡ self.row.items ++ Some c.args.value ∷ [] = search rules in
     row_next self.row.items c.push.new.self.items (get nat_cmp self.others) (get nat_cmp c.remove-before.new.self) c.args.slot
     (Some c.args.value) in_log longer next (get-updated self.others c.remove-before.new.self c.args.slot _ c.remove-before.ensures.updates)
+
+pub returns-clause-before : goal.returns-clause-before
+returns-clause-before g c = grind (arith, elements)

@@ -1,3 +1,5 @@
+use Rattle.std.proofs.Common.{arith}
+use Rattle.std.proofs.lemmas.Grind.{common_steps}
 use Rattle.world.specs.Seen.{world_of}
 use Rattle.cluster.specs.Indexes.{spellings}
 use Rattle.cluster.proofs.Indexing.{new_indexes, same_indexes, not_there, entered_alone}
@@ -18,3 +20,6 @@ invariant_of-self-2 c = record {
       (not_there _ c.contains_key.result c.contains_key.ensures c.if-contains_key.false)
       (entered_alone c.in_ok-bytes.bytes c.args.self.now.indexed c.args.self.now.numbers c.insert.new.self c.in_ok-insert.ensures.updates);
 }
+
+pub invariant_of-self : goal.invariant_of-self
+invariant_of-self c = grind (arith, common_steps)

@@ -1,4 +1,5 @@
-use Rattle.std.proofs.Common.{◌≡◌, ◌∙◌, ◌++◌, ◌∷◌, [], ap, subst, sym, true, IfSome, is_ok}
+use Rattle.std.proofs.Common.{◌≡◌, ◌∙◌, ◌++◌, ◌∷◌, [], ap, subst, sym, true, refl, ◌<◌, ℕ, Option, Some, None, IfSome, is_ok}
+use Rattle.std.proofs.lemmas.Option.{slice_get_within}
 use Rattle.learner.specs.Learning.{told_too}
 use Rattle.learner.specs.Tallies.{told_in}
 use Rattle.learner.proofs.TallyLemmas.{decides_there, decides_not_there, pushed_or_not, pushed_told, read_there, revised_apart}
@@ -102,3 +103,29 @@ returns-in_err-push-in-None-place-clause-first c =
     where_refused c.from_residual-in_err-push-in-None-place.result
     (told_by_none c.args.self.now.tallies.items c.args.ballot c.args.command.now c.position-place.result c.position-place.ensures
     c.in-None-place.is)
+
+-- the place that was found is one of the list
+in_list : (o : Option ℕ) (n : ℕ) → ((i : ℕ) → o ≡ Some i → i < n) → IfSome o (λ i. i < n)
+in_list (Some i) n within = within i refl
+in_list None n within = tt
+
+pub voters_with-voters-requires : goal.voters_with-voters-requires
+voters_with-voters-requires c = in_list c.position-place.result _ (λ i is.
+    let found = c.position-place.ensures.found i is in slice_get_within c.args.self.now.tallies.items i found.0 found.1)
+
+pub take-requires : goal.take-requires
+take-requires c =
+    let found = c.position-place.ensures.found c.in-Some.place c.in-Some.is in
+    slice_get_within c.args.self.now.tallies.items c.in-Some.place found.0 found.1
+
+pub index_mut-requires : goal.index_mut-requires
+index_mut-requires c =
+    let found = c.position-place.ensures.found c.in-Some-place.place c.in-Some-place.is in
+    subst (λ (n : ℕ). c.in-Some-place.place < n) (sym c.args.self.now.tallies.ok.0)
+    (slice_get_within c.args.self.now.tallies.items c.in-Some-place.place found.0 found.1)
+
+pub returns-in_err-share-in-None-clause-first : goal.returns-in_err-share-in-None-clause-first
+returns-in_err-share-in-None-clause-first c =
+    where_refused c.from_residual.result
+    (told_by_none c.args.self.now.tallies.items c.args.ballot c.args.command.now c.position-place.result c.position-place.ensures
+    c.in-None.is)

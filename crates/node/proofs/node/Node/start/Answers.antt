@@ -1,11 +1,18 @@
-use Rattle.std.proofs.Common.{rules}
+use Rattle.std.proofs.Common.{refl, subst}
+use Rattle.std.proofs.lemmas.Option.{same_Some}
+use Rattle.minds.specs.Loading.{IsMindOf}
+use Rattle.minds.specs.Minds.{Mind}
 use Rattle.node.proofs.node.Node.start.Goals as goal
 
 pub returns-in-Ok-clause-member : goal.returns-in-Ok-clause-member
-returns-in-Ok-clause-member g c = search rules
+returns-in-Ok-clause-member g c = record {
+  number = refl;
+  of_all = refl;
+  up = λ m up. subst (λ (x : Mind). IsMindOf c.args.id c.args.nodes x) (same_Some _ m up) c.in-Ok.ensures.own;
+}
 
 pub returns-in-Ok-clause-loads : goal.returns-in-Ok-clause-loads
-returns-in-Ok-clause-loads g c = search rules
+returns-in-Ok-clause-loads g c = λ honest. c.in-Ok.ensures.loads honest
 
 pub returns-in-Ok-clause-fresh : goal.returns-in-Ok-clause-fresh
-returns-in-Ok-clause-fresh g c = search rules
+returns-in-Ok-clause-fresh g c = c.in-Ok.ensures.fresh

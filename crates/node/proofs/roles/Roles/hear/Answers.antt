@@ -81,18 +81,18 @@ returns-in-Nack g c = rw c.in-Nack.is (record {
 pub returns-in-Ask : goal.returns-in-Ask
 returns-in-Ask g c = rw c.in-Ask.is (record {
   takes = c.on_ask.ensures.takes;
-  written = on_ok _ (made_none _ _ _ _ (g.met.S.Stable.laws.reads_none _) refl);
-  err = memory_of_two _ c.on_ask.ensures.err;
-  device = λ is. absurd (memory_alone _ c.on_ask.ensures.err is);
+  written = on_ok c.on_ask.result (made_none _ _ _ _ (g.met.S.Stable.laws.reads_none _) refl);
+  err = memory_of_two c.on_ask.result c.on_ask.ensures.err;
+  device = λ is. absurd (memory_alone c.on_ask.result c.on_ask.ensures.err is);
   memory = λ _. inl (g.met.S.Stable.laws.reads_none _);
 })
 
 pub returns-in-Accepted : goal.returns-in-Accepted
 returns-in-Accepted g c = rw c.in-Accepted.is (record {
   takes = c.on_accepted.ensures.takes;
-  written = on_ok _ (made_none _ _ _ _ (g.met.S.Stable.laws.reads_none _) refl);
-  err = memory_of_two _ c.on_accepted.ensures.err;
-  device = λ is. absurd (memory_alone _ c.on_accepted.ensures.err is);
+  written = on_ok c.on_accepted.result (made_none _ _ _ _ (g.met.S.Stable.laws.reads_none _) refl);
+  err = memory_of_two c.on_accepted.result c.on_accepted.ensures.err;
+  device = λ is. absurd (memory_alone c.on_accepted.result c.on_accepted.ensures.err is);
   memory = λ _. inl (g.met.S.Stable.laws.reads_none _);
 })
 
@@ -100,9 +100,9 @@ pub returns-in_ok-clone-in-Promise : goal.returns-in_ok-clone-in-Promise
 returns-in_ok-clone-in-Promise g c =
     rw (c.in-Promise.is ∙ ap Promise (sym c.in_ok-clone-in-Promise.ensures.cases)) (record {
       takes = c.on_promise.ensures.takes;
-      written = on_ok _ (made_none _ _ _ _ (g.met.S.Stable.laws.reads_none _) refl);
-      err = memory_of_two _ c.on_promise.ensures.err;
-      device = λ is. absurd (memory_alone _ c.on_promise.ensures.err is);
+      written = on_ok c.on_promise.result (made_none _ _ _ _ (g.met.S.Stable.laws.reads_none _) refl);
+      err = memory_of_two c.on_promise.result c.on_promise.ensures.err;
+      device = λ is. absurd (memory_alone c.on_promise.result c.on_promise.ensures.err is);
       memory = λ _. inl (g.met.S.Stable.laws.reads_none _);
     })
 
@@ -110,8 +110,8 @@ pub returns-in_ok-share-in-Decided : goal.returns-in_ok-share-in-Decided
 returns-in_ok-share-in-Decided g c =
     rw (c.in-Decided.is ∙ ap (Decided c.in-Decided.slot) (sym c.in_ok-share-in-Decided.ensures)) (record {
       takes = c.on_decided.ensures.takes;
-      written = on_ok _ (made_none _ _ _ _ (g.met.S.Stable.laws.reads_none _) refl);
-      err = memory_of_two _ c.on_decided.ensures.err;
-      device = λ is. absurd (memory_alone _ c.on_decided.ensures.err is);
+      written = on_ok c.on_decided.result (made_none _ _ _ _ (g.met.S.Stable.laws.reads_none _) refl);
+      err = memory_of_two c.on_decided.result c.on_decided.ensures.err;
+      device = λ is. absurd (memory_alone c.on_decided.result c.on_decided.ensures.err is);
       memory = λ _. inl (g.met.S.Stable.laws.reads_none _);
     })

@@ -8,12 +8,12 @@ use Rattle.node.proofs.roles.Roles.take.Goals as goal
 pub returns-in-Submit : goal.returns-in-Submit
 returns-in-Submit g c = rw c.in-Submit.is (record {
   takes = c.submit.ensures.takes;
-  written = on_ok _ (made_none _ _ _ _ (g.met.S.Stable.laws.reads_none _) refl);
-  refuses = storage_too _ _ _ _ _ c.submit.ensures.refuses;
+  written = on_ok c.submit.result (made_none _ _ _ _ (g.met.S.Stable.laws.reads_none _) refl);
+  refuses = storage_too c.submit.result _ _ _ _ c.submit.ensures.refuses;
   err = IfErr-weaker c.submit.result _ _ (λ _ w. inr w) c.submit.ensures.err;
   ignores = λ is. let w = c.submit.ensures.repeats is.0 is.1 in (w.0, w.1, refl);
-  device = λ is. absurd (memory_or_refused _ (mind_of c.args.self.now) (input.Submit c.in-Submit.client c.in-Submit.number c.in-Submit.op)
-      c.submit.ensures.err is);
+  device = λ is. absurd (memory_or_refused c.submit.result (mind_of c.args.self.now)
+      (input.Submit c.in-Submit.client c.in-Submit.number c.in-Submit.op) c.submit.ensures.err is);
   memory = λ _. inl (g.met.S.Stable.laws.reads_none _);
 })
 
@@ -42,10 +42,10 @@ returns-in-Timeout g c = rw c.in-Timeout.is (record {
 pub returns-in-Tick : goal.returns-in-Tick
 returns-in-Tick g c = rw c.in-Tick.is (record {
   takes = c.tick.ensures.takes;
-  written = on_ok _ (made_none _ _ _ _ (g.met.S.Stable.laws.reads_none _) refl);
+  written = on_ok c.tick.result (made_none _ _ _ _ (g.met.S.Stable.laws.reads_none _) refl);
   refuses = tt;
   err = IfErr-weaker c.tick.result _ _ (λ _ is. inr (inl is)) c.tick.ensures.err;
   ignores = λ is. absurd is;
-  device = λ is. absurd (memory_alone _ c.tick.ensures.err is);
+  device = λ is. absurd (memory_alone c.tick.result c.tick.ensures.err is);
   memory = λ _. inl (g.met.S.Stable.laws.reads_none _);
 })

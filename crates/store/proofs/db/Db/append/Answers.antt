@@ -1,4 +1,5 @@
-use Rattle.std.proofs.Common.{List, refl, ◌<◌, length, rules, sym, ap, subst, ◌∙◌}
+use Rattle.std.proofs.Common.{List, refl, ◌<◌, length, rules, sym, ap, subst, ◌∙◌, arith}
+use Rattle.std.proofs.lemmas.Grind.{common_steps}
 use Rattle.store.specs.Operations.{is_done}
 use Rattle.store.specs.Places.{IsAt, IsGap}
 use Rattle.store.proofs.EffectLemmas.{append_known-reply, append_known-write, append_unknown-reply, append_unknown-effect}
@@ -51,3 +52,12 @@ invariant_of-self-2 c =
     (ap (λ (g : Feature). g.id) c.in_ok-told.ensures.effect ∙ ap (λ (g : Feature). g.id) c.index_mut-held.ensures.value)
     (c.begin.ensures.value ∙ ap (λ (s : Span). s.begin) spans) (c.end.ensures.value ∙ ap (λ (s : Span). s.end) spans)
     c.replace.ensures.value
+
+pub invariant_of-self : goal.invariant_of-self
+invariant_of-self c = grind (arith, common_steps)
+
+pub returns-in_err-told-clause-err : goal.returns-in_err-told-clause-err
+returns-in_err-told-clause-err c = grind (arith, common_steps)
+
+pub replace-requires : goal.replace-requires
+replace-requires c = grind (arith, common_steps)

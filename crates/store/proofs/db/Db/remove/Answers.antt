@@ -1,4 +1,5 @@
-use Rattle.std.proofs.Common.{sym, subst, ◌∙◌}
+use Rattle.std.proofs.Common.{sym, subst, ◌∙◌, arith}
+use Rattle.std.proofs.lemmas.Grind.{common_steps}
 use Rattle.store.proofs.EffectLemmas.{remove_known-reply, remove_known-write, remove_unknown-reply, remove_unknown-effect}
 use Rattle.store.specs.Places.{IsAt}
 use Rattle.store.proofs.KeptLemmas.{removed_kept}
@@ -25,3 +26,6 @@ invariant_of-self c =
     let at = subst (λ fs. IsAt fs c.args.id.now c.in-Ok.at) (sym c.self.view_is) c.in-Ok.ensures.found in
     removed_kept c.self.inside.features.items c.remove.new.self.items c.self.inside.index c.remove_at.new.self c.args.id.now c.in-Ok.at
     c.self.invariant at c.remove.ensures.items c.remove_at.ensures.value
+
+pub remove_at-requires : goal.remove_at-requires
+remove_at-requires c = grind (arith, common_steps)

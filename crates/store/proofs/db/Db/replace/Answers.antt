@@ -1,4 +1,5 @@
-use Rattle.std.proofs.Common.{◌≡◌, ◌<◌, List, length, refl, ap, sym, subst, ◌∙◌}
+use Rattle.std.proofs.Common.{◌≡◌, ◌<◌, List, length, refl, ap, sym, subst, ◌∙◌, arith}
+use Rattle.std.proofs.lemmas.Grind.{common_steps}
 use Rattle.tpoint.specs.Extents.{Span}
 use Rattle.tpoint.specs.Spans.{span_of}
 use Rattle.mfjson.specs.declared.feature.Feature.{Feature}
@@ -26,3 +27,6 @@ invariant_of-self c =
     (ap (λ (g : Feature). g.id) c.set_seq.ensures ∙ ap (λ (g : Feature). g.id) c.index_mut.ensures.value)
     (c.begin.ensures.value ∙ ap (λ (s : Span). s.begin) spans) (c.end.ensures.value ∙ ap (λ (s : Span). s.end) spans)
     c.replace.ensures.value
+
+pub replace-requires : goal.replace-requires
+replace-requires c = grind (arith, common_steps)

@@ -1,4 +1,5 @@
-use Rattle.std.proofs.Common.{◌≡◌, List, ℕ, ap, ◌∙◌, ◌∷◌, [], slice_index_or, Some}
+use Rattle.std.proofs.Common.{◌≡◌, List, ℕ, ap, ◌∙◌, ◌∷◌, [], slice_index_or, Some, arith}
+use Rattle.std.proofs.lemmas.Grind.{elements}
 use Rattle.byteorder.specs.Endian.{big_number}
 use Rattle.byteorder.specs.Numbers.{big_number-reads_back}
 use Rattle.wire.specs.Spelling.{ballot_bytes}
@@ -11,3 +12,6 @@ returns-then-node-lt-MOST_NODES-clause-read c = λ b is.
     let again : big_number 8 (ballot_bytes b) ≡ b.round = big_number-reads_back 8 b.round (b.node ∷ []) is.fits.round in
     let round = c.read_u64-round.ensures ∙ ap (big_number 8) is.spelled ∙ again in
     ap Some (same_ballot _ b round (ap (λ (xs : List ℕ). slice_index_or xs 8 0) is.spelled))
+
+pub returns-then-node-lt-MOST_NODES-clause-spelled : goal.returns-then-node-lt-MOST_NODES-clause-spelled
+returns-then-node-lt-MOST_NODES-clause-spelled c = grind (arith, elements)

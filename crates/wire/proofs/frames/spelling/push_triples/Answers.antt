@@ -3,6 +3,7 @@ use Rattle.std.specs.Prelude.{pos}
 use Rattle.std.specs.List.{flat_map}
 use Rattle.std.proofs.lemmas.List.{take_more, flat_map_more}
 use Rattle.std.proofs.lemmas.List.Elements.{All-more}
+use Rattle.std.proofs.lemmas.Grind.{common_steps}
 use Rattle.tpoint.specs.Instants.{IsInstant}
 use Rattle.tpoint.specs.declared.point.Point.{Point}
 use Rattle.wire.specs.Spelling.{triple_bytes}
@@ -25,3 +26,9 @@ loop-point-preserved c =
       All-more (λ (q : Point). IsInstant (pos q.t)) points i p (omega arith) c.loop-point.invariant.1
           (subst (λ (q : Point). IsInstant (pos q.t)) c.point-item.is instant),
     )
+
+pub returns-clause-instants : goal.returns-clause-instants
+returns-clause-instants c = grind (arith, common_steps)
+
+pub returns-clause-spelled : goal.returns-clause-spelled
+returns-clause-spelled c = grind (arith, common_steps)

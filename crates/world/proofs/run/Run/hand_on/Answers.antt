@@ -1,5 +1,6 @@
 use Rattle.std.proofs.Common.{◌≡◌, ◌<◌, true, false, refl, sym, subst, rules, arith, length, slice_get, Some, vec_len, ◌≤◌, Contains}
 use Rattle.std.proofs.lemmas.Option.{slice_get_read}
+use Rattle.std.proofs.lemmas.Grind.{common_steps}
 use Rattle.stable.specs.Storages.{scripted}
 use Rattle.history.specs.Rounds.{DeliversTo, DeliversPart, nothing}
 use Rattle.world.specs.Runs.{run_of}
@@ -78,3 +79,6 @@ returns-clause-delivers g c =
     subst (λ k. DeliversTo (scripted g.S.Stable) c.args.receivers.now (run_of c.args.self.now) c.args.first k (run_of c.loop-index.self))
     over
     c.loop-index.invariant.0
+
+pub returns-then-not-is_up-clause-more : goal.returns-then-not-is_up-clause-more
+returns-then-not-is_up-clause-more g c = grind (arith, common_steps)

@@ -2,6 +2,7 @@ use Rattle.std.proofs.Common.{◌≡◌, ◌<◌, ◌∙◌, rules, arith, Ok, t
 use Rattle.std.proofs.lemmas.Option.{slice_get_read}
 use Rattle.std.proofs.lemmas.List.Elements.{All-get_or}
 use Rattle.std.proofs.lemmas.List.{length-map}
+use Rattle.std.proofs.lemmas.Grind.{elements}
 use Rattle.node.specs.Seen.{state_of}
 use Rattle.minds.specs.Outputs.{silence}
 use Rattle.minds.specs.Sending.{IsBetween}
@@ -50,3 +51,6 @@ returns-clause-passes g c _ =
         );
       };
     }
+
+pub invariant_of-self-2 : goal.invariant_of-self-2
+invariant_of-self-2 g c = grind (arith, elements)

@@ -1,4 +1,5 @@
-use Rattle.std.proofs.Common.{subst, sym}
+use Rattle.std.proofs.Common.{subst, sym, arith}
+use Rattle.std.proofs.lemmas.Grind.{common_steps}
 use Rattle.stable.specs.Storages.{scripted}
 use Rattle.history.specs.Rounds.{IsPartOfRound, untold}
 use Rattle.world.specs.Runs.{run_of}
@@ -9,3 +10,18 @@ pub returns-in_err-tell_end-clause-memory : goal.returns-in_err-tell_end-clause-
 returns-in_err-tell_end-clause-memory g c = λ _.
     subst (λ w. IsPartOfRound (scripted g.S.Stable) (run_of c.args.self.now) c.args.node c.args.members.now w)
     (sym c.in_err-tell_end.ensures.err) (untold c.in_ok-end.end c.in_ok-end.ensures.ends)
+
+pub returns-clause-no_node : goal.returns-clause-no_node
+returns-clause-no_node g c = grind (arith, common_steps)
+
+pub returns-in_err-end-clause-no_node : goal.returns-in_err-end-clause-no_node
+returns-in_err-end-clause-no_node g c = grind (arith, common_steps)
+
+pub returns-in_err-find-clause-no_node : goal.returns-in_err-find-clause-no_node
+returns-in_err-find-clause-no_node g c = grind (arith, common_steps)
+
+pub returns-in_err-find_all-clause-no_node : goal.returns-in_err-find_all-clause-no_node
+returns-in_err-find_all-clause-no_node g c = grind (arith, common_steps)
+
+pub returns-in_err-tell_end-clause-no_node : goal.returns-in_err-tell_end-clause-no_node
+returns-in_err-tell_end-clause-no_node g c = grind (arith, common_steps)

@@ -1,4 +1,5 @@
-use Rattle.std.proofs.Common.{rules}
+use Rattle.std.proofs.Common.{rules, arith}
+use Rattle.std.proofs.lemmas.Grind.{common_steps}
 use Rattle.world.specs.Runs.{run_of}
 use Rattle.world.proofs.run.Run.submit.Goals as goal
 
@@ -21,3 +22,18 @@ returns-else-take-clause-submits g c = record {
   takes = rw c.reserve.ensures.same at c.take.ensures.taken;
   leaves = search rules;
 }
+
+pub returns-else-take-clause-no_node : goal.returns-else-take-clause-no_node
+returns-else-take-clause-no_node g c = grind (arith, common_steps)
+
+pub returns-in_err-copy-clause-no_node : goal.returns-in_err-copy-clause-no_node
+returns-in_err-copy-clause-no_node g c = grind (arith, common_steps)
+
+pub returns-in_err-find-clause-no_node : goal.returns-in_err-find-clause-no_node
+returns-in_err-find-clause-no_node g c = grind (arith, common_steps)
+
+pub returns-in_err-reserve-clause-no_node : goal.returns-in_err-reserve-clause-no_node
+returns-in_err-reserve-clause-no_node g c = grind (arith, common_steps)
+
+pub returns-then-take-clause-no_node : goal.returns-then-take-clause-no_node
+returns-then-take-clause-no_node g c = grind (arith, common_steps)
