@@ -10,16 +10,14 @@ ghost use Rattle.replay.specs.Runs.{IsRunOver};
 ghost use Rattle.works.specs.Works.{IsUnread, StopsOver};
 ghost use Rattle.endings.specs.Streams.{Takes, Tells};
 
+use crate::archive::Archive;
 use crate::failures::words_failure;
-use crate::records::{has_logs, open_all, settle_all};
 use cluster::Transport;
 use commandline::job_of;
 use datagrams::Sockets;
 use endings::{Failure, Tracked, device_failure};
 use jobs::{Source, Work};
 use schedule::Schedule;
-use sqlite::{File, FileStore};
-use sqlstable::SqlStable;
 use stable::{MemStable, Scripted, Stable};
 use std::alloc::Global;
 use std::fs;
@@ -35,21 +33,22 @@ use works::{checked, looped_over, made_over, planned, transcript};
 /// |---|---|---|
 /// | 0 | done | nothing |
 /// | 1 | line L of a schedule has the fault F | `mfpx: line L fault F` |
-/// | 1 | a file that is to keep records holds one | `mfpx: fault 55` |
+/// | 1 | what is to keep records holds one | `mfpx: fault 55` |
 /// | 1 | a document has the fault F | `mfpx: document fault F` |
 /// | 1 | element I of a document's list has it | `mfpx: document fault F at I` |
 /// | 2 | the words are none of the forms | `mfpx: usage` |
 /// | 3 | a file or a stream fails | `mfpx: device` |
 /// | 3 | memory is refused | `mfpx: out of memory` |
 ///
-/// Faults are found in this order: the words, reading the file, parsing, opening the files for records, the run, writing. An
+/// Faults are found in this order: the words, reading the file, parsing, opening the records, the run, writing. An
 /// `err` that fails changes nothing else.
-pub fn command<R: Read, O: Write, E: Write>(
+pub fn command<R: Read, O: Write, E: Write, A: Archive>(
     rt: &HostRuntime,
     words: Vec<String>,
     input: &mut R,
     out: &mut Tracked<O>,
     err: &mut Tracked<E>,
+    archive: &mut A,
 ) -> u8
     ensures statuses { result ≤ 3 }
     ensures words_come_first { result ≡ 2 → input.new ≡ input.old }
@@ -57,20 +56,20 @@ pub fn command<R: Read, O: Write, E: Write>(
 
     // What goes to `out`: the whole text, or nothing. Of what a stream took before it failed no clause speaks.
     ensures done { result ≡ 0 → (text : List ℕ)
-        × IsAnswer (⟦<Scripted<MemStable> as Stable>⟧) (⟦<SqlStable<FileStore<File>> as Stable>⟧) (⟦<Sockets as Transport>⟧)
+        × IsAnswer (⟦<Scripted<MemStable> as Stable>⟧) A.Records.Stable (⟦<Sockets as Transport>⟧)
         (map string_bytes words.items) (R.remaining input.old) text
         × Takes O.contents out.old out.new text }
     ensures faulty_unprinted { result ≡ 1 → out.new ≡ out.old }
     ensures usage_unprinted { result ≡ 2 → out.new ≡ out.old }
     ensures failed_unprinted { result ≡ 3 → (out.new ≡ out.old) ⊎ ((text : List ℕ)
-        × IsAnswer (⟦<Scripted<MemStable> as Stable>⟧) (⟦<SqlStable<FileStore<File>> as Stable>⟧) (⟦<Sockets as Transport>⟧)
+        × IsAnswer (⟦<Scripted<MemStable> as Stable>⟧) A.Records.Stable (⟦<Sockets as Transport>⟧)
         (map string_bytes words.items) (R.remaining input.old) text
         × (out.new.has_failed ≡ true)) }
 
     // Why, and what goes to `err`: the line of that failure.
     ensures done_silently { result ≡ 0 → err.new ≡ err.old }
     ensures faulty { result ≡ 1 → (failure : Failure)
-        × IsFaulty (⟦<Scripted<MemStable> as Stable>⟧) (⟦<SqlStable<FileStore<File>> as Stable>⟧) (⟦<Sockets as Transport>⟧)
+        × IsFaulty (⟦<Scripted<MemStable> as Stable>⟧) A.Records.Stable (⟦<Sockets as Transport>⟧)
         (map string_bytes words.items) (R.remaining input.old) failure
         × Tells E.contents err.old err.new (line_text failure) }
     ensures usage { result ≡ 2 → (work : Work) → ¬ AskFor (map string_bytes words.items) work }
@@ -81,7 +80,7 @@ pub fn command<R: Read, O: Write, E: Write>(
     ensures failed_told { result ≡ 3 → Tells E.contents err.old err.new (line_text Failure.Device)
         ⊎ Tells E.contents err.old err.new (line_text Failure.Memory) }
 {
-    match run(rt, words.as_slice(), input, out) {
+    match run(rt, words.as_slice(), input, out, archive) {
         Ok(()) => 0,
         Err(failure) => {
             err.tell(failure);
@@ -91,18 +90,19 @@ pub fn command<R: Read, O: Write, E: Write>(
 }
 
 /// Writes what the words ask for.
-fn run<R: Read, O: Write>(
+fn run<R: Read, O: Write, A: Archive>(
     rt: &HostRuntime,
     words: &[String],
     input: &mut R,
     out: &mut Tracked<O>,
+    archive: &mut A,
 ) -> Result<(), Failure>
     ensures done { OnOk result ((text : List ℕ)
-        × IsAnswer (⟦<Scripted<MemStable> as Stable>⟧) (⟦<SqlStable<FileStore<File>> as Stable>⟧) (⟦<Sockets as Transport>⟧)
+        × IsAnswer (⟦<Scripted<MemStable> as Stable>⟧) A.Records.Stable (⟦<Sockets as Transport>⟧)
         (map string_bytes words.now) (R.remaining input.old) text
         × Takes O.contents out.old out.new text) }
     ensures faulty { IfErr result (λ failure. status_of failure ≡ 1
-        → IsFaulty (⟦<Scripted<MemStable> as Stable>⟧) (⟦<SqlStable<FileStore<File>> as Stable>⟧) (⟦<Sockets as Transport>⟧)
+        → IsFaulty (⟦<Scripted<MemStable> as Stable>⟧) A.Records.Stable (⟦<Sockets as Transport>⟧)
         (map string_bytes words.now) (R.remaining input.old) failure) }
     ensures usage { IfErr result (λ failure. failure ≡ Failure.Usage
         → (work : Work) → ¬ AskFor (map string_bytes words.now) work) }
@@ -112,7 +112,7 @@ fn run<R: Read, O: Write>(
     ensures untouched { IfErr result (λ failure. failure ≢ Failure.Device
         → out.new ≡ out.old) }
     ensures unprinted { OnErr result ((out.new ≡ out.old) ⊎ ((text : List ℕ)
-        × IsAnswer (⟦<Scripted<MemStable> as Stable>⟧) (⟦<SqlStable<FileStore<File>> as Stable>⟧) (⟦<Sockets as Transport>⟧)
+        × IsAnswer (⟦<Scripted<MemStable> as Stable>⟧) A.Records.Stable (⟦<Sockets as Transport>⟧)
         (map string_bytes words.now) (R.remaining input.old) text
         × (out.new.has_failed ≡ true))) }
     ensures words_come_first { IfErr result (λ failure. failure ≡ Failure.Usage
@@ -124,73 +124,84 @@ fn run<R: Read, O: Write>(
         Err(fault) => return Err(words_failure(fault)),
     };
     let bytes = content(rt, &job.source, input)?;
-    let text = text_of(rt, job.work, job.folder, bytes.as_slice())?;
+    let text = text_of(rt, archive, job.work, job.folder, bytes.as_slice())?;
     match out.print(text.as_slice()) {
         Ok(()) => Ok(()),
         Err(_) => Err(Failure::Device),
     }
 }
 
-/// What the work makes of the bytes: a replay with its records in memory, or in files where a folder is given for them.
-fn text_of(
+/// What the work makes of the bytes: a replay with its records in memory, or in the archive where a folder is given for them.
+fn text_of<A: Archive>(
     rt: &HostRuntime,
+    archive: &mut A,
     work: Work,
     folder: Option<&str>,
     bytes: &[u8],
 ) -> Result<Vec<u8>, Failure>
     ensures makes { IfOk result (λ text. MakesIn (⟦<Scripted<MemStable> as Stable>⟧)
-        (⟦<SqlStable<FileStore<File>> as Stable>⟧) (⟦<Sockets as Transport>⟧) work (name_text folder.entry) bytes.now text.items) }
+        A.Records.Stable (⟦<Sockets as Transport>⟧) work (name_text folder.entry) bytes.now text.items) }
     ensures ends { IfErr result (λ failure. failure ≢ Failure.Memory → failure ≢ Failure.Device
-        → EndsIn (⟦<Scripted<MemStable> as Stable>⟧) (⟦<SqlStable<FileStore<File>> as Stable>⟧) (⟦<Sockets as Transport>⟧)
+        → EndsIn (⟦<Scripted<MemStable> as Stable>⟧) A.Records.Stable (⟦<Sockets as Transport>⟧)
         work (name_text folder.entry) bytes.now failure) }
     ensures no_usage { IfErr result (λ failure. failure ≢ Failure.Usage) }
 {
     match (work, folder) {
         (Work::Replay, None) => transcript(rt.alloc(), bytes),
-        (Work::Replay, Some(folder)) => kept(rt, folder, bytes),
+        (Work::Replay, Some(folder)) => kept(rt, archive, folder, bytes),
         (Work::Loopback, _) => looped(rt, bytes),
         (Work::Check, _) => checked(rt.alloc(), bytes),
     }
 }
 
-/// The transcript of the schedule that the bytes spell, whose nodes keep their records in files of the folder.
+/// The transcript of the schedule that the bytes spell, whose nodes keep their records under the folder's name.
 ///
-/// The schedule is parsed before a file is opened. Where a file holds a record nothing is written. However the run ends, the
-/// files are closed in order; one that can't be keeps its log beside it, and nothing else is told of that.
-fn kept(rt: &HostRuntime, folder: &str, bytes: &[u8]) -> Result<Vec<u8>, Failure>
-    ensures kept { IfOk result (λ text. IsKept (⟦<SqlStable<FileStore<File>> as Stable>⟧) bytes.now text.items) }
+/// The schedule is parsed before records are opened. Where a node's hold one nothing is written. However the run ends, they are
+/// closed in order; what can't be stays as the run has left it, and nothing else is told of that.
+fn kept<A: Archive>(
+    rt: &HostRuntime,
+    archive: &mut A,
+    folder: &str,
+    bytes: &[u8],
+) -> Result<Vec<u8>, Failure>
+    ensures kept { IfOk result (λ text. IsKept A.Records.Stable bytes.now text.items) }
     ensures ends { IfErr result (λ failure. failure ≢ Failure.Memory → failure ≢ Failure.Device
-        → IsUnread bytes.now failure ⊎ Stops (⟦<SqlStable<FileStore<File>> as Stable>⟧) bytes.now failure) }
+        → IsUnread bytes.now failure ⊎ Stops A.Records.Stable bytes.now failure) }
     ensures no_usage { IfErr result (λ failure. failure ≢ Failure.Usage) }
 {
     let schedule = planned(rt.alloc(), bytes)?;
     let count = schedule.nodes();
-    let had_logs = has_logs(rt, folder, count)?;
-    match made_in(rt, folder, schedule) {
+    let was_left_open = archive.is_left_open(rt, folder, count)?;
+    match made_in(rt, archive, folder, schedule) {
         Ok(text) => {
-            let _settled = settle_all(rt, folder, count);
+            let _settled = archive.settle(rt, folder, count);
             Ok(text)
         }
         Err(failure) => {
-            // A log that a crash has left beside records stays: nothing is to be changed there.
-            if !had_logs || failure != Failure::NotEmpty {
-                let _settled = settle_all(rt, folder, count);
+            // What a crash has left open beside records stays so: nothing is to be changed there.
+            if !was_left_open || failure != Failure::NotEmpty {
+                let _settled = archive.settle(rt, folder, count);
             }
             Err(failure)
         }
     }
 }
 
-/// The transcript of the schedule's run over files of the folder.
-fn made_in(rt: &HostRuntime, folder: &str, schedule: Schedule) -> Result<Vec<u8>, Failure>
-    ensures made { IfOk result (λ text. (stores : _) × (length stores ≡ schedule.nodes)
-        × IsRunOver (⟦<SqlStable<FileStore<File>> as Stable>⟧) stores schedule text.items) }
+/// The transcript of the schedule's run over records under the folder's name.
+fn made_in<A: Archive>(
+    rt: &HostRuntime,
+    archive: &mut A,
+    folder: &str,
+    schedule: Schedule,
+) -> Result<Vec<u8>, Failure>
+    ensures made { IfOk result (λ text. (stores : List A.Records) × (length stores ≡ schedule.nodes)
+        × IsRunOver A.Records.Stable stores schedule text.items) }
     ensures ends { IfErr result (λ failure. failure ≢ Failure.Memory → failure ≢ Failure.Device
-        → (stores : _) × (length stores ≡ schedule.nodes)
-        × StopsOver (⟦<SqlStable<FileStore<File>> as Stable>⟧) stores schedule failure) }
+        → (stores : List A.Records) × (length stores ≡ schedule.nodes)
+        × StopsOver A.Records.Stable stores schedule failure) }
     ensures no_usage { IfErr result (λ failure. failure ≢ Failure.Usage) }
 {
-    let stores = open_all(rt, folder, schedule.nodes())?;
+    let stores = archive.open(rt, folder, schedule.nodes())?;
     made_over(rt.alloc(), schedule, stores)
 }
 

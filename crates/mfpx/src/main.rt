@@ -1,13 +1,29 @@
 //! The program `mfpx`: a schedule is replayed, and its transcript is printed; or a document is
 //! checked, and its canonical form is printed.
 //!
-//! `mfpx replay FILE` and `mfpx check FILE` read the file, or standard input where FILE is `-`.
-//! `mfpx replay FILE --db DIR` keeps the records of the nodes in files of the folder DIR.
-//! `mfpx loopback FILE` runs the schedule with a socket of 127.0.0.1 for each node.
-//! No words stand for `replay -`. What a run does and how it ends is the affair of the crate
-//! `console`; here its words and its streams are those of the process.
+//! | Call | What it does |
+//! |---|---|
+//! | `mfpx replay FILE` | runs the schedule, and prints its transcript |
+//! | `mfpx replay FILE --db DIR` | the same, with the records of node i in `DIR/nodei.db` |
+//! | `mfpx loopback FILE` | runs the schedule with a socket of 127.0.0.1 for each node |
+//! | `mfpx check FILE` | reads a document, and prints its canonical form |
+//! | `mfpx` | as `mfpx replay -`; `-` in the place of FILE is standard input |
+//!
+//! What a run does and how it ends is the affair of the crate `console`, whose `command` lists the
+//! exit statuses. Here its words and its streams are those of the process, and what keeps the
+//! records of a replay is files of a folder. The tests of storages stand here as well: nothing else
+//! is linked with the database.
 #![tactic(auto)]
 
+#[cfg(test)]
+mod calls;
+mod records;
+#[cfg(test)]
+mod scripts;
+#[cfg(test)]
+mod tables;
+
+use crate::records::Files;
 use console::{command, own_words};
 use endings::Tracked;
 use std::process::ExitCode;
@@ -17,7 +33,7 @@ fn main(rt: HostRuntime) -> ExitCode {
     let mut out = Tracked::new(rt.stdout());
     let mut err = Tracked::new(rt.stderr());
     let status = match own_words(&rt) {
-        Ok(words) => command(&rt, words, &mut input, &mut out, &mut err),
+        Ok(words) => command(&rt, words, &mut input, &mut out, &mut err, &mut Files),
         Err(failure) => {
             err.tell(failure);
             failure.status()

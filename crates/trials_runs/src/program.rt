@@ -4,9 +4,10 @@ use crate::streams::{answer, ends_so};
 use std::test::Fail;
 
 // the main job
-const FIRST_RUN: &[u8] = b"nodes 3\nsubmit 0 7 1 remove bus-7\ntimeout 0\nflush\n";
+pub(crate) const FIRST_RUN: &[u8] = b"nodes 3\nsubmit 0 7 1 remove bus-7\ntimeout 0\nflush\n";
 
-const FIRST_LINES: &str = "learn 0 0 7:1\nreply 0 7:1 21\nlearn 1 0 7:1\nlearn 2 0 7:1\n";
+pub(crate) const FIRST_LINES: &str =
+    "learn 0 0 7:1\nreply 0 7:1 21\nlearn 1 0 7:1\nlearn 2 0 7:1\n";
 
 /// Whether the run is told in these lines, in some order, and ends with that of its strangers.
 fn is_told_through_sockets(rt: &HostRuntime) -> Result<bool, Fail> {

@@ -1,9 +1,69 @@
-//! What the words do, and what comes of streams and files that fail.
+//! What the words do, and what comes of streams, files and archives that fail.
 
-use console::command;
-use endings::Tracked;
+ghost use Rattle.std.specs.Prelude.{◌≡◌, vec_len};
+
+use crate::program::{FIRST_LINES, FIRST_RUN};
+use crate::worlds::three_storages;
+use console::{Archive, command};
+use endings::{Failure, Tracked};
+use stable::MemStable;
+use std::alloc::AllocError;
 use std::io::{self, Error, ErrorKind, Read, Write};
 use std::test::Fail;
+use wire::Nodes;
+
+/// An archive of three nodes, in memory.
+#[derive(Debug, Drop)]
+struct Shelf {
+    /// The node that has a record already; a number past the last where none has.
+    used: usize,
+    was_left_open: bool,
+    /// How often it was settled.
+    settled: u32,
+}
+
+impl Shelf {
+    fn new(used: usize, was_left_open: bool) -> Shelf {
+        Shelf {
+            used,
+            was_left_open,
+            settled: 0,
+        }
+    }
+}
+
+impl Archive for Shelf {
+    type Records = MemStable;
+
+    fn open(
+        &mut self,
+        rt: &HostRuntime,
+        _folder: &str,
+        count: Nodes,
+    ) -> Result<Vec<MemStable>, Failure> {
+        if count.count() != 3 {
+            return Err(Failure::Device);
+        }
+        match three_storages(rt.alloc(), self.used) {
+            Ok(stores) => Ok(stores),
+            Err(_) => Err(Failure::Memory),
+        }
+    }
+
+    fn is_left_open(
+        &mut self,
+        _rt: &HostRuntime,
+        _folder: &str,
+        _count: Nodes,
+    ) -> Result<bool, AllocError> {
+        Ok(self.was_left_open)
+    }
+
+    fn settle(&mut self, _rt: &HostRuntime, _folder: &str, _count: Nodes) -> Result<(), Failure> {
+        self.settled = self.settled.saturating_add(1);
+        Ok(())
+    }
+}
 
 /// A reader that fails at its first read.
 #[derive(Debug, Drop)]
@@ -56,6 +116,7 @@ pub(crate) fn owned(rt: &HostRuntime, words: &[&str]) -> Result<Vec<String>, Fai
 /// Nothing else calls the program: what its contract names is looked at here, once.
 fn run_over<R: Read, O: Write + Drop, E: Write + Drop>(
     rt: &HostRuntime,
+    shelf: &mut Shelf,
     words: &[&str],
     input: &mut R,
     out: O,
@@ -64,7 +125,7 @@ fn run_over<R: Read, O: Write + Drop, E: Write + Drop>(
     let words = owned(rt, words)?;
     let mut out = Tracked::new(out);
     let mut err = Tracked::new(err);
-    let status = command(rt, words, input, &mut out, &mut err);
+    let status = command(rt, words, input, &mut out, &mut err, shelf);
     Ok((status, out.into_inner(), err.into_inner()))
 }
 
@@ -74,9 +135,19 @@ pub(crate) fn answer(
     words: &[&str],
     input: &[u8],
 ) -> Result<(u8, Vec<u8>, Vec<u8>), Fail> {
+    answer_over(rt, &mut Shelf::new(3, false), words, input)
+}
+
+/// The same over this archive.
+fn answer_over(
+    rt: &HostRuntime,
+    shelf: &mut Shelf,
+    words: &[&str],
+    input: &[u8],
+) -> Result<(u8, Vec<u8>, Vec<u8>), Fail> {
     let mut input = input;
     let out = Vec::new(rt.alloc());
-    run_over(rt, words, &mut input, out, Vec::new(rt.alloc()))
+    run_over(rt, shelf, words, &mut input, out, Vec::new(rt.alloc()))
 }
 
 /// Whether a run of these words on this input has this status, and these texts in its streams.
@@ -86,13 +157,15 @@ pub(crate) fn ends_so(
     input: &[u8],
     wanted: (u8, &str, &str),
 ) -> Result<bool, Fail> {
-    let (status, out, err) = answer(rt, words, input)?;
+    Ok(is_so(answer(rt, words, input)?, wanted))
+}
+
+fn is_so(answer: (u8, Vec<u8>, Vec<u8>), wanted: (u8, &str, &str)) -> bool {
+    let (status, out, err) = answer;
     let (wanted_status, wanted_out, wanted_err) = wanted;
-    Ok(
-        status == wanted_status
-            && out.as_slice() == wanted_out.as_bytes()
-            && err.as_slice() == wanted_err.as_bytes(),
-    )
+    status == wanted_status
+        && out.as_slice() == wanted_out.as_bytes()
+        && err.as_slice() == wanted_err.as_bytes()
 }
 
 /// Whether a run tells that a device fails, where the input is read and the text is written so.
@@ -102,7 +175,8 @@ pub(crate) fn tells_a_device<R: Read, O: Write + Drop>(
     input: &mut R,
     out: O,
 ) -> Result<bool, Fail> {
-    let (status, _out, err) = run_over(rt, words, input, out, Vec::new(rt.alloc()))?;
+    let shelf = &mut Shelf::new(3, false);
+    let (status, _out, err) = run_over(rt, shelf, words, input, out, Vec::new(rt.alloc()))?;
     Ok(status == 3 && err.as_slice() == b"mfpx: device\n".as_slice())
 }
 
@@ -152,7 +226,8 @@ fn streams_and_files_that_fail(rt: HostRuntime) -> Result<(), Fail> {
 fn untold(rt: &HostRuntime, words: &[&str], input: &[u8]) -> Result<(u8, bool), Fail> {
     let mut input = input;
     let out = Vec::new(rt.alloc());
-    let (status, out, _err) = run_over(rt, words, &mut input, out, Unwritable)?;
+    let shelf = &mut Shelf::new(3, false);
+    let (status, out, _err) = run_over(rt, shelf, words, &mut input, out, Unwritable)?;
     Ok((status, out.is_empty()))
 }
 
@@ -168,5 +243,45 @@ fn an_err_that_fails_leaves_the_status(rt: HostRuntime) -> Result<(), Fail> {
     for (words, input, status) in cases {
         assert_eq!(rt; untold(&rt, words, input)?, (status, true));
     }
+    Ok(())
+}
+
+/// How a run of this schedule over such an archive ends, and how often it was settled.
+fn ends_over(
+    rt: &HostRuntime,
+    shelf: Shelf,
+    schedule: &[u8],
+    wanted: (u8, &str, &str),
+) -> Result<(bool, u32), Fail> {
+    let mut shelf = shelf;
+    let answer = answer_over(
+        rt,
+        &mut shelf,
+        &["replay", "--db", "records", "-"],
+        schedule,
+    )?;
+    Ok((is_so(answer, wanted), shelf.settled))
+}
+
+#[test]
+fn runs_over_an_archive(rt: HostRuntime) -> Result<(), Fail> {
+    let done = (0, FIRST_LINES, "");
+    let not_empty = (1, "", "mfpx: fault 55\n");
+    // the node that has a record, whether it was left open, how the run ends, and how often the archive was settled
+    let cases = [
+        (3, false, done, 1),
+        (3, true, done, 1),
+        (1, false, not_empty, 1),
+        // a crash had left it so: nothing is changed there
+        (1, true, not_empty, 0),
+    ];
+    for (used, was_left_open, wanted, settled) in cases {
+        let shelf = Shelf::new(used, was_left_open);
+        assert_eq!(rt; ends_over(&rt, shelf, FIRST_RUN, wanted)?, (true, settled));
+    }
+    // one that has no room for so many nodes
+    let device = (3, "", "mfpx: device\n");
+    let shelf = Shelf::new(3, false);
+    assert_eq!(rt; ends_over(&rt, shelf, b"nodes 5\n", device)?, (true, 1));
     Ok(())
 }

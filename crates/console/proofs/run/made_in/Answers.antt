@@ -4,7 +4,7 @@ use Rattle.console.proofs.run.made_in.Goals as goal
 
 -- it is one over the files that were opened, as many as there are nodes
 pub returns-clause-made : goal.returns-clause-made
-returns-clause-made c =
+returns-clause-made g c =
     IfOk-weaker c.made_over.result _ _ (λ text runs. (
       c.in_ok-stores.stores.items,
       sym c.in_ok-stores.stores.ok.0 ∙ c.in_ok-stores.ensures.one_each ∙ c.nodes.ensures,
@@ -13,7 +13,7 @@ returns-clause-made c =
 
 -- and so is one that ends without a text
 pub returns-clause-ends : goal.returns-clause-ends
-returns-clause-ends c =
+returns-clause-ends g c =
     IfErr-weaker c.made_over.result _ _ (λ failure ends memory device. (
       c.in_ok-stores.stores.items,
       sym c.in_ok-stores.stores.ok.0 ∙ c.in_ok-stores.ensures.one_each ∙ c.nodes.ensures,

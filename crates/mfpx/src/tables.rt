@@ -1,12 +1,15 @@
 //! Records in a table: in memory, over disks that fail, and in a file.
 
 use crate::calls::{fill, is_filled, keeps_records, put, vote};
-use sqlite::{Connection, Error, FileStore, Files, MemStore, Options, params};
+use crate::records::Files;
+use console::Archive;
+use sqlite::{Connection, Error, FileStore, Files as TwoFiles, MemStore, Options, params};
 use sqlite_disk::{Disk, Fuse, Memory};
 use sqlstable::SqlStable;
 use stable::{Stable, StableFault};
 use std::alloc::Global;
 use std::fs;
+use wire::Nodes;
 
 // Drops a storage over files, which isn't closed.
 //
@@ -52,7 +55,7 @@ fn memory_keeps_records(rt: HostRuntime) {
 
 // Whether a storage over files in memory that is filled, closed and opened again holds what `fill` puts.
 fn is_reopened_filled(alloc: Global) -> Result<bool, StableFault> {
-    let files = Files {
+    let files = TwoFiles {
         log: Memory::new(alloc),
         db: Memory::new(alloc),
     };
@@ -71,7 +74,7 @@ fn over_a_fuse(
     alloc: Global,
     calls: u64,
 ) -> Result<SqlStable<FileStore<Fuse<Memory>>>, StableFault> {
-    let files = Files {
+    let files = TwoFiles {
         log: Fuse::new(Memory::new(alloc), calls),
         db: Fuse::new(Memory::new(alloc), calls),
     };
@@ -193,9 +196,13 @@ const RUN_PATH: &str = "sqlstable_run_test/node0.db";
 
 const RUN_LOG: &str = "sqlstable_run_test/node0.db-wal";
 
+const ARCHIVE: &str = "archive_test";
+
+const FIRST_FILE: &str = "archive_test/node0.db";
+
 // What a run leaves: its storage is dropped and not closed.
-fn leave_a_file(rt: &HostRuntime) -> Result<bool, StableFault> {
-    let storage = SqlStable::open(rt, RUN_PATH)?;
+fn leave_a_file(rt: &HostRuntime, path: &str) -> Result<bool, StableFault> {
+    let storage = SqlStable::open(rt, path)?;
     let storage = filled(rt.alloc(), storage)?;
     was_filled(rt.alloc(), storage)
 }
@@ -213,7 +220,7 @@ fn settled_bytes(rt: &HostRuntime) -> Result<Vec<u8>, StableFault> {
 fn a_settled_file_is_alone(rt: HostRuntime) {
     let _ = fs::remove_dir_all(&rt, RUN_FOLDER);
     assert!(rt; fs::create_dir(&rt, RUN_FOLDER).is_ok());
-    assert_eq!(rt; leave_a_file(&rt), Ok(true));
+    assert_eq!(rt; leave_a_file(&rt, RUN_PATH), Ok(true));
     assert!(rt; fs::symlink_metadata(&rt, RUN_LOG).is_ok());
     let (Ok(first), Ok(again)) = (settled_bytes(&rt), settled_bytes(&rt)) else {
         assert!(rt; false);
@@ -223,4 +230,21 @@ fn a_settled_file_is_alone(rt: HostRuntime) {
     assert_eq!(rt; first.as_slice(), again.as_slice());
     assert_eq!(rt; is_file_filled(&rt, RUN_PATH), Ok(true));
     assert!(rt; fs::remove_dir_all(&rt, RUN_FOLDER).is_ok());
+}
+
+// What a run has left open is seen by its log, and closed in order under the names by which a run finds it.
+#[test]
+fn an_archive_settles_its_files(rt: HostRuntime) {
+    let nodes = Nodes::new(3).unwrap();
+    let _ = fs::remove_dir_all(&rt, ARCHIVE);
+    assert!(rt; fs::create_dir(&rt, ARCHIVE).is_ok());
+    assert_eq!(rt; Files.is_left_open(&rt, ARCHIVE, nodes), Ok(false));
+    assert_eq!(rt; leave_a_file(&rt, FIRST_FILE), Ok(true));
+    assert_eq!(rt; Files.is_left_open(&rt, ARCHIVE, nodes), Ok(true));
+    assert_eq!(rt; Files.settle(&rt, ARCHIVE, nodes), Ok(()));
+    assert_eq!(rt; Files.is_left_open(&rt, ARCHIVE, nodes), Ok(false));
+    assert_eq!(rt; is_file_filled(&rt, FIRST_FILE), Ok(true));
+    // no folder, no records
+    assert!(rt; fs::remove_dir_all(&rt, ARCHIVE).is_ok());
+    assert!(rt; Files.settle(&rt, ARCHIVE, nodes).is_err());
 }
