@@ -18,9 +18,9 @@ use Rattle.works.specs.Works.{CheckStops, IsChecked, IsLoopedOver, IsUnread, Loo
 abbrev pub MayName : List (List ℕ) → Option (List ℕ) → List ℕ → Type 0
 MayName words left bytes = NameInput words → IfSome left (λ all. bytes ≡ all)
 
--- over files of which it is known what their calls may do
+-- over an archive's records, of which it is known what their calls may do
 module _ {F : Type 0} (files : Ghosts F) where
-  -- the bytes spell a schedule, and the text is the transcript of its run over records in files, one for each node
+  -- the bytes spell a schedule, and the text is the transcript of its run over such records, one node's each
   pub record IsKept (bytes text : List ℕ) : Type 0 where
     pub plan : Plan
     pub spelled : IsScheduleOf bytes plan
@@ -54,9 +54,9 @@ module _ (transport : Transports Sockets) where
     pub one_each : socket_count sockets ≡ plan.nodes
     pub stops : LoopStopsOver transport sockets plan failure
 
--- over storages in memory, and in files, and through sockets
+-- over storages in memory, and those of an archive, and through sockets
 module _ {S F : Type 0} (storages : Ghosts (Script S)) (files : Ghosts F) (transport : Transports Sockets) where
-  -- the text is what the work makes of the bytes; a replay has its records in memory, or in files of a folder
+  -- the text is what the work makes of the bytes; a replay has its records in memory, or in an archive
   abbrev pub MakesIn : Work → Option (List ℕ) → List ℕ → List ℕ → Type 0
   MakesIn Replay None bytes text = IsReplay storages bytes text
   MakesIn Replay (Some folder) bytes text = IsKept files bytes text

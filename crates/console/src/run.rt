@@ -1,9 +1,9 @@
 //! A run of the program over any streams.
 
-ghost use Rattle.std.specs.Prelude.{◌≡◌, ◌≢◌, ◌≤◌, ◌⊎◌, ℕ, List, length, map};
+ghost use Rattle.std.specs.Prelude.{◌≡◌, ◌≢◌, ◌≤◌, ◌⊎◌, ℕ, List, length, map, Some, None};
 ghost use Rattle.std.specs.Prelude.{string_bytes, true, IfOk, IfErr, IfSome, IsErrOf, OnErr, OnOk};
 ghost use Rattle.endings.specs.Failures.{line_text, status_of};
-ghost use Rattle.commandline.specs.Forms.{AskFor, NameInput, text_of as name_text};
+ghost use Rattle.commandline.specs.Forms.{AskFor, NameFolder, NameInput, text_of as name_text};
 ghost use Rattle.console.specs.Jobs.{EndsIn, IsAnswer, IsFaulty, IsKept, IsLooped, LoopStops, MakesIn, Stops};
 ghost use Rattle.datagrams.specs.Counts.{socket_count};
 ghost use Rattle.replay.specs.Runs.{IsRunOver};
@@ -40,7 +40,7 @@ use works::{checked, looped_over, made_over, planned, transcript};
 /// | 3 | a file or a stream fails | `mfpx: device` |
 /// | 3 | memory is refused | `mfpx: out of memory` |
 ///
-/// Faults are found in this order: the words, reading the file, parsing, opening the records, the run, writing. An
+/// Faults are told in this order: the words, reading the file, parsing, opening the records, the run, writing. An
 /// `err` that fails changes nothing else.
 pub fn command<R: Read, O: Write, E: Write, A: Archive>(
     rt: &HostRuntime,
@@ -53,6 +53,11 @@ pub fn command<R: Read, O: Write, E: Write, A: Archive>(
     ensures statuses { result ≤ 3 }
     ensures words_come_first { result ≡ 2 → input.new ≡ input.old }
     ensures file_alone { ¬ NameInput (map string_bytes words.items) → input.new ≡ input.old }
+
+    // The archive is left as it was where the words ask for nothing, and where they name no folder.
+    ensures archive_untouched { result ≡ 2 → archive.new ≡ archive.old }
+    ensures folder_alone { ((work : Work) → (folder : List ℕ) → ¬ NameFolder (map string_bytes words.items) work (Some folder))
+        → archive.new ≡ archive.old }
 
     // What goes to `out`: the whole text, or nothing. Of what a stream took before it failed no clause speaks.
     ensures done { result ≡ 0 → (text : List ℕ)
@@ -118,6 +123,9 @@ fn run<R: Read, O: Write, A: Archive>(
     ensures words_come_first { IfErr result (λ failure. failure ≡ Failure.Usage
         → input.new ≡ input.old) }
     ensures file_alone { ¬ NameInput (map string_bytes words.now) → input.new ≡ input.old }
+    ensures archive_untouched { IfErr result (λ failure. failure ≡ Failure.Usage → archive.new ≡ archive.old) }
+    ensures folder_alone { ((work : Work) → (folder : List ℕ) → ¬ NameFolder (map string_bytes words.now) work (Some folder))
+        → archive.new ≡ archive.old }
 {
     let job = match job_of(rt.alloc(), words) {
         Ok(job) => job,
@@ -145,6 +153,7 @@ fn text_of<A: Archive>(
         → EndsIn (⟦<Scripted<MemStable> as Stable>⟧) A.Records.Stable (⟦<Sockets as Transport>⟧)
         work (name_text folder.entry) bytes.now failure) }
     ensures no_usage { IfErr result (λ failure. failure ≢ Failure.Usage) }
+    ensures folder_alone { name_text folder.entry ≡ None → archive.new ≡ archive.old }
 {
     match (work, folder) {
         (Work::Replay, None) => transcript(rt.alloc(), bytes),
@@ -174,13 +183,13 @@ fn kept<A: Archive>(
     let was_left_open = archive.is_left_open(rt, folder, count)?;
     match made_in(rt, archive, folder, schedule) {
         Ok(text) => {
-            let _settled = archive.settle(rt, folder, count);
+            archive.settle(rt, folder, count);
             Ok(text)
         }
         Err(failure) => {
             // What a crash has left open beside records stays so: nothing is to be changed there.
             if !was_left_open || failure != Failure::NotEmpty {
-                let _settled = archive.settle(rt, folder, count);
+                archive.settle(rt, folder, count);
             }
             Err(failure)
         }

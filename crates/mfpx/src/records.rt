@@ -49,15 +49,22 @@ impl Archive for Files {
     }
 
     /// Brings the logs that a run has left into the files beside which they lie, so that each file alone has its node's
-    /// records. A file that isn't settled keeps its log, and the next opening finds both.
-    fn settle(&mut self, rt: &HostRuntime, folder: &str, count: Nodes) -> Result<(), Failure> {
+    /// records. It stops at the first file that can't be used, as the opening did: that keeps its log, and the next opening
+    /// finds both.
+    fn settle(&mut self, rt: &HostRuntime, folder: &str, count: Nodes) {
         for number in 0..count.count() {
-            let path = path_of(rt, folder, number)?;
-            if let Err(fault) = SqlStable::settle(rt, path.as_str()) {
-                return Err(storage_failure(fault));
+            if !is_settled(rt, folder, number) {
+                return;
             }
         }
-        Ok(())
+    }
+}
+
+/// Whether a node's file could be closed in order.
+fn is_settled(rt: &HostRuntime, folder: &str, number: u8) -> bool {
+    match path_of(rt, folder, number) {
+        Ok(path) => SqlStable::settle(rt, path.as_str()).is_ok(),
+        Err(_) => false,
     }
 }
 

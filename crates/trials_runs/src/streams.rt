@@ -12,13 +12,17 @@ use std::io::{self, Error, ErrorKind, Read, Write};
 use std::test::Fail;
 use wire::Nodes;
 
+// The name under which the archive has its records.
+const SHELF: &str = "records";
+
 /// An archive of three nodes, in memory.
 #[derive(Debug, Drop)]
 struct Shelf {
     /// The node that has a record already; a number past the last where none has.
     used: usize,
     was_left_open: bool,
-    /// How often it was settled.
+    /// How often it was opened, and settled.
+    opened: u32,
     settled: u32,
 }
 
@@ -27,6 +31,7 @@ impl Shelf {
         Shelf {
             used,
             was_left_open,
+            opened: 0,
             settled: 0,
         }
     }
@@ -38,10 +43,11 @@ impl Archive for Shelf {
     fn open(
         &mut self,
         rt: &HostRuntime,
-        _folder: &str,
+        folder: &str,
         count: Nodes,
     ) -> Result<Vec<MemStable>, Failure> {
-        if count.count() != 3 {
+        self.opened = self.opened.saturating_add(1);
+        if folder != SHELF || count.count() != 3 {
             return Err(Failure::Device);
         }
         match three_storages(rt.alloc(), self.used) {
@@ -53,15 +59,16 @@ impl Archive for Shelf {
     fn is_left_open(
         &mut self,
         _rt: &HostRuntime,
-        _folder: &str,
+        folder: &str,
         _count: Nodes,
     ) -> Result<bool, AllocError> {
-        Ok(self.was_left_open)
+        Ok(self.was_left_open && folder == SHELF)
     }
 
-    fn settle(&mut self, _rt: &HostRuntime, _folder: &str, _count: Nodes) -> Result<(), Failure> {
-        self.settled = self.settled.saturating_add(1);
-        Ok(())
+    fn settle(&mut self, _rt: &HostRuntime, folder: &str, count: Nodes) {
+        if folder == SHELF && count.count() == 3 {
+            self.settled = self.settled.saturating_add(1);
+        }
     }
 }
 
@@ -246,21 +253,16 @@ fn an_err_that_fails_leaves_the_status(rt: HostRuntime) -> Result<(), Fail> {
     Ok(())
 }
 
-/// How a run of this schedule over such an archive ends, and how often it was settled.
+/// Whether a run of this schedule over such an archive ends so, and how often the archive was opened and settled.
 fn ends_over(
     rt: &HostRuntime,
     shelf: Shelf,
     schedule: &[u8],
     wanted: (u8, &str, &str),
-) -> Result<(bool, u32), Fail> {
+) -> Result<(bool, u32, u32), Fail> {
     let mut shelf = shelf;
-    let answer = answer_over(
-        rt,
-        &mut shelf,
-        &["replay", "--db", "records", "-"],
-        schedule,
-    )?;
-    Ok((is_so(answer, wanted), shelf.settled))
+    let answer = answer_over(rt, &mut shelf, &["replay", "--db", SHELF, "-"], schedule)?;
+    Ok((is_so(answer, wanted), shelf.opened, shelf.settled))
 }
 
 #[test]
@@ -277,11 +279,26 @@ fn runs_over_an_archive(rt: HostRuntime) -> Result<(), Fail> {
     ];
     for (used, was_left_open, wanted, settled) in cases {
         let shelf = Shelf::new(used, was_left_open);
-        assert_eq!(rt; ends_over(&rt, shelf, FIRST_RUN, wanted)?, (true, settled));
+        assert_eq!(rt;
+            ends_over(&rt, shelf, FIRST_RUN, wanted)?,
+            (true, 1, settled)
+        );
     }
+    Ok(())
+}
+
+#[test]
+fn archives_that_are_not_opened(rt: HostRuntime) -> Result<(), Fail> {
     // one that has no room for so many nodes
     let device = (3, "", "mfpx: device\n");
     let shelf = Shelf::new(3, false);
-    assert_eq!(rt; ends_over(&rt, shelf, b"nodes 5\n", device)?, (true, 1));
+    assert_eq!(rt; ends_over(&rt, shelf, b"nodes 5\n", device)?, (true, 1, 0));
+    // the lines are read before
+    let faulty = (1, "", "mfpx: line 2 fault 2\n");
+    let shelf = Shelf::new(3, false);
+    assert_eq!(rt;
+        ends_over(&rt, shelf, b"nodes 3\nflash\n", faulty)?,
+        (true, 0, 0)
+    );
     Ok(())
 }

@@ -22,3 +22,10 @@ returns-clause-faulty g c = λ one. (
   rw (← c.as_slice.ensures.value) (c.in-Err.ensures.faulty (sym c.status.ensures ∙ one)),
   c.tell.ensures,
 )
+
+-- the words that were handed on name a folder where those of the call do
+pub returns-in-Ok-clause-folder_alone : goal.returns-in-Ok-clause-folder_alone
+returns-in-Ok-clause-folder_alone g c = rw (← c.as_slice.ensures.value) c.run.ensures.folder_alone
+
+pub returns-clause-folder_alone : goal.returns-clause-folder_alone
+returns-clause-folder_alone g c = rw (← c.as_slice.ensures.value) c.run.ensures.folder_alone

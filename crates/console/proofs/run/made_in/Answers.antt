@@ -2,7 +2,7 @@ use Rattle.std.proofs.Common.{sym, ◌∙◌}
 use Rattle.std.proofs.lemmas.Result.{IfErr-weaker, IfOk-weaker}
 use Rattle.console.proofs.run.made_in.Goals as goal
 
--- it is one over the files that were opened, as many as there are nodes
+-- it is one over what was opened, as many as there are nodes
 pub returns-clause-made : goal.returns-clause-made
 returns-clause-made g c =
     IfOk-weaker c.made_over.result _ _ (λ text runs. (
