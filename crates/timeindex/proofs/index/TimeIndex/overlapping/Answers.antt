@@ -12,3 +12,7 @@ returns-in_err-push-clause-none c = λ none.
     let over : overlaps p c.entry-item.result ≡ true = search rules in
     absurd (one_is_told p c.entry-item.result c.entry-item.result all c.loop-entry.entry-index (search rules) c.entry-item.is over
     (ap (λ es. ids_overlapping es p) same ∙ none))
+
+-- all are told
+pub returns-clause-none : goal.returns-clause-none
+returns-clause-none c = search rules
