@@ -1,4 +1,4 @@
-use Rattle.std.proofs.Common.{◌≡◌, sym, subst}
+use Rattle.std.proofs.Common.{◌≡◌, rules, sym, subst}
 use Rattle.std.proofs.lemmas.Result.{IfOk-weaker, on_ok_weaker}
 use Rattle.sessions.specs.Machines.{MachineState, after_request}
 use Rattle.sessions.specs.Standing.{StandsForOneMore, RepliesOneMore}
@@ -13,6 +13,9 @@ pub returns-in-NoOp-clause-stands : goal.returns-in-NoOp-clause-stands
 returns-in-NoOp-clause-stands c =
     subst (λ (d : Command). StandsForOneMore c.args.self.now c.args.self.now d) (sym c.in-NoOp.is)
     (record { stands = stands_noop c.args.self.now })
+
+pub returns-in-NoOp-clause-effect : goal.returns-in-NoOp-clause-effect
+returns-in-NoOp-clause-effect c = search rules
 
 -- a request
 pub returns-in-Request-clause-stands : goal.returns-in-Request-clause-stands
