@@ -1,4 +1,4 @@
-use Rattle.std.proofs.Common.{refl}
+use Rattle.std.proofs.Common.{refl, rules}
 use Rattle.stable.proofs.MemoryLemmas.{vote_stored, same_stored}
 use Rattle.stable.proofs.memory.MemStableStable.put.Goals as goal
 
@@ -11,3 +11,7 @@ returns-in_ok-insert-in-Vote-clause-ok c =
 pub returns-in_err-insert-in-Vote-clause-memory : goal.returns-in_err-insert-in-Vote-clause-memory
 returns-in_err-insert-in-Vote-clause-memory c =
     λ _. same_stored c.args.self.now c.insert.new.self c.in_err-insert-in-Vote.ensures.unchanged
+
+-- the round that is begun
+pub returns-in-Round-clause-device : goal.returns-in-Round-clause-device
+returns-in-Round-clause-device c = search rules
