@@ -22,6 +22,9 @@ returns-in_ok-push-clause-replies c =
     c.in_ok-reply.reply _ c.args.replies.now.items (search rules) c.in-Request.is c.in_ok-reply.ensures.replies
     c.client-client.ensures c.number-number.ensures (search rules) (search rules))
 
+pub returns-in_ok-push-clause-executes : goal.returns-in_ok-push-clause-executes
+returns-in_ok-push-clause-executes c = search rules
+
 -- a request that did not
 pub returns-else-executed-clause-stands : goal.returns-else-executed-clause-stands
 returns-else-executed-clause-stands c =
