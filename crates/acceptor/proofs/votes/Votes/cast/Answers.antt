@@ -16,6 +16,9 @@ returns-in-Ok-clause-votes g c = λ s.
     ap (option_map (vote_at s)) (ap (λ f. f s) c.in_ok-before.ensures.stands)
     ∙ votes-put (cast_at c.args.self.now) cast vote same s
 
+pub returns-in-Ok-clause-written : goal.returns-in-Ok-clause-written
+returns-in-Ok-clause-written g c = search rules
+
 -- what took its place is taken back
 pub returns-in-Err-clause-unchanged : goal.returns-in-Err-clause-unchanged
 returns-in-Err-clause-unchanged g c = λ s.
