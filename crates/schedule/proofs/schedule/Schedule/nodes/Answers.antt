@@ -1,0 +1,5 @@
+use Rattle.std.proofs.Common.{rules}
+use Rattle.schedule.proofs.schedule.Schedule.nodes.Goals as goal
+
+pub returns : goal.returns
+returns c = search rules
