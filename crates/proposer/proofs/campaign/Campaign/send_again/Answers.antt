@@ -1,10 +1,10 @@
-use Rattle.std.proofs.Common.{◌≡◌, ◌≢◌, ◌∙◌, ◌<◌, ◌≤◌, ◌∷◌, ℕ, List, [], length, map, take, true, Result, Ok, Err, OnErr, sym, ap, arith}
-use Rattle.std.proofs.Common.{rules}
+use Rattle.std.proofs.Common.{◌≡◌, ◌≢◌, ◌∙◌, ◌<◌, ◌≤◌, ◌∷◌, ℕ, List, [], length, map, take, true, sym, ap, arith, rules}
 use Rattle.std.proofs.lemmas.Grind.{common_steps}
 use Rattle.std.proofs.lemmas.List.{take_all}
 use Rattle.proposer.specs.Campaigning.{Campaigning, accept, sends_again}
 use Rattle.proposer.specs.declared.window.Proposal.{Proposal}
 use Rattle.proposer.specs.declared.outgoing.Outgoing.{Outgoing}
+use Rattle.learner.proofs.SlotLemmas.{where_refused}
 use Rattle.proposer.proofs.campaign.Campaign.send_again.Goals as goal
 
 -- where there is a proposal something is sent
@@ -17,10 +17,6 @@ all_sent : (k : Campaigning) (xs : List Proposal) (i : ℕ) (sent : List Outgoin
     → length xs ≤ i → sent ≡ map (accept k.ballot) (take i k.proposals) → sent ≡ sends_again k
 all_sent k xs i sent led is le of_all =
     rw led (of_all ∙ ap (map (accept k.ballot)) (take_all i k.proposals (rw is at le)))
-
-where_refused : {T E P : Type 0} (r : Result T E) → P → OnErr r P
-where_refused (Ok x) p = tt
-where_refused (Err e) p = p
 
 pub returns-then-not-self-clause-sends : goal.returns-then-not-self-clause-sends
 returns-then-not-self-clause-sends c = search rules
