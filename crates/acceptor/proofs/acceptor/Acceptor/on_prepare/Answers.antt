@@ -1,8 +1,9 @@
-use Rattle.std.proofs.Common.{◌≡◌, ◌==◌, ◌≤◌, ℕ, Some, None, Bool, true, false, Ok, Err, IsErrOf, not, inl, inr, refl, sym, ap}
+use Rattle.std.proofs.Common.{◌≡◌, ◌==◌, ◌≤◌, ℕ, Some, None, Bool, true, false, not, inl, inr, refl, sym, ap}
 use Rattle.std.proofs.Common.{rules, arith}
 use Rattle.std.proofs.lemmas.Result.{err_from_is_err_and}
 use Rattle.synod.specs.Ballots.{rank, rank_of}
 use Rattle.stable.specs.declared.key.Key.TheVariants as key
+use Rattle.stable.proofs.FaultLemmas.{handed_on, no_fault}
 use Rattle.acceptor.specs.Accepting.{refusing, prepare_write}
 use Rattle.acceptor.specs.Spelling.{ballot_bytes}
 use Rattle.acceptor.specs.State.{accepting_of}
@@ -17,13 +18,6 @@ turned b false is = rw is refl
 
 from_zero : (n : ℕ) → 0 ≤ n
 from_zero n = omega arith
-
--- what succeeded failed with no fault, and a fault is the same of any result
-no_fault : {T E : Type 0} (x : T) (e : E) → ¬ IsErrOf (Ok x) e
-no_fault x e is = absurd (cc)
-
-same_fault : {T U E : Type 0} (e d : E) → IsErrOf {T = T} (Err e) d → IsErrOf {T = U} (Err e) d
-same_fault e d is = let same : e ≡ d = cc in rw same refl
 
 -- no vote is of a ballot above the one that is promised now
 pub invariant_of-self : goal.invariant_of-self
@@ -108,8 +102,8 @@ returns-in_err-write_promise g c =
       written = tt;
       taken = taken;
       wanted = inr (rw write refl);
-      device = λ is. rw write (c.in_err-write_promise.ensures.device (same_fault _ _ is));
-      memory = λ is. c.in_err-write_promise.ensures.memory (same_fault _ _ is);
+      device = λ is. rw write (c.in_err-write_promise.ensures.device (handed_on _ _ is));
+      memory = λ is. c.in_err-write_promise.ensures.memory (handed_on _ _ is);
       err_state = refl;
-      not_damaged = λ is. c.in_err-write_promise.ensures.not_damaged (same_fault _ _ is);
+      not_damaged = λ is. c.in_err-write_promise.ensures.not_damaged (handed_on _ _ is);
     })
