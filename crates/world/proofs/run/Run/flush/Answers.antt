@@ -42,3 +42,9 @@ returns-in-Some-next_waiting-clause-limit g c = λ _.
 pub returns-in-None-next_waiting-clause-delivers : goal.returns-in-None-next_waiting-clause-delivers
 returns-in-None-next_waiting-clause-delivers g c =
     as_delivered _ _ _ _ _ _ c.loop-delivered.invariant c.next_waiting-2.ensures.same (search (rules, arith))
+
+pub returns-in-None-next_waiting-clause-limit : goal.returns-in-None-next_waiting-clause-limit
+returns-in-None-next_waiting-clause-limit g c = search rules
+
+pub returns-in-None-next_waiting-clause-not_to_the_end : goal.returns-in-None-next_waiting-clause-not_to_the_end
+returns-in-None-next_waiting-clause-not_to_the_end g c = search rules
