@@ -28,6 +28,9 @@ returns-in-Err-clause-unchanged g c = λ s.
     slot _ c.in_ok-before.before (λ i. ap (λ f. f i) c.in_ok-before.ensures.stands) c.put_back.ensures c.in_ok-before.ensures.before s in
     ap (option_map (vote_at s)) back
 
+pub returns-in-Err-clause-memory : goal.returns-in-Err-clause-memory
+returns-in-Err-clause-memory g c = search rules
+
 -- memory was wanting
 pub returns-in_err-before-clause-unchanged : goal.returns-in_err-before-clause-unchanged
 returns-in_err-before-clause-unchanged g c =
