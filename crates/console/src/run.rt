@@ -1,10 +1,11 @@
 //! A run of the program over any streams.
 
-ghost use Rattle.std.specs.Prelude.{◌≡◌, ◌≢◌, ◌≤◌, ◌⊎◌, ℕ, List, length, map, Some, None};
+ghost use Rattle.std.specs.Prelude.{◌≡◌, ◌≢◌, ◌≤◌, ◌⊎◌, ℕ, List, map};
 ghost use Rattle.std.specs.Prelude.{string_bytes, true, IfOk, IfErr, IfSome, IsErrOf, OnErr, OnOk};
 ghost use Rattle.endings.specs.Failures.{line_text, status_of};
-ghost use Rattle.commandline.specs.Forms.{AskFor, NameFolder, NameInput, text_of as name_text};
-ghost use Rattle.console.specs.Jobs.{EndsIn, IsAnswer, IsFaulty, IsKept, IsLooped, LoopStops, MakesIn, Stops};
+ghost use Rattle.commandline.specs.Forms.{AskFor, NameInput, text_of as name_text};
+ghost use Rattle.console.specs.Archives.{EndsKept, HandsNone, HandsOut, IsClosed, IsKept};
+ghost use Rattle.console.specs.Jobs.{EndsIn, IsAnswer, IsFaulty, IsLeft, IsLooped, LoopStops, MakesIn};
 ghost use Rattle.datagrams.specs.Counts.{socket_count};
 ghost use Rattle.replay.specs.Runs.{IsRunOver};
 ghost use Rattle.works.specs.Works.{IsUnread, StopsOver};
@@ -53,29 +54,28 @@ pub fn command<R: Read, O: Write, E: Write, A: Archive>(
     ensures statuses { result ≤ 3 }
     ensures words_come_first { result ≡ 2 → input.new ≡ input.old }
     ensures file_alone { ¬ NameInput (map string_bytes words.items) → input.new ≡ input.old }
-
-    // The archive is left as it was where the words ask for nothing, and where they name no folder.
     ensures archive_untouched { result ≡ 2 → archive.new ≡ archive.old }
-    ensures folder_alone { ((work : Work) → (folder : List ℕ) → ¬ NameFolder (map string_bytes words.items) work (Some folder))
-        → archive.new ≡ archive.old }
 
     // What goes to `out`: the whole text, or nothing. Of what a stream took before it failed no clause speaks.
     ensures done { result ≡ 0 → (text : List ℕ)
-        × IsAnswer (⟦<Scripted<MemStable> as Stable>⟧) A.Records.Stable (⟦<Sockets as Transport>⟧)
-        (map string_bytes words.items) (R.remaining input.old) text
+        × IsAnswer (⟦<Scripted<MemStable> as Stable>⟧) A.Archive A.Records.Stable (⟦<Sockets as Transport>⟧)
+        (map string_bytes words.items) (R.remaining input.old) archive.old text archive.new
         × Takes O.contents out.old out.new text }
     ensures faulty_unprinted { result ≡ 1 → out.new ≡ out.old }
     ensures usage_unprinted { result ≡ 2 → out.new ≡ out.old }
-    ensures failed_unprinted { result ≡ 3 → (out.new ≡ out.old) ⊎ ((text : List ℕ)
-        × IsAnswer (⟦<Scripted<MemStable> as Stable>⟧) A.Records.Stable (⟦<Sockets as Transport>⟧)
-        (map string_bytes words.items) (R.remaining input.old) text
+    ensures failed_unprinted { result ≡ 3 → ((out.new ≡ out.old) × (failure : Failure)
+        × IsLeft (⟦<Scripted<MemStable> as Stable>⟧) A.Archive A.Records.Stable (⟦<Sockets as Transport>⟧)
+        (map string_bytes words.items) (R.remaining input.old) archive.old failure archive.new
+        × Tells E.contents err.old err.new (line_text failure)) ⊎ ((text : List ℕ)
+        × IsAnswer (⟦<Scripted<MemStable> as Stable>⟧) A.Archive A.Records.Stable (⟦<Sockets as Transport>⟧)
+        (map string_bytes words.items) (R.remaining input.old) archive.old text archive.new
         × (out.new.has_failed ≡ true)) }
 
     // Why, and what goes to `err`: the line of that failure.
     ensures done_silently { result ≡ 0 → err.new ≡ err.old }
     ensures faulty { result ≡ 1 → (failure : Failure)
-        × IsFaulty (⟦<Scripted<MemStable> as Stable>⟧) A.Records.Stable (⟦<Sockets as Transport>⟧)
-        (map string_bytes words.items) (R.remaining input.old) failure
+        × IsFaulty (⟦<Scripted<MemStable> as Stable>⟧) A.Archive A.Records.Stable (⟦<Sockets as Transport>⟧)
+        (map string_bytes words.items) (R.remaining input.old) archive.old failure archive.new
         × Tells E.contents err.old err.new (line_text failure) }
     ensures usage { result ≡ 2 → (work : Work) → ¬ AskFor (map string_bytes words.items) work }
     ensures usage_told { result ≡ 2 → Tells E.contents err.old err.new (line_text Failure.Usage) }
@@ -103,12 +103,12 @@ fn run<R: Read, O: Write, A: Archive>(
     archive: &mut A,
 ) -> Result<(), Failure>
     ensures done { OnOk result ((text : List ℕ)
-        × IsAnswer (⟦<Scripted<MemStable> as Stable>⟧) A.Records.Stable (⟦<Sockets as Transport>⟧)
-        (map string_bytes words.now) (R.remaining input.old) text
+        × IsAnswer (⟦<Scripted<MemStable> as Stable>⟧) A.Archive A.Records.Stable (⟦<Sockets as Transport>⟧)
+        (map string_bytes words.now) (R.remaining input.old) archive.old text archive.new
         × Takes O.contents out.old out.new text) }
     ensures faulty { IfErr result (λ failure. status_of failure ≡ 1
-        → IsFaulty (⟦<Scripted<MemStable> as Stable>⟧) A.Records.Stable (⟦<Sockets as Transport>⟧)
-        (map string_bytes words.now) (R.remaining input.old) failure) }
+        → IsFaulty (⟦<Scripted<MemStable> as Stable>⟧) A.Archive A.Records.Stable (⟦<Sockets as Transport>⟧)
+        (map string_bytes words.now) (R.remaining input.old) archive.old failure archive.new) }
     ensures usage { IfErr result (λ failure. failure ≡ Failure.Usage
         → (work : Work) → ¬ AskFor (map string_bytes words.now) work) }
     ensures no_form { ((work : Work) → ¬ AskFor (map string_bytes words.now) work)
@@ -116,16 +116,16 @@ fn run<R: Read, O: Write, A: Archive>(
     ensures no_form_unread { ((work : Work) → ¬ AskFor (map string_bytes words.now) work) → input.new ≡ input.old }
     ensures untouched { IfErr result (λ failure. failure ≢ Failure.Device
         → out.new ≡ out.old) }
-    ensures unprinted { OnErr result ((out.new ≡ out.old) ⊎ ((text : List ℕ)
-        × IsAnswer (⟦<Scripted<MemStable> as Stable>⟧) A.Records.Stable (⟦<Sockets as Transport>⟧)
-        (map string_bytes words.now) (R.remaining input.old) text
+    ensures unprinted { IfErr result (λ failure. ((out.new ≡ out.old)
+        × IsLeft (⟦<Scripted<MemStable> as Stable>⟧) A.Archive A.Records.Stable (⟦<Sockets as Transport>⟧)
+        (map string_bytes words.now) (R.remaining input.old) archive.old failure archive.new) ⊎ ((text : List ℕ)
+        × IsAnswer (⟦<Scripted<MemStable> as Stable>⟧) A.Archive A.Records.Stable (⟦<Sockets as Transport>⟧)
+        (map string_bytes words.now) (R.remaining input.old) archive.old text archive.new
         × (out.new.has_failed ≡ true))) }
     ensures words_come_first { IfErr result (λ failure. failure ≡ Failure.Usage
         → input.new ≡ input.old) }
     ensures file_alone { ¬ NameInput (map string_bytes words.now) → input.new ≡ input.old }
     ensures archive_untouched { IfErr result (λ failure. failure ≡ Failure.Usage → archive.new ≡ archive.old) }
-    ensures folder_alone { ((work : Work) → (folder : List ℕ) → ¬ NameFolder (map string_bytes words.now) work (Some folder))
-        → archive.new ≡ archive.old }
 {
     let job = match job_of(rt.alloc(), words) {
         Ok(job) => job,
@@ -147,13 +147,11 @@ fn text_of<A: Archive>(
     folder: Option<&str>,
     bytes: &[u8],
 ) -> Result<Vec<u8>, Failure>
-    ensures makes { IfOk result (λ text. MakesIn (⟦<Scripted<MemStable> as Stable>⟧)
-        A.Records.Stable (⟦<Sockets as Transport>⟧) work (name_text folder.entry) bytes.now text.items) }
-    ensures ends { IfErr result (λ failure. failure ≢ Failure.Memory → failure ≢ Failure.Device
-        → EndsIn (⟦<Scripted<MemStable> as Stable>⟧) A.Records.Stable (⟦<Sockets as Transport>⟧)
-        work (name_text folder.entry) bytes.now failure) }
+    ensures makes { IfOk result (λ text. MakesIn (⟦<Scripted<MemStable> as Stable>⟧) A.Archive A.Records.Stable (⟦<Sockets as Transport>⟧)
+        work (name_text folder.entry) bytes.now archive.old text.items archive.new) }
+    ensures ends { IfErr result (λ failure. EndsIn (⟦<Scripted<MemStable> as Stable>⟧) A.Archive A.Records.Stable (⟦<Sockets as Transport>⟧)
+        work (name_text folder.entry) bytes.now archive.old failure archive.new) }
     ensures no_usage { IfErr result (λ failure. failure ≢ Failure.Usage) }
-    ensures folder_alone { name_text folder.entry ≡ None → archive.new ≡ archive.old }
 {
     match (work, folder) {
         (Work::Replay, None) => transcript(rt.alloc(), bytes),
@@ -173,9 +171,8 @@ fn kept<A: Archive>(
     folder: &str,
     bytes: &[u8],
 ) -> Result<Vec<u8>, Failure>
-    ensures kept { IfOk result (λ text. IsKept A.Records.Stable bytes.now text.items) }
-    ensures ends { IfErr result (λ failure. failure ≢ Failure.Memory → failure ≢ Failure.Device
-        → IsUnread bytes.now failure ⊎ Stops A.Records.Stable bytes.now failure) }
+    ensures kept { IfOk result (λ text. IsKept A.Archive A.Records.Stable folder.now bytes.now archive.old text.items archive.new) }
+    ensures ends { IfErr result (λ failure. EndsKept A.Archive A.Records.Stable folder.now bytes.now archive.old failure archive.new) }
     ensures no_usage { IfErr result (λ failure. failure ≢ Failure.Usage) }
 {
     let schedule = planned(rt.alloc(), bytes)?;
@@ -187,12 +184,26 @@ fn kept<A: Archive>(
             Ok(text)
         }
         Err(failure) => {
-            // What a crash has left open beside records stays so: nothing is to be changed there.
-            if !was_left_open || failure != Failure::NotEmpty {
-                archive.settle(rt, folder, count);
-            }
+            close(rt, archive, folder, count, was_left_open, failure);
             Err(failure)
         }
+    }
+}
+
+/// Closes in order what a run has left open that ended so. What a crash had left open beside records stays so: nothing is to be
+/// changed there.
+fn close<A: Archive>(
+    rt: &HostRuntime,
+    archive: &mut A,
+    folder: &str,
+    count: Nodes,
+    was_left_open: bool,
+    failure: Failure,
+)
+    ensures { IsClosed A.Archive was_left_open failure folder.now count archive.old archive.new }
+{
+    if !was_left_open || failure != Failure::NotEmpty {
+        archive.settle(rt, folder, count);
     }
 }
 
@@ -203,11 +214,13 @@ fn made_in<A: Archive>(
     folder: &str,
     schedule: Schedule,
 ) -> Result<Vec<u8>, Failure>
-    ensures made { IfOk result (λ text. (stores : List A.Records) × (length stores ≡ schedule.nodes)
+    ensures made { IfOk result (λ text. (stores : List A.Records)
+        × HandsOut A.Archive folder.now schedule.nodes archive.old stores archive.new
         × IsRunOver A.Records.Stable stores schedule text.items) }
-    ensures ends { IfErr result (λ failure. failure ≢ Failure.Memory → failure ≢ Failure.Device
-        → (stores : List A.Records) × (length stores ≡ schedule.nodes)
-        × StopsOver A.Records.Stable stores schedule failure) }
+    ensures ends { IfErr result (λ failure. HandsNone A.Archive folder.now schedule.nodes archive.old failure archive.new
+        ⊎ ((stores : List A.Records)
+        × HandsOut A.Archive folder.now schedule.nodes archive.old stores archive.new
+        × (failure ≢ Failure.Memory → StopsOver A.Records.Stable stores schedule failure))) }
     ensures no_usage { IfErr result (λ failure. failure ≢ Failure.Usage) }
 {
     let stores = archive.open(rt, folder, schedule.nodes())?;

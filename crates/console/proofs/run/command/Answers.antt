@@ -1,4 +1,4 @@
-use Rattle.std.proofs.Common.{sym, ◌∙◌}
+use Rattle.std.proofs.Common.{inl, inr, sym, ◌∙◌}
 use Rattle.console.proofs.run.command.Goals as goal
 
 -- the words that were handed on are those of the call
@@ -11,10 +11,6 @@ returns-clause-file_alone g c = rw (← c.as_slice.ensures.value) c.run.ensures.
 pub returns-in-Ok-clause-file_alone : goal.returns-in-Ok-clause-file_alone
 returns-in-Ok-clause-file_alone g c = rw (← c.as_slice.ensures.value) c.run.ensures.file_alone
 
--- what was left unprinted is what the call's words ask for
-pub returns-clause-failed_unprinted : goal.returns-clause-failed_unprinted
-returns-clause-failed_unprinted g c = λ e. rw (← c.as_slice.ensures.value) c.in-Err.ensures.unprinted
-
 -- the failure whose line is written is the one that the run ended with
 pub returns-clause-faulty : goal.returns-clause-faulty
 returns-clause-faulty g c = λ one. (
@@ -23,9 +19,9 @@ returns-clause-faulty g c = λ one. (
   c.tell.ensures,
 )
 
--- the words that were handed on name a folder where those of the call do
-pub returns-in-Ok-clause-folder_alone : goal.returns-in-Ok-clause-folder_alone
-returns-in-Ok-clause-folder_alone g c = rw (← c.as_slice.ensures.value) c.run.ensures.folder_alone
-
-pub returns-clause-folder_alone : goal.returns-clause-folder_alone
-returns-clause-folder_alone g c = rw (← c.as_slice.ensures.value) c.run.ensures.folder_alone
+-- a run that printed nothing ended so, which is told; or a whole text could not be written
+pub returns-clause-failed_unprinted : goal.returns-clause-failed_unprinted
+returns-clause-failed_unprinted g c = λ e. rw (← c.as_slice.ensures.value) (elim c.in-Err.ensures.unprinted [
+  | inl unprinted ↦ inl (unprinted.0, c.in-Err.failure, unprinted.1, c.tell.ensures)
+  | inr printed ↦ inr printed
+])

@@ -1,6 +1,6 @@
 //! Schedules over clusters: through queues, and through sockets.
 
-use crate::clusters::{REMOVED, asked, has_lines, node, pump_twice, three_nodes};
+use crate::trials::clusters::{REMOVED, asked, has_lines, node, pump_twice, three_nodes};
 use cluster::{Queues, Transport};
 use datagrams::Sockets;
 use endings::{Failure, FaultyLine};

@@ -1,6 +1,6 @@
 //! Words of the command line: what they ask for, and what asks for nothing.
 
-use crate::streams::owned;
+use crate::trials::streams::owned;
 use commandline::{WordsFault, job_of};
 use jobs::{Source, Work};
 use std::test::Fail;

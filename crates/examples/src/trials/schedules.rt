@@ -1,7 +1,7 @@
 //! Lines of schedules with their faults, and a run over records. Schedules with their transcripts are the examples.
 
-use crate::clusters::{bus, node};
-use crate::worlds::three_storages;
+use crate::trials::clusters::{bus, node};
+use crate::trials::worlds::three_storages;
 use replay::{ReplayCause, ReplayFault, run};
 use schedule::{
     Action, ParseFault, ScheduleFault, faulty_is_no_schedule, first_faults_are_one, parse_schedule,

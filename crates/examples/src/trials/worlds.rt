@@ -2,7 +2,7 @@
 
 ghost use Rattle.std.specs.Prelude.{◌≡◌, vec_len, IfOk};
 
-use crate::clusters::{bus, node};
+use crate::trials::clusters::{bus, node};
 use history::{
     Event, a_start_tells, answers_are_one, lists_are_as_told, steps_tell, tellings_are_explained,
 };

@@ -2,8 +2,8 @@
 
 ghost use Rattle.std.specs.Prelude.{◌≡◌, vec_len};
 
-use crate::program::{FIRST_LINES, FIRST_RUN};
-use crate::worlds::three_storages;
+use crate::trials::program::{FIRST_LINES, FIRST_RUN};
+use crate::trials::worlds::three_storages;
 use console::{Archive, command};
 use endings::{Failure, Tracked};
 use stable::MemStable;
