@@ -1,7 +1,7 @@
 -- What a replay whose records an archive keeps asks of it, and what comes of both.
 use Rattle.std.specs.Prelude.{◌≡◌, ◌≢◌, ◌⊎◌, ℕ, Bool, true, List, length}
 use Rattle.stable.specs.declared.stable.Stable.{Ghosts}
-use Rattle.console.specs.declared.archive.Archive.{Ghosts as Archives}
+use Rattle.archive.specs.declared.archive.Archive.{Ghosts as Archives}
 use Rattle.endings.specs.declared.failure.Failure.{Failure}
 use Rattle.endings.specs.declared.failure.Failure.TheVariants.{NotEmpty, Device, Memory}
 use Rattle.replay.specs.Runs.{IsRunOver}

@@ -7,7 +7,7 @@ use Rattle.jobs.specs.declared.job.Work.{Work}
 use Rattle.jobs.specs.declared.job.Work.TheVariants.{Replay, Loopback, Check}
 use Rattle.endings.specs.declared.failure.Failure.{Failure}
 use Rattle.endings.specs.declared.failure.Failure.TheVariants.{Device, Memory}
-use Rattle.console.specs.declared.archive.Archive.{Ghosts as Archives}
+use Rattle.archive.specs.declared.archive.Archive.{Ghosts as Archives}
 use Rattle.console.specs.Archives.{EndsKept, IsKept}
 use Rattle.cluster.specs.declared.transport.Transport.{Ghosts as Transports}
 use Rattle.datagrams.specs.Counts.{socket_count}

@@ -7,7 +7,6 @@
 //! it is linked with.
 #![tactic(auto)]
 
-mod archive;
 mod failures;
 mod run;
 mod words;

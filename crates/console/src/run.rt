@@ -11,8 +11,8 @@ ghost use Rattle.replay.specs.Runs.{IsRunOver};
 ghost use Rattle.works.specs.Works.{IsUnread, StopsOver};
 ghost use Rattle.endings.specs.Streams.{Takes, Tells};
 
-use crate::archive::Archive;
 use crate::failures::words_failure;
+use archive::Archive;
 use cluster::Transport;
 use commandline::job_of;
 use datagrams::Sockets;

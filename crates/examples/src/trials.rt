@@ -1,5 +1,5 @@
-//! Tests of whole runs and of the program's parts: of `history`, `world`, `cluster`, `datagrams`, `schedule`, `replay`, `loopback` and
-//! `works`; of `commandline`, `endings` and `console`. The tests of storages stand in `mfpx`.
+//! Tests of whole runs and of the program's parts: of `history`, `world`, `cluster`, `datagrams`, `schedule`, `replay` and `works`; of
+//! `commandline`, `endings` and `console`.
 //!
 //! A crate with tests is proved twice. So tests stand here, over what those crates make public, and those crates have none. These
 //! stand in one crate, as a program of tests is checked with all that it is linked with; and in one that is a program itself, as a

@@ -11,21 +11,12 @@
 //!
 //! What a run does and how it ends is the affair of the crate `console`, whose `command` lists the
 //! exit statuses. Here its words and its streams are those of the process, and what keeps the
-//! records of a replay is files of a folder. The tests of storages stand here as well: nothing else
-//! is linked with the database.
+//! records of a replay is files of a folder.
 #![tactic(auto)]
 
-#[cfg(test)]
-mod calls;
-mod records;
-#[cfg(test)]
-mod scripts;
-#[cfg(test)]
-mod tables;
-
-use crate::records::Files;
 use console::{command, own_words};
 use endings::Tracked;
+use files::Files;
 use std::process::ExitCode;
 
 fn main(rt: HostRuntime) -> ExitCode {

@@ -8,7 +8,7 @@ use Rattle.schedule.specs.Schedules.{IsRefusal, IsScheduleOf, Plan}
 use Rattle.stable.specs.declared.memory.MemStable.{MemStable}
 use Rattle.cluster.specs.Clusters.{ClusterState}
 use Rattle.cluster.specs.declared.transport.Transport.{Ghosts as Transports}
-use Rattle.loopback.specs.Loops.{RunFails, RunsTo}
+use Rattle.works.specs.Loops.{RunFails, RunsTo}
 use Rattle.stable.specs.Memory.{in_memory}
 use Rattle.stable.specs.Storages.{scripted}
 use Rattle.history.specs.Flushing.{IsStart}

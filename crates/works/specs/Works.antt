@@ -19,7 +19,7 @@ use Rattle.replay.specs.declared.replay_fault.ReplayFault.{ReplayFault}
 use Rattle.history.specs.Flushing.{IsStart}
 use Rattle.cluster.specs.Clusters.{ClusterState}
 use Rattle.cluster.specs.declared.transport.Transport.{Ghosts as Transports}
-use Rattle.loopback.specs.Loops.{RunFails, RunsTo}
+use Rattle.works.specs.Loops.{RunFails, RunsTo}
 use Rattle.endings.specs.declared.failure.Failure.{Failure}
 use Rattle.endings.specs.declared.failure.Failure.TheVariants as failure
 use Rattle.endings.specs.declared.failure.FaultyDocument.{FaultyDocument}

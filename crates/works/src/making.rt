@@ -8,9 +8,9 @@ ghost use Rattle.mfjson.specs.Document.{IsCanonical};
 ghost use Rattle.works.specs.Works.{CheckStops, IsChecked, IsJoined, IsLoopedOver, IsUnread, LoopStopsOver, ReplayStops, StopsOver};
 
 use crate::failures::{document_failure, replay_failure, run_failure};
+use crate::running::run_through;
 use cluster::{Cluster, Transport};
 use endings::Failure;
-use loopback::run_through;
 use mfjson::Feature;
 use replay::{ReplayFault, Replayed, replay, run};
 use schedule::{Schedule, parse_schedule};

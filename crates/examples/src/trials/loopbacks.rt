@@ -4,13 +4,12 @@ use crate::trials::clusters::{REMOVED, asked, has_lines, node, pump_twice, three
 use cluster::{Queues, Transport};
 use datagrams::Sockets;
 use endings::{Failure, FaultyLine};
-use loopback::run_through;
 use schedule::parse_schedule;
 use std::alloc::Global;
 use std::net::{IpAddr, Ipv4Addr, SocketAddr, UdpSocket};
 use std::test::Fail;
 use wire::Nodes;
-use works::{looped_over, planned};
+use works::{looped_over, planned, run_through};
 
 // the main job
 const FIRST_RUN: &[u8] = b"nodes 3\nsubmit 0 7 1 remove bus-7\ntimeout 0\nflush\n";

@@ -1,5 +1,5 @@
 use Rattle.std.proofs.Common.{◌≡◌, vec_len}
-use Rattle.mfpx.proofs.records.FilesArchive.open.Given as goal
+use Rattle.files.proofs.files.FilesArchive.open.Given as goal
 
 -- as many files were opened
 abbrev pub invariant-loop-number : goal.invariant-loop-number

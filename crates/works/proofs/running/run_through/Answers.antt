@@ -1,6 +1,6 @@
 use Rattle.std.proofs.lemmas.Result.{err_from_is_err_and}
-use Rattle.loopback.proofs.Looping.{run_ends_at, run_ends_last, runs_to}
-use Rattle.loopback.proofs.running.run_through.Goals as goal
+use Rattle.works.proofs.Looping.{run_ends_at, run_ends_last, runs_to}
+use Rattle.works.proofs.running.run_through.Goals as goal
 
 pub returns-in_err-do_lines-clause-fault : goal.returns-in_err-do_lines-clause-fault
 returns-in_err-do_lines-clause-fault g c =

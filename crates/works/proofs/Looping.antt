@@ -18,7 +18,7 @@ use Rattle.schedule.specs.declared.schedule.ScheduleLine.{ScheduleLine}
 use Rattle.replay.specs.declared.replay_fault.ReplayCause.TheVariants.{Memory}
 use Rattle.replay.specs.declared.replay_fault.ReplayFault.{ReplayFault}
 use Rattle.history.specs.Staying.{IsSafeOver}
-use Rattle.loopback.specs.Loops.{IsDone, IsRefused, PumpsTo, RunFails, RunsTo, SendsOn, storages, text_of}
+use Rattle.works.specs.Loops.{IsDone, IsRefused, PumpsTo, RunFails, RunsTo, SendsOn, storages, text_of}
 
 abbrev failed : WorldFault → Result ℕ WorldFault
 failed fault = Err fault

@@ -1,8 +1,8 @@
 use Rattle.std.specs.Vec.Iter.{into_iter_items, into_iter_len}
 use Rattle.cluster.specs.ClusterViews.{cluster_of}
 use Rattle.replay.proofs.LineByLine.{DoneSoFar}
-use Rattle.loopback.specs.Loops.{IsDone}
-use Rattle.loopback.proofs.running.do_lines.Given as goal
+use Rattle.works.specs.Loops.{IsDone}
+use Rattle.works.proofs.running.do_lines.Given as goal
 
 -- the lines that were taken are done, and the others are left
 abbrev pub invariant-loop-line : goal.invariant-loop-line

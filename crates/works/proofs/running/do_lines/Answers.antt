@@ -1,7 +1,7 @@
 use Rattle.std.proofs.lemmas.Result.{err_from_is_err_and}
-use Rattle.loopback.specs.Loops.{IsDone, IsRefused}
+use Rattle.works.specs.Loops.{IsDone, IsRefused}
 use Rattle.replay.proofs.LineByLine.{all_taken, one_more_taken, stops_here}
-use Rattle.loopback.proofs.running.do_lines.Goals as goal
+use Rattle.works.proofs.running.do_lines.Goals as goal
 
 pub loop-line-preserved : goal.loop-line-preserved
 loop-line-preserved g c =

@@ -1,8 +1,8 @@
 //! Records in a table: in memory, over disks that fail, and in a file.
 
 use crate::calls::{fill, is_filled, keeps_records, put, vote};
-use crate::records::Files;
-use console::Archive;
+use archive::Archive;
+use files::Files;
 use sqlite::{Connection, Error, FileStore, Files as TwoFiles, MemStore, Options, params};
 use sqlite_disk::{Disk, Fuse, Memory};
 use sqlstable::SqlStable;

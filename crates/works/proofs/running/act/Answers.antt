@@ -1,7 +1,7 @@
 use Rattle.std.proofs.lemmas.Result.{err_from_is_err_and}
 use Rattle.cluster.specs.ClusterViews.{cluster_of}
-use Rattle.loopback.proofs.Looping.{round_done, round_refused}
-use Rattle.loopback.proofs.running.act.Goals as goal
+use Rattle.works.proofs.Looping.{round_done, round_refused}
+use Rattle.works.proofs.running.act.Goals as goal
 
 -- the round has come to its end
 pub returns-in_ok-_end-in-Round-clause-done : goal.returns-in_ok-_end-in-Round-clause-done

@@ -2,7 +2,7 @@
 
 ghost use Rattle.std.specs.Prelude.{◌≡◌, ◌⊎◌, IfErr};
 
-use console::Archive;
+use archive::Archive;
 use endings::Failure;
 use sqlite::{File, FileStore};
 use sqlstable::SqlStable;
@@ -13,7 +13,7 @@ use wire::Nodes;
 
 /// Files of SQLite, node i's records in `nodei.db` of the folder. A file is made where there is none; the folder isn't.
 #[derive(Clone, Copy, Debug)]
-pub(crate) struct Files;
+pub struct Files;
 
 impl Archive for Files {
     type Records = SqlStable<FileStore<File>>;

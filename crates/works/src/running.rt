@@ -5,7 +5,7 @@ ghost use Rattle.cluster.specs.ClusterViews.{cluster_of, world_in};
 ghost use Rattle.replay.specs.Causes.{cause_of};
 ghost use Rattle.replay.specs.LineByLine.{AllDone, LineStops, StopsAtOne};
 ghost use Rattle.history.specs.Staying.{IsSafeOver};
-ghost use Rattle.loopback.specs.Loops.{IsDone, IsRefused, RunFails, RunsTo, strangers_line, text_of};
+ghost use Rattle.works.specs.Loops.{IsDone, IsRefused, RunFails, RunsTo, strangers_line, text_of};
 
 use cluster::{Cluster, Transport};
 use replay::{ReplayCause, ReplayFault, transcript};
