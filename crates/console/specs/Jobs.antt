@@ -78,6 +78,6 @@ module _ {S A F : Type 0} (storages : Ghosts (Script S)) (archive : Archives A F
     pub named : MayName words left bytes
     pub ends : EndsIn work folder bytes before failure after
 
-  -- so it ends, or the archive is as it was
-  abbrev pub IsLeft : List (List ℕ) → Option (List ℕ) → A → Failure → A → Type 0
-  IsLeft words left before failure after = (after ≡ before) ⊎ IsFaulty words left before failure after
+  -- so it ends; or it ends before the work began, and the archive is as it was
+  abbrev pub IsCutShort : List (List ℕ) → Option (List ℕ) → A → Failure → A → Type 0
+  IsCutShort words left before failure after = (after ≡ before) ⊎ IsFaulty words left before failure after

@@ -4,8 +4,8 @@ ghost use Rattle.std.specs.Prelude.{◌≡◌, ◌≢◌, ◌≤◌, ◌⊎◌, 
 ghost use Rattle.std.specs.Prelude.{string_bytes, true, IfOk, IfErr, IfSome, IsErrOf, OnErr, OnOk};
 ghost use Rattle.endings.specs.Failures.{line_text, status_of};
 ghost use Rattle.commandline.specs.Forms.{AskFor, NameInput, text_of as name_text};
-ghost use Rattle.console.specs.Archives.{EndsKept, HandsNone, HandsOut, IsClosed, IsKept};
-ghost use Rattle.console.specs.Jobs.{EndsIn, IsAnswer, IsFaulty, IsLeft, IsLooped, LoopStops, MakesIn};
+ghost use Rattle.console.specs.Archives.{EndsKept, HandsNone, HandsOut, IsSettledAfter, IsKept};
+ghost use Rattle.console.specs.Jobs.{EndsIn, IsAnswer, IsFaulty, IsCutShort, IsLooped, LoopStops, MakesIn};
 ghost use Rattle.datagrams.specs.Counts.{socket_count};
 ghost use Rattle.replay.specs.Runs.{IsRunOver};
 ghost use Rattle.works.specs.Works.{IsUnread, StopsOver};
@@ -56,15 +56,15 @@ pub fn command<R: Read, O: Write, E: Write, A: Archive>(
     ensures file_alone { ¬ NameInput (map string_bytes words.items) → input.new ≡ input.old }
     ensures archive_untouched { result ≡ 2 → archive.new ≡ archive.old }
 
-    // What goes to `out`: the whole text, or nothing. Of what a stream took before it failed no clause speaks.
+    // What goes to `out`: the whole text, or nothing. Of what a stream that fails took no clause speaks.
     ensures done { result ≡ 0 → (text : List ℕ)
         × IsAnswer (⟦<Scripted<MemStable> as Stable>⟧) A.Archive A.Records.Stable (⟦<Sockets as Transport>⟧)
         (map string_bytes words.items) (R.remaining input.old) archive.old text archive.new
         × Takes O.contents out.old out.new text }
     ensures faulty_unprinted { result ≡ 1 → out.new ≡ out.old }
     ensures usage_unprinted { result ≡ 2 → out.new ≡ out.old }
-    ensures failed_unprinted { result ≡ 3 → ((out.new ≡ out.old) × (failure : Failure)
-        × IsLeft (⟦<Scripted<MemStable> as Stable>⟧) A.Archive A.Records.Stable (⟦<Sockets as Transport>⟧)
+    ensures failed_unprinted { result ≡ 3 → ((out.new ≡ out.old) × (failure : Failure) × (status_of failure ≡ 3)
+        × IsCutShort (⟦<Scripted<MemStable> as Stable>⟧) A.Archive A.Records.Stable (⟦<Sockets as Transport>⟧)
         (map string_bytes words.items) (R.remaining input.old) archive.old failure archive.new
         × Tells E.contents err.old err.new (line_text failure)) ⊎ ((text : List ℕ)
         × IsAnswer (⟦<Scripted<MemStable> as Stable>⟧) A.Archive A.Records.Stable (⟦<Sockets as Transport>⟧)
@@ -73,7 +73,7 @@ pub fn command<R: Read, O: Write, E: Write, A: Archive>(
 
     // Why, and what goes to `err`: the line of that failure.
     ensures done_silently { result ≡ 0 → err.new ≡ err.old }
-    ensures faulty { result ≡ 1 → (failure : Failure)
+    ensures faulty { result ≡ 1 → (failure : Failure) × (status_of failure ≡ 1)
         × IsFaulty (⟦<Scripted<MemStable> as Stable>⟧) A.Archive A.Records.Stable (⟦<Sockets as Transport>⟧)
         (map string_bytes words.items) (R.remaining input.old) archive.old failure archive.new
         × Tells E.contents err.old err.new (line_text failure) }
@@ -117,7 +117,7 @@ fn run<R: Read, O: Write, A: Archive>(
     ensures untouched { IfErr result (λ failure. failure ≢ Failure.Device
         → out.new ≡ out.old) }
     ensures unprinted { IfErr result (λ failure. ((out.new ≡ out.old)
-        × IsLeft (⟦<Scripted<MemStable> as Stable>⟧) A.Archive A.Records.Stable (⟦<Sockets as Transport>⟧)
+        × IsCutShort (⟦<Scripted<MemStable> as Stable>⟧) A.Archive A.Records.Stable (⟦<Sockets as Transport>⟧)
         (map string_bytes words.now) (R.remaining input.old) archive.old failure archive.new) ⊎ ((text : List ℕ)
         × IsAnswer (⟦<Scripted<MemStable> as Stable>⟧) A.Archive A.Records.Stable (⟦<Sockets as Transport>⟧)
         (map string_bytes words.now) (R.remaining input.old) archive.old text archive.new
@@ -163,8 +163,8 @@ fn text_of<A: Archive>(
 
 /// The transcript of the schedule that the bytes spell, whose nodes keep their records under the folder's name.
 ///
-/// The schedule is parsed before records are opened. Where a node's hold one nothing is written. However the run ends, they are
-/// closed in order; what can't be stays as the run has left it, and nothing else is told of that.
+/// The schedule is parsed before the archive is asked for anything. Whether a run has left records open there is asked before they are
+/// opened, as it decides what is settled after a run that makes no transcript.
 fn kept<A: Archive>(
     rt: &HostRuntime,
     archive: &mut A,
@@ -184,15 +184,15 @@ fn kept<A: Archive>(
             Ok(text)
         }
         Err(failure) => {
-            close(rt, archive, folder, count, was_left_open, failure);
+            settle_after(rt, archive, folder, count, was_left_open, failure);
             Err(failure)
         }
     }
 }
 
-/// Closes in order what a run has left open that ended so. What a crash had left open beside records stays so: nothing is to be
-/// changed there.
-fn close<A: Archive>(
+/// Settles the archive after a run that ended so. What a crash had left open is settled where the run came to a line that can't be
+/// done, as it was over no records then; else there may be records beside it, where nothing is to be changed.
+fn settle_after<A: Archive>(
     rt: &HostRuntime,
     archive: &mut A,
     folder: &str,
@@ -200,9 +200,9 @@ fn close<A: Archive>(
     was_left_open: bool,
     failure: Failure,
 )
-    ensures { IsClosed A.Archive was_left_open failure folder.now count archive.old archive.new }
+    ensures { IsSettledAfter A.Archive was_left_open failure folder.now count archive.old archive.new }
 {
-    if !was_left_open || failure != Failure::NotEmpty {
+    if !was_left_open || matches!(failure, Failure::Schedule(_)) {
         archive.settle(rt, folder, count);
     }
 }

@@ -15,6 +15,7 @@ returns-in-Ok-clause-file_alone g c = rw (← c.as_slice.ensures.value) c.run.en
 pub returns-clause-faulty : goal.returns-clause-faulty
 returns-clause-faulty g c = λ one. (
   c.in-Err.failure,
+  sym c.status.ensures ∙ one,
   rw (← c.as_slice.ensures.value) (c.in-Err.ensures.faulty (sym c.status.ensures ∙ one)),
   c.tell.ensures,
 )
@@ -22,6 +23,6 @@ returns-clause-faulty g c = λ one. (
 -- a run that printed nothing ended so, which is told; or a whole text could not be written
 pub returns-clause-failed_unprinted : goal.returns-clause-failed_unprinted
 returns-clause-failed_unprinted g c = λ e. rw (← c.as_slice.ensures.value) (elim c.in-Err.ensures.unprinted [
-  | inl unprinted ↦ inl (unprinted.0, c.in-Err.failure, unprinted.1, c.tell.ensures)
+  | inl unprinted ↦ inl (unprinted.0, c.in-Err.failure, sym c.status.ensures ∙ e, unprinted.1, c.tell.ensures)
   | inr printed ↦ inr printed
 ])
