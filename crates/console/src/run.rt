@@ -87,11 +87,17 @@ pub fn command<R: Read, O: Write, E: Write, A: Archive>(
 {
     match run(rt, words.as_slice(), input, out, archive) {
         Ok(()) => 0,
-        Err(failure) => {
-            err.tell(failure);
-            failure.status()
-        }
+        Err(failure) => told(err, failure),
     }
+}
+
+/// Tells why nothing was printed, and answers the exit status of a run that ends so.
+fn told<E: Write>(err: &mut Tracked<E>, failure: Failure) -> u8
+    ensures status { result ≡ status_of failure }
+    ensures line { Tells E.contents err.old err.new (line_text failure) }
+{
+    err.tell(failure);
+    failure.status()
 }
 
 /// Writes what the words ask for.
