@@ -2,6 +2,8 @@
 pub mod WorldLemmas
 pub mod Lent
 pub mod Takings
+-- what is named, and not there
+pub mod Missing
 -- the start, and deliveries one after the other
 pub mod UsedStorages
 pub mod StartLemmas

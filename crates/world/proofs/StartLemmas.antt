@@ -1,6 +1,6 @@
 -- The nodes with which a run begins.
 use Rattle.std.proofs.Common.{◌≡◌, ℕ, zero, suc, ◌+◌, ◌≤◌, ◌⊎◌, inl, inr, List, [], ◌∷◌, ◌++◌, length, slice_get, map, Some, refl, sym, ap}
-use Rattle.std.proofs.Common.{subst, ◌∙◌, arith}
+use Rattle.std.proofs.Common.{subst, ◌∙◌, arith, append-nil}
 use Rattle.std.proofs.lemmas.List.{map-append, length-append, length-map}
 use Rattle.std.proofs.lemmas.List.Elements.{All-nil}
 use Rattle.std.proofs.lemmas.Option.{same_Some, none-some, slice_get_within}
@@ -30,6 +30,11 @@ pub all_taken : {A : Type 0} (taken left all : List A) (more len count : ℕ) �
 all_taken taken left all more len count parts counted none whole one_each =
     let sum : length (taken ++ left) ≡ length all = ap length parts in
     omega (arith, length-append taken left, sum, counted, none, whole, one_each)
+
+-- so it is that list
+pub whole_taken : {A : Type 0} (taken left all : List A) (more : ℕ) → taken ++ left ≡ all → more ≡ length left → more ≡ 0 → taken ≡ all
+whole_taken taken [] all more parts counted none = sym (append-nil taken) ∙ parts
+whole_taken taken (x ∷ left) all more parts counted none = absurd (omega (arith, counted, none))
 
 module _ {S : Type 0} (storages : Ghosts (Script S)) where
   -- none has started

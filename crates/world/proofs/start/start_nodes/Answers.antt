@@ -1,12 +1,12 @@
-use Rattle.std.proofs.Common.{◌≡◌, ◌∷◌, [], length, map, refl, sym, ap, subst, ◌∙◌, append_assoc, arith, rules, vec_len, ℕ}
+use Rattle.std.proofs.Common.{◌≡◌, ◌∷◌, [], length, map, refl, sym, ap, subst, ◌∙◌, append_assoc, arith, rules, vec_len, ℕ, inr}
 use Rattle.std.proofs.lemmas.List.{length-append, length-map}
 use Rattle.std.proofs.lemmas.Result.{err_from_is_err_and}
-use Rattle.std.proofs.lemmas.Grind.{common_steps}
 use Rattle.std.specs.Vec.Iter.{into_iter_items}
 use Rattle.stable.specs.Storages.{scripted}
 use Rattle.node.specs.Seen.{state_of}
 use Rattle.history.specs.Flushing.{IsStarted, HaveStarted}
-use Rattle.world.proofs.StartLemmas.{all_taken, none_started, none_over, one_more_started, one_over_more}
+use Rattle.history.specs.Starting.{AreOver}
+use Rattle.world.proofs.StartLemmas.{all_taken, whole_taken, none_started, none_over, one_more_started, one_over_more}
 use Rattle.world.proofs.UsedStorages.{one_of_all}
 use Rattle.world.proofs.start.start_nodes.Goals as goal
 
@@ -18,12 +18,31 @@ loop-store-init g c = record {
   over = none_over g.S.Stable (map state_of c.in_ok-nodes.nodes.items);
 }
 
-pub returns-in_err-node-clause-used : goal.returns-in_err-node-clause-used
-returns-in_err-node-clause-used g c =
+-- memory is (record { started = tt; over = tt; few = tt; used = λ e. absurd (cc); faults = inr refl })
+pub returns-in_err-nodes : goal.returns-in_err-nodes
+returns-in_err-nodes g c =
+    let exit = err_from_is_err_and c.from_residual.result c.from_residual.ensures.1 in
+    rw (exit.1, exit.2) (record { started = tt; over = tt; few = tt; used = λ e. absurd (cc); faults = inr refl })
+
+-- a node has not started
+pub returns-in_err-node : goal.returns-in_err-node
+returns-in_err-node g c =
     let at = c.loop-store in
-    let p = err_from_is_err_and c.from_residual-in_err-node.result c.from_residual-in_err-node.ensures.1 in
-    rw (p.1, p.2) (λ e. one_of_all g.S.Stable c.args.stores.items at.yielded (into_iter_items at.store-iterator) _ c.in-Some.store
-    (at.invariant.parts ∙ c.into_iter-store-iterator.ensures.into_iter_gives.0) c.in-Some.ensures.steps.0 (c.in_err-node.ensures.used e))
+    let exit = err_from_is_err_and c.from_residual-in_err-node.result c.from_residual-in_err-node.ensures.1 in
+    rw (exit.1, exit.2) (record {
+      started = tt;
+      over = tt;
+      few = tt;
+      used = λ e. one_of_all g.S.Stable c.args.stores.items at.yielded (into_iter_items at.store-iterator) _ c.in-Some.store
+          (at.invariant.parts ∙ c.into_iter-store-iterator.ensures.into_iter_gives.0) c.in-Some.ensures.steps.0
+          (c.in_err-node.ensures.used e);
+      faults = c.in_err-node.ensures.faults;
+    })
+
+pub returns-in_err-push : goal.returns-in_err-push
+returns-in_err-push g c =
+    let exit = err_from_is_err_and c.from_residual-in_err-push.result c.from_residual-in_err-push.ensures.1 in
+    rw (exit.1, exit.2) (record { started = tt; over = tt; few = tt; used = λ e. absurd (cc); faults = inr refl })
 
 pub loop-store-preserved : goal.loop-store-preserved
 loop-store-preserved g c =
@@ -50,20 +69,64 @@ loop-store-preserved g c =
           at.invariant.started.all at.invariant.over c.in_ok-node.ensures.over;
     }
 
-pub returns-clause-started : goal.returns-clause-started
-returns-clause-started g c =
+-- all have started
+pub returns : goal.returns
+returns g c =
     let at = c.loop-store in
-    subst (λ (k : ℕ). HaveStarted (scripted g.S.Stable) k c.args.count (map state_of at.nodes.items))
-    (all_taken at.yielded (into_iter_items at.store-iterator) c.args.stores.items _ (vec_len c.args.stores) c.args.count
-    (at.invariant.parts ∙ c.into_iter-store-iterator.ensures.into_iter_gives.0) at.invariant.counted c.in-None.ensures.steps.0
-    (search rules) c.requires.one_each)
-    at.invariant.started
+    let parts = at.invariant.parts ∙ c.into_iter-store-iterator.ensures.into_iter_gives.0 in
+    let whole = all_taken at.yielded (into_iter_items at.store-iterator) c.args.stores.items _ (vec_len c.args.stores) c.args.count
+    parts at.invariant.counted c.in-None.ensures.steps.0 c.args.stores.ok.0 c.requires.one_each in
+    record {
+      started = subst (λ (k : ℕ). HaveStarted (scripted g.S.Stable) k c.args.count (map state_of at.nodes.items)) whole
+          at.invariant.started;
+      over = subst (λ ss. AreOver g.S.Stable ss (map state_of at.nodes.items))
+          (whole_taken at.yielded (into_iter_items at.store-iterator) c.args.stores.items _
+          parts at.invariant.counted c.in-None.ensures.steps.0) at.invariant.over;
+      few = omega (
+        arith,
+        at.nodes.ok.0,
+        length-map at.nodes.items state_of,
+        at.invariant.started.all,
+        whole,
+        c.count.ensures.value,
+        c.count.ensures.odd,
+      );
+      used = tt;
+      faults = tt;
+    }
 
 pub overflow_cast-len : goal.overflow_cast-len
-overflow_cast-len g c = grind (arith, common_steps)
+overflow_cast-len g c =
+    let at = c.loop-store in
+    let all = ap length (at.invariant.parts ∙ c.into_iter-store-iterator.ensures.into_iter_gives.0) in
+    omega (
+      arith,
+      all,
+      length-append at.yielded (into_iter_items at.store-iterator),
+      at.nodes.ok.0,
+      length-map at.nodes.items state_of,
+      at.invariant.started.all,
+      c.args.stores.ok.0,
+      c.requires.one_each,
+      c.count.ensures.value,
+      c.count.ensures.odd,
+      c.len.ensures,
+    )
 
-pub returns-clause-few : goal.returns-clause-few
-returns-clause-few g c = grind (arith, common_steps)
-
-pub returns-clause-over : goal.returns-clause-over
-returns-clause-over g c = grind (arith, common_steps)
+pub node-id-requires : goal.node-id-requires
+node-id-requires g c =
+    let at = c.loop-store in
+    let all = ap length (at.invariant.parts ∙ c.into_iter-store-iterator.ensures.into_iter_gives.0) in
+    let more = ap length c.in-Some.ensures.steps.0 in
+    omega (
+      arith,
+      all,
+      more,
+      length-append at.yielded (into_iter_items at.store-iterator),
+      at.nodes.ok.0,
+      length-map at.nodes.items state_of,
+      at.invariant.started.all,
+      c.args.stores.ok.0,
+      c.requires.one_each,
+      c.len.ensures,
+    )

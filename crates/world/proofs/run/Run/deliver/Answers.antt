@@ -1,29 +1,77 @@
-use Rattle.std.proofs.Common.{◌≡◌, rules, ap, ◌∙◌, subst, vec_len, slice_get, Some, IfOk}
+use Rattle.std.proofs.Common.{inl, inr, refl, ◌≡◌, rules, ap, ◌∙◌, subst, vec_len, slice_get, Some, IfOk}
 use Rattle.std.proofs.lemmas.Option.{slice_get_read}
+use Rattle.std.proofs.lemmas.Result.{err_from_is_err_and}
 use Rattle.wire.specs.FrameSpelling.{Fits}
 use Rattle.history.specs.Worlds.{without_wait}
 use Rattle.world.specs.Runs.{run_of}
+use Rattle.world.proofs.Missing.{missing, frame_there, not_missing}
 use Rattle.world.proofs.WorldLemmas.{delivers_same}
 use Rattle.world.proofs.run.Run.deliver.Goals as goal
 
-pub returns-clause-delivers : goal.returns-clause-delivers
-returns-clause-delivers g c =
+-- there is no such frame
+pub returns-in_err-index : goal.returns-in_err-index
+returns-in_err-index g c =
+    let exit = err_from_is_err_and c.from_residual.result c.from_residual.ensures.1 in
+    let past = c.in_err-index.ensures.no_frame in
+    rw (exit.1, exit.2, past.0) (record {
+      delivers = tt;
+      err = refl;
+      no_frame = missing _ _ _ _ c.args.self.now.frames.ok.0 past.1;
+      faults = inl refl;
+    })
+
+-- memory is wanting
+pub returns-in_err-reserve : goal.returns-in_err-reserve
+returns-in_err-reserve g c =
+    let exit = err_from_is_err_and c.from_residual-in_err-reserve.result c.from_residual-in_err-reserve.ensures.1 in
+    let found = c.in_ok-index.ensures.found in
+    rw (exit.1, exit.2, c.in_err-reserve.ensures.memory) (record {
+      delivers = tt;
+      err = c.reserve.ensures.same;
+      no_frame = frame_there _ _ _ c.args.self.now.frames.ok.0 (rw found.0 at found.1);
+      faults = inr refl;
+    })
+
+pub returns : goal.returns
+returns g c =
     let named : c.in_ok-index.index ≡ c.args.frame = c.in_ok-index.ensures.found.0 in
     let there = c.in_ok-index.ensures.found.1 in
     let read : slice_get c.args.self.now.frames.items c.in_ok-index.index ≡ Some c.index.result.now =
     slice_get_read c.args.self.now.frames.items (vec_len c.args.self.now.frames) c.in_ok-index.index c.index.result.now
-    (search rules) there (search rules) in
+    c.args.self.now.frames.ok.0 there (search rules) in
     let waits : run_of c.stop_waiting.new.self ≡ without_wait (run_of c.args.self.now) c.args.frame =
     c.stop_waiting.ensures.stops ∙ (rw named (ap (λ w. without_wait w c.args.frame)
-    (ap (λ r. run_of r) (c.passes.ensures.stays (search rules)) ∙ c.reserve.ensures.same))) in
+    (ap (λ r. run_of r) (c.passes.ensures.stays c.if-passes.false) ∙ c.reserve.ensures.same))) in
     record {
-      frame = c.in-Ok.envelope;
-      sent = rw (← named) (read ∙ search rules);
-      fits = subst (λ o. IfOk o (Fits 7)) c.in-Ok.is c.open-opened.ensures.fits;
-      receives = rw waits at c.receive.ensures;
+      delivers = record {
+        frame = c.in-Ok.envelope;
+        sent = rw (← named) (read ∙ search rules);
+        fits = subst (λ o. IfOk o (Fits 7)) c.in-Ok.is c.open-opened.ensures.fits;
+        receives = rw waits at c.receive.ensures;
+      };
+      err = tt;
+      no_frame = not_missing _ _ _ _ _ c.args.self.now.frames.ok.0 (rw named at there);
+      faults = tt;
     }
 
 -- nothing comes of it
-pub returns-then-passes-clause-delivers : goal.returns-then-passes-clause-delivers
-returns-then-passes-clause-delivers g c =
-    delivers_same _ _ _ _ _ _ c.reserve.ensures.same c.in_ok-index.ensures.found.0 (c.passes.ensures.passes (search rules))
+pub returns-then-passes : goal.returns-then-passes
+returns-then-passes g c =
+    let found = c.in_ok-index.ensures.found in
+    record {
+      delivers = delivers_same _ _ _ _ _ _ c.reserve.ensures.same found.0 (c.passes.ensures.passes c.if-passes.true);
+      err = tt;
+      no_frame = not_missing _ _ _ _ _ c.args.self.now.frames.ok.0 (rw found.0 at found.1);
+      faults = tt;
+    }
+
+-- what was sent can't be opened for want of memory
+pub returns-in_default : goal.returns-in_default
+returns-in_default g c =
+    let found = c.in_ok-index.ensures.found in
+    record {
+      delivers = tt;
+      err = ap (λ r. run_of r) (c.passes.ensures.stays c.if-passes.false) ∙ c.reserve.ensures.same;
+      no_frame = frame_there _ _ _ c.args.self.now.frames.ok.0 (rw found.0 at found.1);
+      faults = inr refl;
+    }

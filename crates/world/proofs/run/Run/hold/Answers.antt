@@ -1,76 +1,131 @@
-use Rattle.std.proofs.Common.{inr, rules, length}
+use Rattle.std.proofs.Common.{◌≡◌, ◌∙◌, ◌≤◌, ap, inl, inr, ℕ, List, length, true, arith}
 use Rattle.std.proofs.lemmas.Option.{MatchOption-at_some}
-use Rattle.std.proofs.lemmas.Result.{IfErr-at_err, IfOk-at_ok}
+use Rattle.std.proofs.lemmas.Result.{IfErr-at_err, IfOk-at_ok, err_from_is_err_and}
 use Rattle.stable.specs.Storages.{scripted}
-use Rattle.history.specs.Rounds.{GoesOn, GoesToItsEnd, IsInterrupted}
+use Rattle.wire.specs.declared.frames.envelope.Envelope.{Envelope}
+use Rattle.minds.specs.declared.input.Input.TheVariants.{Timeout}
+use Rattle.history.specs.Worlds.{WorldState}
+use Rattle.history.specs.Rounds.{GoesOn, GoesToItsEnd}
 use Rattle.history.specs.Rounds as rounds
 use Rattle.history.specs.declared.round_end.RoundEnd.TheVariants.{Stopped}
 use Rattle.world.specs.Runs.{run_of}
-use Rattle.history.proofs.RoundLemmas.{at_none, on_err, begun_by}
+use Rattle.history.proofs.RoundLemmas.{at_none, begun_by, taken_frames}
 use Rattle.history.proofs.RoundBeginnings.{without}
 use Rattle.world.proofs.run.Run.hold.Goals as goal
 
+-- as many frames show as the world has that is the same
+as_many : {S : Type 0} (v w : WorldState S) (fs : List Envelope) → fs ≡ v.frames → v ≡ w → length fs ≡ length w.frames
+as_many v w fs shown same = ap length shown ∙ ap (λ u. length u.frames) same
+
+no_fewer : (fs then now : List Envelope) (n : ℕ) → fs ≡ then → n ≡ length now → length then ≤ length now → length fs ≤ n
+no_fewer fs then now n shown counted more = let same = ap length shown in omega (arith, same, counted, more)
+
+-- there's no room for what it may send
+pub returns-in_err-reserve : goal.returns-in_err-reserve
+returns-in_err-reserve g c =
+    let exit = err_from_is_err_and c.from_residual.result c.from_residual.ensures.1 in
+    rw (exit.1, exit.2) (record {
+      ends = tt;
+      part = inl c.reserve.ensures.same;
+      memory = c.in_err-reserve.ensures.memory;
+    })
+
 -- no campaign has begun
-pub returns-in-Err-clause-ends : goal.returns-in-Err-clause-ends
-returns-in-Err-clause-ends g c =
-    without (scripted g.S.Stable) (run_of c.args.self.now) (run_of c.reserve.new.self) c.args.node c.args.members.now c.in-Err.fault
-    c.without_campaign.result (run_of c.begin.new.self) c.reserve.ensures.same c.in-Err.ensures.fails c.without_campaign.ensures
+pub returns-in-Err : goal.returns-in-Err
+returns-in-Err g c =
+    record {
+      ends = without (scripted g.S.Stable) (run_of c.args.self.now) (run_of c.reserve.new.self) c.args.node c.args.members.now
+          c.in-Err.fault c.without_campaign.result (run_of c.begin.new.self) c.reserve.ensures.same c.in-Err.ensures.fails c.without_campaign.ensures;
+      part = tt;
+      memory = tt;
+    }
 
 -- its first half: memory is wanting
-pub returns-in_err-accepts-clause-part : goal.returns-in_err-accepts-clause-part
-returns-in_err-accepts-clause-part g c =
+pub returns-in_err-accepts : goal.returns-in_err-accepts
+returns-in_err-accepts g c =
     let st = scripted g.S.Stable in
     let w0 = run_of c.args.self.now in
     let begun = begun_by st w0 c.args.node c.args.members.now (run_of c.reserve.new.self) (run_of c.begin.new.self)
-    (length c.frames-prepares.result.now) c.reserve.ensures.same (search rules) c.in_default.ensures.begins in
-    let part : IsInterrupted st w0 c.args.node c.args.members.now (run_of c.gather.new.self) =
-    inr (c.in_err-accepts.ensures.part w0 begun) in
-    on_err _ part
+    (length c.frames-prepares.result.now) c.reserve.ensures.same
+    (as_many _ _ _ c.frames-prepares.ensures c.reserve.ensures.same) c.in_default.ensures.begins in
+    let exit = err_from_is_err_and c.from_residual-in_err-accepts.result c.from_residual-in_err-accepts.ensures.1 in
+    rw (exit.1, exit.2) (record {
+      ends = tt;
+      part = inr (c.in_err-accepts.ensures.part w0 begun);
+      memory = c.in_err-accepts.ensures.memory;
+    })
 
 -- it ends there
-pub returns-in-Err-2-clause-ends : goal.returns-in-Err-2-clause-ends
-returns-in-Err-2-clause-ends g c =
+pub returns-in-Err-2 : goal.returns-in-Err-2
+returns-in-Err-2 g c =
     let st = scripted g.S.Stable in
     let w0 = run_of c.args.self.now in
     let begun = begun_by st w0 c.args.node c.args.members.now (run_of c.reserve.new.self) (run_of c.begin.new.self)
-    (length c.frames-prepares.result.now) c.reserve.ensures.same (search rules) c.in_default.ensures.begins in
-    IfErr-at_err (λ end. GoesToItsEnd st c.args.node c.args.members.now rounds.begun (length c.frames-prepares.result.now)
-    (run_of c.begin.new.self) end (run_of c.gather.new.self)) c.in-Err-2.is c.in_ok-accepts.ensures.ends w0 begun
+    (length c.frames-prepares.result.now) c.reserve.ensures.same
+    (as_many _ _ _ c.frames-prepares.ensures c.reserve.ensures.same) c.in_default.ensures.begins in
+    record {
+      ends = IfErr-at_err (λ end. GoesToItsEnd st c.args.node c.args.members.now rounds.begun (length c.frames-prepares.result.now)
+          (run_of c.begin.new.self) end (run_of c.gather.new.self)) c.in-Err-2.is c.in_ok-accepts.ensures.ends w0 begun;
+      part = tt;
+      memory = tt;
+    }
 
 -- its second half: memory is wanting
-pub returns-in_err-down-clause-part : goal.returns-in_err-down-clause-part
-returns-in_err-down-clause-part g c =
+pub returns-in_err-down : goal.returns-in_err-down
+returns-in_err-down g c =
     let st = scripted g.S.Stable in
     let w0 = run_of c.args.self.now in
     let begun = begun_by st w0 c.args.node c.args.members.now (run_of c.reserve.new.self) (run_of c.begin.new.self)
-    (length c.frames-prepares.result.now) c.reserve.ensures.same (search rules) c.in_default.ensures.begins in
+    (length c.frames-prepares.result.now) c.reserve.ensures.same
+    (as_many _ _ _ c.frames-prepares.ensures c.reserve.ensures.same) c.in_default.ensures.begins in
     let answered = IfOk-at_ok (λ accepts. GoesOn st c.args.node c.args.members.now rounds.begun (length c.frames-prepares.result.now)
     (run_of c.begin.new.self) rounds.answered accepts (run_of c.gather.new.self)) c.in-Ok.is c.in_ok-accepts.ensures.goes_on w0 begun in
-    let part : IsInterrupted st w0 c.args.node c.args.members.now (run_of c.decide.new.self) =
-    inr (c.in_err-down.ensures.part w0 answered) in
-    on_err _ part
+    let exit = err_from_is_err_and c.from_residual-in_err-down.result c.from_residual-in_err-down.ensures.1 in
+    rw (exit.1, exit.2) (record {
+      ends = tt;
+      part = inr (c.in_err-down.ensures.part w0 answered);
+      memory = c.in_err-down.ensures.memory;
+    })
 
 -- a receiver goes down
-pub returns-in-Some-clause-ends : goal.returns-in-Some-clause-ends
-returns-in-Some-clause-ends g c =
+pub returns-in-Some : goal.returns-in-Some
+returns-in-Some g c =
     let st = scripted g.S.Stable in
     let w0 = run_of c.args.self.now in
     let begun = begun_by st w0 c.args.node c.args.members.now (run_of c.reserve.new.self) (run_of c.begin.new.self)
-    (length c.frames-prepares.result.now) c.reserve.ensures.same (search rules) c.in_default.ensures.begins in
+    (length c.frames-prepares.result.now) c.reserve.ensures.same
+    (as_many _ _ _ c.frames-prepares.ensures c.reserve.ensures.same) c.in_default.ensures.begins in
     let answered = IfOk-at_ok (λ accepts. GoesOn st c.args.node c.args.members.now rounds.begun (length c.frames-prepares.result.now)
     (run_of c.begin.new.self) rounds.answered accepts (run_of c.gather.new.self)) c.in-Ok.is c.in_ok-accepts.ensures.goes_on w0 begun in
-    MatchOption-at_some _ (λ down. GoesToItsEnd st c.args.node c.args.members.now rounds.answered c.in-Ok.accepts
-    (run_of c.gather.new.self) (Stopped down) (run_of c.decide.new.self)) c.in-Some.down c.in-Some.is c.in_ok-down.ensures.decides
-    w0 answered
+    record {
+      ends = MatchOption-at_some _ (λ down. GoesToItsEnd st c.args.node c.args.members.now rounds.answered c.in-Ok.accepts
+          (run_of c.gather.new.self) (Stopped down) (run_of c.decide.new.self)) c.in-Some.down c.in-Some.is c.in_ok-down.ensures.decides
+          w0 answered;
+      part = tt;
+      memory = tt;
+    }
 
 -- all of it has come
-pub returns-in-None-clause-ends : goal.returns-in-None-clause-ends
-returns-in-None-clause-ends g c =
+pub returns-in-None : goal.returns-in-None
+returns-in-None g c =
     let st = scripted g.S.Stable in
     let w0 = run_of c.args.self.now in
     let begun = begun_by st w0 c.args.node c.args.members.now (run_of c.reserve.new.self) (run_of c.begin.new.self)
-    (length c.frames-prepares.result.now) c.reserve.ensures.same (search rules) c.in_default.ensures.begins in
+    (length c.frames-prepares.result.now) c.reserve.ensures.same
+    (as_many _ _ _ c.frames-prepares.ensures c.reserve.ensures.same) c.in_default.ensures.begins in
     let answered = IfOk-at_ok (λ accepts. GoesOn st c.args.node c.args.members.now rounds.begun (length c.frames-prepares.result.now)
     (run_of c.begin.new.self) rounds.answered accepts (run_of c.gather.new.self)) c.in-Ok.is c.in_ok-accepts.ensures.goes_on w0 begun in
     let decided = at_none _ _ c.in_ok-down.field-0 c.in-None.is c.in_ok-down.ensures.decides in
-    record { at = c.requires.at; first = decided.0; comes = decided.1 w0 answered }
+    record {
+      ends = record { at = c.requires.at; first = decided.0; comes = decided.1 w0 answered };
+      part = tt;
+      memory = tt;
+    }
+
+-- the frames of the campaign come after those before it
+pub gather-requires : goal.gather-requires
+gather-requires g c = record {
+  sent = no_fewer _ _ _ _ c.frames-prepares.ensures c.begin.new.self.frames.ok.0
+      (taken_frames (scripted g.S.Stable) (run_of c.reserve.new.self) c.args.node Timeout true (run_of c.begin.new.self)
+      c.in_default.ensures.begins);
+}
