@@ -3,8 +3,9 @@
 //!
 //! `transcript` and `checked` do one work each, and where they make nothing they tell how the run ends. `planned` is the first
 //! part of a work that wants something opened: `made_over` goes on over the storages, `looped_over` over the transport that the
-//! caller has opened by then: `run_through` does a schedule's lines to any cluster. Which work is done, and where the bytes came from, words and streams, is the affair of those who
-//! call them; so the program and its examples make the same. What a work makes stands in `specs/Works.antt`.
+//! caller has opened by then. `run_through` does a schedule's lines to any cluster. Which work is done, and where the bytes came
+//! from, words and streams, is the affair of those who call them; so the program and its examples make the same. What a work
+//! makes stands in `specs/Works.antt`.
 #![tactic(auto)]
 
 mod failures;

@@ -35,7 +35,8 @@ pub returns-in-Err : goal.returns-in-Err
 returns-in-Err g c =
     record {
       ends = without (scripted g.S.Stable) (run_of c.args.self.now) (run_of c.reserve.new.self) c.args.node c.args.members.now
-          c.in-Err.fault c.without_campaign.result (run_of c.begin.new.self) c.reserve.ensures.same c.in-Err.ensures.fails c.without_campaign.ensures;
+          c.in-Err.fault c.without_campaign.result (run_of c.begin.new.self) c.reserve.ensures.same c.in-Err.ensures.fails
+          c.without_campaign.ensures;
       part = tt;
       memory = tt;
     }
