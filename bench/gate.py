@@ -1,0 +1,134 @@
+#!/usr/bin/env python3
+"""Runs the gate and says what it did: what each task took of the processors, how busy these were, and how fast the machine was meanwhile.
+
+    gate.py [LOG]      from the repository's top; the gate's own lines go to LOG, or are dropped
+
+Twice a second it looks which checks there are, and how many seconds of a processor each has used; a check that is over before it is
+seen is left out. Once a minute it times two fixed loops of its own, one of sums and one of reads all over 64 MB: a machine whose other
+work is not ours can be slower by a third from one minute to the next, which the seconds of a check alone don't tell. From nothing is
+only a run for which nothing is kept; the gate's last lines say what was.
+"""
+import array
+import os
+import subprocess
+import sys
+import time
+
+TICKS = os.sysconf("SC_CLK_TCK")
+KINDS = ("proof", "tests", "before", "wrong", "after", "compiling")
+HEADS = ("Proof", "Tests", "Before its wrong bodies", "Wrong bodies", "After them", "Compiling")
+
+
+def words_of(pid):
+    try:
+        with open(f"/proc/{pid}/cmdline", "rb") as it:
+            return it.read().decode(errors="replace").split("\0")
+    except OSError:
+        return []
+
+
+def task_of(words):
+    """Returns the crate, the kind of task, and what tells two tasks of one kind apart; None for what is no check."""
+    name = os.path.basename(words[0]) if words else ""
+    if name.startswith("clang"):
+        return "clang", "compiling", ""
+    if name != "rattle" or "--crate-name" not in words:
+        return None
+    crate = words[words.index("--crate-name") + 1]
+    over = words[words.index("--incremental") + 1] if "--incremental" in words else ""
+    if "--test" in words:
+        return crate, "tests", ""
+    if over:
+        return crate, "before" if over.endswith("/seed") else "wrong", over
+    if words[1] == "build" and "--backend" in words:
+        return crate, "compiling", ""
+    # a wrong body of a crate that has no other is tried over nothing
+    is_alone = words[1] == "check" and "-o" not in words and "--empty-contracts" not in words
+    return crate, "wrong" if is_alone else "proof", ""
+
+
+def used(pid):
+    """Returns when the process started, and the seconds that it has used."""
+    with open(f"/proc/{pid}/stat") as it:
+        fields = it.read().rpartition(")")[2].split()
+    return fields[19], (int(fields[11]) + int(fields[12])) / TICKS
+
+
+def look(seen):
+    """Notes what each check has used by now."""
+    for pid in filter(str.isdigit, os.listdir("/proc")):
+        try:
+            start, seconds = used(pid)
+        except (OSError, ValueError, IndexError):
+            continue
+        if (pid, start) not in seen or seen[pid, start][0] is None and seconds < 1:
+            seen[pid, start] = [task_of(words_of(pid)), seconds, time.time()]
+        seen[pid, start][1] = seconds
+
+
+def busy():
+    with open("/proc/stat") as it:
+        fields = [int(word) for word in it.readline().split()[1:]]
+    return sum(fields) - fields[3] - fields[4], sum(fields)
+
+
+def loops(places):
+    """Returns the seconds of a processor that the two loops take."""
+    begin = time.process_time()
+    sum(range(5_000_000))
+    between = time.process_time()
+    at = total = 0
+    for _ in range(200_000):
+        at = (at * 1664525 + 1013904223) % len(places)
+        total += places[at]
+    return between - begin, time.process_time() - between
+
+
+def by_crate(seen):
+    """Returns for each crate the seconds of each kind; of wrong bodies those of each."""
+    crates = {}
+    for task, seconds, first in sorted((it for it in seen.values() if it[0]), key=lambda it: it[2]):
+        crate, kind, over = task
+        kinds = crates.setdefault(crate, {it: {} for it in KINDS})
+        if kind == "before" and kinds["wrong"]:
+            kind = "after"
+        kinds[kind][over] = kinds[kind].get(over, 0) + seconds
+    return crates
+
+
+def cell(kind, tasks):
+    if not tasks:
+        return ""
+    if kind != "wrong":
+        return f"{sum(tasks.values()):.0f}"
+    return f"{len(tasks)}: {sum(tasks.values()):.0f}, each {min(tasks.values()):.0f} to {max(tasks.values()):.0f}"
+
+
+def main(log):
+    seen, speeds, places = {}, [], array.array("q", range(8_000_000))
+    (was_busy, was), begin, last = busy(), time.time(), 0
+    with open(log, "wb") as it:
+        gate = subprocess.Popen(["bash", ".ci/run"], stdin=subprocess.DEVNULL, stdout=it, stderr=subprocess.STDOUT)
+        while gate.poll() is None:
+            look(seen)
+            if time.time() - last > 60:
+                last = time.time()
+                speeds.append(loops(places))
+            time.sleep(0.5)
+    (is_busy, now), crates = busy(), by_crate(seen)
+    print(f"| Crate | {' | '.join(HEADS)} |\n{'|---' * (len(HEADS) + 1)}|")
+    for crate, kinds in sorted(crates.items(), key=lambda it: -sum(sum(tasks.values()) for tasks in it[1].values())):
+        print(f"| `{crate}` | {' | '.join(cell(kind, kinds[kind]) for kind in KINDS)} |")
+    sums = {kind: sum(sum(kinds[kind].values()) for kinds in crates.values()) for kind in KINDS}
+    print(f"\n{sum(sums.values()):.0f} seconds: " + ", ".join(f"{head} {sums[kind]:.0f}" for kind, head in zip(KINDS, HEADS)))
+    print(f"{(time.time() - begin) / 60:.0f} minutes, the processors busy for {100 * (is_busy - was_busy) / max(now - was, 1):.0f} hundredths")
+    for name, of in (("sums", 0), ("reads", 1)):
+        taken = sorted(it[of] for it in speeds)
+        print(f"the loop of {name}: {taken[0]:.3f} to {taken[-1]:.3f} seconds, half of the times below {taken[len(taken) // 2]:.3f}")
+    return gate.returncode
+
+
+if __name__ == "__main__":
+    if len(sys.argv) > 2 or sys.argv[1:2] == ["--help"]:
+        sys.exit(__doc__)
+    sys.exit(main(*(sys.argv[1:] or [os.devnull])))
