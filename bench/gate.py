@@ -5,7 +5,7 @@
 
 Twice a second it looks which checks there are, and how many seconds of a processor each has used; a check that is over before it is
 seen is left out. Once a minute it times two fixed loops of its own, one of sums and one of reads all over 64 MB: a machine whose other
-work is not ours can be slower by a third from one minute to the next, which the seconds of a check alone don't tell. From nothing is
+work is not ours can be slower by a quarter from one minute to the next, which the seconds of a check alone don't tell. From nothing is
 only a run for which nothing is kept; the gate's last lines say what was.
 """
 import array
