@@ -122,17 +122,27 @@ fn fault_of_zeros(alloc: Global, len: usize) -> Result<u8, Fail> {
     fault(alloc, bytes.as_slice())
 }
 
-/// A request that puts the longest sequence under the longest id.
-fn largest(alloc: Global) -> Result<Command, Fail> {
-    let id = Id::new(&[b'a'; LONGEST_ID]).ok_or("id")?;
-    let number = Number::new(1).ok_or("number")?;
+/// As many points as a put may have, a millisecond apart.
+fn points(alloc: Global) -> Result<Vec<Point>, Fail> {
     let mut points = Vec::with_capacity(alloc, MOST_PUT_POINTS)?;
     for ms in 0..MOST_PUT_POINTS as i64 {
         let t = Instant::new(ms).ok_or("instant")?;
         points.push(Point { t, x: -1, y: 1 })?;
     }
-    let seq = Seq::new(Interp::Linear, points)?;
-    let request = Request::new(7, number, Op::Put(id, seq))?;
+    Ok(points)
+}
+
+/// The longest sequence is put under the longest id.
+fn largest_put(alloc: Global) -> Result<Op, Fail> {
+    let id = Id::new(&[b'a'; LONGEST_ID]).ok_or("id")?;
+    let seq = Seq::new(Interp::Linear, points(alloc)?)?;
+    Ok(Op::Put(id, seq))
+}
+
+/// A request for that.
+fn largest(alloc: Global) -> Result<Command, Fail> {
+    let number = Number::new(1).ok_or("number")?;
+    let request = Request::new(7, number, largest_put(alloc)?)?;
     Ok(Command::Request(request))
 }
 
