@@ -8,8 +8,8 @@ use Rattle.clap.specs.Words.{Row, Text, first_of, first_value, rows_of, subcomma
 use Rattle.clap.specs.declared.parser.matches.ArgMatches.{ArgMatches}
 use Rattle.clap.specs.declared.parser.matches.ArgMatches.TheViews.{out-ArgMatches, out-SubCommand}
 use Rattle.clap.specs.declared.parser.matches.Found.{Found}
-use Rattle.jobs.specs.declared.job.Work.{Work}
-use Rattle.jobs.specs.declared.job.Work.TheVariants.{Replay, Loopback, Check}
+use Rattle.commandline.specs.declared.job.Work.{Work}
+use Rattle.commandline.specs.declared.job.Work.TheVariants.{Replay, Loopback, Check}
 use Rattle.commandline.specs.Forms.{IsFolderOf, given_file, given_folder, given_name}
 
 -- only the values of a command count

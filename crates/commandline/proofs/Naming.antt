@@ -7,11 +7,11 @@ use Rattle.clap.specs.Words.{HasKind, Row, Text, fault_of, kind_of, subcommand_o
 use Rattle.clap.specs.declared.error.Error.{Error}
 use Rattle.clap.specs.declared.error.kind.ErrorKind.TheVariants.{OutOfMemory}
 use Rattle.commandline.specs.declared.fault.WordsFault.TheVariants.{NoForm, Memory}
-use Rattle.jobs.specs.declared.job.Job.{Job}
-use Rattle.jobs.specs.declared.job.Source.{Source}
-use Rattle.jobs.specs.declared.job.Source.TheVariants.{Input, File}
-use Rattle.jobs.specs.declared.job.Work.{Work}
-use Rattle.jobs.specs.declared.job.Work.TheVariants.{Replay, Loopback, Check}
+use Rattle.commandline.specs.declared.job.Job.{Job}
+use Rattle.commandline.specs.declared.job.Source.{Source}
+use Rattle.commandline.specs.declared.job.Source.TheVariants.{Input, File}
+use Rattle.commandline.specs.declared.job.Work.{Work}
+use Rattle.commandline.specs.declared.job.Work.TheVariants.{Replay, Loopback, Check}
 use Rattle.commandline.specs.Forms.{AskFor, IsFolderOf, IsForm, NameInput, NameSource, Names, file_of, forms, given_file, given_folder}
 use Rattle.commandline.specs.Forms.{given_name, name_of, text_of}
 

@@ -4,10 +4,10 @@ use Rattle.std.specs.Prelude.{option_and_then, option_map}
 use Rattle.std.specs.Borrow.{Bor}
 use Rattle.clap.specs.Words.{App, Row, Rule, Text, fault_of, first_of, new_app, new_rule, subcommand_of}
 use Rattle.clap.specs.Words.{with_rule, with_subcommand}
-use Rattle.jobs.specs.declared.job.Work.{Work}
-use Rattle.jobs.specs.declared.job.Work.TheVariants.{Replay, Loopback, Check}
-use Rattle.jobs.specs.declared.job.Source.{Source}
-use Rattle.jobs.specs.declared.job.Source.TheVariants.{Input, File}
+use Rattle.commandline.specs.declared.job.Work.{Work}
+use Rattle.commandline.specs.declared.job.Work.TheVariants.{Replay, Loopback, Check}
+use Rattle.commandline.specs.declared.job.Source.{Source}
+use Rattle.commandline.specs.declared.job.Source.TheVariants.{Input, File}
 
 -- ---- the forms
 -- the one word of a work, which has to be there

@@ -6,7 +6,9 @@
 #![tactic(auto)]
 
 mod fault;
+mod job;
 mod words;
 
 pub use fault::WordsFault;
+pub use job::{Job, Source, Work};
 pub use words::job_of;

@@ -9,9 +9,9 @@ ghost use Rattle.commandline.specs.Forms.{bare_form, file_form, forms, given_fil
 ghost use Rattle.commandline.specs.Forms.{text_of};
 
 use crate::fault::WordsFault;
+use crate::job::{Job, Source, Work};
 use clap::error::ErrorKind;
 use clap::{Arg, ArgMatches, Command, Error};
-use jobs::{Job, Source, Work};
 use std::alloc::{AllocError, Global};
 
 /// The job that the words ask for. No words stand for a replay of standard input.

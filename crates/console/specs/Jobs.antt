@@ -3,8 +3,8 @@ use Rattle.std.specs.Prelude.{◌≡◌, ◌≢◌, ◌⊎◌, ℕ, List, Option
 use Rattle.stable.specs.Script.{Script}
 use Rattle.stable.specs.declared.stable.Stable.{Ghosts}
 use Rattle.commandline.specs.Forms.{AskFor, NameFolder, NameInput}
-use Rattle.jobs.specs.declared.job.Work.{Work}
-use Rattle.jobs.specs.declared.job.Work.TheVariants.{Replay, Loopback, Check}
+use Rattle.commandline.specs.declared.job.Work.{Work}
+use Rattle.commandline.specs.declared.job.Work.TheVariants.{Replay, Loopback, Check}
 use Rattle.endings.specs.declared.failure.Failure.{Failure}
 use Rattle.endings.specs.declared.failure.Failure.TheVariants.{Device, Memory}
 use Rattle.archive.specs.declared.archive.Archive.{Ghosts as Archives}

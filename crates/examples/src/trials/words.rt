@@ -1,8 +1,7 @@
 //! Words of the command line: what they ask for, and what asks for nothing.
 
 use crate::trials::streams::owned;
-use commandline::{WordsFault, job_of};
-use jobs::{Source, Work};
+use commandline::{Source, WordsFault, Work, job_of};
 use std::test::Fail;
 
 /// Whether the words ask for this work, on this file or on the input, with records in this folder or in none.

@@ -8,8 +8,8 @@ use Rattle.clap.proofs.OnLiterals.{clap_on_literals}
 use Rattle.clap.specs.declared.error.kind.ErrorKind.TheVariants.{OutOfMemory}
 use Rattle.commandline.proofs.Naming.{dash_job, map-none, no_job, refused_ask_for_nothing}
 use Rattle.commandline.specs.declared.fault.WordsFault.TheVariants.{Memory, NoForm}
-use Rattle.jobs.specs.declared.job.Work.{Work}
-use Rattle.jobs.specs.declared.job.Work.TheVariants.{Replay, Loopback, Check}
+use Rattle.commandline.specs.declared.job.Work.{Work}
+use Rattle.commandline.specs.declared.job.Work.TheVariants.{Replay, Loopback, Check}
 use Rattle.commandline.specs.Forms.{forms, given_file, given_folder, given_name, name_of}
 use Rattle.commandline.proofs.words.job_of.Goals as goal
 

@@ -2,7 +2,7 @@
 use Rattle.std.proofs.Common.{◌≡◌, ◌∙◌, ap, ap₂}
 use Rattle.std.proofs.lemmas.Result.{IfOk-weaker}
 use Rattle.clap.specs.Words.{App, app_of, with_subcommand}
-use Rattle.jobs.specs.declared.job.Work.TheVariants.{Loopback, Check}
+use Rattle.commandline.specs.declared.job.Work.TheVariants.{Loopback, Check}
 use Rattle.commandline.specs.Forms.{bare_form, file_form, name_of, replay_form}
 use Rattle.commandline.proofs.words.program.Goals as goal
 

@@ -7,8 +7,8 @@ use Rattle.commandline.specs.declared.fault.WordsFault.{WordsFault}
 use Rattle.commandline.specs.declared.fault.WordsFault.TheVariants as words
 use Rattle.endings.specs.declared.failure.Failure.{Failure}
 use Rattle.endings.specs.declared.failure.Failure.TheVariants.{Usage, Device, Memory}
-use Rattle.jobs.specs.declared.job.Source.{Source}
-use Rattle.jobs.specs.declared.job.Source.TheVariants.{Input, File}
+use Rattle.commandline.specs.declared.job.Source.{Source}
+use Rattle.commandline.specs.declared.job.Source.TheVariants.{Input, File}
 use Rattle.console.proofs.run.run.Goals as goal
 
 -- the source is the input exactly where the words name it
