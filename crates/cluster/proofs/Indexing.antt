@@ -15,9 +15,9 @@ use Rattle.wire.specs.FrameSpelling.{spelling}
 use Rattle.wire.specs.declared.frames.envelope.Envelope.{Envelope}
 use Rattle.stable.specs.Script.{Script}
 use Rattle.stable.specs.declared.stable.Stable.{Ghosts}
-use Rattle.history.specs.declared.event.Event.{Event}
-use Rattle.history.specs.declared.fault.WorldFault.{WorldFault}
-use Rattle.history.specs.declared.fault.WorldFault.TheVariants as fault
+use Rattle.events.specs.declared.event.Event.{Event}
+use Rattle.events.specs.declared.fault.WorldFault.{WorldFault}
+use Rattle.events.specs.declared.fault.WorldFault.TheVariants as fault
 use Rattle.history.specs.declared.round_end.RoundEnd.{RoundEnd}
 use Rattle.history.specs.Rounds.{RoundEnds, IsPartOfRound}
 use Rattle.history.specs.Worlds.{WorldState, Steps}

@@ -9,12 +9,12 @@ use Rattle.stable.specs.declared.stable.Stable.{Ghosts}
 use Rattle.stable.specs.Storages.{scripted}
 use Rattle.acceptor.specs.Accepting.{Write, HasWritten, HasFailed}
 use Rattle.store.specs.declared.query.Query.{Query}
-use Rattle.history.specs.declared.event.Event.{Event}
-use Rattle.history.specs.declared.event.Event.TheVariants as event
+use Rattle.events.specs.declared.event.Event.{Event}
+use Rattle.events.specs.declared.event.Event.TheVariants as event
 use Rattle.minds.specs.declared.fault.NodeFault.{NodeFault}
 use Rattle.minds.specs.declared.fault.NodeFault.TheVariants as fault
-use Rattle.history.specs.declared.fault.WorldFault.{WorldFault}
-use Rattle.history.specs.declared.fault.WorldFault.TheVariants as world_fault
+use Rattle.events.specs.declared.fault.WorldFault.{WorldFault}
+use Rattle.events.specs.declared.fault.WorldFault.TheVariants as world_fault
 use Rattle.minds.specs.declared.input.Input.{Input}
 use Rattle.minds.specs.declared.input.Input.TheVariants as input
 use Rattle.history.specs.declared.lists.Outcome.{Outcome}

@@ -19,8 +19,8 @@ use Rattle.minds.specs.Nodes.{NodeState, NodeSteps, TakesInput}
 use Rattle.minds.specs.Outputs.{Response}
 use Rattle.minds.specs.Protocol.{InputFits}
 use Rattle.minds.proofs.LearntSlots.{taken_in_log}
-use Rattle.history.specs.declared.event.Event.{Event}
-use Rattle.history.specs.declared.event.Event.TheVariants as event
+use Rattle.events.specs.declared.event.Event.{Event}
+use Rattle.events.specs.declared.event.Event.TheVariants as event
 use Rattle.history.specs.declared.lists.Learnt.{Learnt}
 use Rattle.history.specs.Explaining.{LearntInLog}
 use Rattle.history.specs.Worlds.{WorldState, TakesAt, ReceivesAt, Steps, recorded, with_submission, answered, without_wait, learnt_by}

@@ -16,8 +16,8 @@ use Rattle.minds.specs.declared.input.Input.{Input}
 use Rattle.minds.specs.declared.input.Input.TheVariants as input
 use Rattle.history.specs.Progress.{mind_in, mind_at, Restarts, BallotsNeverFall}
 use Rattle.history.specs.Worlds.{WorldState, TakesAt, ReceivesAt, Steps, recorded, with_node, with_submission, answered, without_wait}
-use Rattle.history.specs.declared.event.Event.{Event}
-use Rattle.history.specs.declared.event.Event.TheVariants as event
+use Rattle.events.specs.declared.event.Event.{Event}
+use Rattle.events.specs.declared.event.Event.TheVariants as event
 use Rattle.history.proofs.Handing.{same_mind, same_or_not, set_here, set_other}
 use Rattle.history.proofs.RefusedGrows.{Grows, takes_grows}
 

@@ -34,8 +34,8 @@ use Rattle.minds.specs.Minds.{Mind}
 use Rattle.minds.specs.Nodes.{NodeState, NodeSteps, TakesInput, RefusesInput, StopsOnInput, StorageStops}
 use Rattle.minds.specs.Outputs.{Response}
 use Rattle.minds.specs.Taking.{WritesOnMessage, WritesOnEnvelope, Writes}
-use Rattle.history.specs.declared.event.Event.{Event}
-use Rattle.history.specs.declared.event.Event.TheVariants as event
+use Rattle.events.specs.declared.event.Event.{Event}
+use Rattle.events.specs.declared.event.Event.TheVariants as event
 use Rattle.history.specs.Fleets.{IsFleet}
 use Rattle.history.specs.Flushing.{IsStart}
 use Rattle.history.specs.Reaching.{HoldsPut, AreHonest, IsAllowed}

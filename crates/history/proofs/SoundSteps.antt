@@ -6,8 +6,8 @@ use Rattle.stable.specs.declared.scripted.Failing.{Failing}
 use Rattle.stable.specs.declared.stable.Stable.{Ghosts}
 use Rattle.stable.specs.Storages.{IsLawful}
 use Rattle.sessions.specs.Asked.{Asked}
-use Rattle.history.specs.declared.event.Event.{Event}
-use Rattle.history.specs.declared.event.Event.TheVariants as event
+use Rattle.events.specs.declared.event.Event.{Event}
+use Rattle.events.specs.declared.event.Event.TheVariants as event
 use Rattle.minds.specs.declared.input.Input.TheVariants as input
 use Rattle.history.specs.Fleets.{IsFleet}
 use Rattle.history.specs.Flushing.{IsStart, Delivers}
@@ -16,8 +16,8 @@ use Rattle.minds.specs.Nodes.{NodeState}
 use Rattle.history.specs.Reaching.{AreHonest}
 use Rattle.history.specs.Safety.{HasAgreed, IsSafe, IsSound, IsSoundIfHonest}
 use Rattle.history.specs.Worlds.{WorldState, Steps, ReceivesAt, with_outcome, without_wait}
-use Rattle.history.specs.declared.fault.WorldFault.{WorldFault}
-use Rattle.history.specs.declared.fault.WorldFault.TheVariants as fault
+use Rattle.events.specs.declared.fault.WorldFault.{WorldFault}
+use Rattle.events.specs.declared.fault.WorldFault.TheVariants as fault
 use Rattle.history.specs.declared.lists.Outcome.{Outcome}
 use Rattle.history.specs.declared.round_end.RoundEnd.{RoundEnd}
 use Rattle.history.specs.Rounds.{RoundEnds, IsPartOfRound}

@@ -8,8 +8,8 @@ use Rattle.stable.specs.declared.stable.Stable.{Ghosts}
 use Rattle.sessions.specs.Asked.{Asked}
 use Rattle.wire.specs.declared.frames.envelope.Envelope.{Envelope}
 use Rattle.store.specs.declared.query.Query.{Query}
-use Rattle.history.specs.declared.event.Event.{Event}
-use Rattle.history.specs.declared.event.Event.TheVariants as event
+use Rattle.events.specs.declared.event.Event.{Event}
+use Rattle.events.specs.declared.event.Event.TheVariants as event
 use Rattle.minds.specs.declared.fault.NodeFault.{NodeFault}
 use Rattle.minds.specs.declared.input.Input.{Input}
 use Rattle.minds.specs.declared.input.Input.TheVariants as input

@@ -30,8 +30,8 @@ use Rattle.minds.specs.States.{NodeState}
 use Rattle.minds.specs.Taking.{Takes}
 use Rattle.minds.proofs.Learnt.{takes_tells, learnt_behind, fresh_means_nothing}
 use Rattle.minds.proofs.Meanings.{as_many}
-use Rattle.history.specs.declared.event.Event.{Event}
-use Rattle.history.specs.declared.event.Event.TheVariants as event
+use Rattle.events.specs.declared.event.Event.{Event}
+use Rattle.events.specs.declared.event.Event.TheVariants as event
 use Rattle.history.specs.declared.lists.Learnt.{Learnt}
 use Rattle.history.specs.declared.lists.Replied.{Replied}
 use Rattle.history.specs.declared.lists.Answered.{Answered}

@@ -9,8 +9,8 @@ use Rattle.store.specs.declared.query.Query.{Query}
 use Rattle.sessions.specs.Asked.{Asked}
 use Rattle.synod.proofs.Thinking.{none_in}
 use Rattle.wire.specs.declared.frames.envelope.Envelope.{Envelope}
-use Rattle.history.specs.declared.event.Event.{Event}
-use Rattle.history.specs.declared.event.Event.TheVariants as event
+use Rattle.events.specs.declared.event.Event.{Event}
+use Rattle.events.specs.declared.event.Event.TheVariants as event
 use Rattle.minds.specs.declared.fault.NodeFault.{NodeFault}
 use Rattle.minds.specs.declared.input.Input.{Input}
 use Rattle.history.specs.declared.lists.Submission.{Submission}

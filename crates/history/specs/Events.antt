@@ -1,7 +1,7 @@
 -- What an event names that is not there.
 use Rattle.std.specs.Prelude.{ℕ, ◌≤◌}
-use Rattle.history.specs.declared.event.Event.{Event}
-use Rattle.history.specs.declared.event.Event.TheVariants as event
+use Rattle.events.specs.declared.event.Event.{Event}
+use Rattle.events.specs.declared.event.Event.TheVariants as event
 
 -- of so many frames, the event names one that was never sent
 abbrev pub NamesNoFrame : ℕ → Event → Type 0

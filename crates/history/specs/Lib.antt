@@ -1,6 +1,5 @@
 pub mod Events
 pub mod Explaining
-pub mod Faults
 pub mod Fired
 pub mod Fleets
 pub mod Flushing

@@ -10,8 +10,8 @@ use Rattle.minds.specs.declared.fault.NodeFault.{NodeFault}
 use Rattle.minds.specs.declared.fault.NodeFault.TheVariants as fault
 use Rattle.minds.specs.Minds.{Mind, position, promised, learnt_in, IsNextBallot}
 use Rattle.minds.specs.States.{NodeState}
-use Rattle.history.specs.declared.event.Event.{Event}
-use Rattle.history.specs.declared.event.Event.TheVariants as event
+use Rattle.events.specs.declared.event.Event.{Event}
+use Rattle.events.specs.declared.event.Event.TheVariants as event
 use Rattle.history.specs.declared.lists.Outcome.{Outcome}
 use Rattle.history.specs.declared.lists.Outcome.TheVariants as outcome
 use Rattle.history.specs.declared.round_end.RoundEnd.{RoundEnd}

@@ -2,7 +2,7 @@
 use Rattle.std.specs.Prelude.{◌≡◌, ℕ, length, sum_by}
 use Rattle.stable.specs.Script.{Script}
 use Rattle.stable.specs.declared.stable.Stable.{Ghosts}
-use Rattle.history.specs.declared.event.Event.{Event}
+use Rattle.events.specs.declared.event.Event.{Event}
 use Rattle.history.specs.declared.lists.Outcome.{Outcome}
 use Rattle.history.specs.declared.lists.Outcome.TheVariants.{Done, Answered, Lost, Refused, Stopped, Round}
 use Rattle.history.specs.Flushing.{IsStart}

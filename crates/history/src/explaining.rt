@@ -7,7 +7,7 @@ ghost use Rattle.history.specs.Explaining.{IsExplained, LearntAgree, LearntGroun
 ghost use Rattle.history.specs.Flushing.{IsStart};
 ghost use Rattle.history.specs.Telling.{Tells};
 ghost use Rattle.history.specs.Worlds.{WorldState, Steps};
-ghost use Rattle.history.specs.declared.event.Event.{Event};
+ghost use Rattle.events.specs.declared.event.Event.{Event};
 
 use stable::{Scripted, Stable};
 

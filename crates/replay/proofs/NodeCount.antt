@@ -17,8 +17,8 @@ use Rattle.history.specs.Rounds.{at_once, on_the_way, EndsIn, RoundEnds, NamesNo
 use Rattle.history.specs.declared.round_end.RoundEnd.{RoundEnd}
 use Rattle.history.specs.declared.round_end.RoundEnd.TheVariants.{NotAQuorum, Down, Refused, Stopped, TooLow, Decided}
 use Rattle.history.specs.Worlds.{WorldState, Steps, TakesAt, ReceivesAt, DeliversFrame, recorded, answered, with_submission}
-use Rattle.history.specs.declared.event.Event.{Event}
-use Rattle.history.specs.declared.event.Event.TheVariants.{Submit, Deliver, Drop, Timeout, Tick, Restart, Fault, Query}
+use Rattle.events.specs.declared.event.Event.{Event}
+use Rattle.events.specs.declared.event.Event.TheVariants.{Submit, Deliver, Drop, Timeout, Tick, Restart, Fault, Query}
 use Rattle.minds.specs.declared.fault.NodeFault.{NodeFault}
 use Rattle.minds.specs.declared.input.Input.{Input}
 use Rattle.schedule.specs.Lines.{NumberedText}

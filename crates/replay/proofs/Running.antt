@@ -5,8 +5,8 @@ use Rattle.stable.specs.Script.{Script}
 use Rattle.stable.specs.Storages.{scripted}
 use Rattle.stable.specs.declared.stable.Stable.{Ghosts}
 use Rattle.history.specs.Flushing.{Delivers, DeliversSome, IsStart}
-use Rattle.history.specs.declared.fault.WorldFault.{WorldFault}
-use Rattle.history.specs.declared.fault.WorldFault.TheVariants as world_fault
+use Rattle.events.specs.declared.fault.WorldFault.{WorldFault}
+use Rattle.events.specs.declared.fault.WorldFault.TheVariants as world_fault
 use Rattle.world.specs.declared.log.TheConstants.{MOST_DELIVERIES}
 use Rattle.history.specs.declared.round_end.RoundEnd.{RoundEnd}
 use Rattle.history.specs.Rounds.{IsPartOfRound, NamesNoMember, RoundEnds}

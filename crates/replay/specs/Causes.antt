@@ -1,7 +1,7 @@
 -- The numbers under which it is told why a run ended.
 use Rattle.std.specs.Prelude.{ℕ}
-use Rattle.history.specs.declared.fault.WorldFault.{WorldFault}
-use Rattle.history.specs.declared.fault.WorldFault.TheVariants as world_fault
+use Rattle.events.specs.declared.fault.WorldFault.{WorldFault}
+use Rattle.events.specs.declared.fault.WorldFault.TheVariants as world_fault
 use Rattle.schedule.specs.Codes.{code_of}
 use Rattle.schedule.specs.declared.fault.ParseFault.{ParseFault}
 use Rattle.schedule.specs.declared.fault.ParseFault.TheVariants as parse_fault

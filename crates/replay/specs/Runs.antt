@@ -10,7 +10,7 @@ use Rattle.history.specs.Waiting.{NoneWaits, OneWaits}
 use Rattle.history.specs.Starting.{AreOver, OneIsUsed}
 use Rattle.history.specs.Staying.{IsSafeOver, StaysSafe}
 use Rattle.history.specs.Worlds.{WorldState, Steps}
-use Rattle.history.specs.declared.event.Event.{Event}
+use Rattle.events.specs.declared.event.Event.{Event}
 use Rattle.history.specs.declared.round_end.RoundEnd.{RoundEnd}
 use Rattle.world.specs.declared.log.TheConstants.{MOST_DELIVERIES}
 use Rattle.replay.specs.Causes.{fault_of}

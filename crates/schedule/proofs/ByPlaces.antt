@@ -2,7 +2,7 @@
 use Rattle.std.proofs.Common.{◌≡◌, ◌≢◌, ℕ, List, [], ◌∷◌, Option, None, Some, codes, drop, refl, sym, ap, subst, arith}
 use Rattle.store.specs.declared.op.Op.{Op}
 use Rattle.store.specs.declared.query.Query.{Query}
-use Rattle.history.specs.declared.event.Event.TheVariants as event
+use Rattle.events.specs.declared.event.Event.TheVariants as event
 use Rattle.schedule.specs.Spelling.{WordsSpell, op_made, query_made}
 use Rattle.schedule.specs.Table.{Place, a_document, Row, line_of, submit_of, query_of, places, width, words_at}
 use Rattle.schedule.specs.Table.{IsOfForm, Value, Says, Values, SayEach, HasItsCount, HasItsWords}

@@ -14,7 +14,7 @@ use Rattle.schedule.specs.Submissions.{Names, asker_places, asker_words, submit_
 use Rattle.schedule.specs.declared.submits.Asker.{Asker}
 use Rattle.schedule.specs.declared.submits.AskerWords.{AskerWords}
 use Rattle.schedule.specs.declared.action.Action.TheVariants.{Step}
-use Rattle.history.specs.declared.event.Event.TheVariants as event
+use Rattle.events.specs.declared.event.Event.TheVariants as event
 use Rattle.schedule.specs.Table.{line_of, submit_of, query_of, count, IsNode, NameEach, HasItsWords, HasItsCount, HasMisfit, HasUnknownWord}
 use Rattle.schedule.specs.Table.{IsCount, takes_more, Place, places, keyword_places, operation_places, question_places}
 use Rattle.schedule.specs.Unread.{WordsGive}

@@ -5,7 +5,7 @@ use Rattle.store.specs.declared.op.Op.TheVariants as op
 use Rattle.store.specs.declared.query.Query.{Query}
 use Rattle.store.specs.declared.query.Query.TheVariants as query
 use Rattle.stable.specs.declared.scripted.Failing.{Failing}
-use Rattle.history.specs.declared.event.Event.TheVariants as event
+use Rattle.events.specs.declared.event.Event.TheVariants as event
 use Rattle.schedule.specs.Keywords.{failing_text, operation_text, question_text}
 use Rattle.schedule.specs.Table.{IsNode, NameEach, IsClient, IsRequestNumber, IsFrameNumber, IsPrintable}
 use Rattle.schedule.specs.Table.{Values, SayAll, operation_places, question_places}

@@ -3,7 +3,7 @@
 ghost use Rattle.std.specs.Prelude.{◌≡◌};
 
 use super::members::Members;
-use history::Event;
+use events::Event;
 use std::alloc::AllocError;
 use wire::NodeId;
 

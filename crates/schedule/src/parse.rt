@@ -13,7 +13,7 @@ use super::lines::{Line, Lines};
 use super::reading::{later_line, nodes_line};
 use super::schedule::{Schedule, ScheduleLine};
 use super::unread::completed;
-use history::Event;
+use events::Event;
 use std::alloc::Global;
 use store::Op;
 use wire::Nodes;

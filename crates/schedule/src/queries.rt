@@ -10,7 +10,7 @@ use super::fault::ScheduleFault;
 use super::forms::{id, instant, node, period, rect};
 use super::keyword::{Question, question_of};
 use super::words::Words;
-use history::Event;
+use events::Event;
 use store::Query;
 use tpoint::{Id, Period, Rect};
 use wire::Nodes;

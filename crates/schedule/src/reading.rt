@@ -15,7 +15,7 @@ use super::rows::{fault_row, frame_row, node_row, round_row};
 use super::submits::submit_row;
 use super::unread::Unread;
 use super::words::Words;
-use history::Event;
+use events::Event;
 use wire::Nodes;
 
 /// How many nodes the first line says that there are.

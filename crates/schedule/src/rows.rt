@@ -13,7 +13,7 @@ use super::forms::{decimal, failing, node};
 use super::keyword::Keyword;
 use super::unread::{Rounding, Unread};
 use super::words::Words;
-use history::Event;
+use events::Event;
 use wire::{NodeId, Nodes};
 
 /// After `deliver` and `drop`: the number of a frame.

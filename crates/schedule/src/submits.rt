@@ -13,7 +13,7 @@ use super::forms::{client, coordinate, id, instant, node, request_number};
 use super::keyword::{Operation, operation_of};
 use super::unread::{Putting, Unread};
 use super::words::Words;
-use history::Event;
+use events::Event;
 use sessions::Number;
 use store::Op;
 use tpoint::Point;

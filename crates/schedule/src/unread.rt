@@ -11,7 +11,7 @@ use super::fault::{LineFault, ParseFault, ScheduleFault};
 use super::forms::node;
 use super::members::Members;
 use super::words::Words;
-use history::Event;
+use events::Event;
 use mfjson::{Feature, MfFault};
 use sessions::Number;
 use std::alloc::Global;

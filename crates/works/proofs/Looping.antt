@@ -3,9 +3,9 @@ use Rattle.std.proofs.Common.{◌≡◌, ◌⊎◌, inl, inr, ℕ, List, sym, ap
 use Rattle.stable.specs.declared.memory.MemStable.{MemStable}
 use Rattle.history.specs.Events.{NamesNoFrame, NamesNoNode}
 use Rattle.history.specs.Rounds.{IsPartOfRound, NamesNoMember, RoundEnds}
-use Rattle.history.specs.declared.event.Event.{Event}
-use Rattle.history.specs.declared.fault.WorldFault.{WorldFault}
-use Rattle.history.specs.declared.fault.WorldFault.TheVariants as world_fault
+use Rattle.events.specs.declared.event.Event.{Event}
+use Rattle.events.specs.declared.fault.WorldFault.{WorldFault}
+use Rattle.events.specs.declared.fault.WorldFault.TheVariants as world_fault
 use Rattle.history.specs.declared.round_end.RoundEnd.{RoundEnd}
 use Rattle.cluster.specs.Clusters.{ClusterState}
 use Rattle.cluster.specs.declared.transport.Transport.{Ghosts as Transports}

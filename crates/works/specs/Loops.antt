@@ -9,8 +9,8 @@ use Rattle.history.specs.Events.{NamesNoFrame, NamesNoNode}
 use Rattle.history.specs.Rounds.{IsPartOfRound, NamesNoMember, RoundEnds}
 use Rattle.history.specs.Staying.{IsSafeOver}
 use Rattle.history.specs.Worlds.{Steps, WorldState}
-use Rattle.history.specs.declared.fault.WorldFault.{WorldFault}
-use Rattle.history.specs.declared.fault.WorldFault.TheVariants as world_fault
+use Rattle.events.specs.declared.fault.WorldFault.{WorldFault}
+use Rattle.events.specs.declared.fault.WorldFault.TheVariants as world_fault
 use Rattle.history.specs.declared.round_end.RoundEnd.{RoundEnd}
 use Rattle.cluster.specs.Clusters.{ClusterState, HasPassed, sendings}
 use Rattle.cluster.specs.Passages.{Passage}

@@ -4,8 +4,8 @@ use Rattle.std.proofs.lemmas.List.{length-map}
 use Rattle.stable.specs.Script.{Script}
 use Rattle.node.specs.declared.node.Node.{Node}
 use Rattle.node.specs.Seen.{state_of}
-use Rattle.history.specs.declared.fault.WorldFault.{WorldFault}
-use Rattle.history.specs.declared.fault.WorldFault.TheVariants.{Memory, NoSuchFrame, NoSuchNode}
+use Rattle.events.specs.declared.fault.WorldFault.{WorldFault}
+use Rattle.events.specs.declared.fault.WorldFault.TheVariants.{Memory, NoSuchFrame, NoSuchNode}
 
 abbrev failed : {T : Type 0} → WorldFault → Result T WorldFault
 failed f = Err f

@@ -8,8 +8,8 @@ use Rattle.stable.specs.declared.key.Key.{Key}
 use Rattle.stable.specs.declared.memory.MemStable.{MemStable}
 use Rattle.stable.specs.declared.stable.Stable.{Ghosts}
 use Rattle.history.specs.Starting.{IsUsed, OneIsUsed, told, failed}
-use Rattle.history.specs.declared.fault.WorldFault.{WorldFault}
-use Rattle.history.specs.declared.fault.WorldFault.TheVariants as fault
+use Rattle.events.specs.declared.fault.WorldFault.{WorldFault}
+use Rattle.events.specs.declared.fault.WorldFault.TheVariants as fault
 
 -- the first of a list is in it
 pub first_is_in : {A : Type 0} (x : A) (xs : List A) → Contains (x ∷ xs) x

@@ -7,9 +7,9 @@ use Rattle.stable.specs.Script.{Script}
 use Rattle.stable.specs.ScriptLaws.{scripted_laws}
 use Rattle.stable.specs.declared.stable.Stable.{Ghosts}
 use Rattle.stable.specs.Storages.{IsLawful, scripted}
-use Rattle.history.specs.declared.event.Event.{Event}
-use Rattle.history.specs.declared.fault.WorldFault.{WorldFault}
-use Rattle.history.specs.declared.fault.WorldFault.TheVariants as fault
+use Rattle.events.specs.declared.event.Event.{Event}
+use Rattle.events.specs.declared.fault.WorldFault.{WorldFault}
+use Rattle.events.specs.declared.fault.WorldFault.TheVariants as fault
 use Rattle.world.specs.declared.log.TheConstants.{MOST_DELIVERIES}
 use Rattle.world.specs.declared.run.Run.{Run}
 use Rattle.history.specs.Fired.{HasFewFaults}

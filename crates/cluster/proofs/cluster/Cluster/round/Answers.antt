@@ -1,7 +1,7 @@
 use Rattle.std.proofs.Common.{◌≤◌, length, IfOk, IsErrOf, sym, ap, subst, ◌∙◌}
 use Rattle.stable.specs.Memory.{in_memory}
 use Rattle.stable.specs.Storages.{scripted}
-use Rattle.history.specs.declared.fault.WorldFault.TheVariants as fault
+use Rattle.events.specs.declared.fault.WorldFault.TheVariants as fault
 use Rattle.history.specs.Rounds.{RoundEnds, IsPartOfRound}
 use Rattle.world.specs.Seen.{world_of}
 use Rattle.cluster.proofs.Clustering.{round_frames}

@@ -1,7 +1,7 @@
 -- The numbers of a world's faults.
 use Rattle.std.specs.Prelude.{ℕ}
-use Rattle.history.specs.declared.fault.WorldFault.{WorldFault}
-use Rattle.history.specs.declared.fault.WorldFault.TheVariants as world_fault
+use Rattle.events.specs.declared.fault.WorldFault.{WorldFault}
+use Rattle.events.specs.declared.fault.WorldFault.TheVariants as world_fault
 
 abbrev pub world_code : WorldFault → ℕ
 world_code world_fault.NoSuchFrame = 51

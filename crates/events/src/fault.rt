@@ -1,8 +1,8 @@
 //! Why a world does not do what it is asked.
 
 ghost use Rattle.std.specs.Prelude.{◌≡◌};
-ghost use Rattle.history.specs.Faults.{world_code};
-ghost use Rattle.history.specs.declared.fault.WorldFault.TheVariants as world_fault;
+ghost use Rattle.events.specs.Faults.{world_code};
+ghost use Rattle.events.specs.declared.fault.WorldFault.TheVariants as world_fault;
 
 use std::alloc::{AllocError, AllocFailed};
 use std::error::Error;
