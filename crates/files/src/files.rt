@@ -2,9 +2,9 @@
 
 ghost use Rattle.std.specs.Prelude.{◌≡◌, ◌⊎◌, IfErr};
 
+use crate::node_file::NodeFile;
 use archive::Archive;
 use endings::Failure;
-use sqlite::{File, FileStore};
 use sqlstable::SqlStable;
 use stable::StableFault;
 use std::alloc::AllocError;
@@ -16,14 +16,14 @@ use wire::Nodes;
 pub struct Files;
 
 impl Archive for Files {
-    type Records = SqlStable<FileStore<File>>;
+    type Records = NodeFile;
 
     fn open(
         &mut self,
         rt: &HostRuntime,
         folder: &str,
         count: Nodes,
-    ) -> Result<Vec<SqlStable<FileStore<File>>>, Failure> {
+    ) -> Result<Vec<NodeFile>, Failure> {
         let mut stores = Vec::with_capacity(rt.alloc(), usize::from(count.count()))?;
         for number in 0..count.count() {
             let store = open_file(rt, folder, number)?;
@@ -69,15 +69,11 @@ fn is_settled(rt: &HostRuntime, folder: &str, number: u8) -> bool {
 }
 
 /// A node's records.
-fn open_file(
-    rt: &HostRuntime,
-    folder: &str,
-    number: u8,
-) -> Result<SqlStable<FileStore<File>>, Failure>
+fn open_file(rt: &HostRuntime, folder: &str, number: u8) -> Result<NodeFile, Failure>
     ensures { IfErr result (λ failure. (failure ≡ Failure.Device) ⊎ (failure ≡ Failure.Memory)) }
 {
     let path = path_of(rt, folder, number)?;
-    match SqlStable::open(rt, path.as_str()) {
+    match NodeFile::open(rt, path.as_str()) {
         Ok(store) => Ok(store),
         Err(fault) => Err(storage_failure(fault)),
     }

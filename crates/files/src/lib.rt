@@ -5,5 +5,7 @@
 #![tactic(auto)]
 
 mod files;
+mod node_file;
 
 pub use files::Files;
+pub use node_file::NodeFile;
