@@ -4,6 +4,7 @@
 //! all that it is linked with.
 #![tactic(auto)]
 
+mod asking;
 mod files;
 mod node_file;
 

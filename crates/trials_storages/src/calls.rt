@@ -4,16 +4,16 @@ use stable::{Key, Stable, StableFault};
 use std::alloc::Global;
 use synod::Slot;
 
-/// The key of the vote at a slot. No test names a slot beyond the log, of which Round would be told.
-pub fn vote(slot: u32) -> Key {
+// The key of the vote at a slot. No test names a slot beyond the log, of which Round would be told.
+fn vote(slot: u32) -> Key {
     match Slot::new(slot) {
         Some(slot) => Key::Vote(slot),
         None => Key::Round,
     }
 }
 
-/// Puts a copy of these bytes.
-pub fn put<S: Stable>(
+// Puts a copy of these bytes.
+fn put<S: Stable>(
     alloc: Global,
     storage: &mut S,
     key: Key,

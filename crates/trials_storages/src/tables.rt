@@ -1,8 +1,8 @@
 //! Records in a table: in memory, over disks that fail, and in a file.
 
-use crate::calls::{fill, is_filled, keeps_records, put, vote};
+use crate::calls::{fill, is_filled, keeps_records};
 use archive::Archive;
-use files::Files;
+use files::{Files, NodeFile};
 use sqlite::{Connection, Error, FileStore, Files as TwoFiles, MemStore, Options, params};
 use sqlite_disk::{Disk, Fuse, Memory};
 use sqlstable::SqlStable;
@@ -16,28 +16,34 @@ use wire::Nodes;
 // Whoever has such a storage lends it, or hands it on, to here at last: each function that drops one has that checked.
 fn leave<D: Disk + Drop>(_storage: SqlStable<FileStore<D>>) {}
 
-// A storage over files, with what `fill` puts.
+// Whether a storage holds what `fill` puts: a new one is filled, and any other is looked at.
+fn fill_or_look<S: Stable>(
+    alloc: Global,
+    storage: &mut S,
+    is_new: bool,
+) -> Result<bool, StableFault> {
+    if is_new {
+        fill(alloc, storage)?;
+        return Ok(true);
+    }
+    is_filled(alloc, storage)
+}
+
+// The same of a storage over files, which is `Damaged` where it holds anything else.
+//
+// One function for both, since each call that hands such a storage on takes a quarter of a minute to prove.
 fn filled<D: Disk + Drop>(
     alloc: Global,
     mut storage: SqlStable<FileStore<D>>,
+    is_new: bool,
 ) -> Result<SqlStable<FileStore<D>>, StableFault> {
-    match fill(alloc, &mut storage) {
-        Ok(()) => Ok(storage),
-        Err(fault) => {
-            leave(storage);
-            Err(fault)
-        }
-    }
-}
-
-// Whether a storage over files holds what `fill` puts. It is dropped, and not closed.
-fn was_filled<D: Disk + Drop>(
-    alloc: Global,
-    mut storage: SqlStable<FileStore<D>>,
-) -> Result<bool, StableFault> {
-    let found = is_filled(alloc, &mut storage);
+    let fault = match fill_or_look(alloc, &mut storage, is_new) {
+        Ok(true) => return Ok(storage),
+        Ok(false) => StableFault::Damaged,
+        Err(fault) => fault,
+    };
     leave(storage);
-    found
+    Err(fault)
 }
 
 // Whether a storage in memory keeps what is put, and can count its failures.
@@ -53,20 +59,21 @@ fn memory_keeps_records(rt: HostRuntime) {
     assert_eq!(rt; memory_keeps(rt.alloc()), Ok(true));
 }
 
-// Whether a storage over files in memory that is filled, closed and opened again holds what `fill` puts.
-fn is_reopened_filled(alloc: Global) -> Result<bool, StableFault> {
+// A storage over files in memory is filled, closed and opened again, and holds what `fill` puts.
+fn reopen_filled(alloc: Global) -> Result<(), StableFault> {
     let files = TwoFiles {
         log: Memory::new(alloc),
         db: Memory::new(alloc),
     };
     let storage = SqlStable::open_files(alloc, files, Options::new(1))?;
-    let storage = filled(alloc, storage)?.reopen(alloc, Options::new(2))?;
-    was_filled(alloc, storage)
+    let storage = filled(alloc, storage, true)?.reopen(alloc, Options::new(2))?;
+    leave(filled(alloc, storage, false)?);
+    Ok(())
 }
 
 #[test]
 fn a_closed_storage_has_its_records_again(rt: HostRuntime) {
-    assert_eq!(rt; is_reopened_filled(rt.alloc()), Ok(true));
+    assert_eq!(rt; reopen_filled(rt.alloc()), Ok(()));
 }
 
 // A storage over files that fail from a call of theirs on.
@@ -81,29 +88,17 @@ fn over_a_fuse(
     SqlStable::open_files(alloc, files, Options::new(1))
 }
 
-// The fault of the first of 200 puts that isn't done.
-fn fault_of_puts<S: Stable>(alloc: Global, storage: &mut S) -> Option<StableFault> {
-    for slot in 0..200 {
-        if let Err(fault) = put(alloc, storage, vote(slot), b"a") {
-            return Some(fault);
+// The fault at which a storage that is filled again and again isn't filled any more; None if it always is.
+fn fault_over_a_fuse(alloc: Global) -> Result<Option<StableFault>, StableFault> {
+    let mut storage = over_a_fuse(alloc, 100)?;
+    for _ in 0..200 {
+        match filled(alloc, storage, true) {
+            Ok(kept) => storage = kept,
+            Err(fault) => return Ok(Some(fault)),
         }
     }
-    None
-}
-
-// The same of a storage over files.
-fn first_fault<D: Disk + Drop>(
-    alloc: Global,
-    mut storage: SqlStable<FileStore<D>>,
-) -> Option<StableFault> {
-    let fault = fault_of_puts(alloc, &mut storage);
     leave(storage);
-    fault
-}
-
-fn fault_over_a_fuse(alloc: Global) -> Result<Option<StableFault>, StableFault> {
-    let storage = over_a_fuse(alloc, 100)?;
-    Ok(first_fault(alloc, storage))
+    Ok(None)
 }
 
 #[test]
@@ -171,13 +166,13 @@ const PATH: &str = "sqlstable_test/node0.db";
 // A file that holds what `fill` puts, and is closed.
 fn close_a_file(rt: &HostRuntime) -> Result<(), StableFault> {
     let storage = SqlStable::open(rt, PATH)?;
-    filled(rt.alloc(), storage)?.close()
+    filled(rt.alloc(), storage, true)?.close()
 }
 
 // Whether a file that is opened holds what `fill` puts.
 fn is_file_filled(rt: &HostRuntime, path: &str) -> Result<bool, StableFault> {
-    let storage = SqlStable::open(rt, path)?;
-    was_filled(rt.alloc(), storage)
+    let mut storage = NodeFile::open(rt, path)?;
+    is_filled(rt.alloc(), &mut storage)
 }
 
 #[test]
@@ -202,9 +197,9 @@ const FIRST_FILE: &str = "archive_test/node0.db";
 
 // What a run leaves: its storage is dropped and not closed.
 fn leave_a_file(rt: &HostRuntime, path: &str) -> Result<bool, StableFault> {
-    let storage = SqlStable::open(rt, path)?;
-    let storage = filled(rt.alloc(), storage)?;
-    was_filled(rt.alloc(), storage)
+    let mut storage = NodeFile::open(rt, path)?;
+    fill(rt.alloc(), &mut storage)?;
+    is_filled(rt.alloc(), &mut storage)
 }
 
 // Settles the file, and reads its bytes.
@@ -216,18 +211,21 @@ fn settled_bytes(rt: &HostRuntime) -> Result<Vec<u8>, StableFault> {
     }
 }
 
+// Whether a file that is settled again has the same bytes.
+fn settles_once(rt: &HostRuntime) -> Result<bool, StableFault> {
+    let first = settled_bytes(rt)?;
+    let again = settled_bytes(rt)?;
+    Ok(first.as_slice() == again.as_slice())
+}
+
 #[test]
 fn a_settled_file_is_alone(rt: HostRuntime) {
     let _ = fs::remove_dir_all(&rt, RUN_FOLDER);
     assert!(rt; fs::create_dir(&rt, RUN_FOLDER).is_ok());
     assert_eq!(rt; leave_a_file(&rt, RUN_PATH), Ok(true));
     assert!(rt; fs::symlink_metadata(&rt, RUN_LOG).is_ok());
-    let (Ok(first), Ok(again)) = (settled_bytes(&rt), settled_bytes(&rt)) else {
-        assert!(rt; false);
-        return;
-    };
+    assert_eq!(rt; settles_once(&rt), Ok(true));
     assert!(rt; fs::symlink_metadata(&rt, RUN_LOG).is_err());
-    assert_eq!(rt; first.as_slice(), again.as_slice());
     assert_eq!(rt; is_file_filled(&rt, RUN_PATH), Ok(true));
     assert!(rt; fs::remove_dir_all(&rt, RUN_FOLDER).is_ok());
 }
