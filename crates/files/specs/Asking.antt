@@ -1,5 +1,5 @@
 -- What a storage is asked for, and what its answer says.
-use Rattle.std.specs.Prelude.{◌≡◌, ◌≢◌, ◌↔◌, ℕ, List, Result, Ok, Err, IsSome, Contains, option_map}
+use Rattle.std.specs.Prelude.{◌≡◌, ◌↔◌, List, Result, Ok, Err, IsSome, Contains, option_map}
 use Rattle.stable.specs.Records.{IsAscending}
 use Rattle.stable.specs.declared.fault.StableFault.{StableFault}
 use Rattle.stable.specs.declared.fault.StableFault.TheVariants as fault
@@ -25,6 +25,7 @@ module _ {S : Type 0} (g : Ghosts S) (a : S) where
     pub reads : g.reads a b
     pub settled : g.IsSettled b
 
+  -- what the answer to what is asked for says
   abbrev pub Answers : Asked → Result Answer StableFault → S → Type 0
   Answers (asked.Get key) (Ok (answer.Found found)) b =
       (g.IsHonest b → option_map (λ bytes. bytes.items) found ≡ g.contents a key) × g.reads a b
