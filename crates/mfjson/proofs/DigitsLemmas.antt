@@ -1,9 +1,10 @@
 -- Decimal digits, and lists cut at one place.
 use Rattle.std.proofs.Common.{◌≡◌, ℕ, zero, suc, ◌+◌, ◌-◌, ◌*◌, ◌/◌, ◌%◌, ◌^◌, ◌<◌, ◌≤◌, List, [], ◌∷◌, ◌++◌, length, All, get_or, take}
-use Rattle.std.proofs.Common.{drop, None, Some, ◌↔◌, subst, refl, arith, ap, sym, ◌∙◌}
+use Rattle.std.proofs.Common.{drop, None, Some, false, ◌↔◌, subst, refl, arith, ap, sym, ◌∙◌}
 use Rattle.std.proofs.Math.Seq.{drop-cons}
 use Rattle.std.proofs.Math.ListN.{drop_of_length-le}
 use Rattle.std.specs.List.{slice_range}
+use Rattle.std.specs.Prelude.{IsTrue}
 use Rattle.std.proofs.lemmas.List.Folds.{drop_split}
 use Rattle.std.proofs.lemmas.List.{length-append, length-take-le, length-drop, take_more}
 use Rattle.std.proofs.Math.Numerals.{add-one}
@@ -137,3 +138,11 @@ drop_end text at h = drop_of_length-le text (omega (arith, h))
 -- what is not there is not found
 pub none_exact : {A : Type 0} (P : Type 0) (x : A) → ¬ P → P ↔ (None ≡ Some x)
 none_exact {A} P x never = (λ p. absurd (never p), λ e. absurd (cc))
+
+-- nor what needs what is not there
+pub none_without : {A B : Type 0} (P Q : Type 0) (x : A) (y : B) → (P → Q) → Q ↔ (None ≡ Some y) → P ↔ (None ≡ Some x)
+none_without {A} {B} P Q x y needs none = none_exact P x (λ p. let gone = none.0 (needs p) in absurd (cc))
+
+-- nor what would make a false test true
+pub none_told : {A : Type 0} (P : Type 0) (x : A) → (P → IsTrue false) → P ↔ (None ≡ Some x)
+none_told {A} P x never = none_exact P x (λ p. let told = never p in absurd (cc))

@@ -1,5 +1,5 @@
 -- Arrays of two coordinates.
-use Rattle.std.proofs.Common.{◌≡◌, List, [], ◌∷◌, length, refl, sym, subst, ◌∙◌}
+use Rattle.std.proofs.Common.{◌≡◌, ◌↔◌, List, [], ◌∷◌, ℤ, length, None, Some, refl, sym, subst, ◌∙◌}
 use Rattle.serde_json.specs.Data.{Data, array, item, no_items}
 use Rattle.serde_json.specs.View.{items_of}
 use Rattle.mfjson.specs.Faults.{IsPlace, SaysCoordinate}
@@ -24,3 +24,10 @@ says_x v a b e is =
 pub says_y : (v a b : Data) → v ≡ array (item a (item b no_items)) → (is : IsPlace v) → SaysCoordinate b is.p.1
 says_y v a b e is =
     subst (λ d. SaysCoordinate d is.p.1) (second_same a b is.says.first is.says.second (sym e ∙ is.says.pair)) is.says.says_y
+
+-- a value of which one element is no coordinate is no place
+pub no_place : (v d : Data) → ((is : IsPlace v) → (z : ℤ) × SaysCoordinate d z) → ((z : ℤ) → SaysCoordinate d z ↔ (None ≡ Some z)) → ¬ IsPlace v
+no_place v d says none is =
+    let said = says is in
+    let gone = (none said.0).0 said.1 in
+    absurd (cc)

@@ -1,5 +1,6 @@
 -- Texts of three numbers with a mark between them.
-use Rattle.std.proofs.Common.{◌≡◌, ℕ, ◌+◌, ◌^◌, ◌<◌, ◌≤◌, List, [], ◌∷◌, ◌++◌, length, get_or, arith, ap, ◌∙◌}
+use Rattle.std.proofs.Common.{◌≡◌, ◌↔◌, ℕ, ◌+◌, ◌^◌, ◌<◌, ◌≤◌, List, [], ◌∷◌, ◌++◌, length, get_or, Option, Some, arith, ap, ◌∙◌}
+use Rattle.std.proofs.lemmas.Option.{same_Some}
 use Rattle.std.specs.List.{slice_range}
 use Rattle.mfjson.specs.Digits.{digits, IsNumber, AreNumbers}
 use Rattle.mfjson.proofs.DigitsLemmas.{number_spelling, number_is, number_unique, part_length, drop_part, drop_byte, drop_end}
@@ -60,3 +61,25 @@ numbers_unique are other =
       second = number_unique _ _ _ are.second other.second;
       third = number_unique _ _ _ are.third other.third;
     }
+
+-- three numbers that were read, and no others
+pub numbers_exact : (mark : ℕ) (text rest : List ℕ) (a b c : ℕ) → get_or rest 0 0 ≡ mark → get_or rest 3 0 ≡ mark →
+    ((n : ℕ) → IsNumber text n ↔ (Some a ≡ Some n)) → ((n : ℕ) → IsNumber (slice_range rest 1 3) n ↔ (Some b ≡ Some n)) →
+    ((n : ℕ) → IsNumber (slice_range rest 4 6) n ↔ (Some c ≡ Some n)) → (x y z : ℕ) →
+    AreNumbers mark text rest x y z ↔ ◌≡◌ {A = Option (ℕ × ℕ × ℕ)} (Some (a, b, c)) (Some (x, y, z))
+numbers_exact mark text rest a b c second third is_a is_b is_c x y z = (
+    λ are.
+        let first = same_Some _ _ ((is_a x).0 are.first) in
+        let next = same_Some _ _ ((is_b y).0 are.second) in
+        let last = same_Some _ _ ((is_c z).0 are.third) in
+        cc,
+    λ e.
+        let same = same_Some _ _ e in
+        record {
+          first = (is_a x).1 (ap (λ (n : ℕ × ℕ × ℕ). Some n.0) same);
+          second_mark = second;
+          second = (is_b y).1 (ap (λ (n : ℕ × ℕ × ℕ). Some n.1) same);
+          third_mark = third;
+          third = (is_c z).1 (ap (λ (n : ℕ × ℕ × ℕ). Some n.2) same);
+        },
+  )

@@ -1,7 +1,7 @@
 use Rattle.std.proofs.Common.{◌≡◌, pos, refl, arith, ◌∙◌, sym}
 use Rattle.std.proofs.lemmas.Int.{ints}
 use Rattle.jiff_core.proofs.SignedLemmas.{signed_casts}
-use Rattle.mfjson.proofs.DigitsLemmas.{none_exact}
+use Rattle.mfjson.proofs.DigitsLemmas.{none_exact, none_told}
 use Rattle.mfjson.proofs.DateTexts.{date_numbers, date_exact, is_civil, small_numbers, asked, answered, day_of}
 use Rattle.mfjson.proofs.datetime.day_number.Goals as goal
 
@@ -16,9 +16,7 @@ returns-in_default-clause-exact c n =
     let text = c.args.text.now in
     let read = (c.in_ok-year.ensures.exact c.in_ok-year.year c.in_ok-year.month c.in_ok-year.day).1 refl in
     let small = small_numbers text _ _ _ c.requires c.in_ok-year.ensures.bound in
-    none_exact _ n (λ is.
-    let made = c.in_default.ensures.succeeds.1 (asked _ _ _ small (is_civil text _ _ _ read n is).0) in
-    absurd (cc))
+    none_told _ n (λ is. c.in_default.ensures.succeeds.1 (asked _ _ _ small (is_civil text _ _ _ read n is).0))
 
 pub returns-then-day-lt0-clause-exact : goal.returns-then-day-lt0-clause-exact
 returns-then-day-lt0-clause-exact c n =

@@ -4,8 +4,27 @@ use Rattle.serde_json.specs.View.{view}
 use Rattle.tpoint.specs.Moving.{Sequence}
 use Rattle.mfjson.specs.Document.{StandsFor}
 use Rattle.mfjson.specs.Outline.{AreTogether}
-use Rattle.mfjson.proofs.FeatureLemmas.{has_read, coordinates_first, lengths_first, list_fault_first, feature_stands}
+use Rattle.mfjson.proofs.FeatureLemmas.{has_read, datetime_first, coordinates_first, lengths_first, list_fault_first, feature_stands}
 use Rattle.mfjson.proofs.reading.feature_of.Goals as goal
+
+pub returns-in-Err : goal.returns-in-Err
+returns-in-Err c = record { ok = tt; err = λ memory. c.in-Err.ensures }
+
+pub returns-in_err-instants : goal.returns-in_err-instants
+returns-in_err-instants c =
+    let d = view c.args.value.now in
+    let exit = err_from_is_err_and c.from_residual.result c.from_residual.ensures.1 in
+    rw (exit.1, exit.2) (record {
+      ok = tt;
+      err = λ memory.
+          let found = c.in_err-instants.ensures memory in
+          rw found.1 (datetime_first d _ _ _ _ found.0 c.in-Ok.ensures found.2);
+    })
+
+pub returns-in_err-points : goal.returns-in_err-points
+returns-in_err-points c =
+    let exit = err_from_is_err_and c.from_residual-in_err-points.result c.from_residual-in_err-points.ensures.1 in
+    rw exit.1 (record { ok = tt; err = λ memory. absurd (memory exit.2) })
 
 pub returns-in_err-places-clause-err : goal.returns-in_err-places-clause-err
 returns-in_err-places-clause-err c =
