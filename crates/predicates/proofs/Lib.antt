@@ -1,4 +1,5 @@
 pub mod Passing
+pub mod Tests
 pub mod BoundLemmas
 pub mod Margins
 pub mod WindowLemmas

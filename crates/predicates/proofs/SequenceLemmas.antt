@@ -1,5 +1,5 @@
 -- From the pieces of a moving point to the whole.
-use Rattle.std.proofs.Common.{◌≡◌, ℕ, ◌+◌, ◌<◌, ◌≤◌, inl, inr, true, false, List}
+use Rattle.std.proofs.Common.{◌≡◌, ℕ, ◌+◌, ◌<◌, ◌≤◌, inl, inr, Bool, true, false, List, ap}
 use Rattle.std.proofs.Common.{[], ◌∷◌, map, length, get_or, slice_get, Some, subst, sym, ◌∙◌, refl, ltb, ltb-true, ltb-false, arith}
 use Rattle.std.proofs.lemmas.Bool.{cases_lt}
 use Rattle.std.proofs.lemmas.List.Sorted.{IsPartitionedBy-ltb}
@@ -107,6 +107,10 @@ shares_whole interp ps p i s =
 none_by : (q : Question) (R : Fraction → Position → Type 0) (p : Span) (r : Area) → Answers q R p r None → ¬ Shares R p
 none_by Ever R p r h = h
 none_by Always R p r h = h
+
+-- what a test told of an answer, of what the answer is
+pub told : (q : Question) (part answer : Tri) (test is : Bool) → answer ≡ part → test ≡ decides q answer → test ≡ is → decides q part ≡ is
+told q part answer test is same tells e = ap (decides q) (sym same) ∙ sym tells ∙ e
 
 -- a piece that decides
 pub decided : (q : Question) (interp : Interp) (ps : List Point) (p : Span) (r : Area) (i : ℕ) (part : Tri) →

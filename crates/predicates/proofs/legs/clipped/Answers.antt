@@ -1,6 +1,7 @@
 use Rattle.std.proofs.Common.{sym, ◌∙◌}
 use Rattle.predicates.proofs.LegLemmas.{shares_none, shares_some, inside_is, all_inside, not_all_inside}
 use Rattle.predicates.proofs.LegLemmas.{answers_none, not_true, not_false, match_true, match_false}
+use Rattle.predicates.proofs.Tests.{told_no}
 use Rattle.predicates.proofs.legs.clipped.Goals as goal
 use Rattle.predicates.proofs.legs.clipped.Goals.{in-Ever, in-Always}
 
@@ -29,7 +30,7 @@ returns-else-inside c =
       | in-Ever w ↦
           let apart = sym w.inside-is ∙ c.if-inside.false in
           rw w.in-Ever.is
-          (shares, λ s. let met = w.meets-inside.ensures.1 ((inside_is _ _ _ _ _ c.requires.later is).1 s) in cc)
+          (shares, λ s. told_no apart w.meets-inside.ensures.1 ((inside_is _ _ _ _ _ c.requires.later is).1 s))
       | in-Always w ↦
           let strays = not_false w.leaves.result (sym w.inside-is ∙ c.if-inside.false) in
           rw w.in-Always.is

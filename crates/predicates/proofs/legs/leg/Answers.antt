@@ -1,13 +1,14 @@
 use Rattle.std.proofs.Common.{IsTrue, rules}
 use Rattle.predicates.proofs.LegLemmas.{answers_none}
 use Rattle.predicates.proofs.EndLemmas.{settled_leg, shares_not, leg_lies}
+use Rattle.predicates.proofs.Tests.{told_no}
 use Rattle.predicates.proofs.legs.leg.Goals as goal
 
 pub returns-then-not-shares_time : goal.returns-then-not-shares_time
 returns-then-not-shares_time c =
     answers_none c.args.question _ _ _
     (shares_not c.args.a.now c.args.b.now c.args.period.now c.shares_time.ensures.has_instant
-    (λ h. let t = c.shares_time.ensures.shares.1 h in let f = c.if-not-shares_time.true in absurd (cc)))
+    (told_no c.if-not-shares_time.true c.shares_time.ensures.shares.1))
 
 pub returns-then-settle : goal.returns-then-settle
 returns-then-settle c =

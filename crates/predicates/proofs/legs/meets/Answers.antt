@@ -4,6 +4,7 @@ use Rattle.tpoint.specs.Extents.{Between, Inside}
 use Rattle.predicates.specs.Windows.{place_at}
 use Rattle.predicates.proofs.Passing.{numbers_fit}
 use Rattle.predicates.proofs.LegLemmas.{part_of_part, no_part, inside_both, some_in}
+use Rattle.predicates.proofs.Tests.{never}
 use Rattle.predicates.proofs.legs.meets.Goals as goal
 
 pub returns-in-Some : goal.returns-in-Some
@@ -25,7 +26,7 @@ returns-in-None c =
     let b = c.args.b.now in
     let r = c.args.area.now in
     let fit = numbers_fit a b r c.requires.a_fits c.requires.b_fits c.x0.ensures.valid in (
-      λ e. absurd (cc),
+      λ e. never e,
       λ s. absurd
           (no_part c.args.time (λ u. Between r.x0 r.x1 (way a.x b.x u)) (λ u. Inside (place_at a b u) r)
           (simp (to_z-of_z, fit.ax, fit.bx, fit.x0, fit.x1, c.x0.ensures.value, c.x1.ensures.value) at c.in-None.ensures)

@@ -1,4 +1,5 @@
 use Rattle.predicates.proofs.EndLemmas.{crossed_leg, passed_leg, straying_leg}
+use Rattle.predicates.proofs.Tests.{told_no}
 use Rattle.predicates.proofs.legs.unsettled.Goals as goal
 
 pub returns-then-crosses : goal.returns-then-crosses
@@ -12,7 +13,7 @@ returns-else-crosses c =
     λ p begun over.
     rw c.in-Ever.is
     (passed_leg c.args.a.now c.args.b.now p c.args.area.now c.requires.later begun over
-    (λ h. let t = c.crosses.ensures.1 h in let f = c.if-crosses.false in absurd (cc)))
+    (told_no c.if-crosses.false c.crosses.ensures.1))
 
 pub returns-in-Always : goal.returns-in-Always
 returns-in-Always c =

@@ -7,6 +7,7 @@ use Rattle.predicates.specs.Questions.{Answers}
 use Rattle.predicates.specs.declared.questions.Question.TheVariants.{Ever}
 use Rattle.predicates.specs.declared.questions.Tri.TheVariants.{No}
 use Rattle.predicates.proofs.SequenceLemmas.{passes_by, one_more}
+use Rattle.predicates.proofs.Tests.{told_no}
 use Rattle.predicates.proofs.runs.first_met.Goals as goal
 
 pub comes_in-requires-clause-a_fits : goal.comes_in-requires-clause-a_fits
@@ -37,7 +38,7 @@ loop-k-preserved c =
     let over : b.t ≤ last_whole p = search rules in
     one_more (λ j. Answers Ever (Piece Linear ps j) p r No) c.args.from k c.loop-k.invariant
     (passes_by ps p r c.args.from k a b has c.requires.increasing c.requires.begun (omega arith) e f over
-    (λ h. let t = c.comes_in.ensures.1 h in let n = c.if-comes_in.false in absurd (cc)))
+    (told_no c.if-comes_in.false c.comes_in.ensures.1))
 
 -- the loop went up to the last point
 pub returns-clause-each : goal.returns-clause-each

@@ -1,9 +1,10 @@
-use Rattle.std.proofs.Common.{◌<◌, arith, rules}
+use Rattle.std.proofs.Common.{◌<◌, arith, rules, sym, ◌∙◌}
 use Rattle.tpoint.proofs.PlaceLemmas.{stands_at}
 use Rattle.tpoint.specs.Extents.{last_whole}
 use Rattle.tpoint.proofs.ValueLemmas.{points_rise, points_in_range}
-use Rattle.predicates.proofs.SequenceLemmas.{so_far_none, next_none, next_some, decided}
+use Rattle.predicates.proofs.SequenceLemmas.{so_far_none, next_none, next_some, decided, told}
 use Rattle.predicates.proofs.SequenceLemmas.{answered, before_place, begins_after, past_the_last, of_sequence}
+use Rattle.predicates.proofs.Tests.{never}
 use Rattle.predicates.proofs.sequences.answer.Goals as goal
 use Rattle.predicates.proofs.sequences.answer.Goals.{in-None, in_default}
 
@@ -41,17 +42,13 @@ returns-then-decides c =
     let ps = c.points-points.result.now in
     elim c.match-run.branch [
       | in-None w ↦
-          let same = w.answer-is in
-          let test = c.decides.ensures in
-          let passed = c.if-decides.true in
-          let not_yet = c.loop-i.invariant.not_yet in
-          absurd (cc)
+          never (sym c.loop-i.invariant.not_yet ∙ told c.args.question _ _ _ _ w.answer-is c.decides.ensures c.if-decides.true)
       | in_default w ↦
           rw w.answer-is
           (of_sequence c.args.question c.args.seq.now interp ps _ _ _ c.interp-interp.ensures.value c.points-points.ensures.value
           (decided c.args.question interp ps _ _ c.loop-i.i c.run_from-run.result.answer
           (c.run_from-run.ensures.each c.loop-i.i (omega arith) c.run_from-run.ensures.on)
-          (let same = w.answer-is in let test = c.decides.ensures in let passed = c.if-decides.true in cc)))
+          (told c.args.question _ _ _ _ w.answer-is c.decides.ensures c.if-decides.true)))
     ]
 
 pub loop-i-preserved : goal.loop-i-preserved
@@ -68,7 +65,7 @@ loop-i-preserved c =
           rw w.answer-is
           (next_some c.args.question interp ps _ _ c.loop-i.i n _ run.result.answer c.loop-i.invariant run.ensures.on run.ensures.each
           w.in_default.not-None
-          (let same = w.answer-is in let test = c.decides.ensures in let failed = c.if-decides.false in cc))
+          (told c.args.question _ _ _ _ w.answer-is c.decides.ensures c.if-decides.false))
     ]
 
 -- no piece is left

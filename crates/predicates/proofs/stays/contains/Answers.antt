@@ -1,6 +1,7 @@
-use Rattle.std.proofs.Common.{arith}
+use Rattle.std.proofs.Common.{arith, sym, ◌∙◌}
 use Rattle.std.proofs.lemmas.Int.{ints}
 use Rattle.predicates.proofs.StayLemmas.{inside_numbers}
+use Rattle.predicates.proofs.Tests.{never}
 use Rattle.predicates.proofs.stays.contains.Goals as goal
 
 pub returns-then-across : goal.returns-then-across
@@ -16,6 +17,6 @@ returns-then-across c =
 pub returns-else-across : goal.returns-else-across
 returns-else-across c =
     let i = inside_numbers c.args.point.now c.args.area.now in (
-      λ t. absurd (let e = c.if-across.false in cc),
+      λ t. never (sym c.if-across.false ∙ t),
       λ h. let k = i.1 h in c.is_between-across.ensures.1 (omega (arith, ints), omega (arith, ints)),
     )
