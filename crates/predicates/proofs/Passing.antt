@@ -1,6 +1,6 @@
 -- The numbers of two points and a rectangle, as they are passed to a call: written to 64 bits, and read back.
-use Rattle.std.proofs.Common.{ℤ, SFits, arith}
-use Rattle.std.proofs.lemmas.Int.{ints}
+use Rattle.std.proofs.Common.{◌≡◌, ℤ, SFits, to_z, of_z, arith, sym, subst}
+use Rattle.std.proofs.lemmas.Int.{ints, to_z-of_z}
 use mir.Syntax.{w64}
 use Rattle.tpoint.specs.Coordinates.{InRange}
 use Rattle.tpoint.specs.Moving.{InBounds}
@@ -33,3 +33,10 @@ numbers_fit a b r p q s =
       y0 = coordinate_fits r.y0 s.y0_fits;
       y1 = coordinate_fits r.y1 s.y1_fits;
     }
+
+-- what a function is handed of a number in range is in range
+pub number_passed : (z : ℤ) → InRange z → InRange (to_z w64 (of_z w64 z))
+number_passed z h = subst InRange (sym (to_z-of_z w64 z (coordinate_fits z h))) h
+
+pub bound_passed : (z y : ℤ) → z ≡ y → InRange y → InRange (to_z w64 (of_z w64 z))
+bound_passed z y same h = number_passed z (subst InRange (sym same) h)

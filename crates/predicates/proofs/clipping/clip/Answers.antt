@@ -41,3 +41,17 @@ returns-in-false-false c =
     (λ i. never ((c.in-false-false.ensures).1 (rw from i)))
     (λ i. never ((c.in-false-false.ensures').1 (rw to i)))
     h.1
+
+pub crossing-requires-in-false-true-clause-opposite : goal.crossing-requires-in-false-true-clause-opposite
+crossing-requires-in-false-true-clause-opposite c =
+    let a = c.args in
+    let outside = outer_number a.counts (to_z w64 (of_z w64 a.begin)) (λ h. never ((c.in-false-true.ensures).1 h)) in
+    let inside = inner_number a.counts (to_z w64 (of_z w64 a.end)) ((c.in-false-true.ensures').0 refl) in
+    omega (arith, ints)
+
+pub crossing-requires-clause-opposite : goal.crossing-requires-clause-opposite
+crossing-requires-clause-opposite c =
+    let a = c.args in
+    let inside = inner_number a.counts (to_z w64 (of_z w64 a.begin)) ((c.in-true-false.ensures).0 refl) in
+    let outside = outer_number a.counts (to_z w64 (of_z w64 a.end)) (λ h. never ((c.in-true-false.ensures').1 h)) in
+    omega (arith, ints)

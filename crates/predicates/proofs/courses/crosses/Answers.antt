@@ -1,6 +1,6 @@
-use Rattle.std.proofs.Common.{inr, sym, ◌∙◌}
+use Rattle.std.proofs.Common.{inl, inr, sym, ◌∙◌}
 use Rattle.std.proofs.lemmas.Int.{to_z-of_z}
-use Rattle.predicates.proofs.Passing.{numbers_fit}
+use Rattle.predicates.proofs.Passing.{numbers_fit, number_passed, bound_passed}
 use Rattle.predicates.proofs.CourseLemmas.{leg_crosses}
 use Rattle.predicates.proofs.Tests.{never, told_no}
 use Rattle.predicates.proofs.courses.crosses.Goals as goal
@@ -26,7 +26,26 @@ returns-else-across_first c =
           absurd (told_no c.if-across_first.false c.enters_before-across_first.ensures.1 both.0),
     )
 
-pub course_of-along-requires-clause-near : goal.course_of-along-requires-clause-near
-course_of-along-requires-clause-near c =
+pub course_of-across-requires : goal.course_of-across-requires
+course_of-across-requires c =
     let n = numbers_fit _ _ _ c.requires.a_fits c.requires.b_fits c.x0.ensures.valid in
-    λ h. c.requires.near (inr (simp (to_z-of_z, n.ay, n.by, n.y0, n.y1, c.y0.ensures.value, c.y1.ensures.value) at h))
+    record {
+      from_fits = number_passed _ c.requires.a_fits.x_fits;
+      to_fits = number_passed _ c.requires.b_fits.x_fits;
+      low_fits = bound_passed _ _ c.x0.ensures.value c.x0.ensures.valid.x0_fits;
+      high_fits = bound_passed _ _ c.x1.ensures.value c.x1.ensures.valid.x1_fits;
+      order = simp (to_z-of_z, n.x0, n.x1, c.x0.ensures.value, c.x1.ensures.value) c.x0.ensures.valid.x_order;
+      near = λ h. c.requires.near (inl (simp (to_z-of_z, n.ax, n.bx, n.x0, n.x1, c.x0.ensures.value, c.x1.ensures.value) at h));
+    }
+
+pub course_of-along-requires : goal.course_of-along-requires
+course_of-along-requires c =
+    let n = numbers_fit _ _ _ c.requires.a_fits c.requires.b_fits c.x0.ensures.valid in
+    record {
+      from_fits = number_passed _ c.requires.a_fits.y_fits;
+      to_fits = number_passed _ c.requires.b_fits.y_fits;
+      low_fits = bound_passed _ _ c.y0.ensures.value c.y0.ensures.valid.y0_fits;
+      high_fits = bound_passed _ _ c.y1.ensures.value c.y1.ensures.valid.y1_fits;
+      order = simp (to_z-of_z, n.y0, n.y1, c.y0.ensures.value, c.y1.ensures.value) c.y0.ensures.valid.y_order;
+      near = λ h. c.requires.near (inr (simp (to_z-of_z, n.ay, n.by, n.y0, n.y1, c.y0.ensures.value, c.y1.ensures.value) at h));
+    }

@@ -2,7 +2,7 @@ use Rattle.std.proofs.lemmas.Int.{to_z-of_z}
 use Rattle.tpoint.specs.Ways.{way}
 use Rattle.tpoint.specs.Extents.{Between, Inside}
 use Rattle.predicates.specs.Windows.{place_at}
-use Rattle.predicates.proofs.Passing.{numbers_fit}
+use Rattle.predicates.proofs.Passing.{numbers_fit, number_passed, bound_passed}
 use Rattle.predicates.proofs.LegLemmas.{part_of_part, no_part, inside_both, some_in}
 use Rattle.predicates.proofs.Tests.{never}
 use Rattle.predicates.proofs.legs.meets.Goals as goal
@@ -34,3 +34,21 @@ returns-in-None c =
           s.at
           (s.in_window, s.holds)),
     )
+
+pub between-requires : goal.between-requires
+between-requires c =
+    record {
+      from_fits = number_passed _ c.requires.a_fits.x_fits;
+      to_fits = number_passed _ c.requires.b_fits.x_fits;
+      low_fits = bound_passed _ _ c.x0.ensures.value c.x0.ensures.valid.x0_fits;
+      high_fits = bound_passed _ _ c.x1.ensures.value c.x1.ensures.valid.x1_fits;
+    }
+
+pub between-requires-in-Some : goal.between-requires-in-Some
+between-requires-in-Some c =
+    record {
+      from_fits = number_passed _ c.requires.a_fits.y_fits;
+      to_fits = number_passed _ c.requires.b_fits.y_fits;
+      low_fits = bound_passed _ _ c.y0.ensures.value c.y0.ensures.valid.y0_fits;
+      high_fits = bound_passed _ _ c.y1.ensures.value c.y1.ensures.valid.y1_fits;
+    }
