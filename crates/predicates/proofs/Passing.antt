@@ -6,6 +6,7 @@ use Rattle.tpoint.specs.Coordinates.{InRange}
 use Rattle.tpoint.specs.Moving.{InBounds}
 use Rattle.tpoint.specs.Extents.{Area, IsArea}
 use Rattle.tpoint.specs.declared.point.Point.{Point}
+use Rattle.predicates.specs.Windows.{AreNear}
 
 -- they fit, so that each is read as it was written
 pub record NumbersFit (a b : Point) (r : Area) : Type 0 where
@@ -40,3 +41,10 @@ number_passed z h = subst InRange (sym (to_z-of_z w64 z (coordinate_fits z h))) 
 
 pub bound_passed : (z y : ℤ) → z ≡ y → InRange y → InRange (to_z w64 (of_z w64 z))
 bound_passed z y same h = number_passed z (subst InRange (sym same) h)
+
+near : (from to bound : ℤ) → InRange from → InRange to → InRange bound → AreNear from to bound
+near from to bound f t b = record { way = omega (arith, ints); begin = omega (arith, ints); end = omega (arith, ints) }
+
+pub near_passed : (from to bound : ℤ) → InRange from → InRange to → InRange bound →
+    AreNear (to_z w64 (of_z w64 from)) (to_z w64 (of_z w64 to)) (to_z w64 (of_z w64 bound))
+near_passed from to bound f t b = near _ _ _ (number_passed from f) (number_passed to t) (number_passed bound b)

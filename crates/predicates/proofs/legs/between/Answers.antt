@@ -4,6 +4,7 @@ use Rattle.tpoint.specs.Fraction.{whole}
 use Rattle.tpoint.specs.Ways.{way}
 use Rattle.tpoint.specs.Extents.{Before}
 use Rattle.predicates.proofs.LegLemmas.{part_of_part, no_part, between_both}
+use Rattle.predicates.proofs.Passing.{near_passed}
 use Rattle.predicates.proofs.legs.between.Goals as goal
 
 pub returns-in_err-above : goal.returns-in_err-above
@@ -23,3 +24,9 @@ returns c =
     (simp (to_z-of_z, r.from, r.to, r.low) at c.in_ok-above.ensures)
     (λ u. between_both a.low a.high (way a.from a.to u))
     (simp (to_z-of_z, r.from, r.to, r.high) at c.at_most.ensures)
+
+pub at_least-requires : goal.at_least-requires
+at_least-requires c = near_passed _ _ _ c.requires.from_fits c.requires.to_fits c.requires.low_fits
+
+pub at_most-requires : goal.at_most-requires
+at_most-requires c = near_passed _ _ _ c.requires.from_fits c.requires.to_fits c.requires.high_fits

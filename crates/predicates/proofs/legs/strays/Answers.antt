@@ -1,6 +1,7 @@
 use Rattle.std.proofs.Common.{sym}
 use Rattle.std.proofs.lemmas.Int.{to_z-of_z}
 use Rattle.predicates.proofs.LegLemmas.{stray_below, stray_above}
+use Rattle.predicates.proofs.Passing.{near_passed}
 use Rattle.predicates.proofs.legs.strays.Goals as goal
 
 pub returns-then-is_some : goal.returns-then-is_some
@@ -18,3 +19,9 @@ returns c =
     (simp (to_z-of_z, r.from, r.to, r.low) at c.at_most.ensures)
     (simp (to_z-of_z, r.from, r.to, r.high) at c.at_least.ensures)
     c.is_some-2.ensures
+
+pub at_most-requires : goal.at_most-requires
+at_most-requires c = near_passed _ _ _ c.requires.from_fits c.requires.to_fits c.requires.low_fits
+
+pub at_least-requires : goal.at_least-requires
+at_least-requires c = near_passed _ _ _ c.requires.from_fits c.requires.to_fits c.requires.high_fits
