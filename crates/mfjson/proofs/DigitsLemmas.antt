@@ -139,6 +139,9 @@ drop_end text at h = drop_of_length-le text (omega (arith, h))
 pub none_exact : {A : Type 0} (P : Type 0) (x : A) → ¬ P → P ↔ (None ≡ Some x)
 none_exact {A} P x never = (λ p. absurd (never p), λ e. absurd (cc))
 
+pub never_found : {A : Type 0} {x : A} → ¬ (None ≡ Some x)
+never_found e = absurd (cc)
+
 -- nor what needs what is not there
 pub none_without : {A B : Type 0} (P Q : Type 0) (x : A) (y : B) → (P → Q) → Q ↔ (None ≡ Some y) → P ↔ (None ≡ Some x)
 none_without {A} {B} P Q x y needs none = none_exact P x (λ p. let gone = none.0 (needs p) in absurd (cc))

@@ -68,18 +68,18 @@ pub numbers_exact : (mark : ℕ) (text rest : List ℕ) (a b c : ℕ) → get_or
     ((n : ℕ) → IsNumber (slice_range rest 4 6) n ↔ (Some c ≡ Some n)) → (x y z : ℕ) →
     AreNumbers mark text rest x y z ↔ ◌≡◌ {A = Option (ℕ × ℕ × ℕ)} (Some (a, b, c)) (Some (x, y, z))
 numbers_exact mark text rest a b c second third is_a is_b is_c x y z = (
-    λ are.
-        let first = same_Some _ _ ((is_a x).0 are.first) in
-        let next = same_Some _ _ ((is_b y).0 are.second) in
-        let last = same_Some _ _ ((is_c z).0 are.third) in
-        cc,
-    λ e.
-        let same = same_Some _ _ e in
-        record {
-          first = (is_a x).1 (ap (λ (n : ℕ × ℕ × ℕ). Some n.0) same);
-          second_mark = second;
-          second = (is_b y).1 (ap (λ (n : ℕ × ℕ × ℕ). Some n.1) same);
-          third_mark = third;
-          third = (is_c z).1 (ap (λ (n : ℕ × ℕ × ℕ). Some n.2) same);
-        },
-  )
+  λ are.
+      let first = same_Some _ _ ((is_a x).0 are.first) in
+      let next = same_Some _ _ ((is_b y).0 are.second) in
+      let last = same_Some _ _ ((is_c z).0 are.third) in
+      cc,
+  λ e.
+      let same = same_Some _ _ e in
+      record {
+        first = (is_a x).1 (ap (λ (n : ℕ × ℕ × ℕ). Some n.0) same);
+        second_mark = second;
+        second = (is_b y).1 (ap (λ (n : ℕ × ℕ × ℕ). Some n.1) same);
+        third_mark = third;
+        third = (is_c z).1 (ap (λ (n : ℕ × ℕ × ℕ). Some n.2) same);
+      },
+)

@@ -1,15 +1,13 @@
 use Rattle.std.proofs.Common.{◌≡◌, pos, refl, arith, ◌∙◌, sym}
 use Rattle.std.proofs.lemmas.Int.{ints}
 use Rattle.jiff_core.proofs.SignedLemmas.{signed_casts}
-use Rattle.mfjson.proofs.DigitsLemmas.{none_exact, none_told}
+use Rattle.mfjson.proofs.DigitsLemmas.{none_exact, none_told, never_found}
 use Rattle.mfjson.proofs.DateTexts.{date_numbers, date_exact, is_civil, small_numbers, asked, answered, day_of}
 use Rattle.mfjson.proofs.datetime.day_number.Goals as goal
 
 pub returns-in_err-year-clause-exact : goal.returns-in_err-year-clause-exact
 returns-in_err-year-clause-exact c n =
-    rw c.from_residual.ensures (none_exact _ n (λ is.
-    let gone = (c.in_err-year.ensures.exact _ _ _).0 (date_numbers c.args.text.now n is) in
-    absurd (cc)))
+    rw c.from_residual.ensures (none_exact _ n (λ is. never_found ((c.in_err-year.ensures.exact _ _ _).0 (date_numbers c.args.text.now n is))))
 
 pub returns-in_default-clause-exact : goal.returns-in_default-clause-exact
 returns-in_default-clause-exact c n =

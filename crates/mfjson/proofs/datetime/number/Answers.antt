@@ -2,13 +2,13 @@ use Rattle.std.proofs.Common.{◌≡◌, ◌<◌, ◌^◌, length, get_or, sym, 
 use Rattle.std.proofs.Math.Seq.{take-length}
 use Rattle.std.specs.Char.{IsAsciiDigit}
 use Rattle.mfjson.specs.Digits.{digits}
-use Rattle.mfjson.proofs.DigitsLemmas.{number_step, number_exact, not_number}
+use Rattle.mfjson.proofs.DigitsLemmas.{number_step, number_exact, not_number, none_exact}
 use Rattle.mfjson.proofs.datetime.number.Goals as goal
 
 pub returns-then-not-is_ascii_digit-clause-exact : goal.returns-then-not-is_ascii_digit-clause-exact
 returns-then-not-is_ascii_digit-clause-exact c n =
     let other : ¬ IsAsciiDigit (get_or c.args.text.now c.loop-byte.byte-index 0) = search rules in
-    (λ h. absurd (not_number c.args.text.now c.loop-byte.byte-index 0 (omega arith) other n h), λ e. absurd (cc))
+    none_exact _ n (not_number c.args.text.now c.loop-byte.byte-index 0 (omega arith) other n)
 
 pub loop-byte-preserved : goal.loop-byte-preserved
 loop-byte-preserved c =
