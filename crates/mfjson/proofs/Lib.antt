@@ -17,7 +17,6 @@ pub mod Lists
 pub mod PlaceLemmas
 pub mod PartLemmas
 pub mod FeatureLemmas
-pub mod Outlines
 pub mod NeverBroken
 pub mod Named
 pub mod WholeNumbers
