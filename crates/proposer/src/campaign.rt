@@ -239,8 +239,8 @@ impl Campaign {
         let Some(command) = self.choice(alloc, waiting, learnt_to, slot)? else {
             return Ok(false);
         };
-        sends.push(accept(self.ballot, slot, command.clone()?))?;
         self.window.place(slot, command.command().clone()?);
+        sends.push(accept(self.ballot, slot, command))?;
         Ok(true)
     }
 

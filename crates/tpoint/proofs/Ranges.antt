@@ -26,7 +26,7 @@ instant_is t h = omega (arith, ints, h.not_before, h.not_after)
 difference_small : (s t : ℤ) → IsInstant s → IsInstant t → unsigned_abs (t -ℤ s) < 2 ^ 48
 difference_small s t g h = omega (arith, ints, g.not_before, g.not_after, h.not_before, h.not_after)
 
-difference_fits : (s t : ℤ) → IsInstant s → IsInstant t → SFits w64 (t -ℤ s)
+pub difference_fits : (s t : ℤ) → IsInstant s → IsInstant t → SFits w64 (t -ℤ s)
 difference_fits s t g h = fits_signed_from_abs w64 (t -ℤ s) (omega (arith, difference_small s t g h))
 
 pub apart_is : (s t : ℤ) → IsInstant s → IsInstant t → to_z w64 (of_z w64 (apart s t)) ≡ t -ℤ s

@@ -1,7 +1,7 @@
-use Rattle.std.proofs.Common.{◌≤◌, ◌-ℤ◌, SFits, rules, arith}
-use Rattle.std.proofs.lemmas.Int.{ints, to_z-of_z}
+use Rattle.std.proofs.Common.{◌≤◌, ◌-ℤ◌, SFits, rules, refl}
+use Rattle.std.proofs.lemmas.Int.{to_z-of_z}
 use mir.Syntax.{w64}
-use Rattle.tpoint.proofs.Ranges.{stays_in_range, apart_is, apart_fits, apart_small, after_positive}
+use Rattle.tpoint.proofs.Ranges.{stays_in_range, difference_fits, apart_is, apart_fits, apart_small, after_positive}
 use Rattle.tpoint.proofs.ValueLemmas.{leg_holds}
 use Rattle.tpoint.proofs.values.on_leg.Goals as goal
 
@@ -60,9 +60,12 @@ returns c =
     let m4 : SFits w64 c.ms-4.result = search rules in
     let gone = c.ms.result -ℤ c.ms-2.result in
     let all = c.ms-3.result -ℤ c.ms-4.result in
-    let g : SFits w64 (c.ms.result -ℤ c.ms-2.result) = omega (arith, ints) in
-    let h : SFits w64 (c.ms-3.result -ℤ c.ms-4.result) = omega (arith, ints) in
+    let g : SFits w64 (c.ms.result -ℤ c.ms-2.result) =
+        difference_fits c.ms-2.result c.ms.result c.ms-2.ensures.in_range c.ms.ensures.in_range in
+    let h : SFits w64 (c.ms-3.result -ℤ c.ms-4.result) =
+        difference_fits c.ms-4.result c.ms-3.result c.ms-4.ensures.in_range c.ms-3.ensures.in_range in
     let from : a.t ≤ t = search rules in
     let to : t ≤ b.t = search rules in
-    leg_holds a b t gone all c.on_way-x.result c.on_way-y.result from to (omega (arith, ints)) (omega (arith, ints))
+    leg_holds a b t gone all c.on_way-x.result c.on_way-y.result from to
+    (rw (c.ms.ensures.value, c.ms-2.ensures.value) refl) (rw (c.ms-3.ensures.value, c.ms-4.ensures.value) refl)
     (simp to_z-of_z at c.on_way-x.ensures) (simp to_z-of_z at c.on_way-y.ensures)

@@ -1,6 +1,7 @@
 use Rattle.std.proofs.Common.{ℕ, Option, rules, ◌∙◌, ap, option_map, refl}
 use Rattle.byslot.proofs.ValueLemmas.{where_refused}
 use Rattle.byslot.specs.Values.{value_at}
+use Rattle.stable.proofs.FaultLemmas.{no_fault}
 use Rattle.acceptor.specs.Casts.{vote_at, cast_at}
 use Rattle.acceptor.specs.declared.cast.Cast.{Cast}
 use Rattle.acceptor.specs.declared.votes.Votes.{Votes}
@@ -8,28 +9,40 @@ use Rattle.acceptor.proofs.VoteLemmas.{put_there, votes-put, same_vote, put_and_
 use Rattle.acceptor.proofs.votes.Votes.cast.Goals as goal
 
 -- the vote is at its slot, and the others are as they were
-pub returns-in-Ok-clause-votes : goal.returns-in-Ok-clause-votes
-returns-in-Ok-clause-votes g c = λ s.
-    let vote = c.args.vote.now in
-    let cast : Cast = record { ballot = vote.ballot; command = c.in_ok-clone.field-0 } in
-    let same = same_vote cast vote refl (search rules) in
-    ap (option_map (vote_at s)) (ap (λ f. f s) c.in_ok-before.ensures.stands)
-    ∙ votes-put (cast_at c.args.self.now) cast vote same s
-
-pub returns-in-Ok-clause-written : goal.returns-in-Ok-clause-written
-returns-in-Ok-clause-written g c = search rules
+pub returns-in-Ok : goal.returns-in-Ok
+returns-in-Ok g c = record {
+  written = search rules;
+  votes = λ s.
+      let vote = c.args.vote.now in
+      let cast : Cast = record { ballot = vote.ballot; command = c.in_ok-clone.field-0 } in
+      let same = same_vote cast vote refl (search rules) in
+      ap (option_map (vote_at s)) (ap (λ f. f s) c.in_ok-before.ensures.stands)
+      ∙ votes-put (cast_at c.args.self.now) cast vote same s;
+  fits = search rules;
+  device = λ is. absurd (no_fault _ _ is);
+  device_fits = λ is. absurd (no_fault _ _ is);
+  memory = λ is. absurd (no_fault _ _ is);
+  unchanged = tt;
+  not_damaged = λ is. no_fault _ _ is;
+}
 
 -- what took its place is taken back
-pub returns-in-Err-clause-unchanged : goal.returns-in-Err-clause-unchanged
-returns-in-Err-clause-unchanged g c = λ s.
-    let slot = c.args.vote.now.slot in
-    let held : Votes = record { by_slot = c.insert.new.self } in
-    let back = put_and_back (cast_at c.args.self.now) (cast_at held) (cast_at c.put_back.new.self)
-    slot _ c.in_ok-before.before (λ i. ap (λ f. f i) c.in_ok-before.ensures.stands) c.put_back.ensures c.in_ok-before.ensures.before s in
-    ap (option_map (vote_at s)) back
-
-pub returns-in-Err-clause-memory : goal.returns-in-Err-clause-memory
-returns-in-Err-clause-memory g c = search rules
+pub returns-in-Err : goal.returns-in-Err
+returns-in-Err g c = record {
+  written = tt;
+  votes = tt;
+  fits = tt;
+  device = search rules;
+  device_fits = search rules;
+  memory = search rules;
+  unchanged = λ s.
+      let slot = c.args.vote.now.slot in
+      let held : Votes = record { by_slot = c.insert.new.self } in
+      let back = put_and_back (cast_at c.args.self.now) (cast_at held) (cast_at c.put_back.new.self)
+      slot _ c.in_ok-before.before (λ i. ap (λ f. f i) c.in_ok-before.ensures.stands) c.put_back.ensures c.in_ok-before.ensures.before s in
+      ap (option_map (vote_at s)) back;
+  not_damaged = c.in-Err.ensures.not_damaged;
+}
 
 -- memory was wanting
 pub returns-in_err-before-clause-unchanged : goal.returns-in_err-before-clause-unchanged

@@ -65,15 +65,3 @@ returns-in_err-push c =
           (rw (sym c.in_ok-command.ensures.chosen ∙ c.in-Some.is) refl);
       only = tt;
     })
-
-pub returns-in_err-clone-2 : goal.returns-in_err-clone-2
-returns-in_err-clone-2 c =
-    let k = c.args.self.now in
-    let exit = err_from_is_err_and c.from_residual-in_err-clone-2.result c.from_residual-in_err-clone-2.ensures.1 in
-    rw exit.1 (record {
-      steps = tt;
-      opens = still_sends k c.args.waiting.now c.args.learnt_to c.args.slot c.args.learnt _ _
-          (ap (λ (k : Campaigning). k.proposals) c.self.view_is) c.if-learnt.false c.if-has.ensures c.if-is_full.ensures
-          (rw (sym c.in_ok-command.ensures.chosen ∙ c.in-Some.is) refl);
-      only = tt;
-    })
