@@ -61,9 +61,9 @@ returns c =
     let gone = c.ms.result -ℤ c.ms-2.result in
     let all = c.ms-3.result -ℤ c.ms-4.result in
     let g : SFits w64 (c.ms.result -ℤ c.ms-2.result) =
-        difference_fits c.ms-2.result c.ms.result c.ms-2.ensures.in_range c.ms.ensures.in_range in
+    difference_fits c.ms-2.result c.ms.result c.ms-2.ensures.in_range c.ms.ensures.in_range in
     let h : SFits w64 (c.ms-3.result -ℤ c.ms-4.result) =
-        difference_fits c.ms-4.result c.ms-3.result c.ms-4.ensures.in_range c.ms-3.ensures.in_range in
+    difference_fits c.ms-4.result c.ms-3.result c.ms-4.ensures.in_range c.ms-3.ensures.in_range in
     let from : a.t ≤ t = search rules in
     let to : t ≤ b.t = search rules in
     leg_holds a b t gone all c.on_way-x.result c.on_way-y.result from to
