@@ -5,8 +5,9 @@
 
 Twice a second it looks which checks there are, and how many seconds of a processor each has used; a check that is over before it is
 seen is left out. Once a minute it times two fixed loops of its own, one of sums and one of reads all over 64 MB: a machine whose other
-work is not ours can be slower by a quarter from one minute to the next, which the seconds of a check alone don't tell. From nothing is
-only a run for which nothing is kept; the gate's last lines say what was.
+work is not ours can be slower by half from one minute to the next, which the seconds of a check alone don't tell. From nothing is
+only a run for which nothing is kept; the gate's last lines say what was. The table is followed by the dearest wrong bodies, each with the
+crate's name and its own.
 """
 import array
 import os
@@ -66,6 +67,12 @@ def look(seen):
         seen[pid, start][1] = seconds
 
 
+def free():
+    """Returns the memory that is free, in GB."""
+    with open("/proc/meminfo") as it:
+        return next(int(line.split()[1]) for line in it if line.startswith("MemAvailable:")) / 1e6
+
+
 def busy():
     with open("/proc/stat") as it:
         fields = [int(word) for word in it.readline().split()[1:]]
@@ -96,6 +103,17 @@ def by_crate(seen):
     return crates
 
 
+def dearest(crates, count=20):
+    """Returns the seconds of the dearest wrong bodies, their crates and their names; what is over no seed is alone in its crate."""
+    found = []
+    for crate, kinds in crates.items():
+        names = sorted(it for it in os.listdir(f"crates/{crate}/must-fail") if it.endswith(".edit")) if kinds["wrong"] else []
+        for over, seconds in kinds["wrong"].items():
+            number = int(os.path.basename(over)) if over else 0
+            found.append((seconds, crate, names[number].removesuffix(".edit")))
+    return sorted(found, reverse=True)[:count]
+
+
 def cell(kind, tasks):
     if not tasks:
         return ""
@@ -106,11 +124,12 @@ def cell(kind, tasks):
 
 def main(log):
     seen, speeds, places = {}, [], array.array("q", range(8_000_000))
-    (was_busy, was), begin, last = busy(), time.time(), 0
+    (was_busy, was), begin, last, least = busy(), time.time(), 0, free()
     with open(log, "wb") as it:
         gate = subprocess.Popen(["bash", ".ci/run"], stdin=subprocess.DEVNULL, stdout=it, stderr=subprocess.STDOUT)
         while gate.poll() is None:
             look(seen)
+            least = min(least, free())
             if time.time() - last > 60:
                 last = time.time()
                 speeds.append(loops(places))
@@ -121,10 +140,13 @@ def main(log):
         print(f"| `{crate}` | {' | '.join(cell(kind, kinds[kind]) for kind in KINDS)} |")
     sums = {kind: sum(sum(kinds[kind].values()) for kinds in crates.values()) for kind in KINDS}
     print(f"\n{sum(sums.values()):.0f} seconds: " + ", ".join(f"{head} {sums[kind]:.0f}" for kind, head in zip(KINDS, HEADS)))
-    print(f"{(time.time() - begin) / 60:.0f} minutes, the processors busy for {100 * (is_busy - was_busy) / max(now - was, 1):.0f} hundredths")
+    share = (is_busy - was_busy) / max(now - was, 1)
+    print(f"{(time.time() - begin) / 60:.0f} minutes, the processors busy for {100 * share:.0f} hundredths, never less than {least:.1f} GB free")
     for name, of in (("sums", 0), ("reads", 1)):
-        taken = sorted(it[of] for it in speeds)
-        print(f"the loop of {name}: {taken[0]:.3f} to {taken[-1]:.3f} seconds, half of the times below {taken[len(taken) // 2]:.3f}")
+        taken = [it[of] for it in speeds]
+        print(f"the loop of {name}: {min(taken):.3f} to {max(taken):.3f} seconds, {sum(taken) / len(taken):.3f} in the mean")
+    for seconds, crate, name in dearest(crates):
+        print(f"{seconds:.0f} seconds: {crate} {name}")
     return gate.returncode
 
 

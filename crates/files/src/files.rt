@@ -1,6 +1,7 @@
 //! The records of a replay's nodes in files: a database for each node, in one folder.
 
-ghost use Rattle.std.specs.Prelude.{◌≡◌, ◌⊎◌, IfErr};
+ghost use Rattle.std.specs.Fmt.{decimal};
+ghost use Rattle.std.specs.Prelude.{◌≡◌, ◌≢◌, ◌⊎◌, ◌++◌, IfErr, IfOk, codes, string_bytes};
 
 use crate::node_file::NodeFile;
 use archive::Archive;
@@ -9,6 +10,7 @@ use sqlstable::SqlStable;
 use stable::StableFault;
 use std::alloc::AllocError;
 use std::fs;
+use std::io::ErrorKind;
 use wire::Nodes;
 
 /// Files of SQLite, node i's records in `nodei.db` of the folder. A file is made where there is none; the folder isn't.
@@ -40,8 +42,8 @@ impl Archive for Files {
         count: Nodes,
     ) -> Result<bool, AllocError> {
         for number in 0..count.count() {
-            let log = format!(in rt.alloc(); "{folder}/node{number}.db-wal")?;
-            if fs::symlink_metadata(rt, log.as_str()).is_ok() {
+            let path = path_of(rt, folder, number)?;
+            if has_log(rt, path.as_str())? {
                 return Ok(true);
             }
         }
@@ -57,6 +59,19 @@ impl Archive for Files {
                 return;
             }
         }
+    }
+}
+
+/// Whether a log lies beside the file, or beside the one to which a link of its name leads. What can't be looked at is taken for one, so
+/// that nothing is changed there.
+fn has_log(rt: &HostRuntime, path: &str) -> Result<bool, AllocError> {
+    let log = match fs::canonicalize(rt, path) {
+        Ok(file) => format!(in rt.alloc(); "{}-wal", file.as_str())?,
+        Err(_) => format!(in rt.alloc(); "{path}-wal")?,
+    };
+    match fs::symlink_metadata(rt, log.as_str()) {
+        Ok(_) => Ok(true),
+        Err(error) => Ok(error.kind() != ErrorKind::NotFound),
     }
 }
 
@@ -80,13 +95,17 @@ fn open_file(rt: &HostRuntime, folder: &str, number: u8) -> Result<NodeFile, Fai
 }
 
 /// Where a node's records are.
-fn path_of(rt: &HostRuntime, folder: &str, number: u8) -> Result<String, AllocError> {
+fn path_of(rt: &HostRuntime, folder: &str, number: u8) -> Result<String, AllocError>
+    ensures { IfOk result (λ path. string_bytes path
+        ≡ folder.now ++ (codes "/node" ++ decimal number ++ codes ".db")) }
+{
     format!(in rt.alloc(); "{folder}/node{number}.db")
 }
 
 /// What a storage's fault is to the program.
 fn storage_failure(fault: StableFault) -> Failure
     ensures memory { fault ≡ StableFault.Memory → result ≡ Failure.Memory }
+    ensures device { fault ≢ StableFault.Memory → result ≡ Failure.Device }
     ensures either { (result ≡ Failure.Device) ⊎ (result ≡ Failure.Memory) }
 {
     match fault {

@@ -1,9 +1,9 @@
 //! One node's records in a file.
 
-ghost use Rattle.std.specs.Prelude.{IsErrOf};
+ghost use Rattle.std.specs.Prelude.{IfOk, IsErrOf};
 ghost use Rattle.sqlite.specs.Files.{over_files};
 ghost use Rattle.sqlstable.specs.Keys.{HasStray, records_in};
-ghost use Rattle.sqlstable.specs.Storage.{IsSqlHonest, Puts, ReadFails, Reads, failures_of, rows_of};
+ghost use Rattle.sqlstable.specs.Storage.{IsSqlHonest, IsUnfailed, Puts, ReadFails, Reads, failures_of, rows_of};
 
 use crate::asking::{Answer, Asked, ask, leave};
 use sqlite::{File, FileStore};
@@ -23,6 +23,7 @@ impl NodeFile {
     ///
     /// `Device` where the file can't be used, where it is in use, and where it holds anything but the table of records.
     pub fn open(rt: &HostRuntime, path: &str) -> Result<NodeFile, StableFault>
+        ensures unfailed { IfOk result (λ n. IsUnfailed over_files n.table) }
         ensures not_damaged { ¬ IsErrOf result StableFault.Damaged }
     {
         let table = SqlStable::open(rt, path)?;

@@ -1,11 +1,10 @@
 -- What the calls of the storage come to.
-use Rattle.std.proofs.Common.{◌≡◌, ◌≢◌, ℕ, ◌<◌, arith, Bool, true, false, List, [], Option, IsSome, unwrap_or, Ok, Err, Result, IfOk, OnOk}
-use Rattle.std.proofs.Common.{Contains, ◌↔◌, length, IsTrue, refl, sym, ap, subst, ◌∙◌}
+use Rattle.std.proofs.Common.{◌≡◌, ℕ, ◌<◌, arith, true, false, List, Option, IsSome, Ok, Err, Result, IfOk, OnOk}
+use Rattle.std.proofs.Common.{Contains, ◌↔◌, length, sym, ap, subst, ◌∙◌}
 use Rattle.std.proofs.Math.Logic.{∥∥₁_elim}
 use base.Stored.{Coded-set}
 use mathlib.Core.Bool.{Bool-set}
 use mathlib.Core.HLevel.{Π_prop, ¬_prop}
-use Rattle.sqlite_trees.specs.Objects.{catalog_tree}
 use Rattle.sqlite_value.specs.Order.{Row}
 use Rattle.sqlite_trees.specs.View.{is_int}
 use Rattle.sqlite_trees.specs.Tree.{rowid}
@@ -18,12 +17,14 @@ use Rattle.sqlite.specs.Held.{Held, state}
 use Rattle.sqlite_rules.specs.Lists.{Has}
 use Rattle.stable.specs.declared.fault.StableFault.{StableFault}
 use Rattle.stable.specs.Records.{IsAscending}
+use Rattle.stable.specs.Script.{counted}
 use Rattle.stable.specs.declared.key.Key.{Key}
 use Rattle.sqlstable.specs.Table.{record_schema}
 use Rattle.sqlstable.specs.Rows.{has_key, value_at, AreApart, HasOwnKeys, PutsRow}
 use Rattle.sqlstable.specs.Lists.{ListsKeys}
 use Rattle.sqlstable.specs.States.{IsSound, IsSettled, IsUsable, Follows, table}
 use Rattle.sqlstable.specs.Keys.{spelled, is_valid, records_in, HasStray, AreKeysOf, TellsNone}
+use Rattle.sqlstable.specs.Laws.{counted_before}
 use Rattle.sqlstable.specs.Storage.{Reads, ReadFails, Puts}
 use Rattle.sqlstable.specs.declared.storage.SqlStable.{SqlStable}
 use Rattle.sqlstable.proofs.Keys.{puts_records, puts_stray, keys_tell, keys_ascend, stray_row, no_stray_row}
@@ -73,17 +74,20 @@ module _ {S : Type 0} (g : Ghosts S) (a : SqlStable S g) (now : Held S) where
     };
     rows = λ h. let usable = subst (λ c. IsUsable (state g c)) is h.usable in ap (λ c. table (state g c)) is
         ∙ same usable (sound_before f usable);
-    failures = λ h. let e = ap (λ (n : Option ℕ). unwrap_or n 0) counts in omega (arith, e);
+    failures = counts;
   }
 
   -- a call on which the device failed
   pub read_failed : (b : SqlStable S g) → Follows old new → (IsUsable new → IsSound old → table new ≡ table old) → b.connection ≡ now
-      → (IsSome b.failures → IsSome a.failures × (unwrap_or a.failures 0 < unwrap_or b.failures 0)) → ReadFails g a b
+      → b.failures ≡ counted a.failures → ReadFails g a b
   read_failed b f same is counts = record {
-    honest = λ h. record { usable = usable_before f (subst (λ c. IsUsable (state g c)) is h.usable); counts = (counts h.counts).0 };
+    honest = λ h. record {
+      usable = usable_before f (subst (λ c. IsUsable (state g c)) is h.usable);
+      counts = counted_before a.failures (subst IsSome counts h.counts);
+    };
     rows = λ h. let usable = subst (λ c. IsUsable (state g c)) is h.usable in ap (λ c. table (state g c)) is
         ∙ same usable (sound_before f usable);
-    failures = λ h. (counts h.counts).1;
+    failures = counts;
   }
 
   pub put_made : (key : Key) (bytes : List ℕ) (b : SqlStable S g) → is_valid key ≡ true → Follows old new
@@ -100,7 +104,7 @@ module _ {S : Type 0} (g : Ghosts S) (a : SqlStable S g) (now : Held S) where
     stray = λ h. let usable = subst (λ c. IsUsable (state g c)) is h.usable in
         let both = puts_stray key bytes (table old) (table new) valid (made usable (sound_before f usable)) in
         (λ s. both.0 (subst (λ c. HasStray (table (state g c))) is s), λ s. subst (λ c. HasStray (table (state g c))) (sym is) (both.1 s));
-    failures = λ h. let e = ap (λ (n : Option ℕ). unwrap_or n 0) counts in omega (arith, e);
+    failures = counts;
   }
 
 -- what a key has among the records

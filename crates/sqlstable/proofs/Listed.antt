@@ -1,5 +1,5 @@
 -- Where the list of objects has rows.
-use Rattle.std.proofs.Common.{◌≡◌, ◌≢◌, inl, inr, true, false, not, ◌||◌, List, [], ◌∷◌, filter, refl, sym, ap, subst, ◌∙◌}
+use Rattle.std.proofs.Common.{◌≡◌, ◌≢◌, inl, inr, true, List, [], ◌∷◌, filter, refl, subst}
 use Rattle.std.specs.List.{AllZip}
 use Rattle.std.proofs.lemmas.Bool.{cases_Bool}
 use Rattle.sqlite_value.specs.Order.{Row}

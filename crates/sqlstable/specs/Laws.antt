@@ -1,11 +1,12 @@
 -- The laws of a storage over the table.
-use Rattle.std.proofs.Common.{ap, ◌∙◌, subst, sym, arith, refl, inl, ◌≡◌, ◌↔◌, List}
+use Rattle.std.proofs.Common.{ap, ◌∙◌, subst, sym, arith, refl, inl, rules, ◌≡◌, ◌↔◌, ℕ, ◌<◌, ◌≤◌, List, Option, Some, None, IsSome, unwrap_or}
 use Rattle.sqlite_value.specs.Order.{Row}
 use Rattle.sqlite_trees.specs.declared.store.Store.{Ghosts}
 use Rattle.stable.specs.Records.{with_record}
+use Rattle.stable.specs.Script.{counted}
 use Rattle.stable.specs.Storages.{IsLawful}
 use Rattle.sqlstable.specs.Keys.{records_in, HasStray}
-use Rattle.sqlstable.specs.Storage.{in_table, Reads, ReadFails, Puts}
+use Rattle.sqlstable.specs.Storage.{in_table}
 
 same_strays : {a b : List Row} → b ≡ a → HasStray b ↔ HasStray a
 same_strays e = (subst HasStray e, subst HasStray (sym e))
@@ -13,53 +14,68 @@ same_strays e = (subst HasStray e, subst HasStray (sym e))
 through : {A B C : Type 0} → A ↔ B → B ↔ C → A ↔ C
 through f g = (λ a. g.0 (f.0 a), λ c. f.1 (g.1 c))
 
+-- where a failure can be counted, so could those before it
+pub counted_before : (count : Option ℕ) → IsSome (counted count) → IsSome count
+counted_before None h = h
+counted_before (Some n) h = search rules
+
+counted_more : (count : Option ℕ) → IsSome (counted count) → unwrap_or count 0 < unwrap_or (counted count) 0
+counted_more None h = search rules
+counted_more (Some n) h = grind arith
+
+as_many : {m n : Option ℕ} → n ≡ m → unwrap_or m 0 ≤ unwrap_or n 0
+as_many e = let count = ap (λ (count : Option ℕ). unwrap_or count 0) e in omega (arith, count)
+
+one_more : (m : Option ℕ) {n : Option ℕ} → n ≡ counted m → IsSome n → unwrap_or m 0 < unwrap_or n 0
+one_more m e h = rw e (counted_more m (subst IsSome e h))
+
 module _ {S : Type 0} (g : Ghosts S) where
   pub table_laws : IsLawful (in_table g)
   table_laws = record {
     reads_honest = λ a b r h. r.honest h;
     reads_contents = λ a b r h. ap records_in (r.rows h);
-    reads_failures = λ a b r h. r.failures h;
+    reads_failures = λ a b r h. as_many r.failures;
     reads_stray = λ a b r h. same_strays (r.rows h);
     reads_settled = λ a b r s. tt;
     read_fails_honest = λ a b f h. f.honest h;
     read_fails_contents = λ a b f h. ap records_in (f.rows h);
-    read_fails_failures = λ a b f h. f.failures h;
+    read_fails_failures = λ a b f h. one_more a.failures f.failures h.counts;
     read_fails_stray = λ a b f h. same_strays (f.rows h);
     puts_honest = λ a b key bytes p h. p.honest h;
     puts_contents = λ a b key bytes p h. p.records h;
-    puts_failures = λ a b key bytes p h. p.failures h;
+    puts_failures = λ a b key bytes p h. as_many p.failures;
     puts_stray = λ a b key bytes p h. p.stray h;
     puts_settled = λ a b key bytes p. tt;
     fails_honest = λ a b key bytes f h. f.honest h;
     fails_contents = λ a b key bytes f h. inl (ap records_in (f.rows h));
-    fails_failures = λ a b key bytes f h. f.failures h;
+    fails_failures = λ a b key bytes f h. one_more a.failures f.failures h.counts;
     fails_stray = λ a b key bytes f h. same_strays (f.rows h);
-    reads_none = λ a. record { honest = λ h. h; rows = λ h. refl; failures = λ h. omega arith };
+    reads_none = λ a. record { honest = λ h. h; rows = λ h. refl; failures = refl };
     reads_reads = λ a b c r s. record {
       honest = λ h. r.honest (s.honest h);
       rows = λ h. s.rows h ∙ r.rows (s.honest h);
-      failures = λ h. let m = r.failures (s.honest h) in let n = s.failures h in omega (arith, m, n);
+      failures = s.failures ∙ r.failures;
     };
     reads_read_fails = λ a b c r f. record {
       honest = λ h. r.honest (f.honest h);
       rows = λ h. f.rows h ∙ r.rows (f.honest h);
-      failures = λ h. let m = r.failures (f.honest h) in let n = f.failures h in omega (arith, m, n);
+      failures = f.failures ∙ ap counted r.failures;
     };
     reads_puts = λ a b c key bytes r p. record {
       honest = λ h. r.honest (p.honest h);
       records = λ h. p.records h ∙ ap (λ rows. with_record (records_in rows) key bytes) (r.rows (p.honest h));
       stray = λ h. through (p.stray h) (same_strays (r.rows (p.honest h)));
-      failures = λ h. let m = r.failures (p.honest h) in let n = p.failures h in omega (arith, m, n);
+      failures = p.failures ∙ r.failures;
     };
     reads_fails = λ a b c key bytes r f. record {
       honest = λ h. r.honest (f.honest h);
       rows = λ h. f.rows h ∙ r.rows (f.honest h);
-      failures = λ h. let m = r.failures (f.honest h) in let n = f.failures h in omega (arith, m, n);
+      failures = f.failures ∙ ap counted r.failures;
     };
     puts_reads = λ a b c key bytes p r. record {
       honest = λ h. p.honest (r.honest h);
       records = λ h. ap records_in (r.rows h) ∙ p.records (r.honest h);
       stray = λ h. through (same_strays (r.rows h)) (p.stray (r.honest h));
-      failures = λ h. let m = p.failures (r.honest h) in let n = r.failures h in omega (arith, m, n);
+      failures = r.failures ∙ p.failures;
     };
   }

@@ -1,9 +1,10 @@
 -- A storage over the table, and what its calls make of it.
-use Rattle.std.specs.Prelude.{◌≡◌, ◌↔◌, ℕ, ◌<◌, ◌≤◌, Some, IsSome, unwrap_or, List}
+use Rattle.std.specs.Prelude.{◌≡◌, ◌↔◌, ℕ, Some, IsSome, unwrap_or, List}
 use Rattle.sqlite_value.specs.Order.{Row}
 use Rattle.sqlite_trees.specs.declared.store.Store.{Ghosts}
 use Rattle.sqlite.specs.Held.{state}
 use Rattle.stable.specs.Records.{with_record}
+use Rattle.stable.specs.Script.{counted}
 use Rattle.stable.specs.declared.key.Key.{Key}
 use Rattle.stable.specs.declared.stable.Stable as stable
 use Rattle.sqlstable.specs.States.{IsUsable, table}
@@ -28,24 +29,24 @@ module _ {S : Type 0} (g : Ghosts S) where
     pub usable : IsUsable (state g s.connection)
     pub counts : IsSome s.failures
 
-  -- calls that write nothing
+  -- calls that write nothing, on which the device didn't fail
   pub record Reads (a b : SqlStable S g) : Type 0 where
     pub honest : IsSqlHonest b → IsSqlHonest a
     pub rows : IsSqlHonest b → rows_of b ≡ rows_of a
-    pub failures : IsSqlHonest b → failures_of a ≤ failures_of b
+    pub failures : b.failures ≡ a.failures
 
-  -- the last of them answers Device
+  -- the same, but the last of them answers Device
   pub record ReadFails (a b : SqlStable S g) : Type 0 where
     pub honest : IsSqlHonest b → IsSqlHonest a
     pub rows : IsSqlHonest b → rows_of b ≡ rows_of a
-    pub failures : IsSqlHonest b → failures_of a < failures_of b
+    pub failures : b.failures ≡ counted a.failures
 
   -- calls of which one put these bytes
   pub record Puts (a : SqlStable S g) (key : Key) (bytes : List ℕ) (b : SqlStable S g) : Type 0 where
     pub honest : IsSqlHonest b → IsSqlHonest a
     pub records : IsSqlHonest b → records_in (rows_of b) ≡ with_record (records_in (rows_of a)) key bytes
     pub stray : IsSqlHonest b → HasStray (rows_of b) ↔ HasStray (rows_of a)
-    pub failures : IsSqlHonest b → failures_of a ≤ failures_of b
+    pub failures : b.failures ≡ a.failures
 
   -- what it is as a storage: a put that fails leaves the old records
   abbrev pub in_table : stable.Ghosts (SqlStable S g)

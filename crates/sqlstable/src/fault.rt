@@ -1,6 +1,6 @@
 //! Which fault of a storage an error of the database is, or of a call on a file.
 
-ghost use Rattle.std.specs.Prelude.{◌≡◌, ◌≢◌, Ok, IfOk, IsErrOf};
+ghost use Rattle.std.specs.Prelude.{◌≡◌, ◌≢◌, Ok, Err, IfOk, IsErrOf};
 ghost use Rattle.std.specs.IoError.{error_kind};
 
 use sqlite::{Error, ErrorCode};
@@ -24,6 +24,10 @@ pub fn fault_of(error: &Error) -> StableFault
 /// What a call on a database gave, or the fault that its error is. What it left besides the error is dropped.
 pub fn or_fault<T, R: Drop>(outcome: Result<T, (Error, R)>) -> Result<T, StableFault>
     ensures given { IfOk result (λ value. outcome ≡ Ok value) }
+    ensures memory { (rest : R) → outcome ≡ Err (Error.SqliteFailure ErrorCode.OutOfMemory, rest)
+        → IsErrOf result StableFault.Memory }
+    ensures device { (error : Error) → (rest : R) → error ≢ Error.SqliteFailure ErrorCode.OutOfMemory
+        → outcome ≡ Err (error, rest) → IsErrOf result StableFault.Device }
     ensures not_damaged { ¬ IsErrOf result StableFault.Damaged }
 {
     match outcome {

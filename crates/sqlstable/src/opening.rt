@@ -37,10 +37,13 @@ impl SqlStable<MemStore> {
 }
 
 impl SqlStable<FileStore<File>> {
+    ghost use Rattle.sqlite.specs.Files.{over_files};
+
     /// The records in a file, which is made where there is none. Its log lies beside it under the same name with `-wal`.
     ///
     /// `Device` where the file can't be used, where it is in use, and where it holds anything but the table of records.
     pub fn open(rt: &HostRuntime, path: &str) -> Result<SqlStable<FileStore<File>>, StableFault>
+        ensures unfailed { IfOk result (IsUnfailed over_files) }
         ensures not_damaged { ¬ IsErrOf result StableFault.Damaged }
     {
         SqlStable::open_from(rt, path, Unknown)

@@ -25,7 +25,8 @@ pub struct SqlStable<S: Alter> {
 }
 
 impl<S: Alter> SqlStable<S> {
-    ghost use Rattle.std.specs.Prelude.{◌≡◌, ◌≢◌, ◌<◌, Some, IsSome, unwrap_or, OnOk, IsErrOf};
+    ghost use Rattle.std.specs.Prelude.{◌≡◌, ◌≢◌, Some, OnOk, IsErrOf};
+    ghost use Rattle.stable.specs.Script.{counted};
     ghost use Rattle.sqlstable.specs.Storage.{Puts, ReadFails, Reads};
 
     // A connection whose table is settled, with no failure yet.
@@ -44,9 +45,7 @@ impl<S: Alter> SqlStable<S> {
     fn blame(&mut self, error: &Error) -> StableFault
         ensures same { self.new.connection ≡ self.old.connection }
         ensures memory { result ≡ StableFault.Memory → self.new.failures ≡ self.old.failures }
-        ensures device { result ≡ StableFault.Device → IsSome self.new.failures
-            → IsSome self.old.failures
-            × (unwrap_or self.old.failures 0 < unwrap_or self.new.failures 0) }
+        ensures device { result ≡ StableFault.Device → self.new.failures ≡ counted self.old.failures }
         ensures not_damaged { result ≢ StableFault.Damaged }
     {
         let fault = fault_of(error);

@@ -20,79 +20,15 @@ pub(crate) fn node(value: u8) -> NodeId
     NodeId::new(value).unwrap()
 }
 
-// A transport of one's own: it loses all.
-#[derive(Drop)]
-struct Lossy;
-
-impl Transport for Lossy {
-    ghost tape = { λ _. [] };
-
-    ghost Tells = { λ _. ⊥ };
-
-    fn send(
-        &mut self,
-        _alloc: Global,
-        _from: NodeId,
-        _to: NodeId,
-        _bytes: &[u8],
-    ) -> Result<(), TransportFault> {
-        Err(TransportFault)
-    }
-
-    fn poll(&mut self, _alloc: Global, _node: NodeId) -> Result<Option<Vec<u8>>, TransportFault> {
-        Ok(None)
-    }
-}
-
-// Each datagram is handed over twice, and the last one first.
-#[derive(Drop)]
-struct Stacks {
-    waiting: Vec<Vec<Vec<u8>>>,
-}
-
-impl Stacks {
-    fn new(alloc: Global) -> Result<Stacks, AllocError> {
-        let mut waiting = Vec::new(alloc);
-        for _ in 0..3 {
-            waiting.push(Vec::new(alloc))?;
-        }
-        Ok(Stacks { waiting })
-    }
-}
-
-impl Transport for Stacks {
-    ghost tape = { λ _. [] };
-
-    ghost Tells = { λ _. ⊥ };
-
-    fn send(
-        &mut self,
-        alloc: Global,
-        _from: NodeId,
-        to: NodeId,
-        bytes: &[u8],
-    ) -> Result<(), TransportFault> {
-        let Some(stack) = self.waiting.get_mut(usize::from(to.value())) else {
-            return Err(TransportFault);
-        };
-        stack.push(bytes.to_vec(alloc)?)?;
-        stack.push(bytes.to_vec(alloc)?)?;
-        Ok(())
-    }
-
-    fn poll(&mut self, _alloc: Global, node: NodeId) -> Result<Option<Vec<u8>>, TransportFault> {
-        match self.waiting.get_mut(usize::from(node.value())) {
-            Some(stack) => Ok(stack.pop()),
-            None => Err(TransportFault),
-        }
-    }
-}
-
 /// What is wrong with a network.
 #[derive(Clone, Copy, Debug, PartialEq, Eq)]
 enum Trouble {
+    /// Each send fails.
+    NothingIsSent,
     /// Each send to node 2 fails.
     NodeTwoIsDown,
+    /// Each datagram is sent twice, and what comes first is handed over after what comes behind it.
+    TurnsRound,
     /// Each poll fails.
     NothingIsHeard,
     /// So many polls find nothing.
@@ -130,8 +66,11 @@ impl Transport for Net {
         to: NodeId,
         bytes: &[u8],
     ) -> Result<(), TransportFault> {
-        if self.trouble == Trouble::NodeTwoIsDown && to.value() == 2 {
-            return Err(TransportFault);
+        match self.trouble {
+            Trouble::NothingIsSent => return Err(TransportFault),
+            Trouble::NodeTwoIsDown if to.value() == 2 => return Err(TransportFault),
+            Trouble::TurnsRound => self.queues.send(alloc, from, to, bytes)?,
+            _ => {}
         }
         self.queues.send(alloc, from, to, bytes)
     }
@@ -139,6 +78,7 @@ impl Transport for Net {
     fn poll(&mut self, alloc: Global, node: NodeId) -> Result<Option<Vec<u8>>, TransportFault> {
         match self.trouble {
             Trouble::NothingIsHeard => return Err(TransportFault),
+            Trouble::TurnsRound => return behind_the_first(alloc, &mut self.queues, node),
             Trouble::IsLate(polls) => {
                 if let Some(left) = polls.checked_sub(1) {
                     self.trouble = Trouble::IsLate(left);
@@ -165,6 +105,21 @@ impl Transport for Net {
         }
         self.queues.poll(alloc, node)
     }
+}
+
+// What comes behind the first datagram, which waits on behind all others; or the first, where it waits alone.
+fn behind_the_first(
+    alloc: Global,
+    queues: &mut Queues,
+    node: NodeId,
+) -> Result<Option<Vec<u8>>, TransportFault> {
+    let first = queues.poll(alloc, node)?;
+    let second = queues.poll(alloc, node)?;
+    if let (Some(first), true) = (&first, second.is_some()) {
+        queues.send(alloc, node, node, first.as_slice())?;
+        return Ok(second);
+    }
+    Ok(first)
 }
 
 fn troubled(alloc: Global, trouble: Trouble) -> Result<Net, AllocError> {
@@ -313,7 +268,7 @@ fn queues_hand_over(rt: HostRuntime) -> Result<(), Fail> {
 #[test]
 fn clusters_send(rt: HostRuntime) -> Result<(), Fail> {
     let alloc = rt.alloc();
-    let mut cluster = three_nodes(alloc, Lossy)?;
+    let mut cluster = three_nodes(alloc, troubled(alloc, Trouble::NothingIsSent)?)?;
     assert_eq!(rt; cluster.step(alloc, Event::Timeout(node(1))), Ok(()));
     assert_eq!(rt; cluster.failed_sends(), 3);
     let end = cluster.round(alloc, node(0), &[node(0), node(2)]);
@@ -339,21 +294,19 @@ fn one_request_over_queues(rt: HostRuntime) -> Result<(), Fail> {
     Ok(())
 }
 
-// Repeated and turned round.
-#[test]
-fn one_request_over_stacks(rt: HostRuntime) -> Result<(), Fail> {
-    let alloc = rt.alloc();
-    let cluster = asked(alloc, Stacks::new(alloc)?)?;
-    let run = pump_twice(alloc, cluster, REMOVED.as_slice())?;
-    assert!(rt; run.is_told);
-    assert_eq!(rt; (run.strangers, run.failed_polls), (0, 0));
-    Ok(())
-}
-
 // What comes of the request over queues that are troubled.
 fn over_trouble(alloc: Global, trouble: Trouble, lines: &[&str]) -> Result<Pumped, WorldFault> {
     let cluster = asked(alloc, troubled(alloc, trouble)?)?;
     pump_twice(alloc, cluster, lines)
+}
+
+// Repeated and turned round.
+#[test]
+fn datagrams_that_are_turned_round(rt: HostRuntime) -> Result<(), Fail> {
+    let run = over_trouble(rt.alloc(), Trouble::TurnsRound, REMOVED.as_slice())?;
+    assert!(rt; run.is_told);
+    assert_eq!(rt; (run.strangers, run.failed_polls), (0, 0));
+    Ok(())
 }
 
 // What was never sent, and what was sent to another node, is dropped and counted.

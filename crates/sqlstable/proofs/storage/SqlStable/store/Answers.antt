@@ -1,4 +1,4 @@
-use Rattle.std.proofs.Common.{◌≡◌, Ok, Err, Result, refl, rules, subst}
+use Rattle.std.proofs.Common.{◌≡◌, Ok, Err, refl, rules, subst}
 use Rattle.std.proofs.Math.Logic.{∥∥₁_map}
 use Rattle.sqlite.specs.Held.{state}
 use Rattle.sqlstable.specs.States.{table}
