@@ -109,8 +109,10 @@ def dearest(crates, count=20):
     for crate, kinds in crates.items():
         names = sorted(it for it in os.listdir(f"crates/{crate}/must-fail") if it.endswith(".edit")) if kinds["wrong"] else []
         for over, seconds in kinds["wrong"].items():
-            number = int(os.path.basename(over)) if over else 0
-            found.append((seconds, crate, names[number].removesuffix(".edit")))
+            number = os.path.basename(over) or "0"
+            # (a check of somebody else's has no number)
+            if number.isdigit() and int(number) < len(names):
+                found.append((seconds, crate, names[int(number)].removesuffix(".edit")))
     return sorted(found, reverse=True)[:count]
 
 
@@ -141,7 +143,8 @@ def main(log):
     sums = {kind: sum(sum(kinds[kind].values()) for kinds in crates.values()) for kind in KINDS}
     print(f"\n{sum(sums.values()):.0f} seconds: " + ", ".join(f"{head} {sums[kind]:.0f}" for kind, head in zip(KINDS, HEADS)))
     share = (is_busy - was_busy) / max(now - was, 1)
-    print(f"{(time.time() - begin) / 60:.0f} minutes, the processors busy for {100 * share:.0f} hundredths, never less than {least:.1f} GB free")
+    minutes = (time.time() - begin) / 60
+    print(f"{minutes:.0f} minutes, the processors busy for {100 * share:.0f} hundredths, never less than {least:.1f} GB free")
     for name, of in (("sums", 0), ("reads", 1)):
         taken = [it[of] for it in speeds]
         print(f"the loop of {name}: {min(taken):.3f} to {max(taken):.3f} seconds, {sum(taken) / len(taken):.3f} in the mean")
