@@ -28,12 +28,18 @@ use wire::{Held, Nack};
 /// What one node has promised, and what it has voted for at each slot.
 ///
 /// One promise serves all slots. A look-up takes a number of steps that grows with the logarithm of the votes.
-#[derive(Drop)]
 pub struct Acceptor {
     promise: Option<Ballot>,
     votes: Votes,
     // No vote is of a ballot above the promise, so that a promise may tell each.
     ghost bounded: { AreUpTo promise votes },
+}
+
+impl Drop for Acceptor {
+    fn drop(self) {
+        let Acceptor { promise: _, votes } = self;
+        drop(votes);
+    }
 }
 
 impl Acceptor {

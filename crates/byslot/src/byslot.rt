@@ -18,12 +18,19 @@ const REACH: usize = 64;
 ///
 /// What stands at the first slots is found by its place. What stands far behind them is searched for, in a number of steps that
 /// grows with the logarithm of the values.
-#[derive(Drop)]
 pub struct BySlot<V> {
     // What stands at slot 0, 1 and so on.
     row: Vec<Option<V>>,
     // What stands behind them.
     others: BTreeMap<Slot, V>,
+}
+
+impl<V: Drop> Drop for BySlot<V> {
+    fn drop(self) {
+        let BySlot { row, others } = self;
+        drop(row);
+        drop(others);
+    }
 }
 
 impl<V: Drop> BySlot<V> {

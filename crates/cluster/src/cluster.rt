@@ -29,7 +29,6 @@ pub const MOST_PUMPED: u32 = 10_000;
 ///
 /// Each frame that the world sends is given to the transport, once, in the order of sending. Whatever the transport does, the world
 /// goes on by its own steps, and is as safe as any.
-#[derive(Drop)]
 pub struct Cluster<T> {
     indexed: IndexedWorld,
     transport: T,
@@ -39,6 +38,22 @@ pub struct Cluster<T> {
     // The datagram that is sent just now. It has room for any frame, so that no frame is kept back for want of memory.
     datagram: Vec<u8>,
     ghost room: { LONGEST_FRAME ≤ vec_capacity datagram },
+}
+
+impl<T: Drop> Drop for Cluster<T> {
+    fn drop(self) {
+        let Cluster {
+            indexed,
+            transport,
+            strangers: _,
+            failed_sends: _,
+            failed_polls: _,
+            datagram,
+        } = self;
+        drop(indexed);
+        drop(transport);
+        drop(datagram);
+    }
 }
 
 impl<T: Transport> Cluster<T> {

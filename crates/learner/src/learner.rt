@@ -18,7 +18,6 @@ use wire::{Held, NodeId, Nodes};
 /// does not, and different ballots are never added up. A learnt slot never changes.
 ///
 /// A call takes a number of steps that grows with the logarithm of the slots of which it holds something.
-#[derive(Drop)]
 pub struct Learner {
     nodes: Nodes,
     // The first slot that is kept: what is told of lower ones is ignored.
@@ -26,6 +25,18 @@ pub struct Learner {
     slots: Known,
     prefix: u32,
     ghost counted: { IsPrefix (known_learnt slots) first prefix },
+}
+
+impl Drop for Learner {
+    fn drop(self) {
+        let Learner {
+            nodes: _,
+            first: _,
+            slots,
+            prefix: _,
+        } = self;
+        drop(slots);
+    }
 }
 
 impl Learner {

@@ -29,7 +29,6 @@ use synod::{Ballot, SLOTS, Slot, Vote};
 use wire::{Envelope, Frame, Held, Message, Nack, NodeId, Nodes, Promise};
 
 /// A node's roles. All of it is gone after a restart.
-#[derive(Drop)]
 pub struct Roles {
     id: NodeId,
     nodes: Nodes,
@@ -40,6 +39,25 @@ pub struct Roles {
     machine: Machine,
     // Nothing: room for what is sent next.
     room: Vec<Frame>,
+}
+
+impl Drop for Roles {
+    fn drop(self) {
+        let Roles {
+            id: _,
+            nodes: _,
+            acceptor,
+            learner,
+            proposer,
+            machine,
+            room,
+        } = self;
+        drop(acceptor);
+        drop(learner);
+        drop(proposer);
+        drop(machine);
+        drop(room);
+    }
 }
 
 impl Roles {

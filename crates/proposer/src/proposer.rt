@@ -27,7 +27,6 @@ use synod::{Ballot, SLOTS, Slot};
 use wire::{Message, Nack, NodeId, Nodes, Promise, round_of_record, round_record};
 
 /// The requests that wait at a node, and its campaign to have them chosen.
-#[derive(Drop)]
 pub struct Proposer {
     id: NodeId,
     nodes: Nodes,
@@ -39,6 +38,22 @@ pub struct Proposer {
     learnt_to: u32,
     campaign: Option<Campaign>,
     waiting: Waiting,
+}
+
+impl Drop for Proposer {
+    fn drop(self) {
+        let Proposer {
+            id: _,
+            nodes: _,
+            round: _,
+            refused: _,
+            learnt_to: _,
+            campaign,
+            waiting,
+        } = self;
+        drop(campaign);
+        drop(waiting);
+    }
 }
 
 impl Model for Proposer {

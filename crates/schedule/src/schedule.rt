@@ -15,11 +15,22 @@ pub struct ScheduleLine {
 }
 
 /// A run that was written down: how many nodes it has, and what is done, line by line.
-#[derive(Debug, Drop)]
+#[derive(Debug)]
 pub struct Schedule {
     first: u64,
     nodes: Nodes,
     lines: Vec<ScheduleLine>,
+}
+
+impl Drop for Schedule {
+    fn drop(self) {
+        let Schedule {
+            first: _,
+            nodes: _,
+            lines,
+        } = self;
+        drop(lines);
+    }
 }
 
 impl Model for Schedule {

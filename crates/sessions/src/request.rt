@@ -16,11 +16,22 @@ use store::Op;
 pub const MOST_PUT_POINTS: usize = 512;
 
 /// A client's request. It is known by its client and number alone.
-#[derive(Debug, Drop)]
+#[derive(Debug)]
 pub struct Request {
     client: u8,
     number: Number,
     op: Op,
+}
+
+impl Drop for Request {
+    fn drop(self) {
+        let Request {
+            client: _,
+            number: _,
+            op,
+        } = self;
+        drop(op);
+    }
 }
 
 /// The sequence that was to be put has more than `MOST_PUT_POINTS` instants.

@@ -11,9 +11,16 @@ use std::rc::Rc;
 
 /// A command that lies apart, so that little is moved where it is handed on: from what was told to what is learnt, and to those who
 /// are told of that. Many may hold one command, which then lies there once.
-#[derive(Debug, Drop)]
+#[derive(Debug)]
 pub struct Held {
     command: Rc<Command>,
+}
+
+impl Drop for Held {
+    fn drop(self) {
+        let Held { command } = self;
+        drop(command);
+    }
 }
 
 impl Model for Held {

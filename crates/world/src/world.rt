@@ -23,11 +23,17 @@ use wire::{Frame, NodeId, Nodes};
 /// that of one plain database that executed so many of its entries, each request once.
 ///
 /// Armed faults end nothing of this: at most one comes in a step, so they are counted as long as the steps are.
-#[derive(Drop)]
 pub struct World<S: Stable> {
     run: Run<S>,
     ghost sound: { ∥ IsSoundIfHonest (contents_inside S.contents) (honest_inside S.IsHonest) (run_of run) ∥₁ },
     ghost few_faults: { HasFewFaults (run_of run) },
+}
+
+impl<S: Stable> Drop for World<S> {
+    fn drop(self) {
+        let World { run } = self;
+        drop(run);
+    }
 }
 
 impl World<MemStable> {

@@ -26,10 +26,17 @@ const RECEIVER: usize = 5;
 
 /// An envelope on its way. Its bytes were spelled once, for one receiver, and the frames of one message to several nodes share them.
 /// Contracts see the envelope.
-#[derive(Debug, Drop)]
+#[derive(Debug)]
 pub struct Frame {
     spelled: Spelled,
     to: NodeId,
+}
+
+impl Drop for Frame {
+    fn drop(self) {
+        let Frame { spelled, to: _ } = self;
+        drop(spelled);
+    }
 }
 
 impl Model for Frame {
