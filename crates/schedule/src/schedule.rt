@@ -91,6 +91,11 @@ impl Schedule {
     pub fn into_lines(self) -> Vec<ScheduleLine>
         ensures { result.items ≡ self.lines }
     {
-        self.lines
+        let Schedule {
+            first: _,
+            nodes: _,
+            lines,
+        } = self;
+        lines
     }
 }

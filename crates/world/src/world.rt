@@ -29,7 +29,7 @@ pub struct World<S: Stable> {
     ghost few_faults: { HasFewFaults (run_of run) },
 }
 
-impl<S: Stable> Drop for World<S> {
+impl<S: Stable + Drop> Drop for World<S> {
     fn drop(self) {
         let World { run } = self;
         drop(run);
