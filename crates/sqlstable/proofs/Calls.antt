@@ -18,13 +18,13 @@ use Rattle.sqlite_rules.specs.Lists.{Has}
 use Rattle.stable.specs.declared.fault.StableFault.{StableFault}
 use Rattle.stable.specs.Records.{IsAscending}
 use Rattle.stable.specs.Script.{counted}
+use Rattle.stable.specs.ScriptLaws.{counted_before}
 use Rattle.stable.specs.declared.key.Key.{Key}
 use Rattle.sqlstable.specs.Table.{record_schema}
 use Rattle.sqlstable.specs.Rows.{has_key, value_at, AreApart, HasOwnKeys, PutsRow}
 use Rattle.sqlstable.specs.Lists.{ListsKeys}
 use Rattle.sqlstable.specs.States.{IsSound, IsSettled, IsUsable, Follows, table}
 use Rattle.sqlstable.specs.Keys.{spelled, is_valid, records_in, HasStray, AreKeysOf, TellsNone}
-use Rattle.sqlstable.specs.Laws.{counted_before}
 use Rattle.sqlstable.specs.Storage.{Reads, ReadFails, Puts}
 use Rattle.sqlstable.specs.declared.storage.SqlStable.{SqlStable}
 use Rattle.sqlstable.proofs.Keys.{puts_records, puts_stray, keys_tell, keys_ascend, stray_row, no_stray_row}

@@ -1,9 +1,10 @@
 -- The laws of a storage over the table.
-use Rattle.std.proofs.Common.{ap, ◌∙◌, subst, sym, arith, refl, inl, rules, ◌≡◌, ◌↔◌, ℕ, ◌<◌, ◌≤◌, List, Option, Some, None, IsSome, unwrap_or}
+use Rattle.std.proofs.Common.{ap, ◌∙◌, subst, sym, arith, refl, inl, ◌≡◌, ◌↔◌, ℕ, ◌<◌, ◌≤◌, List, Option, IsSome, unwrap_or}
 use Rattle.sqlite_value.specs.Order.{Row}
 use Rattle.sqlite_trees.specs.declared.store.Store.{Ghosts}
 use Rattle.stable.specs.Records.{with_record}
 use Rattle.stable.specs.Script.{counted}
+use Rattle.stable.specs.ScriptLaws.{counted_more}
 use Rattle.stable.specs.Storages.{IsLawful}
 use Rattle.sqlstable.specs.Keys.{records_in, HasStray}
 use Rattle.sqlstable.specs.Storage.{in_table}
@@ -13,15 +14,6 @@ same_strays e = (subst HasStray e, subst HasStray (sym e))
 
 through : {A B C : Type 0} → A ↔ B → B ↔ C → A ↔ C
 through f g = (λ a. g.0 (f.0 a), λ c. f.1 (g.1 c))
-
--- where a failure can be counted, so could those before it
-pub counted_before : (count : Option ℕ) → IsSome (counted count) → IsSome count
-counted_before None h = h
-counted_before (Some n) h = search rules
-
-counted_more : (count : Option ℕ) → IsSome (counted count) → unwrap_or count 0 < unwrap_or (counted count) 0
-counted_more None h = search rules
-counted_more (Some n) h = grind arith
 
 as_many : {m n : Option ℕ} → n ≡ m → unwrap_or m 0 ≤ unwrap_or n 0
 as_many e = let count = ap (λ (count : Option ℕ). unwrap_or count 0) e in omega (arith, count)
