@@ -13,7 +13,8 @@ use std::fs;
 use std::io::ErrorKind;
 use wire::Nodes;
 
-/// Files of SQLite, node i's records in `nodei.db` of the folder. A file is made where there is none; the folder isn't.
+/// Files of SQLite, node i's records in `nodei.db` of the folder. A file is made where there is none; the folder isn't. An empty name is
+/// no folder's: the files would be looked for at the root of all folders.
 #[derive(Clone, Copy, Debug)]
 pub struct Files;
 
@@ -26,6 +27,9 @@ impl Archive for Files {
         folder: &str,
         count: Nodes,
     ) -> Result<Vec<NodeFile>, Failure> {
+        if folder.is_empty() {
+            return Err(Failure::Device);
+        }
         let mut stores = Vec::with_capacity(rt.alloc(), usize::from(count.count()))?;
         for number in 0..count.count() {
             let store = open_file(rt, folder, number)?;
@@ -34,13 +38,16 @@ impl Archive for Files {
         Ok(stores)
     }
 
-    /// A file that was not closed in order has a log beside it.
+    /// A file that was not closed in order has a log beside it. Nothing can be looked at under an empty name.
     fn is_left_open(
         &mut self,
         rt: &HostRuntime,
         folder: &str,
         count: Nodes,
     ) -> Result<bool, AllocError> {
+        if folder.is_empty() {
+            return Ok(true);
+        }
         for number in 0..count.count() {
             let path = path_of(rt, folder, number)?;
             if has_log(rt, path.as_str())? {
@@ -62,12 +69,13 @@ impl Archive for Files {
     }
 }
 
-/// Whether a log lies beside the file, or beside the one to which a link of its name leads. What can't be looked at is taken for one, so
-/// that nothing is changed there.
+/// Whether a log lies beside the file, or beside the one to which a link of its name leads, or under its name where there is no such
+/// file. What can't be looked at is taken for one, so that nothing is changed there.
 fn has_log(rt: &HostRuntime, path: &str) -> Result<bool, AllocError> {
     let log = match fs::canonicalize(rt, path) {
         Ok(file) => format!(in rt.alloc(); "{}-wal", file.as_str())?,
-        Err(_) => format!(in rt.alloc(); "{path}-wal")?,
+        Err(error) if error.kind() == ErrorKind::NotFound => format!(in rt.alloc(); "{path}-wal")?,
+        Err(_) => return Ok(true),
     };
     match fs::symlink_metadata(rt, log.as_str()) {
         Ok(_) => Ok(true),

@@ -230,6 +230,19 @@ fn a_settled_file_is_alone(rt: HostRuntime) {
     assert!(rt; fs::remove_dir_all(&rt, RUN_FOLDER).is_ok());
 }
 
+// No file is looked for at the root of all folders, and none is made or settled there.
+#[test]
+fn an_empty_name_is_no_folder(rt: HostRuntime) {
+    let nodes = Nodes::new(3).unwrap();
+    assert_eq!(rt; Files.is_left_open(&rt, "", nodes), Ok(true));
+    assert!(rt; is_no_folder(&rt, "", nodes));
+}
+
+// Whether no records can be kept under this name.
+fn is_no_folder(rt: &HostRuntime, folder: &str, nodes: Nodes) -> bool {
+    Files.open(rt, folder, nodes).is_err()
+}
+
 // What a run has left open is seen by its log, and closed in order under the names by which a run finds it.
 #[test]
 fn an_archive_settles_its_files(rt: HostRuntime) {
