@@ -94,8 +94,8 @@ impl Schedule {
         let Schedule {
             first: _,
             nodes: _,
-            lines,
+            lines: all,
         } = self;
-        lines
+        all
     }
 }
