@@ -35,6 +35,7 @@ pub struct Acceptor {
     ghost bounded: { AreUpTo promise votes },
 }
 
+// By hand, so that a crate that drops one proves nothing of what lies within.
 impl Drop for Acceptor {
     fn drop(self) {
         let Acceptor { promise: _, votes } = self;

@@ -25,6 +25,7 @@ pub struct BySlot<V> {
     others: BTreeMap<Slot, V>,
 }
 
+// By hand, so that a crate that drops one proves nothing of what lies within.
 impl<V: Drop> Drop for BySlot<V> {
     fn drop(self) {
         let BySlot { row, others } = self;

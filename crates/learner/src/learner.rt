@@ -27,6 +27,7 @@ pub struct Learner {
     ghost counted: { IsPrefix (known_learnt slots) first prefix },
 }
 
+// By hand, so that a crate that drops one proves nothing of what lies within.
 impl Drop for Learner {
     fn drop(self) {
         let Learner {

@@ -40,6 +40,7 @@ pub struct Proposer {
     waiting: Waiting,
 }
 
+// By hand, so that a crate that drops one proves nothing of what lies within.
 impl Drop for Proposer {
     fn drop(self) {
         let Proposer {

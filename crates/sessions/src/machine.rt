@@ -28,6 +28,7 @@ pub struct Machine {
     sessions: Sessions,
 }
 
+// By hand, so that a crate that drops one proves nothing of what lies within.
 impl Drop for Machine {
     fn drop(self) {
         let Machine { db, sessions } = self;

@@ -23,6 +23,7 @@ pub struct SqlStable<S: Alter> {
     ghost settled: { ∥ IsSettled (state S.Store connection) ∥₁ },
 }
 
+// By hand, so that a crate that drops one proves nothing of what lies within.
 impl<S: Alter + Drop> Drop for SqlStable<S> {
     fn drop(self) {
         let SqlStable {

@@ -16,6 +16,7 @@ pub struct Held {
     command: Rc<Command>,
 }
 
+// By hand, so that a crate that drops one proves nothing of what lies within.
 impl Drop for Held {
     fn drop(self) {
         let Held { command } = self;

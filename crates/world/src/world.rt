@@ -29,6 +29,7 @@ pub struct World<S: Stable> {
     ghost few_faults: { HasFewFaults (run_of run) },
 }
 
+// By hand, so that a crate that drops one proves nothing of what lies within.
 impl<S: Stable + Drop> Drop for World<S> {
     fn drop(self) {
         let World { run } = self;
