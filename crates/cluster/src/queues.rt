@@ -28,12 +28,24 @@ pub enum Passed {
 
 /// A queue for each node, in memory. What its tape tells is promised, as long as it tells, which it does until a growth of the tape is
 /// refused. That what is sent comes once, in order, is tested.
-#[derive(Drop)]
 pub struct Queues {
     // What is on its way to each node.
     waiting: Vec<VecDeque<Vec<u8>>>,
     tape: Vec<Passed>,
     tells: bool,
+}
+
+// By hand, so that a crate that drops one proves nothing of what lies within.
+impl Drop for Queues {
+    fn drop(self) {
+        let Queues {
+            waiting,
+            tape,
+            tells: _,
+        } = self;
+        drop(waiting);
+        drop(tape);
+    }
 }
 
 impl Queues {
