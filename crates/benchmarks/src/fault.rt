@@ -15,7 +15,7 @@ use wire::WireFault;
 use world::WorldFault;
 
 /// Why a task is not done.
-#[derive(Clone, Copy, Debug, Drop, PartialEq, Eq, Error)]
+#[derive(Clone, Copy, Debug, Drop, Error)]
 pub enum Fault {
     /// The words ask for no work, or for one of no points, or of too many things.
     #[error("usage: benchmarks WORK SIZE ROUNDS, or benchmarks WORK ROUNDS for a size of 1")]

@@ -21,7 +21,7 @@ pub const SHORT: u64 = 10_000;
 
 /// A moving point that rises from one corner of a square to the opposite, and the periods and
 /// rectangles that are asked for.
-#[derive(Debug, Drop)]
+#[derive(Drop)]
 pub struct Scene {
     pub feature: Feature,
     /// From its first instant to its last, in milliseconds.

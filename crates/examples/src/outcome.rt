@@ -10,7 +10,7 @@ use std::alloc::Global;
 use works::{checked, transcript};
 
 /// What a file that goes into a run holds.
-#[derive(Clone, Copy, Debug, PartialEq, Eq)]
+#[derive(Clone, Copy)]
 pub(crate) enum Kind {
     /// A schedule, which is run.
     Schedule,
@@ -19,7 +19,7 @@ pub(crate) enum Kind {
 }
 
 /// What comes of a run, and the ending of the file that has it.
-#[derive(Debug, Drop)]
+#[derive(Drop)]
 pub(crate) struct Outcome {
     /// `transcript` and `canonical` for standard output, `error` for standard error.
     pub(crate) ending: &'static str,

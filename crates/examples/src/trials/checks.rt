@@ -5,7 +5,7 @@ use std::io::{self, Error, ErrorKind, Read};
 use std::test::Fail;
 
 /// A reader that gives the beginning of a document, and then fails.
-#[derive(Debug, Drop)]
+#[derive(Drop)]
 struct Broken {
     begun: bool,
 }

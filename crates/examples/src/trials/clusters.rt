@@ -21,7 +21,7 @@ pub(crate) fn node(value: u8) -> NodeId
 }
 
 /// What is wrong with a network.
-#[derive(Clone, Copy, Debug, PartialEq, Eq)]
+#[derive(Clone, Copy)]
 enum Trouble {
     /// Each send fails.
     NothingIsSent,

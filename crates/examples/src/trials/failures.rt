@@ -5,7 +5,7 @@ use std::io::{self, Error, ErrorKind, Write};
 use std::test::Fail;
 
 /// A writer that takes nothing.
-#[derive(Debug, Drop)]
+#[derive(Drop)]
 struct Unwritable;
 
 impl Write for Unwritable {

@@ -16,7 +16,7 @@ use wire::Nodes;
 const SHELF: &str = "records";
 
 /// An archive of three nodes, in memory.
-#[derive(Debug, Drop)]
+#[derive(Drop)]
 struct Shelf {
     /// The node that has a record already; a number past the last where none has.
     used: usize,
@@ -73,7 +73,7 @@ impl Archive for Shelf {
 }
 
 /// A reader that fails at its first read.
-#[derive(Debug, Drop)]
+#[derive(Drop)]
 struct Unreadable;
 
 impl Read for Unreadable {
@@ -83,7 +83,7 @@ impl Read for Unreadable {
 }
 
 /// A writer that takes nothing.
-#[derive(Debug, Drop)]
+#[derive(Drop)]
 pub(crate) struct Unwritable;
 
 impl Write for Unwritable {
@@ -97,7 +97,7 @@ impl Write for Unwritable {
 }
 
 /// A writer that takes everything, and can't hand it on.
-#[derive(Debug, Drop)]
+#[derive(Drop)]
 struct Unflushed;
 
 impl Write for Unflushed {
