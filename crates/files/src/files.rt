@@ -61,6 +61,9 @@ impl Archive for Files {
     /// records. It stops at the first file that can't be used, as the opening did: that keeps its log, and the next opening
     /// finds both.
     fn settle(&mut self, rt: &HostRuntime, folder: &str, count: Nodes) {
+        if folder.is_empty() {
+            return;
+        }
         for number in 0..count.count() {
             if !is_settled(rt, folder, number) {
                 return;

@@ -236,6 +236,8 @@ fn an_empty_name_is_no_folder(rt: HostRuntime) {
     let nodes = Nodes::new(3).unwrap();
     assert_eq!(rt; Files.is_left_open(&rt, "", nodes), Ok(true));
     assert!(rt; is_no_folder(&rt, "", nodes));
+    Files.settle(&rt, "", nodes);
+    assert!(rt; fs::symlink_metadata(&rt, "/node0.db").is_err());
 }
 
 // Whether no records can be kept under this name.
