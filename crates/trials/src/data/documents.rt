@@ -1,6 +1,6 @@
 //! Worked rows: datetimes from RFC 3339 and the calendar, and each fault in words.
 
-use crate::values::is_written;
+use super::values::is_written;
 use mfjson::{MfFault, datetime_read, datetime_text};
 use std::test::Fail;
 use tpoint::Instant;

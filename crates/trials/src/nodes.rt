@@ -1,4 +1,5 @@
-//! Nodes, step by step: what they tell, and what they send.
+//! Nodes, step by step: what they tell, and what they send. Tests of `node`, and by its steps of `synod`, `acceptor`, `learner`,
+//! `proposer`, `minds` and what they use of `wire`.
 //!
 //! Steps are a text: each line a step, and behind `>` what is told of it, where something is.
 

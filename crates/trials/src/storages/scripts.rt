@@ -1,6 +1,6 @@
 //! Storages in memory, and ones whose puts are listed.
 
-use crate::calls::keeps_records;
+use super::calls::keeps_records;
 use stable::{MemStable, Scripted};
 
 #[test]

@@ -1,7 +1,7 @@
 //! The longest request, its copies, and what is told of a longer one. Replies that were worked out by hand are the example
 //! `requests_of_clients`.
 
-use crate::values::is_written;
+use super::values::is_written;
 use sessions::{Command, MOST_PUT_POINTS, Number, Request, TooLong};
 use std::alloc::Global;
 use std::test::Fail;

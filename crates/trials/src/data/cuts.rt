@@ -1,6 +1,6 @@
 //! The copy of a cut. Cuts that were worked out by hand are the example `ways_cut`.
 
-use crate::ways::{period, way};
+use super::ways::{period, way};
 use restrict::{Cut, cut};
 use std::alloc::{AllocError, Global};
 use std::test::Fail;

@@ -1,6 +1,6 @@
 //! Records in a table: in memory, over disks that fail, and in a file.
 
-use crate::calls::{fill, is_filled, keeps_records};
+use super::calls::{fill, is_filled, keeps_records};
 use archive::Archive;
 use files::{Files, NodeFile};
 use sqlite::{Connection, Error, FileStore, Files as TwoFiles, MemStore, Options, params};

@@ -4,7 +4,7 @@
 //! refused, from the first on (`rt try --test --fail-alloc N`): whatever is refused before the calls ends a test
 //! for want of memory, and no test may end in another way.
 
-use crate::ways::{id, period, point, way};
+use super::ways::{id, period, point, way};
 use mfjson::{Feature, MfFault, read, write};
 use restrict::{Cut, cut};
 use sessions::{Command, Machine, Number, Request};
