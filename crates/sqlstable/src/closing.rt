@@ -46,7 +46,7 @@ impl<D: Disk + Drop> SqlStable<FileStore<D>> {
             → IsUsable (state over_files self.connection)) }
         ensures not_damaged { ¬ IsErrOf result StableFault.Damaged }
     {
-        or_fault(self.into_connection().close_files())
+        or_fault(self.connection.close_files())
     }
 
     /// Closes the storage and opens it again. It has the same records.

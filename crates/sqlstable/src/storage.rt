@@ -16,22 +16,12 @@ use std::alloc::Global;
 /// Want of memory is `Memory`. Any other refusal of the database is `Device` and is counted; it leaves the old records.
 /// Where a failure shuts the connection, or the disk has returned something else than was written, or the failures can't
 /// be counted in a u64 any more, the storage isn't honest from then on.
+#[derive(Drop)]
 pub struct SqlStable<S: Alter> {
     pub(crate) connection: Connection<S>,
     // How often it has failed; None once that can't be counted.
     failures: Option<u64>,
     ghost settled: { ∥ IsSettled (state S.Store connection) ∥₁ },
-}
-
-// By hand, so that a crate that drops one proves nothing of what lies within.
-impl<S: Alter + Drop> Drop for SqlStable<S> {
-    fn drop(self) {
-        let SqlStable {
-            connection,
-            failures: _,
-        } = self;
-        drop(connection);
-    }
 }
 
 impl<S: Alter> SqlStable<S> {
@@ -49,17 +39,6 @@ impl<S: Alter> SqlStable<S> {
             connection,
             failures: Some(0),
         }
-    }
-
-    // What it stands on.
-    pub(crate) fn into_connection(self) -> Connection<S>
-        ensures { result ≡ self.connection }
-    {
-        let SqlStable {
-            connection,
-            failures: _,
-        } = self;
-        connection
     }
 
     // The fault that an error is, which is counted where it isn't want of memory.

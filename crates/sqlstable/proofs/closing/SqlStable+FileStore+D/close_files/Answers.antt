@@ -1,6 +1,4 @@
-use Rattle.std.proofs.Common.{subst}
 use Rattle.sqlite.specs.State.{State}
-use Rattle.sqlite.specs.Closing.{IsCopied}
 use Rattle.sqlite.specs.Files.{file_state, image_of}
 use Rattle.sqlstable.proofs.Calls.{settled_is}
 use Rattle.sqlstable.proofs.FoundLemmas.{closed_holds, handed_on}
@@ -14,7 +12,7 @@ pub returns-clause-closed : goal.returns-clause-closed
 returns-clause-closed g c =
     handed_on c.close_files.result c.or_fault.result c.or_fault.ensures.given c.close_files.ensures.copied (λ files held clean.
     let last : State = file_state {g = g.D.Disk} c.args.self.connection in
-    let copied = subst (λ connection. IsCopied connection files) c.into_connection.ensures (held clean) in
+    let copied = held clean in
     let sound = settled_is last c.args.self.settled copied.was_clean copied.was_open in
     closed_holds (image_of g.D.Disk files) last sound copied.seen)
 
@@ -22,6 +20,4 @@ returns-clause-closed g c =
 pub returns-clause-was_usable : goal.returns-clause-was_usable
 returns-clause-was_usable g c =
     handed_on c.close_files.result c.or_fault.result c.or_fault.ensures.given c.close_files.ensures.copied
-    (λ files held clean.
-    let copied = subst (λ connection. IsCopied connection files) c.into_connection.ensures (held clean) in
-    (copied.was_clean, copied.was_open))
+    (λ files held clean. ((held clean).was_clean, (held clean).was_open))
