@@ -5,7 +5,7 @@ use synod::Vote;
 use wire::{Held, Nack, Promise};
 
 /// An acceptor's answer to a prepare or an accept.
-#[derive(Debug, Drop)]
+#[derive(Drop)]
 pub enum Answer {
     /// The ballot is promised.
     Promise(Promise),

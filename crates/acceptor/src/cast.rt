@@ -4,7 +4,7 @@ use sessions::Command;
 use synod::Ballot;
 
 /// What was voted for at a slot.
-#[derive(Debug, Drop)]
+#[derive(Drop)]
 pub(super) struct Cast {
     pub(super) ballot: Ballot,
     pub(super) command: Command,

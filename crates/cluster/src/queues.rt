@@ -11,7 +11,7 @@ use synod::MOST_NODES;
 use wire::NodeId;
 
 /// What passed through queues.
-#[derive(Debug, Drop, PartialEq, Eq)]
+#[derive(Drop)]
 pub enum Passed {
     /// These bytes were sent from one node to another.
     Sent {

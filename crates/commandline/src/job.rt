@@ -12,7 +12,7 @@ pub enum Work {
 }
 
 /// Where the bytes stand.
-#[derive(Debug, Drop)]
+#[derive(Drop)]
 pub enum Source<'a> {
     /// On standard input.
     Input,
@@ -21,7 +21,7 @@ pub enum Source<'a> {
 }
 
 /// What the words ask for.
-#[derive(Debug, Drop)]
+#[derive(Drop)]
 pub struct Job<'a> {
     pub work: Work,
     pub source: Source<'a>,

@@ -13,7 +13,7 @@ use std::marker::Model;
 ///
 /// Nothing but a failed write says so: where a contract has "or the stream failed", no body can
 /// claim that of a stream that didn't.
-#[derive(Debug, Drop)]
+#[derive(Drop)]
 pub struct Tracked<W> {
     writer: W,
     has_failed: bool,

@@ -9,7 +9,7 @@ use synod::Slot;
 use wire::NodeId;
 
 /// A request that a node took.
-#[derive(Debug, Drop, PartialEq, Eq)]
+#[derive(Drop)]
 pub struct Submission {
     pub node: NodeId,
     pub client: u8,
@@ -18,7 +18,7 @@ pub struct Submission {
 }
 
 /// What a node learnt.
-#[derive(Debug, Drop, PartialEq, Eq)]
+#[derive(Drop)]
 pub struct Learnt {
     pub node: NodeId,
     pub slot: Slot,
@@ -26,7 +26,7 @@ pub struct Learnt {
 }
 
 /// A reply to a request that waited at a node. Its position is one more than the slot at which it was executed.
-#[derive(Clone, Copy, Debug, PartialEq, Eq)]
+#[derive(Clone, Copy)]
 pub struct Replied {
     pub node: NodeId,
     pub client: u8,
@@ -36,7 +36,7 @@ pub struct Replied {
 }
 
 /// A node's answer to a query: the text, and the position of which it speaks.
-#[derive(Debug, Drop)]
+#[derive(Drop)]
 pub struct Answered {
     pub node: NodeId,
     pub position: u32,
@@ -45,7 +45,7 @@ pub struct Answered {
 }
 
 /// What came of a step. What was learnt, replied and answered stands in the world's lists, in the order of the steps.
-#[derive(Clone, Copy, Debug, PartialEq, Eq)]
+#[derive(Clone, Copy)]
 pub enum Outcome {
     /// The step was made: how many slots a node learnt by it, and how many requests that waited there have their reply.
     Done { learnt: u32, replies: u32 },

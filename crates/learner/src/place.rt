@@ -11,7 +11,7 @@ use synod::Ballot;
 use wire::{Held, NodeId, Nodes};
 
 /// What is known of a slot.
-#[derive(Debug, Drop)]
+#[derive(Drop)]
 pub(super) enum Place {
     /// It isn't learnt, and this was told of it.
     Told(Tallies),

@@ -13,7 +13,7 @@ use synod::Ballot;
 use wire::{Held, NodeId, NodeSet, Nodes};
 
 /// What was told of a slot that isn't learnt: under each ballot, who told of a vote for which command.
-#[derive(Debug, Drop)]
+#[derive(Drop)]
 pub(super) struct Tallies {
     tallies: Vec<Tally>,
     // Each command stands once under a ballot, and so does each node.

@@ -4,7 +4,7 @@ use synod::Ballot;
 use wire::{Held, NodeSet};
 
 /// The nodes that told of votes for a command under a ballot. The command stands here once, however many they are.
-#[derive(Debug, Drop)]
+#[derive(Drop)]
 pub(super) struct Tally {
     pub(super) ballot: Ballot,
     pub(super) command: Held,

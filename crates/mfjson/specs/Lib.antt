@@ -1,7 +1,6 @@
 pub mod Digits
 pub mod Datetime
 pub mod Pairs
-pub mod Same
 pub mod Document
 pub mod Texts
 pub mod Faults

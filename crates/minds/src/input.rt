@@ -10,7 +10,7 @@ use synod::{Ballot, Vote};
 use wire::{Entry, Envelope, Message, NodeId, Nodes};
 
 /// What comes to a node.
-#[derive(Debug, Drop)]
+#[derive(Drop)]
 pub enum Input {
     /// A client's request.
     Submit { client: u8, number: Number, op: Op },

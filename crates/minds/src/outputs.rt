@@ -14,14 +14,14 @@ use wire::Frame;
 pub const MOST_SENDS: usize = 62;
 
 /// A slot that the node newly learnt, and what it holds.
-#[derive(Debug, Drop)]
+#[derive(Drop)]
 pub struct LogEntry {
     pub slot: Slot,
     pub command: Held,
 }
 
 /// A request that waited at the node was executed, and has this reply. Its position is one more than its slot.
-#[derive(Clone, Copy, Debug, PartialEq, Eq)]
+#[derive(Clone, Copy)]
 pub struct Executed {
     pub client: u8,
     pub number: Number,
@@ -30,7 +30,7 @@ pub struct Executed {
 }
 
 /// The text of an answer.
-#[derive(Debug, Drop)]
+#[derive(Drop)]
 pub struct Text {
     bytes: Vec<u8>,
 }
@@ -60,7 +60,7 @@ impl Text {
 }
 
 /// What comes of an input, to be told in this order.
-#[derive(Debug, Drop)]
+#[derive(Drop)]
 pub struct Outputs {
     /// What was newly learnt.
     pub learnt: Option<LogEntry>,

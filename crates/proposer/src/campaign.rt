@@ -20,7 +20,7 @@ use synod::{Ballot, SLOTS, Slot, Vote};
 use wire::{Entries, Held, Message, NodeId, NodeSet, Nodes, Promise};
 
 /// A campaign gathers promises for the slots from its first on, and leads once a majority has promised.
-#[derive(Debug, Drop)]
+#[derive(Drop)]
 pub struct Campaign {
     ballot: Ballot,
     first: Slot,

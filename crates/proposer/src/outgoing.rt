@@ -3,7 +3,7 @@
 use wire::{Message, NodeSet};
 
 /// To whom a message goes, in order of their numbers.
-#[derive(Clone, Copy, Debug)]
+#[derive(Clone, Copy)]
 pub enum Recipients {
     /// To every node of the run, the sender included.
     All,
@@ -12,7 +12,7 @@ pub enum Recipients {
 }
 
 /// A message and its recipients.
-#[derive(Debug, Drop)]
+#[derive(Drop)]
 pub struct Outgoing {
     pub to: Recipients,
     pub message: Message,

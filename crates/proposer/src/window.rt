@@ -13,7 +13,7 @@ use synod::Slot;
 pub const MOST_OPEN: usize = 8;
 
 /// A command that is proposed for a slot, and not learnt there yet.
-#[derive(Debug, Drop)]
+#[derive(Drop)]
 pub struct Proposal {
     pub slot: Slot,
     pub command: Command,
@@ -30,7 +30,7 @@ impl Default for Proposal {
 }
 
 /// The open proposals, slots ascending. They lie in place.
-#[derive(Debug, Drop)]
+#[derive(Drop)]
 pub struct Window {
     places: ArrayVec<Proposal, MOST_OPEN>,
 }

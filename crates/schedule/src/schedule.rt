@@ -7,7 +7,7 @@ use std::marker::Model;
 use wire::Nodes;
 
 /// One line of a schedule after its first.
-#[derive(Debug, Drop)]
+#[derive(Drop)]
 pub struct ScheduleLine {
     /// Which line of the file it is, counted from 1.
     pub number: u64,
@@ -15,7 +15,6 @@ pub struct ScheduleLine {
 }
 
 /// A run that was written down: how many nodes it has, and what is done, line by line.
-#[derive(Debug)]
 pub struct Schedule {
     first: u64,
     nodes: Nodes,

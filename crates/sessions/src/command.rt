@@ -8,7 +8,7 @@ use crate::request::Request;
 use std::alloc::AllocError;
 
 /// What stands at a place of a list that is executed.
-#[derive(Debug, Drop)]
+#[derive(Drop)]
 pub enum Command {
     /// Nothing is asked for: it fills a gap.
     NoOp,

@@ -22,7 +22,6 @@ use store::{Db, Query, Reply};
 ///
 /// A request counts where its number is one more than its client's last, which is 0 at the start. Then its operation is
 /// applied, and the reply is kept until the client's next request counts. No list is kept.
-#[derive(Debug)]
 pub struct Machine {
     db: Db,
     sessions: Sessions,

@@ -16,7 +16,6 @@ use store::Op;
 pub const MOST_PUT_POINTS: usize = 512;
 
 /// A client's request. It is known by its client and number alone.
-#[derive(Debug)]
 pub struct Request {
     client: u8,
     number: Number,

@@ -17,7 +17,7 @@ pub struct Session {
 }
 
 /// What is kept of each client. A client's is found by its number, without a search.
-#[derive(Debug, Drop)]
+#[derive(Drop)]
 pub struct Sessions {
     table: [Option<Session>; CLIENTS],
 }

@@ -26,7 +26,6 @@ pub const MOST_FEATURES: usize = 256;
 ///
 /// They are kept in the byte order of their ids, so one is found by a binary search, and a text
 /// that lists them needs no sorting. An index tells which of them are there in a period.
-#[derive(Debug)]
 pub struct Db {
     features: Vec<Held>,
     /// From when to when each feature is.

@@ -11,7 +11,7 @@ use std::marker::Model;
 use tpoint::{AppendFault, Id, Point, Seq};
 
 /// A feature. It lies apart, so that little is moved where one makes room for another.
-#[derive(Debug, Drop)]
+#[derive(Drop)]
 pub(crate) struct Held {
     feature: Box<Feature>,
 }

@@ -10,7 +10,7 @@ use std::marker::Model;
 use tpoint::{Id, Point, Seq};
 
 /// A change to the database.
-#[derive(Debug, Drop)]
+#[derive(Drop)]
 pub enum Op {
     /// The feature of this id gets this sequence, whether the id is known or not.
     Put(Id, Seq),

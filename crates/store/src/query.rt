@@ -3,7 +3,7 @@
 use tpoint::{Id, Instant, Period, Rect};
 
 /// A question about the features.
-#[derive(Clone, Copy, Debug, PartialEq, Eq)]
+#[derive(Clone, Copy)]
 pub enum Query {
     /// Where the feature is at an instant.
     At(Id, Instant),

@@ -14,7 +14,7 @@ use tpoint::{Id, Instant, Period};
 ///
 /// They are kept in the byte order of their ids, so one is found by a binary search, and the ids of
 /// a part of them need no sorting.
-#[derive(Debug, Drop)]
+#[derive(Drop)]
 pub struct TimeIndex {
     entries: Vec<Kept>,
 }

@@ -10,7 +10,7 @@ use tpoint::{Id, Instant, Period};
 /// From when to when something is, both included.
 ///
 /// What it is lies apart: so little is moved where one entry makes room for another, and the filter reads nothing else.
-#[derive(Debug, Drop)]
+#[derive(Drop)]
 pub(crate) struct Kept {
     id: Box<Id>,
     first: Instant,

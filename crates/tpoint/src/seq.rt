@@ -16,7 +16,7 @@ use std::marker::Model;
 pub const MOST_POINTS: usize = 1024;
 
 /// A moving point: 1 to `MOST_POINTS` points, each later than the one before.
-#[derive(Debug, Drop)]
+#[derive(Drop)]
 pub struct Seq {
     interp: Interp,
     points: Vec<Point>,

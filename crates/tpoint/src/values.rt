@@ -8,37 +8,18 @@ ghost use Rattle.tpoint.specs.Moving.{At, HasOneValue};
 ghost use Rattle.tpoint.specs.Coordinates.{InRange};
 ghost use Rattle.tpoint.specs.Pieces.{place, AtPoint, HeldUntil, Piece};
 ghost use Rattle.tpoint.specs.Reduced.{position, Finds};
-ghost use Rattle.tpoint.specs.Same.{same_found, same_found_equiv};
-ghost use Rattle.std.specs.Cmp.{partial_equiv_from_equiv};
 
 use crate::probed::Probed;
 use crate::reducing::reduce;
 use crate::{Frac, Instant, Interp, MOST_POINTS, MOST_PROBES, Point, Seq, search};
 
 /// What was found at an instant.
-#[derive(Clone, Copy, Debug)]
+#[derive(Clone, Copy)]
 pub struct Found {
     /// The position in millimetres, x and then y, or None where the sequence has no value.
     pub value: Option<(Frac, Frac)>,
     /// How many places of the list were looked at, at most `MOST_PROBES`.
     pub probes: u32,
-}
-
-impl PartialEq for Found {
-    ghost eq = { same_found };
-
-    ghost laws = { partial_equiv_from_equiv same_found_equiv };
-
-    fn eq(&self, other: &Found) -> bool
-        ensures value { result ≡ same_found self.now other.now }
-        ensures same { IsTrue result ↔ (self.now ≡ other.now) }
-    {
-        self.probes == other.probes && self.value == other.value
-    }
-}
-
-impl Eq for Found {
-    ghost laws = { same_found_equiv };
 }
 
 impl Seq {

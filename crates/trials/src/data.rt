@@ -4,7 +4,6 @@
 //! Values, cuts, rectangles, periods and replies that were worked out by hand are schedules of `examples`, which cost no proof.
 
 mod again;
-mod cuts;
 mod documents;
 mod frames;
 mod lines;

@@ -11,7 +11,6 @@ use std::rc::Rc;
 
 /// A command that lies apart, so that little is moved where it is handed on: from what was told to what is learnt, and to those who
 /// are told of that. Many may hold one command, which then lies there once.
-#[derive(Debug)]
 pub struct Held {
     command: Rc<Command>,
 }

@@ -1,13 +1,12 @@
 //! Lines of schedules with their faults, and a run over records. Schedules with their transcripts are the examples.
 
-use crate::trials::clusters::{bus, node};
+use crate::trials::clusters::bus;
 use crate::trials::worlds::three_storages;
 use replay::{ReplayCause, ReplayFault, run};
 use schedule::{
     Action, ParseFault, ScheduleFault, faulty_is_no_schedule, first_faults_are_one, parse_schedule,
     schedules_are_one,
 };
-use sessions::Number;
 use stable::MemStable;
 use std::alloc::Global;
 use std::test::Fail;
@@ -259,36 +258,44 @@ const PUT: &[u8] =
 {\"type\": \"MovingPoint\", \"datetimes\": [\"2020-01-01T00:00:00Z\"], \"coordinates\": [[1, -2]], \
 \"interpolation\": \"Step\"}} ";
 
-/// The action of the one line after that of the nodes.
-fn only_action(alloc: Global, file: &[u8]) -> Result<Action, Fail> {
+/// Whether the one line after that of the nodes submits this at node 0, as client 7 and under the number 1.
+fn submits_alone(alloc: Global, file: &[u8], wanted: &Op) -> Result<bool, Fail> {
     let schedule = parse_schedule(alloc, file)?;
     match schedule.lines() {
-        [line] => Ok(line.action.clone()?),
+        [line] => Ok(is_submission(&line.action, wanted)),
         _ => Err("one line")?,
     }
 }
 
-/// Whether bus-7 is put, with its one point.
-fn is_put(alloc: Global, action: Action) -> Result<bool, Fail> {
+fn is_submission(action: &Action, wanted: &Op) -> bool {
+    match action {
+        Action::Step(
+            Event::Submit {
+                node,
+                client,
+                number,
+                op,
+            },
+        ) => node.value() == 0 && *client == 7 && number.value() == 1 && op == wanted,
+        _ => false,
+    }
+}
+
+/// Bus-7 is put, with its one point.
+fn put(alloc: Global) -> Result<Op, Fail> {
     let point = Point {
         t: Instant::new(NEW_YEAR).unwrap(),
         x: 1,
         y: -2,
     };
-    let seq = Seq::new(Interp::Step, Vec::from_array(alloc, [point])?)?;
-    let wanted = Action::Step(Event::Submit {
-        node: node(0),
-        client: 7,
-        number: Number::new(1).unwrap(),
-        op: Op::Put(bus(), seq),
-    });
-    Ok(action == wanted)
+    let points = Vec::from_array(alloc, [point])?;
+    Ok(Op::Put(bus(), Seq::new(Interp::Step, points)?))
 }
 
 #[test]
 fn put_document(rt: HostRuntime) -> Result<(), Fail> {
-    let action = only_action(rt.alloc(), PUT)?;
-    assert!(rt; is_put(rt.alloc(), action)?, "of a put");
+    let wanted = put(rt.alloc())?;
+    assert!(rt; submits_alone(rt.alloc(), PUT, &wanted)?);
     Ok(())
 }
 

@@ -11,7 +11,6 @@ use stable::{Key, MemStable, Stable, StableFault};
 use std::alloc::{AllocError, Global};
 use std::test::Fail;
 use store::{Op, Query};
-use tpoint::{Instant, Interp, Point, Seq};
 use wire::{Frame, NodeId, Nodes};
 use world::{World, WorldFault};
 
@@ -98,30 +97,6 @@ fn one_request(rt: HostRuntime) -> Result<(), Fail> {
         begins_with(rt.alloc(), world.frames(), PREPARE.as_slice()),
         Ok(true)
     );
-    Ok(())
-}
-
-// Bus-7 moves from (0, 0) to (10, 5) within three seconds.
-fn ride(alloc: Global) -> Result<Op, Fail> {
-    let mut points = Vec::new(alloc);
-    for (ms, x, y) in [(0, 0, 0), (3000, 10, 5)] {
-        let t = Instant::new(ms).unwrap();
-        points.push(Point { t, x, y })?;
-    }
-    Ok(Op::Put(bus(), Seq::new(Interp::Linear, points)?))
-}
-
-// Whether the copy of an event is the same event.
-fn is_copied(event: Event) -> Result<bool, AllocError> {
-    Ok(event.clone()? == event)
-}
-
-#[test]
-fn events_are_copied(rt: HostRuntime) -> Result<(), Fail> {
-    let question = Event::Query(node(1), Query::Get(bus()));
-    assert_eq!(rt; is_copied(question), Ok(true));
-    let ride = ride(rt.alloc())?;
-    assert_eq!(rt; is_copied(submission(ride)), Ok(true));
     Ok(())
 }
 

@@ -192,7 +192,7 @@ fn read_of(alloc: Global, document: &[u8]) -> Result<Feature, MfFault> {
 /// Whether the bytes are a document of the feature.
 fn is_document(alloc: Global, bytes: &[u8], feature: &Feature) -> Result<bool, MfFault> {
     let read = read_of(alloc, bytes)?;
-    Ok(read == *feature)
+    Ok(read.id == feature.id && read.seq == feature.seq)
 }
 
 /// Whether the feature is written as a document of it.

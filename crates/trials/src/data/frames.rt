@@ -57,19 +57,10 @@ fn fault(alloc: Global, bytes: &[u8]) -> Result<u8, Fail> {
     }
 }
 
-/// Whether three nodes read a frame, whose copy is the same and is spelled again so.
+/// Whether three nodes read a frame, and spell it again so.
 fn is_frame(alloc: Global, bytes: &[u8]) -> Result<bool, Fail> {
     let envelope = read(alloc, bytes)?;
-    is_same(alloc, &envelope, bytes)
-}
-
-fn is_same(alloc: Global, envelope: &Envelope, bytes: &[u8]) -> Result<bool, Fail> {
-    Ok(is_copied(envelope)? && is_spelled(alloc, envelope, bytes)?)
-}
-
-fn is_copied(envelope: &Envelope) -> Result<bool, AllocError> {
-    let copy = envelope.clone()?;
-    Ok(copy == *envelope)
+    Ok(is_spelled(alloc, &envelope, bytes)?)
 }
 
 fn is_spelled(alloc: Global, envelope: &Envelope, bytes: &[u8]) -> Result<bool, AllocError> {

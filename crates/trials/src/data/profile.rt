@@ -54,11 +54,10 @@ fn is_at(point: &Point, ms: i64, x: i64, y: i64) -> bool {
     point.t.ms() == ms && point.x == x && point.y == y
 }
 
-/// Whether a feature is written so, and its copy is the same feature.
+/// Whether a feature is written so.
 fn is_written(alloc: Global, feature: &Feature) -> Result<bool, Fail> {
-    let copy = feature.clone()?;
-    let text = write(alloc, &copy)?;
-    Ok(copy == *feature && text.as_slice() == CANONICAL.as_bytes())
+    let text = write(alloc, feature)?;
+    Ok(text.as_slice() == CANONICAL.as_bytes())
 }
 
 /// The name of the fault of the bytes, or `ok` where they are a document.

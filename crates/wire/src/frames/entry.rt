@@ -9,7 +9,7 @@ use std::marker::Model;
 use synod::Vote;
 
 /// A vote that a promise tells.
-#[derive(Debug, Drop, PartialEq, Eq)]
+#[derive(Drop)]
 pub struct Entry {
     vote: Vote<Held>,
 }

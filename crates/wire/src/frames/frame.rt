@@ -26,7 +26,6 @@ const RECEIVER: usize = 5;
 
 /// An envelope on its way. Its bytes were spelled once, for one receiver, and the frames of one message to several nodes share them.
 /// Contracts see the envelope.
-#[derive(Debug)]
 pub struct Frame {
     spelled: Spelled,
     to: NodeId,

@@ -1,9 +1,7 @@
 //! Promises.
 
 ghost use Rattle.std.specs.Prelude.{◌≡◌, ◌↔◌, ◌≤◌, IsTrue, IsSome, IfSome, IfOk};
-ghost use Rattle.std.specs.Cmp.{partial_equiv_from_equiv};
 ghost use Rattle.wire.specs.Promises.{IsPromise, AreTold};
-ghost use Rattle.wire.specs.Same.{same_promised, same_promised_equiv};
 
 use super::entry::Entry;
 use std::alloc::AllocError;
@@ -20,7 +18,7 @@ pub type Entries = Vec<Entry>;
 /// The ballot is promised, and these are the sender's votes at the slots from the first to the last.
 ///
 /// The votes stand in ascending order of their slots, and none is of a greater ballot.
-#[derive(Debug, Drop)]
+#[derive(Drop)]
 pub struct Promise {
     ballot: Ballot,
     first: Slot,
@@ -122,25 +120,6 @@ impl Clone for Promise {
             entries: self.entries.clone()?,
         })
     }
-}
-
-impl PartialEq for Promise {
-    ghost eq = { same_promised };
-
-    ghost laws = { partial_equiv_from_equiv same_promised_equiv };
-
-    fn eq(&self, other: &Promise) -> bool
-        ensures value { result ≡ same_promised self.now other.now }
-        ensures same { IsTrue result ↔ (self.now ≡ other.now) }
-    {
-        let under_one_ballot = self.ballot == other.ballot;
-        let of_one_range = self.first == other.first && self.last == other.last;
-        under_one_ballot && of_one_range && self.entries() == other.entries()
-    }
-}
-
-impl Eq for Promise {
-    ghost laws = { same_promised_equiv };
 }
 
 /// Whether a promise of this ballot may tell these votes, of slots from one to another.

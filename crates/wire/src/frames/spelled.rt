@@ -7,7 +7,7 @@ use std::alloc::{AllocError, Global};
 use std::rc::Rc;
 
 /// The bytes of a frame: its own, or those that it shares with the frames of the same message to other nodes.
-#[derive(Debug, Drop)]
+#[derive(Drop)]
 pub(super) enum Spelled {
     Alone(Vec<u8>),
     Shared(Rc<Vec<u8>>),

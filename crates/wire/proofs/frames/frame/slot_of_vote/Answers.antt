@@ -1,6 +1,6 @@
 use Rattle.std.proofs.Common.{rules, ◌≡◌, ℕ, List, Ok, drop, ap, ◌∙◌, ◌++◌}
 use Rattle.std.proofs.lemmas.List.{take_rest}
-use Rattle.wire.specs.Reading.{Tells, slot_at}
+use Rattle.wire.specs.Reading.{slot_at}
 use Rattle.wire.specs.Spelling.{slot_bytes, command_bytes}
 use Rattle.wire.proofs.FieldLaws.{slot_again}
 use Rattle.wire.proofs.frames.frame.slot_of_vote.Goals as goal

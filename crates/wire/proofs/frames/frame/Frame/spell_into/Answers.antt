@@ -1,10 +1,6 @@
-use Rattle.std.proofs.Common.{rules, ◌≡◌, ◌≤◌, ◌<◌, ℕ, List, length, sym, ap, subst, ◌∙◌, vec_capacity, vec_len}
-use Rattle.wire.specs.FrameSpelling.{IsFrame}
+use Rattle.std.proofs.Common.{rules, ◌≡◌}
 use Rattle.wire.specs.Framing.{bytes_in, envelope_in}
-use Rattle.wire.specs.declared.frames.envelope.Envelope.{Envelope}
-use Rattle.wire.specs.declared.frames.envelope.TheConstants.{LONGEST_FRAME}
 use Rattle.wire.proofs.FrameLengths.{frame_most}
-use Rattle.wire.proofs.FrameSeen.{goes_to}
 use Rattle.wire.proofs.frames.frame.Frame.spell_into.Goals as goal
 
 pub index_mut-requires : goal.index_mut-requires
