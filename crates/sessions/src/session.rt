@@ -10,7 +10,7 @@ use store::Reply;
 const CLIENTS: usize = 256;
 
 /// What is kept of a client: the number of its last request that counted, and the reply to it.
-#[derive(Clone, Copy, Debug)]
+#[derive(Clone, Copy)]
 pub struct Session {
     pub number: Number,
     pub reply: Reply,

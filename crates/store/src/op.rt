@@ -22,7 +22,7 @@ pub enum Op {
 
 /// A point that is to follow the last one of a feature. Its coordinates are in range:
 /// `Op::append` makes it.
-#[derive(Clone, Copy, Debug, PartialEq, Eq)]
+#[derive(Clone, Copy, PartialEq, Eq)]
 pub struct Addition {
     id: Id,
     point: Point,
