@@ -43,16 +43,14 @@ impl ReplayCause {
 
 impl fmt::Display for ReplayCause {
     fn fmt<W: fmt::Write>(&self, f: &mut fmt::Formatter<W>) -> fmt::Result {
-        match self {
-            ReplayCause::Schedule(fault) => fault.fmt(f),
-            ReplayCause::NoSuchFrame => f.write_str("no frame of this number was sent"),
-            ReplayCause::NoSuchNode => f.write_str("the run has no such node"),
-            ReplayCause::FlushLimit => f.write_str(
-                "a frame still waits after the most that a flush delivers",
-            ),
-            ReplayCause::Memory => f.write_str("out of memory"),
-            ReplayCause::NotEmpty => f.write_str("a storage holds a record already"),
-        }
+        f.write_str(match self {
+            ReplayCause::Schedule(fault) => return fault.fmt(f),
+            ReplayCause::NoSuchFrame => "no frame of this number was sent",
+            ReplayCause::NoSuchNode => "the run has no such node",
+            ReplayCause::FlushLimit => "a frame still waits after the most that a flush delivers",
+            ReplayCause::Memory => "out of memory",
+            ReplayCause::NotEmpty => "a storage holds a record already",
+        })
     }
 }
 
