@@ -5,9 +5,9 @@
 
 Twice a second it looks which checks there are, and how many seconds of a processor each has used; a check that is over before it is
 seen is left out. Once a minute it times two fixed loops of its own, one of sums and one of reads all over 64 MB: a machine whose other
-work is not ours can be slower by half from one minute to the next, which the seconds of a check alone don't tell. From nothing is
-only a run for which nothing is kept; the gate's last lines say what was. The table is followed by the dearest wrong bodies, each with the
-crate's name and its own.
+work is not ours can be slower by half from one minute to the next, which the seconds of a check alone don't tell. Where the machine is a
+guest, its host says how much of the processors' time others had (`steal` of /proc/stat). From nothing is only a run for which nothing is
+kept; the gate's last lines say what was. The table is followed by the dearest wrong bodies, each with the crate's name and its own.
 """
 import array
 import os
@@ -74,9 +74,10 @@ def free():
 
 
 def busy():
+    """Returns the time that the processors were busy, the part of it in which the host ran something else instead, and all."""
     with open("/proc/stat") as it:
-        fields = [int(word) for word in it.readline().split()[1:]]
-    return sum(fields) - fields[3] - fields[4], sum(fields)
+        fields = [int(word) for word in it.readline().split()[1:9]]
+    return sum(fields) - fields[3] - fields[4], fields[7], sum(fields)
 
 
 def loops(places):
@@ -126,7 +127,7 @@ def cell(kind, tasks):
 
 def main(log):
     seen, speeds, places = {}, [], array.array("q", range(8_000_000))
-    (was_busy, was), begin, last, least = busy(), time.time(), 0, free()
+    (was_busy, was_stolen, was), begin, last, least = busy(), time.time(), 0, free()
     with open(log, "wb") as it:
         gate = subprocess.Popen(["bash", ".ci/run"], stdin=subprocess.DEVNULL, stdout=it, stderr=subprocess.STDOUT)
         while gate.poll() is None:
@@ -136,15 +137,16 @@ def main(log):
                 last = time.time()
                 speeds.append(loops(places))
             time.sleep(0.5)
-    (is_busy, now), crates = busy(), by_crate(seen)
+    (is_busy, stolen, now), crates = busy(), by_crate(seen)
     print(f"| Crate | {' | '.join(HEADS)} |\n{'|---' * (len(HEADS) + 1)}|")
     for crate, kinds in sorted(crates.items(), key=lambda it: -sum(sum(tasks.values()) for tasks in it[1].values())):
         print(f"| `{crate}` | {' | '.join(cell(kind, kinds[kind]) for kind in KINDS)} |")
     sums = {kind: sum(sum(kinds[kind].values()) for kinds in crates.values()) for kind in KINDS}
     print(f"\n{sum(sums.values()):.0f} seconds: " + ", ".join(f"{head} {sums[kind]:.0f}" for kind, head in zip(KINDS, HEADS)))
-    share = (is_busy - was_busy) / max(now - was, 1)
+    share, lost = ((now_is - it) / max(now - was, 1) for now_is, it in ((is_busy, was_busy), (stolen, was_stolen)))
     minutes = (time.time() - begin) / 60
-    print(f"{minutes:.0f} minutes, the processors busy for {100 * share:.0f} hundredths, never less than {least:.1f} GB free")
+    print(f"{minutes:.0f} minutes, the processors busy for {100 * share:.0f} hundredths, of which the host took {100 * lost:.1f}")
+    print(f"never less than {least:.1f} GB free")
     for name, of in (("sums", 0), ("reads", 1)):
         taken = [it[of] for it in speeds]
         print(f"the loop of {name}: {min(taken):.3f} to {max(taken):.3f} seconds, {sum(taken) / len(taken):.3f} in the mean")
