@@ -2,6 +2,9 @@
 use Rattle.std.specs.Prelude.{◌≡◌, ℕ, List, Err}
 use Rattle.hex.specs.declared.error.FromHexError.{FromHexError}
 use Rattle.hex.specs.declared.error.FromHexError.TheVariants as digits
+use Rattle.mfjson.specs.Faults as documents
+use Rattle.mfjson.specs.declared.fault.MfFault.{MfFault}
+use Rattle.mfjson.specs.declared.fault.MfFault.TheVariants as document
 use Rattle.proposer.specs.declared.fault.SubmitFault.{SubmitFault}
 use Rattle.proposer.specs.declared.fault.SubmitFault.TheVariants as submit
 use Rattle.wire.specs.Faults.{code_of}
@@ -9,7 +12,7 @@ use Rattle.wire.specs.FrameReading.{frame_in}
 use Rattle.wire.specs.declared.frames.fault.WireFault.{WireFault}
 use Rattle.wire.specs.declared.frames.fault.WireFault.TheVariants as wire
 use Rattle.benchmarks.specs.declared.fault.Fault.{Fault}
-use Rattle.benchmarks.specs.declared.fault.Fault.TheVariants.{Usage, Memory, Device, Frame}
+use Rattle.benchmarks.specs.declared.fault.Fault.TheVariants.{Usage, Memory, Device, Frame, Vote, Document}
 
 -- the exit status
 abbrev pub status_of : Fault → ℕ
@@ -17,6 +20,8 @@ status_of Usage = 2
 status_of Memory = 3
 status_of Device = 3
 status_of (Frame code) = 1
+status_of Vote = 1
+status_of (Document code fault) = 1
 
 -- more requests than may wait are too many
 abbrev pub of_submit : SubmitFault → Fault
@@ -32,6 +37,11 @@ of_digits fault = Usage
 abbrev pub of_wire : WireFault → Fault
 of_wire wire.Memory = Memory
 of_wire fault = Frame (code_of fault)
+
+-- why a text is no document
+abbrev pub of_document : MfFault → Fault
+of_document document.Memory = Memory
+of_document fault = Document (documents.code_of fault) fault
 
 -- bytes are refused among so many nodes for want of memory, or for the fault that they have
 abbrev pub IsRefusalOf : ℕ → List ℕ → Fault → Type 0

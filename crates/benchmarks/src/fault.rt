@@ -1,10 +1,11 @@
 //! Why nothing is done.
 
 ghost use Rattle.std.specs.Prelude.{◌≡◌};
-ghost use Rattle.benchmarks.specs.Faults.{status_of, of_submit, of_wire, of_digits};
+ghost use Rattle.benchmarks.specs.Faults.{status_of, of_document, of_submit, of_wire, of_digits};
 ghost use Rattle.benchmarks.specs.declared.fault.Fault.TheVariants.{Usage, Memory};
 
 use hex::FromHexError;
+use mfjson::MfFault;
 use proposer::{SubmitFault, TimeoutFault};
 use sessions::TooLong;
 use stable::StableFault;
@@ -29,6 +30,12 @@ pub enum Fault {
     /// The bytes are no frame, for the fault of this number.
     #[error("fault {0}")]
     Frame(u8),
+    /// The bytes are no record of a vote.
+    #[error("no vote")]
+    Vote,
+    /// The text is no document, for this fault and its number.
+    #[error("fault {0}: {1}")]
+    Document(u8, MfFault),
 }
 
 impl Fault {
@@ -37,7 +44,7 @@ impl Fault {
         ensures { result ≡ status_of self }
     {
         match self {
-            Fault::Frame(_) => 1,
+            Fault::Frame(_) | Fault::Vote | Fault::Document(..) => 1,
             Fault::Usage => 2,
             Fault::Memory | Fault::Device => 3,
         }
@@ -132,6 +139,17 @@ impl From<WireFault> for Fault {
         match refused {
             WireFault::Memory => Fault::Memory,
             _ => Fault::Frame(refused.code()),
+        }
+    }
+}
+
+impl From<MfFault> for Fault {
+    ghost from_gives = { λ refused fault. fault ≡ of_document refused };
+
+    fn from(refused: MfFault) -> Fault {
+        match refused {
+            MfFault::Memory => Fault::Memory,
+            _ => Fault::Document(refused.code(), refused),
         }
     }
 }

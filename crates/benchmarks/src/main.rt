@@ -3,8 +3,9 @@
 //! `benchmarks WORK SIZE ROUNDS` asks for one work in so many rounds, of a moving point with so many
 //! points or of a part of a node that holds so many things, and prints the sum of what was answered,
 //! which is the same on every machine. It reads no clock: the scripts in `bench/` do. Without words it does so for each line of
-//! the input; the sums in `stdout` were computed from the definitions by other programs. There a line `frame NODES FRAME`, whose
-//! frame is in hexadecimal digits, is answered with the frame, read and spelled again, or with its fault.
+//! the input; the sums in `stdout` were computed from the definitions by other programs. There a line `frame NODES FRAME` or
+//! `vote RECORD`, in hexadecimal digits, is answered with the frame or the record, read and spelled again, and `document TEXT` with the
+//! canonical document; or with the fault of each.
 //!
 //! `task` reads the words, and `scene` makes a moving point and what is asked of it. `numbers` has
 //! the answers of one moving point as numbers, `queries` and `operations` those of a full database,
@@ -21,13 +22,13 @@ mod documents;
 mod execution;
 mod fault;
 mod fleet;
-mod frames;
 mod indexes;
 mod leader;
 mod learners;
 mod messages;
 mod numbers;
 mod operations;
+mod outside;
 mod parts;
 mod queries;
 mod requests;
@@ -43,7 +44,7 @@ ghost use Rattle.benchmarks.specs.Rounds.{IsSumOf};
 ghost use Rattle.benchmarks.specs.Tasks.{Asks};
 
 use crate::fault::Fault;
-use crate::frames::read_again;
+use crate::outside::{document_again, frame_again, vote_again};
 use crate::parts::part_total;
 use crate::rounds::scene_total;
 use crate::scene::Scene;
@@ -84,17 +85,19 @@ fn own_words(rt: &HostRuntime) -> Result<Vec<String>, Fault> {
     Ok(words)
 }
 
-/// Prints for each line of the input the sum of the task that its words ask for, or a frame that is read again, or why
-/// there is none.
+/// Prints for each line of the input the sum of the task that its words ask for, or what is read again, or why there is none.
 fn answer_lines(rt: &HostRuntime) -> Result<(), Fault> {
     let mut lines = String::new(rt.alloc());
     if rt.stdin().read_to_string(&mut lines).is_err() {
         return Err(Fault::Device);
     }
     for line in lines.lines() {
-        match line.strip_prefix("frame ") {
-            Some(words) => print(rt, read_again(rt.alloc(), words))?,
-            None => print(rt, answer(rt, line))?,
+        let (kind, behind) = line.split_once(' ').unwrap_or((line, ""));
+        match kind {
+            "frame" => print(rt, frame_again(rt.alloc(), behind))?,
+            "vote" => print(rt, vote_again(rt.alloc(), behind))?,
+            "document" => print(rt, document_again(rt.alloc(), behind))?,
+            _ => print(rt, answer(rt, line))?,
         }
     }
     Ok(())

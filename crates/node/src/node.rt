@@ -1,11 +1,10 @@
 //! One node: its records, and its roles while it is up.
 
-ghost use Rattle.std.specs.Prelude.{◌≡◌, ◌⊎◌, ◌↔◌, ◌≤◌, ℕ, [], List, length, Ok, IfErr, IfOk, IfSome, OnOk, IsTrue, true, false, IsSome};
+ghost use Rattle.std.specs.Prelude.{◌≡◌, ◌⊎◌, ◌↔◌, [], Ok, IfErr, IfOk, IfSome, OnOk, IsTrue, true, false, IsSome};
 ghost use Rattle.std.specs.Prelude.{None, MatchOption};
 
 use super::roles::Roles;
 use minds::{Input, NodeFault, Outputs, Text};
-use proposer::MOST_WAITING;
 use stable::{Failing, Put, Scripted, Stable};
 use std::alloc::Global;
 use store::Query;
@@ -92,17 +91,6 @@ impl<S: Stable> Node<S> {
         }
     }
 
-    /// How many requests wait at it; 0 while it is down.
-    pub fn waiting(&self) -> usize
-        ensures value { MatchOption (state_of self.now).up (result ≡ 0) (λ m. result ≡ length m.proposing.waiting) }
-        ensures few { result ≤ MOST_WAITING }
-    {
-        let Some(roles) = &self.roles else {
-            return 0;
-        };
-        roles.waiting()
-    }
-
     /// Takes an input, refuses it, or goes down on it.
     #[inline(always)]
     pub fn step(&mut self, alloc: Global, input: Input) -> Result<Outputs, NodeFault>
@@ -176,8 +164,8 @@ impl<S: Stable> Node<S> {
         }
     }
 
-    /// Goes down: what is not in the records is gone.
-    pub fn stop(&mut self)
+    // Goes down: what is not in the records is gone.
+    fn stop(&mut self)
         ensures { state_of self.new ≡ record (state_of self.old) { up = None } }
     {
         self.roles = None;

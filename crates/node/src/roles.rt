@@ -1,6 +1,6 @@
 //! What a node holds while it is up.
 
-ghost use Rattle.std.specs.Prelude.{◌≡◌, ◌≤◌, ◌⊎◌, ◌++◌, [], Some, IfOk, OnOk, IfErr, IfSome, IsErrOf, IsSome, None, true, false, length};
+ghost use Rattle.std.specs.Prelude.{◌≡◌, ◌≤◌, ◌⊎◌, ◌++◌, [], Some, IfOk, OnOk, IfErr, IfSome, IsErrOf, IsSome, None, true, false};
 ghost use Rattle.store.specs.Answers.{IsAnswer};
 ghost use Rattle.sessions.specs.declared.command.Command.{Command};
 ghost use Rattle.byteorder.specs.Endian.{big_bytes};
@@ -19,7 +19,7 @@ use super::sends::{send_answer, send_ask, send_asks, send_decided, send_each, se
 use acceptor::Acceptor;
 use learner::{Learned, Learner};
 use minds::{Executed, Input, LogEntry, NodeFault, Outputs, concerns};
-use proposer::{MOST_WAITING, Proposer};
+use proposer::Proposer;
 use sessions::{Command, Machine, Number, Request};
 use stable::{Stable, StableFault};
 use std::alloc::{AllocError, Global};
@@ -114,14 +114,6 @@ impl Roles {
         ensures counted { IsPrefix (mind_of self.now).learning.learnt (mind_of self.now).learning.first (position (mind_of self.now)) }
     {
         self.learner.prefix()
-    }
-
-    /// How many requests wait.
-    pub fn waiting(&self) -> usize
-        ensures count { result ≡ length (mind_of self.now).proposing.waiting }
-        ensures few { result ≤ MOST_WAITING }
-    {
-        self.proposer.waiting()
     }
 
     /// The room of a list of what was sent serves for what is sent next, where it has more of it.

@@ -81,13 +81,6 @@ impl Schedule {
     }
 
     /// What is done, in order.
-    pub fn lines(&self) -> &[ScheduleLine]
-        ensures { result.now ≡ self.now.lines }
-    {
-        &self.lines
-    }
-
-    /// What is done, in order, to be taken one by one.
     pub fn into_lines(self) -> Vec<ScheduleLine>
         ensures { result.items ≡ self.lines }
     {

@@ -1,4 +1,4 @@
-//! Tests of storages: of `stable`, of `sqlstable` over memory, over disks that fail and over files, and of the archive in `files`.
+//! Tests of storages: of `stable`, of `sqlstable` over memory and over files, and of the archive in `files`.
 
 mod calls;
 mod scripts;

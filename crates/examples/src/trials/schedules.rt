@@ -1,18 +1,13 @@
 //! Lines of schedules with their faults, and a run over records. Schedules with their transcripts are the examples.
 
-use crate::trials::clusters::bus;
 use crate::trials::worlds::three_storages;
 use replay::{ReplayCause, ReplayFault, run};
 use schedule::{
-    Action, ParseFault, ScheduleFault, faulty_is_no_schedule, first_faults_are_one, parse_schedule,
-    schedules_are_one,
+    ParseFault, faulty_is_no_schedule, first_faults_are_one, parse_schedule, schedules_are_one,
 };
 use stable::MemStable;
 use std::alloc::Global;
 use std::test::Fail;
-use store::Op;
-use tpoint::{Instant, Interp, Point, Seq};
-use world::Event;
 
 // the number of a fault, and lines that have it after `nodes 3`, parted by line feeds
 const LATER: [(u8, &str); 9] = [
@@ -249,77 +244,11 @@ fn first_faults_of_files(rt: HostRuntime) -> Result<(), Fail> {
     Ok(())
 }
 
-// 2020-01-01T00:00:00.000Z
-const NEW_YEAR: i64 = 1_577_836_800_000;
-
-// blanks belong to the document, also where they stand first and last
-const PUT: &[u8] =
-    b"nodes 3\nsubmit 0 7 1 put  {\"type\": \"Feature\", \"id\": \"bus-7\", \"temporalGeometry\": \
-{\"type\": \"MovingPoint\", \"datetimes\": [\"2020-01-01T00:00:00Z\"], \"coordinates\": [[1, -2]], \
-\"interpolation\": \"Step\"}} ";
-
-/// Whether the one line after that of the nodes submits this at node 0, as client 7 and under the number 1.
-fn submits_alone(alloc: Global, file: &[u8], wanted: &Op) -> Result<bool, Fail> {
-    let schedule = parse_schedule(alloc, file)?;
-    match schedule.lines() {
-        [line] => Ok(is_submission(&line.action, wanted)),
-        _ => Err("one line")?,
-    }
-}
-
-fn is_submission(action: &Action, wanted: &Op) -> bool {
-    match action {
-        Action::Step(
-            Event::Submit {
-                node,
-                client,
-                number,
-                op,
-            },
-        ) => node.value() == 0 && *client == 7 && number.value() == 1 && op == wanted,
-        _ => false,
-    }
-}
-
-/// Bus-7 is put, with its one point.
-fn put(alloc: Global) -> Result<Op, Fail> {
-    let point = Point {
-        t: Instant::new(NEW_YEAR).unwrap(),
-        x: 1,
-        y: -2,
-    };
-    let points = Vec::from_array(alloc, [point])?;
-    Ok(Op::Put(bus(), Seq::new(Interp::Step, points)?))
-}
-
-#[test]
-fn put_document(rt: HostRuntime) -> Result<(), Fail> {
-    let wanted = put(rt.alloc())?;
-    assert!(rt; submits_alone(rt.alloc(), PUT, &wanted)?);
-    Ok(())
-}
-
 #[test]
 fn laws_run_nothing() {
     schedules_are_one();
     faulty_is_no_schedule();
     first_faults_are_one();
-}
-
-#[test]
-fn numbers_of_causes(rt: HostRuntime) -> Result<(), Fail> {
-    let causes = [
-        (ReplayCause::Schedule(ScheduleFault::WordForm), 5),
-        (ReplayCause::NoSuchFrame, 51),
-        (ReplayCause::NoSuchNode, 52),
-        (ReplayCause::FlushLimit, 53),
-        (ReplayCause::Memory, 54),
-        (ReplayCause::NotEmpty, 55),
-    ];
-    for (cause, number) in causes {
-        assert_eq!(rt; cause.number(), number);
-    }
-    Ok(())
 }
 
 // a file, and its transcript

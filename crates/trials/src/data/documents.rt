@@ -1,8 +1,6 @@
-//! Worked rows: datetimes from RFC 3339 and the calendar, and each fault in words.
+//! Datetimes, from RFC 3339 and the calendar. Documents and each fault in words are lines of `benchmarks`' input.
 
-use super::values::is_written;
-use mfjson::{MfFault, datetime_read, datetime_text};
-use std::test::Fail;
+use mfjson::{datetime_read, datetime_text};
 use tpoint::Instant;
 
 // a text, and its milliseconds since 1970-01-01T00:00:00.000Z
@@ -73,40 +71,4 @@ fn is_read_and_written(text: &str, ms: i64) -> bool {
     let written = datetime_text(t);
     let same = text.len() < 24 || written.as_slice() == text.as_bytes();
     same && datetime_read(text.as_bytes()) == Some(t)
-}
-
-const FAULTS: [(MfFault, &str); 13] = [
-    (MfFault::NotJson, "the bytes are no JSON text"),
-    (
-        MfFault::Members,
-        "the value hasn't exactly a feature's members",
-    ),
-    (MfFault::NotFeature, "the type is not Feature"),
-    (MfFault::Id, "the id is no id"),
-    (MfFault::Geometry, "the geometry is no moving point's"),
-    (MfFault::Interpolation, "the interpolation is unknown"),
-    (MfFault::Datetime(2), "datetime 2 is none"),
-    (
-        MfFault::Coordinates(0),
-        "coordinates 0 are no whole numbers in range",
-    ),
-    (
-        MfFault::Lengths,
-        "there are not as many datetimes as coordinates",
-    ),
-    (MfFault::Empty, "there are no datetimes"),
-    (MfFault::TooMany, "there are too many datetimes"),
-    (
-        MfFault::Order(1),
-        "datetime 1 is not later than the one before it",
-    ),
-    (MfFault::Memory, "out of memory"),
-];
-
-#[test]
-fn faults_as_texts(rt: HostRuntime) -> Result<(), Fail> {
-    for &(fault, want) in &FAULTS {
-        assert!(rt; is_written(rt.alloc(), fault, want)?, "{want}");
-    }
-    Ok(())
 }

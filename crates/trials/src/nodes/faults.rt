@@ -100,9 +100,7 @@ timeout 0 > stop 0 46
 look 0 > 0 down 0 round round
 restart 0
 timeout 0 > send 0 prepare 3.0 0 to 0 1 2
-stop 0
-look 0 > 0 down 0 round round round
-timeout 0 > refuse 0 41";
+look 0 > 0 up 0 round round round";
 
 const TABLES: [(u8, &str); 4] = [(3, LOST_VOTE), (3, KEPT_VOTE), (3, ARMED), (3, ROUNDS)];
 

@@ -3,7 +3,7 @@
 //! A step begins with its word, and the number of a node comes next, where there is one:
 //!
 //! - `submit 0 7 1`: the client and the number of a request that removes `bus-7`; `put 0 7 1 512`: of one that puts it at so many instants.
-//! - `timeout 0`, `tick 0`, `restart 0`, `stop 0`.
+//! - `timeout 0`, `tick 0`, `restart 0`.
 //! - `hear 0 1, ask 0`: it hears from another node, which comes next; `overhear 0 1, ask 0`: what is addressed to that node.
 //! - `deliver 3`: the frame of this number comes to whom it is addressed, again or for the first time; `lose 3`: it waits no more.
 //! - `flush`: frames are delivered, the lowest that waits first, until none waits. What is sent then isn't told.
@@ -272,7 +272,7 @@ fn tell_done(text: &mut String, node: u8, outputs: &Outputs) -> Result<(), Alloc
     tell_replies(text, node, outputs.replies.as_slice())
 }
 
-/// Arms, stops, restarts or asks a node, and tells it.
+/// Arms, restarts or asks a node, and tells it.
 fn handle(
     alloc: Global,
     text: &mut String,
@@ -288,10 +288,6 @@ fn handle(
             } else {
                 Failing::New
             });
-            Ok(())
-        }
-        "stop" => {
-            member.stop();
             Ok(())
         }
         "restart" => {

@@ -1,20 +1,19 @@
-//! Records in a table: in memory, over disks that fail, and in a file.
+//! Records in a table: in memory, and in a file.
 
 use super::calls::{fill, is_filled, keeps_records};
 use archive::Archive;
 use files::{Files, NodeFile};
-use sqlite::{Connection, Error, FileStore, Files as TwoFiles, MemStore, Options, params};
-use sqlite_disk::{Disk, Fuse, Memory};
+use sqlite::{Connection, Error, File, FileStore, MemStore, Options, params};
 use sqlstable::SqlStable;
 use stable::{Stable, StableFault};
 use std::alloc::Global;
 use std::fs;
 use wire::Nodes;
 
-// Drops a storage over files, which isn't closed.
+// Drops a storage over a file, which isn't closed.
 //
 // Whoever has such a storage lends it, or hands it on, to here at last: each function that drops one has that checked.
-fn leave<D: Disk + Drop>(_storage: SqlStable<FileStore<D>>) {}
+fn leave(_storage: SqlStable<FileStore<File>>) {}
 
 // Whether a storage holds what `fill` puts: a new one is filled, and any other is looked at.
 fn fill_or_look<S: Stable>(
@@ -29,14 +28,14 @@ fn fill_or_look<S: Stable>(
     is_filled(alloc, storage)
 }
 
-// The same of a storage over files, which is `Damaged` where it holds anything else.
+// The same of a storage over a file, which is `Damaged` where it holds anything else.
 //
 // One function for both, since each call that hands such a storage on takes a quarter of a minute to prove.
-fn filled<D: Disk + Drop>(
+fn filled(
     alloc: Global,
-    mut storage: SqlStable<FileStore<D>>,
+    mut storage: SqlStable<FileStore<File>>,
     is_new: bool,
-) -> Result<SqlStable<FileStore<D>>, StableFault> {
+) -> Result<SqlStable<FileStore<File>>, StableFault> {
     let fault = match fill_or_look(alloc, &mut storage, is_new) {
         Ok(true) => return Ok(storage),
         Ok(false) => StableFault::Damaged,
@@ -57,56 +56,6 @@ fn memory_keeps(alloc: Global) -> Result<bool, StableFault> {
 #[test]
 fn memory_keeps_records(rt: HostRuntime) {
     assert_eq!(rt; memory_keeps(rt.alloc()), Ok(true));
-}
-
-// A storage over files in memory is filled, closed and opened again, and holds what `fill` puts.
-fn reopen_filled(alloc: Global) -> Result<(), StableFault> {
-    let files = TwoFiles {
-        log: Memory::new(alloc),
-        db: Memory::new(alloc),
-    };
-    let storage = SqlStable::open_files(alloc, files, Options::new(1))?;
-    let storage = filled(alloc, storage, true)?.reopen(alloc, Options::new(2))?;
-    leave(filled(alloc, storage, false)?);
-    Ok(())
-}
-
-#[test]
-fn a_closed_storage_has_its_records_again(rt: HostRuntime) {
-    assert_eq!(rt; reopen_filled(rt.alloc()), Ok(()));
-}
-
-// A storage over files that fail from a call of theirs on.
-fn over_a_fuse(
-    alloc: Global,
-    calls: u64,
-) -> Result<SqlStable<FileStore<Fuse<Memory>>>, StableFault> {
-    let files = TwoFiles {
-        log: Fuse::new(Memory::new(alloc), calls),
-        db: Fuse::new(Memory::new(alloc), calls),
-    };
-    SqlStable::open_files(alloc, files, Options::new(1))
-}
-
-// The fault at which a storage that is filled again and again isn't filled any more; None if it always is.
-fn fault_over_a_fuse(alloc: Global) -> Result<Option<StableFault>, StableFault> {
-    let mut storage = over_a_fuse(alloc, 100)?;
-    for _ in 0..200 {
-        match filled(alloc, storage, true) {
-            Ok(kept) => storage = kept,
-            Err(fault) => return Ok(Some(fault)),
-        }
-    }
-    leave(storage);
-    Ok(None)
-}
-
-#[test]
-fn a_write_that_the_disk_refuses_is_told(rt: HostRuntime) {
-    assert_eq!(rt;
-        fault_over_a_fuse(rt.alloc()),
-        Ok(Some(StableFault::Device))
-    );
 }
 
 // A database in memory, made by these two texts.
@@ -163,10 +112,12 @@ const FOLDER: &str = "sqlstable_test";
 
 const PATH: &str = "sqlstable_test/node0.db";
 
-// A file that holds what `fill` puts, and is closed.
+// A file is filled, closed, opened again and looked at, and closed.
 fn close_a_file(rt: &HostRuntime) -> Result<(), StableFault> {
-    let storage = SqlStable::open(rt, PATH)?;
-    filled(rt.alloc(), storage, true)?.close()
+    let alloc = rt.alloc();
+    let new = filled(alloc, SqlStable::open(rt, PATH)?, true)?;
+    let again = new.reopen(alloc, Options::new(2))?;
+    filled(alloc, again, false)?.close()
 }
 
 // Whether a file that is opened holds what `fill` puts.

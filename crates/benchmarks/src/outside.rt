@@ -1,15 +1,17 @@
-//! Frames from outside, read and spelled again, so that a script can try bytes that nobody sent.
+//! Frames, votes and documents from outside, read and spelled again: rows that were worked out by hand, and bytes of a script that nobody
+//! sent.
 
 ghost use Rattle.std.specs.Prelude.{◌≡◌, IfOk, IfErr};
 ghost use Rattle.benchmarks.specs.Faults.{IsRefusalOf};
 
 use crate::fault::Fault;
+use mfjson::{read, write};
 use std::alloc::Global;
-use wire::{Nodes, decode, encode};
+use wire::{Nodes, decode, encode, vote_of_record, vote_record};
 
 /// What `NODES FRAME` comes to, a number of nodes and the bytes of a frame in hexadecimal digits: the frame, spelled
 /// again of what it was read as.
-pub fn read_again(alloc: Global, words: &str) -> Result<String, Fault> {
+pub fn frame_again(alloc: Global, words: &str) -> Result<String, Fault> {
     let Some((count, digits)) = words.split_once(' ') else {
         return Err(Fault::Usage);
     };
@@ -33,4 +35,25 @@ fn spelled_again(alloc: Global, frame: &[u8], nodes: Nodes) -> Result<Vec<u8>, F
 {
     let envelope = decode(alloc, frame, nodes)?;
     Ok(encode(alloc, &envelope)?)
+}
+
+/// What hexadecimal digits come to, which are the record of a vote: the record, spelled again of the vote that it was read as.
+pub fn vote_again(alloc: Global, digits: &str) -> Result<String, Fault> {
+    let record = hex::decode(alloc, digits)?;
+    let Some((ballot, command)) = vote_of_record(alloc, record.as_slice())? else {
+        return Err(Fault::Vote);
+    };
+    let again = vote_record(alloc, ballot, &command)?;
+    Ok(hex::encode(alloc, again)?)
+}
+
+/// What a document comes to: the canonical one of the feature that it was read as.
+pub fn document_again(alloc: Global, text: &str) -> Result<String, Fault> {
+    let feature = read(alloc, text.as_bytes())?;
+    let document = write(alloc, &feature)?;
+    match String::from_utf8(document) {
+        Ok(text) => Ok(text),
+        // A canonical document is a text.
+        Err(_) => Err(Fault::Device),
+    }
 }
