@@ -20,39 +20,12 @@ pub(crate) fn node(value: u8) -> NodeId
     NodeId::new(value).unwrap()
 }
 
-/// What is wrong with a network.
-#[derive(Clone, Copy)]
-enum Trouble {
-    /// Each send fails.
-    NothingIsSent,
-    /// Each send to node 2 fails.
-    NodeTwoIsDown,
-    /// Each datagram is sent twice, and what comes first is handed over after what comes behind it.
-    TurnsRound,
-    /// Each poll fails.
-    NothingIsHeard,
-    /// So many polls find nothing.
-    IsLate(u32),
-    /// Node 0 is handed these first: a Decided that was never sent, and what node 0 sends to node 1.
-    IsHostile(u8),
-    /// Node 1 is handed this first: what node 0 sends to it.
-    Guesses,
-}
-
-// Queues, and what is wrong with them.
+// Queues that lose all, or send each datagram twice and hand over what comes first after what comes behind it.
 #[derive(Drop)]
 struct Net {
     queues: Queues,
-    trouble: Trouble,
+    loses_all: bool,
 }
-
-// A Decided of slot 0, from node 1 to node 0, which says that nothing is done.
-const NEVER_SENT: [u8; 11] = [0x4D, 0x50, 1, 7, 1, 0, 0, 0, 0, 0, 0];
-
-// The Prepare of round 1, from node 0 to node 1.
-const TO_NODE_ONE: [u8; 19] = [
-    0x4D, 0x50, 1, 1, 0, 1, 0, 0, 0, 0, 0, 0, 0, 1, 0, 0, 0, 0, 0,
-];
 
 impl Transport for Net {
     ghost tape = { λ _. [] };
@@ -66,44 +39,15 @@ impl Transport for Net {
         to: NodeId,
         bytes: &[u8],
     ) -> Result<(), TransportFault> {
-        match self.trouble {
-            Trouble::NothingIsSent => return Err(TransportFault),
-            Trouble::NodeTwoIsDown if to.value() == 2 => return Err(TransportFault),
-            Trouble::TurnsRound => self.queues.send(alloc, from, to, bytes)?,
-            _ => {}
+        if self.loses_all {
+            return Err(TransportFault);
         }
+        self.queues.send(alloc, from, to, bytes)?;
         self.queues.send(alloc, from, to, bytes)
     }
 
     fn poll(&mut self, alloc: Global, node: NodeId) -> Result<Option<Vec<u8>>, TransportFault> {
-        match self.trouble {
-            Trouble::NothingIsHeard => return Err(TransportFault),
-            Trouble::TurnsRound => return behind_the_first(alloc, &mut self.queues, node),
-            Trouble::IsLate(polls) => {
-                if let Some(left) = polls.checked_sub(1) {
-                    self.trouble = Trouble::IsLate(left);
-                    return Ok(None);
-                }
-            }
-            Trouble::IsHostile(0) => {
-                self.trouble = Trouble::IsHostile(1);
-                return Ok(Some(NEVER_SENT.to_vec(alloc)?));
-            }
-            Trouble::IsHostile(1) => {
-                if node.value() == 0 {
-                    self.trouble = Trouble::IsHostile(2);
-                    return Ok(Some(TO_NODE_ONE.to_vec(alloc)?));
-                }
-            }
-            Trouble::Guesses => {
-                if node.value() == 1 {
-                    self.trouble = Trouble::IsLate(0);
-                    return Ok(Some(TO_NODE_ONE.to_vec(alloc)?));
-                }
-            }
-            _ => {}
-        }
-        self.queues.poll(alloc, node)
+        behind_the_first(alloc, &mut self.queues, node)
     }
 }
 
@@ -122,9 +66,9 @@ fn behind_the_first(
     Ok(first)
 }
 
-fn troubled(alloc: Global, trouble: Trouble) -> Result<Net, AllocError> {
+fn troubled(alloc: Global, loses_all: bool) -> Result<Net, AllocError> {
     let queues = Queues::new(alloc)?;
-    Ok(Net { queues, trouble })
+    Ok(Net { queues, loses_all })
 }
 
 pub(crate) fn three_nodes<T: Transport + Drop>(
@@ -268,7 +212,7 @@ fn queues_hand_over(rt: HostRuntime) -> Result<(), Fail> {
 #[test]
 fn clusters_send(rt: HostRuntime) -> Result<(), Fail> {
     let alloc = rt.alloc();
-    let mut cluster = three_nodes(alloc, troubled(alloc, Trouble::NothingIsSent)?)?;
+    let mut cluster = three_nodes(alloc, troubled(alloc, true)?)?;
     assert_eq!(rt; cluster.step(alloc, Event::Timeout(node(1))), Ok(()));
     assert_eq!(rt; cluster.failed_sends(), 3);
     let end = cluster.round(alloc, node(0), &[node(0), node(2)]);
@@ -294,80 +238,14 @@ fn one_request_over_queues(rt: HostRuntime) -> Result<(), Fail> {
     Ok(())
 }
 
-// What comes of the request over queues that are troubled.
-fn over_trouble(alloc: Global, trouble: Trouble, lines: &[&str]) -> Result<Pumped, WorldFault> {
-    let cluster = asked(alloc, troubled(alloc, trouble)?)?;
-    pump_twice(alloc, cluster, lines)
-}
-
 // Repeated and turned round.
 #[test]
 fn datagrams_that_are_turned_round(rt: HostRuntime) -> Result<(), Fail> {
-    let run = over_trouble(rt.alloc(), Trouble::TurnsRound, REMOVED.as_slice())?;
+    let alloc = rt.alloc();
+    let cluster = asked(alloc, troubled(alloc, false)?)?;
+    let run = pump_twice(alloc, cluster, REMOVED.as_slice())?;
     assert!(rt; run.is_told);
     assert_eq!(rt; (run.strangers, run.failed_polls), (0, 0));
-    Ok(())
-}
-
-// What was never sent, and what was sent to another node, is dropped and counted.
-#[test]
-fn strangers_change_nothing(rt: HostRuntime) -> Result<(), Fail> {
-    let run = over_trouble(rt.alloc(), Trouble::IsHostile(0), REMOVED.as_slice())?;
-    assert!(rt; run.is_told);
-    assert_eq!(rt; (run.first, run.strangers), (18, 2));
-    Ok(())
-}
-
-// How many frames come to a cluster whose world had begun so many campaigns, and how many strangers: node 1 is handed a Prepare.
-fn guessed(alloc: Global, campaigns: u32) -> Result<(u32, u64), WorldFault> {
-    let transport = troubled(alloc, Trouble::Guesses)?;
-    let mut cluster = Cluster::new(alloc, world_after(alloc, campaigns)?, transport)?;
-    let delivered = cluster.pump(alloc)?;
-    Ok((delivered, cluster.strangers()))
-}
-
-fn world_after(alloc: Global, campaigns: u32) -> Result<World<MemStable>, WorldFault> {
-    let mut world = World::new(alloc, Nodes::new(3).unwrap())?;
-    for _ in 0..campaigns {
-        world.step(alloc, Event::Timeout(node(0)))?;
-    }
-    Ok(world)
-}
-
-// What the world has sent before it was a cluster's is known, though the transport was never given it.
-#[test]
-fn frames_that_were_sent_before(rt: HostRuntime) {
-    for (campaigns, delivered, strangers) in [(0, 0, 1), (1, 2, 0), (2, 2, 0)] {
-        assert_eq!(rt; guessed(rt.alloc(), campaigns), Ok((delivered, strangers)));
-    }
-}
-
-#[test]
-fn one_node_is_down(rt: HostRuntime) -> Result<(), Fail> {
-    let lines = ["learn 0 0 7:1", "learn 1 0 7:1", "reply 0 7:1 21"];
-    let run = over_trouble(rt.alloc(), Trouble::NodeTwoIsDown, lines.as_slice())?;
-    assert!(rt; run.is_told);
-    assert!(rt; run.failed_sends > 0 && run.strangers == 0);
-    Ok(())
-}
-
-// Each of 100 passes polls three nodes, and each pump has as many.
-#[test]
-fn nothing_is_heard(rt: HostRuntime) -> Result<(), Fail> {
-    let run = over_trouble(rt.alloc(), Trouble::NothingIsHeard, &[])?;
-    assert!(rt; run.is_told);
-    assert_eq!(rt; (run.first, run.strangers, run.failed_polls), (0, 0, 600));
-    Ok(())
-}
-
-// What comes with the 100th pass is in time, and what comes after it waits for the next pump.
-#[test]
-fn datagrams_that_are_late(rt: HostRuntime) -> Result<(), Fail> {
-    for (polls, first, second) in [(299, 18, 0), (300, 0, 18)] {
-        let run = over_trouble(rt.alloc(), Trouble::IsLate(polls), REMOVED.as_slice())?;
-        assert!(rt; run.is_told);
-        assert_eq!(rt; (run.first, run.second), (first, second));
-    }
     Ok(())
 }
 
