@@ -49,6 +49,7 @@ use crate::parts::part_total;
 use crate::rounds::scene_total;
 use crate::scene::Scene;
 use crate::task::{Task, Work, task_of};
+use std::alloc::Global;
 use std::env;
 use std::fmt::Display;
 use std::io::{self, ErrorKind, Read};
@@ -92,15 +93,23 @@ fn answer_lines(rt: &HostRuntime) -> Result<(), Fault> {
         return Err(Fault::Device);
     }
     for line in lines.lines() {
-        let (kind, behind) = line.split_once(' ').unwrap_or((line, ""));
-        match kind {
-            "frame" => print(rt, frame_again(rt.alloc(), behind))?,
-            "vote" => print(rt, vote_again(rt.alloc(), behind))?,
-            "document" => print(rt, document_again(rt.alloc(), behind))?,
-            _ => print(rt, answer(rt, line))?,
+        match again(rt.alloc(), line) {
+            Some(told) => print(rt, told)?,
+            None => print(rt, answer(rt, line))?,
         }
     }
     Ok(())
+}
+
+/// What a line comes to that has a frame, a vote or a document; None where it has none.
+fn again(alloc: Global, line: &str) -> Option<Result<String, Fault>> {
+    let (kind, behind) = line.split_once(' ').unwrap_or((line, ""));
+    match kind {
+        "frame" => Some(frame_again(alloc, behind)),
+        "vote" => Some(vote_again(alloc, behind)),
+        "document" => Some(document_again(alloc, behind)),
+        _ => None,
+    }
 }
 
 /// Prints what a line of the input comes to, or why it comes to nothing.

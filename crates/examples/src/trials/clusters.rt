@@ -182,32 +182,6 @@ pub(crate) const REMOVED: [&str; 4] = [
     "reply 0 7:1 21",
 ];
 
-// What is sent comes once, in order, to its receiver.
-fn hand_over(alloc: Global, queues: &mut Queues) -> Result<bool, TransportFault> {
-    queues.send(alloc, node(0), node(1), b"one")?;
-    queues.send(alloc, node(2), node(1), b"two")?;
-    let other = queues.poll(alloc, node(2))?.is_none();
-    let first = is_next(alloc, queues, b"one")?;
-    let second = is_next(alloc, queues, b"two")?;
-    let all = queues.poll(alloc, node(1))?.is_none();
-    Ok(other && first && second && all && queues.tape().len() == 6 && queues.tells())
-}
-
-// Whether these bytes come to node 1 next.
-fn is_next(alloc: Global, queues: &mut Queues, bytes: &[u8]) -> Result<bool, TransportFault> {
-    Ok(match queues.poll(alloc, node(1))? {
-        Some(found) => found.as_slice() == bytes,
-        None => false,
-    })
-}
-
-#[test]
-fn queues_hand_over(rt: HostRuntime) -> Result<(), Fail> {
-    let mut queues = Queues::new(rt.alloc())?;
-    assert_eq!(rt; hand_over(rt.alloc(), &mut queues), Ok(true));
-    Ok(())
-}
-
 // Each frame of a step and of a round is sent, and each that isn't sent is counted.
 #[test]
 fn clusters_send(rt: HostRuntime) -> Result<(), Fail> {
@@ -246,28 +220,5 @@ fn datagrams_that_are_turned_round(rt: HostRuntime) -> Result<(), Fail> {
     let run = pump_twice(alloc, cluster, REMOVED.as_slice())?;
     assert!(rt; run.is_told);
     assert_eq!(rt; (run.strangers, run.failed_polls), (0, 0));
-    Ok(())
-}
-
-// So many campaigns of a node.
-fn lead_often<T: Transport>(
-    alloc: Global,
-    cluster: &mut Cluster<T>,
-    campaigns: u32,
-) -> Result<(), WorldFault> {
-    for _ in 0..campaigns {
-        cluster.step(alloc, Event::Timeout(node(0)))?;
-    }
-    Ok(())
-}
-
-// Each timeout sends three frames, and a pump ends after 10,000 Delivers. What was done before stays.
-#[test]
-fn a_pump_that_would_not_end(rt: HostRuntime) -> Result<(), Fail> {
-    let alloc = rt.alloc();
-    let mut cluster = three_nodes(alloc, Queues::new(alloc)?)?;
-    assert_eq!(rt; lead_often(alloc, &mut cluster, 3334), Ok(()));
-    assert_eq!(rt; cluster.pump(alloc), Err(WorldFault::FlushLimit));
-    assert_eq!(rt; cluster.world().outcomes().len(), 13334);
     Ok(())
 }

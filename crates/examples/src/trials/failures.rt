@@ -1,6 +1,6 @@
-//! How runs of the program end: lines, statuses, and writers that fail.
+//! Writers that fail. How runs of the program end, in lines and statuses, is seen in the examples and with streams that fail.
 
-use endings::{Failure, FaultyDocument, FaultyLine, Tracked, device_failure};
+use endings::{Failure, Tracked, device_failure};
 use std::io::{self, Error, ErrorKind, Write};
 use std::test::Fail;
 
@@ -16,49 +16,6 @@ impl Write for Unwritable {
     fn flush(&mut self) -> io::Result<()> {
         Ok(())
     }
-}
-
-// failures, their lines and their statuses
-const LINES: [(Failure, &str, u8); 7] = [
-    (
-        Failure::Schedule(FaultyLine {
-            line: 12,
-            fault: 51,
-        }),
-        "mfpx: line 12 fault 51\n",
-        1,
-    ),
-    (
-        Failure::Document(FaultyDocument {
-            fault: 1,
-            index: None,
-        }),
-        "mfpx: document fault 1\n",
-        1,
-    ),
-    (
-        Failure::Document(FaultyDocument {
-            fault: 12,
-            index: Some(1),
-        }),
-        "mfpx: document fault 12 at 1\n",
-        1,
-    ),
-    (Failure::NotEmpty, "mfpx: fault 55\n", 1),
-    (Failure::Usage, "mfpx: usage\n", 2),
-    (Failure::Device, "mfpx: device\n", 3),
-    (Failure::Memory, "mfpx: out of memory\n", 3),
-];
-
-#[test]
-fn lines_and_statuses(rt: HostRuntime) -> Result<(), Fail> {
-    for (failure, line, status) in LINES {
-        let mut err = Tracked::new(Vec::new(rt.alloc()));
-        err.tell(failure);
-        assert_eq!(rt; err.into_inner().as_slice(), line.as_bytes());
-        assert_eq!(rt; failure.status(), status);
-    }
-    Ok(())
 }
 
 #[test]

@@ -1,15 +1,14 @@
-//! Schedules over clusters: through queues, and through sockets.
+//! Schedules over clusters whose nodes have sockets.
 
-use crate::trials::clusters::{REMOVED, asked, has_lines, node, pump_twice, three_nodes};
-use cluster::{Queues, Transport};
+use crate::trials::clusters::{REMOVED, asked, has_lines, node, pump_twice};
+use cluster::Transport;
 use datagrams::Sockets;
 use endings::{Failure, FaultyLine};
-use schedule::parse_schedule;
 use std::alloc::Global;
 use std::net::{IpAddr, Ipv4Addr, SocketAddr, UdpSocket};
 use std::test::Fail;
 use wire::Nodes;
-use works::{looped_over, planned, run_through};
+use works::{looped_over, planned};
 
 // the main job
 const FIRST_RUN: &[u8] = b"nodes 3\nsubmit 0 7 1 remove bus-7\ntimeout 0\nflush\n";
@@ -28,16 +27,6 @@ const LEARNT_BY_SEVEN: [&str; 8] = [
     "learn 6 0 7:1",
     "reply 6 7:1 21",
 ];
-
-// Whether the text of a schedule of three nodes through queues has these lines, in some order, and then that of its strangers.
-fn is_queued(alloc: Global, schedule: &[u8], lines: &[&str]) -> Result<bool, Fail> {
-    let schedule = parse_schedule(alloc, schedule)?;
-    let mut cluster = three_nodes(alloc, Queues::new(alloc)?)?;
-    Ok(match run_through(alloc, schedule, &mut cluster) {
-        Ok(text) => ends_so(text, lines),
-        Err(_) => false,
-    })
-}
 
 // The text of a schedule whose nodes have sockets.
 fn looped(rt: &HostRuntime, schedule: &[u8]) -> Result<Vec<u8>, Failure> {
@@ -70,18 +59,6 @@ fn ends_so(text: Vec<u8>, lines: &[&str]) -> bool {
         Some(others) => has_lines(others, lines),
         None => false,
     }
-}
-
-#[test]
-fn schedules_through_queues(rt: HostRuntime) -> Result<(), Fail> {
-    let alloc = rt.alloc();
-    assert!(rt; is_queued(alloc, FIRST_RUN, FIRST_LINES.as_slice())?);
-    // Nothing comes where nothing is pumped, and what is dropped from the world comes nevertheless.
-    let unpumped = b"nodes 3\nsubmit 0 7 1 remove bus-7\ntimeout 0\n";
-    assert!(rt; is_queued(alloc, unpumped.as_slice(), &[])?);
-    let dropped = b"nodes 3\nsubmit 0 7 1 remove bus-7\ntimeout 0\ndrop 0\ndrop 1\nflush\n";
-    assert!(rt; is_queued(alloc, dropped.as_slice(), FIRST_LINES.as_slice())?);
-    Ok(())
 }
 
 // a schedule, and what is told of it

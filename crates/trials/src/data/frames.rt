@@ -1,16 +1,8 @@
-//! What no clause says: a fault of frames in words; and bytes that are too long for a line of `benchmarks`' input, which has the frames that
-//! were worked out by hand.
+//! Bytes that are too long for a line of `benchmarks`' input, which has the frames that were worked out by hand.
 
 use std::alloc::Global;
 use std::test::Fail;
-use wire::{LONGEST_FRAME, Nodes, WireFault, decode};
-
-#[test]
-fn a_fault_in_words(rt: HostRuntime) -> Result<(), Fail> {
-    let text = format!(in rt.alloc(); "{}", WireFault::Short)?;
-    assert!(rt; text.as_str() == "the frame ends too early");
-    Ok(())
-}
+use wire::{LONGEST_FRAME, Nodes, decode};
 
 #[test]
 fn too_long(rt: HostRuntime) -> Result<(), Fail> {

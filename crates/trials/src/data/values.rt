@@ -1,12 +1,11 @@
-//! What no clause says: that a hash and a text of an id are its own, and each fault in words. Values that were worked out by hand are the
-//! example `worked_values`.
+//! What no clause says: that a hash and a text of an id are its own. Values that were worked out by hand are the example `worked_values`.
 
 use std::alloc::Global;
 use std::collections::HashSet;
 use std::convert::AsStr;
 use std::fmt::Display;
 use std::test::Fail;
-use tpoint::{AppendFault, Id, SeqFault};
+use tpoint::Id;
 
 /// The text that any value with a text lends.
 fn lent<T: AsStr>(value: &T) -> &str {
@@ -42,50 +41,8 @@ fn ids_as_texts_and_keys(rt: HostRuntime) -> Result<(), Fail> {
     Ok(())
 }
 
-const FAULTS: [(SeqFault, &str); 4] = [
-    (SeqFault::Empty, "there is no point"),
-    (SeqFault::TooMany, "there are too many points"),
-    (
-        SeqFault::NotIncreasing(3),
-        "point 3 is not later than the one before it",
-    ),
-    (SeqFault::Range(0), "point 0 has a coordinate out of range"),
-];
-
-#[test]
-fn faults_as_texts(rt: HostRuntime) -> Result<(), Fail> {
-    for &(fault, want) in &FAULTS {
-        assert!(rt; is_written(rt.alloc(), fault, want)?, "{want}");
-    }
-    Ok(())
-}
-
-const APPEND_FAULTS: [(AppendFault, &str); 4] = [
-    (
-        AppendFault::NotLater,
-        "the point is not later than the last one",
-    ),
-    (
-        AppendFault::Full,
-        "the sequence has no room for a point more",
-    ),
-    (
-        AppendFault::Range,
-        "the point has a coordinate out of range",
-    ),
-    (AppendFault::Memory, "out of memory"),
-];
-
-#[test]
-fn append_faults_as_texts(rt: HostRuntime) -> Result<(), Fail> {
-    for &(fault, want) in &APPEND_FAULTS {
-        assert!(rt; is_written(rt.alloc(), fault, want)?, "{want}");
-    }
-    Ok(())
-}
-
 /// Whether this is the text of a value.
-pub fn is_written<T: Display + Drop>(alloc: Global, value: T, want: &str) -> Result<bool, Fail> {
+fn is_written<T: Display + Drop>(alloc: Global, value: T, want: &str) -> Result<bool, Fail> {
     let text = format!(in alloc; "{value}")?;
     Ok(text.as_str() == want)
 }

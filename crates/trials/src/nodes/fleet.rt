@@ -225,13 +225,13 @@ impl Fleet {
             "timeout" => self.give(alloc, text, small(at), Input::Timeout),
             "tick" => self.give(alloc, text, small(at), Input::Tick),
             "deliver" => self.deliver(alloc, text, at as usize),
-            "lose" => self.lose(alloc, at as usize),
+            "lose" => self.lose(at as usize),
             _ => handle(alloc, text, small(at), self.member(small(at))?, word, step),
         }
     }
 
-    fn lose(&mut self, alloc: Global, at: usize) -> Result<(), Fail> {
-        let _ = self.open(alloc, at)?.ok_or("frame")?;
+    fn lose(&mut self, at: usize) -> Result<(), Fail> {
+        self.sent.get_mut(at).ok_or("frame")?.waits = false;
         Ok(())
     }
 
