@@ -3,12 +3,10 @@
 //! An example is two files of the folder that this is run in, by one name: a schedule or a document,
 //! and beside it what comes of it. The names of all schedules and documents are printed, in their
 //! order. An example that comes to something else is told and ends the run with status 1, and so
-//! does a file that belongs to no example. The tests of whole runs stand here as well.
+//! does a file that belongs to no example.
 #![tactic(auto)]
 
 mod outcome;
-#[cfg(test)]
-mod trials;
 
 use crate::outcome::{Outcome, kind_of, outcome_of};
 use anyhow::{Result, bail};

@@ -1,6 +1,6 @@
 //! Words of the command line: what they ask for, and what asks for nothing.
 
-use crate::trials::streams::owned;
+use crate::runs::streams::owned;
 use commandline::{Source, WordsFault, Work, job_of};
 use std::test::Fail;
 

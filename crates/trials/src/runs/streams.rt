@@ -2,8 +2,8 @@
 
 ghost use Rattle.std.specs.Prelude.{◌≡◌, vec_len};
 
-use crate::trials::program::{FIRST_LINES, FIRST_RUN};
-use crate::trials::worlds::three_storages;
+use crate::runs::program::{FIRST_LINES, FIRST_RUN};
+use crate::runs::worlds::three_storages;
 use console::{Archive, command};
 use endings::{Failure, Tracked};
 use stable::MemStable;

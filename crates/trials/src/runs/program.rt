@@ -1,6 +1,6 @@
 //! Whole runs of the program: what goes in, and all that comes out. Further ones are the examples.
 
-use crate::trials::streams::{answer, ends_so};
+use crate::runs::streams::{answer, ends_so};
 use std::test::Fail;
 
 // the main job

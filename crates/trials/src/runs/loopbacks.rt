@@ -1,6 +1,6 @@
 //! Schedules over clusters whose nodes have sockets.
 
-use crate::trials::clusters::{REMOVED, asked, has_lines, node, pump_twice};
+use crate::runs::clusters::{REMOVED, asked, has_lines, node, pump_twice};
 use cluster::Transport;
 use datagrams::Sockets;
 use endings::{Failure, FaultyLine};

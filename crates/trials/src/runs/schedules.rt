@@ -1,6 +1,6 @@
 //! Lines of schedules with their faults, and a run over records. Schedules with their transcripts are the examples.
 
-use crate::trials::worlds::three_storages;
+use crate::runs::worlds::three_storages;
 use replay::{ReplayCause, ReplayFault, run};
 use schedule::{
     ParseFault, faulty_is_no_schedule, first_faults_are_one, parse_schedule, schedules_are_one,

@@ -1,6 +1,6 @@
 //! Whole checks of documents: what goes in, and all that comes out. Further ones are the examples.
 
-use crate::trials::streams::{Unwritable, ends_so, tells_a_device};
+use crate::runs::streams::{Unwritable, ends_so, tells_a_device};
 use std::io::{self, Error, ErrorKind, Read};
 use std::test::Fail;
 

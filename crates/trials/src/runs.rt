@@ -1,0 +1,12 @@
+//! Tests of whole runs and of the program's parts: of `history`, `world`, `cluster`, `datagrams`, `schedule`, `replay` and `works`; of
+//! `commandline`, `endings` and `console`.
+
+mod checks;
+mod clusters;
+mod failures;
+mod loopbacks;
+mod program;
+mod schedules;
+mod streams;
+mod words;
+mod worlds;
