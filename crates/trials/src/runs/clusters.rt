@@ -71,10 +71,7 @@ fn troubled(alloc: Global, loses_all: bool) -> Result<Net, AllocError> {
     Ok(Net { queues, loses_all })
 }
 
-pub(crate) fn three_nodes<T: Transport + Drop>(
-    alloc: Global,
-    transport: T,
-) -> Result<Cluster<T>, WorldFault> {
+fn three_nodes<T: Transport + Drop>(alloc: Global, transport: T) -> Result<Cluster<T>, WorldFault> {
     let world = World::new(alloc, Nodes::new(3).unwrap())?;
     Ok(Cluster::new(alloc, world, transport)?)
 }
@@ -100,7 +97,7 @@ fn ask<T: Transport>(alloc: Global, cluster: &mut Cluster<T>) -> Result<(), Worl
     cluster.step(alloc, Event::Timeout(node(0)))
 }
 
-pub(crate) fn bus() -> Id {
+fn bus() -> Id {
     Id::new(b"bus-7").unwrap()
 }
 
