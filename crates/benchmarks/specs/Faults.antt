@@ -3,12 +3,16 @@ use Rattle.std.specs.Prelude.{◌≡◌, ℕ, List, Err}
 use Rattle.hex.specs.declared.error.FromHexError.{FromHexError}
 use Rattle.hex.specs.declared.error.FromHexError.TheVariants as digits
 use Rattle.mfjson.specs.Faults as documents
+use Rattle.mfjson.specs.Faults.{IsFaultOf}
 use Rattle.mfjson.specs.declared.fault.MfFault.{MfFault}
 use Rattle.mfjson.specs.declared.fault.MfFault.TheVariants as document
 use Rattle.proposer.specs.declared.fault.SubmitFault.{SubmitFault}
 use Rattle.proposer.specs.declared.fault.SubmitFault.TheVariants as submit
 use Rattle.wire.specs.Faults.{code_of}
+use Rattle.sessions.specs.declared.command.Command.{Command}
+use Rattle.synod.specs.declared.ballot.Ballot.{Ballot}
 use Rattle.wire.specs.FrameReading.{frame_in}
+use Rattle.wire.specs.RecordForms.{IsVoteRecord}
 use Rattle.wire.specs.declared.frames.fault.WireFault.{WireFault}
 use Rattle.wire.specs.declared.frames.fault.WireFault.TheVariants as wire
 use Rattle.benchmarks.specs.declared.fault.Fault.{Fault}
@@ -47,3 +51,13 @@ of_document fault = Document (documents.code_of fault) fault
 abbrev pub IsRefusalOf : ℕ → List ℕ → Fault → Type 0
 IsRefusalOf nodes bytes Memory = Unit {0}
 IsRefusalOf nodes bytes fault = (why : WireFault) × (frame_in nodes bytes ≡ Err why) × (fault ≡ of_wire why)
+
+-- bytes are the record of no vote, or memory is wanting
+abbrev pub IsNoVote : List ℕ → Fault → Type 0
+IsNoVote bytes Vote = (b : Ballot) (c : Command) → ¬ IsVoteRecord bytes b c
+IsNoVote bytes fault = fault ≡ Memory
+
+-- bytes are no document, for the fault that they have, or memory is wanting
+abbrev pub IsNoDocument : List ℕ → Fault → Type 0
+IsNoDocument bytes Memory = Unit {0}
+IsNoDocument bytes fault = (why : MfFault) × IsFaultOf bytes why × (fault ≡ of_document why)

@@ -2,7 +2,12 @@
 //! sent.
 
 ghost use Rattle.std.specs.Prelude.{◌≡◌, IfOk, IfErr};
-ghost use Rattle.benchmarks.specs.Faults.{IsRefusalOf};
+ghost use Rattle.mfjson.specs.Document.{IsCanonical, IsDocumentOf};
+ghost use Rattle.mfjson.specs.declared.feature.Feature.{Feature};
+ghost use Rattle.sessions.specs.declared.command.Command.{Command};
+ghost use Rattle.synod.specs.declared.ballot.Ballot.{Ballot};
+ghost use Rattle.wire.specs.RecordForms.{IsVoteRecord};
+ghost use Rattle.benchmarks.specs.Faults.{IsNoDocument, IsNoVote, IsRefusalOf};
 
 use crate::fault::Fault;
 use mfjson::{read, write};
@@ -40,20 +45,36 @@ fn spelled_again(alloc: Global, frame: &[u8], nodes: Nodes) -> Result<Vec<u8>, F
 /// What hexadecimal digits come to, which are the record of a vote: the record, spelled again of the vote that it was read as.
 pub fn vote_again(alloc: Global, digits: &str) -> Result<String, Fault> {
     let record = hex::decode(alloc, digits)?;
-    let Some((ballot, command)) = vote_of_record(alloc, record.as_slice())? else {
+    let again = recorded_again(alloc, record.as_slice())?;
+    Ok(hex::encode(alloc, again)?)
+}
+
+/// The record of the vote that these bytes record, or why they are none.
+fn recorded_again(alloc: Global, record: &[u8]) -> Result<Vec<u8>, Fault>
+    ensures same { IfOk result (λ again. (b : Ballot) × (c : Command) × IsVoteRecord record.now b c × IsVoteRecord again.items b c) }
+    ensures refused { IfErr result (IsNoVote record.now) }
+{
+    let Some((ballot, command)) = vote_of_record(alloc, record)? else {
         return Err(Fault::Vote);
     };
-    let again = vote_record(alloc, ballot, &command)?;
-    Ok(hex::encode(alloc, again)?)
+    Ok(vote_record(alloc, ballot, &command)?)
 }
 
 /// What a document comes to: the canonical one of the feature that it was read as.
 pub fn document_again(alloc: Global, text: &str) -> Result<String, Fault> {
-    let feature = read(alloc, text.as_bytes())?;
-    let document = write(alloc, &feature)?;
+    let document = written_again(alloc, text.as_bytes())?;
     match String::from_utf8(document) {
         Ok(text) => Ok(text),
         // A canonical document is a text.
         Err(_) => Err(Fault::Device),
     }
+}
+
+/// The canonical document of the feature that these bytes are a document of, or why they are none.
+fn written_again(alloc: Global, document: &[u8]) -> Result<Vec<u8>, Fault>
+    ensures canonical { IfOk result (λ again. (f : Feature) × IsDocumentOf document.now f × IsCanonical again.items f) }
+    ensures refused { IfErr result (IsNoDocument document.now) }
+{
+    let feature = read(alloc, document)?;
+    Ok(write(alloc, &feature)?)
 }
