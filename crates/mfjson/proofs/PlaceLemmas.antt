@@ -26,7 +26,8 @@ says_y v a b e is =
     subst (λ d. SaysCoordinate d is.p.1) (second_same a b is.says.first is.says.second (sym e ∙ is.says.pair)) is.says.says_y
 
 -- a value of which one element is no coordinate is no place
-pub no_place : (v d : Data) → ((is : IsPlace v) → (z : ℤ) × SaysCoordinate d z) → ((z : ℤ) → SaysCoordinate d z ↔ (None ≡ Some z)) → ¬ IsPlace v
+pub no_place : (v d : Data) → ((is : IsPlace v) → (z : ℤ) × SaysCoordinate d z) → ((z : ℤ) → SaysCoordinate d z ↔ (None ≡ Some z))
+    → ¬ IsPlace v
 no_place v d says none is =
     let said = says is in
     let gone = (none said.0).0 said.1 in

@@ -1,6 +1,6 @@
 //! The value of a sequence at an instant.
 
-ghost use Rattle.std.specs.Prelude.{◌≡◌, ℕ, ◌^◌, ◌<◌, ◌≤◌, ◌↔◌, length, IsTrue};
+ghost use Rattle.std.specs.Prelude.{◌≡◌, ℕ, ◌^◌, ◌<◌, ◌≤◌, length};
 ghost use Rattle.std.specs.Prelude.{pos, ◌+ℤ◌, ◌-ℤ◌, ◌*ℤ◌, ◌≤ℤ◌, unsigned_abs};
 ghost use Rattle.tpoint.specs.Places.{EachAt};
 ghost use Rattle.tpoint.specs.Moving.{IsPlace, OnLeg, Rises, InBounds, moment, vertex};

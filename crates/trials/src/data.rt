@@ -1,4 +1,5 @@
-//! Tests of the data's crates: of `backward`, `tpoint` and `mfjson`; and of the bytes in which nodes have them, the frames and records of `wire`.
+//! Tests of the data's crates: of `backward`, `tpoint` and `mfjson`; and of the bytes in which nodes have them, the frames and records
+//! of `wire`.
 //!
 //! Values, cuts, rectangles, periods and replies that were worked out by hand are schedules of `examples`; documents, frames and votes are
 //! lines of `benchmarks`' input. These cost no proof.

@@ -1,5 +1,5 @@
 -- A frame's bytes show the envelope that they spell, and no other.
-use Rattle.std.proofs.Common.{◌≡◌, ℕ, ◌<◌, List, Result, Ok, slice_set, sym, ap, subst}
+use Rattle.std.proofs.Common.{◌≡◌, ℕ, List, Result, Ok, sym, ap, subst}
 use Rattle.wire.specs.FrameReading.{frame_in}
 use Rattle.wire.specs.FrameSpelling.{IsFrame}
 use Rattle.wire.specs.declared.frames.envelope.Envelope.{Envelope}
@@ -19,11 +19,3 @@ is_of_what_it_shows bytes e frame = subst (λ (x : Envelope). IsFrame 7 bytes x)
 -- so it does where it goes to the receiver for whom it was spelled
 pub carries : (bytes : List ℕ) (e : Envelope) → IsFrame 7 bytes e → readdressed (envelope_in bytes) e.to ≡ e
 carries bytes e frame = ap (λ (x : Envelope). readdressed x e.to) (shows bytes e frame)
-
--- the byte at 5 names the receiver
-pub goes_to : (bytes : List ℕ) (e : Envelope) (to : ℕ) → to < 7 → IsFrame 7 bytes e →
-    IsFrame 7 (slice_set bytes 5 to) (record { from = e.from; to = to; message = e.message })
-goes_to bytes e to of_run frame = record {
-  fits = record { from = frame.fits.from; to = of_run; message = frame.fits.message };
-  spelled = ap (λ (l : List ℕ). slice_set l 5 to) frame.spelled;
-}

@@ -1,4 +1,5 @@
-//! Datetimes, from RFC 3339 and the calendar. Texts that are none, and documents with their faults in words, are lines of `benchmarks`' input.
+//! Datetimes, from RFC 3339 and the calendar. Texts that are none, and documents with their faults in words, are lines of `benchmarks`'
+//! input.
 
 use mfjson::{datetime_read, datetime_text};
 use tpoint::Instant;

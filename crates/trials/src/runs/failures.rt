@@ -1,22 +1,9 @@
 //! Writers that fail. How runs of the program end, in lines and statuses, is seen in the examples and with streams that fail.
 
+use super::streams::Unwritable;
 use endings::{Failure, Tracked, device_failure};
-use std::io::{self, Error, ErrorKind, Write};
+use std::io::{Error, ErrorKind};
 use std::test::Fail;
-
-/// A writer that takes nothing.
-#[derive(Drop)]
-struct Unwritable;
-
-impl Write for Unwritable {
-    fn write(&mut self, _buf: &[u8]) -> io::Result<usize> {
-        Err(Error::from(ErrorKind::BrokenPipe))
-    }
-
-    fn flush(&mut self) -> io::Result<()> {
-        Ok(())
-    }
-}
 
 #[test]
 fn what_was_printed(rt: HostRuntime) -> Result<(), Fail> {

@@ -3,43 +3,12 @@
 use super::calls::{fill, is_filled, keeps_records};
 use archive::Archive;
 use files::{Files, NodeFile};
-use sqlite::{Connection, Error, File, FileStore, MemStore, Options, params};
+use sqlite::{Connection, Error, MemStore, Options, params};
 use sqlstable::SqlStable;
-use stable::{Stable, StableFault};
+use stable::StableFault;
 use std::alloc::Global;
-use std::{fs, mem};
+use std::fs;
 use wire::Nodes;
-
-// Whether a storage holds what `fill` puts: a new one is filled, and any other is looked at.
-fn fill_or_look<S: Stable>(
-    alloc: Global,
-    storage: &mut S,
-    is_new: bool,
-) -> Result<bool, StableFault> {
-    if is_new {
-        fill(alloc, storage)?;
-        return Ok(true);
-    }
-    is_filled(alloc, storage)
-}
-
-// The same of a storage over a file, which is `Damaged` where it holds anything else.
-//
-// One function for both, since each call that hands such a storage on takes a quarter of a minute to prove.
-fn filled(
-    alloc: Global,
-    mut storage: SqlStable<FileStore<File>>,
-    is_new: bool,
-) -> Result<SqlStable<FileStore<File>>, StableFault> {
-    let fault = match fill_or_look(alloc, &mut storage, is_new) {
-        Ok(true) => return Ok(storage),
-        Ok(false) => StableFault::Damaged,
-        Err(fault) => fault,
-    };
-    // A test fails now: that a storage over files is dropped takes longer to prove than all else here.
-    mem::forget(storage);
-    Err(fault)
-}
 
 // Whether a storage in memory keeps what is put, and can count its failures.
 fn memory_keeps(alloc: Global) -> Result<bool, StableFault> {
@@ -108,12 +77,17 @@ const FOLDER: &str = "sqlstable_test";
 
 const PATH: &str = "sqlstable_test/node0.db";
 
-// A file is filled, closed, opened again and looked at, and closed.
-fn close_a_file(rt: &HostRuntime) -> Result<(), StableFault> {
-    let alloc = rt.alloc();
-    let new = filled(alloc, SqlStable::open(rt, PATH)?, true)?;
-    let again = new.reopen(alloc, Options::new(2))?;
-    filled(alloc, again, false)?.close()
+// What a run leaves: its storage is dropped and not closed.
+fn leave_a_file(rt: &HostRuntime, path: &str) -> Result<bool, StableFault> {
+    let mut storage = NodeFile::open(rt, path)?;
+    fill(rt.alloc(), &mut storage)?;
+    is_filled(rt.alloc(), &mut storage)
+}
+
+// A file is opened, closed and opened again, and closed.
+fn close_a_file(rt: &HostRuntime, path: &str) -> Result<(), StableFault> {
+    let storage = SqlStable::open(rt, path)?;
+    storage.reopen(rt.alloc(), Options::new(2))?.close()
 }
 
 // Whether a file that is opened holds what `fill` puts.
@@ -126,7 +100,8 @@ fn is_file_filled(rt: &HostRuntime, path: &str) -> Result<bool, StableFault> {
 fn a_file_keeps_records(rt: HostRuntime) {
     let _ = fs::remove_dir_all(&rt, FOLDER);
     assert!(rt; fs::create_dir(&rt, FOLDER).is_ok());
-    assert_eq!(rt; close_a_file(&rt), Ok(()));
+    assert_eq!(rt; leave_a_file(&rt, PATH), Ok(true));
+    assert_eq!(rt; close_a_file(&rt, PATH), Ok(()));
     assert_eq!(rt; is_file_filled(&rt, PATH), Ok(true));
     assert!(rt; is_file_filled(&rt, FOLDER).is_err());
     assert!(rt; fs::remove_dir_all(&rt, FOLDER).is_ok());
@@ -141,13 +116,6 @@ const RUN_LOG: &str = "sqlstable_run_test/node0.db-wal";
 const ARCHIVE: &str = "archive_test";
 
 const FIRST_FILE: &str = "archive_test/node0.db";
-
-// What a run leaves: its storage is dropped and not closed.
-fn leave_a_file(rt: &HostRuntime, path: &str) -> Result<bool, StableFault> {
-    let mut storage = NodeFile::open(rt, path)?;
-    fill(rt.alloc(), &mut storage)?;
-    is_filled(rt.alloc(), &mut storage)
-}
 
 // Settles the file, and reads its bytes.
 fn settled_bytes(rt: &HostRuntime) -> Result<Vec<u8>, StableFault> {

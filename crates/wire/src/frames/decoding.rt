@@ -16,7 +16,7 @@ use super::input::Input;
 use super::kind::Kind;
 use super::message::Message;
 use super::nack::Nack;
-use super::reading::{read_ballot, read_command, read_slot};
+use super::reading::{read_ballot, read_held, read_slot};
 use super::telling::read_promise;
 use crate::{Held, NodeId, Nodes};
 use sessions::Command;
@@ -202,7 +202,7 @@ fn read_vote(alloc: Global, input: &mut Input, nodes: Nodes) -> Result<Vote<Held
 {
     let ballot = read_ballot(input, nodes)?;
     let slot = read_slot(input)?;
-    let command = Held::new(alloc, read_command(alloc, input)?)?;
+    let command = read_held(alloc, input)?;
     Ok(Vote {
         slot,
         ballot,
@@ -216,7 +216,7 @@ fn read_decided(alloc: Global, input: &mut Input) -> Result<Message, WireFault>
     ensures memory { IsErrOf result WireFault.Memory → MayWant (λ x. TakesMemory x.0) (decided_at input.old) }
 {
     let slot = read_slot(input)?;
-    let command = Held::new(alloc, read_command(alloc, input)?)?;
+    let command = read_held(alloc, input)?;
     Ok(Message::Decided { slot, command })
 }
 

@@ -1,6 +1,6 @@
 //! The fields of frames and records, read with the first fault that is met.
 
-ghost use Rattle.std.specs.Prelude.{◌≡◌, ◌<◌, ◌≤◌, ◌+◌, ◌↔◌, IsTrue, IfOk, IsErrOf, length};
+ghost use Rattle.std.specs.Prelude.{◌≡◌, ◌<◌, ◌≤◌, ◌+◌, ◌↔◌, ⊤, IsTrue, IfOk, IsErrOf, length};
 ghost use Rattle.sessions.specs.Asked.{IsShort};
 ghost use Rattle.tpoint.specs.Coordinates.{InRange};
 ghost use Rattle.tpoint.specs.Moving.{InBounds};
@@ -12,7 +12,7 @@ ghost use Rattle.wire.specs.Reading.{request_number_at, request_at, asked_at, co
 
 use super::fault::WireFault;
 use super::input::Input;
-use crate::{Nodes, Slot};
+use crate::{Held, Nodes, Slot};
 use sessions::{Command, MOST_PUT_POINTS, Number, Request};
 use std::alloc::Global;
 use store::Op;
@@ -54,6 +54,16 @@ pub(super) fn read_slot(input: &mut Input) -> Result<Slot, WireFault>
         return Err(WireFault::Field);
     };
     Ok(slot)
+}
+
+/// What is at a slot of the log, to be held.
+#[tactic(auto)]
+pub(super) fn read_held(alloc: Global, input: &mut Input) -> Result<Held, WireFault>
+    ensures read { Gives (λ x. (x, input.new)) result (command_at input.old) }
+    ensures memory { IsErrOf result WireFault.Memory → MayWant (λ _. ⊤) (command_at input.old) }
+{
+    let command = read_command(alloc, input)?;
+    Ok(Held::new(alloc, command)?)
 }
 
 /// What is at a slot of the log: nothing, or a client's request.

@@ -11,7 +11,7 @@ use super::entry::Entry;
 use super::fault::WireFault;
 use super::input::Input;
 use super::promise::{Entries, MOST_ENTRIES, Promise};
-use super::reading::{read_ballot, read_command, read_slot};
+use super::reading::{read_ballot, read_held, read_slot};
 use crate::{Held, Nodes};
 use sessions::Command;
 use std::alloc::Global;
@@ -128,7 +128,7 @@ fn read_entry(
 {
     let slot = read_slot_within(input, from, last)?;
     let ballot = read_ballot_up_to(input, nodes, limit)?;
-    let command = Held::new(alloc, read_command(alloc, input)?)?;
+    let command = read_held(alloc, input)?;
     Ok(Vote {
         slot,
         ballot,

@@ -7,7 +7,8 @@ use Rattle.mfjson.proofs.datetime.day_number.Goals as goal
 
 pub returns-in_err-year-clause-exact : goal.returns-in_err-year-clause-exact
 returns-in_err-year-clause-exact c n =
-    rw c.from_residual.ensures (none_exact _ n (λ is. never_found ((c.in_err-year.ensures.exact _ _ _).0 (date_numbers c.args.text.now n is))))
+    rw c.from_residual.ensures (none_exact _ n
+    (λ is. never_found ((c.in_err-year.ensures.exact _ _ _).0 (date_numbers c.args.text.now n is))))
 
 pub returns-in_default-clause-exact : goal.returns-in_default-clause-exact
 returns-in_default-clause-exact c n =

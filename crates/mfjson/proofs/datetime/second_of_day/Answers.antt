@@ -5,7 +5,8 @@ use Rattle.mfjson.proofs.datetime.second_of_day.Goals as goal
 
 pub returns-in_err-hour-clause-exact : goal.returns-in_err-hour-clause-exact
 returns-in_err-hour-clause-exact c n =
-    rw c.from_residual.ensures (none_exact _ n (λ is. never_found ((c.in_err-hour.ensures.exact _ _ _).0 (clock_numbers c.args.text.now n is))))
+    rw c.from_residual.ensures (none_exact _ n
+    (λ is. never_found ((c.in_err-hour.ensures.exact _ _ _).0 (clock_numbers c.args.text.now n is))))
 
 pub returns-then-hour-gt23-clause-exact : goal.returns-then-hour-gt23-clause-exact
 returns-then-hour-gt23-clause-exact c n =

@@ -10,7 +10,8 @@ returns c =
     let times = c.in_ok-datetimes.datetimes.now.items in
     let here_times = array_here (codes "datetimes") g _ (items_view times) (sym c.in_ok-get.ensures) (sym c.in_ok-datetimes.ensures) in
     let places = c.in_ok-coordinates.coordinates.now.items in
-    let here_places = array_here (codes "coordinates") g _ (items_view places) (sym c.in_ok-get-2.ensures) (sym c.in_ok-coordinates.ensures) in
+    let here_places =
+    array_here (codes "coordinates") g _ (items_view places) (sym c.in_ok-get-2.ensures) (sym c.in_ok-coordinates.ensures) in
     record {
       is_moving_point = record {
         four = sym c.member_count.ensures ∙ c.if-member_count-ne4.false;
