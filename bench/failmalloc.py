@@ -234,7 +234,7 @@ def tell(title, words, counts, bad):
 
 def named(pattern, names):
     """The examples whose files fit, those of the names alone if there are any: each name, and its path."""
-    for path in sorted(glob.glob(os.path.join(HERE, "..", "crates", "examples", "data", pattern))):
+    for path in sorted(glob.glob(os.path.join(HERE, "..", "examples", pattern))):
         name = os.path.splitext(os.path.basename(path))[0]
         if not names or name in names:
             yield name, path

@@ -19,7 +19,7 @@ import explained
 from failmalloc import afterwards, nodes_of
 
 HERE = os.path.dirname(os.path.abspath(__file__))
-DATA = os.path.join(HERE, "..", "crates", "examples", "data")
+DATA = os.path.join(HERE, "..", "examples")
 NAMES = ("two_leaders", "log_of_five_slots", "outage_led_by_hand")
 NO_FRAME = re.compile(r"mfpx: line ([0-9]+) fault 51\n")
 

@@ -16,7 +16,7 @@ use Rattle.wire.specs.RecordForms.{IsVoteRecord}
 use Rattle.wire.specs.declared.frames.fault.WireFault.{WireFault}
 use Rattle.wire.specs.declared.frames.fault.WireFault.TheVariants as wire
 use Rattle.benchmarks.specs.declared.fault.Fault.{Fault}
-use Rattle.benchmarks.specs.declared.fault.Fault.TheVariants.{Usage, Memory, Device, Frame, Vote, Document}
+use Rattle.benchmarks.specs.declared.fault.Fault.TheVariants.{Usage, Memory, Device, Frame, Vote, Document, Example, StrayFile}
 
 -- the exit status
 abbrev pub status_of : Fault → ℕ
@@ -26,6 +26,8 @@ status_of Device = 3
 status_of (Frame code) = 1
 status_of Vote = 1
 status_of (Document code fault) = 1
+status_of Example = 1
+status_of StrayFile = 1
 
 -- more requests than may wait are too many
 abbrev pub of_submit : SubmitFault → Fault

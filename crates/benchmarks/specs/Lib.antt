@@ -1,4 +1,5 @@
 pub mod Faults
+pub mod Outcomes
 pub mod Tasks
 pub mod Sums
 pub mod Scenes

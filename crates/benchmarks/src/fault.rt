@@ -4,6 +4,7 @@ ghost use Rattle.std.specs.Prelude.{◌≡◌};
 ghost use Rattle.benchmarks.specs.Faults.{status_of, of_document, of_submit, of_wire, of_digits};
 ghost use Rattle.benchmarks.specs.declared.fault.Fault.TheVariants.{Usage, Memory};
 
+use endings::Failure;
 use hex::FromHexError;
 use mfjson::MfFault;
 use proposer::{SubmitFault, TimeoutFault};
@@ -36,6 +37,12 @@ pub enum Fault {
     /// The text is no document, for this fault and its number.
     #[error("fault {0}: {1}")]
     Document(u8, MfFault),
+    /// An example comes to something else than the file beside it.
+    #[error("an example")]
+    Example,
+    /// A file of the examples belongs to none.
+    #[error("a file belongs to no example")]
+    StrayFile,
 }
 
 impl Fault {
@@ -44,7 +51,11 @@ impl Fault {
         ensures { result ≡ status_of self }
     {
         match self {
-            Fault::Frame(_) | Fault::Vote | Fault::Document(..) => 1,
+            Fault::Frame(_)
+            | Fault::Vote
+            | Fault::Document(..)
+            | Fault::Example
+            | Fault::StrayFile => 1,
             Fault::Usage => 2,
             Fault::Memory | Fault::Device => 3,
         }
@@ -63,6 +74,15 @@ impl<T: Drop> From<AllocFailed<T>> for Fault {
     ghost from_gives = { λ _ fault. fault ≡ Memory };
 
     fn from(_refused: AllocFailed<T>) -> Fault {
+        Fault::Memory
+    }
+}
+
+// What comes of an example is unknown for want of memory alone.
+impl From<Failure> for Fault {
+    ghost from_gives = { λ _ fault. fault ≡ Memory };
+
+    fn from(_refused: Failure) -> Fault {
         Fault::Memory
     }
 }

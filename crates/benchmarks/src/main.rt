@@ -5,7 +5,7 @@
 //! which is the same on every machine. It reads no clock: the scripts in `bench/` do. Without words it does so for each line of
 //! the input; the sums in `stdout` were computed from the definitions by other programs. There a line `frame NODES FRAME` or
 //! `vote RECORD`, in hexadecimal digits, is answered with the frame or the record, read and spelled again, and `document TEXT` with the
-//! canonical document; or with the fault of each.
+//! canonical document; or with the fault of each. A line `examples` runs every example of the folder.
 //!
 //! `task` reads the words, and `scene` makes a moving point and what is asked of it. `numbers` has
 //! the answers of one moving point as numbers, `queries` and `operations` those of a full database,
@@ -19,6 +19,7 @@
 mod acceptors;
 mod carrying;
 mod documents;
+mod examples;
 mod execution;
 mod fault;
 mod fleet;
@@ -28,6 +29,7 @@ mod learners;
 mod messages;
 mod numbers;
 mod operations;
+mod outcome;
 mod outside;
 mod parts;
 mod queries;
@@ -43,6 +45,7 @@ ghost use Rattle.benchmarks.specs.Faults.{status_of};
 ghost use Rattle.benchmarks.specs.Rounds.{IsSumOf};
 ghost use Rattle.benchmarks.specs.Tasks.{Asks};
 
+use crate::examples::run_examples;
 use crate::fault::Fault;
 use crate::outside::{document_again, frame_again, vote_again};
 use crate::parts::part_total;
@@ -93,12 +96,20 @@ fn answer_lines(rt: &HostRuntime) -> Result<(), Fault> {
         return Err(Fault::Device);
     }
     for line in lines.lines() {
-        match again(rt.alloc(), line) {
-            Some(told) => print(rt, told)?,
-            None => print(rt, answer(rt, line))?,
-        }
+        answer_line(rt, line)?;
     }
     Ok(())
+}
+
+/// Prints what a line comes to. One example that comes to something else ends the run.
+fn answer_line(rt: &HostRuntime, line: &str) -> Result<(), Fault> {
+    if line == "examples" {
+        return run_examples(rt);
+    }
+    match again(rt.alloc(), line) {
+        Some(told) => print(rt, told),
+        None => print(rt, answer(rt, line)),
+    }
 }
 
 /// What a line comes to that has a frame, a vote or a document; None where it has none.

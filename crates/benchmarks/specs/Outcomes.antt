@@ -6,9 +6,9 @@ use Rattle.endings.specs.Failures.{line_text}
 use Rattle.endings.specs.declared.failure.Failure.{Failure}
 use Rattle.replay.specs.Runs.{IsReplay}
 use Rattle.works.specs.Works.{CheckStops, IsChecked, ReplayStops}
-use Rattle.examples.specs.declared.outcome.Kind.{Kind}
-use Rattle.examples.specs.declared.outcome.Kind.TheVariants.{Schedule, Document}
-use Rattle.examples.specs.declared.outcome.Outcome.{Outcome}
+use Rattle.benchmarks.specs.declared.outcome.Kind.{Kind}
+use Rattle.benchmarks.specs.declared.outcome.Kind.TheVariants.{Schedule, Document}
+use Rattle.benchmarks.specs.declared.outcome.Outcome.{Outcome}
 
 -- the ending of a file that goes into a run
 abbrev pub input_ending : Kind → List ℕ

@@ -2,7 +2,7 @@
 
 ghost use Rattle.std.specs.Prelude.{◌≡◌, ◌≢◌, codes, IfErr, IfOk, MatchOption, OnOk};
 ghost use Rattle.endings.specs.Failures.{line_text};
-ghost use Rattle.examples.specs.Outcomes.{EndsWith, IsOutcome, Makes, input_ending, text_ending};
+ghost use Rattle.benchmarks.specs.Outcomes.{EndsWith, IsOutcome, Makes, input_ending, text_ending};
 
 use endings::Failure;
 use stable::{MemStable, Scripted, Stable};
