@@ -7,7 +7,8 @@
 
 use crate::fault::Fault;
 use crate::outcome::{Kind, Outcome, kind_of, outcome_of};
-use std::fs;
+use std::fs::{self, DirEntry};
+use std::io;
 
 /// Runs all examples, and prints the name of each.
 pub fn run_examples(rt: &HostRuntime) -> Result<(), Fault> {
@@ -32,13 +33,18 @@ fn names_in(rt: &HostRuntime, folder: &str) -> Result<Vec<String>, Fault> {
     };
     let mut names = Vec::new(rt.alloc());
     for entry in entries {
-        let Ok(entry) = entry else {
-            return Err(Fault::Device);
-        };
-        names.push(String::from_str(rt.alloc(), entry.file_name())?)?;
+        names.push(name_of(rt, entry)?)?;
     }
     names.sort()?;
     Ok(names)
+}
+
+/// The name of a file.
+fn name_of(rt: &HostRuntime, entry: io::Result<DirEntry>) -> Result<String, Fault> {
+    match entry {
+        Ok(entry) => Ok(String::from_str(rt.alloc(), entry.file_name())?),
+        Err(_) => Err(Fault::Device),
+    }
 }
 
 /// What the file of this name holds, where it goes into a run, and the name without its ending.
