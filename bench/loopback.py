@@ -4,10 +4,10 @@
     bench/loopback.py [BENCHMARKS [MFPX]]    the two programs; where none is given, `rt run` in crates/benchmarks proves
                                              and builds the first, and the second is crates/mfpx/out/mfpx
 
-A client asks for so many things, 64 at a time, as many as may wait, and all frames are delivered then: 18 for the campaign and its no-op,
-and 12 for each request. `flushed` and `pumped` are words of `benchmarks`, and are told in frames a second of processor time;
-so the two differ by what the index, the queues and the 100 idle passes of a pump cost. Through sockets the same is a schedule that
-`mfpx loopback` runs, told in frames a second of processor time and of the clock, beside `mfpx replay`.
+A client submits requests, 64 at a time, as many as may wait, and all frames are delivered then: 18 for the campaign and its no-op, and
+12 for each request. `flushed` and `pumped` are words of `benchmarks`, in frames a second of processor time; the two differ by the cost of
+the index, the queues and the 100 idle passes of a pump. Through sockets the same is a schedule that `mfpx loopback` runs, in frames a
+second of processor time and of the clock, beside `mfpx replay`.
 """
 
 import os
@@ -73,7 +73,8 @@ def main():
     print("frames a second of processor time, best of %d, on %d cores" % (timing.TRIES, os.cpu_count()))
     for requests in REQUESTS:
         flushed, pumped = through_program(path, requests)
-        print("%6d requests: flushed %12s, pumped %12s, ratio %.2f" % (requests, timing.figure(flushed), timing.figure(pumped), pumped / flushed))
+        figures = timing.figure(flushed), timing.figure(pumped), pumped / flushed
+        print("%6d requests: flushed %12s, pumped %12s, ratio %.2f" % (requests, *figures))
     here = os.path.dirname(os.path.abspath(__file__))
     mfpx = sys.argv[2] if len(sys.argv) > 2 else os.path.join(here, "..", "crates", "mfpx", "out", "mfpx")
     for requests in THROUGH_SOCKETS:

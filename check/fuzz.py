@@ -1,7 +1,7 @@
 #!/usr/bin/env python3
 """Tries the program `mfpx` from outside: with schedules, documents and words that were drawn, or changed at random.
 
-    bench/fuzz.py PROGRAM SEEDS.. [--seconds N] [--runs N] [--seed N] [--kinds K,K..] [--keep FOLDER]
+    check/fuzz.py PROGRAM SEEDS.. [--seconds N] [--runs N] [--seed N] [--kinds K,K..] [--keep FOLDER]
                   [--other PROGRAM [--unlike WORD,WORD..]]
 
 SEEDS are folders. A file that begins with `nodes ` is a schedule to be changed, and one that begins with a brace a document;
@@ -13,10 +13,10 @@ other files, and results that lie beside their inputs, are passed over. Kinds of
     words        words of the command line
     large        a schedule of many lines, a line of many bytes, a document of many points, a log of some hundred slots
 
-Each run has to end by itself within a second (ten, of 64 kB and more; in one of three tries), with status 0 to 3, and with
-standard error as docs/FORMATS.md says. What it says is compared with what `schedules.py` and `plain.py` find: the first faulty
-line and its lowest fault, a document's fault and its place, the canonical document. The transcript of a right schedule has to
-be explained (`explained.py`); one that has too many readings or databases to be judged is counted as undecided. With --other
+Each run has to end by itself within a second (ten, of 64 kB and more; in one of three tries), with status 0 to 3, and with standard
+error as docs/FORMATS.md says. The result is compared with what `reference_parser.py` and `reference_db.py` find: the first faulty line
+and its lowest fault, a document's fault and its place, the canonical document. The transcript of a right schedule has to be explained
+(`one_log.py`); one that has too many readings or databases to be judged is counted as undecided. With --other
 another program of the same meaning is run as well, and has to print the same, unless the input or the words of the command line
 have one of the words of --unlike, which the other one knows and this one doesn't.
 
@@ -34,9 +34,9 @@ import subprocess
 import sys
 import time
 
-import explained
-import plain
-import schedules
+import one_log
+import reference_db
+import reference_parser
 
 KINDS = ("drawn", "changed", "documents", "words", "large")
 LARGE = 64 * 1024
@@ -88,7 +88,7 @@ class Drawing:
         return ["2020-01-01T%02d:%02d:%02d%s" % (s // 3600, s // 60 % 60, s % 60, draw.choice(("Z", ".000Z"))) for s in seconds]
 
     def coordinate(self):
-        return self.draw.choice((0, 0, 1, -1, 2, 3, 5, 7, 10, -10, 100, 9_999_999_999, plain.COORDINATE, -plain.COORDINATE))
+        return self.draw.choice((0, 0, 1, -1, 2, 3, 5, 7, 10, -10, 100, 9_999_999_999, reference_db.COORDINATE, -reference_db.COORDINATE))
 
     def name(self):
         return self.draw.choice(("a", "a", "a", "b", "b", "bus-7", "A.b_c"))
@@ -100,7 +100,7 @@ class Drawing:
         times = ",".join('"%s"' % time for time in self.times(count))
         places = ",".join("[%d,%d]" % (self.coordinate(), self.coordinate()) for _ in range(count))
         inner = ['"type":"MovingPoint"', '"datetimes":[%s]' % times, '"coordinates":[%s]' % places,
-                 '"interpolation":"%s"' % draw.choice(plain.INTERPOLATIONS)]
+                 '"interpolation":"%s"' % draw.choice(reference_db.INTERPOLATIONS)]
         draw.shuffle(inner)
         outer = ['"type":"Feature"', '"id":"%s"' % self.name(), '"temporalGeometry":{%s}' % draw.choice((",", ", ")).join(inner)]
         draw.shuffle(outer)
@@ -117,7 +117,7 @@ class Drawing:
 
     def period(self):
         """Two datetimes, often with marks; where they are equal a mark may leave nothing of the period, which is a fault."""
-        begin, end = sorted((self.time(), self.time()), key=plain.instant)
+        begin, end = sorted((self.time(), self.time()), key=reference_db.instant)
         return "%s%s %s%s" % (self.draw.choice(("", "", "[", "(")), begin, end, self.draw.choice(("", "", "]", ")")))
 
     def rectangle(self):
@@ -386,8 +386,8 @@ class Runs:
     def first_fault(self, data, status, err):
         """The events of a schedule and no fault; or the fault of its first faulty line, with which the run has to end."""
         try:
-            _, events = schedules.read(data)
-        except schedules.Faulty as faulty:
+            _, events = reference_parser.read(data)
+        except reference_parser.Faulty as faulty:
             if (status, err) != (1, b"mfpx: line %d fault %d\n" % (faulty.line, faulty.fault)):
                 raise Failed("not the first faulty line with its lowest fault") from None
             return None, faulty.fault
@@ -407,10 +407,10 @@ class Runs:
         if len(events) > MOST_EVENTS:
             return "too long to judge"
         try:
-            explained.explain(data, out.decode("ascii"), most=MOST_KEPT)
-        except (explained.Unexplained, UnicodeDecodeError) as why:
+            one_log.explain(data, out.decode("ascii"), most=MOST_KEPT)
+        except (one_log.Unexplained, UnicodeDecodeError) as why:
             raise Failed("the transcript is not explained") from why
-        except explained.Undecided:
+        except one_log.Undecided:
             return "undecided"
         return "explained"
 
@@ -418,10 +418,10 @@ class Runs:
         """How a check of a document ended."""
         try:
             try:
-                right = 0, (plain.canonical(*plain.document(data.decode())) + "\n").encode(), b""
+                right = 0, (reference_db.canonical(*reference_db.document(data.decode())) + "\n").encode(), b""
             except UnicodeDecodeError:
-                raise plain.NoDocument(1) from None
-        except plain.NoDocument as fault:
+                raise reference_db.NoDocument(1) from None
+        except reference_db.NoDocument as fault:
             place = b"" if fault.place is None else b" at %d" % fault.place
             right = 1, b"", b"mfpx: document fault %d%s\n" % (fault.fault, place)
         if (status, out, err) != right:
@@ -612,6 +612,7 @@ class Fuzzer:
         print("%-10s %8d runs that put drawn schedules right, judged by their status alone" % ("", self.tries))
         print("%-10s %8d runs past their time that were tried again" % ("", self.runs.late))
         print("%-10s %8d runs compared with the other program" % ("", self.runs.compared))
+        print("%d runs, %d failed" % (sum(self.ends.values()), sum(count for (_, end), count in self.ends.items() if end == "failed")))
 
 
 def main():

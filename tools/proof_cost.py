@@ -1,10 +1,10 @@
 #!/usr/bin/env python3
 """Lists the goals that cost most to prove, by the checker's own steps, which no load of the machine changes.
 
-    steps.py CRATE [COUNT]     from the repository's top, once `rt check` has proved the crate: its work lies in crates/CRATE/out
+    tools/proof_cost.py CRATE [COUNT]     from the repository's top, once `rt check` has proved the crate: its work lies in crates/CRATE/out
 
 A line has the steps of one goal in thousands, the function's path, the goal's name, and the tactics that took most of them. Three million
-steps are about a second. What a function's way through its code costs is not among them, and is most of all (docs/PROOFS.md, the gate).
+steps are about a second. What a function's way through its code costs is not among them, though it is most of all.
 """
 import json
 import os

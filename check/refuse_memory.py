@@ -1,8 +1,10 @@
 #!/usr/bin/env python3
 """Runs `mfpx` again and again, each time with another request for memory refused, and judges how each run ends.
 
-    bench/failmalloc.py [PROGRAM [NAME..]]   PROGRAM is crates/mfpx/out/mfpx, which `rt run` in crates/mfpx builds; the NAMEs
-                                             are of examples, and where none is given all are run: those of thousands of lines take hours
+    check/refuse_memory.py [PROGRAM [NAME..]]
+
+PROGRAM is crates/mfpx/out/mfpx where none is given. The NAMEs are of examples, or paths of files `.schedule` and `.json`; without any
+all examples are run, and those of thousands of lines take hours.
 
 The first run refuses the first request, the second the second, and so on until a run meets no refusal. A run ends well in
 one of these ways:
@@ -14,11 +16,11 @@ one of these ways:
     no frame      status 1 and fault 51 at a line that delivers or drops what was never sent, as a node was down by then
     no memory     status 3, nothing printed, and `mfpx: out of memory`
 
-Each transcript of a schedule of at most 200 lines has to be explained by `explained.py` besides, whatever its end.
+Each transcript of a schedule of at most 200 lines has to be explained by `one_log.py` besides, whatever its end.
 
-A check of a document prints what it prints with ample memory, and ends so, or it ends for want of memory.
+A check of a document ends as with ample memory, or out of memory.
 
-Every other end is told, and the script then ends with 1. It needs gcc, for a malloc that it preloads.
+Every other end is printed, and the script then ends with 1. It needs gcc, for a malloc that it preloads.
 """
 
 import glob
@@ -27,9 +29,10 @@ import subprocess
 import sys
 import tempfile
 
-import explained
+import one_log
 
 HERE = os.path.dirname(os.path.abspath(__file__))
+EXAMPLES = os.path.join(HERE, "..", "examples")
 SHORT = 200
 ENDS = ("right", "stopped", "refused", "began down", "no frame", "no memory")
 
@@ -120,10 +123,10 @@ def one_list_explains(lines, transcript):
         return True
     schedule, told = ("".join(line + "\n" for line in text) for text in (lines, transcript))
     try:
-        explained.explain(schedule.encode(), told, memory=True)
-    except explained.Unexplained:
+        one_log.explain(schedule.encode(), told, memory=True)
+    except one_log.Unexplained:
         return False
-    except explained.Undecided:
+    except one_log.Undecided:
         pass
     return True
 
@@ -134,10 +137,12 @@ def shared(a, b):
 
 
 def with_flushes(lines, number):
-    """The line of this number and all later ones as flushes, with as many bytes."""
+    """The lines, where those that name a frame are flushes from this number on, with as many bytes. The other lines stay, as some of
+    them ask for memory when they are read, and the same request has to be refused."""
     kept = lines[:number - 1]
     for line in lines[number - 1:]:
-        kept += ["flush"] + [""] * (len(line) - len("flush"))
+        names_a_frame = line.split(" ")[0] in ("deliver", "drop")
+        kept += ["flush"] + [""] * (len(line) - len("flush")) if names_a_frame else [line]
     return kept
 
 
@@ -173,7 +178,7 @@ class Job:
         """The same of a run that ended at this line, as its frame was never sent."""
         if self.lines[number - 1].split()[0] not in ("deliver", "drop"):
             return None
-        # What came before that line is told once the run goes on behind it.
+        # What came before that line is printed once the run goes on behind it.
         job = Job(self.runs, with_flushes(self.lines, number), self.words)
         kind = job.judged(refused, self.runs.run(job.lines, self.words, refused))
         return "no frame" if kind in ("stopped", "began down") else None
@@ -223,48 +228,53 @@ def check_each(runs, name, document, words):
         refused += 1
 
 
-def tell(title, words, counts, bad):
-    """Prints a row, and the runs that ended badly. Whether there are any."""
+def report(title, words, counts, bad):
+    """Prints a row, and the runs that ended badly. How many runs there were, and how many of them ended badly."""
     print("%-24s %-14s %8d  %s" % (title, " ".join(words), sum(counts.values()) + len(bad),
                                    "  ".join("%*d" % (len(e), counts[e]) for e in ENDS)))
     for refused, end in bad:
         print("  request %d: status %d, %r, %r" % (refused, end[0], end[1], end[2]))
-    return bool(bad)
+    return sum(counts.values()) + len(bad), len(bad)
 
 
-def named(pattern, names):
-    """The examples whose files fit, those of the names alone if there are any: each name, and its path."""
-    for path in sorted(glob.glob(os.path.join(HERE, "..", "examples", pattern))):
-        name = os.path.splitext(os.path.basename(path))[0]
-        if not names or name in names:
-            yield name, path
+def inputs(suffix, result, names):
+    """The inputs that are run, each with its name and path: examples with such a result beside them, or those among the names."""
+    found = [os.path.splitext(path)[0] + suffix for path in sorted(glob.glob(os.path.join(EXAMPLES, "*" + result)))]
+    found = [path for path in found if not names or title_of(path) in names] + [name for name in names if name.endswith(suffix)]
+    return [(title_of(path), path) for path in found]
+
+
+def title_of(path):
+    return os.path.splitext(os.path.basename(path))[0]
 
 
 def main():
     program = sys.argv[1] if len(sys.argv) > 1 else os.path.join(HERE, "..", "crates", "mfpx", "out", "mfpx")
-    failed = False
+    rows = []
     with tempfile.TemporaryDirectory() as folder:
-        library = os.path.join(folder, "failmalloc.so")
-        subprocess.run(["gcc", "-O2", "-Wall", "-shared", "-fPIC", os.path.join(HERE, "failmalloc.c"), "-o", library, "-ldl"],
+        library = os.path.join(folder, "refuse_memory.so")
+        subprocess.run(["gcc", "-O2", "-Wall", "-shared", "-fPIC", os.path.join(HERE, "refuse_memory.c"), "-o", library, "-ldl"],
                        check=True)
         runs = Runs(os.path.abspath(program), library)
         print("%-24s %-14s %8s  %s" % ("example", "words", "requests", "  ".join(ENDS)))
-        for name, path in named("*.transcript", sys.argv[2:]):
-            with open(os.path.splitext(path)[0] + ".schedule") as file:
+        for name, path in inputs(".schedule", ".transcript", sys.argv[2:]):
+            with open(path) as file:
                 lines = file.read().splitlines()
             for title, tried, words in (
                 (name, lines, []),
                 (name, lines, ["replay", "FILE"]),
                 (name + " +", lines + afterwards(lines), []),
             ):
-                failed |= tell(title, words, *try_each(runs, title, tried, words))
-        for name, path in named("*.json", sys.argv[2:]):
+                rows.append(report(title, words, *try_each(runs, title, tried, words)))
+        for name, path in inputs(".json", ".json", sys.argv[2:]):
             with open(path, "rb") as file:
                 document = file.read()
             for words in ["check", "-"], ["check", "FILE"]:
-                failed |= tell(name, words, *check_each(runs, name, document, words))
+                rows.append(report(name, words, *check_each(runs, name, document, words)))
     print("`+`: followed by a restart and a tick of each node, a flush, and a query of each")
-    sys.exit(1 if failed else 0)
+    tried, wrong = (sum(row[i] for row in rows) for i in range(2))
+    print("%d requests refused, %d runs wrong" % (tried, wrong))
+    sys.exit(1 if wrong else 0)
 
 
 if __name__ == "__main__":

@@ -1,13 +1,14 @@
 #!/usr/bin/env python3
 """Runs schedules with a failure of a node's records put before each of their lines in turn, and judges each transcript.
 
-    bench/faults.py [PROGRAM [FILE..]]   PROGRAM is crates/mfpx/out/mfpx, which `rt run` in crates/mfpx builds; the FILEs are
-                                         schedules, and where none is given three of the examples are run
+    check/storage_faults.py [PROGRAM [FILE..]]
+
+PROGRAM is crates/mfpx/out/mfpx where none is given; the FILEs are schedules, without any three of the examples.
 
 For each node M, and before each line but the first, `fault M old`, then `fault M new`, then `fault M read` with `restart M`
 behind it. Behind the last line each node is restarted and sends again, all frames are delivered, and each is asked for its
-count. A run ends well with status 0 and a transcript that one list explains (`explained.py`), or with fault 51 at a line that
-delivers or drops what was never sent, as a node was down by then. Every other end is told, and the script then ends with 1.
+count. A run ends well with status 0 and a transcript that one list explains (`one_log.py`), or with fault 51 at a line that
+delivers or drops what was never sent, as a node was down by then. Every other end is printed, and the script then ends with 1.
 """
 
 import os
@@ -15,8 +16,8 @@ import re
 import subprocess
 import sys
 
-import explained
-from failmalloc import afterwards, nodes_of
+import one_log
+from refuse_memory import afterwards, nodes_of
 
 HERE = os.path.dirname(os.path.abspath(__file__))
 DATA = os.path.join(HERE, "..", "examples")
@@ -40,8 +41,8 @@ def ended(program, lines):
     if ran.returncode != 0:
         return "status %d: %s" % (ran.returncode, ran.stderr)
     try:
-        explained.explain(text.encode(), ran.stdout)
-    except (explained.Unexplained, explained.Undecided) as fault:
+        one_log.explain(text.encode(), ran.stdout)
+    except (one_log.Unexplained, one_log.Undecided) as fault:
         return str(fault)
     return "explained"
 

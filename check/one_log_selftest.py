@@ -1,7 +1,7 @@
 #!/usr/bin/env python3
-"""Tries the checker `explained.py`: a right run is explained, and one that was changed in one place is not.
+"""Tries the checker `one_log.py`: a right run is explained, and one that was changed in one place is not.
 
-    bench/explained_itself.py FOLDER.. [--longest N] [--seed N] [--changes N]
+    check/one_log_selftest.py FOLDER.. [--longest N] [--seed N] [--changes N]
 
 Each FOLDER has right runs: NAME.schedule with NAME.transcript, or NAME with NAME.stdout and NAME.status 0. Of each run of at
 most N lines of transcript (200) each line is changed in turn: a slot, a command, a reply's request or code, an answer's
@@ -28,8 +28,8 @@ import os
 import random
 import sys
 
-import explained
-import schedules
+import one_log
+import reference_parser
 
 FOUND = "found"
 REASONS = ("another list", "another operation", "another node", "another wait", "another order", "another end", "another put")
@@ -71,7 +71,7 @@ def other_texts(text):
 
 def other_lines(line, requests, nodes):
     """The same line with one entry changed."""
-    told = explained.told_line(line)
+    told = one_log.told_line(line)
     others = [told._replace(node=node) for node in range(nodes) if node != told.node]
     if told.kind in ("learn", "answer"):
         others += [told._replace(number=number) for number in (told.number + 1, told.number - 1, 65536) if number >= 0]
@@ -109,14 +109,14 @@ def changes(lines, requests, nodes):
 def explanation(schedule, lines):
     """What explains the run, or None."""
     try:
-        return explained.explain(schedule, "".join(line + "\n" for line in lines))
-    except explained.Unexplained:
+        return one_log.explain(schedule, "".join(line + "\n" for line in lines))
+    except one_log.Unexplained:
         return None
 
 
 def learnt(lines):
     """The slots and commands that were learnt, whoever did."""
-    told = map(explained.told_line, lines)
+    told = map(one_log.told_line, lines)
     return {(line.number, line.text) for line in told if line.kind == "learn"}
 
 
@@ -146,7 +146,7 @@ def changed_lines(lines, changed):
 
 def try_run(name, schedule, lines, draw, most, counts):
     """Counts what comes of the changes of a run. Whether each was found, or passes for a reason."""
-    nodes, events = schedules.read(schedule)
+    nodes, events = reference_parser.read(schedule)
     requests = sorted({event.request for event in events if event.kind == "submit"})
     if explanation(schedule, lines) is None:
         print("%s: the right run is not explained" % name)

@@ -1,13 +1,13 @@
 #!/usr/bin/env python3
 """Runs the gate and says what it did: what each task took of the processors, how busy these were, and how fast the machine was meanwhile.
 
-    gate.py [LOG]      from the repository's top; the gate's own lines go to LOG, or are dropped
+    tools/gate.py [LOG]      from the repository's top; the gate's own lines go to LOG, or are dropped
 
 Twice a second it looks which checks there are, and how many seconds of a processor each has used; a check that is over before it is
 seen is left out. Once a minute it times two fixed loops of its own, one of sums and one of reads all over 64 MB: a machine whose other
 work is not ours can be slower by half from one minute to the next, which the seconds of a check alone don't tell. Where the machine is a
-guest, its host says how much of the processors' time others had (`steal` of /proc/stat). From nothing is only a run for which nothing is
-kept; the gate's last lines say what was. The table is followed by the dearest wrong bodies, each with the crate's name and its own.
+guest, its host says how much of the processors' time others had (`steal` of /proc/stat). Only a run for which nothing is kept proves all
+from scratch; the gate's last lines say what was kept. The table is followed by the slowest mutants, each with the crate's name and its own.
 """
 import array
 import os
@@ -16,8 +16,8 @@ import sys
 import time
 
 TICKS = os.sysconf("SC_CLK_TCK")
-KINDS = ("proof", "tests", "before", "wrong", "after", "compiling")
-HEADS = ("Proof", "Tests", "Before its wrong bodies", "Wrong bodies", "After them", "Compiling")
+KINDS = ("proof", "tests", "before", "mutant", "after", "compiling")
+HEADS = ("Proof", "Tests", "Before its mutants", "Mutants", "After them", "Compiling")
 
 
 def words_of(pid):
@@ -40,12 +40,12 @@ def task_of(words):
     if "--test" in words:
         return crate, "tests", ""
     if over:
-        return crate, "before" if over.endswith("/seed") else "wrong", over
+        return crate, "before" if over.endswith("/seed") else "mutant", over
     if words[1] == "build" and "--backend" in words:
         return crate, "compiling", ""
-    # a wrong body of a crate that has no other is tried over nothing
+    # the only mutant of a crate is tried over nothing
     is_alone = words[1] == "check" and "-o" not in words and "--empty-contracts" not in words
-    return crate, "wrong" if is_alone else "proof", ""
+    return crate, "mutant" if is_alone else "proof", ""
 
 
 def used(pid):
@@ -93,23 +93,24 @@ def loops(places):
 
 
 def by_crate(seen):
-    """Returns for each crate the seconds of each kind; of wrong bodies those of each."""
+    """Returns for each crate the seconds of each kind; of mutants those of each."""
     crates = {}
     for task, seconds, first in sorted((it for it in seen.values() if it[0]), key=lambda it: it[2]):
         crate, kind, over = task
         kinds = crates.setdefault(crate, {it: {} for it in KINDS})
-        if kind == "before" and kinds["wrong"]:
+        if kind == "before" and kinds["mutant"]:
             kind = "after"
         kinds[kind][over] = kinds[kind].get(over, 0) + seconds
     return crates
 
 
-def dearest(crates, count=20):
-    """Returns the seconds of the dearest wrong bodies, their crates and their names; what is over no seed is alone in its crate."""
+def slowest(crates, count=20):
+    """Returns the seconds of the slowest mutants, their crates and their names; what is over no seed is alone in its crate."""
     found = []
     for crate, kinds in crates.items():
-        names = sorted(it for it in os.listdir(f"crates/{crate}/must-fail") if it.endswith(".edit")) if kinds["wrong"] else []
-        for over, seconds in kinds["wrong"].items():
+        folder = f"crates/{crate}/must-fail"
+        names = sorted(it for it in os.listdir(folder) if it.endswith(".edit")) if os.path.isdir(folder) else []
+        for over, seconds in kinds["mutant"].items():
             number = os.path.basename(over) or "0"
             # (a check of somebody else's has no number)
             if number.isdigit() and int(number) < len(names):
@@ -120,7 +121,7 @@ def dearest(crates, count=20):
 def cell(kind, tasks):
     if not tasks:
         return ""
-    if kind != "wrong":
+    if kind != "mutant":
         return f"{sum(tasks.values()):.0f}"
     return f"{len(tasks)}: {sum(tasks.values()):.0f}, each {min(tasks.values()):.0f} to {max(tasks.values()):.0f}"
 
@@ -145,12 +146,12 @@ def main(log):
     print(f"\n{sum(sums.values()):.0f} seconds: " + ", ".join(f"{head} {sums[kind]:.0f}" for kind, head in zip(KINDS, HEADS)))
     share, lost = ((now_is - it) / max(now - was, 1) for now_is, it in ((is_busy, was_busy), (stolen, was_stolen)))
     minutes = (time.time() - begin) / 60
-    print(f"{minutes:.0f} minutes, the processors busy for {100 * share:.0f} hundredths, of which the host took {100 * lost:.1f}")
+    print(f"{minutes:.0f} minutes, the processors busy for {100 * share:.0f} %, of which the host took {100 * lost:.1f} %")
     print(f"never less than {least:.1f} GB free")
     for name, of in (("sums", 0), ("reads", 1)):
         taken = [it[of] for it in speeds]
         print(f"the loop of {name}: {min(taken):.3f} to {max(taken):.3f} seconds, {sum(taken) / len(taken):.3f} in the mean")
-    for seconds, crate, name in dearest(crates):
+    for seconds, crate, name in slowest(crates):
         print(f"{seconds:.0f} seconds: {crate} {name}")
     return gate.returncode
 

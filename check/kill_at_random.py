@@ -1,7 +1,9 @@
 #!/usr/bin/env python3
 """A run whose nodes keep their records in files, ended by force at random moments.
 
-    bench/killed.py PROGRAM [TRIES] [SEED]     PROGRAM is the built `mfpx`; 200 tries and seed 1 where none are given
+    check/kill_at_random.py PROGRAM [TRIES] [SEED]
+
+PROGRAM is the built `mfpx`; 200 tries and seed 1 where none are given.
 
 The schedule delivers one frame a line, so a line makes at most one put at a node. What each beginning of it leaves in each node's file is
 known from undisturbed runs. After a run that was killed, each node's file, opened with the log that lies beside it, has the records of

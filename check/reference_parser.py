@@ -1,4 +1,4 @@
-"""Reads the lines of a schedule after docs/FORMATS.md alone, and tells the first faulty line with its lowest fault.
+"""Reads the lines of a schedule after docs/FORMATS.md alone, and reports the first faulty line with its lowest fault.
 
 An event is its line's number, its kind, and what the kind needs: `Event(3, "submit", 0, "7:1", ("remove", "bus-7"))`.
 """
@@ -6,7 +6,7 @@ An event is its line's number, its kind, and what the kind needs: `Event(3, "sub
 import re
 from typing import Any, NamedTuple
 
-import plain
+import reference_db
 
 NODES = {b"nodes 3": 3, b"nodes 5": 5, b"nodes 7": 7}
 LARGEST = 2**64 - 1
@@ -50,27 +50,28 @@ def number(word, lowest, highest, form=UNSIGNED):
 
 
 def name(word):
-    if not plain.ID.fullmatch(word):
+    if not reference_db.ID.fullmatch(word):
         raise Fault(5)
     return word
 
 
 def time(word):
-    instant = plain.instant(word)
+    instant = reference_db.instant(word)
     if instant is None:
         raise Fault(5)
     return instant
 
 
 def coordinate(word):
-    return number(word, -plain.COORDINATE, plain.COORDINATE, SIGNED)
+    return number(word, -reference_db.COORDINATE, reference_db.COORDINATE, SIGNED)
 
 
 def period(words):
     """A begin, before which a mark may stand, and an end, behind which one may stand."""
     begin, end = words
     begin_in, end_in = not begin.startswith("("), not end.endswith(")")
-    at = plain.Period(time(begin[1:] if begin[:1] in ("[", "(") else begin), time(end[:-1] if end[-1:] in ("]", ")") else end), begin_in, end_in)
+    begin, end = begin[1:] if begin[:1] in ("[", "(") else begin, end[:-1] if end[-1:] in ("]", ")") else end
+    at = reference_db.Period(time(begin), time(end), begin_in, end_in)
     if at.begin > at.end or at.begin == at.end and not (begin_in and end_in):
         raise Fault(5)
     return at
@@ -117,13 +118,13 @@ def operation(words):
     if kind == "append":
         return kind, name(rest[0]), (time(rest[1]), coordinate(rest[2]), coordinate(rest[3]))
     try:
-        return (kind, *plain.document(rest[0]))
-    except plain.NoDocument:
+        return (kind, *reference_db.document(rest[0]))
+    except reference_db.NoDocument:
         raise Fault(6) from None
 
 
 def query(words):
-    """What is asked: the words from the kind on, as `plain.answer` takes them."""
+    """What is asked: the words from the kind on, as `reference_db.answer` takes them."""
     kind, rest = words[0], words[1:]
     if kind == "count":
         return (kind,)

@@ -1,7 +1,7 @@
 """A plain database of its own: documents, operations, and the texts of queries, worked out slowly and with fractions.
 
 It is written after docs/FORMATS.md and docs/SPECIFICATION.md alone, and shares nothing with the crates. A sequence is its
-interpolation and a tuple of points (t, x, y), t in milliseconds and x, y in millimetres. `explained.py` stands on it.
+interpolation and a tuple of points (t, x, y), t in milliseconds and x, y in millimetres. `one_log.py` stands on it.
 """
 
 import datetime

@@ -1,14 +1,16 @@
 #!/usr/bin/env python3
 """Runs of the program whose nodes keep their records in files.
 
-    bench/records.py PROGRAM SCHEDULES
+    check/records_on_disk.py PROGRAM SCHEDULES [COUNT [SEED]]
 
-PROGRAM is the built `mfpx`, SCHEDULES a folder of schedules: all files in it but those whose names end as what is wanted of them does.
-Each schedule is run over an empty folder: it ends and prints as in memory, and leaves one file for each node and nothing beside
-it, which Python's SQLite reads. A file that is no schedule leaves the folder empty. Run again it prints nothing, tells fault 55,
-ends with 1, and leaves every file as it was. A folder that isn't there is a device.
+PROGRAM is the built `mfpx`, SCHEDULES a folder of schedules, of which so many are drawn where COUNT says so; results that are in it
+beside their inputs are passed over. Each schedule
+is run over an empty folder: it ends and prints as in memory, and leaves one file for each node and nothing beside it, which Python's
+SQLite reads. A file that is no schedule leaves the folder empty. Run again it prints nothing, reports fault 55, ends with 1, and leaves
+every file as it was. A folder that isn't there is `mfpx: device`.
 """
 import os
+import random
 import sqlite3
 import subprocess
 import sys
@@ -22,7 +24,7 @@ def run(program, schedule, *more):
 
 
 # How the names of files end that say what is wanted.
-WANTED = (".transcript", ".canonical", ".json", ".stdout", ".stderr", ".status")
+WANTED = (".transcript", ".canonical", ".error", ".json", ".stdout", ".stderr", ".status")
 
 IN_USE = (1, b"", b"mfpx: fault 55\n")
 NO_FOLDER = (3, b"", b"mfpx: device\n")
@@ -55,7 +57,7 @@ def rows_of(path):
 
 
 def are_records(rows):
-    """Whether keys and values have the forms that docs/FORMATS.md tells."""
+    """Whether keys and values have the forms of docs/FORMATS.md."""
     for key, value in rows:
         if key in (b"P", b"R"):
             good = len(value) == (9 if key == b"P" else 8)
@@ -96,9 +98,11 @@ def failures_of(program, schedule):
 
 
 def main():
-    program, folder = sys.argv[1:3]
+    program, folder, *drawn = sys.argv[1:]
     failed = 0
     names = [n for n in sorted(os.listdir(folder)) if n != "words" and not n.endswith(WANTED)]
+    if drawn:
+        names = random.Random(int(drawn[-1])).sample(names, min(int(drawn[0]), len(names)))
     for name in names:
         schedule = os.path.join(folder, name)
         for told in failures_of(os.path.abspath(program), schedule):

@@ -1,7 +1,9 @@
 #!/usr/bin/env python3
 """Tries how frames are read: bytes that were drawn or changed at random, each judged by a reader that shares no code with the crates.
 
-    bench/fuzz_frames.py [PROGRAM] [--seconds N] [--runs N] [--seed N]     PROGRAM is crates/benchmarks/out/benchmarks where none is given
+    check/fuzz_frames.py [PROGRAM] [--seconds N] [--runs N] [--seed N]
+
+PROGRAM is crates/benchmarks/out/benchmarks where none is given.
 
 Frames of all kinds are drawn among 3, 5 or 7 nodes, and most of them are changed: a byte that is another one, bytes that are left out,
 told again or cut off, a number within them that is at an end of its range, a part of another frame. The program is handed some
@@ -156,7 +158,8 @@ class Drawing:
     def number(self, size, most, least=0):
         """A number of so many bytes from the least to the most, often at an end."""
         draw = self.draw
-        value = draw.choice((least, most, draw.randint(least, most), draw.randint(least, min(most, least + 9)), max(least, most - draw.randrange(3))))
+        between, low = draw.randint(least, most), draw.randint(least, min(most, least + 9))
+        value = draw.choice((least, most, between, low, max(least, most - draw.randrange(3))))
         return value.to_bytes(size, "big", signed=value < 0)
 
     def ballot(self, rounds=2**64 - 1, least=1):
@@ -183,7 +186,11 @@ class Drawing:
         if draw.random() < 0.3:
             return b"\0"
         kind = draw.randint(1, 3)
-        rest = {1: lambda: bytes([draw.randint(1, 3)]) + self.points(), 2: lambda: self.number(8, LAST_INSTANT) + self.coordinates(), 3: lambda: b""}
+        rest = {
+            1: lambda: bytes([draw.randint(1, 3)]) + self.points(),
+            2: lambda: self.number(8, LAST_INSTANT) + self.coordinates(),
+            3: lambda: b"",
+        }
         return b"\1" + bytes([draw.randrange(256)]) + self.number(8, 2**64 - 1, 1) + bytes([kind]) + self.name() + rest[kind]()
 
     def promise(self):
@@ -276,7 +283,8 @@ def main():
         drawing = Drawing(draw, nodes)
         wrong += judged(asked.program, [(nodes, drawing.handed()) for _ in range(FRAMES_A_RUN)], counts)
         runs += 1
-    print("%d runs, %d frames: %s; %d wrong" % (runs, sum(counts.values()), ", ".join("%s %d" % it for it in sorted(counts.items())), wrong))
+    kinds = ", ".join("%s %d" % it for it in sorted(counts.items()))
+    print("%d runs, %d frames: %s; %d wrong" % (runs, sum(counts.values()), kinds, wrong))
     return 1 if wrong else 0
 
 

@@ -1,13 +1,14 @@
 #!/usr/bin/env python3
 """Floods the sockets of `mfpx loopback` with datagrams that it never sent, and judges what it prints.
 
-    bench/flood.py [MFPX [RUNS]]     MFPX is crates/mfpx/out/mfpx where none is given
+    check/udp_flood.py [MFPX [RUNS]]     MFPX is crates/mfpx/out/mfpx where none is given
 
-A client asks for so many things of one leader, 64 at a time. While the program runs, its sockets of 127.0.0.1 are found in
-/proc and sent noise, cut frames and frames of the protocol that nobody sent: a Decided that nothing was done at a slot. Datagrams may be lost then, as the system's buffers overflow, so
-lines may be missing, and requests are refused (44) while too many wait. What is printed has to be right all the same: no two nodes
-learn different commands for a slot and none learns one twice; only what was asked is learnt, or a no-op; and each reply is
-that of the commands learnt up to it, each request once (21, as there is no such feature; 31 and 32 by the client's numbers).
+A client submits 4,000 requests to one leader, 64 at a time. While the program runs, its sockets of 127.0.0.1 are found in /proc and
+sent noise, cut frames and frames of the protocol that nobody sent: a Decided with a no-op for a slot. Datagrams may be lost then, as
+the system's buffers overflow. So lines may be missing, and requests are refused (44) while too many wait. What is printed has to be
+right all the same: no two nodes learn different commands for a slot and none learns one twice; only what was submitted is learnt, or
+a no-op; and each reply is that of the commands learnt up to it, each request once (21, as there is no such feature; 31 and 32 by the
+client's numbers).
 """
 
 import os
@@ -39,7 +40,7 @@ def sockets_of(pid):
 
 
 def datagrams(draw):
-    """Noise; a cut Prepare; a Decided from node 1 that nothing is done at a slot."""
+    """Noise; a cut Prepare; a Decided from node 1 with a no-op for a slot."""
     slot = draw.randrange(REQUESTS)
     return (
         draw.randbytes(draw.randrange(64)),

@@ -1,7 +1,7 @@
 #!/usr/bin/env python3
-"""Times the parts of a node, which hold little or much by then: calls a second.
+"""Times the roles of a node, which hold little or much by then: calls a second.
 
-    bench/parts.py [PROGRAM]         PROGRAM is crates/benchmarks/out/benchmarks; where none is given, `rt run` in
+    bench/roles.py [PROGRAM]         PROGRAM is crates/benchmarks/out/benchmarks; where none is given, `rt run` in
                                      crates/benchmarks proves and builds it first
 
 `tellings` tells a learner of three nodes that has learnt so many slots: every other time of a slot that it has still to
@@ -11,7 +11,7 @@ with a vote or another on. `proposals` has a leader at which so many requests wa
 and take in another one, with a new leader after 1,024 rounds. `overlapping` asks a time index of so many entries for
 another ten seconds each round.
 
-How fast it fills is told as well: the tellings by which the learner learns its slots, two for each, and the votes that
+How fast it fills is printed as well: the tellings by which the learner learns its slots, two for each, and the votes that
 the acceptor casts.
 """
 

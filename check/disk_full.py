@@ -1,10 +1,12 @@
 #!/usr/bin/env python3
 """A run whose nodes keep their records in files, on a device that gets full.
 
-    bench/full.py PROGRAM [FOLDER]     PROGRAM is the built `mfpx`; FOLDER, where it is given, lies on a small file system of its own
+    check/disk_full.py PROGRAM [FOLDER]
+
+PROGRAM is the built `mfpx`; FOLDER, where it is given, is on a small file system of its own.
 
 Without FOLDER no file may grow past a limit, for ever greater limits: the system refuses the write then, as it does on a full device.
-Nodes stop with 46, and nothing that was told is lost: whatever a node learnt has its vote in the files of a majority, and a node that
+Nodes stop with 46, and nothing that was printed is lost: whatever a node learnt has its vote in the files of a majority, and a node that
 stopped holds the records of some beginning of the undisturbed run. With FOLDER, which is emptied before each run, the same is asked
 while a file of ballast leaves it ever more room.
 """
@@ -16,7 +18,7 @@ import subprocess
 import sys
 import tempfile
 
-from killed import NODES, left_by, records
+from kill_at_random import NODES, left_by, records
 
 REQUESTS = 40
 KILOBYTE = 1024

@@ -1,18 +1,18 @@
 #!/usr/bin/env python3
-"""Says whether one list of commands explains all that a run of `mfpx replay` told.
+"""Says whether one list of commands explains all that a run of `mfpx replay` printed.
 
-    bench/explained.py SCHEDULE TRANSCRIPT [--memory] [--most N] [--list]
+    check/one_log.py SCHEDULE TRANSCRIPT [--memory] [--most N] [--list]
 
 SCHEDULE is what was run, and TRANSCRIPT is what the program printed. Nothing is taken from the program or its crates. Two
 things are looked for:
 
-1. A reading: which line of the transcript was told by which line of the schedule. Only a query tells an answer, a node that
-   is down tells nothing but `refuse NODE 41`, a slot is learnt once in a node's life, replies follow the slot that they
-   rest on, a submission is refused where 64 others wait, and so on. What a frame does is not known: any delivery may tell
+1. A reading: which line of the schedule printed which line of the transcript. Only a query prints an answer, a node that
+   is down prints nothing but `refuse NODE 41`, a slot is learnt once in a node's life, replies follow the slot that they
+   rest on, a submission is refused where 64 others wait, and so on. What a frame does is not known: any delivery may print
    what any frame could. All readings are kept.
 2. A list: each learnt slot has the one command that all nodes learnt there, a no-op or a request that was submitted and
    accepted by then, with the operation of one of its submissions; each reply and each answer at a position is, byte for
-   byte, that of a plain database (`plain.py`) that executed so many entries of the list, each request once. All lists are
+   byte, that of a plain database (`reference_db.py`) that executed so many entries of the list, each request once. All lists are
    kept, as long as their databases differ.
 
 It prints `explained` and ends with 0, or the first line that no list explains and ends with 1, or `undecided` and ends with
@@ -24,8 +24,8 @@ import argparse
 import sys
 from typing import NamedTuple
 
-import plain
-import schedules
+import reference_db
+import reference_parser
 
 MOST_SLOTS = 65536
 MOST_WAITING = 64
@@ -58,7 +58,7 @@ class Told(NamedTuple):
 
 
 def natural(word):
-    if not schedules.UNSIGNED.fullmatch(word):
+    if not reference_parser.UNSIGNED.fullmatch(word):
         raise ValueError(word)
     return int(word)
 
@@ -212,7 +212,7 @@ class Reader:
         armed = reading.armed & bit and line.number == 46
         if not armed and not (self.memory and line.number == MEMORY) or reading.down & bit:
             return []
-        # Want of memory may come before the put or after it.
+        # Memory may run out before the put or after it.
         disarmed = [reading.armed & ~bit] if armed else {reading.armed, reading.armed & ~bit}
         return [reading._replace(line=reading.line + 1, down=reading.down | bit, armed=left,
                                  learnt=changed(reading.learnt, line.node, 0),
@@ -346,7 +346,8 @@ class Reader:
         line = self.next(behind)
         if line and line.text.startswith("low ") and behind.line == before.line:
             ballot = line.text[len("low "):].split(".")
-            if len(ballot) == 2 and all(map(schedules.UNSIGNED.fullmatch, ballot)) and int(ballot[0]) and int(ballot[1]) < self.nodes:
+            is_ballot = len(ballot) == 2 and all(map(reference_parser.UNSIGNED.fullmatch, ballot))
+            if is_ballot and int(ballot[0]) and int(ballot[1]) < self.nodes:
                 return self.ended(behind, node, line.text)
         return []
 
@@ -428,7 +429,7 @@ class Lists:
     def apply(self, world, client, operation, codes):
         """What a database, with the replies that are kept, comes to by an operation; None where its reply is another."""
         database, kept, done = world
-        reply, after = plain.applied(database, operation)
+        reply, after = reference_db.applied(database, operation)
         return (after, {**kept, client: reply}, done + (operation,)) if codes <= {reply} else None
 
     def distinct(self, worlds):
@@ -443,10 +444,10 @@ class Lists:
     def answer(self, database, query):
         """The text that answers a query; that of one feature is worked out once."""
         if query[0] in ("count", "within"):
-            return plain.answer(database, query)
+            return reference_db.answer(database, query)
         key = (query, database.get(query[1]))
         if key not in self.texts:
-            self.texts[key] = plain.answer(database, query)
+            self.texts[key] = reference_db.answer(database, query)
         return self.texts[key]
 
 
@@ -467,7 +468,7 @@ class Explanation(NamedTuple):
 
 def explain(schedule, transcript, memory=False, most=100_000):
     """The explanation of a run; or `Unexplained`, or `Undecided`. The schedule is right, and its bytes were run."""
-    nodes, events = schedules.read(schedule)
+    nodes, events = reference_parser.read(schedule)
     reader = Reader(nodes, events, told_lines(transcript), memory, most)
     first = None
     for reading in {reading[-3:]: reading for reading in reader.run()}.values():
@@ -493,7 +494,7 @@ def main():
         transcript = file.read()
     try:
         explanation = explain(schedule, transcript, words.memory, words.most)
-    except schedules.Faulty as fault:
+    except reference_parser.Faulty as fault:
         sys.exit("%s has fault %d in line %d, so nothing is to be explained" % (words.schedule, fault.fault, fault.line))
     except Unexplained as fault:
         print(fault)
