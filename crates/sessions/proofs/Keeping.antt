@@ -1,12 +1,12 @@
 -- What a machine keeps and answers is that of each list that it stands for.
-use Rattle.std.proofs.Common.{◌≡◌, ℕ, ◌<◌, ◌≤◌, inl, inr, List, [], length, Option, Some, None, sym, ap, ◌∙◌, subst, arith}
+use Rattle.std.proofs.Common.{◌≡◌, ℕ, suc, ◌<◌, ◌≤◌, inl, inr, List, [], ◌∷◌, length, Option, Some, None, refl, sym, ap, ◌∙◌, subst, arith}
 use Rattle.std.proofs.lemmas.Bool.Decides.{nat_tests}
 use Rattle.store.specs.Answers.{IsAnswer}
 use Rattle.store.specs.Operations.{reply}
 use Rattle.store.specs.declared.query.Query.{Query}
 use Rattle.store.specs.declared.reply.Reply.{Reply}
 use Rattle.mfjson.specs.declared.feature.Feature.{Feature}
-use Rattle.sessions.specs.Machines.{MachineState, kept_of}
+use Rattle.sessions.specs.Machines.{MachineState, IsMachine, kept_of}
 use Rattle.sessions.specs.Meaning.{Database, HasCounted, Execution, IsLastOf}
 use Rattle.sessions.specs.Sessions.{session_of}
 use Rattle.sessions.specs.Standing.{IsKeptOf, StandsFor, KeepsLast, AnswersAll}
@@ -27,7 +27,7 @@ stands_for_nothing m no_features no_sessions = record {
 }
 
 -- ---- what is kept
-kept_same : (k : Session) (number : ℕ) (told : Reply) → kept_of (Some k) number ≡ Some told →
+pub kept_same : (k : Session) (number : ℕ) (told : Reply) → kept_of (Some k) number ≡ Some told →
     (k.number ≡ number) × (k.reply ≡ told)
 kept_same k number told h = elim (same_number k.number number) [
   | inl same ↦
@@ -53,7 +53,7 @@ module _ (l : List Command) (e : Execution l) (client number : ℕ) (told : Repl
       subst (λ (r : Reply). IsLastOf e client number r) same.1
       (subst (λ n. IsLastOf e client n k.reply) same.0 kept)
 
-  kept_when_last : (o : Option Session) → IsKeptOf e client o → (f : Execution l) → IsLastOf f client number told →
+  pub kept_when_last : (o : Option Session) → IsKeptOf e client o → (f : Execution l) → IsLastOf f client number told →
       kept_of o number ≡ Some told
   kept_when_last None none f last = absurd (none number (counted_back l e f (length l) client number last.counted))
   kept_when_last (Some k) kept f last =
@@ -100,3 +100,29 @@ answers_all m query text answer = record {
     says = subst (λ (fs : List Feature). IsAnswer fs query text) s.features answer;
   };
 }
+
+-- ---- a list has one machine
+module _ (l : List Command) (e f : Execution l) (client : ℕ) where
+  one_session : (o p : Option Session) → IsKeptOf e client o → IsKeptOf f client p → o ≡ p
+  one_session None None a b = refl
+  one_session None (Some k) a b = absurd (a k.number (counted_back l e f (length l) client k.number b.counted))
+  one_session (Some k) None a b = absurd (b k.number (counted_too l e f (length l) client k.number a.counted))
+  one_session (Some k) (Some j) a b =
+      let same = kept_same k j.number j.reply (kept_when_last l e client j.number j.reply (Some k) a f b) in
+      let is : k ≡ j = λ i. record { number = same.0 i; reply = same.1 i } in
+      ap (λ (s : Session). Some s) is
+
+same_tables : (t u : List (Option Session)) → length t ≡ length u → ((client : ℕ) → session_of t client ≡ session_of u client) → t ≡ u
+same_tables [] [] len same = refl
+same_tables [] (o ∷ u) len same = absurd (omega (arith, len))
+same_tables (o ∷ t) [] len same = absurd (omega (arith, len))
+same_tables (o ∷ t) (p ∷ u) len same =
+    ap (λ (x : Option Session). x ∷ t) (same 0)
+    ∙ ap (λ (x : List (Option Session)). p ∷ x) (same_tables t u (omega (arith, len)) (λ client. same (suc client)))
+
+pub one_machine : (l : List Command) (m n : MachineState) → IsMachine m → IsMachine n → StandsFor m l → StandsFor n l → m ≡ n
+one_machine l m n is_m is_n s t =
+    let features : m.features ≡ n.features = s.features ∙ same_before l s.execution t.execution (length l) ∙ sym t.features in
+    let sessions : m.sessions ≡ n.sessions = same_tables m.sessions n.sessions (is_m.clients ∙ sym is_n.clients)
+    (λ client. one_session l s.execution t.execution client _ _ (s.sessions client) (t.sessions client)) in
+    λ i. record { features = features i; sessions = sessions i }

@@ -4,3 +4,9 @@ pub mod Longer
 pub mod Turns
 pub mod Standing
 pub mod Keeping
+pub mod TableLemmas
+pub mod ReadLoops
+pub mod TextLaws
+pub mod Snapshots
+pub mod SpellingLemmas
+pub mod PlaceLemmas

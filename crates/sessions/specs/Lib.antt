@@ -5,3 +5,6 @@ pub mod Outcomes
 pub mod Sessions
 pub mod Machines
 pub mod Standing
+pub mod Snapshots
+pub mod Tables
+pub mod Restoring

@@ -1,6 +1,8 @@
--- The numbers of outcomes.
+-- The numbers of outcomes, and of faults.
 use Rattle.std.specs.Prelude.{ℕ}
 use Rattle.store.specs.Replies.{reply_code}
+use Rattle.sessions.specs.declared.fault.SnapFault.{SnapFault}
+use Rattle.sessions.specs.declared.fault.SnapFault.TheVariants.{Damaged, Memory}
 use Rattle.sessions.specs.declared.outcome.Outcome.{Outcome}
 use Rattle.sessions.specs.declared.outcome.Outcome.TheVariants.{Applied, Past, Gap}
 
@@ -8,3 +10,8 @@ abbrev pub outcome_code : Outcome → ℕ
 outcome_code (Applied reply) = reply_code reply
 outcome_code Past = 31
 outcome_code Gap = 32
+
+-- why a text was not restored
+abbrev pub snap_code : SnapFault → ℕ
+snap_code Damaged = 1
+snap_code Memory = 2

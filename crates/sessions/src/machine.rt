@@ -1,17 +1,22 @@
 //! The machine.
 
-ghost use Rattle.std.specs.Prelude.{◌≡◌, ℕ, ◌≤◌, ◌<◌, [], length, IsOk, IfOk, OnOk, OnErr};
+ghost use Rattle.std.specs.Prelude.{◌≡◌, ◌≢◌, ℕ, ◌≤◌, ◌<◌, [], length, IsOk, IfOk, OnOk, OnErr, IsErrOf};
 ghost use Rattle.store.specs.Answers.{IsAnswer};
 ghost use Rattle.sessions.specs.Machines.{after_command, after_request, reply_to_command, reply_to_request};
 ghost use Rattle.sessions.specs.Machines.{is_next, told_of, kept_of, IsMachine, TakesNoMemory, RequestTakesNoMemory};
+ghost use Rattle.sessions.specs.Machines.{MachineState};
 ghost use Rattle.sessions.specs.Sessions.{session_of};
+ghost use Rattle.sessions.specs.Snapshots.{MachineFits, TellsEach, StandsForEach, snapshot_bytes};
 ghost use Rattle.sessions.specs.Standing.{StandsFor, StandsForOneMore, RepliesOneMore, KeepsLast, AnswersAll};
 
 use crate::command::Command;
+use crate::fault::SnapFault;
 use crate::number::Number;
 use crate::outcome::Outcome;
 use crate::request::Request;
+use crate::restoring::read_snapshot;
 use crate::session::{Session, Sessions};
+use crate::snapshot::{LONGEST_SNAPSHOT, snapshot_text};
 use std::alloc::{AllocError, Global};
 use std::cmp::Ordering;
 use std::marker::Model;
@@ -97,6 +102,30 @@ impl Machine {
         ensures machine { IsMachine self.now }
     {
         self.db.answer(alloc, query)
+    }
+
+    /// The snapshot text of the machine: that of each list that it stands for. It is written in one piece of memory.
+    pub fn snapshot(&self, alloc: Global) -> Result<Vec<u8>, AllocError>
+        ensures spelled { IfOk result (λ text. text.items ≡ snapshot_bytes self.now) }
+        ensures of_each_list { IfOk result (λ text. TellsEach self.now text.items) }
+        ensures least { IfOk result (λ text. 4 ≤ length text.items) }
+        ensures most { IfOk result (λ text. length text.items ≤ LONGEST_SNAPSHOT) }
+        ensures fits { OnOk result (MachineFits self.now) }
+    {
+        snapshot_text(alloc, &self.db, &self.sessions)
+    }
+
+    /// The machine with this snapshot text. Bytes that are the text of no machine are `Damaged`, and no others.
+    pub fn restore(alloc: Global, bytes: &[u8]) -> Result<Machine, SnapFault>
+        ensures restored { IfOk result (λ m. snapshot_bytes m ≡ bytes.now) }
+        ensures fits { IfOk result MachineFits }
+        ensures stands { IfOk result (λ m. StandsForEach bytes.now m) }
+        ensures machine { IfOk result IsMachine }
+        ensures damaged { IsErrOf result SnapFault.Damaged
+            → (m : MachineState) → MachineFits m → snapshot_bytes m ≢ bytes.now }
+    {
+        let (db, sessions) = read_snapshot(alloc, bytes)?;
+        Ok(Machine { db, sessions })
     }
 
     fn execute_request(&mut self, request: &Request) -> Result<Outcome, AllocError>

@@ -16,6 +16,13 @@ pub struct Session {
     pub reply: Reply,
 }
 
+/// What is kept of one client.
+#[derive(Clone, Copy)]
+pub struct Held {
+    pub client: u8,
+    pub session: Session,
+}
+
 /// What is kept of each client. A client's is found by its number, without a search.
 #[derive(Drop)]
 pub struct Sessions {
@@ -52,8 +59,16 @@ impl Sessions {
         self.table[usize::from(client)]
     }
 
+    /// What is kept of each client, from client 0 on.
+    pub fn places(&self) -> &[Option<Session>]
+        ensures { result.now ≡ self.now }
+    {
+        &self.table
+    }
+
     /// Keeps this of the client from now on.
     pub fn keep(&mut self, client: u8, session: Session)
+        ensures in_table { client < length self.old }
         ensures table { self.new ≡ with_session self.old client session }
         ensures kept { session_of self.new client ≡ Some session }
         ensures clients { length self.new ≡ length self.old }

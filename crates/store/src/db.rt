@@ -1,6 +1,6 @@
 //! The database.
 
-ghost use Rattle.std.specs.Prelude.{◌≡◌, ◌+◌, ◌<◌, ℕ, List, ◌∷◌, ◌++◌, [], false, length, IsTrue, IsOk, IfOk, IfErr, OnOk, OnErr};
+ghost use Rattle.std.specs.Prelude.{◌≡◌, ◌+◌, ◌<◌, ◌≤◌, ℕ, Some, MatchOption, slice_get, List, ◌∷◌, ◌++◌, [], false, length, IsTrue, IsOk, IfOk, IfErr, OnOk, OnErr};
 ghost use Rattle.std.specs.Option.{option_copied};
 ghost use Rattle.store.specs.Answers.{IsAnswer};
 ghost use Rattle.store.specs.Features.{IsDatabase, feature_of};
@@ -88,26 +88,63 @@ impl Db {
         ensures { IfOk result (λ text. IsAnswer self.now query.now text.items) }
     {
         match query {
-            Query::At(id, t) => at_text(alloc, self.feature(id), *t),
-            Query::Cut(id, period) => cut_text(alloc, self.feature(id), period),
+            Query::At(id, t) => at_text(alloc, self.found(id), *t),
+            Query::Cut(id, period) => cut_text(alloc, self.found(id), period),
             Query::Ever(id, period, area) => {
                 let answer = self
-                    .feature(id)
+                    .found(id)
                     .map(|feature| ever(&feature.seq, period, area));
                 tri_answer(alloc, b"ever ", answer)
             }
             Query::Always(id, period, area) => {
                 let answer = self
-                    .feature(id)
+                    .found(id)
                     .map(|feature| always(&feature.seq, period, area));
                 tri_answer(alloc, b"always ", answer)
             }
             Query::Within(period, area) => {
                 within_text(alloc, &self.features, &self.index, period, area)
             }
-            Query::Get(id) => document_text(alloc, self.feature(id)),
+            Query::Get(id) => document_text(alloc, self.found(id)),
             Query::Count => count_text(alloc, self.features.len()),
         }
+    }
+
+    /// How many features there are.
+    pub fn len(&self) -> u32
+        ensures value { result ≡ length self.now }
+        ensures database { IsDatabase self.now }
+    {
+        // At most `MOST_FEATURES`, so none is lost.
+        self.features.len() as u32
+    }
+
+    /// The feature at a place of the byte order of ids, from 0 on, or None behind the last.
+    pub fn feature(&self, at: u32) -> Option<(&Id, &Seq)>
+        ensures { MatchOption result (length self.now ≤ at)
+            (λ f. slice_get self.now at ≡ Some (record { id = f.0.now; seq = f.1.now })) }
+    {
+        let feature = self.features.get(at as usize)?.feature();
+        Some((&feature.id, &feature.seq))
+    }
+
+    /// Adds a feature whose id comes after those of all others. Its sequence is taken as it is. Where
+    /// a growth was refused the database is as it was.
+    pub fn push(&mut self, id: Id, seq: Seq) -> Result<(), AllocError>
+        requires room { length self.old < MOST_FEATURES }
+        requires last { IsGap self.old id (length self.old) }
+        ensures added { OnOk result (self.new ≡ self.old ++ record { id = id; seq = seq } ∷ []) }
+        ensures err { OnErr result (self.new ≡ self.old) }
+    {
+        // All that grows is grown before the features change.
+        self.features.try_reserve(1)?;
+        let span = seq.span();
+        let held = Held::holding(*self.features.allocator(), id, seq)?;
+        self.index
+            .insert_at(self.features.len(), id, span.begin(), span.end())?;
+        // It has its room, so nothing is refused.
+        let _ = self.features.push(held);
+        Ok(())
     }
 
     fn put(&mut self, id: &Id, seq: &Seq) -> Result<Reply, AllocError>
@@ -191,7 +228,7 @@ impl Db {
     }
 
     /// The feature with the id.
-    fn feature(&self, id: &Id) -> Option<&Feature>
+    fn found(&self, id: &Id) -> Option<&Feature>
         ensures { option_copied result ≡ feature_of self.now id.now }
     {
         match self.place(id) {

@@ -29,7 +29,13 @@ impl Held {
     pub fn new(alloc: Global, id: Id, seq: &Seq) -> Result<Held, AllocError>
         ensures { IfOk result (λ held. held ≡ record { id = id; seq = seq.now }) }
     {
-        let seq = seq.clone()?;
+        Held::holding(alloc, id, seq.clone()?)
+    }
+
+    /// The feature with this id and this sequence.
+    pub fn holding(alloc: Global, id: Id, seq: Seq) -> Result<Held, AllocError>
+        ensures { IfOk result (λ held. held ≡ record { id = id; seq = seq }) }
+    {
         let feature = Box::new(alloc, Feature { id, seq })?;
         Ok(Held { feature })
     }

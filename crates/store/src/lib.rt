@@ -1,12 +1,10 @@
-//! The plain database: features by their ids, changed by operations and asked by queries.
+//! The plain database: features by id, changed by operations and asked by queries.
 //!
-//! `Db::apply` carries out one operation and tells its reply, and `Db::answer` gives the text of a
-//! query. What an operation makes of a database stands in `specs/Operations.antt`, over a list of
-//! features that ascends by their ids, and what a text must say in `specs/Answers.antt`, by the
-//! meanings of values, cuts, ever and always. Want of memory leaves a database as it was.
+//! `Db::apply` executes one operation and returns its reply, and `Db::answer` returns the text of a query.
+//! `specs/Operations.antt` defines an operation's effect on a list of features in the order of their ids, and
+//! `specs/Answers.antt` the text, by values, cuts, ever and always. After an error a database is unchanged.
 //!
-//! A feature is found by a binary search. `Query::Within` asks the features that an index over time
-//! finds in its period, and no other.
+//! A feature is found by binary search. `Query::Within` asks the features that the time index finds in its period, and no other.
 #![tactic(auto)]
 
 mod answers;

@@ -12,13 +12,15 @@ use Rattle.sessions.specs.Asked.{Asked}
 use Rattle.sessions.specs.declared.command.Command.{Command}
 use Rattle.sessions.specs.declared.command.Command.TheVariants.{NoOp, Request}
 use Rattle.wire.specs.declared.frames.fault.WireFault.TheVariants.{Field}
-use Rattle.wire.specs.Spelling.{id_bytes, triple_bytes, TripleFits, sequence_bytes, SequenceFits, op_bytes, OpFits, request_bytes}
-use Rattle.wire.specs.Spelling.{RequestFits, command_bytes, CommandFits}
-use Rattle.wire.specs.Reading.{Read, byte_at, number_at, id_at, triple_at, sequence_at, put_at, append_at, remove_at, op_at}
-use Rattle.wire.specs.Reading.{request_number_at, request_at, asked_at, command_at}
-use Rattle.wire.proofs.FieldLemmas.{IsBytes, bind_ok, guard_ok, chosen, ok_is, Takes, Takes-then, Took, number_takes, number_again, back8}
-use Rattle.wire.proofs.FieldLemmas.{byte_takes, from_zero, is_equal}
-use Rattle.wire.proofs.FieldLaws.{id_takes, id_again, triple_takes, triple_again, sequence_takes, sequence_again}
+use Rattle.sessions.specs.declared.request.TheConstants.{MOST_PUT_POINTS}
+use Rattle.fields.specs.Spelling.{id_bytes, triple_bytes, TripleFits, sequence_bytes, SequenceFits}
+use Rattle.fields.specs.Reading.{byte_at, number_at, id_at, triple_at, sequence_at}
+use Rattle.fields.proofs.FieldLemmas.{IsBytes, bind_ok, guard_ok, chosen, ok_is, Takes, Takes-then, Took, number_takes, number_again, back8}
+use Rattle.fields.proofs.FieldLemmas.{byte_takes, from_zero, is_equal}
+use Rattle.fields.proofs.FieldLaws.{id_takes, id_again, triple_takes, triple_again, sequence_takes, sequence_again}
+use Rattle.wire.specs.Spelling.{op_bytes, OpFits, request_bytes, RequestFits, command_bytes, CommandFits}
+use Rattle.wire.specs.Reading.{Read, put_at, append_at, remove_at, op_at, request_number_at, request_at, asked_at, command_at}
+use Rattle.wire.proofs.WideLemmas.{bind_wide}
 
 -- ---- operations: what stands behind the first byte, and then the whole
 op_case : (bytes after : List ℕ) (byte : ℕ) (code : ℕ) (body : List ℕ) (op : Op) (rest : List ℕ) → Takes bytes (byte ∷ []) after → byte
@@ -33,10 +35,10 @@ put_takes : (bytes after : List ℕ) (byte : ℕ) (x : Op × List ℕ) → Takes
     → Took op_bytes OpFits bytes x
 unfolding put_at
 put_takes bytes after byte x t is e =
-    let a = bind_ok (id_at after) _ x e in
-    let b = bind_ok (sequence_at a.0.1) _ x a.2 in
+    let a = bind_wide (id_at after) _ x e in
+    let b = bind_wide (sequence_at MOST_PUT_POINTS a.0.1) _ x a.2 in
     let u = id_takes after a.0 t.rest_fits a.1 in
-    let v = sequence_takes a.0.1 b.0 u.takes.rest_fits b.1 in
+    let v = sequence_takes MOST_PUT_POINTS a.0.1 b.0 u.takes.rest_fits b.1 in
     let both = Takes-then after (id_bytes a.0.0) a.0.1 (sequence_bytes b.0.0) b.0.1 u.takes v.takes in
     subst (Took op_bytes OpFits bytes) (ok_is _ _ b.2)
     (op_case bytes after byte 1 (id_bytes a.0.0 ++ sequence_bytes b.0.0) (Put a.0.0 b.0.0) b.0.1 t is both refl (u.fits, v.fits))
@@ -45,8 +47,8 @@ append_takes : (bytes after : List ℕ) (byte : ℕ) (x : Op × List ℕ) → Ta
     → Took op_bytes OpFits bytes x
 unfolding append_at
 append_takes bytes after byte x t is e =
-    let a = bind_ok (id_at after) _ x e in
-    let b = bind_ok (triple_at a.0.1) _ x a.2 in
+    let a = bind_wide (id_at after) _ x e in
+    let b = bind_wide (triple_at a.0.1) _ x a.2 in
     let u = id_takes after a.0 t.rest_fits a.1 in
     let v = triple_takes a.0.1 b.0 u.takes.rest_fits b.1 in
     let both = Takes-then after (id_bytes a.0.0) a.0.1 (triple_bytes b.0.0) b.0.1 u.takes v.takes in
@@ -58,7 +60,7 @@ remove_takes : (bytes after : List ℕ) (byte : ℕ) (x : Op × List ℕ) → Ta
     → Took op_bytes OpFits bytes x
 unfolding remove_at
 remove_takes bytes after byte x t is e =
-    let a = bind_ok (id_at after) _ x e in
+    let a = bind_wide (id_at after) _ x e in
     let u = id_takes after a.0 t.rest_fits a.1 in
     subst (Took op_bytes OpFits bytes) (ok_is _ _ a.2)
     (op_case bytes after byte 3 (id_bytes a.0.0) (Remove a.0.0) a.0.1 t is u.takes refl u.fits)
@@ -66,7 +68,7 @@ remove_takes bytes after byte x t is e =
 pub op_takes : (bytes : List ℕ) (x : Op × List ℕ) → IsBytes bytes → op_at bytes ≡ Ok x → Took op_bytes OpFits bytes x
 unfolding op_at
 op_takes bytes x fits e =
-    let b = bind_ok (byte_at bytes) _ x e in
+    let b = bind_wide (byte_at bytes) _ x e in
     let t = byte_takes bytes b.0.0 b.0.1 fits b.1 in
     elim (chosen (eqb b.0.0 1) _ _ x b.2) [
       | inl one ↦ put_takes bytes b.0.1 b.0.0 x t.0 (is_equal _ _ one.0) one.1
@@ -79,12 +81,12 @@ op_takes bytes x fits e =
       ]
     ]
 
-put_again : (id : List ℕ) (s : Sequence) (rest : List ℕ) → IsId id → SequenceFits s → put_at ((id_bytes id ++ sequence_bytes s) ++ rest)
+put_again : (id : List ℕ) (s : Sequence) (rest : List ℕ) → IsId id → SequenceFits MOST_PUT_POINTS s → put_at ((id_bytes id ++ sequence_bytes s) ++ rest)
     ≡ Ok (Put id s, rest)
 unfolding put_at
 put_again id s rest valid fits =
     ap put_at (append_assoc (id_bytes id) (sequence_bytes s) rest)
-    ∙ rw (id_again id (sequence_bytes s ++ rest) valid, sequence_again s rest fits) refl
+    ∙ rw (id_again id (sequence_bytes s ++ rest) valid, sequence_again MOST_PUT_POINTS s rest (omega arith) fits) refl
 
 append_again : (id : List ℕ) (p : Point) (rest : List ℕ) → IsId id → TripleFits p → append_at ((id_bytes id ++ triple_bytes p) ++ rest)
     ≡ Ok (Append (record { id = id; point = p }), rest)
@@ -111,7 +113,7 @@ request_number_takes : (bytes : List ℕ) (x : ℕ × List ℕ) → IsBytes byte
     → Took (big_bytes 8) IsNumber bytes x
 unfolding request_number_at
 request_number_takes bytes x fits e =
-    let r = bind_ok (number_at 8 bytes) _ x e in
+    let r = bind_wide (number_at 8 bytes) _ x e in
     let t = number_takes 8 back8 bytes r.0.0 r.0.1 fits r.1 in
     let g = guard_ok (eqb r.0.0 0) Field _ x r.2 in
     let it : Took (big_bytes 8) IsNumber bytes r.0 = record { takes = t.0; fits = (from_zero r.0.0 g.0, t.1) } in
@@ -127,7 +129,7 @@ request_number_again n rest some low =
 pub request_takes : (bytes : List ℕ) (x : Asked × List ℕ) → IsBytes bytes → request_at bytes ≡ Ok x → Took request_bytes RequestFits bytes x
 unfolding request_at
 request_takes bytes x fits e =
-    let a = bind_ok (byte_at bytes) _ x e in
+    let a = bind_wide (byte_at bytes) _ x e in
     let b = bind_ok (request_number_at a.0.1) _ x a.2 in
     let c = bind_ok (op_at b.0.1) _ x b.2 in
     let t = byte_takes bytes a.0.0 a.0.1 fits a.1 in
@@ -171,7 +173,7 @@ pub command_takes : (bytes : List ℕ) (x : Command × List ℕ) → IsBytes byt
     → Took command_bytes CommandFits bytes x
 unfolding command_at
 command_takes bytes x fits e =
-    let b = bind_ok (byte_at bytes) _ x e in
+    let b = bind_wide (byte_at bytes) _ x e in
     let t = byte_takes bytes b.0.0 b.0.1 fits b.1 in
     elim (chosen (eqb b.0.0 0) _ _ x b.2) [
       | inl nothing ↦ no_op_takes bytes b.0.1 b.0.0 x t.0 (is_equal _ _ nothing.0) nothing.1

@@ -8,11 +8,25 @@ use Rattle.synod.specs.declared.vote.Vote.{Vote}
 use Rattle.sessions.specs.declared.command.Command.{Command}
 use Rattle.wire.specs.declared.frames.fault.WireFault.{WireFault}
 use Rattle.wire.specs.declared.frames.fault.WireFault.TheVariants.{Field}
+use Rattle.wire.specs.declared.frames.fault.WireFault.TheVariants as faults
 use Rattle.wire.specs.Promises.{IsTold, AreTold}
-use Rattle.wire.specs.Reading.{◌>>=◌, Read, Fails, Gives, ballot_at, slot_at, command_at}
+use Rattle.fields.specs.Reading.{◌>>=◌}
+use Rattle.wire.specs.Reading.{Read, Fails, Gives, ballot_at, slot_at, command_at}
 use Rattle.wire.specs.FrameReading.{slot_within, ballot_up_to, entry_at, entries_at}
-use Rattle.wire.proofs.FieldLemmas.{bind_ok, guard_ok, ok_is, at_most}
-use Rattle.wire.proofs.LoopLemmas.{with_front, regroup, fails_first, bind_inside}
+use Rattle.fields.proofs.FieldLemmas.{bind_ok, guard_ok, ok_is, at_most}
+use Rattle.fields.proofs.LoopLemmas.{with_front, regroup, bind_inside}
+
+-- a first step that fails is the fault of the whole
+fails_first : {A B : Type 0} (e : WireFault) (first : Result A WireFault) (then : A → Result B WireFault) (total : Result B WireFault)
+    → Fails e first → total ≡ (first >>= then) → Fails e total
+fails_first {A} {B} faults.Memory first then total h so_far = tt
+fails_first {A} {B} faults.Short first then total h so_far = so_far ∙ ap (λ (r : Result A WireFault). r >>= then) h
+fails_first {A} {B} faults.Magic first then total h so_far = so_far ∙ ap (λ (r : Result A WireFault). r >>= then) h
+fails_first {A} {B} faults.Version first then total h so_far = so_far ∙ ap (λ (r : Result A WireFault). r >>= then) h
+fails_first {A} {B} faults.Kind first then total h so_far = so_far ∙ ap (λ (r : Result A WireFault). r >>= then) h
+fails_first {A} {B} faults.Field first then total h so_far = so_far ∙ ap (λ (r : Result A WireFault). r >>= then) h
+fails_first {A} {B} faults.Trailing first then total h so_far = so_far ∙ ap (λ (r : Result A WireFault). r >>= then) h
+fails_first {A} {B} faults.Long first then total h so_far = so_far ∙ ap (λ (r : Result A WireFault). r >>= then) h
 
 pub entries_go_on : (nodes : ℕ) (limit : Ballot) (last : ℕ) (front : List (Vote Command)) (count i from : ℕ) (bytes : List ℕ)
     (v : Vote Command) (after : List ℕ) (total : Read (List (Vote Command))) → i < count

@@ -8,7 +8,8 @@ use Rattle.wire.specs.declared.frames.fault.WireFault.TheVariants.{Short, Magic,
 use Rattle.wire.specs.declared.frames.fault.WireFault.TheVariants as fault
 use Rattle.wire.specs.declared.frames.message.Message.TheVariants.{Prepare, Promise, Nack, Accept, Ask, Decided}
 use Rattle.wire.specs.FrameSpelling.{spelling}
-use Rattle.wire.specs.Reading.{ballot_of, ballot_at, slot_at, command_at, asked_at, request_at, request_number_at, op_at, remove_at, id_at}
+use Rattle.fields.specs.Reading.{id_at}
+use Rattle.wire.specs.Reading.{ballot_of, ballot_at, slot_at, command_at, asked_at, request_at, request_number_at, op_at, remove_at}
 use Rattle.wire.specs.FrameReading.{version_at, kind_at, node_at, ends_at, head_at, range_at, few_at, entries_at, told_at, promise_at}
 use Rattle.wire.specs.FrameReading.{ballot_above, nack_at, vote_at, prepare_at, decided_at, message_at, envelope_at, frame_in}
 

@@ -23,13 +23,15 @@ use Rattle.wire.specs.Promises.{Promised, Refused, IsTold, AreTold, IsPromise}
 use Rattle.wire.specs.Spelling.{ballot_bytes, BallotFits, slot_bytes, SlotFits, command_bytes, CommandFits}
 use Rattle.wire.specs.FrameSpelling.{version_of, byte_of, kinds, kind_of, vote_bytes, entry_bytes, promise_bytes, body_bytes, head_bytes}
 use Rattle.wire.specs.FrameSpelling.{spelling, VoteFits, PromiseFits, NackFits, MessageFits, Fits, IsFrame}
-use Rattle.wire.specs.Reading.{number_at, byte_at, ballot_at, slot_at, command_at}
+use Rattle.fields.specs.Reading.{number_at, byte_at}
+use Rattle.wire.specs.Reading.{ballot_at, slot_at, command_at}
 use Rattle.wire.specs.FrameReading.{is_version, version_at, found_among, known, kind_at, node_at, ends_at, Head, head_at, range_at, few_at}
 use Rattle.wire.specs.FrameReading.{slot_within, ballot_up_to, entry_at, entries_at, told_at, promise_at, ballot_above, nack_at, vote_at}
 use Rattle.wire.specs.FrameReading.{prepare_at, decided_at, message_at, envelope_at, frame_in}
-use Rattle.wire.proofs.FieldLemmas.{IsBytes, bind_ok, guard_ok, ok_is, Takes, Takes-then, Took, number_takes, number_again, back2}
-use Rattle.wire.proofs.FieldLemmas.{byte_takes, below, at_most, is_number, is_equal}
-use Rattle.wire.proofs.FieldLaws.{ballot_takes, ballot_again, slot_takes, slot_again}
+use Rattle.fields.proofs.FieldLemmas.{IsBytes, bind_ok, guard_ok, ok_is, Takes, Takes-then, Took, number_takes, number_again, back2}
+use Rattle.fields.proofs.FieldLemmas.{byte_takes, below, at_most, is_number, is_equal}
+use Rattle.wire.proofs.WideLemmas.{bind_wide}
+use Rattle.wire.proofs.BallotLaws.{ballot_takes, ballot_again, slot_takes, slot_again}
 use Rattle.wire.proofs.CommandLaws.{command_takes, command_again}
 
 -- ---- tests
@@ -49,10 +51,10 @@ version_takes : (bytes : List ℕ) (x : ℕ × List ℕ) → IsBytes bytes → v
     → Takes bytes (big_bytes 2 MAGIC ++ x.0 ∷ []) x.1
 unfolding version_at
 version_takes bytes x fits e =
-    let m = bind_ok (number_at 2 bytes) _ x e in
+    let m = bind_wide (number_at 2 bytes) _ x e in
     let t = number_takes 2 back2 bytes m.0.0 m.0.1 fits m.1 in
     let g = guard_ok (not (eqb m.0.0 MAGIC)) Magic _ x m.2 in
-    let v = bind_ok (byte_at m.0.1) _ x g.1 in
+    let v = bind_wide (byte_at m.0.1) _ x g.1 in
     let u = byte_takes m.0.1 v.0.0 v.0.1 t.0.rest_fits v.1 in
     let h = guard_ok (not (is_version v.0.0)) Version _ x v.2 in
     let both = Takes-then bytes (big_bytes 2 m.0.0) m.0.1 (v.0.0 ∷ []) v.0.1 t.0 u.0 in
@@ -87,7 +89,7 @@ record TookKind (version : ℕ) (bytes : List ℕ) (x : Kind × List ℕ) : Type
 kind_takes : (version : ℕ) (bytes : List ℕ) (x : Kind × List ℕ) → IsBytes bytes → kind_at version bytes ≡ Ok x → TookKind version bytes x
 unfolding kind_at
 kind_takes version bytes x fits e =
-    let b = bind_ok (byte_at bytes) _ x e in
+    let b = bind_wide (byte_at bytes) _ x e in
     let t = byte_takes bytes b.0.0 b.0.1 fits b.1 in
     let k = known_is (found_among kinds version b.0.0) b.0.1 x b.2 in
     let is = found_is kinds version b.0.0 x.0 k.0 in
@@ -101,7 +103,7 @@ node_takes : (nodes : ℕ) (bytes : List ℕ) (x : ℕ × List ℕ) → IsBytes 
     (λ n. n < nodes) bytes x
 unfolding node_at
 node_takes nodes bytes x fits e =
-    let b = bind_ok (byte_at bytes) _ x e in
+    let b = bind_wide (byte_at bytes) _ x e in
     let t = byte_takes bytes b.0.0 b.0.1 fits b.1 in
     let g = guard_ok (leb nodes b.0.0) Field _ x b.2 in
     let it : Took node_bytes (λ n. n < nodes) bytes b.0 = record { takes = t.0; fits = below nodes b.0.0 g.0 } in
@@ -391,7 +393,7 @@ told_takes : (nodes : ℕ) → nodes ≤ 7 → (limit : Ballot) (range : ℕ × 
 unfolding told_at few_at
 told_takes nodes few limit range bytes x fits e =
     let n = bind_ok (few_at bytes) _ x e in
-    let b = bind_ok (byte_at bytes) _ n.0 n.1 in
+    let b = bind_wide (byte_at bytes) _ n.0 n.1 in
     let t = byte_takes bytes b.0.0 b.0.1 fits b.1 in
     let g = guard_ok (ltb MOST_ENTRIES b.0.0) Field _ n.0 b.2 in
     let same : b.0 ≡ n.0 = ok_is _ _ g.1 in

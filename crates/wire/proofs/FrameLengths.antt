@@ -14,7 +14,7 @@ use Rattle.wire.specs.declared.frames.envelope.Envelope.{Envelope}
 use Rattle.wire.specs.declared.frames.envelope.TheConstants.{LONGEST_FRAME}
 use Rattle.wire.specs.declared.frames.message.Message.{Message}
 use Rattle.wire.specs.declared.frames.message.Message.TheVariants.{Prepare, Promise, Nack, Accept, Accepted, Ask, Decided}
-use Rattle.wire.proofs.LengthLemmas.{put_len, append_len}
+use Rattle.fields.proofs.LengthLemmas.{put_len, append_len}
 
 -- an operation: a Put of the longest id and the most instants is the largest
 op_most : (op : Op) → OpFits op → length (op_bytes op) ≤ 12357

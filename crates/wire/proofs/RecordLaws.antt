@@ -8,8 +8,8 @@ use Rattle.wire.specs.declared.frames.fault.WireFault.{WireFault}
 use Rattle.wire.specs.declared.frames.fault.WireFault.TheVariants.{Short, Magic, Version, Kind, Field, Trailing, Long, Memory}
 use Rattle.wire.specs.Reading.{Fails, ballot_at, command_at}
 use Rattle.wire.specs.RecordForms.{IsVoteRecord, choice_at}
-use Rattle.wire.proofs.FieldLemmas.{IsBytes, bind_ok, ok_is, Takes, Takes-then}
-use Rattle.wire.proofs.FieldLaws.{ballot_takes, ballot_again}
+use Rattle.fields.proofs.FieldLemmas.{IsBytes, bind_ok, ok_is, Takes, Takes-then}
+use Rattle.wire.proofs.BallotLaws.{ballot_takes, ballot_again}
 use Rattle.wire.proofs.CommandLaws.{command_takes, command_again}
 
 record TookChoice (bytes : List ℕ) (x : (Ballot × Command) × List ℕ) : Type 0 where

@@ -2,21 +2,11 @@
 use Rattle.std.proofs.Common.{◌≡◌, ℕ, zero, suc, ◌+◌, List, Result, Ok, Err, refl}
 use Rattle.synod.specs.declared.ballot.Ballot.{Ballot}
 use Rattle.wire.specs.declared.frames.fault.WireFault.{WireFault}
-use Rattle.wire.specs.declared.frames.fault.WireFault.TheVariants as faults
 use Rattle.wire.specs.Puts.{IsPut, SomeTold}
-use Rattle.wire.specs.Reading.{◌>>=◌, Fails, MayWant, id_at, sequence_at, put_at}
+use Rattle.sessions.specs.declared.request.TheConstants.{MOST_PUT_POINTS}
+use Rattle.fields.specs.Reading.{◌>>=◌, id_at, sequence_at}
+use Rattle.wire.specs.Reading.{MayWant, wide, put_at}
 use Rattle.wire.specs.FrameReading.{entry_at, entries_at}
-
--- a fault that is told is the fault of the reading
-pub fails_here : {Y : Type 0} (e : WireFault) (read : Result Y WireFault) → read ≡ Err e → Fails e read
-fails_here {Y} faults.Memory read h = tt
-fails_here {Y} faults.Short read h = h
-fails_here {Y} faults.Magic read h = h
-fails_here {Y} faults.Version read h = h
-fails_here {Y} faults.Kind read h = h
-fails_here {Y} faults.Field read h = h
-fails_here {Y} faults.Trailing read h = h
-fails_here {Y} faults.Long read h = h
 
 -- a step of which nothing is known
 wants_each : {A B : Type 0} (also : B → Type 0) (first : Result A WireFault) (then : A → Result B WireFault) →
@@ -28,7 +18,7 @@ wants_each also (Err e) then each = tt
 pub put_wants : (bytes : List ℕ) → MayWant (λ x. IsPut x.0) (put_at bytes)
 unfolding put_at
 put_wants bytes =
-    wants_each (λ x. IsPut x.0) (id_at bytes) _ (λ id. wants_each (λ x. IsPut x.0) (sequence_at id.1) _ (λ seq. tt))
+    wants_each (λ x. IsPut x.0) (wide (id_at bytes)) _ (λ id. wants_each (λ x. IsPut x.0) (wide (sequence_at MOST_PUT_POINTS id.1)) _ (λ seq. tt))
 
 -- entries may want it, unless there are none
 pub entries_want : (nodes : ℕ) (limit : Ballot) (last count from : ℕ) (bytes : List ℕ) → ¬ (count ≡ 0) →

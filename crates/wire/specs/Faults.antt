@@ -1,5 +1,7 @@
--- Faults of frames by number.
+-- Faults of frames by number, and those that fields bring.
 use Rattle.std.specs.Prelude.{ℕ}
+use Rattle.fields.specs.declared.fault.FieldFault.{FieldFault}
+use Rattle.fields.specs.declared.fault.FieldFault.TheVariants as field
 use Rattle.wire.specs.declared.frames.fault.WireFault.{WireFault}
 use Rattle.wire.specs.declared.frames.fault.WireFault.TheVariants.{Short, Magic, Version, Kind, Field, Trailing, Long, Memory}
 
@@ -13,3 +15,9 @@ code_of Field = 5
 code_of Trailing = 6
 code_of Long = 7
 code_of Memory = 8
+
+-- the fault of a frame that a field's fault is
+abbrev pub widened : FieldFault → WireFault
+widened field.Short = Short
+widened field.Field = Field
+widened field.Memory = Memory

@@ -8,7 +8,8 @@ use Rattle.synod.specs.declared.vote.Vote.{Vote}
 use Rattle.sessions.specs.declared.command.Command.{Command}
 use Rattle.wire.specs.FrameSpelling.{versions, version_of, byte_of, kinds}
 use Rattle.wire.specs.Promises.{Promised, Refused}
-use Rattle.wire.specs.Reading.{◌>>=◌, Read, number_at, byte_at, ballot_at, slot_at, command_at}
+use Rattle.fields.specs.Reading.{◌>>=◌, number_at, byte_at}
+use Rattle.wire.specs.Reading.{Read, wide, ballot_at, slot_at, command_at}
 use Rattle.wire.specs.declared.frames.envelope.Envelope.{Envelope}
 use Rattle.wire.specs.declared.frames.envelope.TheConstants.{MAGIC, LONGEST_FRAME}
 use Rattle.wire.specs.declared.frames.fault.WireFault.{WireFault}
@@ -28,9 +29,9 @@ is_version version = list_any (λ v. version == v) versions
 -- the first two bytes, which are tested together, and the version that follows
 unfoldable pub version_at : List ℕ → Read ℕ
 version_at bytes = do
-  magic ← number_at 2 bytes
+  magic ← wide (number_at 2 bytes)
   if not (magic.0 == MAGIC) then Err Magic else do
-    version ← byte_at magic.1
+    version ← wide (byte_at magic.1)
     if not (is_version version.0) then Err Version else Ok version
 
 -- the kind of this version with this byte, if it is among these
@@ -45,13 +46,13 @@ known (Some k) rest = Ok (k, rest)
 
 unfoldable pub kind_at : ℕ → List ℕ → Read Kind
 kind_at version bytes = do
-  byte ← byte_at bytes
+  byte ← wide (byte_at bytes)
   known (found_among kinds version byte.0) byte.1
 
 -- a node among so many
 unfoldable pub node_at : ℕ → List ℕ → Read ℕ
 node_at nodes bytes = do
-  node ← byte_at bytes
+  node ← wide (byte_at bytes)
   if nat_le nodes node.0 then Err Field else Ok node
 
 -- who sends and who receives
@@ -84,7 +85,7 @@ range_at bytes = do
 -- how many entries follow
 unfoldable pub few_at : List ℕ → Read ℕ
 few_at bytes = do
-  count ← byte_at bytes
+  count ← wide (byte_at bytes)
   if nat_lt MOST_ENTRIES count.0 then Err Field else Ok count
 
 -- a slot from one to another

@@ -4,7 +4,8 @@ use Rattle.std.specs.Prelude.{◌≡◌, ℕ, ◌<◌, ◌≤◌, ◌^◌, List,
 use Rattle.byteorder.specs.Endian.{big_bytes}
 use Rattle.synod.specs.declared.ballot.Ballot.{Ballot}
 use Rattle.sessions.specs.declared.command.Command.{Command}
-use Rattle.wire.specs.Reading.{◌>>=◌, Read, ballot_at, command_at}
+use Rattle.fields.specs.Reading.{◌>>=◌}
+use Rattle.wire.specs.Reading.{Read, ballot_at, command_at}
 use Rattle.wire.specs.Spelling.{ballot_bytes, BallotFits, command_bytes, CommandFits}
 
 -- the record of a promise: the ballot

@@ -6,7 +6,6 @@ mod entry;
 mod envelope;
 mod fault;
 mod frame;
-mod input;
 mod kind;
 mod message;
 mod nack;

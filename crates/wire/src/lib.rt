@@ -1,7 +1,7 @@
-//! What nodes say to one another: who is there, what they say, and the frames that carry it.
+//! Messages between nodes: who is there, what they say, and the frames that carry it.
 //!
-//! Every value of these types may stand in a frame between seven nodes. `specs/FrameSpelling.antt` says which bytes a
-//! frame has, and `specs/FrameReading.antt` which fault is told of bytes that are none.
+//! Every value of these types fits a frame between seven nodes. `specs/FrameSpelling.antt` defines the bytes of a frame, and
+//! `specs/FrameReading.antt` the fault of bytes that are none.
 #![tactic(auto)]
 
 mod frames;

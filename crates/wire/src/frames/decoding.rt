@@ -3,7 +3,8 @@
 ghost use Rattle.std.specs.Prelude.{ℕ, List, [], ⊤, ◌++◌, ◌≡◌, ◌≤◌, ◌<◌, Ok, IsOk, IfOk, IsErrOf};
 ghost use Rattle.synod.specs.Ballots.{rank};
 ghost use Rattle.wire.specs.Puts.{TakesMemory};
-ghost use Rattle.wire.specs.Reading.{Gives, Tells, MayWant};
+ghost use Rattle.fields.specs.Reading.{Tells};
+ghost use Rattle.wire.specs.Reading.{Gives, MayWant};
 ghost use Rattle.wire.specs.FrameReading.{version_at, kind_at, node_at, ends_at, Head, head_at};
 ghost use Rattle.wire.specs.FrameReading.{ballot_above, nack_at, vote_at, prepare_at, decided_at};
 ghost use Rattle.wire.specs.FrameReading.{message_at, envelope_at, frame_in};
@@ -12,13 +13,13 @@ ghost use Rattle.wire.specs.declared.frames.envelope.Envelope.{Envelope};
 
 use super::envelope::{Envelope, LONGEST_FRAME, MAGIC};
 use super::fault::WireFault;
-use super::input::Input;
 use super::kind::Kind;
 use super::message::Message;
 use super::nack::Nack;
 use super::reading::{read_ballot, read_held, read_slot};
 use super::telling::read_promise;
 use crate::{Held, NodeId, Nodes};
+use fields::Input;
 use sessions::Command;
 use std::alloc::Global;
 use synod::{Ballot, Vote};

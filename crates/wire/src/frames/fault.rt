@@ -3,6 +3,7 @@
 ghost use Rattle.std.specs.Prelude.{◌≡◌, ◌↔◌, IsTrue};
 ghost use Rattle.wire.specs.Faults.{code_of};
 
+use fields::FieldFault;
 use std::alloc::{AllocError, AllocFailed};
 use std::error::Error;
 use std::fmt;
@@ -72,6 +73,20 @@ impl fmt::Display for WireFault {
 }
 
 impl Error for WireFault {}
+
+impl From<FieldFault> for WireFault {
+    ghost use Rattle.wire.specs.Faults.{widened};
+
+    ghost from_gives = { λ field fault. fault ≡ widened field };
+
+    fn from(fault: FieldFault) -> WireFault {
+        match fault {
+            FieldFault::Short => WireFault::Short,
+            FieldFault::Field => WireFault::Field,
+            FieldFault::Memory => WireFault::Memory,
+        }
+    }
+}
 
 impl From<AllocError> for WireFault {
     ghost use Rattle.wire.specs.declared.frames.fault.WireFault.TheVariants.{Memory};

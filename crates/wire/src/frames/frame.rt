@@ -10,12 +10,12 @@ ghost use Rattle.wire.specs.declared.frames.message.Message.TheVariants as messa
 use super::decoding::decode;
 use super::encoding::{spell, spell_decided};
 use super::envelope::{Envelope, LONGEST_FRAME};
-use super::input::Input;
 use super::kind::Kind;
 use super::message::Message;
 use super::reading::read_slot;
 use super::spelled::Spelled;
 use crate::{NodeId, Nodes, Slot};
+use fields::Input;
 use sessions::Command;
 use std::alloc::{AllocError, Global};
 use std::marker::Model;

@@ -1,23 +1,19 @@
-//! The fields of frames and records, read with the first fault that is met.
+//! Ballots, slots and commands, read with the first fault that is met.
 
-ghost use Rattle.std.specs.Prelude.{◌≡◌, ◌<◌, ◌≤◌, ◌+◌, ◌↔◌, ⊤, IsTrue, IfOk, IsErrOf, length};
+ghost use Rattle.std.specs.Prelude.{◌≡◌, ◌<◌, ◌≤◌, ⊤, IfOk, IsErrOf};
+ghost use Rattle.fields.specs.Reading.{Tells};
 ghost use Rattle.sessions.specs.Asked.{IsShort};
-ghost use Rattle.tpoint.specs.Coordinates.{InRange};
-ghost use Rattle.tpoint.specs.Moving.{InBounds};
 ghost use Rattle.wire.specs.Puts.{IsPut, CommandPuts};
-ghost use Rattle.wire.specs.Reading.{Gives, Tells, MayWant, ballot_of, ballot_at, slot_at, id_at, instant_at, is_coordinate};
-ghost use Rattle.wire.specs.Reading.{coordinate_at, triple_at, triple_from, triples_at, interp_at, count_at};
-ghost use Rattle.wire.specs.Reading.{sequence_at, put_at, append_at, remove_at, op_at};
+ghost use Rattle.wire.specs.Reading.{Gives, MayWant, ballot_of, ballot_at, slot_at, put_at, append_at, remove_at, op_at};
 ghost use Rattle.wire.specs.Reading.{request_number_at, request_at, asked_at, command_at};
 
 use super::fault::WireFault;
-use super::input::Input;
 use crate::{Held, Nodes, Slot};
+use fields::{Input, read_id, read_sequence, read_triple};
 use sessions::{Command, MOST_PUT_POINTS, Number, Request};
 use std::alloc::Global;
 use store::Op;
 use synod::Ballot;
-use tpoint::{FURTHEST, Id, Instant, Interp, LAST_MS, LONGEST_ID, Point, Seq};
 
 /// A ballot of one of so many nodes.
 #[tactic(auto, unfolding(crate::specs::Reading::ballot_at))]
@@ -135,7 +131,7 @@ fn read_put(alloc: Global, input: &mut Input) -> Result<Op, WireFault>
     ensures read { Gives (λ x. (x, input.new)) result (put_at input.old) }
 {
     let id = read_id(input)?;
-    let seq = read_sequence(alloc, input)?;
+    let seq = read_sequence(alloc, MOST_PUT_POINTS as u16, input)?;
     Ok(Op::Put(id, seq))
 }
 
@@ -159,136 +155,4 @@ fn read_remove(input: &mut Input) -> Result<Op, WireFault>
 {
     let id = read_id(input)?;
     Ok(Op::Remove(id))
-}
-
-/// An id: its length, and its text.
-#[tactic(auto, unfolding(crate::specs::Reading::id_at))]
-#[inline(always)]
-fn read_id(input: &mut Input) -> Result<Id, WireFault>
-    ensures { Tells (λ x. (x, input.new)) result (id_at input.old) }
-{
-    let len = usize::from(input.u8()?);
-    if len == 0 || len > LONGEST_ID {
-        return Err(WireFault::Field);
-    }
-    input.text(len)
-}
-
-#[tactic(auto, unfolding(crate::specs::Reading::sequence_at))]
-fn read_sequence(alloc: Global, input: &mut Input) -> Result<Seq, WireFault>
-    ensures short { IfOk result (λ s. length s.points ≤ MOST_PUT_POINTS) }
-    ensures read { Gives (λ x. (x, input.new)) result (sequence_at input.old) }
-{
-    let interp = read_interp(input)?;
-    let count = read_count(input)?;
-    let points = read_triples(alloc, count, input)?;
-    // What was read is a sequence, so there is no fault.
-    Ok(Seq::new(interp, points).unwrap())
-}
-
-/// Where a moving point is between its listed instants.
-#[tactic(auto, unfolding(crate::specs::Reading::interp_at))]
-fn read_interp(input: &mut Input) -> Result<Interp, WireFault>
-    ensures { Tells (λ x. (x, input.new)) result (interp_at input.old) }
-{
-    match input.u8()? {
-        1 => Ok(Interp::Discrete),
-        2 => Ok(Interp::Step),
-        3 => Ok(Interp::Linear),
-        _ => Err(WireFault::Field),
-    }
-}
-
-/// How many triples follow.
-#[tactic(auto, unfolding(crate::specs::Reading::count_at))]
-fn read_count(input: &mut Input) -> Result<u16, WireFault>
-    ensures some { IfOk result (λ n. 1 ≤ n) }
-    ensures few { IfOk result (λ n. n ≤ MOST_PUT_POINTS) }
-    ensures read { Tells (λ x. (x, input.new)) result (count_at input.old) }
-{
-    let count = input.u16()?;
-    if count == 0 || usize::from(count) > MOST_PUT_POINTS {
-        return Err(WireFault::Field);
-    }
-    Ok(count)
-}
-
-/// So many triples, each later than the one before it.
-fn read_triples(alloc: Global, count: u16, input: &mut Input) -> Result<Vec<Point>, WireFault>
-    ensures counted { IfOk result (λ ps. length ps.items ≡ count) }
-    ensures read { Gives (λ x. (x.items, input.new)) result (triples_at count 0 input.old) }
-{
-    let mut points = Vec::with_capacity(alloc, usize::from(count))?;
-    let mut from = 0;
-    for _ in 0..count {
-        let point = read_triple_from(from, input)?;
-        from = after(point.t);
-        points.push(point)?;
-    }
-    Ok(points)
-}
-
-/// The first millisecond after an instant.
-fn after(t: Instant) -> u64
-    ensures { result ≡ t + 1 }
-{
-    t.ms() as u64 + 1
-}
-
-/// A triple that is not before an instant.
-#[tactic(auto, unfolding(crate::specs::Reading::triple_from))]
-fn read_triple_from(from: u64, input: &mut Input) -> Result<Point, WireFault>
-    ensures { Tells (λ x. (x, input.new)) result (triple_from from input.old) }
-{
-    let point = read_triple(input)?;
-    if (point.t.ms() as u64) < from {
-        return Err(WireFault::Field);
-    }
-    Ok(point)
-}
-
-/// An instant and two coordinates.
-#[tactic(auto, unfolding(crate::specs::Reading::triple_at))]
-fn read_triple(input: &mut Input) -> Result<Point, WireFault>
-    ensures in_bounds { IfOk result InBounds }
-    ensures read { Tells (λ x. (x, input.new)) result (triple_at input.old) }
-{
-    let t = read_instant(input)?;
-    let x = read_coordinate(input)?;
-    let y = read_coordinate(input)?;
-    Ok(Point { t, x, y })
-}
-
-#[tactic(auto, unfolding(crate::specs::Reading::instant_at))]
-fn read_instant(input: &mut Input) -> Result<Instant, WireFault>
-    ensures { Tells (λ x. (x, input.new)) result (instant_at input.old) }
-{
-    let ms = input.u64()?;
-    if ms > LAST_MS as u64 {
-        return Err(WireFault::Field);
-    }
-    let Some(instant) = Instant::new(ms as i64) else {
-        return Err(WireFault::Field);
-    };
-    Ok(instant)
-}
-
-/// A coordinate, in two's complement.
-#[tactic(auto, unfolding(crate::specs::Reading::coordinate_at))]
-fn read_coordinate(input: &mut Input) -> Result<i64, WireFault>
-    ensures in_range { IfOk result InRange }
-    ensures read { Tells (λ x. (x, input.new)) result (coordinate_at input.old) }
-{
-    let z = input.u64()?.cast_signed();
-    if !is_coordinate(z) {
-        return Err(WireFault::Field);
-    }
-    Ok(z)
-}
-
-fn is_coordinate(z: i64) -> bool
-    ensures value { result ≡ is_coordinate z }
-    ensures in_range { IsTrue result ↔ InRange z }
-{
-    -FURTHEST <= z && z <= FURTHEST
 }

@@ -9,11 +9,11 @@ ghost use Rattle.wire.specs.Reading.{Gives};
 ghost use Rattle.wire.specs.RecordForms.{IsBallotRecord, IsRoundRecord, IsVoteRecord, choice_at};
 
 use super::fault::WireFault;
-use super::input::Input;
 use super::reading::{read_ballot, read_command};
 use super::spelling::{command_len, push_ballot, push_command};
 use crate::Nodes;
 use byteorder::{BigEndian, ByteOrder};
+use fields::Input;
 use sessions::Command;
 use std::alloc::{AllocError, Global};
 use synod::{Ballot, MOST_NODES};

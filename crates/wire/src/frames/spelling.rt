@@ -1,47 +1,18 @@
-//! The fields of frames and records, as bytes at the end of others. Each value of the types fits.
+//! Ballots, slots and commands, as bytes at the end of others. Each value of the types fits.
 
-ghost use Rattle.std.specs.Prelude.{◌≡◌, ℕ, pos, ◌+◌, ◌*◌, ◌≤◌, ◌++◌, length, All, OnOk};
-ghost use Rattle.std.specs.List.{flat_map};
-ghost use Rattle.std.specs.Int.{cast_unsigned, w64};
-ghost use Rattle.byteorder.specs.Endian.{big_bytes};
+ghost use Rattle.std.specs.Prelude.{◌≡◌, ℕ, ◌+◌, ◌*◌, ◌≤◌, ◌++◌, length, OnOk};
 ghost use Rattle.sessions.specs.Asked.{IsShort};
-ghost use Rattle.tpoint.specs.Ids.{IsId};
-ghost use Rattle.tpoint.specs.Instants.{IsInstant};
-ghost use Rattle.wire.specs.Spelling.{ballot_bytes, BallotFits, slot_bytes, SlotFits, id_bytes, triple_bytes};
-ghost use Rattle.wire.specs.Spelling.{interp_byte, sequence_bytes, SequenceFits, op_bytes, OpFits};
+ghost use Rattle.wire.specs.Spelling.{ballot_bytes, BallotFits, slot_bytes, SlotFits, op_bytes, OpFits};
 ghost use Rattle.wire.specs.Spelling.{request_bytes, RequestFits, command_bytes, CommandFits};
 
 use crate::Slot;
-use byteorder::{BigEndian, ByteOrder};
+use fields::{
+    TRIPLE_LEN, id_len, push_id, push_sequence, push_triple, push_u32, push_u64, sequence_len,
+};
 use sessions::{Command, Request};
 use std::alloc::AllocError;
 use store::Op;
 use synod::Ballot;
-use tpoint::{Id, Instant, Interp, Point, Seq};
-
-fn push_u16(out: &mut Vec<u8>, n: u16) -> Result<(), AllocError>
-    ensures { OnOk result (out.new.items ≡ out.old.items ++ big_bytes 2 n) }
-{
-    let mut bytes = [0; 2];
-    BigEndian::write_u16(&mut bytes, n);
-    out.extend_from_slice(&bytes)
-}
-
-fn push_u32(out: &mut Vec<u8>, n: u32) -> Result<(), AllocError>
-    ensures { OnOk result (out.new.items ≡ out.old.items ++ big_bytes 4 n) }
-{
-    let mut bytes = [0; 4];
-    BigEndian::write_u32(&mut bytes, n);
-    out.extend_from_slice(&bytes)
-}
-
-fn push_u64(out: &mut Vec<u8>, n: u64) -> Result<(), AllocError>
-    ensures { OnOk result (out.new.items ≡ out.old.items ++ big_bytes 8 n) }
-{
-    let mut bytes = [0; 8];
-    BigEndian::write_u64(&mut bytes, n);
-    out.extend_from_slice(&bytes)
-}
 
 /// A ballot: its round, and its node.
 pub(super) fn push_ballot(out: &mut Vec<u8>, ballot: Ballot) -> Result<(), AllocError>
@@ -110,87 +81,6 @@ fn push_op(out: &mut Vec<u8>, op: &Op) -> Result<(), AllocError>
     }
 }
 
-/// An id: its length, and its text.
-fn push_id(out: &mut Vec<u8>, id: &Id) -> Result<(), AllocError>
-    ensures spelled { OnOk result (out.new.items ≡ out.old.items ++ id_bytes id.now) }
-    ensures fits { IsId id.now }
-{
-    let text = id.bytes();
-    out.push(text.len() as u8)?;
-    out.extend_from_slice(text)
-}
-
-/// A sequence: its interpolation, the count of its triples, and the triples.
-#[tactic(auto, using(crate::proofs::SequenceLemmas::sequence_from_valid))]
-fn push_sequence(out: &mut Vec<u8>, seq: &Seq) -> Result<(), AllocError>
-    requires { length seq.now.points ≤ 512 }
-    ensures spelled { OnOk result (out.new.items ≡ out.old.items ++ sequence_bytes seq.now) }
-    ensures fits { OnOk result (SequenceFits seq.now) }
-{
-    let points = seq.points();
-    out.push(code_of(seq.interp()))?;
-    push_u16(out, points.len() as u16)?;
-    push_triples(out, points)
-}
-
-fn code_of(interp: Interp) -> u8
-    ensures { result ≡ interp_byte interp }
-{
-    match interp {
-        Interp::Discrete => 1,
-        Interp::Step => 2,
-        Interp::Linear => 3,
-    }
-}
-
-fn push_triples(out: &mut Vec<u8>, points: &[Point]) -> Result<(), AllocError>
-    ensures spelled { OnOk result (out.new.items ≡ out.old.items ++ flat_map triple_bytes points.now) }
-    ensures instants { OnOk result (All (λ p. IsInstant (pos p.t)) points.now) }
-{
-    for point in points {
-        push_triple(out, point)?;
-    }
-    Ok(())
-}
-
-/// A triple: an instant, and two coordinates in two's complement.
-#[tactic(auto, unfolding(crate::specs::Spelling::triple_bytes))]
-fn push_triple(out: &mut Vec<u8>, point: &Point) -> Result<(), AllocError>
-    ensures spelled { OnOk result (out.new.items ≡ out.old.items ++ triple_bytes point.now) }
-    ensures instant { IsInstant (pos point.now.t) }
-{
-    push_time_and_x(out, point)?;
-    push_u64(out, bits_of_y(point))
-}
-
-fn push_time_and_x(out: &mut Vec<u8>, point: &Point) -> Result<(), AllocError>
-    ensures spelled { OnOk result (out.new.items
-        ≡ out.old.items ++ (big_bytes 8 point.now.t ++ big_bytes 8 (cast_unsigned w64 point.now.x))) }
-    ensures instant { IsInstant (pos point.now.t) }
-{
-    push_u64(out, ms_of(point.t))?;
-    push_u64(out, bits_of_x(point))
-}
-
-fn bits_of_x(point: &Point) -> u64
-    ensures { result ≡ cast_unsigned w64 point.now.x }
-{
-    point.x.cast_unsigned()
-}
-
-fn bits_of_y(point: &Point) -> u64
-    ensures { result ≡ cast_unsigned w64 point.now.y }
-{
-    point.y.cast_unsigned()
-}
-
-fn ms_of(t: Instant) -> u64
-    ensures value { result ≡ t }
-    ensures instant { IsInstant (pos t) }
-{
-    t.ms() as u64
-}
-
 /// How many bytes a command takes.
 pub(super) fn command_len(command: &Command) -> usize
     ensures value { result ≡ length (command_bytes command.now) }
@@ -202,15 +92,14 @@ pub(super) fn command_len(command: &Command) -> usize
     }
 }
 
-#[tactic(auto, using(crate::proofs::LengthLemmas::put_len, crate::proofs::LengthLemmas::append_len))]
 fn op_len(op: &Op) -> usize
     requires { IsShort op.now }
     ensures value { result ≡ length (op_bytes op.now) }
     ensures most { result ≤ 12357 }
 {
     match op {
-        Op::Put(id, seq) => 5 + id.bytes().len() + 24 * seq.points().len(),
-        Op::Append(addition) => 26 + addition.id().bytes().len(),
-        Op::Remove(id) => 2 + id.bytes().len(),
+        Op::Put(id, seq) => 1 + id_len(id) + sequence_len(seq),
+        Op::Append(addition) => 1 + id_len(addition.id()) + TRIPLE_LEN,
+        Op::Remove(id) => 1 + id_len(id),
     }
 }

@@ -3,16 +3,17 @@
 ghost use Rattle.std.specs.Prelude.{◌≡◌, ◌+◌, ◌≤◌, ⊤, length, IfOk, IsErrOf};
 ghost use Rattle.wire.specs.Promises.{AreTold};
 ghost use Rattle.wire.specs.Puts.{SomeTold};
-ghost use Rattle.wire.specs.Reading.{Gives, Tells, MayWant};
+ghost use Rattle.fields.specs.Reading.{Tells};
+ghost use Rattle.wire.specs.Reading.{Gives, MayWant};
 ghost use Rattle.wire.specs.FrameReading.{range_at, few_at, slot_within, ballot_up_to, entry_at, entries_at};
 ghost use Rattle.wire.specs.FrameReading.{told_at, promise_at};
 
 use super::entry::Entry;
 use super::fault::WireFault;
-use super::input::Input;
 use super::promise::{Entries, MOST_ENTRIES, Promise};
 use super::reading::{read_ballot, read_held, read_slot};
 use crate::{Held, Nodes};
+use fields::Input;
 use sessions::Command;
 use std::alloc::Global;
 use synod::{Ballot, Slot, Vote};

@@ -6,7 +6,7 @@ use Rattle.wire.specs.FrameSpelling.{IsFrame}
 use Rattle.wire.specs.declared.frames.fault.WireFault.{WireFault}
 use Rattle.wire.specs.declared.frames.fault.WireFault.TheVariants as faults
 use Rattle.wire.specs.declared.frames.envelope.Envelope.{Envelope}
-use Rattle.wire.proofs.FieldLemmas.{IsBytes}
+use Rattle.fields.proofs.FieldLemmas.{IsBytes}
 use Rattle.wire.proofs.FrameLaws.{frame_found, frame_only}
 use Rattle.wire.proofs.FrameLengths.{frame_most}
 use Rattle.wire.proofs.frames.decoding.decode.Goals as goal

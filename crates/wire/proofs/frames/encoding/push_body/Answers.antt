@@ -1,5 +1,5 @@
 use Rattle.wire.specs.Spelling.{ballot_bytes, slot_bytes}
-use Rattle.wire.proofs.PushLemmas.{after_push}
+use Rattle.fields.proofs.PushLemmas.{after_push}
 use Rattle.wire.proofs.frames.encoding.push_body.Goals as goal
 
 pub returns-in_ok-push_ballot-in-Prepare-clause-spelled : goal.returns-in_ok-push_ballot-in-Prepare-clause-spelled

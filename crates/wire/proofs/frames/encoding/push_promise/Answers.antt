@@ -2,7 +2,8 @@ use Rattle.std.proofs.Common.{◌++◌, ◌∷◌, [], length}
 use Rattle.std.specs.List.{flat_map}
 use Rattle.wire.specs.Spelling.{ballot_bytes, slot_bytes}
 use Rattle.wire.specs.FrameSpelling.{entry_bytes}
-use Rattle.wire.proofs.PushLemmas.{after_push, both_pushed}
+use Rattle.fields.proofs.PushLemmas.{after_push}
+use Rattle.wire.proofs.PushLemmas.{both_pushed}
 use Rattle.wire.proofs.frames.encoding.push_promise.Goals as goal
 
 pub returns-clause-spelled : goal.returns-clause-spelled

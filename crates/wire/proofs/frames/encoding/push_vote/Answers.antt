@@ -1,7 +1,7 @@
 use Rattle.std.proofs.Common.{◌≡◌, ◌++◌, OnOk, subst}
 use Rattle.sessions.specs.declared.command.Command.{Command}
 use Rattle.wire.specs.Spelling.{ballot_bytes, slot_bytes, command_bytes}
-use Rattle.wire.proofs.PushLemmas.{after_push}
+use Rattle.fields.proofs.PushLemmas.{after_push}
 use Rattle.wire.proofs.frames.encoding.push_vote.Goals as goal
 
 pub returns-clause-spelled : goal.returns-clause-spelled

@@ -2,7 +2,7 @@ use Rattle.std.proofs.Common.{rules, ◌≡◌, ℕ, List, Ok, drop, ap, ◌∙�
 use Rattle.std.proofs.lemmas.List.{take_rest}
 use Rattle.wire.specs.Reading.{slot_at}
 use Rattle.wire.specs.Spelling.{slot_bytes, command_bytes}
-use Rattle.wire.proofs.FieldLaws.{slot_again}
+use Rattle.wire.proofs.BallotLaws.{slot_again}
 use Rattle.wire.proofs.frames.frame.slot_of_vote.Goals as goal
 
 -- behind the ballot stands the slot, whatever follows it

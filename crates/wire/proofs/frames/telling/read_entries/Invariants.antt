@@ -1,6 +1,6 @@
 use Rattle.std.proofs.Common.{◌≡◌, ◌-◌, length}
 use Rattle.wire.specs.FrameReading.{entries_at}
-use Rattle.wire.proofs.LoopLemmas.{with_front}
+use Rattle.fields.proofs.LoopLemmas.{with_front}
 use Rattle.wire.proofs.frames.telling.read_entries.Given as goal
 
 abbrev pub invariant-loop : goal.invariant-loop

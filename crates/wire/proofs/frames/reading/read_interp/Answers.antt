@@ -1,7 +1,0 @@
-use Rattle.std.proofs.Common.{rules}
-use Rattle.wire.specs.Reading.{interp_at}
-use Rattle.wire.proofs.frames.reading.read_interp.Goals as goal
-
-pub returns-in-3 : goal.returns-in-3
-unfolding interp_at
-returns-in-3 c = search rules

@@ -1,7 +1,0 @@
-use Rattle.std.proofs.Common.{◌≡◌, ◌-◌}
-use Rattle.wire.specs.Reading.{triples_at}
-use Rattle.wire.proofs.LoopLemmas.{with_front}
-use Rattle.wire.proofs.frames.reading.read_triples.Given as goal
-
-abbrev pub invariant-loop : goal.invariant-loop
-invariant-loop l = with_front l.points.items (triples_at (l.count - l.counter) l.from l.input) ≡ triples_at l.count 0 l.initial.input
