@@ -1,24 +1,25 @@
 -- What an acceptor does is allowed by the protocol.
-use Rattle.std.proofs.Common.{◌≡◌, ℕ, ◌≤◌, [], ◌∷◌, Option, Some, inl, inr, refl, sym, ◌∙◌, arith, le_refl}
+use Rattle.std.proofs.Common.{◌≡◌, ℕ, ◌≤◌, List, [], ◌∷◌, Option, Some, inl, inr, refl, sym, subst, ◌∙◌, arith, le_refl, append-nil}
 use Rattle.std.proofs.lemmas.Bool.Decides.{eqb_tells}
 use Rattle.synod.specs.Ballots.{rank, rank_of}
 use Rattle.synod.specs.declared.ballot.Ballot.{Ballot}
 use Rattle.synod.specs.declared.vote.Vote.{Vote}
-use Rattle.synod.specs.Messages.{Plain, Promise, Accept, Accepted, to_first}
+use Rattle.synod.specs.Messages.{Frame, Plain, Promise, Accept, Accepted, to_first}
 use Rattle.synod.specs.Records.{TellsVotes, with_promise, with_vote}
 use Rattle.synod.specs.Records.{put as put_one}
 use Rattle.synod.specs.Acts as act
-use Rattle.synod.specs.Acts.{Fleet, Input, Local, Brings}
+use Rattle.synod.specs.Acts.{Fleet, Input, Local, Brings, Does}
 use Rattle.synod.proofs.Doing.{does_nothing, does_one, does_then, confirms_to_first}
 use Rattle.synod.proofs.Puts.{put_same}
 use Rattle.sessions.specs.declared.command.Command.{Command}
 use Rattle.wire.specs.Promises.{Promised}
 use Rattle.acceptor.specs.declared.answer.Answer.{Answer}
+use Rattle.acceptor.specs.declared.answer.Answer.TheVariants as answers
 use Rattle.acceptor.specs.Accepting.{Accepting, put, nack, TellsFrom, AnswersPrepare, after_prepare, accept_answer, after_accept}
 use Rattle.acceptor.specs.Ranges.{IsPromiseFrom}
 use Rattle.acceptor.specs.Protocol.{RecordsStand, MayWrite, MayAnswer, answer_frames}
 use Rattle.acceptor.proofs.RangeLemmas.{told_from}
-use Rattle.acceptor.proofs.RecordLemmas.{refusing_cases}
+use Rattle.acceptor.proofs.VerdictLemmas.{judged, refused, behind, taken}
 
 -- two lists of votes with one vote more
 put_alike : (f g : ℕ → Option (Vote Command)) (i : ℕ) (x : Option (Vote Command)) (s : ℕ) → f s ≡ g s
@@ -30,11 +31,23 @@ module _ (f : Fleet Command) (i : ℕ) (input : Input Command) (x : Local Comman
   same_records : MayWrite f i input x a round
   same_records = record { after = x.records; does = does_nothing f i input x; stands = stands }
 
+  -- it sends nothing
+  says_nothing : MayAnswer f i input x a round []
+  says_nothing = record {
+    after = x.records;
+    does = subst (λ (l : List (Frame Command)). Does f i input x (record x { sent = l })) (sym (append-nil x.sent))
+        (does_nothing f i input x);
+    stands = stands;
+  }
+
   refuses : (to : ℕ) → MayAnswer f i input x a round (record { sender = i; receiver = to; message = Plain } ∷ [])
   refuses to = record { after = x.records; does = does_one f i input x (act.Says to) tt; stands = stands }
 
   low_rank : (b : Ballot) → rank_of a.promise ≤ rank b → x.records.promise ≤ rank b
   low_rank b le = omega (arith, stands.promise, le)
+
+  low_floor : (slot : ℕ) → a.floor ≤ slot → x.records.floor ≤ slot
+  low_floor slot low = omega (arith, stands.floor_, low)
 
   promised : (b : Ballot) → RecordsStand (record a { promise = Some b }) round (with_promise x.records b)
   promised b = record { promise = refl; vote = stands.vote; round_ = stands.round_; floor_ = stands.floor_ }
@@ -69,21 +82,25 @@ module _ (f : Fleet Command) (i : ℕ) (input : Input Command) (x : Local Comman
   })
 
   -- a prepare
-  pub prepare_writes : (b : Ballot) → MayWrite f i input x (after_prepare a b) round
-  prepare_writes b = elim (refusing_cases a.promise b) [
-    | inl h ↦ rw h.0 (promises b h.1)
-    | inr h ↦ rw h.1 same_records
+  pub prepare_writes : (b : Ballot) (first : ℕ) → MayWrite f i input x (after_prepare a b first) round
+  prepare_writes b first = elim (judged a b first) [
+    | refused p is ↦ rw is same_records
+    | behind floor is ↦ rw is same_records
+    | taken is high from ↦ rw is (promises b high)
   ]
 
   pub prepare_answers : (nodes to first : ℕ) (b : Ballot) (answer : Answer) → AnswersPrepare a b first answer
-      → MayAnswer f i input x (after_prepare a b) round (answer_frames i nodes to answer)
-  prepare_answers nodes to first b answer answers = elim (refusing_cases a.promise b) [
-    | inl h ↦
-        let told : TellsFrom a b first answer = rw h.0 at answers in
-        rw (h.0, told.is) (promises_and_tells nodes to first b told.promise h.1 told.from_the_floor told.tells)
-    | inr h ↦
-        let refused : answer ≡ nack b h.0 = rw h.1 at answers in
-        rw (h.1, refused) (refuses to)
+      → MayAnswer f i input x (after_prepare a b first) round (answer_frames i nodes to answer)
+  prepare_answers nodes to first b answer answers_ = elim (judged a b first) [
+    | refused p is ↦
+        let away : answer ≡ nack b p = rw is at answers_ in
+        rw (is, away) (refuses to)
+    | behind floor is ↦
+        let away : answer ≡ answers.Behind floor = rw is at answers_ in
+        rw (is, away) says_nothing
+    | taken is high from ↦
+        let told : TellsFrom a b first answer = rw is at answers_ in
+        rw (is, told.is) (promises_and_tells nodes to first b told.promise high told.from_the_floor told.tells)
   ]
 
   -- an accept
@@ -96,33 +113,36 @@ module _ (f : Fleet Command) (i : ℕ) (input : Input Command) (x : Local Comman
     floor_ = stands.floor_;
   }
 
-  votes : (v : Vote Command) → Brings input (Accept v) → rank_of a.promise ≤ rank v.ballot
+  votes : (v : Vote Command) → Brings input (Accept v) → rank_of a.promise ≤ rank v.ballot → a.floor ≤ v.slot
       → MayWrite f i input x (record a { promise = Some v.ballot; vote = put a.vote v.slot (Some v) }) round
-  votes v came le = record {
+  votes v came le low = record {
     after = with_vote x.records v;
-    does = does_one f i input x (act.Votes v) (came, low_rank v.ballot le);
+    does = does_one f i input x (act.Votes v) (came, low_rank v.ballot le, low_floor v.slot low);
     stands = voted v;
   }
 
   votes_and_confirms : (nodes : ℕ) (v : Vote Command) → Brings input (Accept v) → rank_of a.promise ≤ rank v.ballot
+      → a.floor ≤ v.slot
       → MayAnswer f i input x (record a { promise = Some v.ballot; vote = put a.vote v.slot (Some v) }) round
       (to_first nodes i (Accepted v))
-  votes_and_confirms nodes v came le = record {
+  votes_and_confirms nodes v came le low = record {
     after = with_vote x.records v;
-    does = does_then f i input (does_one f i input x (act.Votes v) (came, low_rank v.ballot le))
+    does = does_then f i input (does_one f i input x (act.Votes v) (came, low_rank v.ballot le, low_floor v.slot low))
         (confirms_to_first f i input (record x { records = with_vote x.records v }) v (put_same x.records.vote v.slot (Some v)) nodes);
     stands = voted v;
   }
 
   pub accept_writes : (v : Vote Command) → Brings input (Accept v) → MayWrite f i input x (after_accept a v) round
-  accept_writes v came = elim (refusing_cases a.promise v.ballot) [
-    | inl h ↦ rw h.0 (votes v came h.1)
-    | inr h ↦ rw h.1 same_records
+  accept_writes v came = elim (judged a v.ballot v.slot) [
+    | refused p is ↦ rw is same_records
+    | behind floor is ↦ rw is same_records
+    | taken is high from ↦ rw is (votes v came high from)
   ]
 
   pub accept_answers : (nodes to : ℕ) (v : Vote Command) → Brings input (Accept v)
       → MayAnswer f i input x (after_accept a v) round (answer_frames i nodes to (accept_answer a v))
-  accept_answers nodes to v came = elim (refusing_cases a.promise v.ballot) [
-    | inl h ↦ rw h.0 (votes_and_confirms nodes v came h.1)
-    | inr h ↦ rw h.1 (refuses to)
+  accept_answers nodes to v came = elim (judged a v.ballot v.slot) [
+    | refused p is ↦ rw is (refuses to)
+    | behind floor is ↦ rw is says_nothing
+    | taken is high from ↦ rw is (votes_and_confirms nodes v came high from)
   ]

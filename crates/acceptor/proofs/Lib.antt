@@ -1,6 +1,7 @@
 pub mod BallotLemmas
 pub mod LoadLemmas
 pub mod RangeLemmas
+pub mod VerdictLemmas
 pub mod RecordLemmas
 pub mod VoteLemmas
 pub mod SayingOne

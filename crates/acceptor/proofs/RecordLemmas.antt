@@ -1,5 +1,5 @@
 -- Records that say what an acceptor holds, as records are written or read one by one.
-use Rattle.std.proofs.Common.{◌≡◌, ◌⊎◌, ℕ, ◌+◌, ◌≤◌, List, Option, Some, None, inl, inr, refl, sym, ap, subst, ◌∙◌, arith, IfSome, IsSome}
+use Rattle.std.proofs.Common.{◌≡◌, ◌⊎◌, ℕ, ◌+◌, ◌≤◌, List, Option, Some, None, inl, inr, refl, sym, ap, subst, ◌∙◌, arith, IfSome}
 use Rattle.std.proofs.Common.{option_map}
 use Rattle.std.proofs.lemmas.Bool.{cases_eq, cases_lt, lt-ltb, le-ltb, eq-eqb, ne_eqb}
 use Rattle.std.proofs.lemmas.Bool.Decides.{eqb_tells}
@@ -8,7 +8,7 @@ use Rattle.synod.specs.Ballots.{rank, rank_of}
 use Rattle.synod.specs.declared.ballot.Ballot.{Ballot}
 use Rattle.synod.specs.declared.vote.Vote.{Vote}
 use Rattle.sessions.specs.declared.command.Command.{Command}
-use Rattle.stable.specs.Records.{Records, no_records, with_record}
+use Rattle.stable.specs.Records.{Records, Sets, no_records, with_record}
 use Rattle.stable.specs.Records.{rank as place}
 use Rattle.stable.specs.declared.key.Key.{Key}
 use Rattle.stable.specs.declared.key.Key.TheVariants as key
@@ -16,7 +16,8 @@ use Rattle.stable.proofs.KeyLemmas.{same_rank as same_key}
 use Rattle.acceptor.specs.Forms.{BallotFits, VoteFits, IsOfItsForm}
 use Rattle.std.specs.Prelude.{◌==◌, if◌then◌else◌}
 use Rattle.acceptor.proofs.BallotLemmas.{same_rank}
-use Rattle.acceptor.specs.Accepting.{Accepting, Write, put, RecordsSay, refusing, records_after}
+use Rattle.acceptor.proofs.VerdictLemmas.{judged, refused, behind, taken}
+use Rattle.acceptor.specs.Accepting.{Accepting, Write, put, RecordsSay, Taken, verdict, records_after}
 use Rattle.acceptor.specs.Accepting.{prepare_write, after_prepare, IsAcceptWrite, after_accept}
 use Rattle.acceptor.specs.Loading.{raised, with_seen}
 use Rattle.acceptor.specs.Spelling.{ballot_bytes, vote_bytes}
@@ -58,7 +59,7 @@ vote_elsewhere : (r : Records) (i s : ℕ) (found : Option (List ℕ)) → (s �
 vote_elsewhere r i s found ne = elsewhere r (key.Vote i) (key.Vote s) found (λ e. ne (omega arith))
 
 vote_here : (r : Records) (i s : ℕ) (found : Option (List ℕ)) → s ≡ i → with_seen r (key.Vote i) found (key.Vote s) ≡ found
-vote_here r i s found e = rw (eq-eqb (s + 2) (i + 2) (omega arith)) refl
+vote_here r i s found e = rw (eq-eqb (place (key.Vote s)) (place (key.Vote i)) (omega arith)) refl
 
 -- where a vote is put under its key and among the votes, a record that spelled its vote still does
 votes_say : (r : Records) (f : Votes) (v : Vote Command) (s : ℕ) → r (key.Vote s) ≡ option_map vote_bytes (f s)
@@ -67,23 +68,6 @@ votes_say r f v s says =
     elim (cases_eq s v.slot) [
       | inl e ↦ vote_here r v.slot s _ e ∙ sym (ap (option_map vote_bytes) (put_here f v.slot s (Some v) e))
       | inr ne ↦ vote_elsewhere r v.slot s _ ne ∙ says ∙ sym (ap (option_map vote_bytes) (put_elsewhere f v.slot s (Some v) ne))
-    ]
-
-pub refusing_cases : (p : Option Ballot) (b : Ballot) → ((refusing p b ≡ None) × (rank_of p ≤ rank b))
-    ⊎ ((q : Ballot) × (refusing p b ≡ Some q))
-refusing_cases None b = inl (refl, omega arith)
-refusing_cases (Some p) b =
-    elim (cases_lt (rank b) (rank p)) [
-      | inl lt ↦ inr (p, rw (lt-ltb _ _ lt) refl)
-      | inr le ↦ inl (rw (le-ltb _ _ le) refl, le)
-    ]
-
--- a ballot that is not refused is no lower than the promise
-pub taken_is_above : (p : Option Ballot) (b : Ballot) → refusing p b ≡ None → rank_of p ≤ rank b
-taken_is_above p b taken =
-    elim (refusing_cases p b) [
-      | inl low ↦ low.1
-      | inr refused ↦ absurd (let is = refused.1 in cc)
     ]
 
 -- ---- what is written under one key
@@ -135,23 +119,30 @@ RecordsSay-round r a bytes says =
     }
 
 -- nor do a promise and a vote touch the round
-pub prepare_leaves_round : (r : Records) (a : Accepting) (b : Ballot) → records_after r (prepare_write a b) key.Round ≡ r key.Round
-prepare_leaves_round r a b =
-    elim (refusing_cases a.promise b) [
-      | inl h ↦ elim (eqb_tells (rank b) (rank_of a.promise)) [ inl same ↦ rw h.0 (rw same.0 refl) | inr apart ↦ rw h.0 (rw apart.0 refl) ]
-      | inr h ↦ rw h.1 refl
+pub prepare_leaves_round : (r : Records) (a : Accepting) (b : Ballot) (first : ℕ)
+    → records_after r (prepare_write a b first) key.Round ≡ r key.Round
+prepare_leaves_round r a b first =
+    elim (judged a b first) [
+      | refused p is ↦ rw is refl
+      | behind floor is ↦ rw is refl
+      | taken is high from ↦ elim (eqb_tells (rank b) (rank_of a.promise)) [
+        | inl same ↦ rw is (rw same.0 refl)
+        | inr apart ↦ rw is (rw apart.0 refl)
+      ]
     ]
 
 pub accept_leaves_round : (r : Records) (a : Accepting) (v : Vote Command) (w : Write) → IsAcceptWrite a v w
     → records_after r w key.Round ≡ r key.Round
 accept_leaves_round r a v None is = refl
 accept_leaves_round r a v (Some w) is =
-    elim (refusing_cases a.promise v.ballot) [
-      | inl h ↦
-          let written : Some w ≡ Some (key.Vote v.slot, vote_bytes v) = is.cast h.0 (λ stands. let none = is.already stands in absurd cc) in
+    elim (judged a v.ballot v.slot) [
+      | refused p other ↦ (let none : Some w ≡ None = is.untaken (λ same. absurd (cc)) in absurd (cc))
+      | behind floor other ↦ (let none : Some w ≡ None = is.untaken (λ same. absurd (cc)) in absurd (cc))
+      | taken same high from ↦
+          let written : Some w ≡ Some (Sets (key.Vote v.slot) (vote_bytes v)) =
+          is.cast (record { taken = same; fresh = λ stands. let none = is.already stands in absurd (cc) }) in
           subst (λ (x : Write). records_after r x key.Round ≡ r key.Round) (sym written)
           (elsewhere r (key.Vote v.slot) key.Round (Some (vote_bytes v)) (λ e. absurd (omega arith)))
-      | inr h ↦ (let none : Some w ≡ None = rw h.1 at is.refused in absurd cc)
     ]
 
 -- a vote in its record whose ballot is not below the promise
@@ -308,7 +299,7 @@ same_promise None b e = absurd (begun b (omega arith))
 same_promise (Some p) b e = ap Some (same_rank p b (sym e))
 
 prepare_taken : (r : Records) (a : Accepting) (b : Ballot) → BallotFits b → RecordsSay r a → rank_of a.promise ≤ rank b
-    → RecordsSay (records_after r (if rank b == rank_of a.promise then None else Some (key.Promise, ballot_bytes b)))
+    → RecordsSay (records_after r (if rank b == rank_of a.promise then None else Some (Sets key.Promise (ballot_bytes b))))
     (record a { promise = Some b })
 prepare_taken r a b fits says le =
     elim (eqb_tells (rank b) (rank_of a.promise)) [
@@ -317,12 +308,13 @@ prepare_taken r a b fits says le =
     ]
 
 -- records that say what an acceptor holds say so after a prepare and its write
-pub prepare_kept : (r : Records) (a : Accepting) (b : Ballot) → BallotFits b → RecordsSay r a
-    → RecordsSay (records_after r (prepare_write a b)) (after_prepare a b)
-prepare_kept r a b fits says =
-    elim (refusing_cases a.promise b) [
-      | inl h ↦ rw h.0 (prepare_taken r a b fits says h.1)
-      | inr h ↦ rw h.1 says
+pub prepare_kept : (r : Records) (a : Accepting) (b : Ballot) (first : ℕ) → BallotFits b → RecordsSay r a
+    → RecordsSay (records_after r (prepare_write a b first)) (after_prepare a b first)
+prepare_kept r a b first fits says =
+    elim (judged a b first) [
+      | refused p is ↦ rw is says
+      | behind floor is ↦ rw is says
+      | taken is high from ↦ rw is (prepare_taken r a b fits says high)
     ]
 
 -- a vote that stands there already raises the promise to its ballot
@@ -352,27 +344,31 @@ vote_stands r a v says le stands =
     })
 
 accept_taken : (r : Records) (a : Accepting) (v : Vote Command) (w : Write) → VoteFits v → IsAcceptWrite a v w → RecordsSay r a
-    → refusing a.promise v.ballot ≡ None
+    → verdict a v.ballot v.slot ≡ Taken
     → rank_of a.promise ≤ rank v.ballot → RecordsSay (records_after r w)
     (record a { promise = Some v.ballot; vote = put a.vote v.slot (Some v) })
-accept_taken r a v None fits is says taken le =
+accept_taken r a v None fits is says same high =
     elim (is.nothing refl) [
-      | inl refused ↦ (let none : IsSome {T = Ballot} None = rw taken at refused in absurd cc)
-      | inr stands ↦ vote_stands r a v says le stands
+      | inl other ↦ absurd (other same)
+      | inr stands ↦ vote_stands r a v says high stands
     ]
-accept_taken r a v (Some w) fits is says taken le =
-    let written : Some w ≡ Some (key.Vote v.slot, vote_bytes v) = is.cast taken (λ stands. let none = is.already stands in absurd cc) in
+accept_taken r a v (Some w) fits is says same high =
+    let written : Some w ≡ Some (Sets (key.Vote v.slot) (vote_bytes v)) =
+    is.cast (record { taken = same; fresh = λ stands. let none = is.already stands in absurd (cc) }) in
     subst (λ (x : Write). RecordsSay (records_after r x) (record a { promise = Some v.ballot; vote = put a.vote v.slot (Some v) }))
     (sym written)
-    (RecordsSay-vote r a v fits says le)
+    (RecordsSay-vote r a v fits says high)
 
 -- records that say what an acceptor holds say so after an accept and its write
 pub accept_kept : (r : Records) (a : Accepting) (v : Vote Command) (w : Write) → VoteFits v → IsAcceptWrite a v w → RecordsSay r a
     → RecordsSay (records_after r w) (after_accept a v)
 accept_kept r a v w fits is says =
-    elim (refusing_cases a.promise v.ballot) [
-      | inl h ↦ rw h.0 (accept_taken r a v w fits is says h.0 h.1)
-      | inr h ↦
-          let none : w ≡ None = rw h.1 at is.refused in
-          rw h.1 (subst (λ (x : Write). RecordsSay (records_after r x) a) (sym none) says)
+    elim (judged a v.ballot v.slot) [
+      | refused p other ↦
+          let none : w ≡ None = is.untaken (λ same. absurd (cc)) in
+          rw other (subst (λ (x : Write). RecordsSay (records_after r x) a) (sym none) says)
+      | behind floor other ↦
+          let none : w ≡ None = is.untaken (λ same. absurd (cc)) in
+          rw other (subst (λ (x : Write). RecordsSay (records_after r x) a) (sym none) says)
+      | taken same high from ↦ rw same (accept_taken r a v w fits is says same high)
     ]

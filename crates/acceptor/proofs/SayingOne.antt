@@ -8,8 +8,7 @@ use Rattle.sessions.specs.declared.command.Command.{Command}
 use Rattle.stable.specs.Records.{Records}
 use Rattle.wire.specs.Reading.{ballot_at}
 use Rattle.wire.specs.RecordForms.{IsVoteRecord, choice_at}
-use Rattle.wire.proofs.FieldLemmas.{ok_is}
-use Rattle.wire.proofs.FieldLaws.{ballot_again}
+use Rattle.wire.proofs.BallotLaws.{ballot_again}
 use Rattle.wire.proofs.RecordLaws.{record_is_choice}
 use Rattle.acceptor.specs.Accepting.{Accepting, RecordsSay, IsGreatest}
 use Rattle.acceptor.specs.Forms.{BallotFits, VoteFits}
@@ -20,7 +19,8 @@ one_ballot : (a b : Ballot) → BallotFits a → BallotFits b → ballot_bytes a
 one_ballot a b fits_a fits_b e =
     let read_a : ballot_at 7 (ballot_bytes a ++ []) ≡ Ok (a, []) = ballot_again 7 a [] fits_a in
     let read_b : ballot_at 7 (ballot_bytes b ++ []) ≡ Ok (b, []) = ballot_again 7 b [] fits_b in
-    let same : (a, []) ≡ (b, []) = ok_is (a, []) (b, []) (sym read_a ∙ ap (λ (xs : List ℕ). ballot_at 7 (xs ++ [])) e ∙ read_b) in
+    let read = sym read_a ∙ ap (λ (xs : List ℕ). ballot_at 7 (xs ++ [])) e ∙ read_b in
+    let same : (a, []) ≡ (b, []) = cc in
     ap (λ (p : Ballot × List ℕ). p.0) same
 
 -- the record of a vote that fits
@@ -34,8 +34,8 @@ one_vote a b fits_a fits_b slot e =
     record_is_choice (vote_bytes a) a.ballot a.command (vote_record a fits_a) in
     let read_b : choice_at (vote_bytes b) ≡ Ok ((b.ballot, b.command), []) =
     record_is_choice (vote_bytes b) b.ballot b.command (vote_record b fits_b) in
-    let same : ((a.ballot, a.command), []) ≡ ((b.ballot, b.command), []) =
-    ok_is ((a.ballot, a.command), []) ((b.ballot, b.command), []) (sym read_a ∙ ap choice_at e ∙ read_b) in
+    let read = sym read_a ∙ ap choice_at e ∙ read_b in
+    let same : ((a.ballot, a.command), []) ≡ ((b.ballot, b.command), []) = cc in
     let ballot : a.ballot ≡ b.ballot = ap (λ (p : (Ballot × Command) × List ℕ). p.0.0) same in
     let command : a.command ≡ b.command = ap (λ (p : (Ballot × Command) × List ℕ). p.0.1) same in
     λ i. record { slot = slot i; ballot = ballot i; command = command i }

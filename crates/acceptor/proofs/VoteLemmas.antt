@@ -1,16 +1,21 @@
 -- Votes in a map by slot.
-use Rattle.std.proofs.Common.{◌≡◌, ℕ, Option, Some, None, Result, Ok, Err, refl, ap, subst, ◌∙◌, sym, inl, inr, IsSome, IfSome, OnOk, OnErr}
-use Rattle.std.proofs.Common.{option_map}
+use Rattle.std.proofs.Common.{◌≡◌, ◌≢◌, ℕ, Option, Some, None, Result, Ok, Err, refl, ap, subst, ◌∙◌, sym, inl, inr, IsSome, OnOk, OnErr}
+use Rattle.std.proofs.Common.{zero, ◌+◌, ◌≤◌, List, option_map, arith}
 use Rattle.std.proofs.lemmas.Bool.Decides.{eqb_tells}
 use Rattle.std.proofs.lemmas.Bool.{eq-eqb}
+use Rattle.std.proofs.lemmas.Option.{none-some}
+use Rattle.synod.specs.Ballots.{rank, rank_of}
 use Rattle.synod.specs.declared.ballot.Ballot.{Ballot}
 use Rattle.synod.specs.declared.vote.Vote.{Vote}
 use Rattle.sessions.specs.declared.command.Command.{Command}
 use Rattle.acceptor.specs.declared.cast.Cast.{Cast}
+use Rattle.stable.specs.Records.{Sets, Trims, rank as place}
+use Rattle.stable.specs.declared.key.Key.{Key}
 use Rattle.stable.specs.declared.key.Key.TheVariants as key
-use Rattle.acceptor.specs.Accepting.{Accepting, put, refusing, IsAcceptWrite}
-use Rattle.acceptor.specs.Spelling.{vote_bytes}
+use Rattle.acceptor.specs.Accepting.{Accepting, Write, put, Taken, verdict, prepare_write, IsAcceptWrite}
+use Rattle.acceptor.specs.Spelling.{ballot_bytes, vote_bytes}
 use Rattle.acceptor.specs.Casts.{vote_at}
+use Rattle.acceptor.proofs.VerdictLemmas.{judged, refused, behind, taken}
 
 some_not_none : {X : Type 0} (o : Option X) → IsSome o → o ≡ None → ⊥
 some_not_none (Some x) h e = absurd cc
@@ -56,32 +61,57 @@ put_and_back f g h slot w before there back was s =
       | inr apart ↦ rw apart.0 at (back s) ∙ rw apart.0 at (there s)
     ]
 
-always : {A P : Type 0} (o : Option A) → P → IfSome o (λ _. P)
-always (Some x) p = p
-always None p = tt
-
 -- the write of an accept that is taken, and that is no vote yet
-pub cast_write : (a : Accepting) (v : Vote Command) → refusing a.promise v.ballot ≡ None → ¬ (a.vote v.slot ≡ Some v)
-    → IsAcceptWrite a v (Some (key.Vote v.slot, vote_bytes v))
-cast_write a v taken fresh = record { refused = rw taken tt; already = λ e. absurd (fresh e); cast = λ _ _. refl; nothing = λ e. absurd cc }
+pub cast_write : (a : Accepting) (v : Vote Command) → verdict a v.ballot v.slot ≡ Taken → ¬ (a.vote v.slot ≡ Some v)
+    → IsAcceptWrite a v (Some (Sets (key.Vote v.slot) (vote_bytes v)))
+cast_write a v is fresh =
+    record { cast = λ _. refl; untaken = λ not. absurd (not is); already = λ e. absurd (fresh e); nothing = λ e. absurd cc }
 
 -- there is nothing to write where the vote stands there already
 pub no_write : (a : Accepting) (v : Vote Command) → a.vote v.slot ≡ Some v → IsAcceptWrite a v None
 no_write a v cast =
-    record {
-      refused = always (refusing a.promise v.ballot) refl;
-      already = λ _. refl;
-      cast = λ _ fresh. absurd (fresh cast);
-      nothing = λ _. inr cast;
-    }
+    record { cast = λ new. absurd (new.fresh cast); untaken = λ _. refl; already = λ _. refl; nothing = λ _. inr cast }
 
--- there is nothing to write where the ballot is refused
-pub refused_write : (a : Accepting) (v : Vote Command) (p : Ballot) → refusing a.promise v.ballot ≡ Some p → IsAcceptWrite a v None
-refused_write a v p is =
-    let refused : IsSome (refusing a.promise v.ballot) = rw is refl in
-    record {
-      refused = always (refusing a.promise v.ballot) refl;
-      already = λ _. refl;
-      cast = λ taken _. absurd cc;
-      nothing = λ _. inl refused;
-    }
+-- there is nothing to write where it isn't taken
+pub untaken_write : (a : Accepting) (v : Vote Command) → verdict a v.ballot v.slot ≢ Taken → IsAcceptWrite a v None
+untaken_write a v not =
+    record { cast = λ new. absurd (not new.taken); untaken = λ _. refl; already = λ _. refl; nothing = λ _. inl not }
+
+-- ---- which votes are written
+-- the place of the key that a write sets, if it sets one
+abbrev set_place : Write → ℕ
+set_place None = zero
+set_place (Some (Trims below)) = zero
+set_place (Some (Sets key bytes)) = place key
+
+-- a write of another key
+pub other_key : (other : Key) (slot : ℕ) (bytes more : List ℕ) → (place other ≡ slot + 3 → ⊥)
+    → ◌≡◌ {A = Write} (Some (Sets other bytes)) (Some (Sets (key.Vote slot) more)) → ⊥
+other_key other slot bytes more apart e = apart (ap set_place e)
+
+-- a prepare writes no vote
+pub promise_is_no_vote : (a : Accepting) (b : Ballot) (first slot : ℕ) (bytes : List ℕ)
+    → prepare_write a b first ≡ Some (Sets (key.Vote slot) bytes) → ⊥
+promise_is_no_vote a b first slot bytes e =
+    elim (judged a b first) [
+      | refused p is ↦ none-some (Sets (key.Vote slot) bytes) (rw is at e)
+      | behind floor is ↦ none-some (Sets (key.Vote slot) bytes) (rw is at e)
+      | taken is high from ↦ elim (eqb_tells (rank b) (rank_of a.promise)) [
+        | inl same ↦ none-some (Sets (key.Vote slot) bytes) (rw (is, same.0) at e)
+        | inr apart ↦ other_key key.Promise slot (ballot_bytes b) bytes (λ zero_. absurd (omega (arith, zero_))) (rw (is, apart.0) at e)
+      ]
+    ]
+
+-- an accept writes one at a slot from the floor on
+pub cast_above : (a : Accepting) (v : Vote Command) (w : Write) → IsAcceptWrite a v w → (slot : ℕ) (bytes : List ℕ)
+    → w ≡ Some (Sets (key.Vote slot) bytes) → a.floor ≤ slot
+cast_above a v w is slot bytes e =
+    let some : w ≡ None → ⊥ = λ none. none-some (Sets (key.Vote slot) bytes) (sym none ∙ e) in
+    elim (judged a v.ballot v.slot) [
+      | refused p other ↦ absurd (some (is.untaken (λ same. absurd (cc))))
+      | behind floor other ↦ absurd (some (is.untaken (λ same. absurd (cc))))
+      | taken same high from ↦
+          let written = is.cast (record { taken = same; fresh = λ stands. some (is.already stands) }) in
+          let here : v.slot + 3 ≡ slot + 3 = ap set_place (sym written ∙ e) in
+          omega (arith, from, here)
+    ]

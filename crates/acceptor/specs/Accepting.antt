@@ -12,21 +12,22 @@ use Rattle.std.specs.Prelude.{
   Some,
   None,
   option_map,
+  unwrap_or,
   if◌then◌else◌,
   IfSome,
-  IsSome,
   MatchOption,
   zero,
 }
 use Rattle.synod.specs.Ballots.{rank, rank_of}
 use Rattle.synod.specs.declared.ballot.Ballot.{Ballot}
 use Rattle.synod.specs.declared.vote.Vote.{Vote}
-use Rattle.stable.specs.Records.{Records, with_record}
+use Rattle.stable.specs.Records.{Records, Change, Sets, changed}
 use Rattle.stable.specs.declared.key.Key.{Key}
 use Rattle.stable.specs.declared.key.Key.TheVariants as key
 use Rattle.sessions.specs.declared.command.Command.{Command}
 use Rattle.wire.specs.Promises.{Promised}
 use Rattle.acceptor.specs.declared.answer.Answer.{Answer}
+use Rattle.acceptor.specs.declared.answer.Answer.TheVariants as answers
 use Rattle.acceptor.specs.declared.answer.Answer.TheVariants.{Promise, Accepted, Nack}
 use Rattle.acceptor.specs.Forms.{BallotFits, VoteFits}
 use Rattle.acceptor.specs.Ranges.{IsPromiseFrom}
@@ -38,9 +39,9 @@ pub record Accepting : Type 0 where
   pub floor : ℕ
   pub vote : ℕ → Option (Vote Command)
 
--- a write that a call makes, if it makes one: the key, and the bytes that it is to hold
+-- a write that a call makes, if it makes one
 abbrev pub Write : Type 0
-Write = Option (Key × List ℕ)
+Write = Option Change
 
 -- a function with one value replaced
 abbrev pub put : {A : Type 0} → (ℕ → A) → ℕ → A → ℕ → A
@@ -69,22 +70,41 @@ pub record RecordsSay (records : Key → Option (List ℕ)) (a : Accepting) : Ty
   pub promised_fits : IfSome promised BallotFits
   pub votes_fit : (s : ℕ) → a.floor ≤ s → IfSome (a.vote s) VoteFits
 
--- ---- a ballot is refused or promised
+-- ---- what is asked of an acceptor, under a ballot and from a slot on, is refused, or is behind, or is taken
 -- the promise that refuses the ballot: the acceptor's, where the ballot is below it
 abbrev pub refusing : Option Ballot → Ballot → Option Ballot
 refusing None b = None
 refusing (Some p) b = if nat_lt (rank b) (rank p) then Some p else None
 
--- what a call makes of a ballot: where it is refused nothing changes and the promise is told, and
--- otherwise the one thing or the other is done
-abbrev pub unless_refused : {A : Type 0} → Option Ballot → (Ballot → A) → A → A
-unless_refused None refused done = done
-unless_refused (Some p) refused done = refused p
+-- the promise that the ballot is below; or else the floor that the slot is below; or else what is asked is done
+pub data Verdict : Type 0 where
+  Refused : (promised : Ballot) → Verdict
+  Behind : (floor : ℕ) → Verdict
+  Taken : Verdict
 
+abbrev pub of_refusal : Option Ballot → Verdict → Verdict
+of_refusal None unrefused = unrefused
+of_refusal (Some p) unrefused = Refused p
+
+abbrev pub verdict : Accepting → Ballot → ℕ → Verdict
+verdict a b slot = of_refusal (refusing a.promise b) (if nat_lt slot a.floor then Behind a.floor else Taken)
+
+-- only what is taken changes anything
+abbrev pub if_taken : {A : Type 0} → Verdict → A → A → A
+if_taken (Refused p) done unchanged = unchanged
+if_taken (Behind floor) done unchanged = unchanged
+if_taken Taken done unchanged = done
+
+-- the answer to what isn't taken tells the promise, or the floor
 abbrev pub nack : Ballot → Ballot → Answer
 nack b p = Nack (record { ballot = b; promised = p })
 
--- ---- a prepare: any other ballot is promised, and the votes from the first slot on are told
+abbrev pub turned_away : Verdict → Ballot → Option Answer
+turned_away (Refused p) b = Some (nack b p)
+turned_away (Behind floor) b = Some (answers.Behind floor)
+turned_away Taken b = None
+
+-- ---- a prepare that is taken: its ballot is promised, and the votes from the first slot on are told
 pub record TellsFrom (a : Accepting) (b : Ballot) (first : ℕ) (answer : Answer) : Type 0 where
   pub promise : Promised
   pub is : answer ≡ Promise promise
@@ -93,50 +113,49 @@ pub record TellsFrom (a : Accepting) (b : Ballot) (first : ℕ) (answer : Answer
 
 abbrev pub AnswersPrepare : Accepting → Ballot → ℕ → Answer → Type 0
 AnswersPrepare a b first answer =
-    MatchOption (refusing a.promise b) (TellsFrom a b first answer) (λ p. answer ≡ nack b p)
+    MatchOption (turned_away (verdict a b first) b) (TellsFrom a b first answer) (λ away. answer ≡ away)
 
--- a promise is written, unless it is the promise already
-abbrev pub prepare_write : Accepting → Ballot → Write
-prepare_write a b = unless_refused (refusing a.promise b) (λ _. None)
-    (if rank b == rank_of a.promise then None else Some (key.Promise, ballot_bytes b))
+-- the promise is written, unless it is the promise already
+abbrev pub prepare_write : Accepting → Ballot → ℕ → Write
+prepare_write a b first = if_taken (verdict a b first)
+    (if rank b == rank_of a.promise then None else Some (Sets key.Promise (ballot_bytes b))) None
 
-abbrev pub after_prepare : Accepting → Ballot → Accepting
-after_prepare a b = unless_refused (refusing a.promise b) (λ _. a) (record a { promise = Some b })
+abbrev pub after_prepare : Accepting → Ballot → ℕ → Accepting
+after_prepare a b first = if_taken (verdict a b first) (record a { promise = Some b }) a
 
--- ---- an accept: any other vote is cast, and its ballot promised
+-- ---- an accept that is taken: its vote is cast, and its ballot promised
 abbrev pub accept_answer : Accepting → Vote Command → Answer
-accept_answer a v = unless_refused (refusing a.promise v.ballot) (nack v.ballot) (Accepted v)
+accept_answer a v = unwrap_or (turned_away (verdict a v.ballot v.slot) v.ballot) (Accepted v)
 
 abbrev pub after_accept : Accepting → Vote Command → Accepting
-after_accept a v = unless_refused (refusing a.promise v.ballot) (λ _. a)
-    (record a { promise = Some v.ballot; vote = put a.vote v.slot (Some v) })
+after_accept a v = if_taken (verdict a v.ballot v.slot)
+    (record a { promise = Some v.ballot; vote = put a.vote v.slot (Some v) }) a
 
 -- the vote is taken, and does not stand there already
 pub record IsNewVote (a : Accepting) (v : Vote Command) : Type 0 where
-  pub taken : refusing a.promise v.ballot ≡ None
+  pub taken : verdict a v.ballot v.slot ≡ Taken
   pub fresh : a.vote v.slot ≢ Some v
 
--- a vote is written, unless its ballot is refused or the vote is that already
+-- a new vote is written; nothing is written where it isn't taken, or stands there already
 pub record IsAcceptWrite (a : Accepting) (v : Vote Command) (write : Write) : Type 0 where
-  pub refused : IfSome (refusing a.promise v.ballot) (λ _. write ≡ None)
+  pub cast : IsNewVote a v → write ≡ Some (Sets (key.Vote v.slot) (vote_bytes v))
+  pub untaken : verdict a v.ballot v.slot ≢ Taken → write ≡ None
   pub already : a.vote v.slot ≡ Some v → write ≡ None
-  pub cast : refusing a.promise v.ballot ≡ None → a.vote v.slot ≢ Some v
-      → write ≡ Some (key.Vote v.slot, vote_bytes v)
-  pub nothing : write ≡ None → IsSome (refusing a.promise v.ballot) ⊎ (a.vote v.slot ≡ Some v)
+  pub nothing : write ≡ None → (verdict a v.ballot v.slot ≢ Taken) ⊎ (a.vote v.slot ≡ Some v)
 
 -- ---- what a call makes of the storage, whose relations are given
 -- the write is made, or where there is none the storage is at most read
-abbrev pub HasWritten : {S : Type 0} → (S → S → Type 0) → (S → Key → List ℕ → S → Type 0)
+abbrev pub HasWritten : {S : Type 0} → (S → S → Type 0) → (S → Change → S → Type 0)
     → S → S → Write → Type 0
-HasWritten reads puts old new None = reads old new
-HasWritten reads puts old new (Some w) = puts old w.0 w.1 new
+HasWritten reads changes old new None = reads old new
+HasWritten reads changes old new (Some change) = changes old change new
 
 -- there was a write to make, and the device failed on it
-abbrev pub HasFailed : {S : Type 0} → (S → Key → List ℕ → S → Type 0) → S → S → Write → Type 0
+abbrev pub HasFailed : {S : Type 0} → (S → Change → S → Type 0) → S → S → Write → Type 0
 HasFailed fails old new None = ⊥
-HasFailed fails old new (Some w) = fails old w.0 w.1 new
+HasFailed fails old new (Some change) = fails old change new
 
 -- the records after a write, if there is one
 abbrev pub records_after : Records → Write → Records
 records_after records None = records
-records_after records (Some w) = with_record records w.0 w.1
+records_after records (Some change) = changed records change

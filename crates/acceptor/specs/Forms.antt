@@ -18,8 +18,9 @@ pub record VoteFits (v : Vote Command) : Type 0 where
   pub ballot : BallotFits v.ballot
   pub command : CommandFits v.command
 
--- the bytes are what a record under the key may be; a round is the proposer's, and is not read here
+-- the bytes are what a record under the key may be; a round is the proposer's, and is not read here; no bytes are a checkpoint's yet
 abbrev pub IsOfItsForm : Key → List ℕ → Type 0
+IsOfItsForm key.Checkpoint bytes = ⊥
 IsOfItsForm key.Promise bytes = (b : Ballot) × BallotFits b × (bytes ≡ ballot_bytes b)
 IsOfItsForm key.Round bytes = Unit {0}
 IsOfItsForm (key.Vote slot) bytes = (v : Vote Command) × VoteFits v × (bytes ≡ vote_bytes v)

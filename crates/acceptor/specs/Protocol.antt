@@ -7,7 +7,7 @@ use Rattle.synod.specs.Records as synod_records
 use Rattle.synod.specs.Acts.{Fleet, Input, Local, Does}
 use Rattle.sessions.specs.declared.command.Command.{Command}
 use Rattle.acceptor.specs.declared.answer.Answer.{Answer}
-use Rattle.acceptor.specs.declared.answer.Answer.TheVariants.{Promise, Accepted, Nack}
+use Rattle.acceptor.specs.declared.answer.Answer.TheVariants.{Promise, Accepted, Nack, Behind}
 use Rattle.acceptor.specs.Accepting.{Accepting}
 
 -- the protocol's records say what the acceptor holds, of the votes from the floor on, and the round that its node has
@@ -18,12 +18,13 @@ pub record RecordsStand (a : Accepting) (round : ℕ) (r : synod_records.Records
   pub round_ : r.round ≡ round
   pub floor_ : r.floor ≡ a.floor
 
--- what node i of so many sends to answer node `to`: Accepted goes to every node
+-- what node i of so many sends to answer node `to`: Accepted goes to every node, and no message tells that something is behind
 abbrev pub answer_frames : ℕ → ℕ → ℕ → Answer → List (Frame Command)
 answer_frames i nodes to (Promise p) =
     record { sender = i; receiver = to; message = synod.Promise p.ballot p.first p.last p.entries } ∷ []
 answer_frames i nodes to (Accepted v) = to_first nodes i (synod.Accepted v)
 answer_frames i nodes to (Nack n) = record { sender = i; receiver = to; message = Plain } ∷ []
+answer_frames i nodes to (Behind floor) = []
 
 -- from x the node may come to records that stand for this, and nothing else changes: the case of a node that
 -- goes down once the write is made

@@ -3,6 +3,6 @@ use Rattle.acceptor.specs.declared.acceptor.Acceptor.{Acceptor}
 use Rattle.acceptor.specs.Accepting.{Accepting}
 pub use Rattle.acceptor.specs.Casts.{vote_at, vote_held}
 
--- what an acceptor holds: it speaks of every slot
+-- what an acceptor holds
 abbrev pub accepting_of : Acceptor → Accepting
-accepting_of a = record { promise = a.promise; floor = 0; vote = λ s. vote_held a.votes s }
+accepting_of a = record { promise = a.promise; floor = a.floor; vote = λ s. vote_held a.votes s }

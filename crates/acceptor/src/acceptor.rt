@@ -5,7 +5,7 @@ ghost use Rattle.std.specs.Prelude.{IsSome, IfSome, IfOk, OnOk, OnErr, IsErrOf, 
 ghost use Rattle.synod.specs.Ballots.{rank};
 ghost use Rattle.stable.specs.Records.{Records};
 ghost use Rattle.stable.specs.declared.key.Key.TheVariants as key;
-ghost use Rattle.acceptor.specs.Accepting.{Write, RecordsSay, refusing};
+ghost use Rattle.acceptor.specs.Accepting.{Write, RecordsSay, refusing, Taken, verdict, turned_away};
 ghost use Rattle.acceptor.specs.Accepting.{AnswersPrepare, prepare_write, after_prepare};
 ghost use Rattle.acceptor.specs.Accepting.{accept_answer, after_accept, IsAcceptWrite, IsNewVote};
 ghost use Rattle.acceptor.specs.Accepting.{HasWritten, HasFailed};
@@ -17,7 +17,7 @@ ghost use Rattle.acceptor.specs.Spelling.{ballot_bytes, vote_bytes};
 
 use super::answer::Answer;
 use super::cast::Cast;
-use super::records::{promised, voted, write_promise};
+use super::records::{no_checkpoint, promised, voted, write_promise};
 use super::votes::Votes;
 use sessions::Command;
 use stable::{Key, Stable, StableFault};
@@ -30,6 +30,8 @@ use wire::{Held, Nack};
 /// One promise serves all slots. A look-up takes a number of steps that grows with the logarithm of the votes.
 pub struct Acceptor {
     promise: Option<Ballot>,
+    // It speaks of the slots from here on.
+    floor: u32,
     votes: Votes,
     // No vote is of a ballot above the promise, so that a promise may tell each.
     ghost bounded: { AreUpTo promise votes },
@@ -38,7 +40,11 @@ pub struct Acceptor {
 // By hand, so that a crate that drops one proves nothing of what lies within.
 impl Drop for Acceptor {
     fn drop(self) {
-        let Acceptor { promise: _, votes } = self;
+        let Acceptor {
+            promise: _,
+            floor: _,
+            votes,
+        } = self;
         drop(votes);
     }
 }
@@ -70,6 +76,7 @@ impl Acceptor {
         let keys = storage.keys(alloc)?;
         let mut loaded = Acceptor {
             promise: None,
+            floor: 0,
             votes: Votes::new(alloc),
         };
         for key in &keys {
@@ -101,6 +108,7 @@ impl Acceptor {
             → HasDamagedRecord (S.contents storage.old) }
     {
         match key {
+            Key::Checkpoint => no_checkpoint(alloc, storage),
             Key::Promise => {
                 let found = promised(alloc, storage)?;
                 self.take_promise(found);
@@ -147,14 +155,15 @@ impl Acceptor {
     fn raise(&mut self, ballot: Ballot)
         ensures promise { self.new.promise ≡ raised self.old.promise ballot }
         ensures votes { self.new.votes ≡ self.old.votes }
+        ensures floor { self.new.floor ≡ self.old.floor }
     {
         if self.promise.is_none_or(|promised| promised < ballot) {
             self.promise = Some(ballot);
         }
     }
 
-    /// Answers a prepare: the ballot is promised, and the votes from the slot on told, or it is refused since a greater
-    /// one is promised.
+    /// Answers a prepare: the ballot is promised, and the votes from the slot on told; or it is refused since a greater
+    /// one is promised; or else the slot is below the floor, which is told, and nothing is promised.
     ///
     /// A promise tells four votes at most. Its range ends right before the first that finds no room, or with the log.
     ///
@@ -170,24 +179,24 @@ impl Acceptor {
         ensures answer { IfOk result (λ a.
             AnswersPrepare (accepting_of self.old) ballot first a) }
         ensures state { OnOk result
-            (accepting_of self.new ≡ after_prepare (accepting_of self.old) ballot) }
-        ensures written { OnOk result (HasWritten S.reads S.puts storage.old storage.new
-            (prepare_write (accepting_of self.old) ballot)) }
+            (accepting_of self.new ≡ after_prepare (accepting_of self.old) ballot first) }
+        ensures written { OnOk result (HasWritten S.reads S.changes storage.old storage.new
+            (prepare_write (accepting_of self.old) ballot first)) }
 
-        // Each error. A ballot that is refused is answered without one, and so is one that is promised already where there is no
+        // Each error. What isn't taken is answered without one, and so is a ballot that is promised already where there is no
         // vote to tell.
-        ensures taken { OnErr result (refusing (accepting_of self.old).promise ballot ≡ None) }
+        ensures taken { OnErr result (verdict (accepting_of self.old) ballot first ≡ Taken) }
         ensures wanted { OnErr result (StandsFrom (accepting_of self.old).vote first
-            ⊎ IsSome (prepare_write (accepting_of self.old) ballot)) }
+            ⊎ IsSome (prepare_write (accepting_of self.old) ballot first)) }
         ensures device { IsErrOf result StableFault.Device
             → HasFailed S.fails storage.old storage.new
-            (prepare_write (accepting_of self.old) ballot) }
+            (prepare_write (accepting_of self.old) ballot first) }
         ensures memory { IsErrOf result StableFault.Memory → S.reads storage.old storage.new }
         ensures err_state { OnErr result (accepting_of self.new ≡ accepting_of self.old) }
         ensures not_damaged { ¬ IsErrOf result StableFault.Damaged }
     {
-        if let Some(promised) = self.refusing(ballot) {
-            return Ok(Answer::Nack(refusal(ballot, promised)));
+        if let Some(answer) = self.turned_away(ballot, first) {
+            return Ok(answer);
         }
         let promise = self.votes.promise(alloc, ballot, first)?;
         if self.promise != Some(ballot) {
@@ -197,7 +206,8 @@ impl Acceptor {
         Ok(Answer::Promise(promise))
     }
 
-    /// Answers an accept: the vote is cast, or refused since a greater ballot is promised.
+    /// Answers an accept: the vote is cast; or it is refused since a greater ballot is promised; or else its slot is below
+    /// the floor, which is told.
     ///
     /// A vote is written before it is told. `storage` is the one that was loaded. After `Device` only another load
     /// tells what is voted for: here it is what it was. After `Memory` nothing is written or changed.
@@ -211,10 +221,10 @@ impl Acceptor {
         ensures state { OnOk result
             (accepting_of self.new ≡ after_accept (accepting_of self.old) vote) }
         ensures written { OnOk result ((w : Write) × IsAcceptWrite (accepting_of self.old) vote w
-            × HasWritten S.reads S.puts storage.old storage.new w) }
+            × HasWritten S.reads S.changes storage.old storage.new w) }
         ensures fits { OnOk result (IsNewVote (accepting_of self.old) vote → VoteFits vote) }
 
-        // Each error. A ballot that is refused, and a vote that stands there already, are answered without one.
+        // Each error. What isn't taken, and a vote that stands there already, are answered without one.
         ensures fresh { OnErr result (IsNewVote (accepting_of self.old) vote) }
         ensures device { IsErrOf result StableFault.Device
             → (w : Write) × IsAcceptWrite (accepting_of self.old) vote w
@@ -224,14 +234,34 @@ impl Acceptor {
         ensures err_state { OnErr result (accepting_of self.new ≡ accepting_of self.old) }
         ensures not_damaged { ¬ IsErrOf result StableFault.Damaged }
     {
-        if let Some(promised) = self.refusing(vote.ballot) {
-            return Ok(Answer::Nack(refusal(vote.ballot, promised)));
+        if let Some(answer) = self.turned_away(vote.ballot, vote.slot) {
+            return Ok(answer);
         }
         if !self.votes.has(&vote) {
             self.votes.cast(alloc, storage, &vote)?;
         }
         self.promise = Some(vote.ballot);
         Ok(Answer::Accepted(vote))
+    }
+
+    /// The first slot of which it speaks.
+    pub fn floor(&self) -> u32
+        ensures { result ≡ (accepting_of self.now).floor }
+    {
+        self.floor
+    }
+
+    /// The answer to a ballot below the promise, or else to a slot below the floor; None where what is asked is to be done.
+    fn turned_away(&self, ballot: Ballot, slot: Slot) -> Option<Answer>
+        ensures { result ≡ turned_away (verdict (accepting_of self.now) ballot slot) ballot }
+    {
+        if let Some(promised) = self.refusing(ballot) {
+            return Some(Answer::Nack(refusal(ballot, promised)));
+        }
+        if slot.value() < self.floor {
+            return Some(Answer::Behind(self.floor));
+        }
+        None
     }
 
     /// The promise that a ballot is below.

@@ -18,10 +18,12 @@ ghost use Rattle.acceptor.specs.Protocol.{RecordsStand, MayWrite, MayAnswer, ans
 /// A prepare's write is allowed, and so is its answer after that write.
 pub fn prepare_is_allowed()
     ensures write { (f : Fleet Command) (i : ℕ) (input : Input Command) (x : Local Command) (a : Accepting)
-        (round : ℕ) (b : Ballot) → RecordsStand a round x.records → MayWrite f i input x (after_prepare a b) round }
+        (round first : ℕ) (b : Ballot) → RecordsStand a round x.records
+        → MayWrite f i input x (after_prepare a b first) round }
     ensures answer { (f : Fleet Command) (i : ℕ) (input : Input Command) (x : Local Command) (a : Accepting)
         (round nodes to first : ℕ) (b : Ballot) (answer : Answer) → RecordsStand a round x.records
-        → AnswersPrepare a b first answer → MayAnswer f i input x (after_prepare a b) round (answer_frames i nodes to answer) }
+        → AnswersPrepare a b first answer → MayAnswer f i input x (after_prepare a b first) round
+        (answer_frames i nodes to answer) }
 {}
 
 /// The write of an accept that has come is allowed, and so is its answer after that write.

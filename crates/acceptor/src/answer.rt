@@ -13,4 +13,6 @@ pub enum Answer {
     Accepted(Vote<Held>),
     /// A greater ballot is promised.
     Nack(Nack),
+    /// The slot is below this floor, from which on the acceptor speaks.
+    Behind(u32),
 }

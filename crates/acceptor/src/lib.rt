@@ -1,4 +1,6 @@
-//! One node's acceptor: what it has promised, what it has voted for, and that both are written before they are told.
+//! One node's acceptor: what it has promised and what it has voted for.
+//!
+//! Each promise and each vote is written before it is answered. `specs/Accepting.antt` has the rules.
 #![tactic(auto)]
 
 mod acceptor;

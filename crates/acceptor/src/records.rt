@@ -1,15 +1,34 @@
 //! From a storage's records to votes and ballots, and from a promise to its record.
 
-ghost use Rattle.std.specs.Prelude.{◌≡◌, IfSome, IfOk, OnOk, IsErrOf, option_map};
+ghost use Rattle.std.specs.Prelude.{◌≡◌, None, IfSome, IfOk, OnOk, IsErrOf, option_map};
 ghost use Rattle.acceptor.specs.Casts.{vote_at};
 ghost use Rattle.acceptor.specs.Forms.{BallotFits, VoteFits, IsOfItsForm, HasDamagedRecord};
 ghost use Rattle.acceptor.specs.Spelling.{ballot_bytes, vote_bytes};
+ghost use Rattle.stable.specs.Records.{Sets};
 
 use super::cast::Cast;
 use stable::{Key, Stable, StableFault};
 use std::alloc::Global;
 use synod::{Ballot, Slot};
 use wire::{ballot_of_record, ballot_record, vote_of_record};
+
+/// Sees that there is no record Checkpoint: no bytes are of its form yet, so a storage that holds one is damaged.
+pub(super) fn no_checkpoint<S: Stable>(alloc: Global, storage: &mut S) -> Result<(), StableFault>
+    ensures told { S.IsHonest storage.new → OnOk result (S.contents storage.old Key.Checkpoint ≡ None) }
+    ensures reads { OnOk result (S.reads storage.old storage.new) }
+
+    // Each error.
+    ensures device { IsErrOf result StableFault.Device → S.read_fails storage.old storage.new }
+    ensures memory { IsErrOf result StableFault.Memory → S.reads storage.old storage.new }
+    ensures damaged { IsErrOf result StableFault.Damaged → S.reads storage.old storage.new }
+    ensures damaged_record { S.IsHonest storage.new → IsErrOf result StableFault.Damaged
+        → HasDamagedRecord (S.contents storage.old) }
+{
+    match storage.get(alloc, Key::Checkpoint)? {
+        Some(_bytes) => Err(StableFault::Damaged),
+        None => Ok(()),
+    }
+}
 
 /// The ballot in record Promise, or None without the record.
 pub(super) fn promised<S: Stable>(
@@ -45,11 +64,11 @@ pub(super) fn write_promise<S: Stable>(
     storage: &mut S,
     ballot: Ballot,
 ) -> Result<(), StableFault>
-    ensures written { OnOk result (S.puts storage.old Key.Promise (ballot_bytes ballot) storage.new) }
+    ensures written { OnOk result (S.changes storage.old (Sets Key.Promise (ballot_bytes ballot)) storage.new) }
 
     // Each error.
     ensures device { IsErrOf result StableFault.Device
-        → S.fails storage.old Key.Promise (ballot_bytes ballot) storage.new }
+        → S.fails storage.old (Sets Key.Promise (ballot_bytes ballot)) storage.new }
     ensures memory { IsErrOf result StableFault.Memory → S.reads storage.old storage.new }
     ensures not_damaged { ¬ IsErrOf result StableFault.Damaged }
 {

@@ -6,6 +6,7 @@ ghost use Rattle.acceptor.specs.Ranges.{IsPromiseFrom, StandsFrom};
 ghost use Rattle.acceptor.specs.Casts.{AreUpTo, vote_at, cast_at, vote_held};
 ghost use Rattle.acceptor.specs.Forms.{VoteFits};
 ghost use Rattle.acceptor.specs.Spelling.{vote_bytes};
+ghost use Rattle.stable.specs.Records.{Sets};
 
 use super::cast::Cast;
 use byslot::BySlot;
@@ -90,14 +91,14 @@ impl Votes {
         vote: &Vote<Held>,
     ) -> Result<(), StableFault>
         ensures written { OnOk result
-            (S.puts storage.old (Key.Vote vote.now.slot) (vote_bytes vote.now) storage.new) }
+            (S.changes storage.old (Sets (Key.Vote vote.now.slot) (vote_bytes vote.now)) storage.new) }
         ensures votes { OnOk result ((s : ℕ) → vote_held self.new s
             ≡ put (vote_held self.old) vote.now.slot (Some vote.now) s) }
         ensures fits { OnOk result (VoteFits vote.now) }
 
         // Each error.
         ensures device { IsErrOf result StableFault.Device
-            → S.fails storage.old (Key.Vote vote.now.slot) (vote_bytes vote.now) storage.new }
+            → S.fails storage.old (Sets (Key.Vote vote.now.slot) (vote_bytes vote.now)) storage.new }
         ensures device_fits { IsErrOf result StableFault.Device → VoteFits vote.now }
         ensures memory { IsErrOf result StableFault.Memory → S.reads storage.old storage.new }
         ensures unchanged { OnErr result ((s : ℕ) → vote_held self.new s ≡ vote_held self.old s) }

@@ -1,6 +1,6 @@
 -- Values by slot, of which the first lie in a row.
-use Rattle.std.proofs.Common.{◌≡◌, ◌≢◌, ℕ, zero, suc, ◌<◌, ◌≤◌, ◌⊎◌, Bool, true, false, List, [], ◌∷◌, ◌++◌, length, filter, All, Contains}
-use Rattle.std.proofs.Common.{Option, Some, None, slice_get, slice_index_or, slice_set, nat_lt, refl, sym, ap, subst}
+use Rattle.std.proofs.Common.{◌≡◌, ◌≢◌, ℕ, zero, suc, ◌+◌, ◌<◌, ◌≤◌, ◌⊎◌, Bool, true, false, List, [], ◌∷◌, ◌++◌, length, filter, All, Contains}
+use Rattle.std.proofs.Common.{Option, Some, None, slice_get, slice_index_or, slice_set, nat_lt, min, max, refl, sym, ap, subst}
 use Rattle.std.proofs.Common.{◌∙◌, inl, inr, arith, Result, Ok, Err, OnErr}
 use Rattle.std.specs.BTreeMap.{BTreeMap, get, is_at, Updates, IsOrdered}
 use Rattle.std.specs.BTreeMap.Range.{entries_between, range_contains, IsEntryInRange}
@@ -18,7 +18,8 @@ use Rattle.std.proofs.lemmas.List.Elements.{All-contains}
 use Rattle.std.proofs.lemmas.List.Kept.{IsStrictlySortedBy-filter}
 use Rattle.std.proofs.lemmas.Map.Entries.{lookup-filter-keys, lookup_at_gap}
 use Rattle.synod.specs.Records.{put}
-use Rattle.byslot.specs.Values.{in_row, in_log, IsEmptyFrom, IsFirstFrom}
+use Rattle.byslot.specs.Places.{AreEmptyTo}
+use Rattle.byslot.specs.Values.{in_row, in_log, without_below, IsEmptyFrom, IsFirstFrom, IsEmptyBetween}
 
 -- a number is below another, or it isn't
 pub tells : (a b : ℕ) → ((nat_lt a b ≡ true) × (a < b)) ⊎ ((nat_lt a b ≡ false) × (b ≤ a))
@@ -87,13 +88,13 @@ module _ {V : Type 0} where
   others_of (q ∷ row) p (suc s) apart = others_of row p s (λ e. apart (ap suc e))
 
   -- a place that is written has what was written
-  written_of : (row : List (Option V)) (i : ℕ) (p : Option V) → i < length row → slice_get (slice_set row i p) i ≡ Some p
+  pub written_of : (row : List (Option V)) (i : ℕ) (p : Option V) → i < length row → slice_get (slice_set row i p) i ≡ Some p
   written_of [] i p lt = absurd (omega (arith, lt))
   written_of (q ∷ row) zero p lt = refl
   written_of (q ∷ row) (suc i) p lt = written_of row i p (omega (arith, lt))
 
   -- and the other places stay
-  unwritten_of : (row : List (Option V)) (i s : ℕ) (p : Option V) → s ≢ i → slice_get (slice_set row i p) s ≡ slice_get row s
+  pub unwritten_of : (row : List (Option V)) (i s : ℕ) (p : Option V) → s ≢ i → slice_get (slice_set row i p) s ≡ slice_get row s
   unwritten_of [] i s p apart = refl
   unwritten_of (q ∷ row) zero zero p apart = absurd (apart refl)
   unwritten_of (q ∷ row) zero (suc s) p apart = refl
@@ -237,3 +238,71 @@ module _ {V : Type 0} (m : BTreeMap ℕ V) (first : ℕ) (listed : List (ℕ × 
             (λ f at. (let same : Some e ≡ Some f = sym (ap (λ l. slice_get l 0) is) ∙ at in
             let one : e ≡ f = cc in less s f.0 (subst (λ (x : ℕ × V). s < x.0) one before)));
       }
+
+-- ---- nothing below a slot
+module _ {V : Type 0} where
+  -- the next value is taken out
+  pub one_more_out : (f g h : ℕ → Option V) (n slot : ℕ) → g ≡ without_below f n → n ≤ slot → IsEmptyBetween g n slot
+      → h ≡ put g slot None → h ≡ without_below f (slot + 1)
+  one_more_out f g h n slot was le none is = is ∙ (λ k s. (at s) k)
+    where
+      at : (s : ℕ) → put g slot None s ≡ without_below f (slot + 1) s
+      at s = elim (eqb_tells s slot) [
+        | inl same ↦ elim (tells s (slot + 1)) [
+          | inl low ↦ rw (same.0, low.0) refl
+          | inr high ↦ absurd (omega (arith, high.1, same.1))
+        ]
+        | inr other ↦ elim (tells s n) [
+          | inl low ↦ elim (tells s (slot + 1)) [
+            | inl lower ↦ rw (other.0, lower.0) (ap (λ (x : ℕ → Option V). x s) was ∙ rw low.0 refl)
+            | inr high ↦ absurd (omega (arith, high.1, low.1, le))
+          ]
+          | inr from ↦ elim (tells s (slot + 1)) [
+            | inl lower ↦ rw (other.0, lower.0) (none s from.1 (omega (arith, lower.1, other.1)))
+            | inr higher ↦ rw (other.0, higher.0) (ap (λ (x : ℕ → Option V). x s) was ∙ rw from.0 refl)
+          ]
+        ]
+      ]
+
+  -- none is left
+  pub all_out : (f g : ℕ → Option V) (n below : ℕ) → g ≡ without_below f n → n ≤ below → IsEmptyBetween g n below
+      → g ≡ without_below f below
+  all_out f g n below was le none = λ k s. (at s) k
+    where
+      at : (s : ℕ) → g s ≡ without_below f below s
+      at s = elim (tells s below) [
+        | inl low ↦ elim (tells s n) [
+          | inl lower ↦ rw low.0 (ap (λ (x : ℕ → Option V). x s) was ∙ rw lower.0 refl)
+          | inr from ↦ rw low.0 (none s from.1 low.1)
+        ]
+        | inr high ↦ elim (tells s n) [
+          | inl lower ↦ absurd (omega (arith, high.1, lower.1, le))
+          | inr from ↦ rw high.0 (ap (λ (x : ℕ → Option V). x s) was ∙ rw from.0 refl)
+        ]
+      ]
+
+  pub none_left : (f g : ℕ → Option V) (below : ℕ) → g ≡ without_below f below → (s : ℕ) → s < below → g s ≡ None
+  none_left f g below is s lt = ap (λ (x : ℕ → Option V). x s) is ∙ elim (tells s below) [
+    | inl low ↦ rw low.0 refl
+    | inr high ↦ absurd (omega (arith, high.1, lt))
+  ]
+
+-- ---- the empty places of the row
+module _ {V : Type 0} where
+  -- a place where nothing stands is empty
+  place_empty : (row : List (Option V)) (f : ℕ → Option V) (s : ℕ) → s < length row → in_row row f s ≡ None → slice_get row s ≡ Some None
+  place_empty [] f s lt none = absurd (omega (arith, lt))
+  place_empty (p ∷ row) f zero lt none = ap Some none
+  place_empty (p ∷ row) f (suc s) lt none = place_empty row (λ n. f (suc n)) s (omega (arith, lt)) none
+
+  pub emptied : (row : List (Option V)) (f : ℕ → Option V) (old below end : ℕ) → AreEmptyTo old row
+      → ((s : ℕ) → s < below → in_log (in_row row f) s ≡ None) → end ≡ max old (min (length row) (min below 65536)) → AreEmptyTo end row
+  emptied row f old below end empty none is s lt = elim (tells s old) [
+    | inl before ↦ empty s before.1
+    | inr from ↦
+        let low : s < min (length row) (min below 65536) = (let at = from.1 in grind (arith, is, lt, at)) in
+        let within : s < length row = grind (arith, low) in
+        let lower : s < below = grind (arith, low) in
+        let here : s < 65536 = grind (arith, low) in
+        place_empty row f s within (sym (at_slot (in_row row f) s here) ∙ none s lower)
+  ]

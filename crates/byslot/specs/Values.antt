@@ -22,6 +22,10 @@ in_log f s = if nat_lt s SLOTS then f s else None
 abbrev pub value_at : {V : Type 0} → BySlot V → ℕ → Option V
 value_at b = in_log (in_row b.row.items (get nat_cmp b.others))
 
+-- the same, but nothing at a slot below this one
+abbrev pub without_below : {V : Type 0} → (ℕ → Option V) → ℕ → ℕ → Option V
+without_below at below s = if nat_lt s below then None else at s
+
 -- nothing stands at a slot, nor at any later one
 abbrev pub IsEmptyFrom : {V : Type 0} → (ℕ → Option V) → ℕ → Type 0
 IsEmptyFrom at first = (s : ℕ) → first ≤ s → at s ≡ None
@@ -31,3 +35,13 @@ pub record IsFirstFrom {V : Type 0} (at : ℕ → Option V) (first slot : ℕ) (
   pub from : first ≤ slot
   pub stands : at slot ≡ Some value
   pub none_before : (s : ℕ) → first ≤ s → s < slot → at s ≡ None
+
+-- nothing stands at the slots from one on and below another
+abbrev pub IsEmptyBetween : {V : Type 0} → (ℕ → Option V) → ℕ → ℕ → Type 0
+IsEmptyBetween at first end = (s : ℕ) → first ≤ s → s < end → at s ≡ None
+
+-- this is the first of them at which something stands
+pub record IsFirstBelow {V : Type 0} (at : ℕ → Option V) (first end slot : ℕ) : Type 0 where
+  pub from : first ≤ slot
+  pub below : slot < end
+  pub none_before : IsEmptyBetween at first slot

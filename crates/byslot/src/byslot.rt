@@ -5,7 +5,7 @@ ghost use Rattle.std.specs.Option.{option_copied};
 ghost use Rattle.std.specs.BTreeMap.{get};
 ghost use Rattle.std.specs.Ordering.{nat_cmp};
 ghost use Rattle.synod.specs.Records.{put};
-ghost use Rattle.byslot.specs.Values.{value_at, IsEmptyFrom, IsFirstFrom};
+ghost use Rattle.byslot.specs.Places.{AreEmptyTo};
 
 use std::alloc::{AllocError, Global};
 use std::collections::BTreeMap;
@@ -23,18 +23,27 @@ pub struct BySlot<V> {
     row: Vec<Option<V>>,
     // What stands behind them.
     others: BTreeMap<Slot, V>,
+    // The places of the row before this one hold nothing, and are looked at no more.
+    empty: usize,
+    ghost vacant: { AreEmptyTo empty row.items },
 }
 
 // By hand, so that a crate that drops one proves nothing of what lies within.
 impl<V: Drop> Drop for BySlot<V> {
     fn drop(self) {
-        let BySlot { row, others } = self;
+        let BySlot {
+            row,
+            others,
+            empty: _,
+        } = self;
         drop(row);
         drop(others);
     }
 }
 
 impl<V: Drop> BySlot<V> {
+    ghost use Rattle.byslot.specs.Values.{value_at, without_below, IsEmptyFrom, IsFirstFrom, IsFirstBelow, IsEmptyBetween};
+
     /// Nothing stands at any slot, and no memory is taken.
     pub fn new(alloc: Global) -> BySlot<V>
         ensures empty { value_at result ≡ (λ _. None) }
@@ -43,6 +52,7 @@ impl<V: Drop> BySlot<V> {
         BySlot {
             row: Vec::new(alloc),
             others: BTreeMap::new(alloc),
+            empty: 0,
         }
     }
 
@@ -62,9 +72,9 @@ impl<V: Drop> BySlot<V> {
         ensures { MatchOption result (IsEmptyFrom (value_at self.now) from)
             (λ found. IsFirstFrom (value_at self.now) from found.0 found.1.now) }
     {
-        for value in from.value()..SLOTS {
-            let slot = Slot::new(value).unwrap();
-            match self.row.get(value as usize) {
+        for place in self.empty.max(from.value() as usize)..SLOTS as usize {
+            let slot = Slot::new(place as u32).unwrap();
+            match self.row.get(place) {
                 Some(Some(found)) => return Some((slot, found)),
                 Some(None) => {}
                 None => return self.first_behind(slot),
@@ -103,6 +113,7 @@ impl<V: Drop> BySlot<V> {
             return Ok(self.lay(slot, value));
         }
         self.lengthen(slot);
+        self.empty = self.empty.min(place);
         match self.row.get_mut(place) {
             Some(place) => Ok(place.replace(value)),
             None => Ok(self.others.insert(slot, value)?),
@@ -117,6 +128,32 @@ impl<V: Drop> BySlot<V> {
         match self.row.get_mut(slot.value() as usize) {
             Some(place) => place.take(),
             None => self.others.remove(&slot),
+        }
+    }
+
+    /// Nothing stands at a slot below this one any more. No memory is wanted. All calls together look at each value that they take
+    /// out, and at each place of the row, once.
+    pub fn remove_below(&mut self, below: u32)
+        ensures gone { value_at self.new ≡ without_below (value_at self.old) below }
+    {
+        let mut next = 0;
+        while let Some(slot) = self.first_below(next, below) {
+            let _ = self.remove(slot);
+            next = slot.value() + 1;
+        }
+        self.empty = self
+            .empty
+            .max(self.row.len().min(below.min(SLOTS) as usize));
+    }
+
+    // Of the slots from one on, and below another, the first at which a value stands.
+    fn first_below(&self, from: u32, below: u32) -> Option<Slot>
+        ensures { MatchOption result (IsEmptyBetween (value_at self.now) from below)
+            (IsFirstBelow (value_at self.now) from below) }
+    {
+        match self.first_from(Slot::new(from)?) {
+            Some((slot, _)) if slot.value() < below => Some(slot),
+            _ => None,
         }
     }
 

@@ -1,7 +1,7 @@
-//! Values by slot.
+//! A map by slot.
 //!
-//! The slots of a log are taken nearly in turn, so what stands at the first ones lies in a row, and is found by its place; what
-//! stands far behind them is kept in a tree.
+//! Slots of a log are used nearly in turn. So the values of the first slots are in a row, by place, and those far behind its end
+//! are in a tree.
 #![tactic(auto)]
 
 mod byslot;

@@ -1,4 +1,5 @@
--- Which votes a node's acts add: that of the accept that has come, which stands from then on.
+-- Which votes a node's acts add: that of the accept that has come, at a slot from the floor on, and it stands there unless the floor has
+-- risen above it.
 use Rattle.std.proofs.Common.{◌≡◌, ◌⊎◌, ℕ, ◌≤◌, List, [], ◌∷◌, ◌++◌, Some, Contains, inl, inr, sym, subst, arith, le_refl}
 use Rattle.std.proofs.lemmas.Bool.{le-ltb}
 use Rattle.std.proofs.lemmas.List.Elements.{Contains-push_cases}
@@ -41,16 +42,16 @@ module _ {C : Type 0} (f : Fleet C) (i : ℕ) (input : Input C) where
   act_floor x (act.Drops heard waiting) m = le_refl _
   act_floor x act.Forgets m = le_refl _
 
-  done_floor : (x : Local C) (acts : List (Act C)) → MayDo f i input x acts → x.records.floor ≤ (done i x acts).records.floor
+  pub done_floor : (x : Local C) (acts : List (Act C)) → MayDo f i input x acts → x.records.floor ≤ (done i x acts).records.floor
   done_floor x [] m = le_refl _
   done_floor x (a ∷ acts) m = omega (arith, act_floor x a m.0, done_floor (acted i x a) acts m.1)
 
-  -- ---- the vote of the accept that has come stands from then on
+  -- ---- the vote of the accept that has come stands from then on, at a slot from the floor on
   abbrev Stands : Local C → Vote C → Type 0
   Stands x v = x.records.vote v.slot ≡ Some v
 
-  act_stands : (x : Local C) (a : Act C) (v : Vote C) → Brings input (Accept v) → MayAct f i input x a → x.records.floor ≡ 0 → Stands x v
-      → Stands (acted i x a) v
+  act_stands : (x : Local C) (a : Act C) (v : Vote C) → Brings input (Accept v) → MayAct f i input x a → x.records.floor ≤ v.slot
+      → Stands x v → Stands (acted i x a) v
   act_stands x (act.Promises b) v came m low e = e
   act_stands x (act.Tells to b first last told) v came m low e = e
   act_stands x (act.Votes u) v came m low e =
@@ -58,7 +59,7 @@ module _ {C : Type 0} (f : Fleet C) (i : ℕ) (input : Input C) where
       (put_same x.records.vote v.slot (Some v))
   act_stands x (act.Confirms to u) v came m low e = e
   act_stands x (act.Checkpoints floor) v came m low e = e
-  act_stands x act.Trims v came m low e = rw (le-ltb v.slot x.records.floor (omega (arith, low))) e
+  act_stands x act.Trims v came m low e = rw (le-ltb v.slot x.records.floor low) e
   act_stands x (act.Begins b end) v came m low e = e
   act_stands x (act.Counts k a last votes end told) v came m low e = e
   act_stands x (act.Leads k) v came m low e = e
@@ -76,36 +77,37 @@ module _ {C : Type 0} (f : Fleet C) (i : ℕ) (input : Input C) where
   act_stands x (act.Drops heard waiting) v came m low e = e
   act_stands x act.Forgets v came m low e = e
 
-  lowest_before : (m n : ℕ) → m ≤ n → n ≡ 0 → m ≡ 0
-  lowest_before m n le e = omega (arith, le, e)
-
   done_stands : (x : Local C) (acts : List (Act C)) (v : Vote C) → Brings input (Accept v) → MayDo f i input x acts
-      → (done i x acts).records.floor ≡ 0
-      → Stands x v → Stands (done i x acts) v
+      → (done i x acts).records.floor ≤ v.slot → Stands x v → Stands (done i x acts) v
   done_stands x [] v came m low e = e
   done_stands x (a ∷ acts) v came m low e =
       done_stands (acted i x a) acts v came m.1 low
-      (act_stands x a v came m.0 (lowest_before _ _ (done_floor x (a ∷ acts) m) low) e)
+      (act_stands x a v came m.0 (omega (arith, low, done_floor x (a ∷ acts) m)) e)
 
   -- ---- which votes are new
-  -- the vote was cast, or it is that of the accept, and stands
-  abbrev Casts : Local C → Local C → Vote C → Type 0
-  Casts x y v = Contains x.records.writes (VoteWrite v) ⊎ (Brings input (Accept v) × Stands y v)
+  -- the vote was cast; or it is that of the accept, from the floor on, and stands where the floor hasn't risen above it
+  pub record IsNew (x y : Local C) (v : Vote C) : Type 0 where
+    pub brought : Brings input (Accept v)
+    pub above : x.records.floor ≤ v.slot
+    pub stands : y.records.floor ≤ v.slot → Stands y v
 
   another_write : (ws : List (Write C)) (w : Write C) (v : Vote C) → (w ≡ VoteWrite v → ⊥) → Contains (ws ++ w ∷ []) (VoteWrite v)
       → Contains ws (VoteWrite v)
   another_write ws w v apart c = elim (Contains-push_cases ws w (VoteWrite v) c) [ inl old ↦ old | inr new ↦ absurd (apart new) ]
 
   act_casts : (x : Local C) (a : Act C) (v : Vote C) → MayAct f i input x a → Contains (acted i x a).records.writes (VoteWrite v)
-      → Casts x (acted i x a) v
+      → Contains x.records.writes (VoteWrite v) ⊎ IsNew x (acted i x a) v
   act_casts x (act.Promises b) v m c = inl (another_write x.records.writes (PromiseWrite b) v (λ e. cc) c)
   act_casts x (act.Tells to b first last told) v m c = inl c
   act_casts x (act.Votes u) v m c = elim (Contains-push_cases x.records.writes (VoteWrite u) (VoteWrite v) c) [
     | inl old ↦ inl old
     | inr new ↦
         let same : u ≡ v = cc in
-        inr (subst (λ (w : Vote C). Brings input (Accept w) × Stands (acted i x (act.Votes u)) w) same
-        (m.0, put_same x.records.vote u.slot (Some u)))
+        inr (subst (λ (w : Vote C). IsNew x (acted i x (act.Votes u)) w) same (record {
+          brought = m.0;
+          above = m.2;
+          stands = λ top. put_same x.records.vote u.slot (Some u);
+        }))
   ]
   act_casts x (act.Confirms to u) v m c = inl c
   act_casts x (act.Checkpoints floor) v m c = inl (another_write x.records.writes (CheckpointWrite floor) v (λ e. cc) c)
@@ -127,27 +129,35 @@ module _ {C : Type 0} (f : Fleet C) (i : ℕ) (input : Input C) where
   act_casts x (act.Drops heard waiting) v m c = inl c
   act_casts x act.Forgets v m c = inl c
 
-  done_casts : (x : Local C) (acts : List (Act C)) (v : Vote C) → MayDo f i input x acts → (done i x acts).records.floor ≡ 0
-      → Contains (done i x acts).records.writes (VoteWrite v) → Contains x.records.writes (VoteWrite v) ⊎ Stands (done i x acts) v
-  done_casts x [] v m low c = inl c
-  done_casts x (a ∷ acts) v m low c = elim (done_casts (acted i x a) acts v m.1 low c) [
+  done_casts : (x : Local C) (acts : List (Act C)) (v : Vote C) → MayDo f i input x acts
+      → Contains (done i x acts).records.writes (VoteWrite v)
+      → Contains x.records.writes (VoteWrite v) ⊎ IsNew x (done i x acts) v
+  done_casts x [] v m c = inl c
+  done_casts x (a ∷ acts) v m c = elim (done_casts (acted i x a) acts v m.1 c) [
     | inl before ↦ elim (act_casts x a v m.0 before) [
       | inl old ↦ inl old
-      | inr now ↦ inr (done_stands (acted i x a) acts v now.0 m.1 low now.1)
+      | inr now ↦ inr (record {
+        brought = now.brought;
+        above = now.above;
+        stands = λ top. done_stands (acted i x a) acts v now.brought m.1 top
+            (now.stands (omega (arith, top, done_floor (acted i x a) acts m.1)));
+      })
     ]
-    | inr stands ↦ inr stands
+    | inr later ↦ inr (record {
+      brought = later.brought;
+      above = omega (arith, act_floor x a m.0, later.above);
+      stands = later.stands;
+    })
   ]
 
-  -- what was voted before stays so; a vote that is new stands, where no checkpoint was written
+  -- what was voted before stays so
   pub does_votes : (x y : Local C) → Does f i input x y → (v : Vote C) → Contains x.records.writes (VoteWrite v)
       → Contains y.records.writes (VoteWrite v)
   does_votes x y d v c = subst (λ (z : Local C). Contains z.records.writes (VoteWrite v)) (sym d.leaves)
       (done_writes i x d.acts (VoteWrite v) c)
 
-  pub does_casts : (x y : Local C) → Does f i input x y → y.records.floor ≡ 0 → (v : Vote C) → Contains y.records.writes (VoteWrite v)
-      → Contains x.records.writes (VoteWrite v) ⊎ (y.records.vote v.slot ≡ Some v)
-  does_casts x y d low v c =
-      let ended : (done i x d.acts).records.floor ≡ 0 = subst (λ (z : Local C). z.records.floor ≡ 0) d.leaves low in
-      let cast : Contains x.records.writes (VoteWrite v) ⊎ Stands (done i x d.acts) v =
-      done_casts x d.acts v d.allowed ended (subst (λ (z : Local C). Contains z.records.writes (VoteWrite v)) d.leaves c) in
-      elim cast [ inl old ↦ inl old | inr stands ↦ inr (subst (λ (z : Local C). Stands z v) (sym d.leaves) stands) ]
+  pub does_casts : (x y : Local C) → Does f i input x y → (v : Vote C) → Contains y.records.writes (VoteWrite v)
+      → Contains x.records.writes (VoteWrite v) ⊎ IsNew x y v
+  does_casts x y d v c =
+      subst (λ (z : Local C). Contains x.records.writes (VoteWrite v) ⊎ IsNew x z v) (sym d.leaves)
+      (done_casts x d.acts v d.allowed (subst (λ (z : Local C). Contains z.records.writes (VoteWrite v)) d.leaves c))

@@ -1,10 +1,10 @@
 -- At most one armed fault comes in a step, so a u64 counts them as long as it counts the steps.
 use Rattle.std.proofs.Common.{◌≡◌, ◌⊎◌, ℕ, ◌+◌, ◌^◌, ◌<◌, ◌≤◌, inl, inr, List, [], ◌∷◌, ◌++◌, length, slice_get, slice_set, Bool, true}
-use Rattle.std.proofs.Common.{false, Option, Some, None, IsSome, IfSome, IfOk, IfErr, OnOk, OnErr, IsErrOf, Result, Ok, Err, MatchBool}
+use Rattle.std.proofs.Common.{false, Option, Some, None, IfSome, IfOk, IfErr, OnOk, OnErr, IsErrOf, Result, Ok, Err, MatchBool}
 use Rattle.std.proofs.Common.{refl, sym, ap, subst, ◌∙◌, arith, rules, length-append}
 use Rattle.stable.specs.Script.{Script, counted}
 use Rattle.stable.specs.ScriptLaws.{read_fails_inside_fired, read_fails_fired}
-use Rattle.stable.specs.declared.key.Key.{Key}
+use Rattle.stable.specs.Records.{Change}
 use Rattle.stable.specs.declared.stable.Stable.{Ghosts}
 use Rattle.stable.specs.Storages.{scripted}
 use Rattle.acceptor.specs.Accepting.{Write, HasWritten, HasFailed}
@@ -28,11 +28,12 @@ use Rattle.minds.specs.Nodes.{NodeState, NodeSteps, TakesInput, RefusesInput, St
 use Rattle.minds.specs.Outputs.{Response}
 use Rattle.history.specs.Reaching.{AreHonest}
 use Rattle.history.specs.Safety.{honest_inside}
-use Rattle.history.specs.Worlds.{WorldState, TakesAt, ReceivesAt, DeliversFrame, Steps, recorded, with_node, with_outcome}
+use Rattle.history.specs.Worlds.{WorldState, TakesAt, Steps, recorded, with_node, with_outcome}
 use Rattle.history.specs.Worlds.{with_submission, answered, without_wait}
 use Rattle.history.specs.Rounds.{RoundEnds, IsPartOfRound}
 use Rattle.history.specs.declared.round_end.RoundEnd.{RoundEnd}
 use Rattle.history.proofs.FleetSteps.{set_at}
+use Rattle.history.proofs.Preserved.{HoldsOf, step_holds, recorded_nodes}
 use Rattle.history.proofs.RoundLemmas.{call_keeps}
 
 -- ---- one call of a storage
@@ -44,22 +45,22 @@ CountsOn a b = (b.fired ≡ a.fired) ⊎ (b.fired ≡ counted a.fired)
 pub record CountsCalls {S : Type 0} (storages : Ghosts (Script S)) : Type 0 where
   pub reading : (a b : Script S) → storages.reads a b → CountsOn a b
   pub failed_reading : (a b : Script S) → storages.read_fails a b → CountsOn a b
-  pub putting : (a b : Script S) (key : Key) (bytes : List ℕ) → storages.puts a key bytes b → CountsOn a b
-  pub failed_putting : (a b : Script S) (key : Key) (bytes : List ℕ) → storages.fails a key bytes b → CountsOn a b
+  pub changing : (a b : Script S) (change : Change) → storages.changes a change b → CountsOn a b
+  pub failed_changing : (a b : Script S) (change : Change) → storages.fails a change b → CountsOn a b
 
 module _ {S : Type 0} (storages : Ghosts S) where
-  fails_count : (a b : Script S) (key : Key) (bytes : List ℕ) → (scripted storages).fails a key bytes b → CountsOn a b
-  fails_count a b key bytes (inl f) = inr (ap (λ (t : Script S). t.fired) f.after ∙ ap counted f.before.fired)
-  fails_count a b key bytes (inr (inl f)) = inr f.fired
-  fails_count a b key bytes (inr (inr (inl f))) = inl (ap (λ (t : Script S). t.fired) f.after ∙ f.before.fired)
-  fails_count a b key bytes (inr (inr (inr f))) = inl (read_fails_inside_fired a b f.inner)
+  fails_count : (a b : Script S) (change : Change) → (scripted storages).fails a change b → CountsOn a b
+  fails_count a b change (inl f) = inr (ap (λ (t : Script S). t.fired) f.after ∙ ap counted f.before.fired)
+  fails_count a b change (inr (inl f)) = inr f.fired
+  fails_count a b change (inr (inr (inl f))) = inl (ap (λ (t : Script S). t.fired) f.after ∙ f.before.fired)
+  fails_count a b change (inr (inr (inr f))) = inl (read_fails_inside_fired a b f.inner)
 
   pub script_counts : CountsCalls (scripted storages)
   script_counts = record {
     reading = λ a b r. inl r.fired;
     failed_reading = read_fails_fired;
-    putting = λ a b key bytes p. inl p.fired;
-    failed_putting = fails_count;
+    changing = λ a b change p. inl p.fired;
+    failed_changing = fails_count;
   }
 
 -- ---- the count
@@ -126,10 +127,6 @@ module _ {S : Type 0} where
       → outcome_count w ≡ length outcomes + 1
   one_outcome outcomes o w e = ap length e ∙ length-append outcomes (o ∷ [])
 
-  recorded_nodes : (w : WorldState S) (node : ℕ) (r : Result Response NodeFault) → (recorded w node r).nodes ≡ w.nodes
-  recorded_nodes w node (Ok said) = refl
-  recorded_nodes w node (Err f) = refl
-
   recorded_more : (w : WorldState S) (node : ℕ) (r : Result Response NodeFault) → outcome_count (recorded w node r) ≡ outcome_count w + 1
   recorded_more w node (Ok said) = length-append w.outcomes (_ ∷ [])
   recorded_more w node (Err f) = length-append w.outcomes (_ ∷ [])
@@ -153,13 +150,13 @@ failed_with f = Err f
 
 module _ {S : Type 0} {storages : Ghosts (Script S)} (calls : CountsCalls storages) where
   -- ---- an input comes to a node
-  written : (a b : Script S) (w : Write) → HasWritten storages.reads storages.puts a b w → CountsOn a b
+  written : (a b : Script S) (w : Write) → HasWritten storages.reads storages.changes a b w → CountsOn a b
   written a b None h = calls.reading a b h
-  written a b (Some w) h = calls.putting a b w.0 w.1 h
+  written a b (Some w) h = calls.changing a b w h
 
   failed : (a b : Script S) (w : Write) → HasFailed storages.fails a b w → CountsOn a b
   failed a b None h = absurd h
-  failed a b (Some w) h = calls.failed_putting a b w.0 w.1 h
+  failed a b (Some w) h = calls.failed_changing a b w h
 
   same_node : (old new : NodeState (Script S)) → new ≡ old → CountsOn old.storage new.storage
   same_node old new e = inl (ap (λ (n : NodeState (Script S)). n.storage.fired) e)
@@ -205,26 +202,6 @@ module _ {S : Type 0} {storages : Ghosts (Script S)} (calls : CountsCalls storag
       (ap (λ (w : WorldState S). w.nodes) h.leaves ∙ recorded_nodes (with_node old node h.after) node h.result)
       (ap outcome_count h.leaves ∙ recorded_more (with_node old node h.after) node h.result)
 
-  receives_counts : (old : WorldState S) (frame : _) (new : WorldState S) (o : Option Mind) (h : ReceivesAt storages old frame new)
-      → h.receiver.up ≡ o → CountsStep old new
-  receives_counts old frame new None h up =
-      changed_none old new (ap (λ (w : WorldState S). w.nodes) (h.lost up))
-      (ap outcome_count (h.lost up) ∙ length-append old.outcomes (_ ∷ []))
-  receives_counts old frame new (Some m) h up =
-      let takes = h.taken (subst (λ (o : Option Mind). IsSome o) (sym up) refl) in
-      takes_counts old frame.to (input.Message frame) takes.0 new takes.1
-
-  deliver_counts : (old : WorldState S) (k : ℕ) (new : WorldState S) → DeliversFrame storages old k new → CountsStep old new
-  deliver_counts old k new h =
-      let receives = receives_counts (without_wait old k) h.frame new h.receives.receiver.up h.receives refl in
-      record { more = receives.more; counts = receives.counts }
-
-  -- one after the other
-  pub delivers_few : (old : WorldState S) (n : ℕ) (new : WorldState S) → Delivers storages old n new → HasFewFaults old → HasFewFaults new
-  delivers_few old _ new Delivers.none few = few
-  delivers_few old _ new (Delivers.more n k between new_ before lowest delivers) few =
-      kept between new (deliver_counts between k new delivers) (delivers_few old n between before few)
-
   -- a node restarts
   restarted : (old new : NodeState (Script S)) (result : Result (Unit {0}) NodeFault) → Restarts storages old result new
       → CountsOn old.storage new.storage
@@ -234,30 +211,41 @@ module _ {S : Type 0} {storages : Ghosts (Script S)} (calls : CountsCalls storag
     | inr other ↦ calls.reading old.storage new.storage other.1
   ]
 
-  step_counts : (old : WorldState S) (e : Event) (new : WorldState S) → Steps storages old e new
-      → CountsStep old new
-  step_counts old (event.Submit node client number op) new h =
-      let same = submission_same h.between h.taken node (record { client = client; number = number; op = op }) in
-      let takes = takes_counts old node _ h.taken h.between h.takes in
-      record {
-        more = ap outcome_count h.leaves ∙ ap length same.1 ∙ takes.more;
-        counts = λ most small was. subst (λ (x : List (NodeState (Script S))). AreCounted (most + 1) x)
-            (sym (ap (λ (w : WorldState S). w.nodes) h.leaves ∙ same.0)) (takes.counts most small was);
-      }
-  step_counts old (event.Deliver k) new h = deliver_counts old k new h
-  step_counts old (event.Drop k) new h =
-      changed_none old new (ap (λ (w : WorldState S). w.nodes) h) (ap outcome_count h ∙ length-append old.outcomes (_ ∷ []))
-  step_counts old (event.Timeout node) new h = takes_counts old node input.Timeout h.0 new h.1
-  step_counts old (event.Tick node) new h = takes_counts old node input.Tick h.0 new h.1
-  step_counts old (event.Restart node) new h =
-      changed_one old new node h.before h.after h.here (restarted h.before h.after h.result h.restarts)
-      (ap (λ (w : WorldState S). w.nodes) h.leaves) (ap outcome_count h.leaves ∙ length-append old.outcomes (_ ∷ []))
-  step_counts old (event.Fault node failing) new h =
-      changed_one old new node h.before _ h.here (inl refl)
-      (ap (λ (w : WorldState S). w.nodes) h.leaves) (ap outcome_count h.leaves ∙ length-append old.outcomes (_ ∷ []))
-  step_counts old (event.Query node query) new h =
-      let same = answered_same old node query h.result in
-      changed_none old new (ap (λ (w : WorldState S). w.nodes) h.leaves ∙ same.0) (ap outcome_count h.leaves ∙ same.1)
+  counts : HoldsOf storages (λ old e new. CountsStep old new)
+  counts = record {
+    takes = λ old e node i taken new h own. takes_counts old node i taken new h;
+    submits = λ old e node r new h.
+        let same = submission_same h.between h.taken node r in
+        let takes = takes_counts old node _ h.taken h.between h.takes in
+        record {
+          more = ap outcome_count h.leaves ∙ ap length same.1 ∙ takes.more;
+          counts = λ most small was. subst (λ (x : List (NodeState (Script S))). AreCounted (most + 1) x)
+              (sym (ap (λ (w : WorldState S). w.nodes) h.leaves ∙ same.0)) (takes.counts most small was);
+        };
+    hears = λ old e k frame taken new sent fits h.
+        let takes = takes_counts (without_wait old k) frame.to (input.Message frame) taken new h in
+        record { more = takes.more; counts = takes.counts };
+    loses = λ old e k o new brings h.
+        changed_none old new (ap (λ (w : WorldState S). w.nodes) h) (ap outcome_count h ∙ length-append old.outcomes (_ ∷ []));
+    restarts = λ old node new h.
+        changed_one old new node h.before h.after h.here (restarted h.before h.after h.result h.restarts)
+        (ap (λ (w : WorldState S). w.nodes) h.leaves) (ap outcome_count h.leaves ∙ length-append old.outcomes (_ ∷ []));
+    arms = λ old e node failing new h.
+        changed_one old new node h.before _ h.here (inl refl)
+        (ap (λ (w : WorldState S). w.nodes) h.leaves) (ap outcome_count h.leaves ∙ length-append old.outcomes (_ ∷ []));
+    answers = λ old e node query new h.
+        let same = answered_same old node query h.result in
+        changed_none old new (ap (λ (w : WorldState S). w.nodes) h.leaves ∙ same.0) (ap outcome_count h.leaves ∙ same.1);
+  }
+
+  step_counts : (old : WorldState S) (e : Event) (new : WorldState S) → Steps storages old e new → CountsStep old new
+  step_counts old e new h = step_holds counts old e new h
+
+  -- one after the other
+  pub delivers_few : (old : WorldState S) (n : ℕ) (new : WorldState S) → Delivers storages old n new → HasFewFaults old → HasFewFaults new
+  delivers_few old _ new Delivers.none few = few
+  delivers_few old _ new (Delivers.more n k between new_ before lowest delivers) few =
+      kept between new (step_counts between (event.Deliver k) new delivers) (delivers_few old n between before few)
 
   pub step_few : (old new : WorldState S) (e : Event) → Steps storages old e new
       → HasFewFaults old → HasFewFaults new

@@ -7,6 +7,7 @@ pub mod ListedPuts
 pub mod VotesStand
 pub mod NodeComes
 -- the fleet: each node has its place as its number
+pub mod Preserved
 pub mod FleetLemmas
 pub mod FleetSteps
 -- what moves of the protocol lead to

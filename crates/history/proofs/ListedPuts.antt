@@ -1,23 +1,26 @@
 -- What calls make of a storage's list of writes.
-use Rattle.std.proofs.Common.{◌≡◌, ◌⊎◌, ℕ, List, [], ◌∷◌, ◌++◌, Bool, true, false, IsTrue, Option, Some, None, Contains, inl, inr, refl}
-use Rattle.std.proofs.Common.{sym, ap, subst, ◌∙◌, rules, eq-eqb}
+use Rattle.std.proofs.Common.{◌≡◌, ◌⊎◌, ℕ, List, [], ◌∷◌, ◌++◌, Bool, true, false, IsTrue, Option, Some, None, Contains, nat_lt, max, inl, inr}
+use Rattle.std.proofs.Common.{refl, sym, ap, subst, ◌∙◌, rules, eq-eqb}
+use Rattle.std.proofs.lemmas.Bool.{cases_Bool}
 use Rattle.std.proofs.lemmas.Bool.Decides.{eqb_tells}
 use Rattle.std.proofs.lemmas.List.Elements.{Contains-append_left, Contains-push, Contains-push_cases}
 use Rattle.std.proofs.lemmas.Option.{same_Some, none-some}
-use Rattle.stable.specs.Records.{Records, rank, with_record}
-use Rattle.stable.specs.Script.{Script, Write, Shows, noted, Settles, ReadFailsInside, Adds, FailsOld, FailsInside}
+use Rattle.stable.specs.Records.{Records, rank, Change, Sets, Trims, with_record, without_votes_below, changed}
+use Rattle.stable.specs.Script.{Script, Write, Shows, noted, unsure_by, raised_by, Settles, ReadFailsInside, Adds, FailsOld, FailsInside}
 use Rattle.stable.specs.ScriptLaws.{reads_listed}
 use Rattle.stable.specs.declared.key.Key.{Key}
+use Rattle.stable.specs.declared.key.Key.TheVariants.{Checkpoint, Promise, Round, Vote}
 use Rattle.stable.proofs.KeyLemmas.{same_rank}
 use Rattle.stable.specs.declared.stable.Stable.{Ghosts}
 use Rattle.stable.specs.Storages.{IsLawful, scripted}
 use Rattle.history.specs.Reaching.{TookEffect}
 use Rattle.history.specs.Safety.{contents_inside}
 
--- whatever took effect did so for good; what is new shows; and each record was put, where that was so before
-pub record GoesOn {S : Type 0} (contents : Script S → Records) (a b : Script S) : Type 0 where
+-- whatever took effect did so for good; what is new is the one put that was made, if one was, and shows; and each record was put,
+-- where that was so before
+pub record GoesOn {S : Type 0} (contents : Script S → Records) (made : Option Write) (a b : Script S) : Type 0 where
   pub kept : (w : Write) → TookEffect contents a w → TookEffect contents b w
-  pub new : (w : Write) → TookEffect contents b w → TookEffect contents a w ⊎ Shows (contents b) w
+  pub new : (w : Write) → TookEffect contents b w → TookEffect contents a w ⊎ ((made ≡ Some w) × Shows (contents b) w)
   pub shown : ((w : Write) → Shows (contents a) w → TookEffect contents a w) → (w : Write) → Shows (contents b) w → TookEffect contents b w
 
 -- the records are the same, and so is what took effect
@@ -27,15 +30,15 @@ pub record IsSame {S : Type 0} (contents : Script S → Records) (a b : Script S
   pub from : (w : Write) → TookEffect contents b w → TookEffect contents a w
 
 module _ {S : Type 0} (contents : Script S → Records) where
-  pub same_then : (a b c : Script S) → IsSame contents a b → GoesOn contents b c → GoesOn contents a c
-  same_then a b c s g = record {
+  pub same_then : (made : Option Write) (a b c : Script S) → IsSame contents a b → GoesOn contents made b c → GoesOn contents made a c
+  same_then made a b c s g = record {
     kept = λ w t. g.kept w (s.to w t);
-    new = λ w t. elim (g.new w t) [ inl old ↦ inl (s.from w old) | inr shows ↦ inr shows ];
+    new = λ w t. elim (g.new w t) [ inl old ↦ inl (s.from w old) | inr now ↦ inr now ];
     shown = λ put w shows. g.shown (λ u h. s.to u (put u (subst (λ (r : Records). Shows r u) s.records h))) w shows;
   }
 
-  pub same_goes : (a b : Script S) → IsSame contents a b → GoesOn contents a b
-  same_goes a b s = record {
+  pub same_goes : (made : Option Write) (a b : Script S) → IsSame contents a b → GoesOn contents made a b
+  same_goes made a b s = record {
     kept = s.to;
     new = λ w t. inl (s.from w t);
     shown = λ put w shows. s.to w (put w (subst (λ (r : Records). Shows r w) s.records shows));
@@ -105,11 +108,59 @@ put_cases r key bytes w shows = elim (eqb_tells (rank w.0) (rank key)) [
   | inr apart ↦ inr (let h : r w.0 ≡ Some w.1 = rw apart.0 at shows in h)
 ]
 
+-- ---- votes are trimmed
+-- the put that a change is, if it is one
+abbrev pub put_in : Change → Option Write
+put_in (Sets key bytes) = Some (key, bytes)
+put_in (Trims below) = None
+
+-- and the put that is made by a write
+abbrev pub put_by : Option Change → Option Write
+put_by None = None
+put_by (Some change) = put_in change
+
+pub sets_put : (w : Option Change) (put : Write) → put_by w ≡ Some put → w ≡ Some (Sets put.0 put.1)
+sets_put None put e = absurd (none-some put e)
+sets_put (Some (Trims below)) put e = absurd (none-some put e)
+sets_put (Some (Sets key bytes)) put e = ap (λ (x : Write). Some (Sets x.0 x.1)) (same_Some (key, bytes) put e)
+
+-- what is left was there
+was_there : (r : Records) (below : ℕ) (key : Key) (bytes : List ℕ) → without_votes_below r below key ≡ Some bytes → r key ≡ Some bytes
+was_there r below Checkpoint bytes h = h
+was_there r below Promise bytes h = h
+was_there r below Round bytes h = h
+was_there r below (Vote slot) bytes h = elim (cases_Bool (nat_lt slot below)) [
+  | inl gone ↦ absurd (none-some bytes (let none : None ≡ Some bytes = rw gone at h in none))
+  | inr left ↦ (let there : r (Vote slot) ≡ Some bytes = rw left at h in there)
+]
+
+pub left_shows : (r : Records) (below : ℕ) (w : Write) → Shows (without_votes_below r below) w → Shows r w
+left_shows r below w shows = was_there r below w.0 w.1 shows
+
+-- with nothing unsure, votes are gone and the list is left
+after_trim : {S : Type 0} (contents : Script S → Records) (a b : Script S) (below : ℕ) → a.unsure ≡ None → b.writes ≡ a.writes
+    → b.unsure ≡ None → contents b ≡ without_votes_below (contents a) below → GoesOn contents None a b
+after_trim contents a b below settled writes unsure e =
+    let kept_ : (w : Write) → TookEffect contents a w → TookEffect contents b w = λ w t. elim t [
+      | inl c ↦ inl (subst (λ (ws : List Write). Contains ws w) (sym writes) c)
+      | inr u ↦ absurd (none-some w (sym settled ∙ u.0))
+    ] in
+    record {
+      kept = kept_;
+      new = λ w t. elim t [
+        | inl c ↦ inl (inl (subst (λ (ws : List Write). Contains ws w) writes c))
+        | inr u ↦ absurd (none-some w (sym unsure ∙ u.0))
+      ];
+      shown = λ put w shows. kept_ w (put w (left_shows (contents a) below w (subst (λ (r : Records). Shows r w) e shows)));
+    }
+
 module _ {S : Type 0} (contents : S → Records) where
-  -- the put is listed
-  added : {puts : S → Key → List ℕ → S → Type 0} (a b : Script S) (key : Key) (bytes : List ℕ) → Adds puts a key bytes b
-      → contents b.inner ≡ with_record (contents a.inner) key bytes → GoesOn (contents_inside contents) a b
-  added a b key bytes h e =
+  -- a put is listed, and after a trim no more shows than before
+  added : {changes : S → Change → S → Type 0} (a b : Script S) (change : Change) → Adds changes a change b
+      → contents b.inner ≡ changed (contents a.inner) change → GoesOn (contents_inside contents) (put_in change) a b
+  added a b (Trims below) h e =
+      after_trim (contents_inside contents) a b below h.settled h.writes h.unsure e
+  added a b (Sets key bytes) h e =
       let kept_ : (w : Write) → TookEffect (contents_inside contents) a w → TookEffect (contents_inside contents) b w = λ w t. elim t [
         | inl c ↦ inl (subst (λ (ws : List Write). Contains ws w) (sym h.writes) (Contains-append_left a.writes _ w c))
         | inr u ↦ absurd (none-some w (sym h.settled ∙ u.0))
@@ -119,8 +170,11 @@ module _ {S : Type 0} (contents : S → Records) where
         new = λ w t. elim t [
           | inl c ↦ elim (Contains-push_cases a.writes (key, bytes) w (subst (λ (ws : List Write). Contains ws w) h.writes c)) [
             | inl old ↦ inl (inl old)
-            | inr now ↦ inr (subst (λ (x : Write). Shows (contents b.inner) x) now
-                (subst (λ (r : Records). Shows r (key, bytes)) (sym e) (put_shows (contents a.inner) key bytes)))
+            | inr now ↦ inr (
+              ap Some now,
+              subst (λ (x : Write). Shows (contents b.inner) x) now
+                  (subst (λ (r : Records). Shows r (key, bytes)) (sym e) (put_shows (contents a.inner) key bytes)),
+            )
           ]
           | inr u ↦ absurd (none-some w (sym h.unsure ∙ u.0))
         ];
@@ -131,11 +185,16 @@ module _ {S : Type 0} (contents : S → Records) where
         ];
       }
 
-  -- the storage inside failed on the put, which is unsure then
-  unsure_then : (a : Script S) (inner : S) (key : Key) (bytes : List ℕ) → a.unsure ≡ None
-      → (contents inner ≡ contents a.inner) ⊎ (contents inner ≡ with_record (contents a.inner) key bytes)
-      → GoesOn (contents_inside contents) a (record a { inner = inner; unsure = Some (key, bytes) })
-  unsure_then a inner key bytes sure e =
+  -- the storage inside failed on the change: a put is unsure then
+  unsure_then : (a : Script S) (inner : S) (change : Change) → a.unsure ≡ None
+      → (contents inner ≡ contents a.inner) ⊎ (contents inner ≡ changed (contents a.inner) change)
+      → GoesOn (contents_inside contents) (put_in change) a (record a { inner = inner; unsure = unsure_by change a.unsure; trimmed = raised_by change a.trimmed })
+  unsure_then a inner (Trims below) sure (inl same) =
+      same_goes (contents_inside contents) None a (record a { inner = inner; trimmed = max a.trimmed below })
+      (same_lists (contents_inside contents) a (record a { inner = inner; trimmed = max a.trimmed below }) same refl refl)
+  unsure_then a inner (Trims below) sure (inr gone) =
+      after_trim (contents_inside contents) a (record a { inner = inner; trimmed = max a.trimmed below }) below sure refl sure gone
+  unsure_then a inner (Sets key bytes) sure e =
       let b : Script S = record a { inner = inner; unsure = Some (key, bytes) } in
       let kept_ : (w : Write) → TookEffect (contents_inside contents) a w → TookEffect (contents_inside contents) b w = λ w t. elim t [
         | inl c ↦ inl c
@@ -143,7 +202,7 @@ module _ {S : Type 0} (contents : S → Records) where
       ] in
       record {
         kept = kept_;
-        new = λ w t. elim t [ inl c ↦ inl (inl c) | inr u ↦ inr u.1 ];
+        new = λ w t. elim t [ inl c ↦ inl (inl c) | inr u ↦ inr u ];
         shown = λ put w shows. elim e [
           | inl same ↦ kept_ w (put w (subst (λ (r : Records). Shows r w) same shows))
           | inr written ↦ elim (put_cases (contents a.inner) key bytes w (subst (λ (r : Records). Shows r w) written shows)) [
@@ -155,24 +214,24 @@ module _ {S : Type 0} (contents : S → Records) where
 
 -- ---- the laws of the list
 pub record KeepsPuts {S : Type 0} (storages : Ghosts (Script S)) : Type 0 where
-  pub reads_on : (a b : Script S) → storages.reads a b → storages.IsHonest b → GoesOn storages.contents a b
-  pub read_fails_on : (a b : Script S) → storages.read_fails a b → storages.IsHonest b → GoesOn storages.contents a b
-  pub puts_on : (a b : Script S) (key : Key) (bytes : List ℕ) → storages.puts a key bytes b → storages.IsHonest b
-      → GoesOn storages.contents a b
-  pub fails_on : (a b : Script S) (key : Key) (bytes : List ℕ) → storages.fails a key bytes b → storages.IsHonest b
-      → GoesOn storages.contents a b
+  pub reads_on : (a b : Script S) → storages.reads a b → storages.IsHonest b → GoesOn storages.contents None a b
+  pub read_fails_on : (a b : Script S) → storages.read_fails a b → storages.IsHonest b → GoesOn storages.contents None a b
+  pub changes_on : (a b : Script S) (change : Change) → storages.changes a change b → storages.IsHonest b
+      → GoesOn storages.contents (put_in change) a b
+  pub fails_on : (a b : Script S) (change : Change) → storages.fails a change b → storages.IsHonest b
+      → GoesOn storages.contents (put_in change) a b
   -- whether a put is unsure
   pub reads_unsure : (a b : Script S) → storages.reads a b → (b.unsure ≡ None) ⊎ ((b.writes ≡ a.writes) × (b.unsure ≡ a.unsure))
   pub read_fails_unsure : (a b : Script S) → storages.read_fails a b → (b.unsure ≡ None) ⊎ ((b.writes ≡ a.writes) × (b.unsure ≡ a.unsure))
-  pub puts_sure : (a b : Script S) (key : Key) (bytes : List ℕ) → storages.puts a key bytes b → b.unsure ≡ None
-  pub fails_unsure : (a b : Script S) (key : Key) (bytes : List ℕ) → storages.fails a key bytes b → a.unsure ≡ None
+  pub changes_sure : (a b : Script S) (change : Change) → storages.changes a change b → b.unsure ≡ None
+  pub fails_unsure : (a b : Script S) (change : Change) → storages.fails a change b → a.unsure ≡ None
       → (b.unsure ≡ None) ⊎ (b.writes ≡ a.writes)
 
 module _ {S : Type 0} (storages : Ghosts S) (laws : IsLawful storages) where
   abbrev Same : Script S → Script S → Type 0
   Same = IsSame (contents_inside storages.contents)
 
-  abbrev Goes : Script S → Script S → Type 0
+  abbrev Goes : Option Write → Script S → Script S → Type 0
   Goes = GoesOn (contents_inside storages.contents)
 
   read_same : (a b : Script S) → (scripted storages).reads a b → storages.IsHonest b.inner → Same a b
@@ -200,38 +259,41 @@ module _ {S : Type 0} (storages : Ghosts S) (laws : IsLawful storages) where
       (ap (λ (x : Script S). x.writes) f.after) (ap (λ (x : Script S). x.unsure) f.after)
   read_failed_same a b (inr f) honest = read_failed_inside_same a b f honest
 
-  adds_on : (a between b : Script S) (key : Key) (bytes : List ℕ) → (scripted storages).reads a between
-      → Adds storages.puts between key bytes b
-      → storages.IsHonest b.inner → Goes a b
-  adds_on a between b key bytes before adds honest =
-      let was : storages.IsHonest between.inner = laws.puts_honest between.inner b.inner key bytes adds.inner honest in
-      same_then (contents_inside storages.contents) a between b (read_same a between before was)
-      (added storages.contents between b key bytes adds (laws.puts_contents between.inner b.inner key bytes adds.inner honest))
+  adds_on : (a between b : Script S) (change : Change) → (scripted storages).reads a between
+      → Adds storages.changes between change b
+      → storages.IsHonest b.inner → Goes (put_in change) a b
+  adds_on a between b change before adds honest =
+      let was : storages.IsHonest between.inner = laws.changes_honest between.inner b.inner change adds.inner honest in
+      same_then (contents_inside storages.contents) (put_in change) a between b (read_same a between before was)
+      (added storages.contents between b change adds (laws.changes_contents between.inner b.inner change adds.inner honest))
 
-  fails_old_on : (a b : Script S) → FailsOld storages.contents storages.IsHonest storages.reads a b → storages.IsHonest b.inner → Goes a b
-  fails_old_on a b f honest =
+  fails_old_on : (made : Option Write) (a b : Script S) → FailsOld storages.contents storages.IsHonest storages.reads a b
+      → storages.IsHonest b.inner → Goes made a b
+  fails_old_on made a b f honest =
       let inner : b.inner ≡ f.between.inner = ap (λ (x : Script S). x.inner) f.after in
       let s : Same a f.between = read_same a f.between f.before (subst storages.IsHonest inner honest) in
-      same_then (contents_inside storages.contents) a f.between b s
-      (same_goes (contents_inside storages.contents) f.between b
+      same_then (contents_inside storages.contents) made a f.between b s
+      (same_goes (contents_inside storages.contents) made f.between b
       (same_lists (contents_inside storages.contents) f.between b (ap storages.contents inner)
       (ap (λ (x : Script S). x.writes) f.after)
       (ap (λ (x : Script S). x.unsure) f.after)))
 
-  fails_inside_on : (a b : Script S) (key : Key) (bytes : List ℕ)
-      → FailsInside storages.contents storages.IsHonest storages.reads storages.fails a key bytes b → storages.IsHonest b.inner → Goes a b
-  fails_inside_on a b key bytes f honest =
-      let was : storages.IsHonest f.between.inner = laws.fails_honest f.between.inner b.inner key bytes f.inner honest in
-      same_then (contents_inside storages.contents) a f.between b (read_same a f.between f.before was)
-      (subst (λ (x : Script S). Goes f.between x) (sym f.after)
-      (unsure_then storages.contents f.between b.inner key bytes f.settled
-      (laws.fails_contents f.between.inner b.inner key bytes f.inner honest)))
+  fails_inside_on : (a b : Script S) (change : Change)
+      → FailsInside storages.contents storages.IsHonest storages.reads storages.fails a change b → storages.IsHonest b.inner
+      → Goes (put_in change) a b
+  fails_inside_on a b change f honest =
+      let was : storages.IsHonest f.between.inner = laws.fails_honest f.between.inner b.inner change f.inner honest in
+      same_then (contents_inside storages.contents) (put_in change) a f.between b (read_same a f.between f.before was)
+      (subst (λ (x : Script S). Goes (put_in change) f.between x) (sym f.after)
+      (unsure_then storages.contents f.between b.inner change f.settled
+      (laws.fails_contents f.between.inner b.inner change f.inner honest)))
 
-  failed_on : (a b : Script S) (key : Key) (bytes : List ℕ) → (scripted storages).fails a key bytes b → storages.IsHonest b.inner → Goes a b
-  failed_on a b key bytes (inl f) honest = fails_old_on a b f honest
-  failed_on a b key bytes (inr (inl f)) honest = adds_on a f.between b key bytes f.before f.adds honest
-  failed_on a b key bytes (inr (inr (inl f))) honest = fails_inside_on a b key bytes f honest
-  failed_on a b key bytes (inr (inr (inr f))) honest = same_goes (contents_inside storages.contents) a b
+  failed_on : (a b : Script S) (change : Change) → (scripted storages).fails a change b → storages.IsHonest b.inner
+      → Goes (put_in change) a b
+  failed_on a b change (inl f) honest = fails_old_on (put_in change) a b f honest
+  failed_on a b change (inr (inl f)) honest = adds_on a f.between b change f.before f.adds honest
+  failed_on a b change (inr (inr (inl f))) honest = fails_inside_on a b change f honest
+  failed_on a b change (inr (inr (inr f))) honest = same_goes (contents_inside storages.contents) (put_in change) a b
       (read_failed_inside_same a b f.inner honest)
 
   read_unsure : (a b : Script S) → ((b.writes ≡ a.writes) × (b.unsure ≡ a.unsure)) ⊎ Settles storages.contents storages.IsHonest a b
@@ -253,23 +315,23 @@ module _ {S : Type 0} (storages : Ghosts S) (laws : IsLawful storages) where
   read_failed_unsure a b (inr f) =
       left_unsure a f.between b f.before (ap (λ (x : Script S). x.writes) f.after) (ap (λ (x : Script S). x.unsure) f.after)
 
-  failed_unsure : (a b : Script S) (key : Key) (bytes : List ℕ) → (scripted storages).fails a key bytes b → a.unsure ≡ None
+  failed_unsure : (a b : Script S) (change : Change) → (scripted storages).fails a change b → a.unsure ≡ None
       → (b.unsure ≡ None) ⊎ (b.writes ≡ a.writes)
-  failed_unsure a b key bytes (inl f) sure = inl (ap (λ (x : Script S). x.unsure) f.after ∙ (reads_listed a f.between sure f.before).1)
-  failed_unsure a b key bytes (inr (inl f)) sure = inl f.adds.unsure
-  failed_unsure a b key bytes (inr (inr (inl f))) sure = inr (ap (λ (x : Script S). x.writes) f.after
+  failed_unsure a b change (inl f) sure = inl (ap (λ (x : Script S). x.unsure) f.after ∙ (reads_listed a f.between sure f.before).1)
+  failed_unsure a b change (inr (inl f)) sure = inl f.adds.unsure
+  failed_unsure a b change (inr (inr (inl f))) sure = inr (ap (λ (x : Script S). x.writes) f.after
       ∙ (reads_listed a f.between sure f.before).0)
-  failed_unsure a b key bytes (inr (inr (inr f))) sure =
+  failed_unsure a b change (inr (inr (inr f))) sure =
       elim (read_failed_unsure a b (inr f.inner)) [ inl now ↦ inl now | inr same ↦ inr same.0 ]
 
   pub script_puts : KeepsPuts (scripted storages)
   script_puts = record {
-    reads_on = λ a b r h. same_goes (contents_inside storages.contents) a b (read_same a b r h.0);
-    read_fails_on = λ a b f h. same_goes (contents_inside storages.contents) a b (read_failed_same a b f h.0);
-    puts_on = λ a b key bytes p h. adds_on a p.between b key bytes p.before p.adds h.0;
-    fails_on = λ a b key bytes f h. failed_on a b key bytes f h.0;
+    reads_on = λ a b r h. same_goes (contents_inside storages.contents) None a b (read_same a b r h.0);
+    read_fails_on = λ a b f h. same_goes (contents_inside storages.contents) None a b (read_failed_same a b f h.0);
+    changes_on = λ a b change p h. adds_on a p.between b change p.before p.adds h.0;
+    fails_on = λ a b change f h. failed_on a b change f h.0;
     reads_unsure = λ a b r. read_unsure a b r.list;
     read_fails_unsure = read_failed_unsure;
-    puts_sure = λ a b key bytes p. p.adds.unsure;
+    changes_sure = λ a b change p. p.adds.unsure;
     fails_unsure = failed_unsure;
   }

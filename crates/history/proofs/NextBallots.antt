@@ -1,12 +1,9 @@
 -- A node's next ballot never falls while it stays up.
-use Rattle.std.proofs.Common.{◌≡◌, ◌≢◌, inl, inr, ℕ, ◌+◌, List, slice_get, slice_set, Bool, true, false, Option, Some, None, IsSome, IfSome}
+use Rattle.std.proofs.Common.{◌≡◌, inl, inr, ℕ, ◌+◌, List, slice_get, slice_set, Bool, true, false, Option, Some, None, IfSome}
 use Rattle.std.proofs.Common.{MatchBool, Result, Ok, Err, refl, sym, ap, subst, ◌∙◌, arith}
 use Rattle.std.specs.Prelude.{max}
 use Rattle.stable.specs.Script.{Script}
 use Rattle.stable.specs.declared.stable.Stable.{Ghosts}
-use Rattle.store.specs.declared.query.Query.{Query}
-use Rattle.sessions.specs.Asked.{Asked}
-use Rattle.wire.specs.declared.frames.envelope.Envelope.{Envelope}
 use Rattle.minds.specs.Faults.{is_stop_fault}
 use Rattle.minds.specs.Minds.{Mind}
 use Rattle.minds.specs.Nodes.{NodeState, NodeSteps, TakesInput, StopsOnInput, RefusesInput}
@@ -15,10 +12,9 @@ use Rattle.minds.specs.declared.fault.NodeFault.{NodeFault}
 use Rattle.minds.specs.declared.input.Input.{Input}
 use Rattle.minds.specs.declared.input.Input.TheVariants as input
 use Rattle.history.specs.Progress.{mind_in, mind_at, Restarts, BallotsNeverFall}
-use Rattle.history.specs.Worlds.{WorldState, TakesAt, ReceivesAt, Steps, recorded, with_node, with_submission, answered, without_wait}
-use Rattle.events.specs.declared.event.Event.{Event}
-use Rattle.events.specs.declared.event.Event.TheVariants as event
+use Rattle.history.specs.Worlds.{WorldState, TakesAt, with_node, without_wait}
 use Rattle.history.proofs.Handing.{same_mind, same_or_not, set_here, set_other}
+use Rattle.history.proofs.Preserved.{HoldsOf, step_holds, recorded_nodes, submission_nodes, answered_nodes}
 use Rattle.history.proofs.RefusedGrows.{Grows, takes_grows}
 
 -- a node that is up before and behind a step has lost none of its rounds
@@ -76,10 +72,6 @@ module _ {S : Type 0} where
         (subst (λ (o : Option Mind). IfSome o (λ k. MatchBool (is_stop_fault f) (StopsOnInput storages n k i f m) (RefusesInput n k i f m)))
         here h.refused) here there
 
-    recorded_nodes : (w : WorldState S) (k : ℕ) (r : Result Response NodeFault) → (recorded w k r).nodes ≡ w.nodes
-    recorded_nodes w k (Ok said) = refl
-    recorded_nodes w k (Err f) = refl
-
     takes_not_behind : (old : WorldState S) (k : ℕ) (i : Input) (taken : Bool) (new : WorldState S) → TakesAt storages old k i taken new
         → (node : ℕ) → NotBehind old node new
     takes_not_behind old k i taken new h =
@@ -87,51 +79,40 @@ module _ {S : Type 0} where
         (ap (λ (w : WorldState S). w.nodes) h.leaves ∙ recorded_nodes (with_node old k h.after) k h.result)
         (λ before after here there. node_grows h.before h.after i h.result before after h.steps here there)
 
-    submitted_nodes : (w : WorldState S) (taken : Bool) (node : ℕ) (r : Asked) → (with_submission w taken node r).nodes ≡ w.nodes
-    submitted_nodes w true node r = refl
-    submitted_nodes w false node r = refl
-
-    answered_nodes : (w : WorldState S) (node : ℕ) (query : Query) (r : Result (ℕ × List ℕ) NodeFault)
-        → (answered w node query r).nodes ≡ w.nodes
-    answered_nodes w node query (Ok told) = refl
-    answered_nodes w node query (Err f) = refl
-
     with_same : (old mid new : WorldState S) (node : ℕ) → new.nodes ≡ mid.nodes → NotBehind old node mid → NotBehind old node new
     with_same old mid new node same h before after here there =
         h before after here (sym (ap (λ (ns : List (NodeState (Script S))). mind_in (slice_get ns node)) same) ∙ there)
 
-    received : (old : WorldState S) (e : Envelope) (new : WorldState S) (o : Option Mind) (h : ReceivesAt storages old e new)
-        → h.receiver.up ≡ o → (node : ℕ) → NotBehind old node new
-    received old e new None h up node = same_nodes old new node (ap (λ (w : WorldState S). w.nodes) (h.lost up))
-    received old e new (Some m) h up node =
-        let takes = h.taken (subst (λ (o : Option Mind). IsSome o) (sym up) refl) in
-        takes_not_behind old e.to (input.Message e) takes.0 new takes.1 node
-
-    not_behind : (old : WorldState S) (e : Event) (new : WorldState S) (node : ℕ) → Steps storages old e new → (Restarts node e → ⊥)
-        → NotBehind old node new
-    not_behind old (event.Submit i client number op) new node h not =
-        with_same old h.between new node (ap (λ (w : WorldState S). w.nodes) h.leaves ∙ submitted_nodes h.between h.taken i _)
-        (takes_not_behind old i _ h.taken h.between h.takes node)
-    not_behind old (event.Deliver k) new node h not = received (without_wait old k) h.frame new h.receives.receiver.up h.receives refl node
-    not_behind old (event.Drop k) new node h not = same_nodes old new node (ap (λ (w : WorldState S). w.nodes) h)
-    not_behind old (event.Timeout i) new node h not = takes_not_behind old i input.Timeout h.0 new h.1 node
-    not_behind old (event.Tick i) new node h not = takes_not_behind old i input.Tick h.0 new h.1 node
-    not_behind old (event.Restart i) new node h not = λ before after here there.
-        let other : node ≢ i = λ same. not (sym same) in
+    restarted : (old : WorldState S) (i : ℕ) (after : NodeState (Script S)) (new : WorldState S) → new.nodes ≡ slice_set old.nodes i after
+        → (node : ℕ) → (node ≡ i → ⊥) → NotBehind old node new
+    restarted old i after new leaves node other was now here there =
         let kept : mind_at new node ≡ mind_at old node =
-        ap (λ (w : WorldState S). mind_at w node) h.leaves
-        ∙ ap (λ (o : Option (NodeState (Script S))). mind_in o) (set_other old.nodes i node h.after other) in
-        still before after (same_mind before after (sym here ∙ (sym kept ∙ there)))
-    not_behind old (event.Fault i failing) new node h not =
-        replaced old new i h.before _ h.here (ap (λ (w : WorldState S). w.nodes) h.leaves)
-        (λ before after here there. still before after (same_mind before after (sym here ∙ there))) node
-    not_behind old (event.Query i query) new node h not =
-        same_nodes old new node (ap (λ (w : WorldState S). w.nodes) h.leaves ∙ answered_nodes old i query h.result)
+        ap (λ (ns : List (NodeState (Script S))). mind_in (slice_get ns node)) leaves
+        ∙ ap (λ (o : Option (NodeState (Script S))). mind_in o) (set_other old.nodes i node after other) in
+        still was now (same_mind was now (sym here ∙ (sym kept ∙ there)))
+
+    no_step_behind : HoldsOf storages (λ old e new. (node : ℕ) → (Restarts node e → ⊥) → NotBehind old node new)
+    no_step_behind = record {
+      takes = λ old e i x taken new h own node not. takes_not_behind old i x taken new h node;
+      submits = λ old e i r new h node not.
+          with_same old h.between new node (ap (λ (w : WorldState S). w.nodes) h.leaves ∙ submission_nodes h.between h.taken i r)
+          (takes_not_behind old i _ h.taken h.between h.takes node);
+      hears = λ old e k frame taken new sent fits h node not.
+          takes_not_behind (without_wait old k) frame.to (input.Message frame) taken new h node;
+      loses = λ old e k o new brings h node not. same_nodes old new node (ap (λ (w : WorldState S). w.nodes) h);
+      restarts = λ old i new h node not.
+          restarted old i h.after new (ap (λ (w : WorldState S). w.nodes) h.leaves) node (λ same. not (sym same));
+      arms = λ old e i failing new h node not.
+          replaced old new i h.before _ h.here (ap (λ (w : WorldState S). w.nodes) h.leaves)
+          (λ before after here there. still before after (same_mind before after (sym here ∙ there))) node;
+      answers = λ old e i query new h node not.
+          same_nodes old new node (ap (λ (w : WorldState S). w.nodes) h.leaves ∙ answered_nodes old i query h.result);
+    }
 
     -- so its next ballot is no lower
     pub ballots_never_fall : BallotsNeverFall storages
     ballots_never_fall old e new node h not before after here there b c first next =
-        let grows = not_behind old e new node h not before after here there in
+        let grows = step_holds no_step_behind old e new h node not before after here there in
         let round_b : b.round ≡ max before.proposing.round before.proposing.refused + 1 = first.round in
         let round_c : c.round ≡ max after.proposing.round after.proposing.refused + 1 = next.round in
         let same : b.node ≡ c.node = first.own ∙ (sym grows.own ∙ sym next.own) in

@@ -1,6 +1,6 @@
 -- Where a node comes to in the protocol, and what its list of writes tells there.
 use Rattle.std.proofs.Common.{◌≡◌, ◌⊎◌, ℕ, ◌<◌, ◌≤◌, inl, inr, List, [], map, Bool, true, false, Option, Some, None, IfSome, IsSome, IfOk}
-use Rattle.std.proofs.Common.{IfErr, OnOk, OnErr, Contains, MatchBool, Result, Ok, Err, refl, sym, ap, subst, ◌∙◌, rules}
+use Rattle.std.proofs.Common.{IfErr, OnOk, OnErr, Contains, MatchBool, Result, Ok, Err, refl, sym, ap, subst, ◌∙◌, rules, arith}
 use Rattle.std.specs.Prelude.{◌↔◌}
 use Rattle.std.proofs.lemmas.List.Elements.{Contains-append_left}
 use Rattle.std.proofs.lemmas.Option.{none-some}
@@ -32,11 +32,13 @@ use Rattle.minds.specs.Minds.{Mind}
 use Rattle.minds.specs.Nodes.{NodeState, NodeSteps, TakesInput, RefusesInput, StopsOnInput, StorageStops}
 use Rattle.minds.specs.Outputs.{Response}
 use Rattle.minds.specs.Protocol.{fleet, frame_of, input_of, InputFits, HoldsRecords, MindStands}
+use Rattle.minds.proofs.AllowedLoading.{blank_at}
+use Rattle.minds.proofs.RecordsGoOn.{vote_above}
 use Rattle.history.specs.Reaching.{NodeStands, PutsStand, StandsAt}
-use Rattle.history.specs.Voting.{HasVote}
-use Rattle.history.proofs.ListedPuts.{GoesOn, KeepsPuts, same_goes, same_lists}
+use Rattle.history.specs.Voting.{vote_put, HasVote}
+use Rattle.history.proofs.ListedPuts.{GoesOn, KeepsPuts, put_by, sets_put, same_goes, same_lists}
 use Rattle.history.proofs.NodeMoves.{NodeMoves, node_moves, sends_of, learnt_of, submitted_of}
-use Rattle.history.proofs.RestartLemmas.{restart_stands}
+use Rattle.history.proofs.RestartLemmas.{begins_at, restart_stands}
 use Rattle.history.proofs.VotesStand.{puts_go_on, listed_when_sure}
 
 -- none is not some
@@ -60,12 +62,21 @@ begun_mind m y h = record {
   learner = h.learner;
   proposer = record { round = h.proposer.round; campaign = h.proposer.campaign; waiting = h.proposer.waiting };
   position_ = h.position_;
+  level = h.level;
 }
 
 begun_up : (records : Records) (o : Option Mind) (y : Local Command) → IfSome o (λ m. HoldsRecords m records × MindStands m y)
     → IfSome o (λ m. HoldsRecords m records × MindStands m (begins y.records y.mind))
 begun_up records None y h = tt
 begun_up records (Some m) y h = (h.0, begun_mind m y h.1)
+
+-- the protocol's floor is the one that a node holds which is up
+floor_up : {S : Type 0} (contents : Script S → Records) (n : NodeState (Script S)) (m : Mind) (x : Local Command) → n.up ≡ Some m
+    → NodeStands contents n x → x.records.floor ≡ m.accepting.floor
+floor_up contents n m x up stands =
+    let both : HoldsRecords m (contents n.storage) × MindStands m x =
+    subst (λ (o : Option Mind). IfSome o (λ k. HoldsRecords k (contents n.storage) × MindStands k x)) up stands.up in
+    both.1.records.floor_
 
 begun : {S : Type 0} (contents : Script S → Records) (n : NodeState (Script S)) (y : Local Command) → NodeStands contents n y
     → NodeStands contents n (begins y.records y.mind)
@@ -155,9 +166,12 @@ record WentDown {S : Type 0} (old new : NodeState (Script S)) (r : Result Respon
   down : new.up ≡ None
   list : new.storage.writes ≡ old.storage.writes
 
-record ListGoesOn {S : Type 0} (contents : Script S → Records) (old new : NodeState (Script S))
+record ListGoesOn {S : Type 0} (contents : Script S → Records) (m : Mind) (old new : NodeState (Script S))
     (r : Result Response NodeFault) : Type 0 where
-  goes : GoesOn contents old.storage new.storage
+  made : Write
+  -- a vote is put at a slot from the floor on
+  above : (v : Vote Command) → put_by made ≡ Some (vote_put v) → m.accepting.floor ≤ v.slot
+  goes : GoesOn contents (put_by made) old.storage new.storage
   sure : (new.storage.unsure ≡ None) ⊎ WentDown old new r
 
 -- node i may come on this input to what stands for it, and tells this on the way
@@ -191,28 +205,31 @@ module _ {S : Type 0} {storages : Ghosts (Script S)} (laws : IsLawful storages)
   read_sure : (a b : Script S) → storages.reads a b → a.unsure ≡ None → b.unsure ≡ None
   read_sure a b h sure = elim (lists.reads_unsure a b h) [ inl now ↦ now | inr same ↦ same.1 ∙ sure ]
 
-  pub written_goes : (a b : Script S) (w : Write) → HasWritten storages.reads storages.puts a b w → storages.IsHonest b
-      → GoesOn storages.contents a b
+  pub written_goes : (a b : Script S) (w : Write) → HasWritten storages.reads storages.changes a b w → storages.IsHonest b
+      → GoesOn storages.contents (put_by w) a b
   written_goes a b None h honest = lists.reads_on a b h honest
-  written_goes a b (Some w) h honest = lists.puts_on a b w.0 w.1 h honest
+  written_goes a b (Some w) h honest = lists.changes_on a b w h honest
 
-  written_sure : (a b : Script S) (w : Write) → HasWritten storages.reads storages.puts a b w → a.unsure ≡ None → b.unsure ≡ None
+  written_sure : (a b : Script S) (w : Write) → HasWritten storages.reads storages.changes a b w → a.unsure ≡ None → b.unsure ≡ None
   written_sure a b None h sure = read_sure a b h sure
-  written_sure a b (Some w) h sure = lists.puts_sure a b w.0 w.1 h
+  written_sure a b (Some w) h sure = lists.changes_sure a b w h
 
-  pub failed_goes : (a b : Script S) (w : Write) → HasFailed storages.fails a b w → storages.IsHonest b → GoesOn storages.contents a b
+  pub failed_goes : (a b : Script S) (w : Write) → HasFailed storages.fails a b w → storages.IsHonest b
+      → GoesOn storages.contents (put_by w) a b
   failed_goes a b None h honest = absurd h
-  failed_goes a b (Some w) h honest = lists.fails_on a b w.0 w.1 h honest
+  failed_goes a b (Some w) h honest = lists.fails_on a b w h honest
 
   failed_list : (a b : Script S) (w : Write) → HasFailed storages.fails a b w → a.unsure ≡ None → (b.unsure ≡ None) ⊎ (b.writes ≡ a.writes)
   failed_list a b None h sure = absurd h
-  failed_list a b (Some w) h sure = lists.fails_unsure a b w.0 w.1 h sure
+  failed_list a b (Some w) h sure = lists.fails_unsure a b w h sure
 
   -- ---- an input
   stopped : (old new : NodeState (Script S)) (m : Mind) (input : Input) (f : NodeFault)
       → StorageStops storages old.storage m input f new.storage
-      → new.up ≡ None → old.storage.unsure ≡ None → storages.IsHonest new.storage → ListGoesOn storages.contents old new (Err f)
+      → new.up ≡ None → old.storage.unsure ≡ None → storages.IsHonest new.storage → ListGoesOn storages.contents m old new (Err f)
   stopped old new m input fault.Device h down sure honest = record {
+    made = h.write;
+    above = λ v e. vote_above m input h.write h.made v.slot _ (sets_put h.write (vote_put v) e);
     goes = failed_goes old.storage new.storage h.write h.leaves honest;
     sure = elim (failed_list old.storage new.storage h.write h.leaves sure) [
       | inl now ↦ inl now
@@ -220,8 +237,15 @@ module _ {S : Type 0} {storages : Ghosts (Script S)} (laws : IsLawful storages)
     ];
   }
   stopped old new m input fault.Memory (inl h) down sure honest =
-      record { goes = lists.reads_on old.storage new.storage h honest; sure = inl (read_sure old.storage new.storage h sure) }
+      record {
+        made = None;
+        above = λ v e. absurd (none-some (vote_put v) e);
+        goes = lists.reads_on old.storage new.storage h honest;
+        sure = inl (read_sure old.storage new.storage h sure);
+      }
   stopped old new m input fault.Memory (inr h) down sure honest = record {
+    made = h.write;
+    above = λ v e. vote_above m input h.write h.made v.slot _ (sets_put h.write (vote_put v) e);
     goes = written_goes old.storage new.storage h.write h.leaves honest;
     sure = inl (written_sure old.storage new.storage h.write h.leaves sure);
   }
@@ -232,28 +256,32 @@ module _ {S : Type 0} {storages : Ghosts (Script S)} (laws : IsLawful storages)
   stopped old new m input fault.TooLong h down sure honest = absurd h
   stopped old new m input fault.Damaged h down sure honest = absurd h
 
-  unchanged : (old new : NodeState (Script S)) (r : Result Response NodeFault) → new ≡ old → old.storage.unsure ≡ None
-      → ListGoesOn storages.contents old new r
-  unchanged old new r e sure =
-      subst (λ (n : NodeState (Script S)). ListGoesOn storages.contents old n r) (sym e)
+  unchanged : (old new : NodeState (Script S)) (m : Mind) (r : Result Response NodeFault) → new ≡ old → old.storage.unsure ≡ None
+      → ListGoesOn storages.contents m old new r
+  unchanged old new m r e sure =
+      subst (λ (n : NodeState (Script S)). ListGoesOn storages.contents m old n r) (sym e)
       (record {
-        goes = same_goes storages.contents old.storage old.storage
+        made = None;
+        above = λ v e. absurd (none-some (vote_put v) e);
+        goes = same_goes storages.contents None old.storage old.storage
             (same_lists storages.contents old.storage old.storage refl refl refl);
         sure = inl sure;
       })
 
   list_refused : (old new : NodeState (Script S)) (m : Mind) (input : Input) (f : NodeFault) (b : Bool)
       → MatchBool b (StopsOnInput storages old m input f new) (RefusesInput old m input f new) → old.storage.unsure ≡ None
-      → storages.IsHonest new.storage → ListGoesOn storages.contents old new (Err f)
+      → storages.IsHonest new.storage → ListGoesOn storages.contents m old new (Err f)
   list_refused old new m input f true h sure honest =
       stopped old new m input f h.storage (ap (λ (n : NodeState (Script S)). n.up) h.leaves) sure honest
-  list_refused old new m input f false h sure honest = unchanged old new (Err f) h.leaves sure
+  list_refused old new m input f false h sure honest = unchanged old new m (Err f) h.leaves sure
 
   list_on : (old new : NodeState (Script S)) (m : Mind) (input : Input) (r : Result Response NodeFault)
       → IfOk r (λ told. TakesInput storages old m input told new)
       → IfErr r (λ f. MatchBool (is_stop_fault f) (StopsOnInput storages old m input f new) (RefusesInput old m input f new))
-      → old.storage.unsure ≡ None → storages.IsHonest new.storage → ListGoesOn storages.contents old new r
+      → old.storage.unsure ≡ None → storages.IsHonest new.storage → ListGoesOn storages.contents m old new r
   list_on old new m input (Ok told) h refused sure honest = record {
+    made = h.made.write;
+    above = λ v e. vote_above m input h.made.write h.made.made v.slot _ (sets_put h.made.write (vote_put v) e);
     goes = written_goes old.storage new.storage h.made.write h.made.leaves honest;
     sure = inl (written_sure old.storage new.storage h.made.write h.made.leaves sure);
   }
@@ -328,12 +356,16 @@ module _ {S : Type 0} {storages : Ghosts (Script S)} (laws : IsLawful storages)
         subst (λ (y : Local Command). PutsStand storages.contents old.storage y.records) (s.sure sure) s.puts in
         let moves : NodeMoves storages.contents nodes i input x new r =
         node_moves laws nodes i there few old new input r x h stands member fits honest in
-        let on : ListGoesOn storages.contents old new r = list_on old new m input r
+        let on : ListGoesOn storages.contents m old new r = list_on old new m input r
         (subst (λ (o : Option Mind). IfSome o (λ n. IfOk r (λ told. TakesInput storages old n input told new))) up h.taken)
         (subst (λ (o : Option Mind). IfSome o (λ n. IfErr r (λ f. MatchBool (is_stop_fault f)
         (StopsOnInput storages old n input f new) (RefusesInput old n input f new)))) up h.refused) sure honest in
         arrives old new input r new.storage.unsure refl came s moves
-        (puts_go_on storages.contents (fleet nodes) i (input_of i nodes input) x moves.after old.storage new moves.does on.goes moves.stands
+        (puts_go_on storages.contents (fleet nodes) i (input_of i nodes input) (put_by on.made) x moves.after old.storage new moves.does
+        (record {
+          put_above = λ v e. omega (arith, on.above v e, moves.floor_, floor_up storages.contents old m x up stands);
+          same_floor = λ v came_. moves.floor_;
+        }) on.goes moves.stands
         (sound_after nodes w i (input_of i nodes input) moves.after reached came moves.does) stand) on.sure
 
     -- a node comes to what stands for it after an input
@@ -345,7 +377,7 @@ module _ {S : Type 0} {storages : Ghosts (Script S)} (laws : IsLawful storages)
 
     -- ---- a restart
     restart_goes : (old new : NodeState (Script S)) (r : Result (Unit {0}) NodeFault) → Restarts storages old r new
-        → storages.IsHonest new.storage → GoesOn storages.contents old.storage new.storage
+        → storages.IsHonest new.storage → GoesOn storages.contents None old.storage new.storage
     restart_goes old new (Ok x) h honest = lists.reads_on old.storage new.storage h.up.1 honest
     restart_goes old new (Err f) h honest = elim h.other [
       | inl device ↦ lists.read_fails_on old.storage new.storage (h.device (ap failed_with device)) honest
@@ -366,18 +398,26 @@ module _ {S : Type 0} {storages : Ghosts (Script S)} (laws : IsLawful storages)
     sure_again new (Ok x) settled down up = settled
     sure_again new (Err f) settled down up = absurd (none_is_not_some new.up down up)
 
+    -- what was not in the records is forgotten, and the node goes to the position at which it begins
+    reloads : (input : act.Input Command) (x : Local Command) (position : ℕ)
+        → Does (fleet nodes) i input x (record x { mind = blank_at position })
+    reloads input x position =
+        does_then (fleet nodes) i input (does_one (fleet nodes) i input x act.Forgets tt)
+        (does_one (fleet nodes) i input (act.acted i x act.Forgets) (act.Advances position) (omega arith))
+
     restarted : (old new : NodeState (Script S)) (o : Option script.Write) → new.storage.unsure ≡ o
         → (s : StandsAt storages.contents nodes i w.past (local_of w i) old)
-        → NodeStands storages.contents new (act.acted i s.after act.Forgets) → PutsStand storages.contents new.storage s.after.records
+        → NodeStands storages.contents new (record s.after { mind = blank_at (begins_at new.up) })
+        → PutsStand storages.contents new.storage s.after.records
         → (new.storage.unsure ≡ None) ⊎ ((new.storage.writes ≡ old.storage.writes) × (new.storage.unsure ≡ old.storage.unsure))
         → (IsSome new.up → new.storage.unsure ≡ None) → ComesQuietly storages.contents nodes i w new
     restarted old new None sure s stands stand list up =
-        let y : Local Command = act.acted i s.after act.Forgets in
+        let y : Local Command = record s.after { mind = blank_at (begins_at new.up) } in
         record {
           input = s.input;
           came = s.came;
           to = y;
-          does = does_then (fleet nodes) i s.input s.does (does_one (fleet nodes) i s.input s.after act.Forgets tt);
+          does = does_then (fleet nodes) i s.input s.does (reloads s.input s.after (begins_at new.up));
           unsent = s.unsent;
           unlearnt = s.unlearnt;
           unsubmitted = s.unsubmitted;
@@ -397,8 +437,8 @@ module _ {S : Type 0} {storages : Ghosts (Script S)} (laws : IsLawful storages)
             subst (λ (ws : List script.Write). Contains (w.past.records i).writes (VoteWrite v) ↔ HasVote ws v) (sym same.0) (s.listed v);
         input = s.input;
         came = s.came;
-        after = act.acted i s.after act.Forgets;
-        does = does_then (fleet nodes) i s.input s.does (does_one (fleet nodes) i s.input s.after act.Forgets tt);
+        after = record s.after { mind = blank_at (begins_at new.up) };
+        does = does_then (fleet nodes) i s.input s.does (reloads s.input s.after (begins_at new.up));
         unsent = s.unsent;
         unlearnt = s.unlearnt;
         unsubmitted = s.unsubmitted;
@@ -413,12 +453,13 @@ module _ {S : Type 0} {storages : Ghosts (Script S)} (laws : IsLawful storages)
         → OnOk r (new.storage.unsure ≡ None) → StandsAt storages.contents nodes i w.past (local_of w i) old → storages.IsHonest new.storage
         → ComesQuietly storages.contents nodes i w new
     restart_comes old new r h settled s honest =
-        let y : Local Command = act.acted i s.after act.Forgets in
-        let forgets : Does (fleet nodes) i s.input s.after y = does_one (fleet nodes) i s.input s.after act.Forgets tt in
+        let y : Local Command = record s.after { mind = blank_at (begins_at new.up) } in
+        let loads : Does (fleet nodes) i s.input s.after y = reloads s.input s.after (begins_at new.up) in
         let stands : NodeStands storages.contents new y = restart_stands laws old new r s.after h honest s.stands in
         let sound : AreSound y.records = sound_after nodes w i s.input y reached s.came
-        (does_then (fleet nodes) i s.input s.does forgets) in
+        (does_then (fleet nodes) i s.input s.does loads) in
         restarted old new new.storage.unsure refl s stands
-        (puts_go_on storages.contents (fleet nodes) i s.input s.after y old.storage new forgets
+        (puts_go_on storages.contents (fleet nodes) i s.input None s.after y old.storage new loads
+        (record { put_above = λ v e. absurd (none-some (vote_put v) e); same_floor = λ v came_. refl })
         (restart_goes old new r h honest) stands sound s.puts)
         (restart_list old new r h) (sure_again new r settled h.down)

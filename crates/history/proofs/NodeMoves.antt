@@ -25,7 +25,7 @@ use Rattle.minds.specs.Protocol.{HoldsRecords, accepting_after, round_after}
 use Rattle.minds.specs.Taking.{Writes}
 use Rattle.minds.proofs.AllowedStopping.{unwritten_allowed, written_allowed}
 use Rattle.minds.proofs.AllowedTaking.{taking_allowed}
-use Rattle.minds.proofs.RecordsGoOn.{written_holds, taken_holds}
+use Rattle.minds.proofs.RecordsGoOn.{written_holds, taken_holds, floor_after, floor_taken}
 use Rattle.minds.proofs.RefusalLemmas.{refusal_goes_on}
 use Rattle.history.specs.Reaching.{NodeStands}
 use Rattle.history.proofs.StorageLaws.{written_honest, written_contents, failed_honest, failed_contents}
@@ -49,6 +49,7 @@ pub record NodeMoves {S : Type 0} (contents : Script S → Records) (nodes i : �
   pub after : Local Command
   pub does : Does (fleet nodes) i (input_of i nodes input) x after
   pub stands : NodeStands contents new after
+  pub floor_ : after.records.floor ≡ x.records.floor
   pub sent : after.sent ≡ x.sent ++ map frame_of (sends_of result)
   pub learnt : after.learnt ≡ x.learnt ++ learnt_of i result
   pub submitted : after.submitted ≡ x.submitted ++ submitted_of input result
@@ -73,16 +74,17 @@ module _ {S : Type 0} {storages : Ghosts (Script S)} (laws : IsLawful storages)
     after = x;
     does = does_nothing (fleet nodes) i (input_of i nodes input) x;
     stands = stands;
+    floor_ = refl;
     sent = sym (append-nil x.sent);
     learnt = sym (append-nil x.learnt);
     submitted = sym (append-nil x.submitted);
   }
 
-  -- a node that has gone down with these records
+  -- a node that has gone down with these records, and the floor that it had
   stops : (input : Input) (x : Local Command) (new : NodeState (Script S)) (f : NodeFault) (a : Accepting) (round : ℕ) → new.up ≡ None
-      → RecordsHold (storages.contents new.storage) a round → MayStop nodes i (input_of i nodes input) x a round
+      → a.floor ≡ x.records.floor → RecordsHold (storages.contents new.storage) a round → MayStop nodes i (input_of i nodes input) x a round
       → NodeMoves storages.contents nodes i input x new (Err f)
-  stops input x new f a round down holds s = record {
+  stops input x new f a round down level holds s = record {
     after = stopping x s.records;
     does = s.does;
     stands = record {
@@ -90,6 +92,7 @@ module _ {S : Type 0} {storages : Ghosts (Script S)} (laws : IsLawful storages)
       up = subst (λ (o : Option Mind). IfSome o (λ m. HoldsRecords m (storages.contents new.storage) × MindStands m (stopping x s.records)))
           (sym down) tt;
     };
+    floor_ = s.stands.floor_ ∙ level;
     sent = sym (append-nil x.sent);
     learnt = sym (append-nil x.learnt);
     submitted = sym (append-nil x.submitted);
@@ -127,6 +130,7 @@ module _ {S : Type 0} {storages : Ghosts (Script S)} (laws : IsLawful storages)
               × MindStands k t.after))
               (sym h.leaves) (holds, t.stands);
         };
+        floor_ = t.stands.records.floor_ ∙ floor_taken m input h.mind said h.takes ∙ sym up.mind.records.floor_;
         sent = t.sent;
         learnt = t.learnt;
         submitted = t.submitted;
@@ -137,7 +141,7 @@ module _ {S : Type 0} {storages : Ghosts (Script S)} (laws : IsLawful storages)
       → IsMindOf i nodes m → new.up ≡ None → storages.contents new.storage ≡ storages.contents old.storage
       → NodeMoves storages.contents nodes i input x new (Err f)
   stops_as_it_was old new m input f x up mind down same =
-      stops input x new f m.accepting m.proposing.round down (other_records same up.holds)
+      stops input x new f m.accepting m.proposing.round down (sym up.mind.records.floor_) (other_records same up.holds)
       (unwritten_allowed nodes i m (input_of i nodes input) x mind up.mind)
 
   stops_with : (old new : NodeState (Script S)) (m : Mind) (input : Input) (f : NodeFault) (w : Write) (x : Local Command)
@@ -148,7 +152,7 @@ module _ {S : Type 0} {storages : Ghosts (Script S)} (laws : IsLawful storages)
       → NodeMoves storages.contents nodes i input x new (Err f)
   stops_with old new m input f w x up mind fits none made down (inl same) = stops_as_it_was old new m input f x up mind down same
   stops_with old new m input f w x up mind fits none made down (inr written) =
-      stops input x new f (accepting_after m input) (round_after m input) down
+      stops input x new f (accepting_after m input) (round_after m input) down (floor_after m input ∙ sym up.mind.records.floor_)
       (other_records written (written_holds m input (storages.contents old.storage) w none made fits up.holds))
       (written_allowed nodes i m input x (omega (arith, there, few)) mind up.mind)
 

@@ -1,6 +1,6 @@
 -- Whatever promise was put at a node is of a node of the run.
 use Rattle.std.proofs.Common.{◌≡◌, ◌==◌, ◌&&◌, ◌⊎◌, ℕ, zero, ◌<◌, nat_lt, inl, inr, List, [], ◌∷◌, ◌++◌, length, slice_get, slice_set}
-use Rattle.std.proofs.Common.{Bool, true, false, if◌then◌else◌, Option, Some, None, IfSome, IsSome, IfOk, IfErr, MatchBool, Result, Ok, Err}
+use Rattle.std.proofs.Common.{Bool, true, false, if◌then◌else◌, Option, Some, None, IfSome, IfOk, IfErr, MatchBool, Result, Ok, Err}
 use Rattle.std.proofs.Common.{refl, sym, ap, subst, ◌∙◌, arith}
 use Rattle.std.specs.Int.{bytes_high_first}
 use Rattle.std.proofs.Math.ListN.{length-set}
@@ -9,19 +9,20 @@ use Rattle.std.proofs.lemmas.Option.{same_Some, none-some}
 use Rattle.synod.specs.Ballots.{rank_of}
 use Rattle.synod.specs.Ballots as ballots
 use Rattle.synod.specs.declared.ballot.Ballot.{Ballot}
-use Rattle.stable.specs.Records.{Records, rank}
+use Rattle.stable.specs.Records.{Records, Sets, Trims, rank}
 use Rattle.stable.specs.Script.{Script, Shows}
+use Rattle.stable.specs.Script as script
 use Rattle.stable.specs.declared.key.Key.{Key}
 use Rattle.stable.specs.declared.key.Key.TheVariants as key
 use Rattle.stable.specs.declared.scripted.Failing.{Failing}
 use Rattle.stable.specs.declared.stable.Stable.{Ghosts}
 use Rattle.stable.specs.Storages.{IsLawful}
-use Rattle.sessions.specs.Asked.{Asked}
-use Rattle.store.specs.declared.query.Query.{Query}
 use Rattle.wire.specs.declared.frames.envelope.Envelope.{Envelope}
 use Rattle.wire.specs.declared.frames.message.Message.{Message}
 use Rattle.wire.specs.declared.frames.message.Message.TheVariants.{Prepare, Accept}
-use Rattle.acceptor.specs.Accepting.{Accepting, Write, HasWritten, HasFailed, records_after, refusing, unless_refused, IsAcceptWrite}
+use Rattle.acceptor.specs.Accepting.{Accepting, Write, HasWritten, HasFailed, records_after, IsAcceptWrite}
+use Rattle.acceptor.specs.Accepting.{Verdict, Refused, Behind, Taken, verdict, if_taken}
+use Rattle.acceptor.proofs.VerdictLemmas.{judged, refused as is_refused, behind as is_behind, taken as is_taken}
 use Rattle.acceptor.specs.Spelling.{ballot_bytes}
 use Rattle.minds.specs.declared.fault.NodeFault.{NodeFault}
 use Rattle.minds.specs.declared.fault.NodeFault.TheVariants as fault
@@ -35,15 +36,15 @@ use Rattle.minds.specs.Nodes.{NodeState, NodeSteps, TakesInput, RefusesInput, St
 use Rattle.minds.specs.Outputs.{Response}
 use Rattle.minds.specs.Taking.{WritesOnMessage, WritesOnEnvelope, Writes}
 use Rattle.events.specs.declared.event.Event.{Event}
-use Rattle.events.specs.declared.event.Event.TheVariants as event
 use Rattle.history.specs.Fleets.{IsFleet}
 use Rattle.history.specs.Flushing.{IsStart}
 use Rattle.history.specs.Reaching.{HoldsPut, AreHonest, IsAllowed}
 use Rattle.history.specs.Safety.{PromisesAmong, PromisesOfRun}
-use Rattle.history.specs.Worlds.{WorldState, TakesAt, ReceivesAt, Steps, with_node, recorded, with_submission, answered, without_wait}
+use Rattle.history.specs.Worlds.{WorldState, TakesAt, Steps, with_node, without_wait}
 use Rattle.history.proofs.FleetSteps.{set_at}
-use Rattle.history.proofs.ListedPuts.{GoesOn, KeepsPuts, same_lists, same_goes, put_cases}
+use Rattle.history.proofs.ListedPuts.{GoesOn, KeepsPuts, same_lists, same_goes, put_cases, put_by, left_shows}
 use Rattle.history.proofs.NodeComes.{written_goes, failed_goes}
+use Rattle.history.proofs.Preserved.{HoldsOf, step_holds, recorded_nodes, submission_nodes, answered_nodes}
 use Rattle.history.proofs.RestartLemmas.{failed_with}
 use Rattle.history.proofs.SafetyLemmas.{none_put}
 use Rattle.history.proofs.StorageLaws.{written_contents, failed_contents}
@@ -67,49 +68,53 @@ one_node a b e =
 -- ---- what an input writes
 -- if a promise is written, it is of one of so many nodes
 abbrev WritesAmong : ℕ → Write → Type 0
-WritesAmong nodes write = (b : Ballot) → write ≡ Some (key.Promise, ballot_bytes b) → b.node < nodes
+WritesAmong nodes write = (b : Ballot) → write ≡ Some (Sets key.Promise (ballot_bytes b)) → b.node < nodes
 
 -- nothing is written
 none_among : (nodes : ℕ) (write : Write) → write ≡ None → WritesAmong nodes write
-none_among nodes write none b e = absurd (none-some (key.Promise, ballot_bytes b) (sym none ∙ e))
+none_among nodes write none b e = absurd (none-some (Sets key.Promise (ballot_bytes b)) (sym none ∙ e))
 
 -- another record is written
-other_among : (nodes : ℕ) (write : Write) (other : Key) (bytes : List ℕ) → (rank other ≡ 0 → ⊥) → write ≡ Some (other, bytes)
+other_among : (nodes : ℕ) (write : Write) (other : Key) (bytes : List ℕ) → (rank other ≡ 1 → ⊥) → write ≡ Some (Sets other bytes)
     → WritesAmong nodes write
 other_among nodes write other bytes apart is b e =
-    absurd (apart (ap (λ (w : Key × List ℕ). rank w.0) (same_Some (other, bytes) (key.Promise, ballot_bytes b) (sym is ∙ e))))
+    absurd (apart (ap (λ (w : script.Write). rank w.0) (same_Some (other, bytes) (key.Promise, ballot_bytes b) (ap put_by (sym is ∙ e)))))
 
 -- a promise is written, of a node below
-one_among : (nodes : ℕ) (ballot : Ballot) → ballot.node < nodes → WritesAmong nodes (Some (key.Promise, ballot_bytes ballot))
+one_among : (nodes : ℕ) (ballot : Ballot) → ballot.node < nodes → WritesAmong nodes (Some (Sets key.Promise (ballot_bytes ballot)))
 one_among nodes ballot below b e =
     let written : (key.Promise, ballot_bytes ballot) ≡ (key.Promise, ballot_bytes b) =
-    same_Some (key.Promise, ballot_bytes ballot) (key.Promise, ballot_bytes b) e in
-    subst (λ (n : ℕ). n < nodes) (one_node ballot b (ap (λ (w : Key × List ℕ). w.1) written)) below
+    same_Some (key.Promise, ballot_bytes ballot) (key.Promise, ballot_bytes b) (ap put_by e) in
+    subst (λ (n : ℕ). n < nodes) (one_node ballot b (ap (λ (w : script.Write). w.1) written)) below
 
 -- on a prepare
-prepared_among : (nodes : ℕ) (ballot : Ballot) → ballot.node < nodes → (refused : Option Ballot) (already : Bool)
-    → WritesAmong nodes (unless_refused refused (λ _. None) (if already then None else Some (key.Promise, ballot_bytes ballot)))
-prepared_among nodes ballot below (Some p) already = none_among nodes None refl
-prepared_among nodes ballot below None true = none_among nodes None refl
-prepared_among nodes ballot below None false = one_among nodes ballot below
+prepared_among : (nodes : ℕ) (ballot : Ballot) → ballot.node < nodes → (v : Verdict) (already : Bool)
+    → WritesAmong nodes (if_taken v (if already then None else Some (Sets key.Promise (ballot_bytes ballot))) None)
+prepared_among nodes ballot below (Refused p) already = none_among nodes None refl
+prepared_among nodes ballot below (Behind floor) already = none_among nodes None refl
+prepared_among nodes ballot below Taken true = none_among nodes None refl
+prepared_among nodes ballot below Taken false = one_among nodes ballot below
 
 -- on an accept
-cast_among : (nodes : ℕ) (a : Accepting) (v : _) (write : Write) → IsAcceptWrite a v write → (refused : Option Ballot)
-    → refusing a.promise v.ballot ≡ refused → WritesAmong nodes write
-cast_among nodes a v write h (Some p) is b e =
-    none_among nodes write (subst (λ (o : Option Ballot). IfSome o (λ _. write ≡ None)) is h.refused) b e
-cast_among nodes a v write h None is b e =
-    let fresh : a.vote v.slot ≡ Some v → ⊥ = λ already. none-some (key.Promise, ballot_bytes b) (sym (h.already already) ∙ e) in
-    other_among nodes write (key.Vote v.slot) _ (λ zero_. absurd (omega arith)) (h.cast is fresh) b e
+cast_among : (nodes : ℕ) (a : Accepting) (v : _) (write : Write) → IsAcceptWrite a v write → WritesAmong nodes write
+cast_among nodes a v write h b e =
+    let some : write ≡ None → ⊥ = λ none. none-some (Sets key.Promise (ballot_bytes b)) (sym none ∙ e) in
+    elim (judged a v.ballot v.slot) [
+      | is_refused p other ↦ absurd (some (h.untaken (λ same. absurd (cc))))
+      | is_behind floor other ↦ absurd (some (h.untaken (λ same. absurd (cc))))
+      | is_taken same high from ↦
+          other_among nodes write (key.Vote v.slot) _ (λ zero_. absurd (omega arith))
+          (h.cast (record { taken = same; fresh = λ stands. some (h.already stands) })) b e
+    ]
 
 -- on a message that names the run
 message_among : (m : Mind) (message : Message) (write : Write) → names_run m.nodes message ≡ true → WritesOnMessage m message write
     → WritesAmong m.nodes write
 message_among m (Prepare ballot first) write names w =
     subst (λ (x : Write). WritesAmong m.nodes x) (sym w)
-    (prepared_among m.nodes ballot (ltb-true ballot.node m.nodes names) (refusing m.accepting.promise ballot)
+    (prepared_among m.nodes ballot (ltb-true ballot.node m.nodes names) (verdict m.accepting ballot first)
     (ballots.rank ballot == rank_of m.accepting.promise))
-message_among m (Accept v) write names w = cast_among m.nodes m.accepting v write w (refusing m.accepting.promise v.ballot) refl
+message_among m (Accept v) write names w = cast_among m.nodes m.accepting v write w
 message_among m other write names w = none_among m.nodes write w
 
 -- a message that concerns a node names the run
@@ -139,10 +144,12 @@ ShowsAmong nodes before after = (b : Ballot) → Shows after (key.Promise, ballo
 after_among : (nodes : ℕ) (before : Records) (write : Write) → WritesAmong nodes write
     → ShowsAmong nodes before (records_after before write)
 after_among nodes before None among b shows = inl shows
-after_among nodes before (Some w) among b shows = elim (put_cases before w.0 w.1 (key.Promise, ballot_bytes b) shows) [
-  | inl this ↦ inr (among b (ap Some this))
-  | inr old ↦ inl old
-]
+after_among nodes before (Some (Trims below)) among b shows = inl (left_shows before below (key.Promise, ballot_bytes b) shows)
+after_among nodes before (Some (Sets other bytes)) among b shows =
+    elim (put_cases before other bytes (key.Promise, ballot_bytes b) shows) [
+      | inl this ↦ inr (among b (ap (λ (w : script.Write). Some (Sets w.0 w.1)) this))
+      | inr old ↦ inl old
+    ]
 
 same_among : (nodes : ℕ) (before after : Records) → after ≡ before → ShowsAmong nodes before after
 same_among nodes before after same b shows = inl (subst (λ (r : Records). Shows r (key.Promise, ballot_bytes b)) same shows)
@@ -153,21 +160,6 @@ pub start_promises : {S : Type 0} (storages : Ghosts (Script S)) (count : ℕ) (
 start_promises storages count w start i n here b t =
     absurd (none_put n.storage (key.Promise, ballot_bytes b) (start.nodes.each i n here).unused t)
 
--- ---- which nodes are there
-module _ {S : Type 0} where
-  recorded_same : (w : WorldState S) (node : ℕ) (r : Result Response NodeFault) → (recorded w node r).nodes ≡ w.nodes
-  recorded_same w node (Ok told) = refl
-  recorded_same w node (Err f) = refl
-
-  with_same : (w : WorldState S) (taken : Bool) (node : ℕ) (r : Asked) → (with_submission w taken node r).nodes ≡ w.nodes
-  with_same w true node r = refl
-  with_same w false node r = refl
-
-  answered_same : (w : WorldState S) (node : ℕ) (query : Query) (r : Result (ℕ × List ℕ) NodeFault)
-      → (answered w node query r).nodes ≡ w.nodes
-  answered_same w node query (Ok told) = refl
-  answered_same w node query (Err f) = refl
-
 module _ {S : Type 0} {storages : Ghosts (Script S)} (laws : IsLawful storages) (lists : KeepsPuts storages) where
   abbrev Among : ℕ → Script S → Type 0
   Among = PromisesAmong storages.contents
@@ -177,20 +169,20 @@ module _ {S : Type 0} {storages : Ghosts (Script S)} (laws : IsLawful storages) 
   Held s = (k : Key) → HoldsPut storages.contents s k
 
   -- ---- a storage goes on
-  goes_among : (nodes : ℕ) (a b : Script S) → GoesOn storages.contents a b → Held a
+  goes_among : (nodes : ℕ) (made : Option script.Write) (a b : Script S) → GoesOn storages.contents made a b → Held a
       → ShowsAmong nodes (storages.contents a) (storages.contents b) → Among nodes a → Among nodes b
-  goes_among nodes a b goes held shows among x t = elim (goes.new (key.Promise, ballot_bytes x) t) [
+  goes_among nodes made a b goes held shows among x t = elim (goes.new (key.Promise, ballot_bytes x) t) [
     | inl before ↦ among x before
-    | inr now ↦ elim (shows x now) [
+    | inr now ↦ elim (shows x now.1) [
       | inl old ↦ among x (held_shown storages.contents a held (key.Promise, ballot_bytes x) old)
       | inr below ↦ below
     ]
   ]
 
-  written_among : (nodes : ℕ) (a b : Script S) (w : Write) → HasWritten storages.reads storages.puts a b w → WritesAmong nodes w
+  written_among : (nodes : ℕ) (a b : Script S) (w : Write) → HasWritten storages.reads storages.changes a b w → WritesAmong nodes w
       → storages.IsHonest b → Held a → Among nodes a → Among nodes b
   written_among nodes a b w h writes honest held =
-      goes_among nodes a b (written_goes laws lists a b w h honest) held
+      goes_among nodes (put_by w) a b (written_goes laws lists a b w h honest) held
       (subst (λ (r : Records). ShowsAmong nodes (storages.contents a) r) (sym (written_contents laws a b w h honest))
       (after_among nodes (storages.contents a) w writes))
 
@@ -205,17 +197,17 @@ module _ {S : Type 0} {storages : Ghosts (Script S)} (laws : IsLawful storages) 
   failed_among : (nodes : ℕ) (a b : Script S) (w : Write) → HasFailed storages.fails a b w → WritesAmong nodes w
       → storages.IsHonest b → Held a → Among nodes a → Among nodes b
   failed_among nodes a b w h writes honest held =
-      goes_among nodes a b (failed_goes laws lists a b w h honest) held (failed_shows nodes a b w h writes honest)
+      goes_among nodes (put_by w) a b (failed_goes laws lists a b w h honest) held (failed_shows nodes a b w h writes honest)
 
   read_among : (nodes : ℕ) (a b : Script S) → storages.reads a b → storages.IsHonest b → Held a → Among nodes a → Among nodes b
   read_among nodes a b h honest held =
-      goes_among nodes a b (lists.reads_on a b h honest) held
+      goes_among nodes None a b (lists.reads_on a b h honest) held
       (same_among nodes (storages.contents a) (storages.contents b) (laws.reads_contents a b h honest))
 
   read_failed_among : (nodes : ℕ) (a b : Script S) → storages.read_fails a b → storages.IsHonest b → Held a
       → Among nodes a → Among nodes b
   read_failed_among nodes a b h honest held =
-      goes_among nodes a b (lists.read_fails_on a b h honest) held
+      goes_among nodes None a b (lists.read_fails_on a b h honest) held
       (same_among nodes (storages.contents a) (storages.contents b) (laws.read_fails_contents a b h honest))
 
   -- ---- a node takes an input
@@ -271,7 +263,7 @@ module _ {S : Type 0} {storages : Ghosts (Script S)} (laws : IsLawful storages) 
   armed_among : (nodes : ℕ) (a b : Script S) → storages.contents b ≡ storages.contents a → b.writes ≡ a.writes → b.unsure ≡ a.unsure
       → Held a → Among nodes a → Among nodes b
   armed_among nodes a b records writes unsure held =
-      goes_among nodes a b (same_goes storages.contents a b (same_lists storages.contents a b records writes unsure)) held
+      goes_among nodes None a b (same_goes storages.contents None a b (same_lists storages.contents a b records writes unsure)) held
       (same_among nodes (storages.contents a) (storages.contents b) records)
 
   -- ---- a world
@@ -321,40 +313,35 @@ module _ {S : Type 0} {storages : Ghosts (Script S)} (laws : IsLawful storages) 
       → OfRun new.nodes
   takes_promises old node i taken new h fleet allowed promises honest =
       changed_promises old new node h.before h.after h.here
-      (ap (λ (w : WorldState S). w.nodes) h.leaves ∙ recorded_same (with_node old node h.after) node h.result) allowed promises honest
+      (ap (λ (w : WorldState S). w.nodes) h.leaves ∙ recorded_nodes (with_node old node h.after) node h.result) allowed promises honest
       (node_among node (length old.nodes) h.before h.after i h.result h.before.up refl h.steps (fleet.members node h.before h.here))
 
-  receives_promises : (old : WorldState S) (frame : Envelope) (new : WorldState S) (o : Option Mind) (h : ReceivesAt storages old frame new)
-      → h.receiver.up ≡ o → IsFleet old.nodes old.frames → Allowed old → OfRun old.nodes → Honest new.nodes → OfRun new.nodes
-  receives_promises old frame new None h up fleet allowed promises honest =
-      same_promises old new (ap (λ (w : WorldState S). w.nodes) (h.lost up)) promises
-  receives_promises old frame new (Some m) h up fleet allowed promises honest =
-      let takes = h.taken (subst (λ (o : Option Mind). IsSome o) (sym up) refl) in
-      takes_promises old frame.to (input.Message frame) takes.0 new takes.1 fleet allowed promises honest
-
   -- ---- one step
+  promises_hold : ((s : Script S) (f : Failing) → storages.contents (record s { armed = Some f }) ≡ storages.contents s)
+      → HoldsOf storages (λ old e new. IsFleet old.nodes old.frames → Allowed old → OfRun old.nodes → Honest new.nodes → OfRun new.nodes)
+  promises_hold armed = record {
+    takes = λ old e node i taken new h own. takes_promises old node i taken new h;
+    submits = λ old e node r new h fleet allowed promises honest.
+        let nodes : new.nodes ≡ h.between.nodes = ap (λ (w : WorldState S). w.nodes) h.leaves ∙ submission_nodes h.between h.taken node _ in
+        same_promises h.between new nodes
+        (takes_promises old node (input.Submit r.client r.number r.op) h.taken h.between h.takes fleet allowed promises
+        (subst (λ (x : Nodes). Honest x) nodes honest));
+    hears = λ old e k frame taken new sent fits h fleet allowed promises honest.
+        takes_promises (without_wait old k) frame.to (input.Message frame) taken new h fleet allowed promises honest;
+    loses = λ old e k o new brings h fleet allowed promises honest.
+        same_promises old new (ap (λ (w : WorldState S). w.nodes) h) promises;
+    restarts = λ old node new h fleet allowed promises honest.
+        changed_promises old new node h.before h.after h.here (ap (λ (w : WorldState S). w.nodes) h.leaves) allowed promises honest
+        (restarted_among (length old.nodes) h.before h.after h.result h.restarts);
+    arms = λ old e node failing new h fleet allowed promises honest.
+        let after : NodeState (Script S) = record h.before { storage = record h.before.storage { armed = Some failing } } in
+        changed_promises old new node h.before after h.here (ap (λ (w : WorldState S). w.nodes) h.leaves) allowed promises honest
+        (λ _. armed_among (length old.nodes) h.before.storage after.storage (armed h.before.storage failing) refl refl);
+    answers = λ old e node query new h fleet allowed promises honest.
+        same_promises old new (ap (λ (w : WorldState S). w.nodes) h.leaves ∙ answered_nodes old node query h.result) promises;
+  }
+
   pub step_promises : ((s : Script S) (f : Failing) → storages.contents (record s { armed = Some f }) ≡ storages.contents s)
       → (old : WorldState S) (e : Event) (new : WorldState S) → Steps storages old e new
       → IsFleet old.nodes old.frames → Allowed old → OfRun old.nodes → Honest new.nodes → OfRun new.nodes
-  step_promises armed old (event.Submit node client number op) new h fleet allowed promises honest =
-      let nodes : new.nodes ≡ h.between.nodes = ap (λ (w : WorldState S). w.nodes) h.leaves ∙ with_same h.between h.taken node _ in
-      same_promises h.between new nodes
-      (takes_promises old node (input.Submit client number op) h.taken h.between h.takes fleet allowed promises
-      (subst (λ (x : Nodes). Honest x) nodes honest))
-  step_promises armed old (event.Deliver k) new h fleet allowed promises honest =
-      receives_promises (without_wait old k) h.frame new h.receives.receiver.up h.receives refl fleet allowed promises honest
-  step_promises armed old (event.Drop k) new h fleet allowed promises honest =
-      same_promises old new (ap (λ (w : WorldState S). w.nodes) h) promises
-  step_promises armed old (event.Timeout node) new h fleet allowed promises honest =
-      takes_promises old node input.Timeout h.0 new h.1 fleet allowed promises honest
-  step_promises armed old (event.Tick node) new h fleet allowed promises honest =
-      takes_promises old node input.Tick h.0 new h.1 fleet allowed promises honest
-  step_promises armed old (event.Restart node) new h fleet allowed promises honest =
-      changed_promises old new node h.before h.after h.here (ap (λ (w : WorldState S). w.nodes) h.leaves) allowed promises honest
-      (restarted_among (length old.nodes) h.before h.after h.result h.restarts)
-  step_promises armed old (event.Fault node failing) new h fleet allowed promises honest =
-      let after : NodeState (Script S) = record h.before { storage = record h.before.storage { armed = Some failing } } in
-      changed_promises old new node h.before after h.here (ap (λ (w : WorldState S). w.nodes) h.leaves) allowed promises honest
-      (λ _. armed_among (length old.nodes) h.before.storage after.storage (armed h.before.storage failing) refl refl)
-  step_promises armed old (event.Query node query) new h fleet allowed promises honest =
-      same_promises old new (ap (λ (w : WorldState S). w.nodes) h.leaves ∙ answered_same old node query h.result) promises
+  step_promises armed old e new h = step_holds (promises_hold armed) old e new h

@@ -1,28 +1,33 @@
--- A node that restarts has forgotten what was not in its records.
-use Rattle.std.proofs.Common.{◌≡◌, inl, inr, Option, Some, None, IfSome, Result, Ok, Err, refl, sym, ap, subst}
-use Rattle.synod.specs.Volatile.{blank}
+-- A node that restarts has forgotten what was not in its records, and begins where they say.
+use Rattle.std.proofs.Common.{◌≡◌, ℕ, zero, inl, inr, Option, Some, None, IfSome, Result, Ok, Err, refl, sym, ap, ◌∙◌, subst}
 use Rattle.synod.specs.Acts.{Local}
-use Rattle.stable.specs.Records.{Records}
+use Rattle.stable.specs.Records.{Records, no_records}
 use Rattle.stable.specs.Script.{Script}
 use Rattle.stable.specs.declared.stable.Stable.{Ghosts}
 use Rattle.stable.specs.Storages.{IsLawful}
 use Rattle.sessions.specs.declared.command.Command.{Command}
 use Rattle.minds.specs.declared.fault.NodeFault.{NodeFault}
 use Rattle.minds.specs.Loading.{IsLoaded, Restarts}
-use Rattle.minds.specs.Minds.{Mind}
+use Rattle.minds.specs.Minds.{Mind, position}
 use Rattle.minds.specs.Protocol.{RecordsAgree, HoldsRecords, MindStands}
 use Rattle.minds.specs.States.{NodeState}
-use Rattle.minds.proofs.AllowedLoading.{loaded_holds, loaded_stands}
+use Rattle.minds.proofs.AllowedLoading.{blank_at, loaded_holds, loaded_stands}
+use Rattle.minds.proofs.Learnt.{loaded_begins}
 use Rattle.history.specs.Reaching.{NodeStands}
 
 -- what stands for a node that is up
 abbrev Up : Records → Local Command → Mind → Type 0
 Up records x m = HoldsRecords m records × MindStands m x
 
+-- the slot at which a node begins; one that is down is nowhere
+abbrev pub begins_at : Option Mind → ℕ
+begins_at None = zero
+begins_at (Some m) = position m
+
 module _ {S : Type 0} {contents : Script S → Records} where
   -- a node whose records are the same, and which holds what they leave where it is up
   pub up_again : (old new : NodeState (Script S)) (x : Local Command) (o : Option Mind) → new.up ≡ o
-      → contents new.storage ≡ contents old.storage → RecordsAgree (contents old.storage) x.records → x.mind ≡ blank
+      → contents new.storage ≡ contents old.storage → RecordsAgree (contents old.storage) x.records → x.mind ≡ blank_at (begins_at o)
       → IfSome o (IsLoaded (contents old.storage) old.id old.nodes) → NodeStands contents new x
   up_again old new x None up same agree none loads = record {
     records = subst (λ (c : Records). RecordsAgree c x.records) (sym same) agree;
@@ -38,9 +43,22 @@ module _ {S : Type 0} {contents : Script S → Records} where
             (subst (λ (c : Records). HoldsRecords m c) (sym same) holds, stands);
       }
 
+-- one that comes up without records begins at slot 0
+pub begins_at_first : (id nodes : ℕ) (o : Option Mind) → IfSome o (IsLoaded no_records id nodes) → begins_at o ≡ zero
+begins_at_first id nodes None loads = refl
+begins_at_first id nodes (Some m) loads = loaded_begins no_records id nodes m loads ∙ loads.accepting.floor
+
 -- ---- a restart
 abbrev pub failed_with : NodeFault → Result (Unit {0}) NodeFault
 failed_with f = Err f
+
+-- it has loaded its records, or it is down
+pub loads_or_down : {S : Type 0} {storages : Ghosts (Script S)} (old new : NodeState (Script S)) (result : Result (Unit {0}) NodeFault)
+    → Restarts storages old result new → storages.IsHonest new.storage
+    → IfSome new.up (IsLoaded (storages.contents old.storage) old.id old.nodes)
+loads_or_down old new (Ok x) h honest = h.loads honest
+loads_or_down {S} {storages} old new (Err f) h honest =
+    subst (λ (o : Option Mind). IfSome o (IsLoaded (storages.contents old.storage) old.id old.nodes)) (sym h.down) tt
 
 module _ {S : Type 0} {storages : Ghosts (Script S)} (laws : IsLawful storages) where
   SameAndHonest : NodeState (Script S) → NodeState (Script S) → Type 0
@@ -67,16 +85,12 @@ module _ {S : Type 0} {storages : Ghosts (Script S)} (laws : IsLawful storages) 
   unfolding SameAndHonest
   restart_honest old new result h honest = (restart_reads old new result h honest).1
 
-  loads_or_down : (old new : NodeState (Script S)) (result : Result (Unit {0}) NodeFault) → Restarts storages old result new
-      → storages.IsHonest new.storage → IfSome new.up (IsLoaded (storages.contents old.storage) old.id old.nodes)
-  loads_or_down old new (Ok x) h honest = h.loads honest
-  loads_or_down old new (Err f) h honest = subst (λ (o : Option Mind). IfSome o (IsLoaded (storages.contents old.storage) old.id old.nodes))
-      (sym h.down) tt
-
   pub restart_stands : (old new : NodeState (Script S)) (result : Result (Unit {0}) NodeFault) (x : Local Command)
       → Restarts storages old result new
-      → storages.IsHonest new.storage → NodeStands storages.contents old x → NodeStands storages.contents new (record x { mind = blank })
+      → storages.IsHonest new.storage → NodeStands storages.contents old x
+      → NodeStands storages.contents new (record x { mind = blank_at (begins_at new.up) })
   unfolding SameAndHonest
   restart_stands old new result x h honest stands =
-      up_again old new (record x { mind = blank }) new.up refl (restart_reads old new result h honest).0 stands.records refl
+      up_again old new (record x { mind = blank_at (begins_at new.up) }) new.up refl (restart_reads old new result h honest).0
+      stands.records refl
       (loads_or_down old new result h honest)

@@ -6,7 +6,8 @@ use Rattle.std.proofs.lemmas.List.{append_assoc}
 use Rattle.std.proofs.lemmas.List.Elements.{Contains-append_left, Contains-append_right, Contains-append_cases}
 use Rattle.synod.specs.declared.ballot.Ballot.{Ballot}
 use Rattle.proposer.proofs.Votes.{in_cons, in_head, in_none}
-use Rattle.acceptor.specs.Accepting.{TellsFrom, refusing, nack, after_prepare}
+use Rattle.acceptor.specs.Accepting.{TellsFrom, refusing, Verdict, Taken, of_refusal, turned_away, after_prepare}
+use Rattle.acceptor.proofs.VerdictLemmas.{not_behind}
 use Rattle.acceptor.specs.Ranges.{IsPromiseFrom}
 use Rattle.acceptor.specs.declared.answer.Answer.{Answer}
 use Rattle.wire.specs.Promises.{Promised}
@@ -58,18 +59,19 @@ pub data IsAnswer (to : ℕ) (ballot : Ballot) (slot : ℕ) (from : ℕ) (m : Mi
       → refusing m.accepting.promise ballot ≡ Some g → IsAnswer to ballot slot from m e
 
 -- what it holds then
-abbrev pub asked_mind : Mind → Ballot → Mind
-asked_mind m ballot = record m { accepting = after_prepare m.accepting ballot }
+abbrev pub asked_mind : Mind → Ballot → ℕ → Mind
+asked_mind m ballot slot = record m { accepting = after_prepare m.accepting ballot slot }
 
 pub record IsAnswered (to : ℕ) (ballot : Ballot) (slot : ℕ) (from : ℕ) (m new : Mind) (said : Response) : Type 0 where
   pub envelope : Envelope
   pub is : IsAnswer to ballot slot from m envelope
   pub sends : said.sends ≡ envelope ∷ []
-  pub leaves : new ≡ asked_mind m ballot
+  pub leaves : new ≡ asked_mind m ballot slot
 
 answered_so : (to : ℕ) (ballot : Ballot) (slot : ℕ) (from : ℕ) (m new : Mind) (said : Response) (a : Answer) (o : Option Ballot)
     → refusing m.accepting.promise ballot ≡ o
-    → MatchOption o (TellsFrom m.accepting ballot slot a) (λ p. a ≡ nack ballot p) → new ≡ asked_mind m ballot
+    → MatchOption (turned_away (of_refusal o Taken) ballot) (TellsFrom m.accepting ballot slot a) (λ away. a ≡ away)
+    → new ≡ asked_mind m ballot slot
     → said ≡ sent (answer_sends m.id m.nodes to a) → m.id ≡ from → IsAnswered to ballot slot from m new said
 answered_so to ballot slot from m new said a None none h leaves says is = record {
   envelope = record { from = from; to = to; message = Promise h.promise };
@@ -87,14 +89,20 @@ answered_so to ballot slot from m new said a (Some g) some h leaves says is = re
 }
 
 pub answered_prepare : (to nodes : ℕ) (ballot : Ballot) (slot : ℕ) (from : ℕ) (m new : Mind) (said : Response) → IsMindOf from nodes m
-    → to < nodes → ballot.node < nodes
+    → to < nodes → ballot.node < nodes → m.accepting.floor ≤ slot
     → Takes m (input.Message (record { from = to; to = from; message = Prepare ballot slot })) new said
     → IsAnswered to ballot slot from m new said
-answered_prepare to nodes ballot slot from m new said is to_there owner_there h =
+answered_prepare to nodes ballot slot from m new said is to_there owner_there level h =
     let e : Envelope = record { from = to; to = from; message = Prepare ballot slot } in
     let t : TakesMessage m to (Prepare ballot slot) new said =
     takes_message m e new said (it_concerns from nodes m e is refl to_there (is_below ballot.node nodes owner_there)) h in
-    answered_so to ballot slot from m new said t.0 (refusing m.accepting.promise ballot) refl t.1 t.2 t.3 is.number
+    answered_so to ballot slot from m new said t.0 (refusing m.accepting.promise ballot) refl
+    (subst (λ (v : Verdict). MatchOption (turned_away v ballot) (TellsFrom m.accepting ballot slot t.0) (λ away. t.0 ≡ away))
+    (not_behind m.accepting ballot slot level) t.1) t.2 t.3 is.number
+
+-- whoever of the members is up may speak of the slot
+abbrev pub MaySpeak : {S : Type 0} → WorldState S → List ℕ → ℕ → Type 0
+MaySpeak w members slot = (j : ℕ) (m : Mind) → Contains members j → mind_at w j ≡ Some m → m.accepting.floor ≤ slot
 
 -- ---- all of them do, in order of their numbers
 module _ {S : Type 0} (w : WorldState S) (nodes node : ℕ) (members : List ℕ) (ballot : Ballot) (slot : ℕ) where
@@ -112,13 +120,13 @@ module _ {S : Type 0} (w : WorldState S) (nodes node : ℕ) (members : List ℕ)
     pub frames_ : now.frames ≡ w.frames ++ answers
     pub later : (j : ℕ) → k ≤ j → mind_at now j ≡ mind_at w j
     pub strangers : (j : ℕ) → (Contains members j → ⊥) → mind_at now j ≡ mind_at w j
-    pub members_ : (j : ℕ) (m : Mind) → j < k → Contains members j → mind_at w j ≡ Some m → mind_at now j ≡ Some (asked_mind m ballot)
+    pub members_ : (j : ℕ) (m : Mind) → j < k → Contains members j → mind_at w j ≡ Some m → mind_at now j ≡ Some (asked_mind m ballot slot)
 
   abbrev prepare_to : ℕ → Envelope
   prepare_to k = record { from = node; to = k; message = Prepare ballot slot }
 
   module _ (node_there : node < nodes) (owner_there : ballot.node < nodes)
-      (known : (j : ℕ) (m : Mind) → mind_at w j ≡ Some m → IsMindOf j nodes m) where
+      (known : (j : ℕ) (m : Mind) → mind_at w j ≡ Some m → IsMindOf j nodes m) (level : MaySpeak w members slot) where
     asked_none : (now : WorldState S) → HandsOn members [] w now → AskedBelow zero now
     asked_none now (ends w_) = record {
       answers = [];
@@ -147,7 +155,7 @@ module _ {S : Type 0} (w : WorldState S) (nodes node : ℕ) (members : List ℕ)
     asked_member k mid now among h took =
         let before : mind_at w k ≡ Some took.mind = sym (h.later k (omega arith)) ∙ took.here in
         let a = answered_prepare node nodes ballot slot k took.mind took.mind_then took.said (known k took.mind before)
-        node_there owner_there took.takes in
+        node_there owner_there (level k took.mind among before) took.takes in
         record {
           answers = h.answers ++ a.envelope ∷ [];
           are = answered k h.answers a.envelope took.mind among before a.is h.are;
@@ -159,7 +167,7 @@ module _ {S : Type 0} (w : WorldState S) (nodes node : ℕ) (members : List ℕ)
             | inl same ↦
                 let is : took.mind ≡ m = same_mind took.mind m (sym before ∙ (ap (λ (i : ℕ). mind_at w i) (sym same) ∙ here)) in
                 ap (λ (i : ℕ). mind_at now i) same ∙ (took.here_then ∙ ap (λ (x : Mind). Some x)
-                (a.leaves ∙ ap (λ (x : Mind). asked_mind x ballot) is))
+                (a.leaves ∙ ap (λ (x : Mind). asked_mind x ballot slot) is))
             | inr other ↦ took.others j other ∙ h.members_ j m (omega (arith, less, other)) within here
           ];
         }

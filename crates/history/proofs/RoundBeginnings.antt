@@ -13,8 +13,8 @@ use Rattle.minds.specs.declared.fault.NodeFault.TheVariants as fault
 use Rattle.minds.specs.declared.input.Input.TheVariants as input
 use Rattle.history.specs.declared.round_end.RoundEnd.{RoundEnd}
 use Rattle.history.specs.declared.round_end.RoundEnd.TheVariants.{Refused, Stopped}
-use Rattle.history.specs.Rounds.{is_up, is_up_node, FailsToBegin, RefusesToBegin, IsAt, MeetingEnds, at_once}
-use Rattle.history.specs.Worlds.{WorldState, TakesAt, with_node, with_outcome, outcome_of}
+use Rattle.history.specs.Rounds.{is_up, is_up_node, IsBehind, FailsToBegin, RefusesToBegin, IsAt, MeetingEnds, at_once}
+use Rattle.history.specs.Worlds.{WorldState, mind_in, TakesAt, with_node, with_outcome, outcome_of}
 
 -- ---- one node of a list
 set_here : {A : Type 0} (xs : List A) (i : ℕ) (x y : A) → slice_get xs i ≡ Some x → slice_get (slice_set xs i y) i ≡ Some y
@@ -113,6 +113,44 @@ slot_stands w node n (Some s) p here up at valid value =
     let mind = mind_of_up w node n here up in
     let stands : p ≡ position mind.0 = subst (λ (o : Option Mind). MatchOption o (p ≡ 0) (λ m. p ≡ position m)) mind.1 at in
     record { state = n; here = here; mind = mind.0; up = mind.1; position_ = value ∙ stands }
+
+-- ---- a node that is up is behind another where its position is below the floor there
+module _ {S : Type 0} (w : WorldState S) (node other : ℕ) where
+  abbrev IsFloorOf : ℕ → Option Mind → Type 0
+  IsFloorOf floor up = MatchOption up (floor ≡ 0) (λ m. floor ≡ m.accepting.floor)
+
+  above_none : (up : Option Mind) (p floor : ℕ) → IsFloorOf floor up → p < floor
+      → (m : Mind) × (up ≡ Some m) × (floor ≡ m.accepting.floor)
+  above_none None p floor none less = absurd (omega (arith, none, less))
+  above_none (Some m) p floor is less = (m, refl, is)
+
+  pub behind_where : (n m : NodeState (Script S)) (p floor : ℕ) → slice_get w.nodes node ≡ Some n → slice_get w.nodes other ≡ Some m
+      → is_up w node ≡ true → MatchOption n.up (p ≡ 0) (λ x. p ≡ position x) → IsFloorOf floor m.up
+      → (p < floor) ↔ IsBehind w node other
+  behind_where n m p floor here there up at is =
+      let own_mind = ap (λ (o : Option (NodeState (Script S))). mind_in o) here in
+      let other_mind = ap (λ (o : Option (NodeState (Script S))). mind_in o) there in (
+        λ less.
+            let own = mind_of_up w node n here up in
+            let stands = subst (λ (o : Option Mind). MatchOption o (p ≡ 0) (λ x. p ≡ position x)) own.1 at in
+            let far = above_none m.up p floor is less in
+            record {
+              own = own.0;
+              here = own_mind ∙ own.1;
+              other = far.0;
+              there = other_mind ∙ far.1;
+              above = omega (arith, less, stands, far.2);
+            },
+        λ h.
+            let stands = subst (λ (o : Option Mind). MatchOption o (p ≡ 0) (λ x. p ≡ position x)) (sym own_mind ∙ h.here) at in
+            let far = subst (λ (o : Option Mind). IsFloorOf floor o) (sym other_mind ∙ h.there) is in
+            omega (arith, h.above, stands, far),
+      )
+
+  -- behind one that isn't there it is not
+  pub behind_nobody : slice_get w.nodes other ≡ None → IsBehind w node other → ⊥
+  behind_nobody none h =
+      let never : Some h.other ≡ None = sym h.there ∙ ap (λ (o : Option (NodeState (Script S))). mind_in o) none in absurd (cc)
 
 module _ {S : Type 0} (storages : Ghosts (Script S)) (old : WorldState S) (node : ℕ) (members : List ℕ) (f : NodeFault) (end : RoundEnd)
     (new : WorldState S) where

@@ -13,7 +13,8 @@ use Rattle.synod.specs.declared.vote.Vote.{Vote}
 use Rattle.stable.specs.Script.{Script}
 use Rattle.stable.specs.declared.stable.Stable.{Ghosts}
 use Rattle.sessions.specs.declared.command.Command.{Command}
-use Rattle.acceptor.specs.Accepting.{Accepting, refusing, unless_refused, after_prepare}
+use Rattle.acceptor.specs.Accepting.{Accepting, Verdict, refusing, if_taken, after_prepare}
+use Rattle.acceptor.proofs.VerdictLemmas.{taken_where, floor_prepared}
 use Rattle.learner.specs.Learning.{Learning, prefix, first_unlearnt}
 use Rattle.learner.proofs.PrefixLemmas.{prefix_is}
 use Rattle.proposer.specs.Proposing.{next_round}
@@ -38,7 +39,7 @@ use Rattle.history.proofs.Handing.{TookAt, HandsOn, hands_all, hands_apart, fram
 use Rattle.history.proofs.Handing.{stays_up, stay_members, hands_members}
 use Rattle.history.proofs.Hearing.{HasHeard, none_heard, heard_all}
 use Rattle.history.proofs.Leading.{Gathers, timeout_gathers, timeout_asks}
-use Rattle.history.proofs.RoundAsked.{IsAnswer, promises, declines, AskedBelow, asked_below, asked_mind, answer_of_each}
+use Rattle.history.proofs.RoundAsked.{IsAnswer, promises, declines, AskedBelow, asked_below, asked_mind, answer_of_each, MaySpeak}
 use Rattle.history.proofs.RoundAnswered.{HasAsked, has_asked}
 use Rattle.history.proofs.RoundVoted.{Votes, LearnsAs, voted_below, learns_no_more}
 use Rattle.history.proofs.RoundHeard.{heard_up_to, Knows, knows_still}
@@ -101,6 +102,7 @@ pub record Facts {S : Type 0} (old : WorldState S) (node : ℕ) (members : List 
   pub few : length old.nodes ≤ 7
   pub there : (j : ℕ) (m : Mind) → mind_at old j ≡ Some m → j < length old.nodes
   pub known : AreMembers (length old.nodes) old
+  pub level : MaySpeak old members slot
   pub unheard : (a : ℕ) → a < length old.nodes → mind.learning.heard slot ballot a ≡ None
   pub of_run : (j : ℕ) (m : Mind) → mind_at old j ≡ Some m → (s : ℕ) (v : Vote Command) → m.accepting.vote s ≡ Some v
       → v.ballot.node < length old.nodes
@@ -174,6 +176,12 @@ module _ {S : Type 0} (storages : Ghosts (Script S)) (old : WorldState S) (node 
   pub begun_lem : (first : ℕ) (w : WorldState S) → ComesThrough storages old node members begun first w → IsBegun first w
   begun_lem _ w (begins w_ takes) = begun_so w (took_taken storages old node input.Timeout w mind facts.here takes)
 
+  -- it changes no floor
+  begun_level : (first : ℕ) (w : WorldState S) → IsBegun first w → MaySpeak w members slot
+  begun_level first w h j m among here =
+      let before = h.accepting j m here in
+      subst (λ (a : Accepting). a.floor ≤ slot) (sym before.2) (facts.level j before.0 among before.1)
+
   -- ---- asked
   pub record IsAsked (first : ℕ) (w : WorldState S) : Type 0 where
     pub before : ℕ
@@ -192,7 +200,8 @@ module _ {S : Type 0} (storages : Ghosts (Script S)) (old : WorldState S) (node 
       let b = begun_lem first between comes in
       let hands = subst (λ (es : List Envelope). HandsOn members es between w) b.prepares
       (hands_all storages members between first w delivers) in
-      let below = asked_below between nodes node members ballot slot node_there owner_there b.known nodes w hands in
+      let below = asked_below between nodes node members ballot slot node_there owner_there b.known (begun_level first between b) nodes w
+      hands in
       record {
         before = first;
         between = between;
@@ -204,7 +213,7 @@ module _ {S : Type 0} (storages : Ghosts (Script S)) (old : WorldState S) (node 
 
   -- ---- answered
   -- what a member holds that has been asked
-  asked_gathers : (m : Mind) → Gathers ballot slot m no_nodes → Gathers ballot slot (asked_mind m ballot) no_nodes
+  asked_gathers : (m : Mind) → Gathers ballot slot m no_nodes → Gathers ballot slot (asked_mind m ballot slot) no_nodes
   asked_gathers m g = record {
     campaign = g.campaign;
     here = g.here;
@@ -224,10 +233,10 @@ module _ {S : Type 0} (storages : Ghosts (Script S)) (old : WorldState S) (node 
   willing_one m j e (declines g same some) quiet =
       let never : Some g ≡ None = sym (ap (λ (x : Envelope). refusal_in x.message) same) ∙ quiet in absurd cc
 
-  -- the member's promise is the ballot then
-  has_promised : (a : Accepting) → refusing a.promise ballot ≡ None → (after_prepare a ballot).promise ≡ Some ballot
-  has_promised a none =
-      ap (λ (o : Option Ballot). (unless_refused o (λ _. a) (record a { promise = Some ballot })).promise) none
+  -- the member's promise is the ballot then, where it is willing
+  has_promised : (a : Accepting) → a.floor ≤ slot → refusing a.promise ballot ≡ None → (after_prepare a ballot slot).promise ≡ Some ballot
+  has_promised a level none =
+      ap (λ (v : Verdict). (if_taken v (record a { promise = Some ballot }) a).promise) (taken_where a ballot slot level none)
 
   abbrev IsWilling : WorldState S → Type 0
   IsWilling w = (j : ℕ) (m : Mind) → Contains members j → mind_at w j ≡ Some m → refusing m.accepting.promise ballot ≡ None
@@ -252,9 +261,9 @@ module _ {S : Type 0} (storages : Ghosts (Script S)) (old : WorldState S) (node 
     pub asked_ : IsAsked before between
     pub willing_ : IsWilling asked_.between
     pub mind_before : Mind
-    pub here_before : mind_at between node ≡ Some (asked_mind mind_before ballot)
+    pub here_before : mind_at between node ≡ Some (asked_mind mind_before ballot slot)
     pub learning_before : mind_before.learning ≡ mind.learning
-    pub has_asked_ : HasAsked asked_.between between nodes node members ballot slot (asked_mind mind_before ballot) w
+    pub has_asked_ : HasAsked asked_.between between nodes node members ballot slot (asked_mind mind_before ballot slot) w
     pub accepts : drop first w.frames ≡ has_asked_.sends
     pub known : AreMembers nodes w
 
@@ -262,14 +271,15 @@ module _ {S : Type 0} (storages : Ghosts (Script S)) (old : WorldState S) (node 
       → HandsOn (node ∷ []) a.below.answers between w → IsLed (length between.frames) w
   led_so first between w a none hands =
       let m : Mind = a.begun_.mind_then in
-      let here : mind_at between node ≡ Some (asked_mind m ballot) = a.below.members_ node m node_there facts.quorum.own a.begun_.here in
+      let here : mind_at between node ≡ Some (asked_mind m ballot slot) =
+      a.below.members_ node m node_there facts.quorum.own a.begun_.here in
       let will = willing first between a none in
       let free : IsFree mind.learning slot = subst (λ (s : ℕ). IsFree mind.learning s) (sym facts.at)
       (free_at mind.learning (subst (λ (s : ℕ). s < SLOTS) facts.at facts.in_log)) in
-      let h = has_asked a.between between nodes node members ballot slot (asked_mind m ballot) node_there owner_there facts.few
+      let h = has_asked a.between between nodes node members ballot slot (asked_mind m ballot slot) node_there owner_there facts.few
       (facts.at ∙ ap (λ (l : Learning). prefix l) (sym a.begun_.learning)) facts.in_log
       (ap (λ (l : Learning). l.learnt slot) a.begun_.learning ∙ free.unlearnt) will (voted_of_run a.before a.between a.begun_) here
-      (a.known node (asked_mind m ballot) here) (asked_gathers m a.begun_.gathers) a.below.answers a.below.are facts.quorum.most
+      (a.known node (asked_mind m ballot slot) here) (asked_gathers m a.begun_.gathers) a.below.answers a.below.are facts.quorum.most
       facts.quorum.none_twice member_there w hands in
       record {
         before = first;
@@ -305,29 +315,58 @@ module _ {S : Type 0} (storages : Ghosts (Script S)) (old : WorldState S) (node 
     pub told : drop first w.frames ≡ votes_ ++ more
     pub learns : LearnsAs between nodes node members (vote_for command) mind w
 
-  -- a member has promised the ballot, and no other since
+  -- what a member's acceptor holds is what it held once the prepare had come
+  record HoldsAsked (between : WorldState S) (j : ℕ) (a : Accepting) : Type 0 where
+    mind_asked : Mind
+    here_asked : mind_at between j ≡ Some mind_asked
+    is : a ≡ after_prepare mind_asked.accepting ballot slot
+
+  holds_asked : (first : ℕ) (w : WorldState S) (h : IsLed first w) → (j : ℕ) (m : Mind) → Contains members j → mind_at w j ≡ Some m
+      → HoldsAsked h.asked_.between j m.accepting
+  holds_asked first w h j m among here =
+      let a = h.asked_ in
+      let member = some_of (mind_at a.between j) (a.begun_.up j (facts.up j among)) in
+      let asked_then : mind_at h.between j ≡ Some (asked_mind member.0 ballot slot) =
+      a.below.members_ j member.0 (member_there j among) among member.1 in
+      record {
+        mind_asked = member.0;
+        here_asked = member.1;
+        is = elim (same_or_not j node) [
+          | inl own ↦
+              let this : h.has_asked_.mind_then ≡ m =
+              same_mind h.has_asked_.mind_then m (sym h.has_asked_.here_then ∙ (ap (λ (k : ℕ). mind_at w k) (sym own) ∙ here)) in
+              let same : asked_mind h.mind_before ballot slot ≡ asked_mind member.0 ballot slot =
+              same_mind (asked_mind h.mind_before ballot slot) (asked_mind member.0 ballot slot)
+              (sym h.here_before ∙ (ap (λ (k : ℕ). mind_at h.between k) (sym own) ∙ asked_then)) in
+              ap (λ (x : Mind). x.accepting) (sym this) ∙ (h.has_asked_.accepting ∙ ap (λ (x : Mind). x.accepting) same)
+          | inr other ↦
+              let this : asked_mind member.0 ballot slot ≡ m =
+              same_mind (asked_mind member.0 ballot slot) m (sym asked_then ∙ (sym (h.has_asked_.others j other) ∙ here)) in
+              ap (λ (x : Mind). x.accepting) (sym this)
+        ];
+      }
+
+  -- the member might speak of the slot then
+  level_asked : (first : ℕ) (w : WorldState S) (h : IsLed first w) → (j : ℕ) (m : Mind) → Contains members j
+      → mind_at h.asked_.between j ≡ Some m → m.accepting.floor ≤ slot
+  level_asked first w h j m among here = begun_level h.asked_.before h.asked_.between h.asked_.begun_ j m among here
+
+  -- it has promised the ballot, and no other since
   holds_promise : (first : ℕ) (w : WorldState S) (h : IsLed first w) → (j : ℕ) (m : Mind) → Contains members j → mind_at w j ≡ Some m
       → promised m ≡ Some ballot
   holds_promise first w h j m among here =
-      let a = h.asked_ in
-      let member = some_of (mind_at a.between j) (a.begun_.up j (facts.up j among)) in
-      let asked_then : mind_at h.between j ≡ Some (asked_mind member.0 ballot) =
-      a.below.members_ j member.0 (member_there j among) among member.1 in
-      let has = has_promised member.0.accepting (h.willing_ j member.0 among member.1) in
-      elim (same_or_not j node) [
-        | inl own ↦
-            let this : h.has_asked_.mind_then ≡ m =
-            same_mind h.has_asked_.mind_then m (sym h.has_asked_.here_then ∙ (ap (λ (k : ℕ). mind_at w k) (sym own) ∙ here)) in
-            let same : asked_mind h.mind_before ballot ≡ asked_mind member.0 ballot =
-            same_mind (asked_mind h.mind_before ballot) (asked_mind member.0 ballot)
-            (sym h.here_before ∙ (ap (λ (k : ℕ). mind_at h.between k) (sym own) ∙ asked_then)) in
-            ap (λ (x : Mind). promised x) (sym this) ∙ (ap (λ (x : Accepting). x.promise) h.has_asked_.accepting
-            ∙ (ap (λ (x : Mind). promised x) same ∙ has))
-        | inr other ↦
-            let this : asked_mind member.0 ballot ≡ m =
-            same_mind (asked_mind member.0 ballot) m (sym asked_then ∙ (sym (h.has_asked_.others j other) ∙ here)) in
-            ap (λ (x : Mind). promised x) (sym this) ∙ has
-      ]
+      let x = holds_asked first w h j m among here in
+      ap (λ (a : Accepting). a.promise) x.is
+      ∙ has_promised x.mind_asked.accepting (level_asked first w h j x.mind_asked among x.here_asked)
+      (h.willing_ j x.mind_asked among x.here_asked)
+
+  -- and may still speak of the slot
+  led_level : (first : ℕ) (w : WorldState S) → IsLed first w → MaySpeak w members slot
+  led_level first w h j m among here =
+      let x = holds_asked first w h j m among here in
+      let level = level_asked first w h j x.mind_asked among x.here_asked in
+      let same = ap (λ (a : Accepting). a.floor) x.is ∙ floor_prepared x.mind_asked.accepting ballot slot in
+      omega (arith, level, same)
 
   voted_so : (first : ℕ) (between w : WorldState S) (h : IsLed first between)
       → HandsOn members h.has_asked_.sends between w → AreVoted (length between.frames) w
@@ -336,7 +375,8 @@ module _ {S : Type 0} (storages : Ghosts (Script S)) (old : WorldState S) (node 
       let v : Vote Command = vote_for asks_.command in
       let two = hands_apart members (to_all node nodes (Accept v)) asks_.more between w
       (subst (λ (es : List Envelope). HandsOn members es between w) asks_.are hands) in
-      let below = voted_below between nodes node members v node_there owner_there h.known (holds_promise first between h)
+      let below = voted_below between nodes node members v node_there owner_there h.known (led_level first between h)
+      (holds_promise first between h)
       h.has_asked_.mind_then h.has_asked_.here_then nodes two.mid two.first in
       let rest = frames_more members asks_.more two.mid w two.then in
       let now = learns_no_more between nodes node members v h.has_asked_.mind_then asks_.more asks_.votes two.mid w two.then below.learns in

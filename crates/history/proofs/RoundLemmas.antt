@@ -19,7 +19,7 @@ use Rattle.events.specs.declared.fault.WorldFault.TheVariants as fault
 use Rattle.history.specs.declared.lists.Outcome.{Outcome}
 use Rattle.history.specs.declared.lists.Outcome.TheVariants as outcome
 use Rattle.history.specs.declared.round_end.RoundEnd.{RoundEnd}
-use Rattle.history.specs.declared.round_end.RoundEnd.TheVariants.{NotAQuorum, Down, Refused, Stopped, TooLow, Decided}
+use Rattle.history.specs.declared.round_end.RoundEnd.TheVariants.{NotAQuorum, Down, Behind, Refused, Stopped, TooLow, Decided}
 use Rattle.history.specs.Rounds.{is_up, DeliversTo, nothing, elsewhere, there, GoesDownOn, DeliversPart, NoneRefuses, IsInterrupted}
 use Rattle.history.specs.Rounds.{CanMeet}
 use Rattle.history.specs.Rounds.{BreaksOff, GoesOn, GoesToItsEnd, MeetingEnds, Phase, begun, asked, answered, voted, heard, receivers_after}
@@ -137,6 +137,7 @@ module _ {S : Type 0} (storages : Ghosts (Script S)) (Kept : WorldState S → Ty
     ends_keep : (end : RoundEnd) (new : WorldState S) → EndsIn storages old node members end new → Kept new
     ends_keep NotAQuorum new h = same_keeps old new h.1 kept
     ends_keep (Down m) new h = same_keeps old new h.2 kept
+    ends_keep (Behind m) new h = same_keeps old new h.3 kept
     ends_keep (Refused f) new h = same_keeps old new h.1.1 kept
     ends_keep (Stopped m) new h = down_keeps m new h.1
     ends_keep (TooLow greatest) new h =
@@ -248,6 +249,7 @@ module _ {S : Type 0} (storages : Ghosts (Script S)) (old : WorldState S) (node 
       → EndsIn storages old node members end new
   meets NotAQuorum new can h = absurd h
   meets (Down m) new can h = absurd h
+  meets (Behind m) new can h = absurd h
   meets (Refused f) new can h = (can, h)
   meets (Stopped m) new can h = (can, h)
   meets (TooLow greatest) new can h = (can, h)

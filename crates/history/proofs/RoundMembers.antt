@@ -4,7 +4,7 @@ use Rattle.std.proofs.Common.{None, IfSome, MatchBool, MatchOption, All, AllPair
 use Rattle.std.proofs.Common.{rules, inl, inr}
 use Rattle.std.specs.Prelude.{nat_lt, if◌then◌else◌}
 use Rattle.std.proofs.Math.Seq.{take-length}
-use Rattle.std.proofs.lemmas.Bool.{cases_Bool}
+use Rattle.std.proofs.lemmas.Bool.{cases_Bool, cases_lt}
 use Rattle.std.proofs.lemmas.List.{get_or_default}
 use Rattle.std.proofs.lemmas.List.Elements.{All-cons}
 use Rattle.std.proofs.lemmas.List.Kept.{AllPairs-cons}
@@ -13,7 +13,8 @@ use Rattle.synod.specs.Ballots.{rank}
 use Rattle.synod.specs.declared.ballot.Ballot.{Ballot}
 use Rattle.wire.specs.declared.frames.envelope.Envelope.{Envelope}
 use Rattle.history.specs.Worlds.{WorldState}
-use Rattle.history.specs.Rounds.{is_up, refusal_in, greater, NoneRefuses, IsGreatestTold}
+use Rattle.minds.specs.Minds.{position}
+use Rattle.history.specs.Rounds.{IsQuorum, AreUp, IsBehind, CanMeet, refusal_in, greater, NoneRefuses, IsGreatestTold}
 
 -- the others of a list
 others_are : {X : Type 0} (y : X) (ys : List X) → take (length (y ∷ ys) - 1) (drop 1 (y ∷ ys)) ≡ ys
@@ -106,13 +107,26 @@ told_first (y ∷ ys) x one later some is tells h =
     of_both y ys one later (tells ∙ ap (λ (e : Envelope). refusal_in e.message) is)
     (subst (λ (l : List Envelope). MatchOption later (NoneRefuses l) (IsGreatestTold l)) (others_are y ys) h)
 
--- ---- members that are up
--- those below a number are, and the one of the number
-pub next_up : {S : Type 0} (w : WorldState S) (members : List ℕ) (k : ℕ) → ((m : ℕ) → m < k → Contains members m → is_up w m ≡ true)
-    → (Contains members k → is_up w k ≡ true) → (m : ℕ) → m < k + 1 → Contains members m → is_up w m ≡ true
-next_up w members k below here m less among = elim (cases_Bool (nat_lt m k)) [
+-- ---- members that can meet
+-- members of whom none is ahead may speak of the node's position
+pub can_meet : {S : Type 0} (w : WorldState S) (node : ℕ) (members : List ℕ) → IsQuorum (length w.nodes) node members → AreUp w members
+    → ((m : ℕ) → Contains members m → IsBehind w node m → ⊥) → CanMeet w node members
+can_meet w node members quorum up none = record {
+  quorum = quorum;
+  up = up;
+  level = λ p m i among here there. elim (cases_lt (position p) m.accepting.floor) [
+    | inl above ↦ absurd (none i among (record { own = p; here = here; other = m; there = there; above = above }))
+    | inr level ↦ level
+  ];
+}
+
+-- ---- what holds of each member
+-- it holds of those below a number, and of the one of the number
+pub next_member : (P : ℕ → Type 0) (members : List ℕ) (k : ℕ) → ((m : ℕ) → m < k → Contains members m → P m)
+    → (Contains members k → P k) → (m : ℕ) → m < k + 1 → Contains members m → P m
+next_member P members k below here m less among = elim (cases_Bool (nat_lt m k)) [
   | inl lt ↦ below m (grind (arith, lt)) among
   | inr not ↦
       let same : k ≡ m = grind (arith, not, less) in
-      subst (λ (j : ℕ). is_up w j ≡ true) same (here (subst (λ (j : ℕ). Contains members j) (sym same) among))
+      subst (λ (j : ℕ). P j) same (here (subst (λ (j : ℕ). Contains members j) (sym same) among))
 ]

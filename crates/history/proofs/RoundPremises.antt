@@ -115,11 +115,15 @@ module _ {S : Type 0} (contents : Script S → Records) (w : WorldState S) (flee
       let at = sound.allowed.stands.node i n.0 n.1 in
       (n.0, n.1, (held (λ (k : Mind). HoldsRecords k (contents n.0.storage) × MindStands k at.after) n.0.up m n.2 at.stands.up).0)
 
+  -- nobody has written a checkpoint, so who is up speaks of every slot
+  speaks_of_all : (i : ℕ) (m : Mind) → mind_at w i ≡ Some m → (slot : ℕ) → m.accepting.floor ≤ slot
+  speaks_of_all i m e slot = omega (arith, (holds_records i m e).2.acceptor.floor)
+
   -- each vote that a node holds is of a node of the run
   pub votes_of_run : (i : ℕ) (m : Mind) → mind_at w i ≡ Some m → (slot : ℕ) (v : Vote Command) → m.accepting.vote slot ≡ Some v
       → v.ballot.node < length w.nodes
   votes_of_run i m e slot v is =
-      let low : m.accepting.floor ≤ slot = omega (arith, (holds_records i m e).2.acceptor.floor) in
+      let low = speaks_of_all i m e slot in
       let kept = (holds.past.records i).kept slot v ((stands_up i m e).records.vote slot low ∙ is) in
       let proposed = holds.past.backed i v kept.1 in
       let own : v.ballot.node ≡ proposed.0 =

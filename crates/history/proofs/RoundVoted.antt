@@ -1,14 +1,15 @@
 -- The third phase of a round: the members vote for what the node asks for, and tell all nodes.
 use Rattle.std.proofs.Common.{◌≡◌, inl, inr, ℕ, zero, suc, ◌<◌, ◌≤◌, List, [], ◌∷◌, ◌++◌, All, Contains, false, Option, Some, None, refl}
 use Rattle.std.proofs.Common.{sym, ap, subst, ◌∙◌, arith}
-use Rattle.std.specs.Prelude.{nat_lt}
+use Rattle.std.specs.Prelude.{nat_lt, unwrap_or}
 use Rattle.std.proofs.lemmas.List.{append_assoc, append-nil}
 use Rattle.std.proofs.lemmas.List.Elements.{All-tail, All-head}
 use Rattle.synod.specs.Ballots.{rank}
 use Rattle.synod.specs.declared.ballot.Ballot.{Ballot}
 use Rattle.synod.specs.declared.vote.Vote.{Vote}
 use Rattle.sessions.specs.declared.command.Command.{Command}
-use Rattle.acceptor.specs.Accepting.{Accepting, refusing, unless_refused, nack, accept_answer}
+use Rattle.acceptor.specs.Accepting.{Accepting, Verdict, refusing, turned_away, accept_answer}
+use Rattle.acceptor.proofs.VerdictLemmas.{taken_where}
 use Rattle.acceptor.specs.declared.answer.Answer.{Answer}
 use Rattle.acceptor.specs.declared.answer.Answer.TheVariants as answer
 use Rattle.wire.specs.declared.frames.envelope.Envelope.{Envelope}
@@ -27,7 +28,7 @@ use Rattle.history.specs.Worlds.{WorldState}
 use Rattle.history.proofs.Handing.{Took, HandsOn, ends, skips, takes, hands_apart, same_or_not}
 use Rattle.history.proofs.Hearing.{same_learner}
 use Rattle.history.proofs.Leading.{AsksForVote}
-use Rattle.history.proofs.RoundAsked.{takes_message, it_concerns, is_below}
+use Rattle.history.proofs.RoundAsked.{takes_message, it_concerns, is_below, MaySpeak}
 
 -- ---- a member that has promised the ballot votes
 not_refused : (ballot : Ballot) (o : Option Ballot) → o ≡ Some ballot → refusing o ballot ≡ None
@@ -35,8 +36,10 @@ not_refused ballot o same =
     let not : nat_lt (rank ballot) (rank ballot) ≡ false = grind (arith) in
     ap (λ (x : Option Ballot). refusing x ballot) same ∙ (rw not refl)
 
-votes_so : (a : Accepting) (v : Vote Command) → refusing a.promise v.ballot ≡ None → accept_answer a v ≡ answer.Accepted v
-votes_so a v h = ap (λ (o : Option Ballot). unless_refused o (nack v.ballot) (answer.Accepted v)) h
+votes_so : (a : Accepting) (v : Vote Command) → a.floor ≤ v.slot → refusing a.promise v.ballot ≡ None
+    → accept_answer a v ≡ answer.Accepted v
+votes_so a v level none =
+    ap (λ (x : Verdict). unwrap_or (turned_away x v.ballot) (answer.Accepted v)) (taken_where a v.ballot v.slot level none)
 
 -- it tells all nodes, and has learnt what it had
 pub record HasVoted (nodes from : ℕ) (v : Vote Command) (m new : Mind) (said : Response) : Type 0 where
@@ -44,15 +47,16 @@ pub record HasVoted (nodes from : ℕ) (v : Vote Command) (m new : Mind) (said :
   pub learning : new.learning ≡ m.learning
 
 pub voted_for : (nodes node from : ℕ) (v : Vote Command) (m new : Mind) (said : Response) → IsMindOf from nodes m → node < nodes
-    → v.ballot.node < nodes → promised m ≡ Some v.ballot
+    → v.ballot.node < nodes → m.accepting.floor ≤ v.slot → promised m ≡ Some v.ballot
     → Takes m (input.Message (record { from = node; to = from; message = Accept v })) new said → HasVoted nodes from v m new said
-voted_for nodes node from v m new said is node_there owner_there has h =
+voted_for nodes node from v m new said is node_there owner_there level has h =
     let e : Envelope = record { from = node; to = from; message = Accept v } in
     let t : TakesMessage m node (Accept v) new said =
     takes_message m e new said (it_concerns from nodes m e is refl node_there (is_below v.ballot.node nodes owner_there)) h in
     record {
       sends = ap (λ (r : Response). r.sends) t.1
-          ∙ (ap (λ (a : Answer). answer_sends m.id m.nodes node a) (votes_so m.accepting v (not_refused v.ballot m.accepting.promise has))
+          ∙ (ap (λ (a : Answer). answer_sends m.id m.nodes node a)
+          (votes_so m.accepting v level (not_refused v.ballot m.accepting.promise has))
           ∙ (ap (λ (i : ℕ). to_all i m.nodes (Accepted v)) is.number ∙ ap (λ (n : ℕ). to_all from n (Accepted v)) is.of_all));
       learning = ap (λ (x : Mind). x.learning) t.0;
     }
@@ -109,6 +113,7 @@ module _ {S : Type 0} (w : WorldState S) (nodes node : ℕ) (members : List ℕ)
 
   module _ (node_there : node < nodes) (owner_there : v.ballot.node < nodes)
       (known : (j : ℕ) (m : Mind) → mind_at w j ≡ Some m → IsMindOf j nodes m)
+      (level : MaySpeak w members v.slot)
       (has : (j : ℕ) (m : Mind) → Contains members j → mind_at w j ≡ Some m → promised m ≡ Some v.ballot)
       (mind : Mind) (here : mind_at w node ≡ Some mind) where
     voted_none : (now : WorldState S) → HandsOn members [] w now → VotedBelow mind zero now
@@ -134,7 +139,7 @@ module _ {S : Type 0} (w : WorldState S) (nodes node : ℕ) (members : List ℕ)
     voted_member k mid now among h took =
         let before : mind_at w k ≡ Some took.mind = sym (h.later k (omega arith)) ∙ took.here in
         let a = voted_for nodes node k v took.mind took.mind_then took.said (known k took.mind before) node_there owner_there
-        (has k took.mind among before) took.takes in
+        (level k took.mind among before) (has k took.mind among before) took.takes in
         record {
           votes = h.votes ++ to_all k nodes (Accepted v);
           are = told_vote k h.votes among h.are;

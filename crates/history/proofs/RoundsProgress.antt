@@ -24,12 +24,13 @@ use Rattle.minds.specs.declared.input.Input.TheVariants as input
 use Rattle.history.specs.Fleets.{IsFleet}
 use Rattle.history.specs.Progress.{mind_in, mind_at, IsUndisturbed, NoneAbove, IsGreatestAbove, HasLearnt, IsAbove, HasStopped, Progresses}
 use Rattle.history.specs.Progress.{MakesProgress}
-use Rattle.history.specs.Rounds.{is_up, CanMeet, RefusesToBegin, IsGreatestTold, refusal_in, Phase, begun, asked, answered, voted, heard}
+use Rattle.history.specs.Rounds.{is_up, IsBehind, CanMeet, RefusesToBegin, IsGreatestTold, refusal_in}
+use Rattle.history.specs.Rounds.{Phase, begun, asked, answered, voted, heard}
 use Rattle.history.specs.Rounds.{ComesThrough, begins, asks, answers, votes, hears, IsRefused, IsDecided, EndsIn, RoundEnds}
 use Rattle.history.specs.Safety.{IsSound}
 use Rattle.history.specs.Worlds.{WorldState, TakesAt}
 use Rattle.history.specs.declared.round_end.RoundEnd.{RoundEnd}
-use Rattle.history.specs.declared.round_end.RoundEnd.TheVariants.{NotAQuorum, Down, Refused, Stopped, TooLow, Decided}
+use Rattle.history.specs.declared.round_end.RoundEnd.TheVariants.{NotAQuorum, Down, Behind, Refused, Stopped, TooLow, Decided}
 use Rattle.history.proofs.Handing.{hands_all, same_mind}
 use Rattle.history.proofs.RefusedGrows.{told_among, above_told}
 use Rattle.history.proofs.RoundAsked.{is_below, both, IsAnswer, promises, declines, answer_of_one, answer_of_each}
@@ -54,6 +55,7 @@ module _ {S : Type 0} (storages : Ghosts (Script S)) (contents : Script S → Re
     up = λ m among. up_some (slice_get old.nodes m) (meets.up m among);
     few = fleet.few;
     there = λ j m e. (is_member contents old fleet sound j m e).0;
+    level = λ j m among there. subst (λ (s : ℕ). m.accepting.floor ≤ s) (sym at) (meets.level mind m j among here there);
     known = λ j m e. (is_member contents old fleet sound j m e).1;
     unheard = λ a less. unheard_next contents old fleet sound node mind here ballot next slot a less;
     of_run = λ j m e. votes_of_run contents old fleet sound j m e;
@@ -285,6 +287,11 @@ module _ {S : Type 0} (storages : Ghosts (Script S)) (contents : Script S → Re
   is_down : (m : ℕ) → CanMeet old node members → Contains members m → is_up old m ≡ false → ⊥
   is_down m meets among down = let never : true ≡ false = sym (meets.up m among) ∙ down in absurd (cc)
 
+  not_behind : (m : ℕ) → CanMeet old node members → Contains members m → IsBehind old node m → ⊥
+  not_behind m meets among h =
+      let level = meets.level h.own h.other m among h.here h.there in
+      omega (arith, level, h.above)
+
   pub progresses : (end : RoundEnd) (new : WorldState S) → EndsIn storages old node members end new → Progresses old node members end new
   progresses NotAQuorum new h = record {
     decided = λ slot e. absurd (cc);
@@ -299,6 +306,13 @@ module _ {S : Type 0} (storages : Ghosts (Script S)) (contents : Script S → Re
     stopped = λ m e. absurd (cc);
     decides = λ slot ballot quiet none. absurd (is_down m quiet.meets h.1.member h.1.down);
     tells = λ slot ballot greatest quiet g. absurd (is_down m quiet.meets h.1.member h.1.down);
+  }
+  progresses (Behind m) new h = record {
+    decided = λ slot e. absurd (cc);
+    too_low = λ g e. absurd (cc);
+    stopped = λ m e. absurd (cc);
+    decides = λ slot ballot quiet none. absurd (not_behind m quiet.meets h.2.member h.2.behind);
+    tells = λ slot ballot greatest quiet g. absurd (not_behind m quiet.meets h.2.member h.2.behind);
   }
   progresses (Refused f) new h = record {
     decided = λ slot e. absurd (cc);

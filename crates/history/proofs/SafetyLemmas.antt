@@ -28,6 +28,7 @@ use Rattle.history.specs.Explaining.{LearntAgree, LearntGrounded}
 use Rattle.history.specs.Flushing.{IsUnused, IsStart, IsStarted}
 use Rattle.minds.specs.Loading.{IsLoaded}
 use Rattle.minds.specs.Protocol.{RecordsAgree}
+use Rattle.minds.proofs.AllowedLoading.{blank_at}
 use Rattle.history.specs.Protocol.{fleet, frame_of, learnt_as}
 use Rattle.history.specs.Reaching.{NodeStands, TookEffect, StandsAt, IsAllowed, AreHonest}
 use Rattle.history.specs.Safety.{HasAgreed, writes_of}
@@ -35,7 +36,7 @@ use Rattle.minds.specs.States.{NodeState}
 use Rattle.history.specs.Submissions.{asked_of, command_of, IsGrounded}
 use Rattle.history.specs.Voting.{vote_put, HasVote, IsChosen, HasChosen}
 use Rattle.history.specs.Worlds.{WorldState, submission_of}
-use Rattle.history.proofs.RestartLemmas.{up_again}
+use Rattle.history.proofs.RestartLemmas.{begins_at, begins_at_first, up_again}
 use Rattle.history.proofs.VotesStand.{each_held}
 
 -- an element of a list that is told of one by one
@@ -179,11 +180,13 @@ module _ {S : Type 0} {storages : Ghosts (Script S)} where
       → NodeStands storages.contents n (synod_runs.here synod_runs.start i)
   started_stands i count n h honest =
       let empty : storages.contents n.storage ≡ no_records = h.unused.empty honest in
+      let first : begins_at n.up ≡ zero = begins_at_first i count n.up (h.up honest) in
       let loads : IfSome n.up (IsLoaded (storages.contents n.storage) n.id n.nodes) =
       subst (λ (c : Records). IfSome n.up (IsLoaded c n.id n.nodes)) (sym empty)
       (subst (λ k. IfSome n.up (IsLoaded no_records k n.nodes)) (sym h.member.number)
       (subst (λ k. IfSome n.up (IsLoaded no_records i k)) (sym h.member.of_all) (h.up honest))) in
-      up_again n n (synod_runs.here synod_runs.start i) n.up refl refl (nothing_agrees (storages.contents n.storage) empty) refl loads
+      up_again n n (synod_runs.here synod_runs.start i) n.up refl refl (nothing_agrees (storages.contents n.storage) empty)
+      (ap blank_at (sym first)) loads
 
   -- no put was made, and no vote cast
   pub none_put : (s : Script S) (write : Write) → IsUnused storages s → TookEffect storages.contents s write → ⊥

@@ -1,21 +1,20 @@
 -- A sound world stays sound, and what is sound is safe.
-use Rattle.std.proofs.Common.{◌≡◌, ◌⊎◌, ℕ, List, Option, Some, None, IsSome, Result, IfOk, IfErr, IsErrOf, refl, sym, ap, subst, ◌∙◌}
+use Rattle.std.proofs.Common.{◌≡◌, ◌⊎◌, ℕ, List, Bool, Some, Result, IfOk, IfErr, IsErrOf, ap, subst, ◌∙◌}
 use Rattle.stable.specs.Records.{Records}
 use Rattle.stable.specs.Script.{Script}
 use Rattle.stable.specs.declared.scripted.Failing.{Failing}
 use Rattle.stable.specs.declared.stable.Stable.{Ghosts}
 use Rattle.stable.specs.Storages.{IsLawful}
-use Rattle.sessions.specs.Asked.{Asked}
 use Rattle.events.specs.declared.event.Event.{Event}
 use Rattle.events.specs.declared.event.Event.TheVariants as event
+use Rattle.minds.specs.declared.input.Input.{Input}
 use Rattle.minds.specs.declared.input.Input.TheVariants as input
 use Rattle.history.specs.Fleets.{IsFleet}
 use Rattle.history.specs.Flushing.{IsStart, Delivers}
-use Rattle.minds.specs.Minds.{Mind}
 use Rattle.minds.specs.Nodes.{NodeState}
 use Rattle.history.specs.Reaching.{AreHonest}
 use Rattle.history.specs.Safety.{HasAgreed, IsSafe, IsSound, IsSoundIfHonest}
-use Rattle.history.specs.Worlds.{WorldState, Steps, ReceivesAt, with_outcome, without_wait}
+use Rattle.history.specs.Worlds.{WorldState, TakesAt, Steps, with_outcome, without_wait}
 use Rattle.events.specs.declared.fault.WorldFault.{WorldFault}
 use Rattle.events.specs.declared.fault.WorldFault.TheVariants as fault
 use Rattle.history.specs.declared.lists.Outcome.{Outcome}
@@ -26,12 +25,13 @@ use Rattle.history.proofs.Explained.{explained}
 use Rattle.history.proofs.FleetSteps.{step_fleet}
 use Rattle.history.proofs.InLog.{start_in_log, step_in_log}
 use Rattle.history.proofs.ListedPuts.{KeepsPuts}
+use Rattle.history.proofs.Preserved.{HoldsOf, step_holds, submission_nodes, answered_nodes}
 use Rattle.history.proofs.PromisesStand.{start_promises, step_promises}
 use Rattle.history.proofs.RestartLemmas.{restart_honest}
 use Rattle.history.proofs.SafetyLemmas.{allowed_agrees, has_chosen, learnt_agree, learnt_grounded, start_allowed}
 use Rattle.history.proofs.Tellings.{steps_tell, start_tells}
 use Rattle.history.proofs.Validity.{start_valid, step_valid}
-use Rattle.history.proofs.WorldMoves.{honest_nodes, honest_took, step_allowed, submission_nodes, answered_nodes}
+use Rattle.history.proofs.WorldMoves.{honest_nodes, honest_took, step_allowed}
 
 -- what is sound is safe
 pub sound_is_safe : {S : Type 0} {contents : Script S → Records} (w : WorldState S) → IsSound contents w → IsSafe w
@@ -55,7 +55,7 @@ pub start_sound : {S : Type 0} (storages : Ghosts (Script S)) (count : ℕ) (w :
 start_sound storages count w start = record {
   sound = λ honest. record {
     allowed = start_allowed count w start honest;
-    tells = start_tells storages count w start;
+    tells = start_tells storages count w start honest;
     in_log = start_in_log w.learnt (ap (λ (x : WorldState _). x.learnt) start.nothing);
     valid = start_valid w (ap (λ (x : WorldState _). x.submitted) start.nothing);
     promises = start_promises storages count w start;
@@ -73,39 +73,30 @@ module _ {S : Type 0} {storages : Ghosts (Script S)} (laws : IsLawful storages)
   same_nodes : (old new : WorldState S) → new.nodes ≡ old.nodes → Honest new → Honest old
   same_nodes old new e honest = subst (λ (x : List (NodeState (Script S))). AreHonest storages.IsHonest x) e honest
 
-  received_honest : (old : WorldState S) (frame : _) (new : WorldState S) (o : Option Mind) (h : ReceivesAt storages old frame new)
-      → h.receiver.up ≡ o
+  took : (old : WorldState S) (node : ℕ) (i : Input) (taken : Bool) (new : WorldState S) → TakesAt storages old node i taken new
       → IsFleet old.nodes old.frames → Honest new → Honest old
-  received_honest old frame new None h up fleet honest = same_nodes old new (ap (λ (w : WorldState S). w.nodes) (h.lost up)) honest
-  received_honest old frame new (Some m) h up fleet honest =
-      let takes = h.taken (subst (λ (o : Option Mind). IsSome o) (sym up) refl) in
-      honest_took laws armed_honest armed_contents lists old frame.to (input.Message frame) takes.0 new takes.1 fleet honest
+  took = honest_took laws armed_honest armed_contents lists
 
-  step_honest : (old : WorldState S) (e : Event) (new : WorldState S) → Steps storages old e new
-      → IsFleet old.nodes old.frames → Honest new → Honest old
-  step_honest old (event.Submit node client number op) new h fleet honest =
-      let r : Asked = record { client = client; number = number; op = op } in
-      let then : Honest h.between = same_nodes h.between new
-      (ap (λ (w : WorldState S). w.nodes) h.leaves ∙ submission_nodes laws armed_honest armed_contents lists h.between h.taken node r)
-      honest in
-      honest_took laws armed_honest armed_contents lists old node (input.Submit client number op) h.taken h.between h.takes fleet then
-  step_honest old (event.Deliver k) new h fleet honest =
-      received_honest (without_wait old k) h.frame new h.receives.receiver.up h.receives refl fleet honest
-  step_honest old (event.Drop k) new h fleet honest = same_nodes old new (ap (λ (w : WorldState S). w.nodes) h) honest
-  step_honest old (event.Timeout node) new h fleet honest = honest_took laws armed_honest armed_contents lists old node input.Timeout h.0
-      new h.1 fleet honest
-  step_honest old (event.Tick node) new h fleet honest = honest_took laws armed_honest armed_contents lists old node input.Tick h.0 new h.1
-      fleet honest
-  step_honest old (event.Restart node) new h fleet honest =
-      honest_nodes laws armed_honest armed_contents lists old.nodes node h.before h.after h.here
-      (restart_honest laws h.before h.after h.result h.restarts)
-      (subst (λ (x : List (NodeState (Script S))). AreHonest storages.IsHonest x) (ap (λ (w : WorldState S). w.nodes) h.leaves) honest)
-  step_honest old (event.Fault node failing) new h fleet honest =
-      honest_nodes laws armed_honest armed_contents lists old.nodes node h.before _ h.here (armed_honest h.before.storage failing)
-      (subst (λ (x : List (NodeState (Script S))). AreHonest storages.IsHonest x) (ap (λ (w : WorldState S). w.nodes) h.leaves) honest)
-  step_honest old (event.Query node query) new h fleet honest =
-      same_nodes old new (ap (λ (w : WorldState S). w.nodes) h.leaves
-      ∙ answered_nodes laws armed_honest armed_contents lists old node query h.result) honest
+  was_honest : HoldsOf storages (λ old e new. IsFleet old.nodes old.frames → Honest new → Honest old)
+  was_honest = record {
+    takes = λ old e node i taken new h own. took old node i taken new h;
+    submits = λ old e node r new h fleet honest.
+        took old node (input.Submit r.client r.number r.op) h.taken h.between h.takes fleet
+        (same_nodes h.between new (ap (λ (w : WorldState S). w.nodes) h.leaves
+        ∙ submission_nodes h.between h.taken node r) honest);
+    hears = λ old e k frame taken new sent fits h. took (without_wait old k) frame.to (input.Message frame) taken new h;
+    loses = λ old e k o new brings h fleet honest. same_nodes old new (ap (λ (w : WorldState S). w.nodes) h) honest;
+    restarts = λ old node new h fleet honest.
+        honest_nodes laws armed_honest armed_contents lists old.nodes node h.before h.after h.here
+        (restart_honest laws h.before h.after h.result h.restarts)
+        (subst (λ (x : List (NodeState (Script S))). AreHonest storages.IsHonest x) (ap (λ (w : WorldState S). w.nodes) h.leaves) honest);
+    arms = λ old e node failing new h fleet honest.
+        honest_nodes laws armed_honest armed_contents lists old.nodes node h.before _ h.here (armed_honest h.before.storage failing)
+        (subst (λ (x : List (NodeState (Script S))). AreHonest storages.IsHonest x) (ap (λ (w : WorldState S). w.nodes) h.leaves) honest);
+    answers = λ old e node query new h fleet honest.
+        same_nodes old new (ap (λ (w : WorldState S). w.nodes) h.leaves
+        ∙ answered_nodes old node query h.result) honest;
+  }
 
   -- ---- a step
   pub step_sound : (old : WorldState S) (e : Event) (new : WorldState S) → Steps storages old e new
@@ -113,10 +104,10 @@ module _ {S : Type 0} {storages : Ghosts (Script S)} (laws : IsLawful storages)
       → IsSoundIfHonest storages.contents storages.IsHonest new
   step_sound old e new h fleet before = record {
     sound = λ honest.
-        let was = before.sound (step_honest old e new h fleet honest) in
+        let was = before.sound (step_holds was_honest old e new h fleet honest) in
         record {
           allowed = step_allowed laws armed_honest armed_contents lists old e new h fleet (λ then. (before.sound then).allowed) honest;
-          tells = steps_tell storages old new e h was.tells;
+          tells = steps_tell storages old new e h honest was.tells;
           in_log = step_in_log storages old e new h was.in_log;
           valid = step_valid storages old e new h was.valid;
           promises = step_promises laws lists armed_contents old e new h fleet was.allowed was.promises honest;

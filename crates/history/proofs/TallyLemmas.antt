@@ -1,29 +1,18 @@
 -- Every step keeps the lists as long as the outcomes say.
-use Rattle.std.proofs.Common.{◌≡◌, ℕ, List, [], ◌∷◌, ◌++◌, length, sum_by, Bool, true, false, Option, Some, None, IsSome, Result, Ok, Err}
-use Rattle.std.proofs.Common.{if◌then◌else◌, refl, sym, subst, arith}
+use Rattle.std.proofs.Common.{◌≡◌, ℕ, List, [], ◌∷◌, ◌++◌, length, sum_by, refl, sym, ap, subst, arith}
 use Rattle.std.proofs.lemmas.List.{length-append, length-map}
 use Rattle.std.proofs.lemmas.List.Sums.{sum_by-append}
 use Rattle.stable.specs.Script.{Script}
 use Rattle.stable.specs.declared.stable.Stable.{Ghosts}
-use Rattle.sessions.specs.Asked.{Asked}
-use Rattle.wire.specs.declared.frames.envelope.Envelope.{Envelope}
 use Rattle.store.specs.declared.query.Query.{Query}
-use Rattle.events.specs.declared.event.Event.{Event}
-use Rattle.events.specs.declared.event.Event.TheVariants as event
-use Rattle.minds.specs.declared.fault.NodeFault.{NodeFault}
-use Rattle.minds.specs.declared.input.Input.{Input}
-use Rattle.minds.specs.declared.input.Input.TheVariants as input
 use Rattle.history.specs.declared.lists.Outcome.{Outcome}
-use Rattle.history.specs.declared.lists.Outcome.TheVariants.{Done, Answered, Lost, Refused, Stopped}
-use Rattle.minds.specs.Faults.{is_stop_fault}
+use Rattle.history.specs.declared.lists.Outcome.TheVariants.{Done, Answered}
 use Rattle.history.specs.Flushing.{IsStart}
-use Rattle.minds.specs.Minds.{Mind}
 use Rattle.minds.specs.Outputs.{Response}
-use Rattle.minds.specs.States.{NodeState}
 use Rattle.history.specs.Tallies.{learnt_told, replies_told, answers_told, IsTallied, StepsTally}
-use Rattle.history.specs.Worlds.{WorldState, TakesAt, ReceivesAt, Steps, with_node, with_response, with_outcome, recorded, with_submission}
-use Rattle.history.specs.Worlds.{answered, restart_outcome, without_wait, learnt_by}
+use Rattle.history.specs.Worlds.{WorldState, with_node, with_response, with_outcome, with_answer, without_wait, learnt_by}
 use Rattle.history.specs.Outputs.{replied_at, replied_by}
+use Rattle.history.proofs.Preserved.{Preserved, step_keeps}
 
 -- entries join a list, and an outcome tells of as many
 grows : {A : Type 0} (xs ys : List A) (f : Outcome → ℕ) (os : List Outcome) (o : Outcome) → length xs ≡ sum_by f os
@@ -36,9 +25,6 @@ stays : {A : Type 0} (xs : List A) (f : Outcome → ℕ) (os : List Outcome) (o 
 stays xs f os o e g = omega (arith, sum_by-append f os (o ∷ []), e, g)
 
 module _ {S : Type 0} where
-  another : (v w : WorldState S) → v ≡ w → IsTallied w → IsTallied v
-  another v w e t = subst (λ (x : WorldState S). IsTallied x) (sym e) t
-
   -- an outcome that tells of no entry
   with_quiet : (w : WorldState S) (o : Outcome) → 0 ≡ learnt_told o → 0 ≡ replies_told o → 0 ≡ answers_told o
       → IsTallied w → IsTallied (with_outcome w o)
@@ -58,76 +44,44 @@ module _ {S : Type 0} where
         answers = stays w.answers answers_told w.outcomes o t.answers refl;
       }
 
-  -- a refusal and a stop tell of no entry
-  fault_tallied : (w : WorldState S) (node : ℕ) (f : NodeFault) (b : Bool) → IsTallied w
-      → IsTallied (with_outcome w (if b then Stopped node f else Refused node f))
-  fault_tallied w node f true t = with_quiet w (Stopped node f) refl refl refl t
-  fault_tallied w node f false t = with_quiet w (Refused node f) refl refl refl t
-
-  recorded_tallied : (w : WorldState S) (node : ℕ) (r : Result Response NodeFault) → IsTallied w → IsTallied (recorded w node r)
-  recorded_tallied w node (Ok said) t = said_tallied w node said t
-  recorded_tallied w node (Err f) t = fault_tallied w node f (is_stop_fault f) t
-
-  submitted_tallied : (w : WorldState S) (taken : Bool) (node : ℕ) (r : Asked) → IsTallied w → IsTallied (with_submission w taken node r)
-  submitted_tallied w true node r t = record { learnt = t.learnt; replies = t.replies; answers = t.answers }
-  submitted_tallied w false node r t = t
-
-  answered_tallied : (w : WorldState S) (node : ℕ) (query : Query) (r : Result (ℕ × List ℕ) NodeFault) → IsTallied w
-      → IsTallied (answered w node query r)
-  answered_tallied w node query (Ok told) t = record {
+  answered_tallied : (w : WorldState S) (node : ℕ) (query : Query) (told : ℕ × List ℕ) → IsTallied w
+      → IsTallied (with_answer w node query told.0 told.1)
+  answered_tallied w node query told t = record {
     learnt = stays w.learnt learnt_told w.outcomes Answered t.learnt refl;
     replies = stays w.replies replies_told w.outcomes Answered t.replies refl;
     answers = grows w.answers _ answers_told w.outcomes Answered t.answers refl;
   }
-  answered_tallied w node query (Err f) t = with_quiet w (Refused node f) refl refl refl t
 
-  restarted_tallied : (w : WorldState S) (node : ℕ) (r : Result (Unit {0}) NodeFault) → IsTallied w
-      → IsTallied (with_outcome w (restart_outcome node r))
-  restarted_tallied w node (Ok x) t = with_quiet w (Done 0 0) refl refl refl t
-  restarted_tallied w node (Err f) t = with_quiet w (Stopped node f) refl refl refl t
+  -- other lists change, and none that is counted
+  same_lists : (v w : WorldState S) → v.learnt ≡ w.learnt → v.replies ≡ w.replies → v.answers ≡ w.answers → v.outcomes ≡ w.outcomes
+      → IsTallied w → IsTallied v
+  same_lists v w l r a o t = record {
+    learnt = omega (arith, ap length l, ap (sum_by learnt_told) o, t.learnt);
+    replies = omega (arith, ap length r, ap (sum_by replies_told) o, t.replies);
+    answers = omega (arith, ap length a, ap (sum_by answers_told) o, t.answers);
+  }
 
-  with_node_tallied : (w : WorldState S) (i : ℕ) (n : NodeState (Script S)) → IsTallied w → IsTallied (with_node w i n)
-  with_node_tallied w i n t = record { learnt = t.learnt; replies = t.replies; answers = t.answers }
-
-  module _ (storages : Ghosts (Script S)) where
-    takes_tallied : (old : WorldState S) (node : ℕ) (i : Input) (taken : Bool) (new : WorldState S)
-        → TakesAt storages old node i taken new → IsTallied old → IsTallied new
-    takes_tallied old node i taken new h t =
-        another new _ h.leaves (recorded_tallied (with_node old node h.after) node h.result (with_node_tallied old node h.after t))
-
-    receives_tallied : (old : WorldState S) (frame : Envelope) (new : WorldState S) (o : Option Mind)
-        → (h : ReceivesAt storages old frame new) → h.receiver.up ≡ o → IsTallied old → IsTallied new
-    receives_tallied old frame new None h up t = another new _ (h.lost up) (with_quiet old Lost refl refl refl t)
-    receives_tallied old frame new (Some m) h up t =
-        let takes = h.taken (subst (λ (o : Option Mind). IsSome o) (sym up) refl) in
-        takes_tallied old frame.to (input.Message frame) takes.0 new takes.1 t
-
-    step_tallied : (old : WorldState S) (e : Event) (new : WorldState S) → Steps storages old e new
-        → IsTallied old → IsTallied new
-    step_tallied old (event.Submit node client number op) new h t =
-        another new _ h.leaves (submitted_tallied h.between h.taken node _ (takes_tallied old node _ h.taken h.between h.takes t))
-    step_tallied old (event.Deliver k) new h t =
-        receives_tallied (without_wait old k) h.frame new h.receives.receiver.up h.receives refl
-        (record { learnt = t.learnt; replies = t.replies; answers = t.answers })
-    step_tallied old (event.Drop k) new h t =
-        another new _ h (with_quiet (without_wait old k) (Done 0 0) refl refl refl
-        (record { learnt = t.learnt; replies = t.replies; answers = t.answers }))
-    step_tallied old (event.Timeout node) new h t = takes_tallied old node input.Timeout h.0 new h.1 t
-    step_tallied old (event.Tick node) new h t = takes_tallied old node input.Tick h.0 new h.1 t
-    step_tallied old (event.Restart node) new h t =
-        another new _ h.leaves (restarted_tallied (with_node old node h.after) node h.result (with_node_tallied old node h.after t))
-    step_tallied old (event.Fault node failing) new h t =
-        another new _ h.leaves (with_quiet (with_node old node _) (Done 0 0) refl refl refl (with_node_tallied old node _ t))
-    step_tallied old (event.Query node query) new h t =
-        another new _ h.leaves (answered_tallied old node query h.result t)
+  tally_kept : (storages : Ghosts (Script S)) → Preserved storages (λ w. IsTallied w)
+  tally_kept storages = record {
+    takes = λ w node i taken v h said is fits t.
+        said_tallied (with_node w node h.after) node said (same_lists (with_node w node h.after) w refl refl refl refl t);
+    fails = λ w node i taken v h f is t. same_lists (with_node w node h.after) w refl refl refl refl t;
+    submits = λ w s sound t. same_lists (record w { submitted = w.submitted ++ s ∷ [] }) w refl refl refl refl t;
+    unwaits = λ w k t. same_lists (without_wait w k) w refl refl refl refl t;
+    says = λ w o brings t. with_quiet w o brings.learnt brings.replies brings.answers t;
+    restarts = λ w node v h t. same_lists (with_node w node h.after) w refl refl refl refl t;
+    arms = λ w node failing n here t. same_lists (with_node w node _) w refl refl refl refl t;
+    answers = λ w node query v h told is t. answered_tallied w node query told t;
+  }
 
 -- every list is empty at the start
 start_tallied : {S : Type 0} (storages : Ghosts (Script S)) (count : ℕ) (w : WorldState S) → IsStart storages count w → IsTallied w
-start_tallied storages count w h = another w _ h.nothing (record { learnt = refl; replies = refl; answers = refl })
+start_tallied storages count w h =
+    subst (λ (x : WorldState _). IsTallied x) (sym h.nothing) (record { learnt = refl; replies = refl; answers = refl })
 
 pub steps_tally : {S : Type 0} (storages : Ghosts (Script S))
     → StepsTally storages
 steps_tally storages = record {
   start = start_tallied storages;
-  step = step_tallied storages;
+  step = λ old e new h t. step_keeps (tally_kept storages) old e new h t;
 }

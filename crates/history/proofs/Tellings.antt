@@ -1,10 +1,12 @@
 -- Each step keeps what the lists of a world tell of one another.
-use Rattle.std.proofs.Common.{◌≡◌, ℕ, zero, suc, ◌⊎◌, inl, inr, List, [], ◌∷◌, ◌++◌, map, Bool, true, false, Option}
-use Rattle.std.proofs.Common.{Some, None, Result, Ok, Err, IsSome, IfSome, IfOk, IfErr, MatchBool, Contains, slice_get}
+use Rattle.std.proofs.Common.{◌≡◌, ℕ, zero, suc, ◌-◌, ◌<◌, ◌⊎◌, length, inl, inr, List, [], ◌∷◌, ◌++◌, map, Bool, true, false, Option}
+use Rattle.std.proofs.Common.{Some, None, Result, Ok, Err, IfSome, IfOk, IfErr, MatchBool, Contains, slice_get}
 use Rattle.std.proofs.Common.{slice_set, refl, sym, ap, ◌∙◌, subst, append-nil, arith}
 use Rattle.std.proofs.lemmas.List.Elements.{Contains-append_left, Contains-append_right, Contains-append_cases, Contains-push}
 use Rattle.std.proofs.lemmas.List.Elements.{Contains-push_cases}
+use Rattle.std.proofs.lemmas.Bool.{cases_lt}
 use Rattle.std.proofs.lemmas.Option.{same_Some}
+use Rattle.stable.specs.Records.{Records, no_records}
 use Rattle.stable.specs.Script.{Script}
 use Rattle.stable.specs.declared.scripted.Failing.{Failing}
 use Rattle.stable.specs.declared.stable.Stable.{Ghosts}
@@ -13,7 +15,7 @@ use Rattle.sessions.specs.Asked.{Asked}
 use Rattle.sessions.specs.Meaning.{Answers}
 use Rattle.sessions.specs.declared.command.Command.{Command}
 use Rattle.store.specs.declared.query.Query.{Query}
-use Rattle.wire.specs.declared.frames.envelope.Envelope.{Envelope}
+use Rattle.learner.specs.Learning.{Learning}
 use Rattle.minds.specs.declared.fault.NodeFault.{NodeFault}
 use Rattle.minds.specs.declared.fault.NodeFault.TheVariants as fault
 use Rattle.minds.specs.declared.input.Input.{Input}
@@ -21,25 +23,29 @@ use Rattle.minds.specs.declared.input.Input.TheVariants as input
 use Rattle.minds.specs.declared.outputs.Executed.{Executed}
 use Rattle.minds.specs.declared.outputs.LogEntry.{LogEntry}
 use Rattle.minds.specs.Composition.{IsMeaningOf, IsReplyOf, GoesOnFrom, executed_from}
+use Rattle.minds.specs.Executing.{commands}
 use Rattle.minds.specs.Faults.{is_stop_fault}
-use Rattle.minds.specs.Loading.{IsFresh}
+use Rattle.minds.specs.Loading.{IsBaseOf, IsLoaded}
 use Rattle.minds.specs.Minds.{Mind, position}
 use Rattle.minds.specs.Nodes.{TakesInput, RefusesInput, StopsOnInput, NodeAnswers, AnswersMeaning}
 use Rattle.minds.specs.Outputs.{Response, silence}
 use Rattle.minds.specs.States.{NodeState}
 use Rattle.minds.specs.Taking.{Takes}
-use Rattle.minds.proofs.Learnt.{takes_tells, learnt_behind, fresh_means_nothing}
+use Rattle.minds.proofs.Learnt.{takes_tells, learnt_behind, loaded_means}
 use Rattle.minds.proofs.Meanings.{as_many}
 use Rattle.events.specs.declared.event.Event.{Event}
-use Rattle.events.specs.declared.event.Event.TheVariants as event
 use Rattle.history.specs.declared.lists.Learnt.{Learnt}
 use Rattle.history.specs.declared.lists.Replied.{Replied}
 use Rattle.history.specs.declared.lists.Answered.{Answered}
 use Rattle.history.specs.Flushing.{IsStart, IsStarted}
+use Rattle.history.specs.Reaching.{AreHonest}
 use Rattle.history.specs.Outputs.{replied_at, replied_by}
 use Rattle.history.specs.Telling.{WasLearnt, WereLearnt, TellsReply, TellsAnswer, Knows, ListsTell, Tells}
-use Rattle.history.specs.Worlds.{WorldState, TakesAt, SubmitsAt, ReceivesAt, AsksAt, ArmsAt, RestartsAt, Steps, recorded, with_node}
+use Rattle.history.specs.Worlds.{WorldState, TakesAt, SubmitsAt, AsksAt, ArmsAt, RestartsAt, Steps, recorded, with_node}
 use Rattle.history.specs.Worlds.{with_submission, without_wait, learnt_by, answered}
+use Rattle.history.proofs.Preserved.{HoldsOf, step_holds}
+use Rattle.history.proofs.RestartLemmas.{loads_or_down}
+use Rattle.history.proofs.WorldMoves.{set_there}
 
 -- ---- lists
 -- what stands in a list to which a function is applied is its value at an element
@@ -93,6 +99,8 @@ module _ (learnt more : List Learnt) where
 
   knows_still : (m : Mind) → Knows learnt m → Knows (learnt ++ more) m
   knows_still m k = record {
+    base = k.base;
+    begins = λ slot c e. was_still learnt more slot c (k.begins slot c e);
     listed = λ slot c e. was_still learnt more slot c (k.listed slot c e);
     meaning = k.meaning;
   }
@@ -110,9 +118,19 @@ now_learnt learnt i (Some d) slot c e =
       holds = ap (λ (x : LogEntry). x.command) is;
     }
 
--- of what a node is the meaning was learnt
-known_of : (learnt : List Learnt) (m : Mind) → Knows learnt m → WereLearnt learnt (executed_from [] m)
-known_of learnt m k slot c e = k.listed slot c (learnt_behind [] m k.meaning slot c (omega arith) e)
+-- what stands in front in two lists that are joined
+get_before : {A : Type 0} (xs ys : List A) (k : ℕ) (x : A) → k < length xs → slice_get (xs ++ ys) k ≡ Some x → slice_get xs k ≡ Some x
+get_before [] ys k x less e = absurd (omega (arith, less))
+get_before (z ∷ xs) ys zero x less e = e
+get_before (z ∷ xs) ys (suc k) x less e = get_before xs ys k x (omega (arith, less)) e
+
+-- of what a node is the meaning was learnt, by it or by some node before it began
+known_of : (learnt : List Learnt) (m : Mind) (k : Knows learnt m) → WereLearnt learnt (executed_from k.base m)
+known_of learnt m k slot c e = elim (cases_lt slot (length k.base)) [
+  | inl below ↦ k.begins slot c
+      (get_before k.base (commands m.learning.learnt m.learning.first (position m - m.learning.first)) slot c below e)
+  | inr from ↦ k.listed slot c (learnt_behind k.base m k.meaning slot c from e)
+]
 
 -- ---- what a node tells
 -- what it knows then, and of what its replies are
@@ -136,9 +154,11 @@ says_still learnt before after same knew = record {
 
 -- one that takes an input
 says_taken : (learnt : List Learnt) (i : ℕ) (old new : Mind) (input : Input) (said : Response) → Takes old input new said
-    → Knows learnt old → GoesOnFrom [] old new said → Says (learnt ++ learnt_by i said.learnt) (Some new) said.replies
+    → (knew : Knows learnt old) → GoesOnFrom knew.base old new said → Says (learnt ++ learnt_by i said.learnt) (Some new) said.replies
 says_taken learnt i old new input said takes knew goes =
     let known : Knows (learnt ++ learnt_by i said.learnt) new = record {
+      base = knew.base;
+      begins = λ slot c e. was_still learnt (learnt_by i said.learnt) slot c (knew.begins slot c e);
       listed = λ slot c there. elim ((takes_tells old new said input takes).told slot c there) [
         | inl before ↦ was_still learnt (learnt_by i said.learnt) slot c (knew.listed slot c before)
         | inr now ↦ now_learnt learnt i said.learnt slot c now
@@ -147,7 +167,7 @@ says_taken learnt i old new input said takes knew goes =
     } in
     record {
       knows = λ m e. subst (Knows (learnt ++ learnt_by i said.learnt)) (same_Some new m e) known;
-      replied = λ e c. (executed_from [] new, known_of (learnt ++ learnt_by i said.learnt) new known, goes.replies_ e c);
+      replied = λ e c. (executed_from knew.base new, known_of (learnt ++ learnt_by i said.learnt) new known, goes.replies_ e c);
     }
 
 -- ---- what a node tells on an input
@@ -166,7 +186,8 @@ module _ {S : Type 0} (storages : Ghosts S) (learnt : List Learnt) (i : ℕ) (be
       → IfSome up (λ m. IfOk result (λ said. TakesInput storages before m input said after))
       → IfSome up (λ m. IfErr result (λ f. MatchBool (is_stop_fault f)
       (StopsOnInput storages before m input f after) (RefusesInput before m input f after)))
-      → IfSome up (λ m. IsMeaningOf [] m → IfOk result (λ said. IfSome after.up (λ n. GoesOnFrom [] m n said)))
+      → ((base : List Command)
+      → IfSome up (λ m. IsMeaningOf base m → IfOk result (λ said. IfSome after.up (λ n. GoesOnFrom base m n said))))
       → Says (learnt ++ learnt_by i (said_of result).learnt) after.up (said_of result).replies
   node_says None (Ok said) here knew down taken refused goes =
       absurd (let h : ◌≡◌ {A = Result Response NodeFault} (Ok said) (Err fault.Down) = (down refl).0 in cc)
@@ -174,8 +195,9 @@ module _ {S : Type 0} (storages : Ghosts S) (learnt : List Learnt) (i : ℕ) (be
       says_down (learnt ++ []) after.up (ap (λ (n : NodeState S). n.up) (down refl).1 ∙ here)
   node_says (Some m) (Ok said) here knew down taken refused goes =
       let is : after.up ≡ Some taken.mind = ap (λ (n : NodeState S). n.up) taken.leaves in
-      let goes_on : GoesOnFrom [] m taken.mind said =
-      subst (λ (o : Option Mind). IfSome o (λ n. GoesOnFrom [] m n said)) is (goes (knew m refl).meaning) in
+      let base : List Command = (knew m refl).base in
+      let goes_on : GoesOnFrom base m taken.mind said =
+      subst (λ (o : Option Mind). IfSome o (λ n. GoesOnFrom base m n said)) is (goes base (knew m refl).meaning) in
       subst (λ (o : Option Mind). Says (learnt ++ learnt_by i said.learnt) o said.replies) (sym is)
       (says_taken learnt i m taken.mind input said taken.takes (knew m refl) goes_on)
   node_says (Some m) (Err f) here knew down taken refused goes = elim (stops_or_refuses (is_stop_fault f) refused) [
@@ -238,7 +260,7 @@ module _ {S : Type 0} (storages : Ghosts (Script S)) where
       (recorded_result old node t.after t.result
       (said_tells old.nodes old.learnt old.replies old.answers node t.after (said_of t.result) tells
       (node_says storages old.learnt node t.before t.after i t.before.up t.result refl (λ m up. tells.knows node t.before m t.here up)
-      t.steps.down t.steps.taken t.steps.refused (t.meaning.goes_on []))))
+      t.steps.down t.steps.taken t.steps.refused t.meaning.goes_on)))
 
   submission_tells : (w : WorldState S) (taken : Bool) (node : ℕ) (r : Asked) → Tells w → Tells (with_submission w taken node r)
   submission_tells w true node r t = t
@@ -251,30 +273,32 @@ module _ {S : Type 0} (storages : Ghosts (Script S)) where
       (submission_tells s.between s.taken node r
       (takes_at old node (input.Submit r.client r.number r.op) s.taken s.between s.takes tells))
 
-  up_or_down : (o : Option Mind) → (o ≡ None) ⊎ IsSome o
-  up_or_down None = inl refl
-  up_or_down (Some m) = inr refl
+  -- a node that has loaded its records has learnt nothing, and is the meaning of the list with which it began
+  loaded_knows : (learnt : List Learnt) (records : Records) (id nodes : ℕ) (m : Mind) (base : List Command) → WereLearnt learnt base
+      → IsBaseOf records base → IsLoaded records id nodes m → Knows learnt m
+  loaded_knows learnt records id nodes m base begins is loaded = record {
+    base = base;
+    begins = begins;
+    listed = λ slot c e. absurd (let h : None ≡ Some c = sym (ap (λ (l : Learning). l.learnt slot) loaded.learning) ∙ e in cc);
+    meaning = loaded_means records id nodes m base loaded is;
+  }
 
-  receives_at : (old : WorldState S) (frame : Envelope) (new : WorldState S) → ReceivesAt storages old frame new → Tells old → Tells new
-  receives_at old frame new r tells = elim (up_or_down r.receiver.up) [
-    | inl gone ↦ subst (λ (w : WorldState S). Tells w) (sym (r.lost gone)) tells
-    | inr up ↦ takes_at old frame.to (input.Message frame) (r.taken up).0 new (r.taken up).1 tells
-  ]
+  -- no record tells of what was learnt: it begins with nothing
+  begins_with_nothing : (learnt : List Learnt) (records : Records) (id nodes : ℕ) (m : Mind) → IsLoaded records id nodes m
+      → Knows learnt m
+  begins_with_nothing learnt records id nodes m loaded =
+      loaded_knows learnt records id nodes m [] (λ slot c e. absurd (let h : None ≡ Some c = e in cc)) refl loaded
 
-  -- a node that has restarted has learnt and executed nothing
-  fresh_knows : (learnt : List Learnt) (id nodes : ℕ) (m : Mind) → IsFresh id nodes m → Knows learnt m
-  fresh_knows learnt id nodes m fresh =
-      let nothing = fresh_means_nothing id nodes m fresh in
-      record {
-        listed = λ slot c e. absurd (let h : None ≡ Some c = sym (nothing.1 slot) ∙ e in cc);
-        meaning = nothing.0;
-      }
-
-  restarts_at : (old : WorldState S) (node : ℕ) (new : WorldState S) → RestartsAt storages old node new → Tells old → Tells new
-  restarts_at old node new r tells =
+  restarts_at : (old : WorldState S) (node : ℕ) (new : WorldState S) → RestartsAt storages old node new
+      → AreHonest storages.IsHonest new.nodes → Tells old → Tells new
+  restarts_at old node new r honest tells =
+      let own : storages.IsHonest r.after.storage =
+      honest node r.after (ap (λ (w : WorldState S). slice_get w.nodes node) r.leaves ∙ set_there old.nodes node r.after r.before r.here) in
+      let loads = loads_or_down r.before r.after r.result r.restarts own in
       subst (λ (w : WorldState S). Tells w) (sym r.leaves)
       (changed_tells old node r.after tells (record {
-        knows = λ m up. fresh_knows old.learnt r.before.id r.before.nodes m (r.restarts.fresh m up);
+        knows = λ m up. begins_with_nothing old.learnt (storages.contents r.before.storage) r.before.id r.before.nodes m
+            (subst (λ (o : Option Mind). IfSome o (IsLoaded (storages.contents r.before.storage) r.before.id r.before.nodes)) up loads);
         replied = λ e c. absurd (none_in e c);
       }))
 
@@ -290,16 +314,16 @@ module _ {S : Type 0} (storages : Ghosts (Script S)) where
 
   answer_tells : (learnt : List Learnt) (node : ℕ) (query : Query) (at : ℕ) (text : List ℕ) (up : Option Mind)
       → ((m : Mind) → up ≡ Some m → Knows learnt m) → (up ≡ None → ⊥) → IfSome up (λ m. at ≡ position m)
-      → IfSome up (λ m. IsMeaningOf [] m → Answers (executed_from [] m) query text)
+      → ((base : List Command) → IfSome up (λ m. IsMeaningOf base m → Answers (executed_from base m) query text))
       → TellsAnswer learnt (answer_at node query at text)
   answer_tells learnt node query at text None knew some says_at says = absurd (some refl)
   answer_tells learnt node query at text (Some m) knew some says_at says =
       let knows : Knows learnt m = knew m refl in
       record {
-        log = executed_from [] m;
+        log = executed_from knows.base m;
         known = known_of learnt m knows;
-        position = says_at ∙ sym (as_many [] m knows.meaning);
-        answers = says knows.meaning;
+        position = says_at ∙ sym (as_many knows.base m knows.meaning);
+        answers = says knows.base knows.meaning;
       }
 
   answered_tells : (old : WorldState S) (node : ℕ) (n : NodeState (Script S)) (query : Query)
@@ -309,7 +333,7 @@ module _ {S : Type 0} (storages : Ghosts (Script S)) where
       let new : TellsAnswer old.learnt (answer_at node query answer.0 answer.1) =
       answer_tells old.learnt node query answer.0 answer.1 n.up (λ m up. t.knows node n m here up)
       (λ gone. let h : ◌≡◌ {A = Result (ℕ × List ℕ) NodeFault} (Ok answer) (Err fault.Down) = says.down gone in cc)
-      says.position_ (means.answers []) in
+      says.position_ means.answers in
       record {
         replied = t.replied;
         answered = λ a c. elim (Contains-push_cases old.answers (answer_at node query answer.0 answer.1) a c) [
@@ -325,26 +349,32 @@ module _ {S : Type 0} (storages : Ghosts (Script S)) where
       subst (λ (w : WorldState S). Tells w) (sym a.leaves)
       (answered_tells old node a.asked query a.result a.here a.answers a.meaning tells)
 
-  -- ---- each step, by its kind
-  pub steps_tell : (old new : WorldState S) (e : Event) → Steps storages old e new → Tells old → Tells new
-  steps_tell old new (event.Submit node client number op) s tells =
-      submits_at old node (record { client = client; number = number; op = op }) new s tells
-  steps_tell old new (event.Deliver k) s tells = receives_at (without_wait old k) s.frame new s.receives tells
-  steps_tell old new (event.Drop k) s tells = subst (λ (w : WorldState S). Tells w) (sym s) tells
-  steps_tell old new (event.Timeout node) s tells = takes_at old node input.Timeout s.0 new s.1 tells
-  steps_tell old new (event.Tick node) s tells = takes_at old node input.Tick s.0 new s.1 tells
-  steps_tell old new (event.Restart node) s tells = restarts_at old node new s tells
-  steps_tell old new (event.Fault node failing) s tells = arms_at old node failing new s tells
-  steps_tell old new (event.Query node query) s tells = asks_at old node query new s tells
+  -- ---- each step
+  tell : HoldsOf storages (λ old e new. AreHonest storages.IsHonest new.nodes → Tells old → Tells new)
+  tell = record {
+    takes = λ old e node i taken new h own honest tells. takes_at old node i taken new h tells;
+    submits = λ old e node r new h honest tells. submits_at old node r new h tells;
+    hears = λ old e k frame taken new sent fits h honest tells.
+        takes_at (without_wait old k) frame.to (input.Message frame) taken new h tells;
+    loses = λ old e k o new brings h honest tells. subst (λ (w : WorldState S). Tells w) (sym h) tells;
+    restarts = λ old node new h honest tells. restarts_at old node new h honest tells;
+    arms = λ old e node failing new h honest tells. arms_at old node failing new h tells;
+    answers = λ old e node query new h honest tells. asks_at old node query new h tells;
+  }
+
+  pub steps_tell : (old new : WorldState S) (e : Event) → Steps storages old e new → AreHonest storages.IsHonest new.nodes
+      → Tells old → Tells new
+  steps_tell old new e h honest tells = step_holds tell old e new h honest tells
 
   -- ---- the start
   -- nothing is told, and no node has learnt or executed anything
-  pub start_tells : (count : ℕ) (w : WorldState S) → IsStart storages count w → Tells w
-  start_tells count w s =
+  pub start_tells : (count : ℕ) (w : WorldState S) → IsStart storages count w → AreHonest storages.IsHonest w.nodes → Tells w
+  start_tells count w s honest =
       subst (λ (x : WorldState S). Tells x) (sym s.nothing) (record {
         replied = λ p c. absurd (none_in p c);
         answered = λ a c. absurd (none_in a c);
         knows = λ i n m here up.
             let started : IsStarted storages i count n = s.nodes.each i n here in
-            fresh_knows [] i count m (subst (λ (o : Option Mind). IfSome o (IsFresh i count)) up started.fresh);
+            begins_with_nothing [] no_records i count m
+            (subst (λ (o : Option Mind). IfSome o (IsLoaded no_records i count)) up (started.up (honest i n here)));
       })

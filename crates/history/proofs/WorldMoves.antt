@@ -1,6 +1,6 @@
 -- Each step of the world is moves that the protocol allows.
 use Rattle.std.proofs.Common.{◌≡◌, ℕ, zero, suc, ◌<◌, ◌≤◌, inl, inr, List, [], ◌∷◌, ◌++◌, map, length, slice_get, slice_set, Bool, true}
-use Rattle.std.proofs.Common.{false, Option, Some, None, IfSome, IsSome, Contains, Result, Ok, Err, is_ok, option_map, refl, sym, ap, subst}
+use Rattle.std.proofs.Common.{false, Option, Some, None, IfSome, Contains, Result, Ok, Err, is_ok, option_map, refl, sym, ap, subst}
 use Rattle.std.proofs.Common.{◌∙◌, append-nil}
 use Rattle.std.proofs.lemmas.Bool.{cases_eq}
 use Rattle.std.proofs.lemmas.Option.{same_Some, slice_get-map, slice_get_within, get_or_from_slice_get}
@@ -20,7 +20,6 @@ use Rattle.sessions.specs.declared.command.Command.{Command}
 use Rattle.wire.specs.declared.frames.envelope.Envelope.{Envelope}
 use Rattle.store.specs.declared.query.Query.{Query}
 use Rattle.events.specs.declared.event.Event.{Event}
-use Rattle.events.specs.declared.event.Event.TheVariants as event
 use Rattle.minds.specs.declared.fault.NodeFault.{NodeFault}
 use Rattle.minds.specs.declared.input.Input.{Input}
 use Rattle.minds.specs.declared.input.Input.TheVariants as input
@@ -28,20 +27,19 @@ use Rattle.history.specs.declared.lists.Submission.{Submission}
 use Rattle.history.specs.declared.lists.Learnt.{Learnt}
 use Rattle.minds.specs.declared.outputs.LogEntry.{LogEntry}
 use Rattle.history.specs.Fleets.{IsFleet}
-use Rattle.minds.specs.Minds.{Mind, asked}
 use Rattle.minds.specs.Nodes.{NodeState}
 use Rattle.minds.specs.Outputs.{Response}
-use Rattle.wire.specs.FrameSpelling.{Fits}
 use Rattle.minds.specs.Inputs.{concerns}
 use Rattle.minds.specs.Protocol.{learnings, input_of, coming, InputFits, RecordsAgree, HoldsRecords, MindStands}
 use Rattle.history.specs.Protocol.{fleet, frame_of, learnt_as, command_of}
 use Rattle.history.specs.Reaching.{NodeStands, StandsAt, IsAllowed, AreHonest}
-use Rattle.history.specs.Worlds.{WorldState, submission_of, quiet, TakesAt, ReceivesAt, ArmsAt, RestartsAt, Steps, with_node, recorded}
+use Rattle.history.specs.Worlds.{WorldState, submission_of, TakesAt, ArmsAt, RestartsAt, Steps, with_node, with_outcome, recorded}
 use Rattle.history.specs.Worlds.{with_submission, answered, without_wait, learnt_by}
 use Rattle.history.proofs.ListedPuts.{KeepsPuts, same_lists as same_puts}
 use Rattle.history.proofs.MovingLemmas.{moved}
 use Rattle.history.proofs.NodeComes.{local_of, stands_still, NodeComes, node_comes, ComesQuietly, restart_comes}
 use Rattle.history.proofs.NodeMoves.{honest_before, sends_of, learnt_of, submitted_of}
+use Rattle.history.proofs.Preserved.{HoldsOf, step_holds, taken_of, recorded_nodes, submission_nodes, answered_nodes}
 use Rattle.history.proofs.RestartLemmas.{restart_honest}
 use Rattle.history.proofs.VotesStand.{puts_same}
 
@@ -62,13 +60,6 @@ set_beside (x ∷ xs) (suc i) (suc j) y ne = set_beside xs i j y (λ same. ne (a
 abbrev news_of : ℕ → Result Response NodeFault → List Learnt
 news_of node (Ok told) = learnt_by node told.learnt
 news_of node (Err f) = []
-
-abbrev taken_of : ℕ → Input → Bool → List Submission
-taken_of node (input.Submit client number op) true = submission_of node (asked client number op) ∷ []
-taken_of node (input.Submit client number op) false = []
-taken_of node (input.Message e) b = []
-taken_of node input.Timeout b = []
-taken_of node input.Tick b = []
 
 news_listed : (node : ℕ) (r : Result Response NodeFault) → learnt_of node r ≡ map learnt_as (news_of node r)
 news_listed node (Ok told) = by_option told.learnt
@@ -129,10 +120,6 @@ module _ {S : Type 0} {storages : Ghosts (Script S)} (laws : IsLawful storages)
   same_lists old new a b c d h = named old.nodes new.nodes old.frames new.frames old.learnt new.learnt old.submitted new.submitted a b c d h
 
   -- ---- a node takes an input
-  recorded_nodes : (w : WorldState S) (node : ℕ) (r : Result Response NodeFault) → (recorded w node r).nodes ≡ w.nodes
-  recorded_nodes w node (Ok told) = refl
-  recorded_nodes w node (Err f) = refl
-
   recorded_frames : (w : WorldState S) (node : ℕ) (r : Result Response NodeFault) → (recorded w node r).frames ≡ w.frames ++ sends_of r
   recorded_frames w node (Ok told) = refl
   recorded_frames w node (Err f) = sym (append-nil w.frames)
@@ -206,11 +193,6 @@ module _ {S : Type 0} {storages : Ghosts (Script S)} (laws : IsLawful storages)
       (ap (λ (w : WorldState S). w.learnt) e)
       (ap (λ (w : WorldState S). w.submitted) e) (takes_quietly old node (input.Submit r.client r.number r.op) false between refl t)
 
-  pub submission_nodes : (between : WorldState S) (taken : Bool) (node : ℕ) (r : Asked)
-      → (with_submission between taken node r).nodes ≡ between.nodes
-  submission_nodes between true node r = refl
-  submission_nodes between false node r = refl
-
   -- ---- a frame
   was_sent : (old : WorldState S) (a : WorldAllowed old) (k : ℕ) (frame : Envelope) → slice_get old.frames k ≡ Some frame
       → (b : Bool) → HasCome a.state.past (coming frame b)
@@ -225,24 +207,6 @@ module _ {S : Type 0} {storages : Ghosts (Script S)} (laws : IsLawful storages)
           slice_get-map frame_of frames k ∙ ap (option_map frame_of) sent in
           let within : k < length (map frame_of frames) = slice_get_within (map frame_of frames) k (frame_of frame) mapped in
           (k, within, get_or_from_slice_get (map frame_of frames) k (frame_of frame) (frame_of frame) mapped)
-
-  receives_allowed : (old : WorldState S) (k : ℕ) (frame : Envelope) (new : WorldState S) (o : Option Mind)
-      → slice_get old.frames k ≡ Some frame
-      → Fits 7 frame → (h : ReceivesAt storages old frame new) → h.receiver.up ≡ o → IsFleet old.nodes old.frames
-      → (WorldHonest old → WorldAllowed old) → WorldHonest new → WorldAllowed new
-  receives_allowed old k frame new None sent fits h up fleet_ before honest =
-      let lost = h.lost up in
-      let nodes : new.nodes ≡ old.nodes = ap (λ (w : WorldState S). w.nodes) lost in
-      same_lists old new nodes (ap (λ (w : WorldState S). w.frames) lost) (ap (λ (w : WorldState S). w.learnt) lost)
-      (ap (λ (w : WorldState S). w.submitted) lost)
-      (before (subst (λ (x : Nodes). AreHonest storages.IsHonest x) nodes honest))
-  receives_allowed old k frame new (Some m) sent fits h up fleet_ before honest =
-      let takes = h.taken (subst (λ (o : Option Mind). IsSome o) (sym up) refl) in
-      let i : Input = input.Message frame in
-      let a : WorldAllowed old = before (honest_took old frame.to i takes.0 new takes.1 fleet_ honest) in
-      takes_quietly old frame.to i takes.0 new refl
-      (takes_allowed old frame.to i takes.0 new takes.1 fleet_ fits.message a
-      (was_sent old a k frame sent (concerns frame.to (length old.nodes) frame)) honest)
 
   takes_step : (old : WorldState S) (node : ℕ) (i : Input) (taken : Bool) (new : WorldState S) → taken_of node i taken ≡ []
       → TakesAt storages old node i taken new
@@ -332,36 +296,37 @@ module _ {S : Type 0} {storages : Ghosts (Script S)} (laws : IsLawful storages)
   answered_same old node query (Ok told) a = a
   answered_same old node query (Err f) a = a
 
-  pub answered_nodes : (old : WorldState S) (node : ℕ) (query : Query) (r : Result (ℕ × List ℕ) NodeFault)
-      → (answered old node query r).nodes ≡ old.nodes
-  answered_nodes old node query (Ok told) = refl
-  answered_nodes old node query (Err f) = refl
-
   same_world : (old new : WorldState S) → new ≡ old → WorldAllowed old → WorldAllowed new
   same_world old new e a = subst (λ (w : WorldState S). WorldAllowed w) (sym e) a
 
   -- ---- one step
+  worlds_allowed : HoldsOf storages (λ old e new. IsFleet old.nodes old.frames → (WorldHonest old → WorldAllowed old) → WorldHonest new
+      → WorldAllowed new)
+  worlds_allowed = record {
+    takes = λ old e node i taken new h own fleet_ before honest.
+        takes_step old node i taken new (own.unsubmitted node taken) h fleet_ own.fits
+        (λ a. subst (λ (x : act.Input Command). HasCome a.state.past x) (sym (own.unasked node (length old.nodes))) tt) before honest;
+    submits = λ old e node r new h fleet_ before honest.
+        let i : Input = input.Submit r.client r.number r.op in
+        let nodes : new.nodes ≡ h.between.nodes =
+        ap (λ (w : WorldState S). w.nodes) h.leaves ∙ submission_nodes h.between h.taken node r in
+        let then : WorldHonest h.between = subst (λ (x : Nodes). AreHonest storages.IsHonest x) nodes honest in
+        let a : WorldAllowed old = before (honest_took old node i h.taken h.between h.takes fleet_ then) in
+        submits_allowed old h.between new node r h.taken h.leaves (takes_allowed old node i h.taken h.between h.takes fleet_ tt a tt then);
+    hears = λ old e k frame taken new sent fits h fleet_ before honest.
+        takes_step (without_wait old k) frame.to (input.Message frame) taken new refl h fleet_ fits.message
+        (λ a. was_sent (without_wait old k) a k frame sent (concerns frame.to (length old.nodes) frame)) before honest;
+    loses = λ old e k o new brings h fleet_ before honest.
+        same_world (with_outcome (without_wait old k) o) new h
+        (before (subst (λ (x : Nodes). AreHonest storages.IsHonest x) (ap (λ (w : WorldState S). w.nodes) h) honest));
+    restarts = λ old node new h fleet_ before honest. restart_allowed old new node h fleet_.few before honest;
+    arms = λ old e node failing new h fleet_ before honest. arm_allowed old new node failing h before honest;
+    answers = λ old e node query new h fleet_ before honest.
+        same_world (answered old node query h.result) new h.leaves (answered_same old node query h.result
+        (before (subst (λ (x : Nodes). AreHonest storages.IsHonest x) (ap (λ (w : WorldState S). w.nodes) h.leaves
+        ∙ answered_nodes old node query h.result) honest)));
+  }
+
   pub step_allowed : (old : WorldState S) (e : Event) (new : WorldState S) → Steps storages old e new
       → IsFleet old.nodes old.frames → (WorldHonest old → WorldAllowed old) → WorldHonest new → WorldAllowed new
-  step_allowed old (event.Submit node client number op) new h fleet_ before honest =
-      let r : Asked = record { client = client; number = number; op = op } in
-      let i : Input = input.Submit client number op in
-      let nodes : new.nodes ≡ h.between.nodes = ap (λ (w : WorldState S). w.nodes) h.leaves ∙ submission_nodes h.between h.taken node r in
-      let then : WorldHonest h.between = subst (λ (x : Nodes). AreHonest storages.IsHonest x) nodes honest in
-      let a : WorldAllowed old = before (honest_took old node i h.taken h.between h.takes fleet_ then) in
-      submits_allowed old h.between new node r h.taken h.leaves (takes_allowed old node i h.taken h.between h.takes fleet_ tt a tt then)
-  step_allowed old (event.Deliver k) new h fleet_ before honest =
-      receives_allowed (without_wait old k) k h.frame new h.receives.receiver.up h.sent h.fits h.receives refl fleet_ before honest
-  step_allowed old (event.Drop k) new h fleet_ before honest =
-      same_world (quiet (without_wait old k)) new h
-      (before (subst (λ (x : Nodes). AreHonest storages.IsHonest x) (ap (λ (w : WorldState S). w.nodes) h) honest))
-  step_allowed old (event.Timeout node) new h fleet_ before honest =
-      takes_step old node input.Timeout h.0 new refl h.1 fleet_ tt (λ a. tt) before honest
-  step_allowed old (event.Tick node) new h fleet_ before honest =
-      takes_step old node input.Tick h.0 new refl h.1 fleet_ tt (λ a. tt) before honest
-  step_allowed old (event.Restart node) new h fleet_ before honest = restart_allowed old new node h fleet_.few before honest
-  step_allowed old (event.Fault node failing) new h fleet_ before honest = arm_allowed old new node failing h before honest
-  step_allowed old (event.Query node query) new h fleet_ before honest =
-      same_world (answered old node query h.result) new h.leaves (answered_same old node query h.result
-      (before (subst (λ (x : Nodes). AreHonest storages.IsHonest x) (ap (λ (w : WorldState S). w.nodes) h.leaves
-      ∙ answered_nodes old node query h.result) honest)))
+  step_allowed old e new h = step_holds worlds_allowed old e new h

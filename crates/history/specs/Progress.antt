@@ -1,6 +1,6 @@
 -- What is promised of progress: a round by hand that nothing disturbs decides, or tells the promise that was in its way, or
 -- ends as a member goes down.
-use Rattle.std.specs.Prelude.{◌≡◌, ℕ, ◌<◌, ◌≤◌, ◌⊎◌, ◌^◌, List, [], ◌∷◌, ◌++◌, slice_get, Option, Some, None, IsSome, Contains}
+use Rattle.std.specs.Prelude.{◌≡◌, ℕ, ◌<◌, ◌≤◌, ◌⊎◌, ◌^◌, List, [], ◌∷◌, ◌++◌, Option, Some, None, IsSome, Contains}
 use Rattle.stable.specs.Script.{Script}
 use Rattle.stable.specs.declared.stable.Stable.{Ghosts}
 use Rattle.synod.specs.Ballots.{rank, rank_of}
@@ -9,7 +9,6 @@ use Rattle.synod.specs.declared.slot.TheConstants.{SLOTS}
 use Rattle.minds.specs.declared.fault.NodeFault.{NodeFault}
 use Rattle.minds.specs.declared.fault.NodeFault.TheVariants as fault
 use Rattle.minds.specs.Minds.{Mind, position, promised, learnt_in, IsNextBallot}
-use Rattle.minds.specs.States.{NodeState}
 use Rattle.events.specs.declared.event.Event.{Event}
 use Rattle.events.specs.declared.event.Event.TheVariants as event
 use Rattle.history.specs.declared.lists.Outcome.{Outcome}
@@ -19,14 +18,7 @@ use Rattle.history.specs.declared.round_end.RoundEnd.TheVariants.{Stopped, TooLo
 use Rattle.history.specs.Fired.{AreHonestInside}
 use Rattle.history.specs.Rounds.{CanMeet}
 use Rattle.history.specs.Worlds.{WorldState, Steps, with_outcome}
-
--- what a node holds, where it is there and up
-abbrev pub mind_in : {S : Type 0} → Option (NodeState S) → Option Mind
-mind_in None = None
-mind_in (Some n) = n.up
-
-abbrev pub mind_at : {S : Type 0} → WorldState S → ℕ → Option Mind
-mind_at w m = mind_in (slice_get w.nodes m)
+pub use Rattle.history.specs.Worlds.{mind_in, mind_at}
 
 -- ---- before the round
 -- nothing disturbs it: the members can meet, the log has a slot at the node's position, and the node a ballot of a round that is left

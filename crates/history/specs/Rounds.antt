@@ -16,8 +16,8 @@ use Rattle.minds.specs.Minds.{Mind, position, refuses}
 use Rattle.minds.specs.States.{NodeState}
 use Rattle.history.specs.declared.lists.Outcome.TheVariants as outcome
 use Rattle.history.specs.declared.round_end.RoundEnd.{RoundEnd}
-use Rattle.history.specs.declared.round_end.RoundEnd.TheVariants.{NotAQuorum, Down, Refused, Stopped, TooLow, Decided}
-use Rattle.history.specs.Worlds.{WorldState, TakesAt, DeliversFrame, with_outcome}
+use Rattle.history.specs.declared.round_end.RoundEnd.TheVariants.{NotAQuorum, Down, Behind, Refused, Stopped, TooLow, Decided}
+use Rattle.history.specs.Worlds.{WorldState, mind_at, TakesAt, DeliversFrame, with_outcome}
 
 -- ---- the members
 -- the node, or a member, is none of so many
@@ -44,10 +44,29 @@ pub record IsLowestDown {S : Type 0} (w : WorldState S) (members : List ℕ) (m 
   pub down : is_up w m ≡ false
   pub lowest : (i : ℕ) → Contains members i → i < m → is_up w i ≡ true
 
--- the members are a quorum, and all of them are up
+abbrev pub AreUp : {S : Type 0} → WorldState S → List ℕ → Type 0
+AreUp w members = (m : ℕ) → Contains members m → is_up w m ≡ true
+
+-- the node is behind node m: the acceptor there may not speak of the node's position any more
+pub record IsBehind {S : Type 0} (w : WorldState S) (node m : ℕ) : Type 0 where
+  pub own : Mind
+  pub here : mind_at w node ≡ Some own
+  pub other : Mind
+  pub there : mind_at w m ≡ Some other
+  pub above : position own < other.accepting.floor
+
+-- m is the lowest member that the node is behind
+pub record IsLowestBehind {S : Type 0} (w : WorldState S) (node : ℕ) (members : List ℕ) (m : ℕ) : Type 0 where
+  pub member : Contains members m
+  pub behind : IsBehind w node m
+  pub lowest : (i : ℕ) → Contains members i → i < m → IsBehind w node i → ⊥
+
+-- the members are a quorum, all of them are up, and each may speak of the node's position
 pub record CanMeet {S : Type 0} (w : WorldState S) (node : ℕ) (members : List ℕ) : Type 0 where
   pub quorum : IsQuorum (length w.nodes) node members
-  pub up : (m : ℕ) → Contains members m → is_up w m ≡ true
+  pub up : AreUp w members
+  pub level : (p m : Mind) (i : ℕ) → Contains members i → mind_at w node ≡ Some p → mind_at w i ≡ Some m
+      → m.accepting.floor ≤ position p
 
 -- ---- the node
 -- its position is this
@@ -189,6 +208,7 @@ module _ {S : Type 0} (storages : Ghosts (Script S)) (old : WorldState S) (node 
   abbrev pub MeetingEnds : RoundEnd → WorldState S → Type 0
   MeetingEnds NotAQuorum new = ⊥
   MeetingEnds (Down m) new = ⊥
+  MeetingEnds (Behind m) new = ⊥
   MeetingEnds (Refused f) new = RefusesToBegin old node f × (new ≡ old)
   MeetingEnds (Stopped m) new = GoesDown m new
   MeetingEnds (TooLow greatest) new = IsRefused greatest new
@@ -197,6 +217,7 @@ module _ {S : Type 0} (storages : Ghosts (Script S)) (old : WorldState S) (node 
   abbrev pub EndsIn : RoundEnd → WorldState S → Type 0
   EndsIn NotAQuorum new = (IsQuorum (length old.nodes) node members → ⊥) × (new ≡ old)
   EndsIn (Down m) new = IsQuorum (length old.nodes) node members × IsLowestDown old members m × (new ≡ old)
+  EndsIn (Behind m) new = IsQuorum (length old.nodes) node members × AreUp old members × IsLowestBehind old node members m × (new ≡ old)
   EndsIn (Refused f) new = CanMeet old node members × MeetingEnds (Refused f) new
   EndsIn (Stopped m) new = CanMeet old node members × MeetingEnds (Stopped m) new
   EndsIn (TooLow greatest) new = CanMeet old node members × MeetingEnds (TooLow greatest) new

@@ -1,5 +1,5 @@
 -- What the lists of a world tell of one another: whatever a reply or an answer rests on was learnt by some node.
-use Rattle.std.specs.Prelude.{◌≡◌, ℕ, List, [], length, Some, Contains, slice_get}
+use Rattle.std.specs.Prelude.{◌≡◌, ℕ, List, length, Some, Contains, slice_get}
 use Rattle.sessions.specs.Meaning.{Answers}
 use Rattle.sessions.specs.declared.command.Command.{Command}
 use Rattle.minds.specs.Composition.{IsMeaningOf, IsReplyOf}
@@ -35,10 +35,13 @@ pub record TellsAnswer (learnt : List Learnt) (a : Answered) : Type 0 where
   pub position : a.position ≡ length log
   pub answers : Answers log a.query a.text
 
--- what a node that is up has learnt is listed, and it is the meaning of what it has learnt from the first slot on
+-- what a node that is up has learnt is listed, and it is the meaning of a list with which it began, of what some nodes learnt, and of
+-- what it has learnt behind it
 pub record Knows (learnt : List Learnt) (m : Mind) : Type 0 where
+  pub base : List Command
+  pub begins : WereLearnt learnt base
   pub listed : (slot : ℕ) (c : Command) → learnt_in m slot ≡ Some c → WasLearnt learnt slot c
-  pub meaning : IsMeaningOf [] m
+  pub meaning : IsMeaningOf base m
 
 pub record ListsTell {S : Type 0} (nodes : List (NodeState S)) (learnt : List Learnt) (replies : List Replied)
     (answers : List Answered) : Type 0 where

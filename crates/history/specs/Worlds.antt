@@ -17,6 +17,7 @@ use Rattle.minds.specs.declared.input.Input.TheVariants as input
 use Rattle.minds.specs.declared.outputs.LogEntry.{LogEntry}
 use Rattle.minds.specs.Faults.{is_stop_fault}
 use Rattle.minds.specs.Loading.{Restarts}
+use Rattle.minds.specs.Minds.{Mind}
 use Rattle.minds.specs.Nodes.{NodeState, NodeSteps, NodeAnswers, StaysMeaning, AnswersMeaning}
 use Rattle.minds.specs.Outputs.{Response}
 use Rattle.history.specs.declared.lists.Submission.{Submission}
@@ -38,6 +39,14 @@ pub record WorldState (S : Type 0) : Type 0 where
   pub replies : List Replied
   pub answers : List Answered
   pub outcomes : List Outcome
+
+-- what a node holds, where it is there and up
+abbrev pub mind_in : {S : Type 0} → Option (NodeState S) → Option Mind
+mind_in None = None
+mind_in (Some n) = n.up
+
+abbrev pub mind_at : {S : Type 0} → WorldState S → ℕ → Option Mind
+mind_at w m = mind_in (slice_get w.nodes m)
 
 -- ---- what a node told joins the lists
 abbrev pub learnt_by : ℕ → Option LogEntry → List Learnt

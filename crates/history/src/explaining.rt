@@ -5,21 +5,24 @@
 ghost use Rattle.std.specs.Prelude.{ℕ};
 ghost use Rattle.history.specs.Explaining.{IsExplained, LearntAgree, LearntGrounded, LearntInLog};
 ghost use Rattle.history.specs.Flushing.{IsStart};
+ghost use Rattle.history.specs.Reaching.{AreHonest};
 ghost use Rattle.history.specs.Telling.{Tells};
 ghost use Rattle.history.specs.Worlds.{WorldState, Steps};
 ghost use Rattle.events.specs.declared.event.Event.{Event};
 
 use stable::{Scripted, Stable};
 
-/// At the start the lists tell no more than the nodes know.
+/// At the start, over honest storages, the lists tell no more than the nodes know.
 pub fn a_start_tells<S: Stable>()
-    ensures { (count : ℕ) (w : WorldState S) → IsStart (⟦<Scripted<S> as Stable>⟧) count w → Tells w }
+    ensures { (count : ℕ) (w : WorldState S) → IsStart (⟦<Scripted<S> as Stable>⟧) count w
+        → AreHonest ⟦<Scripted<S> as Stable>⟧.IsHonest w.nodes → Tells w }
 {}
 
-/// Each step keeps what the lists of a world tell of one another.
+/// Each step that leaves the storages honest keeps what the lists of a world tell of one another.
 pub fn steps_tell<S: Stable>()
     ensures { (old new : WorldState S) (event : Event)
-        → Steps (⟦<Scripted<S> as Stable>⟧) old event new → Tells old → Tells new }
+        → Steps (⟦<Scripted<S> as Stable>⟧) old event new → AreHonest ⟦<Scripted<S> as Stable>⟧.IsHonest new.nodes
+        → Tells old → Tells new }
 {}
 
 /// Where any two nodes that learnt a slot learnt one command there, at a slot of the log, a no-op or a request that was

@@ -1,8 +1,7 @@
-//! What a world remembers of what happens in it, and what holds of all that may happen.
+//! All nodes of a run as one state machine: what a world remembers, what each event does to it, and what holds of every run.
 //!
-//! A world is all nodes of a run, what was sent between them, and what came of each step: `specs/Worlds.antt` says what it
-//! holds and what each event makes of it, `specs/Rounds.antt` what a round by hand is. No world is here: the crate `world`
-//! makes one, whose calls keep what is said of it here.
+//! `specs/Worlds.antt` defines a world and its steps, `specs/Rounds.antt` a manual round, `specs/Safety.antt` what is promised.
+//! No code runs here: the crate `world` has the code, and its calls keep what is defined here.
 #![tactic(auto)]
 
 mod explaining;

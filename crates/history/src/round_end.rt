@@ -11,6 +11,9 @@ pub enum RoundEnd {
     NotAQuorum,
     /// The lowest member that is down. Nothing was done.
     Down(NodeId),
+    /// The lowest member whose acceptor may not speak of the node's position any more, as its floor is above it. All are up, and
+    /// nothing was done.
+    Behind(NodeId),
     /// The node refused to begin a campaign, as its log is full or its rounds are used up. Nothing was done.
     Refused(NodeFault),
     /// A member went down on the way, which ended the round at once.

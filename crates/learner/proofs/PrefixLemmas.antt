@@ -8,7 +8,7 @@ use Rattle.synod.proofs.Puts.{put_cases}
 use Rattle.synod.specs.declared.slot.TheConstants.{SLOTS}
 use Rattle.sessions.specs.declared.command.Command.{Command}
 use Rattle.learner.specs.declared.learned.Learned.{Learned}
-use Rattle.learner.specs.Learning.{Learning, first_unlearnt, prefix, with_learnt, HearsVote, HearsDecided}
+use Rattle.learner.specs.Learning.{Learning, first_unlearnt, prefix, unlearnt_from, with_learnt, HearsVote, HearsDecided}
 use Rattle.learner.specs.Learning.{ignores, hears, learns, ignores_decided, learns_decided}
 use Rattle.learner.specs.Prefixes.{IsLearntTo, IsPrefix}
 
@@ -63,6 +63,18 @@ prefix_is l within = is_prefix l.learnt l.first l.first (SLOTS - l.first)
 pub prefix_only : (l : Learning) (p : ℕ) → IsPrefix l.learnt l.first p → p ≡ prefix l
 prefix_only l p is = one_prefix l.learnt l.first p (prefix l) is
     (prefix_is l (omega (arith, is.learnt_to.from, is.learnt_to.in_log)))
+
+-- where nothing is learnt yet, the first slot is the prefix
+pub nothing_learnt_yet : (learnt : ℕ → Option Command) (first : ℕ) → first ≤ SLOTS → ((s : ℕ) → learnt s ≡ None)
+    → IsPrefix learnt first first
+nothing_learnt_yet learnt first within none = record {
+  learnt_to = record { from = omega arith; in_log = within; below = λ s a b. absurd (omega (arith, a, b)) };
+  here = λ _ some. absurd (let bad : false ≡ true = sym (ap is_some (none first)) ∙ some in cc);
+}
+
+pub unlearnt_prefix : (nodes first : ℕ) → first ≤ SLOTS → first ≡ prefix (unlearnt_from nodes first)
+unlearnt_prefix nodes first within =
+    prefix_only (unlearnt_from nodes first) first (nothing_learnt_yet (λ _. None) first within (λ s. refl))
 
 -- where all that was learnt still is, as many slots are learnt in turn
 pub learnt_on : (learnt learnt_then : ℕ → Option Command) (first p : ℕ) → ((s : ℕ) → IsSome (learnt s) → IsSome (learnt_then s))

@@ -24,9 +24,13 @@ pub record Learning : Type 0 where
 abbrev pub unheard : Heard
 unheard b a = None
 
+-- nothing is heard or learnt yet, and each slot from the first on is kept
+abbrev pub unlearnt_from : ℕ → ℕ → Learning
+unlearnt_from nodes first = record { nodes = nodes; first = first; learnt = λ _. None; heard = λ _. unheard }
+
 -- nothing is heard or learnt yet, and every slot is kept
 abbrev pub unlearnt : ℕ → Learning
-unlearnt nodes = record { nodes = nodes; first = zero; learnt = λ _. None; heard = λ _. unheard }
+unlearnt nodes = unlearnt_from nodes zero
 
 -- what is learnt at a slot
 abbrev pub learnt_at : Learning → ℕ → Option Command

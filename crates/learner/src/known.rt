@@ -1,9 +1,9 @@
-//! What is known of all slots: what is learnt of the first ones lies in a row.
+//! What is known of all slots: what is learnt from the first one on lies in a row.
 
-ghost use Rattle.std.specs.Prelude.{◌≡◌, ◌≢◌, ℕ, Some, None, IfOk, OnOk, OnErr, is_some, slice_get};
+ghost use Rattle.std.specs.Prelude.{◌≡◌, ◌≢◌, ◌↔◌, ◌+◌, ℕ, Some, None, IfOk, IsTrue, OnOk, OnErr, is_some, length};
 ghost use Rattle.std.specs.Option.{option_copied};
 ghost use Rattle.synod.specs.Records.{put};
-ghost use Rattle.learner.specs.Known.{known_learnt, known_heard};
+ghost use Rattle.learner.specs.Known.{row_from, known_learnt, known_heard};
 ghost use Rattle.learner.specs.Learning.{unheard};
 ghost use Rattle.learner.specs.Prefixes.{IsLearntTo, IsPrefix};
 ghost use Rattle.learner.specs.Slots.{SlotHears};
@@ -14,22 +14,25 @@ use std::alloc::{AllocError, Global};
 use synod::{SLOTS, Slot, Vote};
 use wire::{Held, NodeId, Nodes};
 
-/// What is known of each slot. Slots are learnt nearly in turn: what is learnt of the first ones is found by its place.
+/// What is known of each slot. Slots are learnt nearly in turn: what is learnt from the first one on is found by its place.
 #[derive(Drop)]
 pub(super) struct Known {
-    // What is learnt at slot 0, 1 and so on.
+    // The slot at which the row begins.
+    from: u32,
+    // What is learnt at that slot, at the next and so on.
     settled: Vec<Held>,
     // What is known of the others.
     others: Slots,
 }
 
 impl Known {
-    /// Nothing is known.
-    pub(super) fn new(alloc: Global) -> Known
+    /// Nothing is known. The row is to begin at this slot.
+    pub(super) fn new(alloc: Global, from: u32) -> Known
         ensures learnt { (s : ℕ) → known_learnt result s ≡ None }
         ensures heard { (s : ℕ) → known_heard result s ≡ unheard }
     {
         Known {
+            from,
             settled: Vec::new(alloc),
             others: Slots::new(alloc),
         }
@@ -39,10 +42,27 @@ impl Known {
     pub(super) fn learnt(&self, slot: Slot) -> Option<&Held>
         ensures { option_copied result ≡ known_learnt self.now slot }
     {
-        match self.settled.get(slot.value() as usize) {
+        match self.settled_at(slot) {
             Some(held) => Some(held),
             None => self.others.learnt(slot),
         }
+    }
+
+    /// The command of a slot of the row.
+    fn settled_at(&self, slot: Slot) -> Option<&Held>
+        ensures { option_copied result ≡ row_from self.now.from self.now.settled.items slot }
+    {
+        if slot.value() < self.from {
+            return None;
+        }
+        self.settled.get((slot.value() - self.from) as usize)
+    }
+
+    /// Whether the slot is the next of the row.
+    fn is_next(&self, slot: Slot) -> bool
+        ensures { IsTrue result ↔ (slot ≡ self.now.from + length self.now.settled.items) }
+    {
+        slot.value() as usize == self.from as usize + self.settled.len()
     }
 
     /// The first slot that isn't learnt, where none below this one, from the first on, isn't. What is learnt up to there is put
@@ -68,7 +88,7 @@ impl Known {
         ensures learnt { known_learnt self.new ≡ known_learnt self.old }
         ensures heard { known_heard self.new ≡ known_heard self.old }
     {
-        if slot.value() as usize != self.settled.len() {
+        if !self.is_next(slot) {
             return self.learnt(slot).is_some();
         }
         if let Err(_) = self.settled.try_reserve(1) {
@@ -81,13 +101,6 @@ impl Known {
             }
             None => false,
         }
-    }
-
-    /// Whether the slot is of the row.
-    fn is_settled(&self, slot: Slot) -> bool
-        ensures { result ≡ is_some (slice_get self.now.settled.items slot) }
-    {
-        self.settled.get(slot.value() as usize).is_some()
     }
 
     /// A node tells that it voted so. Whether the slot is newly learnt by it.
@@ -108,7 +121,7 @@ impl Known {
         ensures learnt { OnErr result (known_learnt self.new ≡ known_learnt self.old) }
         ensures heard { OnErr result (known_heard self.new ≡ known_heard self.old) }
     {
-        if self.is_settled(vote.slot) {
+        if self.settled_at(vote.slot).is_some() {
             return Ok(false);
         }
         self.others.hear(alloc, nodes, from, vote)
@@ -124,7 +137,7 @@ impl Known {
         ensures learnt_unchanged { OnErr result (known_learnt self.new ≡ known_learnt self.old) }
         ensures heard_unchanged { OnErr result (known_heard self.new ≡ known_heard self.old) }
     {
-        if slot.value() as usize != self.settled.len() {
+        if !self.is_next(slot) {
             return self.others.learn(slot, command);
         }
         if let Err(_) = self.settled.try_reserve(1) {

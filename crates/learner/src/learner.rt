@@ -41,18 +41,26 @@ impl Drop for Learner {
 }
 
 impl Learner {
-    ghost use Rattle.learner.specs.Learning.{unlearnt, learnt_at, prefix, IsOpen, Counts, IsUntold, HearsVote, HearsDecided};
+    ghost use Rattle.learner.specs.Learning.{unlearnt, unlearnt_from, learnt_at, prefix, IsOpen, Counts, IsUntold, HearsVote, HearsDecided};
     ghost use Rattle.learner.specs.State.{learning_of};
 
     /// Nothing is heard or learnt yet.
     pub fn new(alloc: Global, nodes: Nodes) -> Learner
         ensures { learning_of result ≡ unlearnt nodes }
     {
+        Learner::start_at(alloc, nodes, 0)
+    }
+
+    /// Nothing is heard or learnt yet, and slots are kept from this one on.
+    pub fn start_at(alloc: Global, nodes: Nodes, first: u32) -> Learner
+        requires { first ≤ SLOTS }
+        ensures { learning_of result ≡ unlearnt_from nodes first }
+    {
         Learner {
             nodes,
-            first: 0,
-            slots: Known::new(alloc),
-            prefix: 0,
+            first,
+            slots: Known::new(alloc, first),
+            prefix: first,
         }
     }
 

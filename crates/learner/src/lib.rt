@@ -1,6 +1,6 @@
-//! One node's learner: what it has heard of votes at each slot, and what it has learnt from them.
+//! One node's learner: the votes that it has heard of at each slot, and the commands that it has learnt from them.
 //!
-//! `specs/Learning.antt` says what a learner makes of each piece of news.
+//! `specs/Learning.antt` defines the effect of each message.
 #![tactic(auto)]
 
 mod allowed;

@@ -12,6 +12,7 @@ use Rattle.sessions.specs.declared.command.Command.{Command}
 use Rattle.sessions.specs.declared.command.Command.TheVariants.{Request}
 use Rattle.acceptor.specs.Accepting.{after_prepare, accept_answer, after_accept}
 use Rattle.acceptor.proofs.AllowedLemmas.{prepare_answers, accept_answers}
+use Rattle.acceptor.proofs.VerdictLemmas.{floor_prepared, floor_accepted}
 use Rattle.learner.specs.Learning.{learnt_at}
 use Rattle.proposer.specs.Proposing.{Proposing, with_promised, after_nack, sends_again}
 use Rattle.proposer.specs.Protocol.{submitting, frames_of, frames_of_all}
@@ -55,7 +56,8 @@ module _ (old new : Mind) (said : Response) (x : Local Command) (stands : MindSt
       let in' : act.Input Command = act.Came from (message_of (Prepare ballot first)) in
       goes_to old.nodes old.id in' x _ new said (answer_sends old.id old.nodes from answer) _ leaves says
       (answered_frames old.id old.nodes from answer)
-      (goes_answering old.nodes old.id in' x old (after_prepare old.accepting ballot) _ stands
+      (goes_answering old.nodes old.id in' x old (after_prepare old.accepting ballot first) _ stands
+      (floor_prepared old.accepting ballot first)
       (prepare_answers (fleet old.nodes) old.id in' x old.accepting old.proposing.round stands.records
       old.nodes from first ballot answer answers))
 
@@ -64,7 +66,7 @@ module _ (old new : Mind) (said : Response) (x : Local Command) (stands : MindSt
       let in' : act.Input Command = act.Came from (message_of (Accept v)) in
       goes_to old.nodes old.id in' x _ new said (answer_sends old.id old.nodes from (accept_answer old.accepting v)) _ leaves says
       (answered_frames old.id old.nodes from (accept_answer old.accepting v))
-      (goes_answering old.nodes old.id in' x old (after_accept old.accepting v) _ stands
+      (goes_answering old.nodes old.id in' x old (after_accept old.accepting v) _ stands (floor_accepted old.accepting v)
       (accept_answers (fleet old.nodes) old.id in' x old.accepting old.proposing.round stands.records old.nodes from v refl))
 
   -- ---- the learner is asked

@@ -1,5 +1,5 @@
 -- What stands for a node after some acts of it.
-use Rattle.std.proofs.Common.{◌≡◌, ℕ, List, [], ◌++◌, map, refl, sym, ap, ◌∙◌, subst, append_assoc, append-nil}
+use Rattle.std.proofs.Common.{◌≡◌, ℕ, List, [], ◌++◌, map, refl, sym, ap, ◌∙◌, subst, append_assoc, append-nil, arith}
 use Rattle.synod.specs.Messages.{Frame}
 use Rattle.synod.specs.Acts as act
 use Rattle.synod.specs.Acts.{Local, Does}
@@ -43,12 +43,14 @@ proposer_changed m x p y s h promise vote floor learnt heard at = record {
   };
   proposer = h;
   position_ = at ∙ s.position_;
+  level = s.level;
 }
 
 -- the machine is nothing to the protocol
 pub machine_changed : (m : Mind) (x : Local Command) (machine : MachineState) → MindStands m x
     → MindStands (record m { machine = machine }) x
-machine_changed m x machine s = record { records = s.records; learner = s.learner; proposer = s.proposer; position_ = s.position_ }
+machine_changed m x machine s =
+    record { records = s.records; learner = s.learner; proposer = s.proposer; position_ = s.position_; level = s.level }
 
 module _ (nodes i : ℕ) (input : act.Input Command) where
   -- ---- ways
@@ -89,10 +91,11 @@ module _ (nodes i : ℕ) (input : act.Input Command) where
     submitted = refl;
   }
 
-  -- its acceptor answers
+  -- its acceptor answers, and has the floor that it had
   pub goes_answering : (x : Local Command) (m : Mind) (a : Accepting) (frames : List (Frame Command)) → MindStands m x
-      → MayAnswer (fleet nodes) i input x a m.proposing.round frames → MayGo nodes i input x (record m { accepting = a }) frames
-  goes_answering x m a frames s h = record {
+      → a.floor ≡ m.accepting.floor → MayAnswer (fleet nodes) i input x a m.proposing.round frames
+      → MayGo nodes i input x (record m { accepting = a }) frames
+  goes_answering x m a frames s same h = record {
     after = record x { records = h.after; sent = x.sent ++ frames };
     does = h.does;
     stands = record {
@@ -100,6 +103,7 @@ module _ (nodes i : ℕ) (input : act.Input Command) where
       learner = s.learner;
       proposer = record { round = h.stands.round_; campaign = s.proposer.campaign; waiting = s.proposer.waiting };
       position_ = s.position_;
+      level = omega (arith, s.level, same);
     };
     sent_ = refl;
     learnt = refl;

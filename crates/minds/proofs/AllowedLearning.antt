@@ -1,5 +1,6 @@
 -- What a node makes of news by which it may learn a command is allowed.
 use Rattle.std.proofs.Common.{◌≡◌, ℕ, suc, ◌≤◌, List, [], ◌∷◌, ◌++◌, map, inr, Option, Some, None, refl, sym, ap, ◌∙◌, subst, append-nil}
+use Rattle.std.proofs.Common.{arith}
 use Rattle.std.proofs.lemmas.List.{map-append}
 use Rattle.synod.specs.declared.vote.Vote.{Vote}
 use Rattle.synod.specs.Records.{put}
@@ -87,6 +88,7 @@ heard_lem nodes i in' x old l c learned s grows h =
         learner = record { learnt = h.stands.learnt; heard = h.stands.heard };
         proposer = next.stands;
         position_ = refl;
+        level = omega (arith, s.level, grows);
       };
       sent = refl;
       learnt = refl;

@@ -1,10 +1,9 @@
 -- A node that has loaded its records holds what they say, and nothing else.
-use Rattle.std.proofs.Common.{◌≡◌, ℕ, zero, ◌<◌, ◌^◌, List, [], Option, Some, None, true, false, refl, sym, ap, subst, ◌∙◌, arith}
+use Rattle.std.proofs.Common.{◌≡◌, ℕ, zero, ◌<◌, ◌^◌, List, [], Option, Some, None, refl, sym, ap, subst, ◌∙◌, arith}
 use Rattle.std.proofs.Common.{◌≤◌}
 use Rattle.byteorder.specs.Endian.{big_number, big_bytes}
 use Rattle.byteorder.specs.Numbers.{big_number-reads_back}
-use Rattle.synod.specs.Volatile as synod_volatile
-use Rattle.synod.specs.Volatile.{blank}
+use Rattle.synod.specs.Volatile.{Volatile, blank}
 use Rattle.synod.specs.Acts.{Local}
 use Rattle.synod.proofs.Thinking.{none_in}
 use Rattle.stable.specs.Records.{Records}
@@ -13,13 +12,12 @@ use Rattle.acceptor.specs.Accepting.{Accepting}
 use Rattle.acceptor.specs.Protocol.{RecordsStand}
 use Rattle.acceptor.proofs.SayingOne.{one_promise, one_floor, one_vote_each}
 use Rattle.sessions.specs.declared.command.Command.{Command}
-use Rattle.learner.specs.Learning.{Learning, prefix, unlearnt}
+use Rattle.learner.specs.Learning.{Learning, unlearnt_from}
 use Rattle.learner.specs.Protocol.{LearnerStands}
-use Rattle.learner.proofs.PrefixLemmas.{prefix_only}
 use Rattle.proposer.specs.Proposing.{Proposing, loaded}
 use Rattle.proposer.specs.Protocol.{ProposerStands}
 use Rattle.minds.specs.Loading.{IsLoaded, LoadsRound}
-use Rattle.minds.specs.Minds.{Mind}
+use Rattle.minds.specs.Minds.{Mind, position}
 use Rattle.minds.specs.Protocol.{MindStands, RecordsHold, SaysRound}
 
 -- ---- a record says one round
@@ -39,23 +37,21 @@ loads_round None id nodes p h =
     (none, h ∙ ap (loaded id nodes) (sym none))
 loads_round (Some bytes) id nodes p h = (h.0, h.1)
 
--- nothing is learnt
-unlearnt_prefix : (nodes : ℕ) → zero ≡ prefix (unlearnt nodes)
-unlearnt_prefix nodes = prefix_only (unlearnt nodes) zero (record {
-  learnt_to = record { from = omega arith; in_log = omega arith; below = λ s from to. absurd (omega (arith, to)) };
-  here = λ _ some. (let bad : false ≡ true = some in absurd (cc));
-})
+-- a mind that holds nothing but its position
+abbrev pub blank_at : ℕ → Volatile Command
+blank_at position = record blank { position = position }
 
-unlearnt_stands : (nodes : ℕ) → LearnerStands (unlearnt nodes) (blank {C = Command})
-unlearnt_stands nodes = record {
+unlearnt_stands : (nodes first position : ℕ) → LearnerStands (unlearnt_from nodes first) (blank_at position)
+unlearnt_stands nodes first position = record {
   learnt = λ s. refl;
   heard = λ s a b c within told. (let bad : None ≡ Some c = told in absurd (cc));
 }
 
-idle_stands : (id nodes round : ℕ) (x : Local Command) → x.records.round ≡ round → x.mind ≡ blank → ProposerStands (loaded id nodes round) x
-idle_stands id nodes round x same none = record {
+idle_stands : (id nodes round position : ℕ) (x : Local Command) → x.records.round ≡ round → x.mind ≡ blank_at position
+    → ProposerStands (loaded id nodes round) x
+idle_stands id nodes round position x same none = record {
   round = same;
-  campaign = ap (λ (s : synod_volatile.Volatile Command). s.campaign) none;
+  campaign = ap (λ (s : Volatile Command). s.campaign) none;
   waiting = λ r c. absurd (none_in r c);
 }
 
@@ -67,7 +63,7 @@ module _ (records : Records) (id nodes : ℕ) (m : Mind) (loads : IsLoaded recor
   loaded_holds = record { acceptor = loads.accepting; proposer = round_loaded.0 }
 
   module _ (a : Accepting) (round : ℕ) (x : Local Command) (holds : RecordsHold records a round) (stands : RecordsStand a round x.records)
-      (none : x.mind ≡ blank) where
+      (none : x.mind ≡ blank_at (position m)) where
     floors_one : a.floor ≡ m.accepting.floor
     floors_one = one_floor records a m.accepting holds.acceptor loads.accepting
 
@@ -86,8 +82,10 @@ module _ (records : Records) (id nodes : ℕ) (m : Mind) (loads : IsLoaded recor
     loaded_stands = record {
       records = records_stand;
       learner = subst (LearnerStands m.learning) (sym none)
-          (subst (λ (l : Learning). LearnerStands l (blank {C = Command})) (sym loads.learning) (unlearnt_stands nodes));
+          (subst (λ (l : Learning). LearnerStands l (blank_at (position m))) (sym loads.learning)
+          (unlearnt_stands nodes m.accepting.floor (position m)));
       proposer = subst (λ (p : Proposing). ProposerStands p x) (sym round_loaded.1)
-          (idle_stands id nodes m.proposing.round x records_stand.round_ none);
-      position_ = ap (λ (s : synod_volatile.Volatile Command). s.position) none ∙ unlearnt_prefix nodes ∙ ap prefix (sym loads.learning);
+          (idle_stands id nodes m.proposing.round (position m) x records_stand.round_ none);
+      position_ = ap (λ (s : Volatile Command). s.position) none;
+      level = omega (arith, loads.accepting.floor);
     }

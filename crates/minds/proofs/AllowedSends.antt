@@ -70,6 +70,7 @@ pub answered_frames : (i nodes to : ℕ) (a : Answer) → map frame_of (answer_s
 answered_frames i nodes to (answer.Promise p) = refl
 answered_frames i nodes to (answer.Accepted v) = frames_to_all i nodes (Accepted v)
 answered_frames i nodes to (answer.Nack n) = refl
+answered_frames i nodes to (answer.Behind floor) = refl
 
 -- ---- questions
 -- the envelope is from the node, and safety says nothing of its message

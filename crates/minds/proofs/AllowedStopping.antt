@@ -58,7 +58,7 @@ module _ (m : Mind) (x : Local Command) (stands : MindStands m x) where
   message_stops : (from : ℕ) (message : Message) → May (act.Came from (message_of message)) (accepting_on m message) m.proposing.round
   message_stops from (Prepare ballot first) =
       let in' : act.Input Command = act.Came from (message_of (Prepare ballot first)) in
-      stops_written in' _ (prepare_writes (fleet m.nodes) m.id in' x m.accepting m.proposing.round stands.records ballot)
+      stops_written in' _ (prepare_writes (fleet m.nodes) m.id in' x m.accepting m.proposing.round stands.records ballot first)
   message_stops from (Accept v) =
       let in' : act.Input Command = act.Came from (message_of (Accept v)) in
       stops_written in' _ (accept_writes (fleet m.nodes) m.id in' x m.accepting m.proposing.round stands.records v refl)

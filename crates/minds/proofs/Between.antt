@@ -71,6 +71,7 @@ module _ (nodes id : ℕ) (there : id < nodes) where
   answers to (answer.Promise p) of_run = one to (Promise p) of_run
   answers to (answer.Accepted v) of_run = each nodes (Accepted v) (omega arith)
   answers to (answer.Nack n) of_run = one to (Nack n) of_run
+  answers to (answer.Behind floor) of_run = none
 
   tells : (to slot : ℕ) (o : Option Command) → to < nodes → Between (decided_sends id to slot o)
   tells to slot None of_run = none

@@ -77,6 +77,7 @@ answers_few : (from n to : ℕ) (a : Answer) → n ≤ 7 → length (answer_send
 answers_few from n to (answer.Promise p) few = omega arith
 answers_few from n to (answer.Accepted v) few = omega (arith, few, to_all-length from n (Accepted v))
 answers_few from n to (answer.Nack v) few = omega arith
+answers_few from n to (answer.Behind floor) few = omega arith
 
 tells_few : (from to slot : ℕ) (o : Option Command) → length (decided_sends from to slot o) ≤ 1
 tells_few from to slot None = omega arith

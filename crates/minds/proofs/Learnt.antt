@@ -3,19 +3,23 @@ use Rattle.std.proofs.Common.{◌≡◌, ℕ, zero, suc, ◌+◌, ◌-◌, ◌<�
 use Rattle.std.proofs.Common.{Option, Some, None, IsSome, inl, inr, refl, sym, ap, ◌∙◌, subst, arith}
 use Rattle.std.proofs.lemmas.Option.{same_Some}
 use Rattle.synod.specs.Records.{put}
+use Rattle.synod.specs.declared.slot.TheConstants.{SLOTS}
 use Rattle.synod.specs.declared.vote.Vote.{Vote}
 use Rattle.synod.proofs.Puts.{put_cases, put_same}
+use Rattle.stable.specs.Records.{Records}
+use Rattle.acceptor.specs.Accepting.{Accepting, RecordsSay}
 use Rattle.sessions.specs.declared.command.Command.{Command}
-use Rattle.learner.specs.Learning.{Learning, with_learnt, HearsVote, HearsDecided}
+use Rattle.learner.specs.Learning.{Learning, prefix, with_learnt, HearsVote, HearsDecided}
 use Rattle.learner.specs.Learning.HearsVote.{ignores, hears, learns}
 use Rattle.learner.specs.Learning.HearsDecided.{ignores_decided, learns_decided}
 use Rattle.learner.specs.declared.learned.Learned.{Learned}
+use Rattle.learner.proofs.PrefixLemmas.{unlearnt_prefix}
 use Rattle.wire.specs.declared.frames.envelope.Envelope.{Envelope}
 use Rattle.minds.specs.declared.input.Input.{Input}
 use Rattle.minds.specs.declared.outputs.LogEntry.{LogEntry}
 use Rattle.minds.specs.Composition.{IsMeaningOf, executed_from}
 use Rattle.minds.specs.Executing.{commands, with_command}
-use Rattle.minds.specs.Loading.{IsFresh}
+use Rattle.minds.specs.Loading.{IsBaseOf, IsFresh, IsLoaded}
 use Rattle.minds.specs.Minds.{Mind, learnt_in, position}
 use Rattle.minds.specs.Outputs.{Response}
 use Rattle.minds.specs.Taking.{Takes, Hears, Learns}
@@ -138,9 +142,27 @@ learnt_behind base m h slot c above there =
     ∙ learnt_there m.learning.learnt first n (slot - length base) c (learnt_below base m h)
     (sym (get_behind base (commands m.learning.learnt first n) slot above) ∙ there)
 
--- one that has just begun is the meaning of nothing, and has learnt nothing
-pub fresh_means_nothing : (id nodes : ℕ) (m : Mind) → IsFresh id nodes m → IsMeaningOf [] m × ((slot : ℕ) → learnt_in m slot ≡ None)
-fresh_means_nothing id nodes m h = (
-  meaning_begun m nodes h.learning h.machine,
-  λ slot. ap (λ (l : Learning). l.learnt slot) h.learning,
-)
+-- one that has just begun has learnt nothing
+pub fresh_has_learnt_nothing : (id nodes : ℕ) (m : Mind) → IsFresh id nodes m → (slot : ℕ) → learnt_in m slot ≡ None
+fresh_has_learnt_nothing id nodes m h slot = ap (λ (l : Learning). l.learnt slot) h.learning
+
+-- so its position is the first slot that it keeps
+pub fresh_begins : (id nodes : ℕ) (m : Mind) → IsFresh id nodes m → position m ≡ m.learning.first
+fresh_begins id nodes m h = ap prefix h.learning ∙ sym (unlearnt_prefix nodes m.learning.first h.first_in_log)
+
+-- one that has loaded its records begins at its acceptor's floor
+pub loaded_begins : (records : Records) (id nodes : ℕ) (m : Mind) → IsLoaded records id nodes m → position m ≡ m.accepting.floor
+loaded_begins records id nodes m h =
+    ap prefix h.learning ∙ sym (unlearnt_prefix nodes m.accepting.floor (omega (arith, h.accepting.floor)))
+
+-- a list with which a node may begin is as long as its acceptor's floor says
+base_reaches : (records : Records) (a : Accepting) (base : List Command) → RecordsSay records a → IsBaseOf records base
+    → (length base ≡ a.floor) × (a.floor ≤ SLOTS)
+base_reaches records a base says is = (ap length is ∙ sym says.floor, omega (arith, says.floor))
+
+-- one that has loaded its records is the meaning of each list with which it may begin
+pub loaded_means : (records : Records) (id nodes : ℕ) (m : Mind) (base : List Command) → IsLoaded records id nodes m
+    → IsBaseOf records base → IsMeaningOf base m
+loaded_means records id nodes m base h is =
+    let reaches = base_reaches records m.accepting base h.accepting is in
+    meaning_begun base m nodes m.accepting.floor h.learning reaches.0 reaches.1 (h.machine base is)

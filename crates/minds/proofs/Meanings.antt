@@ -8,7 +8,7 @@ use Rattle.synod.specs.declared.vote.Vote.{Vote}
 use Rattle.sessions.specs.Meaning.{Answers}
 use Rattle.sessions.specs.Standing.{StandsFor, AnswersAll}
 use Rattle.sessions.specs.declared.command.Command.{Command}
-use Rattle.learner.specs.Learning.{Learning, prefix, unlearnt, HearsVote, HearsDecided}
+use Rattle.learner.specs.Learning.{Learning, prefix, unlearnt_from, HearsVote, HearsDecided}
 use Rattle.learner.specs.Learning.HearsVote.{ignores, hears, learns}
 use Rattle.learner.specs.Learning.HearsDecided.{ignores_decided, learns_decided}
 use Rattle.learner.specs.Prefixes.{IsPrefix}
@@ -173,16 +173,18 @@ module _ (base : List Command) (old new : Mind) (said : Response) (h : IsMeaning
   goes_on i k = hearing_goes_on i (heard_of old new said i k)
 
 -- ---- a node
--- one that has just begun, and has learnt nothing
-pub meaning_begun : (m : Mind) (nodes : ℕ) → m.learning ≡ unlearnt nodes → StandsFor m.machine [] → IsMeaningOf [] m
-meaning_begun m nodes e h =
+-- one that has just begun with a list, and has learnt nothing
+pub meaning_begun : (base : List Command) (m : Mind) (nodes first : ℕ) → m.learning ≡ unlearnt_from nodes first → length base ≡ first
+    → first ≤ SLOTS → StandsFor m.machine base → IsMeaningOf base m
+meaning_begun base m nodes first e many within h =
     let none : commands m.learning.learnt m.learning.first (position m - m.learning.first) ≡ [] =
     ap (λ (l : Learning). commands l.learnt m.learning.first (position m - m.learning.first)) e
     ∙ commands_none m.learning.first (position m - m.learning.first) in
     record {
-      begun = sym (ap (λ (l : Learning). l.first) e);
-      in_log = subst (λ (l : Learning). l.first ≤ SLOTS) (sym e) (omega arith);
-      stands = subst (λ (cs : List Command). StandsFor m.machine cs) (sym none) h;
+      begun = many ∙ sym (ap (λ (l : Learning). l.first) e);
+      in_log = subst (λ (l : Learning). l.first ≤ SLOTS) (sym e) within;
+      stands = subst (λ (cs : List Command). StandsFor m.machine cs)
+          (sym (ap (λ (cs : List Command). base ++ cs) none ∙ append-nil base)) h;
     }
 
 -- one that was up, and took an input or not

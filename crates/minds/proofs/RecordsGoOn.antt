@@ -1,11 +1,15 @@
 -- Records go on saying what a node holds.
-use Rattle.std.proofs.Common.{◌≡◌, ℕ, ◌^◌, List, [], Option, Some, None, Bool, true, false, nat_le}
+use Rattle.std.proofs.Common.{◌≡◌, ◌≤◌, ℕ, ◌^◌, List, [], Option, Some, None, Bool, true, false, nat_le}
 use Rattle.std.proofs.Common.{refl, sym, ap, ◌∙◌, subst, arith}
 use Rattle.std.proofs.lemmas.Bool.{cond_both, leb-false}
+use Rattle.std.proofs.lemmas.Option.{none-some}
 use Rattle.byteorder.specs.Endian.{big_bytes}
-use Rattle.stable.specs.Records.{Records}
+use Rattle.stable.specs.Records.{Records, Sets}
+use Rattle.stable.specs.declared.key.Key.TheVariants as key
 use Rattle.acceptor.specs.Accepting.{Accepting, Write, records_after, after_prepare}
 use Rattle.acceptor.proofs.RecordLemmas.{prepare_kept, accept_kept, RecordsSay-round, prepare_leaves_round, accept_leaves_round}
+use Rattle.acceptor.proofs.VerdictLemmas.{floor_prepared, floor_accepted}
+use Rattle.acceptor.proofs.VoteLemmas.{other_key, promise_is_no_vote, cast_above}
 use Rattle.learner.specs.Learning.{Learning}
 use Rattle.learner.specs.declared.learned.Learned.{Learned}
 use Rattle.proposer.specs.Proposing.{Proposing, next_round, with_promised}
@@ -36,10 +40,11 @@ no_write records w a round e both = subst (λ (x : Write). RecordsHold (records_
 message_holds : (m : Mind) (message : Message) (records : Records) (w : Write) → WritesOnMessage m message w → MessageFits 7 message
     → RecordsHold records m.accepting m.proposing.round → RecordsHold (records_after records w) (accepting_on m message) m.proposing.round
 message_holds m (Prepare ballot first) records w e fits both =
-    subst (λ (x : Write). RecordsHold (records_after records x) (after_prepare m.accepting ballot) m.proposing.round) (sym e) (record {
-      acceptor = prepare_kept records m.accepting ballot fits.0 both.acceptor;
+    subst (λ (x : Write). RecordsHold (records_after records x) (after_prepare m.accepting ballot first) m.proposing.round) (sym e)
+    (record {
+      acceptor = prepare_kept records m.accepting ballot first fits.0 both.acceptor;
       proposer = subst (λ (o : Option (List ℕ)). SaysRound o m.proposing.round)
-          (sym (prepare_leaves_round records m.accepting ballot)) both.proposer;
+          (sym (prepare_leaves_round records m.accepting ballot first)) both.proposer;
     })
 message_holds m (Accept v) records w is fits both = record {
   acceptor = accept_kept records m.accepting v w (record { ballot = fits.ballot; command = fits.command }) is both.acceptor;
@@ -75,6 +80,43 @@ written_holds m input.Timeout records w none e fits both =
       proposer = drawn m none;
     })
 written_holds m input.Tick records w none e fits both = no_write records w m.accepting m.proposing.round e both
+
+-- ---- the floor
+-- no message changes it
+floor_on : (m : Mind) (message : Message) → (accepting_on m message).floor ≡ m.accepting.floor
+floor_on m (Prepare ballot first) = floor_prepared m.accepting ballot first
+floor_on m (Accept v) = floor_accepted m.accepting v
+floor_on m other = refl
+
+floor_if : (m : Mind) (e : Envelope) (b : Bool) → (accepting_if m e b).floor ≡ m.accepting.floor
+floor_if m e false = refl
+floor_if m e true = floor_on m e.message
+
+-- nor does any input
+pub floor_after : (m : Mind) (i : Input) → (accepting_after m i).floor ≡ m.accepting.floor
+floor_after m (input.Message e) = floor_if m e (concerns m.id m.nodes e)
+floor_after m other = refl
+
+-- a vote is written at a slot from the floor on
+vote_above_on : (m : Mind) (message : Message) (w : Write) → WritesOnMessage m message w → (slot : ℕ) (bytes : List ℕ)
+    → w ≡ Some (Sets (key.Vote slot) bytes) → m.accepting.floor ≤ slot
+vote_above_on m (Prepare ballot first) w writes slot bytes e =
+    absurd (promise_is_no_vote m.accepting ballot first slot bytes (sym writes ∙ e))
+vote_above_on m (Accept v) w is slot bytes e = cast_above m.accepting v w is slot bytes e
+vote_above_on m other w none slot bytes e = absurd (none-some (Sets (key.Vote slot) bytes) (sym none ∙ e))
+
+vote_above_if : (m : Mind) (e : Envelope) (b : Bool) (w : Write) → WritesOnEnvelope m e b w → (slot : ℕ) (bytes : List ℕ)
+    → w ≡ Some (Sets (key.Vote slot) bytes) → m.accepting.floor ≤ slot
+vote_above_if m e false w none slot bytes is = absurd (none-some (Sets (key.Vote slot) bytes) (sym none ∙ is))
+vote_above_if m e true w writes slot bytes is = vote_above_on m e.message w writes slot bytes is
+
+pub vote_above : (m : Mind) (i : Input) (w : Write) → Writes m i w → (slot : ℕ) (bytes : List ℕ) → w ≡ Some (Sets (key.Vote slot) bytes)
+    → m.accepting.floor ≤ slot
+vote_above m (input.Submit client number op) w none slot bytes e = absurd (none-some (Sets (key.Vote slot) bytes) (sym none ∙ e))
+vote_above m (input.Message e) w writes slot bytes is = vote_above_if m e (concerns m.id m.nodes e) w writes slot bytes is
+vote_above m input.Timeout w round slot bytes e =
+    absurd (other_key key.Round slot (big_bytes 8 (next_round m.proposing)) bytes (λ same. omega (arith, same)) (sym round ∙ e))
+vote_above m input.Tick w none slot bytes e = absurd (none-some (Sets (key.Vote slot) bytes) (sym none ∙ e))
 
 -- ---- that is what the node holds then
 -- a proposer proposes under the round that it has
@@ -142,3 +184,7 @@ taken_holds m i new said records w none takes writes fits both =
     subst (λ (a : Accepting). RecordsHold (records_after records w) a new.proposing.round) (sym held.accepting_)
     (subst (λ (n : ℕ). RecordsHold (records_after records w) (accepting_after m i) n) (sym held.round_)
     (written_holds m i records w none writes fits both))
+
+-- nor is the floor another where it takes the input
+pub floor_taken : (m : Mind) (i : Input) (new : Mind) (said : Response) → Takes m i new said → new.accepting.floor ≡ m.accepting.floor
+floor_taken m i new said takes = ap (λ (a : Accepting). a.floor) (held_after m i new said takes).accepting_ ∙ floor_after m i

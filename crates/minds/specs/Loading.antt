@@ -1,5 +1,6 @@
 -- What a node holds that has just loaded its records.
-use Rattle.std.specs.Prelude.{◌≡◌, ℕ, ◌⊎◌, List, [], Option, Some, None, Result, IsSome, IfSome, MatchOption, OnOk, OnErr, IfErr, IsErrOf}
+use Rattle.std.specs.Prelude.{◌≡◌, ℕ, ◌≤◌, ◌⊎◌, List, [], Option, Some, None, Result, IsSome, IfSome, MatchOption, OnOk, OnErr}
+use Rattle.std.specs.Prelude.{IfErr, IsErrOf}
 use Rattle.std.specs.Option.{ForSome}
 use Rattle.stable.specs.Records.{Records}
 use Rattle.stable.specs.declared.key.Key.TheVariants as key
@@ -7,7 +8,9 @@ use Rattle.stable.specs.declared.stable.Stable.{Ghosts}
 use Rattle.acceptor.specs.Accepting.{RecordsSay}
 use Rattle.acceptor.specs.Forms.{HasDamagedRecord}
 use Rattle.sessions.specs.Standing.{StandsFor}
-use Rattle.learner.specs.Learning.{unlearnt}
+use Rattle.sessions.specs.declared.command.Command.{Command}
+use Rattle.synod.specs.declared.slot.TheConstants.{SLOTS}
+use Rattle.learner.specs.Learning.{unlearnt_from}
 use Rattle.proposer.specs.Proposing.{Proposing, loaded}
 use Rattle.wire.specs.RecordForms.{IsRoundRecord}
 use Rattle.minds.specs.Minds.{Mind}
@@ -22,25 +25,29 @@ pub record IsMindOf (id nodes : ℕ) (m : Mind) : Type 0 where
   pub learning : m.learning.nodes ≡ nodes
   pub proposing : (m.proposing.id ≡ id) × (m.proposing.nodes ≡ nodes)
 
--- nothing is learnt, nothing waits, no campaign is on its way, and nothing is executed
+-- nothing is learnt, nothing waits, and no campaign is on its way
 pub record IsFresh (id nodes : ℕ) (m : Mind) : Type 0 where
-  pub learning : m.learning ≡ unlearnt nodes
+  pub learning : m.learning ≡ unlearnt_from nodes m.learning.first
+  pub first_in_log : m.learning.first ≤ SLOTS
   pub proposing : m.proposing ≡ loaded id nodes m.proposing.round
-  pub machine : StandsFor m.machine []
 
 -- a proposer that has just loaded the record of its round, if there is one
 abbrev pub LoadsRound : Option (List ℕ) → ℕ → ℕ → Proposing → Type 0
 LoadsRound None id nodes p = p ≡ loaded id nodes 0
 LoadsRound (Some bytes) id nodes p = IsRoundRecord bytes p.round × (p ≡ loaded id nodes p.round)
 
--- the records say what it has promised and voted for, and its round; the rest is as at the start, and nothing is executed
+-- the lists of commands with which a node may begin that has these records: the empty one alone, as no record holds the text of another
+abbrev pub IsBaseOf : Records → List Command → Type 0
+IsBaseOf records base = base ≡ []
+
+-- the records say what it has promised and voted for, its round, and with which commands it begins; the rest is as at the start
 pub record IsLoaded (records : Records) (id nodes : ℕ) (m : Mind) : Type 0 where
   pub number : m.id ≡ id
   pub of_all : m.nodes ≡ nodes
   pub accepting : RecordsSay records m.accepting
-  pub learning : m.learning ≡ unlearnt nodes
+  pub learning : m.learning ≡ unlearnt_from nodes m.accepting.floor
   pub proposing : LoadsRound (records key.Round) id nodes m.proposing
-  pub machine : StandsFor m.machine []
+  pub machine : (base : List Command) → IsBaseOf records base → StandsFor m.machine base
 
 -- the record of the round is that of no round
 abbrev pub HasDamagedRound : Records → Type 0

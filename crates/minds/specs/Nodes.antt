@@ -21,7 +21,7 @@ pub use Rattle.minds.specs.States.{NodeState}
 pub record HasMade {S : Type 0} (storages : Ghosts S) (old new : S) (Writes : Write → Type 0) : Type 0 where
   pub write : Write
   pub made : Writes write
-  pub leaves : HasWritten storages.reads storages.puts old new write
+  pub leaves : HasWritten storages.reads storages.changes old new write
 
 -- the storage is what a failure on such a write made of it
 pub record HasFailedToMake {S : Type 0} (storages : Ghosts S) (old new : S) (Writes : Write → Type 0) : Type 0 where

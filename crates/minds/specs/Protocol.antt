@@ -1,5 +1,5 @@
 -- What a node's inputs and states are to the protocol.
-use Rattle.std.specs.Prelude.{◌≡◌, ℕ, zero, List, [], ◌∷◌, ◌++◌, map, Bool, true, false, Option, Some, None, ⊤}
+use Rattle.std.specs.Prelude.{◌≡◌, ◌≤◌, ℕ, zero, List, [], ◌∷◌, ◌++◌, map, Bool, true, false, Option, Some, None, ⊤}
 use Rattle.synod.specs.Acts as acts
 use Rattle.synod.specs.Acts.{Fleet, Local, Does}
 use Rattle.synod.specs.History as history
@@ -56,12 +56,14 @@ learnings id None = []
 learnings id (Some e) = record { node = id; slot = e.slot; command = e.command } ∷ []
 
 -- ---- what a node holds
--- the protocol's records and mind say what each role of the node holds, and how far the node has executed
+-- the protocol's records and mind say what each role of the node holds, and how far the node has executed; its acceptor's floor
+-- is no further
 pub record MindStands (m : Mind) (x : Local Command) : Type 0 where
   pub records : RecordsStand m.accepting m.proposing.round x.records
   pub learner : LearnerStands m.learning x.mind
   pub proposer : ProposerStands m.proposing x
   pub position_ : x.mind.position ≡ position m
+  pub level : m.accepting.floor ≤ position m
 
 -- ---- what a node does
 -- from x node `id` may come to what stands for the new mind, by acts that are allowed on this input, and submit these commands
@@ -89,7 +91,7 @@ InputFits input.Tick = ⊤
 
 -- what the acceptor holds once the write of a message, and of an input, is made
 abbrev pub accepting_on : Mind → Message → Accepting
-accepting_on m (Prepare ballot first) = after_prepare m.accepting ballot
+accepting_on m (Prepare ballot first) = after_prepare m.accepting ballot first
 accepting_on m (Accept v) = after_accept m.accepting v
 accepting_on m other = m.accepting
 

@@ -39,11 +39,13 @@ abbrev pub envelopes : ℕ → ℕ → List Outgoing → List Envelope
 envelopes from nodes [] = []
 envelopes from nodes (o ∷ os) = envelopes_of from nodes o ++ envelopes from nodes os
 
--- ---- what an acceptor answers: that it voted goes to every node, any other answer to whom it answers
+-- ---- what an acceptor answers: that it voted goes to every node, a promise or a refusal to whom it answers; that a slot is behind
+-- is told to nobody
 abbrev pub answer_sends : ℕ → ℕ → ℕ → Answer → List Envelope
 answer_sends from nodes to (answer.Promise p) = to_one from to (Promise p)
 answer_sends from nodes to (answer.Accepted v) = to_all from nodes (Accepted v)
 answer_sends from nodes to (answer.Nack n) = to_one from to (Nack n)
+answer_sends from nodes to (answer.Behind floor) = []
 
 -- ---- what is learnt
 -- what is learnt at a slot is told to a node that asks for it

@@ -3,6 +3,7 @@ use Rattle.std.specs.Prelude.{◌≡◌, ℕ, ◌-◌, ◌&&◌, List, [], ◌++
 use Rattle.byteorder.specs.Endian.{big_bytes}
 use Rattle.synod.specs.declared.vote.Vote.{Vote}
 use Rattle.stable.specs.declared.key.Key.TheVariants as key
+use Rattle.stable.specs.Records.{Sets}
 use Rattle.sessions.specs.Asked.{Asked}
 use Rattle.sessions.specs.declared.command.Command.{Command}
 use Rattle.acceptor.specs.declared.answer.Answer.{Answer}
@@ -29,7 +30,7 @@ use Rattle.minds.specs.Sending.{envelopes_of, envelopes, answer_sends, decided_s
 -- ---- the one write that an input makes, if it makes one
 -- on a message only an acceptor writes
 abbrev pub WritesOnMessage : Mind → Message → Write → Type 0
-WritesOnMessage m (Prepare ballot first) write = write ≡ prepare_write m.accepting ballot
+WritesOnMessage m (Prepare ballot first) write = write ≡ prepare_write m.accepting ballot first
 WritesOnMessage m (Accept v) write = IsAcceptWrite m.accepting v write
 WritesOnMessage m other write = write ≡ None
 
@@ -40,7 +41,7 @@ WritesOnEnvelope m e true write = WritesOnMessage m e.message write
 abbrev pub Writes : Mind → Input → Write → Type 0
 Writes m (input.Submit client number op) write = write ≡ None
 Writes m (input.Message e) write = WritesOnEnvelope m e (concerns m.id m.nodes e) write
-Writes m input.Timeout write = write ≡ Some (key.Round, big_bytes 8 (next_round m.proposing))
+Writes m input.Timeout write = write ≡ Some (Sets key.Round (big_bytes 8 (next_round m.proposing)))
 Writes m input.Tick write = write ≡ None
 
 -- ---- a proposer's part
@@ -137,7 +138,7 @@ HearsOfVote old from v new said =
 abbrev pub TakesMessage : Mind → ℕ → Message → Mind → Response → Type 0
 TakesMessage old from (Prepare ballot first) new said =
     (answer : Answer) × AnswersPrepare old.accepting ballot first answer
-    × (new ≡ record old { accepting = after_prepare old.accepting ballot })
+    × (new ≡ record old { accepting = after_prepare old.accepting ballot first })
     × (said ≡ sent (answer_sends old.id old.nodes from answer))
 TakesMessage old from (Promise p) new said =
     (new ≡ with_proposer old (after_promise old from p)) × (said ≡ sent (proposer_sends old (after_promise old from p)))

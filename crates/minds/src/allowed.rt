@@ -14,7 +14,7 @@ ghost use Rattle.minds.specs.declared.fault.NodeFault.{NodeFault};
 ghost use Rattle.minds.specs.declared.input.Input.{Input};
 ghost use Rattle.minds.specs.Faults.{is_stop_fault};
 ghost use Rattle.minds.specs.Loading.{IsMindOf, IsLoaded};
-ghost use Rattle.minds.specs.Minds.{Mind, refuses};
+ghost use Rattle.minds.specs.Minds.{Mind, position, refuses};
 ghost use Rattle.minds.specs.Outputs.{Response};
 ghost use Rattle.minds.specs.Protocol.{MindStands, MayTake, MayStop, RecordsHold, InputFits, input_of, accepting_after, round_after};
 ghost use Rattle.minds.specs.Taking.{Writes, Takes};
@@ -47,11 +47,12 @@ pub fn records_go_on()
         → RecordsHold (records_after records write) new.accepting new.proposing.round }
 {}
 
-/// A node that has loaded its records holds what they say, and it stands for the protocol's records and a mind that holds nothing.
+/// A node that has loaded its records holds what they say, and it stands for the protocol's records and a mind that holds nothing
+/// but its position.
 pub fn loading_is_allowed()
     ensures holds { (records : Records) (id nodes : ℕ) (m : Mind) → IsLoaded records id nodes m
         → RecordsHold records m.accepting m.proposing.round }
     ensures stands { (records : Records) (id nodes : ℕ) (m : Mind) (a : Accepting) (round : ℕ) (x : Local Command)
-        → IsLoaded records id nodes m → RecordsHold records a round → RecordsStand a round x.records → x.mind ≡ blank
-        → MindStands m x }
+        → IsLoaded records id nodes m → RecordsHold records a round → RecordsStand a round x.records
+        → x.mind ≡ record blank { position = position m } → MindStands m x }
 {}

@@ -1,13 +1,14 @@
 //! What holds of every node. Nothing runs.
 
-ghost use Rattle.std.specs.Prelude.{◌≡◌, ◌⊎◌, ◌<◌, ◌≤◌, ℕ, List, [], Some, None, All, Result, IfOk, length, slice_get};
+ghost use Rattle.std.specs.Prelude.{◌≡◌, ◌⊎◌, ◌<◌, ◌≤◌, ℕ, List, Some, None, All, Result, IfOk, length, slice_get};
 ghost use Rattle.synod.specs.declared.slot.TheConstants.{SLOTS};
 ghost use Rattle.sessions.specs.declared.command.Command.{Command};
 ghost use Rattle.minds.specs.Composition.{IsMeaningOf, executed_from};
 ghost use Rattle.minds.specs.declared.fault.NodeFault.{NodeFault};
 ghost use Rattle.minds.specs.declared.input.Input.{Input};
 ghost use Rattle.minds.specs.declared.outputs.LogEntry.{LogEntry};
-ghost use Rattle.minds.specs.Loading.{IsFresh, IsMember};
+ghost use Rattle.stable.specs.Records.{Records};
+ghost use Rattle.minds.specs.Loading.{IsBaseOf, IsFresh, IsLoaded, IsMember};
 ghost use Rattle.minds.specs.Minds.{Mind, learnt_in, position};
 ghost use Rattle.minds.specs.Nodes.{NodeState, NodeSteps};
 ghost use Rattle.minds.specs.Outputs.{Response};
@@ -18,13 +19,16 @@ ghost use Rattle.minds.specs.Taking.{Takes};
 use stable::Stable;
 
 /// Of the commands of which a node is the meaning there are as many as its position says, and those behind its first are learnt at
-/// their slots. A node that has just loaded its records has learnt nothing, and is the meaning of no command.
+/// their slots. A node that has just loaded its records has learnt nothing and begins at the first slot that it keeps, and it is
+/// the meaning of each list of commands with which it may begin.
 pub fn meanings_are_of_learnt_slots()
     ensures as_many { (base : List Command) (m : Mind) → IsMeaningOf base m → length (executed_from base m) ≡ position m }
     ensures learnt { (base : List Command) (m : Mind) → IsMeaningOf base m → (slot : ℕ) (c : Command) → length base ≤ slot
         → slice_get (executed_from base m) slot ≡ Some c → learnt_in m slot ≡ Some c }
     ensures fresh { (id nodes : ℕ) (m : Mind) → IsFresh id nodes m
-        → IsMeaningOf [] m × ((slot : ℕ) → learnt_in m slot ≡ None) }
+        → (position m ≡ m.learning.first) × ((slot : ℕ) → learnt_in m slot ≡ None) }
+    ensures loaded { (records : Records) (id nodes : ℕ) (m : Mind) (base : List Command) → IsLoaded records id nodes m
+        → IsBaseOf records base → IsMeaningOf base m }
 {}
 
 /// A node of a run stays that node, whatever comes to it, and what it sends goes between nodes of the run.

@@ -1,8 +1,8 @@
-//! What comes to a node, what a node that is up holds in mind, and what it says; and what holds of every node.
+//! A node as a state machine: its inputs, its state while it is up, and the effect of each input.
 //!
-//! `specs/Taking.antt` says what each input makes of a mind and what is said, by the cases of its acceptor, its learner and its
-//! proposer; `specs/Nodes.antt` says what becomes of the storage beside it. No node is here: the crate `node` makes one, whose
-//! step keeps what is said of it here.
+//! `specs/Taking.antt` puts the rules of acceptor, learner and proposer together; `specs/Nodes.antt` adds the storage. Laws show
+//! that each transition is allowed by the protocol. No code runs here: the crate `node` has the code, and its step keeps what is
+//! defined here.
 #![tactic(auto)]
 
 mod allowed;

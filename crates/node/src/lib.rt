@@ -1,8 +1,7 @@
-//! One node: its records, and the roles that it plays over them while it is up.
+//! One node: its records, and its roles while it is up.
 //!
-//! One input is one step. A node that is up takes it, refuses it and is as it was, or goes down on it; at most one record is
-//! written, before anything that rests on it is sent. What each input makes of a node, what the node says and what becomes of
-//! its storage is defined in the crate `minds`.
+//! One input is one step. A node that is up takes it, refuses it without a change, or stops on it. At most one record is written,
+//! before anything is sent that rests on it. The crate `minds` defines the effect of each input.
 #![tactic(auto)]
 
 mod node;

@@ -1,6 +1,6 @@
 //! One node: its records, and its roles while it is up.
 
-ghost use Rattle.std.specs.Prelude.{◌≡◌, ◌⊎◌, ◌↔◌, [], Ok, IfErr, IfOk, IfSome, OnOk, IsTrue, true, false, IsSome};
+ghost use Rattle.std.specs.Prelude.{◌≡◌, ◌⊎◌, ◌↔◌, List, Ok, IfErr, IfOk, IfSome, OnOk, IsTrue, true, false, IsSome};
 ghost use Rattle.std.specs.Prelude.{None, MatchOption};
 
 use super::roles::Roles;
@@ -20,10 +20,11 @@ pub struct Node<S> {
 }
 
 impl<S: Stable> Node<S> {
+    ghost use Rattle.sessions.specs.declared.command.Command.{Command};
     ghost use Rattle.minds.specs.Composition.{IsMeaningOf};
     ghost use Rattle.minds.specs.Faults.{is_stop_fault};
     ghost use Rattle.learner.specs.Prefixes.{IsPrefix};
-    ghost use Rattle.minds.specs.Loading.{IsLoaded, IsFresh, IsDamaged, IsMember, Restarts};
+    ghost use Rattle.minds.specs.Loading.{IsBaseOf, IsLoaded, IsFresh, IsDamaged, IsMember, Restarts};
     ghost use Rattle.minds.specs.Minds.{is_past, position};
     ghost use Rattle.minds.specs.Nodes.{NodeSteps, NodeAnswers, StaysMeaning, AnswersMeaning};
     ghost use Rattle.node.specs.Seen.{state_of};
@@ -39,7 +40,9 @@ impl<S: Stable> Node<S> {
         ensures sound { S.IsHonest (state_of result).storage → IsSome (state_of result).up
             → ¬ (IsDamaged S.Stable storage) }
         ensures settled { IsSome (state_of result).up → S.IsSettled (state_of result).storage }
-        ensures meaning { IfSome (state_of result).up (IsMeaningOf []) }
+        ensures meaning { S.IsHonest (state_of result).storage → IfSome (state_of result).up (λ m.
+            (base : List Command) → IsBaseOf (S.contents storage) base → IsMeaningOf base m) }
+        ensures position { IfSome (state_of result).up (λ m. position m ≡ m.learning.first) }
         ensures up { IsSome (state_of result).up → S.reads storage (state_of result).storage }
         ensures down { (state_of result).up ≡ None → S.reads storage (state_of result).storage
             ⊎ S.read_fails storage (state_of result).storage }
@@ -64,7 +67,9 @@ impl<S: Stable> Node<S> {
     /// Loses what is not in the records, and loads these.
     pub fn restart(&mut self, alloc: Global) -> Result<(), NodeFault>
         ensures restarts { Restarts S.Stable (state_of self.old) result (state_of self.new) }
-        ensures meaning { IfSome (state_of self.new).up (IsMeaningOf []) }
+        ensures meaning { S.IsHonest (state_of self.new).storage → IfSome (state_of self.new).up (λ m.
+            (base : List Command) → IsBaseOf (S.contents (state_of self.old).storage) base → IsMeaningOf base m) }
+        ensures position { IfSome (state_of self.new).up (λ m. position m ≡ m.learning.first) }
         ensures settled { OnOk result (S.IsSettled (state_of self.new).storage) }
     {
         self.stop();
@@ -87,6 +92,16 @@ impl<S: Stable> Node<S> {
     {
         match &self.roles {
             Some(roles) => roles.position(),
+            None => 0,
+        }
+    }
+
+    /// The first slot of which its acceptor may speak; 0 while it is down.
+    pub fn floor(&self) -> u32
+        ensures { MatchOption (state_of self.now).up (result ≡ 0) (λ m. result ≡ m.accepting.floor) }
+    {
+        match &self.roles {
+            Some(roles) => roles.floor(),
             None => 0,
         }
     }

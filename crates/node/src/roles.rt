@@ -1,6 +1,6 @@
 //! What a node holds while it is up.
 
-ghost use Rattle.std.specs.Prelude.{◌≡◌, ◌≤◌, ◌⊎◌, ◌++◌, [], Some, IfOk, OnOk, IfErr, IfSome, IsErrOf, IsSome, None, true, false};
+ghost use Rattle.std.specs.Prelude.{◌≡◌, ◌≤◌, ◌⊎◌, ◌++◌, List, [], Some, IfOk, OnOk, IfErr, IfSome, IsErrOf, IsSome, None, true, false};
 ghost use Rattle.store.specs.Answers.{IsAnswer};
 ghost use Rattle.sessions.specs.declared.command.Command.{Command};
 ghost use Rattle.byteorder.specs.Endian.{big_bytes};
@@ -62,7 +62,7 @@ impl Drop for Roles {
 }
 
 impl Roles {
-    ghost use Rattle.minds.specs.Loading.{IsLoaded, IsFresh, IsDamaged, IsMindOf};
+    ghost use Rattle.minds.specs.Loading.{IsBaseOf, IsLoaded, IsFresh, IsDamaged, IsMindOf};
     ghost use Rattle.minds.specs.Inputs.{concerns};
     ghost use Rattle.minds.specs.Minds.{Mind, IsSmall, position, asked, waits, refuses, refuses_submit, refuses_timeout, Ignores};
     ghost use Rattle.node.specs.Roles.{mind_of};
@@ -83,7 +83,9 @@ impl Roles {
             IsLoaded (S.contents storage.old) id nodes (mind_of roles)) }
         ensures own { IfOk result (λ roles. IsMindOf id nodes (mind_of roles)) }
         ensures fresh { IfOk result (λ roles. IsFresh id nodes (mind_of roles)) }
-        ensures meaning { IfOk result (λ roles. IsMeaningOf [] (mind_of roles)) }
+        ensures meaning { S.IsHonest storage.new → IfOk result (λ roles.
+            (base : List Command) → IsBaseOf (S.contents storage.old) base → IsMeaningOf base (mind_of roles)) }
+        ensures position { IfOk result (λ roles. position (mind_of roles) ≡ (mind_of roles).learning.first) }
         ensures sound { S.IsHonest storage.new → OnOk result (¬ (IsDamaged S.Stable storage.old)) }
         ensures reads { OnOk result (S.reads storage.old storage.new) }
         ensures settled { OnOk result (S.IsSettled storage.new) }
@@ -114,6 +116,13 @@ impl Roles {
         ensures counted { IsPrefix (mind_of self.now).learning.learnt (mind_of self.now).learning.first (position (mind_of self.now)) }
     {
         self.learner.prefix()
+    }
+
+    /// The first slot of which its acceptor may speak.
+    pub fn floor(&self) -> u32
+        ensures { result ≡ (mind_of self.now).accepting.floor }
+    {
+        self.acceptor.floor()
     }
 
     /// The room of a list of what was sent serves for what is sent next, where it has more of it.
@@ -330,14 +339,14 @@ impl Roles {
     ) -> Result<Outputs, NodeFault>
         ensures takes { IfOk result (λ said.
             TakesMessage (mind_of self.old) from (message.Prepare ballot first) (mind_of self.new) said) }
-        ensures written { OnOk result (HasWritten S.reads S.puts storage.old storage.new
-            (prepare_write (mind_of self.old).accepting ballot)) }
+        ensures written { OnOk result (HasWritten S.reads S.changes storage.old storage.new
+            (prepare_write (mind_of self.old).accepting ballot first)) }
         ensures device { IsErrOf result NodeFault.Device
             → HasFailed S.fails storage.old storage.new
-            (prepare_write (mind_of self.old).accepting ballot) }
+            (prepare_write (mind_of self.old).accepting ballot first) }
         ensures memory { IsErrOf result NodeFault.Memory → S.reads storage.old storage.new
-            ⊎ HasWritten S.reads S.puts storage.old storage.new
-            (prepare_write (mind_of self.old).accepting ballot) }
+            ⊎ HasWritten S.reads S.changes storage.old storage.new
+            (prepare_write (mind_of self.old).accepting ballot first) }
         ensures err { IfErr result (λ fault. (fault ≡ NodeFault.Device) ⊎ (fault ≡ NodeFault.Memory)) }
     {
         let answer = self.acceptor.on_prepare(alloc, storage, ballot, first)?;
@@ -357,13 +366,13 @@ impl Roles {
         ensures takes { IfOk result (λ said.
             TakesMessage (mind_of self.old) from (message.Accept vote) (mind_of self.new) said) }
         ensures written { OnOk result ((w : Write) × IsAcceptWrite (mind_of self.old).accepting vote w
-            × HasWritten S.reads S.puts storage.old storage.new w) }
+            × HasWritten S.reads S.changes storage.old storage.new w) }
         ensures device { IsErrOf result NodeFault.Device
             → (w : Write) × IsAcceptWrite (mind_of self.old).accepting vote w
             × HasFailed S.fails storage.old storage.new w }
         ensures memory { IsErrOf result NodeFault.Memory → S.reads storage.old storage.new
             ⊎ ((w : Write) × IsAcceptWrite (mind_of self.old).accepting vote w
-            × HasWritten S.reads S.puts storage.old storage.new w) }
+            × HasWritten S.reads S.changes storage.old storage.new w) }
         ensures err { IfErr result (λ fault. (fault ≡ NodeFault.Device) ⊎ (fault ≡ NodeFault.Memory)) }
     {
         let answer = self.acceptor.on_accept(alloc, storage, vote)?;

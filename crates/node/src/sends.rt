@@ -100,7 +100,7 @@ pub fn send_outgoing(
     }
 }
 
-/// An acceptor's answer, to whom it concerns.
+/// An acceptor's answer, to whom it concerns. That a slot is behind is told to nobody.
 pub fn send_answer(
     alloc: Global,
     sends: &mut Vec<Frame>,
@@ -115,6 +115,7 @@ pub fn send_answer(
         Answer::Promise(promise) => send(alloc, sends, from, to, &Message::Promise(promise)),
         Answer::Nack(nack) => send(alloc, sends, from, to, &Message::Nack(nack)),
         Answer::Accepted(vote) => send_to_all(alloc, sends, from, nodes, &Message::Accepted(vote)),
+        Answer::Behind(_) => Ok(()),
     }
 }
 

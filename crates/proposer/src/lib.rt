@@ -1,7 +1,7 @@
-//! One node's proposer: the requests that wait at it, and its campaigns to have them chosen.
+//! One node's proposer: the requests that wait, and the campaigns to have them chosen.
 //!
-//! A campaign gathers promises for the slots from its first on, leads once a majority has promised, and keeps a window of
-//! proposals open. `specs/Proposing.antt` says what each call leaves and sends.
+//! A campaign runs phase 1 for the slots from its first on. With a majority's promises it leads, and keeps a window of proposals
+//! open (phase 2). `specs/Proposing.antt` defines the state after each call and what is sent.
 #![tactic(auto)]
 
 mod allowed;

@@ -5,6 +5,7 @@ ghost use Rattle.std.specs.Prelude.{OnErr, IsErrOf, IsOk, MatchOption};
 ghost use Rattle.std.specs.List.{list_any};
 ghost use Rattle.byteorder.specs.Endian.{big_bytes};
 ghost use Rattle.stable.specs.declared.key.Key.TheVariants as key;
+ghost use Rattle.stable.specs.Records.{Sets};
 ghost use Rattle.wire.specs.RecordForms.{IsRoundRecord};
 ghost use Rattle.learner.specs.Learning.{prefix};
 ghost use Rattle.learner.specs.State.{learning_of};
@@ -174,14 +175,14 @@ impl Proposer {
         requires { prefix (learning_of learner.now) < SLOTS }
         ensures starts { IfOk result (λ sent. StartsCampaign self.old (prefix (learning_of learner.now)) self.new sent) }
         ensures writes { OnOk result
-            (S.puts storage.old key.Round (big_bytes 8 (next_round self.old)) storage.new) }
+            (S.changes storage.old (Sets key.Round (big_bytes 8 (next_round self.old))) storage.new) }
 
         // Each error.
         ensures used_up { IsErrOf result TimeoutFault.RoundsUsedUp
             → (2 ^ 64 ≤ next_round self.old) × (self.new ≡ self.old) × (storage.new ≡ storage.old) }
         ensures used_up_refused { 2 ^ 64 ≤ next_round self.old → IsErrOf result TimeoutFault.RoundsUsedUp }
         ensures device { IsErrOf result TimeoutFault.Device
-            → S.fails storage.old key.Round (big_bytes 8 (next_round self.old)) storage.new × (self.new ≡ self.old) }
+            → S.fails storage.old (Sets key.Round (big_bytes 8 (next_round self.old))) storage.new × (self.new ≡ self.old) }
         ensures memory { IsErrOf result TimeoutFault.Memory → S.reads storage.old storage.new × (self.new ≡ self.old) }
     {
         let first = Slot::new(learner.prefix()).unwrap();

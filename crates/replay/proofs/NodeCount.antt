@@ -15,7 +15,7 @@ use Rattle.minds.specs.Outputs.{Response}
 use Rattle.history.specs.Rounds.{DeliversTo, nothing, elsewhere, there, Phase, ComesThrough, begins, asks, answers, votes, hears, GoesDown}
 use Rattle.history.specs.Rounds.{at_once, on_the_way, EndsIn, RoundEnds, NamesNoMember}
 use Rattle.history.specs.declared.round_end.RoundEnd.{RoundEnd}
-use Rattle.history.specs.declared.round_end.RoundEnd.TheVariants.{NotAQuorum, Down, Refused, Stopped, TooLow, Decided}
+use Rattle.history.specs.declared.round_end.RoundEnd.TheVariants.{NotAQuorum, Down, Behind, Refused, Stopped, TooLow, Decided}
 use Rattle.history.specs.Worlds.{WorldState, Steps, TakesAt, ReceivesAt, DeliversFrame, recorded, answered, with_submission}
 use Rattle.events.specs.declared.event.Event.{Event}
 use Rattle.events.specs.declared.event.Event.TheVariants.{Submit, Deliver, Drop, Timeout, Tick, Restart, Fault, Query}
@@ -110,6 +110,7 @@ module _ {S : Type 0} (storages : Ghosts (Script S)) where
       → EndsIn storages old node members end new → size new ≡ size old
   ends_keep old node members NotAQuorum new e = ap size e.1
   ends_keep old node members (Down m) new e = ap size e.2
+  ends_keep old node members (Behind m) new e = ap size e.3
   ends_keep old node members (Refused f) new e = ap size e.1.1
   ends_keep old node members (Stopped m) new e = stops_keep old node members m new e.1
   ends_keep old node members (TooLow promised) new e =

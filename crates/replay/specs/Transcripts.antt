@@ -11,7 +11,7 @@ use Rattle.history.specs.declared.lists.Answered.{Answered}
 use Rattle.history.specs.declared.lists.Outcome.{Outcome}
 use Rattle.history.specs.declared.lists.Outcome.TheVariants as outcome
 use Rattle.history.specs.declared.round_end.RoundEnd.{RoundEnd}
-use Rattle.history.specs.declared.round_end.RoundEnd.TheVariants.{NotAQuorum, Down, Refused, Stopped, TooLow, Decided}
+use Rattle.history.specs.declared.round_end.RoundEnd.TheVariants.{NotAQuorum, Down, Behind, Refused, Stopped, TooLow, Decided}
 use Rattle.synod.specs.declared.ballot.Ballot.{Ballot}
 
 -- a request by its client and number, as 7:1
@@ -52,6 +52,7 @@ ballot_text ballot = decimal ballot.round ++ codes "." ++ decimal ballot.node
 abbrev pub end_text : RoundEnd → List ℕ
 end_text NotAQuorum = codes "noquorum"
 end_text (Down member) = codes "down " ++ decimal member
+end_text (Behind member) = codes "behind " ++ decimal member
 end_text (Refused fault) = codes "refused " ++ decimal (node_code fault)
 end_text (Stopped member) = codes "stopped " ++ decimal member
 end_text (TooLow promised) = codes "low " ++ ballot_text promised

@@ -1,8 +1,7 @@
-//! Runs of schedules: each line is done in a world, and the transcript tells what came of it.
+//! Runs of schedules: each line is done in a world, and the transcript reports the result.
 //!
-//! `replay` reads a schedule and runs it over records in memory, `run` one that was read, over any storages; `run_lines` goes on
-//! in a world that has begun. What a run comes to stands in `specs/Runs.antt`, and which bytes tell it in
-//! `specs/Transcripts.antt`.
+//! `replay` parses a schedule and runs it over records in memory, `run` takes a parsed one and any storages, and `run_lines`
+//! continues in a world that has begun. `specs/Runs.antt` defines a run, `specs/Transcripts.antt` the bytes of its transcript.
 #![tactic(auto)]
 
 mod entry_lines;

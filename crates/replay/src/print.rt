@@ -103,6 +103,10 @@ pub(crate) fn print_round(text: &mut Vec<u8>, node: NodeId, end: RoundEnd) -> io
             let member = member.value();
             writeln!(text, "round {node} down {member}")
         }
+        RoundEnd::Behind(member) => {
+            let member = member.value();
+            writeln!(text, "round {node} behind {member}")
+        }
         RoundEnd::Refused(fault) => {
             let code = fault.code();
             writeln!(text, "round {node} refused {code}")

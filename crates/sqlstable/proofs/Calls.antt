@@ -1,5 +1,5 @@
 -- What the calls of the storage come to.
-use Rattle.std.proofs.Common.{◌≡◌, ℕ, ◌<◌, arith, true, false, List, Option, IsSome, Ok, Err, Result, IfOk, OnOk}
+use Rattle.std.proofs.Common.{◌≡◌, ◌≢◌, ℕ, ◌<◌, ◌≤◌, min, arith, true, false, List, [], ◌∷◌, Option, IsSome, Ok, Err, Result, IfOk, OnOk}
 use Rattle.std.proofs.Common.{Contains, ◌↔◌, length, sym, ap, subst, ◌∙◌}
 use Rattle.std.proofs.Math.Logic.{∥∥₁_elim}
 use base.Stored.{Coded-set}
@@ -17,17 +17,18 @@ use Rattle.sqlite.specs.Held.{Held, state}
 use Rattle.sqlite_rules.specs.Lists.{Has}
 use Rattle.stable.specs.declared.fault.StableFault.{StableFault}
 use Rattle.stable.specs.Records.{IsAscending}
+use Rattle.stable.specs.Records.{Sets, Trims, without_votes_below}
 use Rattle.stable.specs.Script.{counted}
 use Rattle.stable.specs.ScriptLaws.{counted_before}
 use Rattle.stable.specs.declared.key.Key.{Key}
 use Rattle.sqlstable.specs.Table.{record_schema}
-use Rattle.sqlstable.specs.Rows.{has_key, value_at, AreApart, HasOwnKeys, PutsRow}
+use Rattle.sqlstable.specs.Rows.{has_key, value_at, AreApart, HasOwnKeys, PutsRow, TrimsRows}
 use Rattle.sqlstable.specs.Lists.{ListsKeys}
 use Rattle.sqlstable.specs.States.{IsSound, IsSettled, IsUsable, Follows, table}
-use Rattle.sqlstable.specs.Keys.{spelled, is_valid, records_in, HasStray, AreKeysOf, TellsNone}
-use Rattle.sqlstable.specs.Storage.{Reads, ReadFails, Puts}
+use Rattle.sqlstable.specs.Keys.{spelled, is_valid, vote_key, records_in, HasStray, AreKeysOf, TellsNone}
+use Rattle.sqlstable.specs.Storage.{Reads, ReadFails, Changes}
 use Rattle.sqlstable.specs.declared.storage.SqlStable.{SqlStable}
-use Rattle.sqlstable.proofs.Keys.{puts_records, puts_stray, keys_tell, keys_ascend, stray_row, no_stray_row}
+use Rattle.sqlstable.proofs.Keys.{puts_records, puts_stray, trims_records, trims_stray, at_most_all, keys_tell, keys_ascend, stray_row, no_stray_row}
 
 Schema-set : IsSet Schema
 Schema-set = Coded-set schema_row.the_row.coded
@@ -43,6 +44,8 @@ IsSound-prop s a b = λ i. record {
       (s.now.trees 0) a.own_keys b.own_keys i;
   numbered = AllByRecursion-prop (λ r. is_int (rowid r) ≡ true) (λ r. Bool-set (is_int (rowid r)) true)
       (s.now.trees 0) a.numbered b.numbered i;
+  own_numbers = IsAscending-prop (λ x y. rowid x ≢ rowid y) (λ x y p q. ¬_prop p q)
+      (s.now.trees 0) a.own_numbers b.own_numbers i;
 }
 
 IsSettled-prop : (s : State) → IsProp (IsSettled s)
@@ -92,7 +95,7 @@ module _ {S : Type 0} (g : Ghosts S) (a : SqlStable S g) (now : Held S) where
 
   pub put_made : (key : Key) (bytes : List ℕ) (b : SqlStable S g) → is_valid key ≡ true → Follows old new
       → (IsUsable new → IsSound old → PutsRow (spelled key) bytes (table old) (table new)) → b.connection ≡ now
-      → b.failures ≡ a.failures → Puts g a key bytes b
+      → b.failures ≡ a.failures → Changes g a (Sets key bytes) b
   put_made key bytes b valid f made is counts = record {
     honest = λ h. record {
       usable = usable_before f (subst (λ c. IsUsable (state g c)) is h.usable);
@@ -101,9 +104,27 @@ module _ {S : Type 0} (g : Ghosts S) (a : SqlStable S g) (now : Held S) where
     records = λ h. let usable = subst (λ c. IsUsable (state g c)) is h.usable in
         ap (λ c. records_in (table (state g c))) is ∙ puts_records key bytes (table old) (table new) valid
         (made usable (sound_before f usable));
-    stray = λ h. let usable = subst (λ c. IsUsable (state g c)) is h.usable in
-        let both = puts_stray key bytes (table old) (table new) valid (made usable (sound_before f usable)) in
-        (λ s. both.0 (subst (λ c. HasStray (table (state g c))) is s), λ s. subst (λ c. HasStray (table (state g c))) (sym is) (both.1 s));
+    stray = λ h s. let usable = subst (λ c. IsUsable (state g c)) is h.usable in
+        (puts_stray key bytes (table old) (table new) valid (made usable (sound_before f usable))).0
+        (subst (λ c. HasStray (table (state g c))) is s);
+    failures = counts;
+  }
+
+  pub trim_done : (below end : ℕ) (b : SqlStable S g) → end ≡ min below 65536 → Follows old new
+      → (IsUsable new → IsSound old → TrimsRows (0x56 ∷ []) (vote_key end) (table old) (table new)) → b.connection ≡ now
+      → b.failures ≡ a.failures → Changes g a (Trims below) b
+  trim_done below end b at f made is counts = record {
+    honest = λ h. record {
+      usable = usable_before f (subst (λ c. IsUsable (state g c)) is h.usable);
+      counts = subst IsSome counts h.counts;
+    };
+    records = λ h. let usable = subst (λ c. IsUsable (state g c)) is h.usable in
+        ap (λ c. records_in (table (state g c))) is ∙ trims_records end (table old) (table new)
+        (let most : min below 65536 ≤ 65536 = grind arith in omega (arith, at, most)) (made usable (sound_before f usable))
+        ∙ ap (without_votes_below (records_in (table old))) at ∙ at_most_all below (table old);
+    stray = λ h s. let usable = subst (λ c. IsUsable (state g c)) is h.usable in
+        trims_stray end (table old) (table new) (made usable (sound_before f usable))
+        (subst (λ c. HasStray (table (state g c))) is s);
     failures = counts;
   }
 

@@ -1,21 +1,26 @@
 -- What the list of keys shows of a table that was found.
-use Rattle.std.proofs.Common.{◌≡◌, inl, inr, ℕ, List, [], ◌∷◌, ◌++◌, codes, arith, Bool, true, false, not, Ok, Err, Result, IfOk, OnOk}
+use Rattle.std.proofs.Common.{◌≡◌, ◌≢◌, inl, inr, ℕ, ℤ, ◌<ℤ◌, map, List, [], ◌∷◌, ◌++◌, codes, arith, Bool, true, false, not, Ok, Err, Result, IfOk, OnOk}
 use Rattle.std.proofs.Common.{refl, sym, ap, subst, ◌∙◌, true≢false}
 use Rattle.std.specs.List.{AllByRecursion}
 use Rattle.std.specs.Ordering.{is_lt}
 use Rattle.std.specs.declared.cmp.Ordering.{Ordering}
 use Rattle.std.specs.declared.cmp.Ordering.TheVariants.{Less, Equal, Greater}
 use Rattle.std.proofs.lemmas.Bool.{cases_Bool}
+use Rattle.std.proofs.lemmas.Int.{ints}
 use Rattle.std.proofs.lemmas.Cmp.{nat_list_cmp_total, tied_itself}
 use Rattle.sqlite_value.specs.declared.value.Value.{Value}
 use Rattle.sqlite_value.specs.declared.value.Value.TheVariants.{Null, Int, Real, Text, Blob}
 use Rattle.sqlite_value.specs.Order.{Row, column}
 use Rattle.sqlite_trees.specs.Tree.{IsAscending}
 use Rattle.sqlite_trees.specs.View.{is_int}
-use Rattle.sqlite_trees.proofs.ListLemmas.{all_weaker, ascending_weaker}
+use Rattle.sqlite_trees.proofs.ListLemmas.{all_weaker, ascending_weaker, ascending-map, ascending_from_map}
+use Rattle.std.specs.List.Sorted.{IsPermutation}
+use Rattle.std.proofs.lemmas.List.{map-append}
+use Rattle.std.proofs.lemmas.List.Sorted.{IsPermutation-sym}
+use Rattle.sqlstable.proofs.Selects.{pairwise_permuted}
 use Rattle.sqlite_rules.proofs.ListLemmas.{all_has, all_from}
-use Rattle.sqlstable.specs.Rows.{is_bytes, Differ, HasOwnKeys, AreNumbered}
-use Rattle.sqlstable.specs.Lists.{rises, RisesTo, AreSoundRows, ListsKeys, key_row}
+use Rattle.sqlstable.specs.Rows.{is_bytes, Differ, HasOwnKeys, HasOwnNumbers, AreNumbered}
+use Rattle.sqlstable.specs.Lists.{rises, RisesTo, AreRising, AreSoundRows, HaveOwnNumbers, ListsKeys, key_row}
 use Rattle.sqlstable.specs.States.{IsSound, IsUsable, table}
 use Rattle.sqlite.specs.State.{State}
 use Rattle.sqlite.specs.Effect.{Database}
@@ -88,6 +93,38 @@ pub numbers_found : (table rows : List Row) → ListsKeys table rows → AreSoun
 numbers_found table rows l sound =
     all_from _ table (λ r h. all_has (λ r. is_int (column r 1) ≡ true) rows (key_row r) (numbers_of rows sound) (l.to r h))
 
+-- ---- no number comes twice
+
+above_all : (n : ℤ) (more : List ℤ) → AreRising (n ∷ more) → AllByRecursion (λ m. n <ℤ m) more
+above_all n [] h = tt
+above_all n (m ∷ more) h =
+    (h.0, all_weaker (λ k. m <ℤ k) (λ k. n <ℤ k) (λ k x. let first = h.0 in omega (arith, ints, first, x)) more (above_all m more h.1))
+
+apart_of : (numbers : List ℤ) → AreRising numbers → IsAscending (λ m n. Int m ≢ Int n) numbers
+apart_of [] h = tt
+apart_of (n ∷ more) h = (
+  all_weaker (λ m. n <ℤ m) (λ m. Int n ≢ Int m) (λ m lt e. let same : n ≡ m = cc in omega (arith, ints, lt, same)) more (above_all n more h),
+  apart_of more (rest n more h),
+)
+  where
+    rest : (n : ℤ) (more : List ℤ) → AreRising (n ∷ more) → AreRising more
+    rest n [] h = tt
+    rest n (m ∷ more) h = h.1
+
+-- numbers that rise once they are sorted are told once each
+pub own_told : (rows : List Row) (numbers sorted : List ℤ) → map (λ r. column r 1) rows ≡ map Int numbers → IsPermutation numbers sorted
+    → AreRising sorted → HaveOwnNumbers rows
+own_told rows numbers sorted tell same rise =
+    let apart = pairwise_permuted (λ m n. Int m ≢ Int n) (λ m n h e. h (sym e)) sorted numbers (IsPermutation-sym _ _ same) (apart_of sorted rise) in
+    ascending_from_map (λ v w. v ≢ w) (λ (r : Row). column r 1) rows
+    (subst (IsAscending (λ v w. v ≢ w)) (sym tell) (ascending-map (λ v w. v ≢ w) Int numbers apart))
+
+pub one_more_number : (rows : List Row) (numbers : List ℤ) (row : Row) (number : ℤ) → map (λ r. column r 1) rows ≡ map Int numbers
+    → column row 1 ≡ Int number → map (λ r. column r 1) (rows ++ row ∷ []) ≡ map Int (numbers ++ number ∷ [])
+one_more_number rows numbers row number tell is =
+    map-append (λ (r : Row). column r 1) rows (row ∷ []) ∙ ap (λ vs. vs ++ column row 1 ∷ []) tell
+    ∙ ap (λ v. map Int numbers ++ v ∷ []) is ∙ sym (map-append Int numbers (number ∷ []))
+
 -- ---- a table that was found
 
 schema_with : List ℕ → Schema
@@ -104,9 +141,9 @@ listed_is = ap schema_with (sym (decimal_digit 1 (omega arith)))
 -- the list of keys shows that the table is sound, and leaves its rows
 pub found_sound : (before after : State) (rows slice : List Row) → before.now.schema ≡ record_schema → ListsKeys (table before) rows
     → IsUnchanged before after
-    → IsLive before → after.in_transaction ≡ false → after.now ≡ after.committed → slice ≡ rows → AreSoundRows slice → IsSound after
+    → IsLive before → after.in_transaction ≡ false → after.now ≡ after.committed → slice ≡ rows → AreSoundRows slice → HaveOwnNumbers slice → IsSound after
     × (table after ≡ table before)
-found_sound before after rows slice has l same live auto settled is sound =
+found_sound before after rows slice has l same live auto settled is sound own =
     let now = same.0.now_is in
     let database : IsDatabase after.now = subst IsDatabase (sym now) (live same.0.was_open).0 in
     let kept : table after ≡ table before = ap (λ (d : Database). d.trees 0) now in
@@ -120,6 +157,7 @@ found_sound before after rows slice has l same live auto settled is sound =
         listed = λ none. lists_something after.now schema database (ap (λ (d : Database). d.trees catalog_tree) settled ∙ none);
         own_keys = subst HasOwnKeys (sym kept) (own_keys_found (table before) rows l good);
         numbered = subst AreNumbered (sym kept) (numbers_found (table before) rows l good);
+        own_numbers = subst HasOwnNumbers (sym kept) (l.own_numbers (subst HaveOwnNumbers is own));
       },
       kept,
     )

@@ -1,18 +1,18 @@
 -- Keys, their spelling, and what the rows have for them.
-use Rattle.std.proofs.Common.{◌≡◌, ◌≢◌, ◌⊎◌, ◌↔◌, inl, inr, ℕ, suc, ◌+◌, ◌*◌, ◌/◌, ◌%◌, ◌<◌, ◌^◌, ◌==◌, arith, List, [], ◌∷◌, ◌++◌, map}
+use Rattle.std.proofs.Common.{◌≡◌, ◌≢◌, ◌⊎◌, ◌↔◌, inl, inr, ℕ, suc, ◌+◌, ◌*◌, ◌/◌, ◌%◌, ◌<◌, ◌≤◌, ◌^◌, ◌==◌, ◌&&◌, nat_lt, min, arith, List, [], ◌∷◌, ◌++◌, map}
 use Rattle.std.proofs.Common.{drop, length, Bool, true, false, if◌then◌else◌, Option, Some, None, IsSome, refl, sym, ap, subst, ◌∙◌}
 use Rattle.std.proofs.Common.{true≢false, Contains}
 use Rattle.std.specs.Int.{w32, to_be_bytes, from_be_bytes}
 use Rattle.std.specs.List.{AllByRecursion}
 use Rattle.std.specs.Prelude.{slice_index_or}
 use Rattle.std.specs.List.Sorted.{IsStrictlySortedBy}
-use Rattle.std.specs.Ordering.{is_lt, nat_cmp, ordering_reverse}
+use Rattle.std.specs.Ordering.{is_ge, is_lt, nat_cmp, ordering_reverse}
 use Rattle.std.specs.declared.cmp.Ordering.{Ordering}
 use Rattle.std.proofs.lemmas.List.{get_or-map, length-map, map-append}
 use Rattle.sqlite_value.proofs.OrderLemmas.{value_cmp-Blob}
 use Rattle.std.specs.Cmp.Lexicographic.{slice_cmp}
 use Rattle.std.specs.declared.cmp.Ordering.TheVariants.{Less, Equal, Greater}
-use Rattle.std.proofs.lemmas.Bool.{cases_Bool, ltb-true, eqb-true, eq-eqb}
+use Rattle.std.proofs.lemmas.Bool.{cases_Bool, ltb-true, ltb-false, eqb-true, eq-eqb}
 use Rattle.std.proofs.lemmas.Cmp.{ranked, nat_list_cmp_total}
 use Rattle.std.specs.Cmp.{nat_cmp_is}
 use Rattle.std.proofs.lemmas.Map.Lookups.{exact_unsigned, exact_bytes}
@@ -24,15 +24,15 @@ use Rattle.sqlite_value.specs.Order.{Row, column, bytes, value_cmp}
 use Rattle.sqlite_rules.specs.Lists.{Has}
 use Rattle.sqlite_trees.specs.Tree.{IsAscending}
 use Rattle.sqlite_trees.proofs.ListLemmas.{all_weaker, all-append, map-map, ascending-map, ascending_weaker, ascending_from_map}
-use Rattle.stable.specs.Records.{with_record, rank, key_cmp}
+use Rattle.stable.specs.Records.{with_record, without_votes_below, rank, key_cmp}
 use Rattle.stable.specs.declared.key.Key.{Key}
-use Rattle.stable.specs.declared.key.Key.TheVariants.{Promise, Round, Vote}
+use Rattle.stable.specs.declared.key.Key.TheVariants.{Checkpoint, Promise, Round, Vote}
 use Rattle.stable.proofs.KeyLemmas.{same_rank}
-use Rattle.sqlstable.specs.Rows.{has_key, value_at, HasOwnKeys, PutsRow, is_bytes, Differ}
+use Rattle.sqlstable.specs.Rows.{has_key, value_at, HasOwnKeys, PutsRow, TrimsRows, goes, is_between, is_bytes, Differ}
 use Rattle.sqlstable.specs.Lists.{ListsKeys, key_row}
-use Rattle.sqlstable.specs.Keys.{spelled, is_valid, records_in, HasStray, AreKeysOf}
+use Rattle.sqlstable.specs.Keys.{spelled, vote_key, is_valid, records_in, HasStray, AreKeysOf}
 use Rattle.sqlite_rules.proofs.ListLemmas.{all_has, has_contained, contains_had}
-use Rattle.sqlstable.proofs.Rows.{blob_is, is_bytes-self, value_has, value_some}
+use Rattle.sqlstable.proofs.Rows.{blob_is, is_bytes-self, value_has, value_none, value_same, value_some}
 use Rattle.sqlstable.proofs.Selects.{has_mapped, mapped_has}
 use Rattle.sqlstable.proofs.OnePut.{reads_put, reads_others}
 
@@ -44,12 +44,19 @@ first : {xs ys : List ℕ} → xs ≡ ys → slice_index_or xs 0 0 ≡ slice_ind
 first e = ap (λ (l : List ℕ). slice_index_or l 0 0) e
 
 pub spelled_apart : (a b : Key) → is_valid a ≡ true → is_valid b ≡ true → spelled a ≡ spelled b → a ≡ b
+spelled_apart Checkpoint Checkpoint p q e = refl
+spelled_apart Checkpoint Promise p q e = absurd (let h : 67 ≡ 80 = first e in omega (arith, h))
+spelled_apart Checkpoint Round p q e = absurd (let h : 67 ≡ 82 = first e in omega (arith, h))
+spelled_apart Checkpoint (Vote t) p q e = absurd (let h : 67 ≡ 86 = first e in omega (arith, h))
+spelled_apart Promise Checkpoint p q e = absurd (let h : 80 ≡ 67 = first e in omega (arith, h))
 spelled_apart Promise Promise p q e = refl
 spelled_apart Promise Round p q e = absurd (let h : 80 ≡ 82 = first e in omega (arith, h))
 spelled_apart Promise (Vote t) p q e = absurd (let h : 80 ≡ 86 = first e in omega (arith, h))
+spelled_apart Round Checkpoint p q e = absurd (let h : 82 ≡ 67 = first e in omega (arith, h))
 spelled_apart Round Promise p q e = absurd (let h : 82 ≡ 80 = first e in omega (arith, h))
 spelled_apart Round Round p q e = refl
 spelled_apart Round (Vote t) p q e = absurd (let h : 82 ≡ 86 = first e in omega (arith, h))
+spelled_apart (Vote s) Checkpoint p q e = absurd (let h : 86 ≡ 67 = first e in omega (arith, h))
 spelled_apart (Vote s) Promise p q e = absurd (let h : 86 ≡ 80 = first e in omega (arith, h))
 spelled_apart (Vote s) Round p q e = absurd (let h : 86 ≡ 82 = first e in omega (arith, h))
 spelled_apart (Vote s) (Vote t) p q e =
@@ -160,14 +167,14 @@ lex a b c d e f g h m n p q u v w less = elim (above_first a e (b ∷ c ∷ d �
   ]
 ]
 
-digits : (m : ℕ) → m < 65536 → m ≡ m / 256 ^ 3 % 256 * 16777216 + m / 256 ^ 2 % 256 * 65536 + m / 256 ^ 1 % 256 * 256 + m % 256
+digits : (m : ℕ) → m < 65537 → m ≡ m / 256 ^ 3 % 256 * 16777216 + m / 256 ^ 2 % 256 * 65536 + m / 256 ^ 1 % 256 * 256 + m % 256
 digits m p = omega (arith, p)
 
 byte_below : (m : ℕ) → m % 256 < 256
 byte_below m = omega arith
 
 -- which of two numbers is the lesser, as four digits tell
-digits_less : (m n : ℕ) → m < 65536 → n < 65536 → slice_cmp nat_cmp (to_be_bytes w32 m) (to_be_bytes w32 n) ≡ Less → m < n
+digits_less : (m n : ℕ) → m < 65537 → n < 65537 → slice_cmp nat_cmp (to_be_bytes w32 m) (to_be_bytes w32 n) ≡ Less → m < n
 digits_less m n p q h = lex _ _ _ _ _ _ _ _ m n (digits m p) (digits n q) (byte_below (m / 256 ^ 2)) (byte_below (m / 256 ^ 1))
     (byte_below m) h
 
@@ -176,16 +183,120 @@ nat_less x y h = sym (nat_cmp_is x y Less h)
 
 pub spelled_less : (a b : Key) → is_valid a ≡ true → is_valid b ≡ true → slice_cmp nat_cmp (spelled a) (spelled b) ≡ Less
     → key_cmp a b ≡ Less
-spelled_less Promise Promise p q h = absurd (cc)
+spelled_less Checkpoint Checkpoint p q h = absurd (let e : Equal ≡ Less = h in cc)
+spelled_less Checkpoint Promise p q h = refl
+spelled_less Checkpoint Round p q h = refl
+spelled_less Checkpoint (Vote t) p q h = nat_less 0 (t + 3) (omega arith)
+spelled_less Promise Checkpoint p q h = absurd (let e : Greater ≡ Less = h in cc)
+spelled_less Promise Promise p q h = absurd (let e : Equal ≡ Less = h in cc)
 spelled_less Promise Round p q h = refl
-spelled_less Promise (Vote t) p q h = nat_less 0 (t + 2) (omega arith)
+spelled_less Promise (Vote t) p q h = nat_less 1 (t + 3) (omega arith)
+spelled_less Round Checkpoint p q h = absurd (let e : Greater ≡ Less = h in cc)
 spelled_less Round Promise p q h = absurd (let e : Greater ≡ Less = h in cc)
 spelled_less Round Round p q h = absurd (let e : Equal ≡ Less = h in cc)
-spelled_less Round (Vote t) p q h = nat_less 1 (t + 2) (omega arith)
+spelled_less Round (Vote t) p q h = nat_less 2 (t + 3) (omega arith)
+spelled_less (Vote s) Checkpoint p q h = absurd (let e : Greater ≡ Less = h in cc)
 spelled_less (Vote s) Promise p q h = absurd (let e : Greater ≡ Less = h in cc)
 spelled_less (Vote s) Round p q h = absurd (let e : Greater ≡ Less = h in cc)
 spelled_less (Vote s) (Vote t) p q h =
-    let l = digits_less s t (ltb-true s 65536 p) (ltb-true t 65536 q) h in nat_less (s + 2) (t + 2) (omega (arith, l))
+    let l = digits_less s t (omega (arith, ltb-true s 65536 p)) (omega (arith, ltb-true t 65536 q)) h in nat_less (s + 3) (t + 3) (omega (arith, l))
+
+-- ---- a trim takes out the votes at lower slots, and no other record
+
+digits_apart : (m n : ℕ) → m < 65537 → n < 65537 → to_be_bytes w32 m ≡ to_be_bytes w32 n → m ≡ n
+digits_apart m n p q e = sym (from_be_bytes-to_be_bytes_4 m (omega (arith, p))) ∙ ap (from_be_bytes w32) e
+    ∙ from_be_bytes-to_be_bytes_4 n (omega (arith, q))
+
+digits_below : (m n : ℕ) → m < n → n < 65537 → slice_cmp nat_cmp (to_be_bytes w32 m) (to_be_bytes w32 n) ≡ Less
+digits_below m n lt q = go (slice_cmp nat_cmp (to_be_bytes w32 m) (to_be_bytes w32 n)) refl
+  where
+    p : m < 65537
+    p = omega (arith, lt, q)
+
+    go : (o : Ordering) → slice_cmp nat_cmp (to_be_bytes w32 m) (to_be_bytes w32 n) ≡ o → o ≡ Less
+    go Less e = refl
+    go Equal e = absurd (let same = digits_apart m n p q (exact_bytes _ _ e) in omega (arith, lt, same))
+    go Greater e =
+        let back : slice_cmp nat_cmp (to_be_bytes w32 n) (to_be_bytes w32 m) ≡ Less =
+        nat_list_cmp_total.antisymm (to_be_bytes w32 n) (to_be_bytes w32 m) ∙ ap ordering_reverse e in
+        let l = digits_less n m q p back in
+        absurd (omega (arith, lt, l))
+
+vote_between : (below slot : ℕ) → below < 65537 → slot < below → is_between (0x56 ∷ []) (vote_key below) (Blob (vote_key slot)) ≡ true
+vote_between below slot q lt = ap is_lt (digits_below slot below lt q)
+
+vote_above : (below slot : ℕ) → below < 65537 → slot < 65537 → below ≤ slot
+    → is_between (0x56 ∷ []) (vote_key below) (Blob (vote_key slot)) ≡ false
+vote_above below slot q p le = go (slice_cmp nat_cmp (to_be_bytes w32 slot) (to_be_bytes w32 below)) refl
+  where
+    go : (o : Ordering) → slice_cmp nat_cmp (to_be_bytes w32 slot) (to_be_bytes w32 below) ≡ o → is_lt o ≡ false
+    go Less e = absurd (let l = digits_less slot below p q e in omega (arith, le, l))
+    go Equal e = refl
+    go Greater e = refl
+
+module _ (below : ℕ) (old new : List Row) (le : below ≤ 65536) (t : TrimsRows (0x56 ∷ []) (vote_key below) old new) where
+  -- the rows of a key stay, which doesn't lie between
+  kept_at : (k : List ℕ) → is_between (0x56 ∷ []) (vote_key below) (Blob k) ≡ false → value_at k new ≡ value_at k old
+  kept_at k apart = value_same k old new t.own_keys
+      (λ r h is. t.kept r h (ap (is_between (0x56 ∷ []) (vote_key below)) (blob_is k (column r 1) is) ∙ apart))
+      (λ r h is. (t.was r h).0)
+
+  gone_at : (k : List ℕ) → is_between (0x56 ∷ []) (vote_key below) (Blob k) ≡ true → value_at k new ≡ None
+  gone_at k between = value_none k new (λ r h. elim (cases_Bool (has_key k r)) [
+    | inl hit ↦ absurd (true≢false (sym between
+        ∙ sym (ap (is_between (0x56 ∷ []) (vote_key below)) (blob_is k (column r 1) hit)) ∙ (t.was r h).1))
+    | inr none ↦ none
+  ])
+
+  pub trims_records : records_in new ≡ without_votes_below (records_in old) below
+  trims_records = λ i q. at q i
+    where
+      vote : (slot : ℕ) → (b : Bool) → nat_lt slot 65536 ≡ b
+          → (if b then value_at (vote_key slot) new else None)
+          ≡ (if nat_lt slot below then None else (if b then value_at (vote_key slot) old else None))
+      vote slot false e = elim (cases_Bool (nat_lt slot below)) [ inl lower ↦ rw lower refl | inr other ↦ rw other refl ]
+      vote slot true e = elim (cases_Bool (nat_lt slot below)) [
+        | inl lower ↦ rw lower (gone_at (vote_key slot)
+            (vote_between below slot (omega (arith, le)) (ltb-true slot below lower)))
+        | inr other ↦ rw other (kept_at (vote_key slot)
+            (vote_above below slot (omega (arith, le)) (omega (arith, ltb-true slot 65536 e)) (ltb-false slot below other)))
+      ]
+
+      at : (q : Key) → records_in new q ≡ without_votes_below (records_in old) below q
+      at Checkpoint = kept_at (0x43 ∷ []) refl
+      at Promise = kept_at (0x50 ∷ []) refl
+      at Round = kept_at (0x52 ∷ []) refl
+      at (Vote slot) = vote slot (nat_lt slot 65536) refl
+
+either : (b : Bool) → (if◌then◌else◌ {A = Option (List ℕ)} b None None) ≡ None
+either true = refl
+either false = refl
+
+-- behind the log's end there is no vote
+pub at_most_all : (below : ℕ) (rows : List Row)
+    → without_votes_below (records_in rows) (min below 65536) ≡ without_votes_below (records_in rows) below
+at_most_all below rows = λ i q. at q i
+  where
+    vote : (slot : ℕ) → (b : Bool) → nat_lt slot 65536 ≡ b
+        → (if nat_lt slot (min below 65536) then None else (if b then value_at (vote_key slot) rows else None))
+        ≡ (if nat_lt slot below then None else (if b then value_at (vote_key slot) rows else None))
+    vote slot false e = elim (cases_Bool (nat_lt slot below)) [
+      | inl lower ↦ rw lower (either (nat_lt slot (min below 65536)))
+      | inr other ↦ rw other (either (nat_lt slot (min below 65536)))
+    ]
+    vote slot true e = ap (λ t. if t then None else value_at (vote_key slot) rows) same
+      where
+        same : nat_lt slot (min below 65536) ≡ nat_lt slot below
+        same = grind arith
+
+    at : (q : Key) → without_votes_below (records_in rows) (min below 65536) q ≡ without_votes_below (records_in rows) below q
+    at Checkpoint = refl
+    at Promise = refl
+    at Round = refl
+    at (Vote slot) = vote slot (nat_lt slot 65536) refl
+
+pub trims_stray : (below : ℕ) (old new : List Row) → TrimsRows (0x56 ∷ []) (vote_key below) old new → HasStray new → HasStray old
+trims_stray below old new t (r, h, stray) = (r, (t.was r h).0, stray)
 
 -- ---- the keys ascend
 

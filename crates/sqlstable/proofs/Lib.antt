@@ -5,7 +5,10 @@ pub mod Sets
 pub mod Kept
 pub mod OnePut
 pub mod Selects
+pub mod Trims
 pub mod Steps
+pub mod TrimSteps
 pub mod Keys
 pub mod Calls
 pub mod FoundLemmas
+pub mod Spellings

@@ -40,7 +40,8 @@ use Rattle.sqlite_rules.proofs.TableLemmas.{int_is, has_put, put_all_has, put_al
 use Rattle.sqlite.specs.Rows.{Written, Upserts, Updates, Puts, Clears, Meets}
 use Rattle.sqlite.proofs.Callers.{one_permutation}
 use Rattle.sqlstable.specs.Table.{record_table, record_schema}
-use Rattle.sqlstable.specs.Rows.{is_bytes, has_key, value_at, AreApart, HasOwnKeys, AreNumbered, PutsRow}
+use Rattle.sqlite_rules.specs.Edit.{is_taken}
+use Rattle.sqlstable.specs.Rows.{is_bytes, has_key, value_at, AreApart, HasOwnKeys, HasOwnNumbers, AreNumbered, PutsRow}
 use Rattle.sqlstable.specs.Texts.{put_clause}
 use Rattle.sqlstable.proofs.Puts.{goes_in, cast_int}
 use Rattle.sqlstable.proofs.Sets.{outputs, set_row, sets, set_program}
@@ -85,19 +86,40 @@ own-put_row new (r ∷ rs) own apart =
     others : AllByRecursion (AreApart new) rs
     others = all_from (AreApart new) rs (λ s h. apart_back s new (all_has (λ r. AreApart r new) rs s apart.1 h))
 
+-- the same of their numbers, where the new row's is free
+own-number_row : (new : Row) (rows : List Row) → HasOwnNumbers rows → AllByRecursion (λ r. rowid r ≢ rowid new) rows
+    → HasOwnNumbers (put_row new rows)
+own-number_row new [] own apart = (tt, tt)
+own-number_row new (r ∷ rs) own apart =
+    elim (value_cmp (rowid r) (rowid new)) as (λ o. HasOwnNumbers (match_ordering o (r ∷ put_row new rs) (new ∷ rs) (new ∷ r ∷ rs))) [
+      | Less ↦ (all-put_row (λ s. rowid r ≢ rowid s) new rs apart.0 own.0, own-number_row new rs own.1 apart.1)
+      | Equal ↦ (others, own.1)
+      | Greater ↦ ((λ e. apart.0 (sym e), others), own)
+    ]
+  where
+    others : AllByRecursion (λ s. rowid new ≢ rowid s) rs
+    others = all_from (λ s. rowid new ≢ rowid s) rs (λ s h e. all_has (λ r. rowid r ≢ rowid new) rs s apart.1 h (sym e))
+
+free_number : (new : Row) (rows : List Row) → are_fresh rows (new ∷ []) ≡ true → AllByRecursion (λ r. rowid r ≢ rowid new) rows
+free_number new rows fresh = all_from (λ r. rowid r ≢ rowid new) rows (λ r h e.
+    let free = not-true _ (and_parts _ _ fresh).0 in
+    true≢false (sym (some_from (λ s. is_eq (value_cmp (rowid s) (rowid new))) rows r h
+    (ap (λ v. is_eq (value_cmp v (rowid new))) e ∙ alike (rowid new))) ∙ free))
+
 abbrev pub row_of : ℤ → List ℕ → List ℕ → Row
 row_of id k v = Int id ∷ Blob k ∷ Blob v ∷ []
 
-pub goes_to : (id : ℤ) (k v : List ℕ) (old left : List Row) → HasOwnKeys left → AreNumbered left
+pub goes_to : (id : ℤ) (k v : List ℕ) (old left : List Row) → HasOwnKeys left → AreNumbered left → HasOwnNumbers left
     → ((r : Row) → Has left r → has_key k r ≡ false)
     → ((r : Row) → Has left r → Has old r) → ((r : Row) → Has old r → has_key k r ≡ false → Has left r)
     → are_fresh left (row_of id k v ∷ []) ≡ true → PutsRow k v old (put_all left (row_of id k v ∷ []))
-goes_to id k v old left own numbered none from stays fresh =
+goes_to id k v old left own numbered own_numbers none from stays fresh =
     let n = row_of id k v in
     record {
       own_keys = own-put_row n left own (all_from (λ r. AreApart r n) left (λ r h. apart_back n r (λ q is.
           let same : k ≡ q = (bytes_eq-Decides k q).0 is in subst (λ b. has_key b r ≡ false) same (none r h))));
       numbered = all-put_row (λ r. is_int (rowid r) ≡ true) n left refl numbered;
+      own_numbers = own-number_row n left own_numbers (free_number n left fresh);
       put = (n, has_put n left, is_bytes-self k, refl);
       kept = λ r h is. put_all_keeps (n ∷ []) left r fresh (stays r h is);
       was = λ r h is. elim (put_all_has (n ∷ []) left r h) [
@@ -147,7 +169,7 @@ outputs_has there v (s ∷ rs) r (inr x) is = go (equal Binary (column s 0) ther
     go true h = inr h
     go false h = h
 
-int_tied : (n id : ℤ) → is_eq (value_cmp (Int n) (Int id)) ≡ true → n ≡ id
+pub int_tied : (n id : ℤ) → is_eq (value_cmp (Int n) (Int id)) ≡ true → n ≡ id
 int_tied n id h = exact_signed n id ((Equal-is _).0 (rw (value_cmp-Int n id) at h))
 
 -- each row that the update shows has the rowid of the one that is there
@@ -176,7 +198,7 @@ twice n m left more same fresh =
 
 -- ---- the update
 
-module _ (k v : List ℕ) (rows : List Row) (own : HasOwnKeys rows) (numbered : AreNumbered rows) (there : Row) (listed : Has rows there)
+module _ (k v : List ℕ) (rows : List Row) (own : HasOwnKeys rows) (numbered : AreNumbered rows) (own_numbers : HasOwnNumbers rows) (there : Row) (listed : Has rows there)
     (keyed : has_key k there ≡ true) where
   abbrev id : ℤ
   id = id_in (rowid there)
@@ -221,7 +243,8 @@ module _ (k v : List ℕ) (rows : List Row) (own : HasOwnKeys rows) (numbered : 
     ]
 
     updated : are_fresh left (row_of id k v ∷ []) ≡ true → PutsRow k v rows (put_all left (row_of id k v ∷ []))
-    updated fresh = goes_to id k v rows left (ascending-filter AreApart _ rows own) (all-filter _ _ rows numbered) left_apart
+    updated fresh = goes_to id k v rows left (ascending-filter AreApart _ rows own) (all-filter _ _ rows numbered)
+        (ascending-filter (λ a b. rowid a ≢ rowid b) _ rows own_numbers) left_apart
         (λ r h. (left_was r h).0) stays_left fresh
 
 abbrev pub news_of : List Row → List Row → List Row
@@ -237,19 +260,19 @@ many id left (o ∷ p ∷ more) long all fresh =
     twice (cast_row record_table (drop 1 o.1)) (cast_row record_table (drop 1 p.1)) left _ (ap (cast Integer) (all.0 ∙ sym all.1.0)) fresh
 
 pub update_put : (limit : Option ℕ) (keys : Keys) (params : Row) (k v : List ℕ) (n : ℤ) (db : Trees) (one : Written)
-    → HasOwnKeys (db 0) → AreNumbered (db 0)
+    → HasOwnKeys (db 0) → AreNumbered (db 0) → HasOwnNumbers (db 0)
     → (there : Row) → Has (db 0) there → has_key k there ≡ true
     → Updates (record { limit = limit; keys = keys; schema = record_schema; table = record_table; params = params }) set_program
     (Blob k ∷ Blob v ∷ rowid there ∷ Int n ∷ Blob k ∷ Blob v ∷ []) db (Ok one)
     → PutsRow k v (db 0) (one.trees 0)
-update_put limit keys params k v n db one own numbers there listed keyed h =
+update_put limit keys params k v n db one own numbers ids there listed keyed h =
     let got = sets limit keys params k v (rowid there) (Int n) db one h in
-    let is = there_is k v (db 0) own numbers there listed keyed in
+    let is = there_is k v (db 0) own numbers ids there listed keyed in
     go got.0 got.1 (subst (λ x. IsPermutation (outputs x (Blob v) (db 0)) got.1) is got.2) got.3 got.4 got.5
     (outputs (Int (id_in (rowid there))) (Blob v) (db 0)) refl
   where
     here : Has (outputs (Int (id_in (rowid there))) (Blob v) (db 0)) (set_row (Blob v) there)
-    here = let is = there_is k v (db 0) own numbers there listed keyed in
+    here = let is = there_is k v (db 0) own numbers ids there listed keyed in
         outputs_has (Int (id_in (rowid there))) (Blob v) (db 0) there listed
         (subst (λ x. equal Binary x (Int (id_in (rowid there))) ≡ true) (sym is) (equal_ints _ _ ∙ alike (Int (id_in (rowid there)))))
 
@@ -260,7 +283,7 @@ update_put limit keys params k v n db one own numbers there listed keyed h =
         → outputs (Int (id_in (rowid there))) (Blob v) (db 0) ≡ set_row (Blob v) there ∷ []
         → PutsRow k v (db 0) (one.trees 0)
     one_row rows e ended fresh only =
-        let is = there_is k v (db 0) own numbers there listed keyed in
+        let is = there_is k v (db 0) own numbers ids there listed keyed in
         let left = without_rowid (id_in (rowid there)) (db 0) in
         let row : cast Integer (column there 0) ∷ column there 1 ∷ Blob v ∷ [] ≡ row_of (id_in (rowid there)) k v =
         ap (λ x. x ∷ column there 1 ∷ Blob v ∷ []) (ap (cast Integer) is ∙ cast_int _)
@@ -272,7 +295,7 @@ update_put limit keys params k v n db one own numbers there listed keyed h =
         subst (λ r. are_fresh left (r ∷ []) ≡ true) row (subst
         (λ rs. are_fresh (left_by db (edit_of db record_table (ids_of rs) Given 1 rs))
         (edit_of db record_table (ids_of rs) Given 1 rs).news ≡ true) e fresh) in
-        subst (PutsRow k v (db 0)) (sym trees) (updated k v (db 0) own numbers there listed keyed only free)
+        subst (PutsRow k v (db 0)) (sym trees) (updated k v (db 0) own numbers ids there listed keyed only free)
 
     go : (rows : List Row) (ordered : List Output) → IsPermutation (outputs (Int (id_in (rowid there))) (Blob v) (db 0)) ordered
         → rows ≡ map (λ (o : Output). o.1) ordered
@@ -298,17 +321,17 @@ update_put limit keys params k v n db one own numbers there listed keyed h =
 -- ---- the put
 
 pub one_put : (limit : Option ℕ) (keys : Keys) (params : Row) (id : ℤ) (k v : List ℕ) (db : Trees) (one : Written) → HasOwnKeys (db 0)
-    → AreNumbered (db 0) → params ≡ Blob k ∷ Blob v ∷ []
+    → AreNumbered (db 0) → HasOwnNumbers (db 0) → params ≡ Blob k ∷ Blob v ∷ []
     → Upserts (record { limit = limit; keys = keys; schema = record_schema; table = record_table; params = params }) Abort
     (row_of id k v) db (put_clause ∷ []) (Ok one)
     → PutsRow k v (db 0) (one.trees 0)
-one_put limit keys params id k v db one own numbers given (found, met, does) = go found met does
+one_put limit keys params id k v db one own numbers ids given (found, met, does) = go found met does
   where
     insert : ((r : Row) → Has (db 0) r → has_key k r ≡ false)
         → Puts (record { limit = limit; keys = keys; schema = record_schema; table = record_table; params = params }) (row_of id k v) db
         (Ok one) → PutsRow k v (db 0) (one.trees 0)
     insert none h = let went = goes_in limit keys params id k v db one h in
-        subst (PutsRow k v (db 0)) (sym went.0) (goes_to id k v (db 0) (db 0) own numbers none (λ r x. x) (λ r x is. x) went.1)
+        subst (PutsRow k v (db 0)) (sym went.0) (goes_to id k v (db 0) (db 0) own numbers ids none (λ r x. x) (λ r x is. x) went.1)
 
     clear : ((r : Row) → Has (db 0) r → has_key k r ≡ false) → (found : List Row)
         → Clears (record { limit = limit; keys = keys; schema = record_schema; table = record_table; params = params }) Abort
@@ -324,7 +347,7 @@ one_put limit keys params id k v db one own numbers given (found, met, does) = g
     go [] met (other, again, h) = clear (none_conflicts id k v (db 0) met) other h
     go (there ∷ more) met h =
         let it = one_conflicts id k v (db 0) more there met in
-        update_put limit keys params k v id db one own numbers it.0 it.1 it.2
+        update_put limit keys params k v id db one own numbers ids it.0 it.1 it.2
         (subst (λ x. Updates (record { limit = limit; keys = keys; schema = record_schema; table = record_table; params = params })
         set_program (Blob k ∷ Blob v ∷ x ∷ Int id ∷ Blob k ∷ Blob v ∷ []) db (Ok one)) it.3
         (subst (λ ps. Updates (record { limit = limit; keys = keys; schema = record_schema; table = record_table; params = params })

@@ -1,5 +1,5 @@
 -- What the two selects tell of the table.
-use Rattle.std.proofs.Common.{◌≡◌, inl, inr, ℕ, ◌+◌, ◌<◌, arith, List, [], ◌∷◌, ◌++◌, map, length, get_or, Bool, true, false, ◌&&◌}
+use Rattle.std.proofs.Common.{◌≡◌, ◌≢◌, inl, inr, ℕ, ◌+◌, ◌<◌, arith, List, [], ◌∷◌, ◌++◌, map, length, get_or, Bool, true, false, ◌&&◌}
 use Rattle.std.proofs.Common.{if◌then◌else◌, Some, Ok, Err, Result, IfOk, OnOk, refl, sym, ap, subst, ◌∙◌, true≢false}
 use Rattle.std.specs.Prelude.{flat_map, slice_index_or}
 use Rattle.std.specs.List.{list_all, AllByRecursion}
@@ -36,7 +36,7 @@ use Rattle.sqlstable.proofs.Rows.{value_none, value_has}
 
 -- ---- membership along a permutation and a map
 
-has_permuted : {X : Type 0} (xs ys : List X) (x : X) → IsPermutation xs ys → Has xs x → Has ys x
+pub has_permuted : {X : Type 0} (xs ys : List X) (x : X) → IsPermutation xs ys → Has xs x → Has ys x
 has_permuted xs ys x same h = has_contained ys x (Contains-permutation xs ys x same (contains_had xs x h))
 
 pub has_mapped : {A B : Type 0} (f : A → B) (xs : List A) (x : A) → Has xs x → Has (map f xs) (f x)
@@ -146,6 +146,9 @@ IsKeyed o = o.0 ≡ column o.1 0 ∷ []
 abbrev OutputsApart : Output → Output → Type 0
 OutputsApart o p = Differ (column o.1 0) (column p.1 0)
 
+abbrev NumbersApart : Output → Output → Type 0
+NumbersApart o p = column o.1 1 ≢ column p.1 1
+
 output_lt : (o p : Output) → IsKeyed o → IsKeyed p → is_lt (output_cmp keys_query o p) ≡ is_lt (value_cmp (column o.1 0) (column p.1 0))
 output_lt o p e f = ap is_lt (then-Equal _) ∙ ap (λ x. is_lt (value_cmp (column x 0) (column p.0 0))) e
     ∙ ap (λ x. is_lt (value_cmp (column o.1 0) (column x 0))) f
@@ -180,6 +183,9 @@ keys_listed table ordered same sorted =
       owned = λ up. ascending_from_map OutputsApart key_output table
           (pairwise_permuted OutputsApart (λ o p. differ_back (column o.1 0) (column p.1 0)) ordered _ (IsPermutation-sym _ _ same)
           (ascending_from_map (λ a b. Differ (column a 0) (column b 0)) (λ (p : Output). p.1) ordered up));
+      own_numbers = λ up. ascending_from_map NumbersApart key_output table
+          (pairwise_permuted NumbersApart (λ o p h e. h (sym e)) ordered _ (IsPermutation-sym _ _ same)
+          (ascending_from_map (λ a b. column a 1 ≢ column b 1) (λ (p : Output). p.1) ordered up));
     }
 
 pub lists : (sql : List ℕ) (listing : IsListing sql) (old new : State) (rows : List Row) → old.now.schema ≡ record_schema

@@ -17,7 +17,7 @@ use Rattle.sqlite.specs.Listing.{understood}
 use Rattle.sqlite.proofs.Callers.{runs_as, IsPlain}
 use Rattle.sqlstable.specs.Table.{record_schema, no_schema}
 use Rattle.sqlstable.specs.States.{Leaves, IsSound, table, Follows, IsUsable}
-use Rattle.sqlstable.specs.Rows.{HasOwnKeys, AreNumbered, PutsRow}
+use Rattle.sqlstable.specs.Rows.{HasOwnKeys, HasOwnNumbers, AreNumbered, PutsRow}
 use Rattle.sqlstable.specs.Texts.{IsMaking, IsPut, put_command}
 use Rattle.sqlstable.proofs.Listed.{lists_something}
 use Rattle.sqlstable.proofs.Kept.{not_run, refused_keeps, executes_open}
@@ -39,6 +39,7 @@ module _ (old new : State) where
           committed = ap (λ (d : Database). d.trees 0) h.0.committed_is ∙ s.committed ∙ sym same;
           own_keys = subst HasOwnKeys (sym same) s.own_keys;
           numbered = subst AreNumbered (sym same) s.numbered;
+          own_numbers = subst HasOwnNumbers (sym same) s.own_numbers;
           listed = λ none. s.listed (sym (ap (λ (d : Database). d.trees catalog_tree) h.0.committed_is) ∙ none);
         },
         same,
@@ -53,6 +54,7 @@ module _ (old new : State) where
           committed = ap (λ (d : Database). d.trees 0) back.1 ∙ sym (ap (λ (d : Database). d.trees 0) back.0);
           own_keys = subst HasOwnKeys (sym same) s.own_keys;
           numbered = subst AreNumbered (sym same) s.numbered;
+          own_numbers = subst HasOwnNumbers (sym same) s.own_numbers;
           listed = λ none. s.listed (sym (ap (λ (d : Database). d.trees catalog_tree) back.1) ∙ none);
         },
         same,
@@ -65,7 +67,7 @@ module _ (old new : State) where
     put_made count s h =
         let p = puts sql put old new k v count s.schema h in
         let one = one_put old.step_limit (mode_of old).keys (Blob k ∷ Blob v ∷ [])
-        (next_rowid (old.now.trees 0)) k v old.now.trees p.1 s.own_keys s.numbered refl p.3 in
+        (next_rowid (old.now.trees 0)) k v old.now.trees p.1 s.own_keys s.numbered s.own_numbers refl p.3 in
         subst (PutsRow k v (table old)) (sym (ap (λ (t : Trees). t 0) p.2)) one
 
     pub put_sound : (count : ℕ) → IsSound old → Executes sql (Blob k ∷ Blob v ∷ []) old new (Ok count) → IsSound new
@@ -82,6 +84,7 @@ module _ (old new : State) where
           committed = ap (λ (d : Database). d.trees 0) done;
           own_keys = made.own_keys;
           numbered = made.numbered;
+          own_numbers = made.own_numbers;
           listed = λ none. lists_something new.now p.0 w.sound (ap (λ (d : Database). d.trees catalog_tree) (sym done) ∙ none);
         }
 
@@ -184,6 +187,7 @@ module _ (old new : State) where
           committed = ap (λ (d : Database). d.trees 0) done;
           own_keys = subst HasOwnKeys (sym made.1) tt;
           numbered = subst AreNumbered (sym made.1) tt;
+          own_numbers = subst HasOwnNumbers (sym made.1) tt;
           listed = λ none. lists_something new.now made.0 w.sound (ap (λ (d : Database). d.trees catalog_tree) (sym done) ∙ none);
         },
         made.1,

@@ -5,22 +5,28 @@ use Rattle.std.specs.List.{AllByRecursion}
 use Rattle.sqlite_value.specs.declared.value.Value.TheVariants.{Blob}
 use Rattle.sqlite_value.specs.Order.{Row, column}
 use Rattle.sqlite_rules.specs.Lists.{Has}
-use Rattle.stable.specs.Records.{Records}
+use Rattle.stable.specs.Records.{Records, letter}
 use Rattle.stable.specs.declared.key.Key.{Key}
-use Rattle.stable.specs.declared.key.Key.TheVariants.{Promise, Round, Vote}
+use Rattle.stable.specs.declared.key.Key.TheVariants.{Vote}
 use Rattle.sqlstable.specs.Rows.{has_key, is_bytes, value_at}
 
--- 50, 52, or 56 with the slot in four bytes
+-- the key's byte, and of a vote the slot in four
 abbrev pub spelled : Key → List ℕ
-spelled Promise = 0x50 ∷ []
-spelled Round = 0x52 ∷ []
 spelled (Vote slot) = 0x56 ∷ to_be_bytes w32 slot
+spelled key = letter key ∷ []
+
+-- the bytes with which the keys of votes begin, and no other key
+abbrev pub votes : List ℕ
+votes = 0x56 ∷ []
+
+-- how a vote's key is spelled
+abbrev pub vote_key : ℕ → List ℕ
+vote_key slot = 0x56 ∷ to_be_bytes w32 slot
 
 -- the log has the slot; a greater one would be spelled as another
 abbrev pub is_valid : Key → Bool
-is_valid Promise = true
-is_valid Round = true
 is_valid (Vote slot) = nat_lt slot 65536
+is_valid key = true
 
 -- the records in these rows
 abbrev pub records_in : List Row → Records

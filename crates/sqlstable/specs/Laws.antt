@@ -2,7 +2,7 @@
 use Rattle.std.proofs.Common.{ap, ◌∙◌, subst, sym, arith, refl, inl, ◌≡◌, ◌↔◌, ℕ, ◌<◌, ◌≤◌, List, Option, IsSome, unwrap_or}
 use Rattle.sqlite_value.specs.Order.{Row}
 use Rattle.sqlite_trees.specs.declared.store.Store.{Ghosts}
-use Rattle.stable.specs.Records.{with_record}
+use Rattle.stable.specs.Records.{changed}
 use Rattle.stable.specs.Script.{counted}
 use Rattle.stable.specs.ScriptLaws.{counted_more}
 use Rattle.stable.specs.Storages.{IsLawful}
@@ -11,9 +11,6 @@ use Rattle.sqlstable.specs.Storage.{in_table}
 
 same_strays : {a b : List Row} → b ≡ a → HasStray b ↔ HasStray a
 same_strays e = (subst HasStray e, subst HasStray (sym e))
-
-through : {A B C : Type 0} → A ↔ B → B ↔ C → A ↔ C
-through f g = (λ a. g.0 (f.0 a), λ c. f.1 (g.1 c))
 
 as_many : {m n : Option ℕ} → n ≡ m → unwrap_or m 0 ≤ unwrap_or n 0
 as_many e = let count = ap (λ (count : Option ℕ). unwrap_or count 0) e in omega (arith, count)
@@ -33,15 +30,15 @@ module _ {S : Type 0} (g : Ghosts S) where
     read_fails_contents = λ a b f h. ap records_in (f.rows h);
     read_fails_failures = λ a b f h. one_more a.failures f.failures h.counts;
     read_fails_stray = λ a b f h. same_strays (f.rows h);
-    puts_honest = λ a b key bytes p h. p.honest h;
-    puts_contents = λ a b key bytes p h. p.records h;
-    puts_failures = λ a b key bytes p h. as_many p.failures;
-    puts_stray = λ a b key bytes p h. p.stray h;
-    puts_settled = λ a b key bytes p. tt;
-    fails_honest = λ a b key bytes f h. f.honest h;
-    fails_contents = λ a b key bytes f h. inl (ap records_in (f.rows h));
-    fails_failures = λ a b key bytes f h. one_more a.failures f.failures h.counts;
-    fails_stray = λ a b key bytes f h. same_strays (f.rows h);
+    changes_honest = λ a b change p h. p.honest h;
+    changes_contents = λ a b change p h. p.records h;
+    changes_failures = λ a b change p h. as_many p.failures;
+    changes_stray = λ a b change p h. p.stray h;
+    changes_settled = λ a b change p. tt;
+    fails_honest = λ a b change f h. f.honest h;
+    fails_contents = λ a b change f h. inl (ap records_in (f.rows h));
+    fails_failures = λ a b change f h. one_more a.failures f.failures h.counts;
+    fails_stray = λ a b change f h. (same_strays (f.rows h)).0;
     reads_none = λ a. record { honest = λ h. h; rows = λ h. refl; failures = refl };
     reads_reads = λ a b c r s. record {
       honest = λ h. r.honest (s.honest h);
@@ -53,21 +50,21 @@ module _ {S : Type 0} (g : Ghosts S) where
       rows = λ h. f.rows h ∙ r.rows (f.honest h);
       failures = f.failures ∙ ap counted r.failures;
     };
-    reads_puts = λ a b c key bytes r p. record {
+    reads_changes = λ a b c change r p. record {
       honest = λ h. r.honest (p.honest h);
-      records = λ h. p.records h ∙ ap (λ rows. with_record (records_in rows) key bytes) (r.rows (p.honest h));
-      stray = λ h. through (p.stray h) (same_strays (r.rows (p.honest h)));
+      records = λ h. p.records h ∙ ap (λ rows. changed (records_in rows) change) (r.rows (p.honest h));
+      stray = λ h s. (same_strays (r.rows (p.honest h))).0 (p.stray h s);
       failures = p.failures ∙ r.failures;
     };
-    reads_fails = λ a b c key bytes r f. record {
+    reads_fails = λ a b c change r f. record {
       honest = λ h. r.honest (f.honest h);
       rows = λ h. f.rows h ∙ r.rows (f.honest h);
       failures = f.failures ∙ ap counted r.failures;
     };
-    puts_reads = λ a b c key bytes p r. record {
+    changes_reads = λ a b c change p r. record {
       honest = λ h. p.honest (r.honest h);
       records = λ h. ap records_in (r.rows h) ∙ p.records (r.honest h);
-      stray = λ h. through (same_strays (r.rows h)) (p.stray (r.honest h));
+      stray = λ h s. p.stray (r.honest h) ((same_strays (r.rows h)).0 s);
       failures = r.failures ∙ p.failures;
     };
   }

@@ -1,5 +1,5 @@
 -- What the two selects tell of the table.
-use Rattle.std.specs.Prelude.{◌≡◌, ⊤, ◌+◌, ◌<◌, ℕ, Bool, true, false, length, slice_index_or, List, [], ◌∷◌, Some, None}
+use Rattle.std.specs.Prelude.{◌≡◌, ◌≢◌, ⊤, ◌+◌, ◌<◌, ℕ, ℤ, ◌<ℤ◌, Bool, true, false, length, slice_index_or, List, [], ◌∷◌, Some, None}
 use Rattle.std.specs.Ordering.{is_lt, nat_cmp}
 use Rattle.std.specs.Cmp.Lexicographic.{slice_cmp}
 use Rattle.sqlite_value.specs.Order.{Row, column, bytes, value_cmp}
@@ -8,7 +8,7 @@ use Rattle.sqlite_value.specs.declared.value.Value.TheVariants.{Blob}
 use Rattle.sqlite_trees.specs.Tree.{IsAscending}
 use Rattle.sqlite_trees.specs.View.{is_int}
 use Rattle.sqlite_rules.specs.Lists.{Has}
-use Rattle.sqlstable.specs.Rows.{Differ, HasOwnKeys, value_at}
+use Rattle.sqlstable.specs.Rows.{Differ, HasOwnKeys, HasOwnNumbers, value_at}
 
 -- the rows of an answer tell what the key holds
 abbrev pub TellsValue : List ℕ → List Row → List Row → Type 0
@@ -19,6 +19,10 @@ TellsValue k table (row ∷ more) = value_at k table ≡ Some (bytes (column row
 abbrev pub key_row : Row → Row
 key_row row = column row 1 ∷ column row 0 ∷ []
 
+-- no number is told twice
+abbrev pub HaveOwnNumbers : List Row → Type 0
+HaveOwnNumbers = IsAscending (λ a b. column a 1 ≢ column b 1)
+
 -- the rows of an answer tell the keys of the table, in order
 pub record ListsKeys (table rows : List Row) : Type 0 where
   pub from : (row : Row) → Has rows row → (r : Row) × Has table r × (row ≡ key_row r)
@@ -27,6 +31,7 @@ pub record ListsKeys (table rows : List Row) : Type 0 where
       → is_lt (value_cmp (column (slice_index_or rows (at + 1) none) 0) (column (slice_index_or rows at none) 0)) ≡ false
   pub apart : HasOwnKeys table → IsAscending (λ a b. Differ (column a 0) (column b 0)) rows
   pub owned : IsAscending (λ a b. Differ (column a 0) (column b 0)) rows → HasOwnKeys table
+  pub own_numbers : HaveOwnNumbers rows → HasOwnNumbers table
 
 -- after bytes come greater bytes
 abbrev pub rises : Value → Value → Bool
@@ -43,3 +48,9 @@ RisesTo row (next ∷ more) = rises (column row 0) (column next 0) ≡ true
 abbrev pub AreSoundRows : List Row → Type 0
 AreSoundRows [] = ⊤
 AreSoundRows (row ∷ more) = (is_int (column row 1) ≡ true) × RisesTo row more × AreSoundRows more
+
+-- each number is below the next
+abbrev pub AreRising : List ℤ → Type 0
+AreRising [] = ⊤
+AreRising (n ∷ []) = ⊤
+AreRising (n ∷ m ∷ more) = (n <ℤ m) × AreRising (m ∷ more)

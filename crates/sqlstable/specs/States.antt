@@ -4,7 +4,7 @@ use Rattle.sqlite_value.specs.Order.{Row}
 use Rattle.sqlite_trees.specs.Objects.{catalog_tree}
 use Rattle.sqlite.specs.State.{State, HasCleanDisk, IsUnchanged, IsRolledBack}
 use Rattle.sqlstable.specs.Table.{record_schema}
-use Rattle.sqlstable.specs.Rows.{HasOwnKeys, AreNumbered}
+use Rattle.sqlstable.specs.Rows.{HasOwnKeys, HasOwnNumbers, AreNumbered}
 
 -- the rows of the table
 abbrev pub table : State → List Row
@@ -18,7 +18,7 @@ IsUsable s = HasCleanDisk s × IsTrue s.is_open
 abbrev pub Leaves : State → State → Type 0
 Leaves old new = IsUnchanged old new ⊎ IsRolledBack old new
 
--- the table is there and nothing else, its keys differ, its rows have numbers, and all is committed
+-- the table is there and nothing else, its keys differ, its rows have numbers that differ, and all is committed
 pub record IsSound (s : State) : Type 0 where
   pub schema : s.now.schema ≡ record_schema
   pub autocommit : s.in_transaction ≡ false
@@ -27,6 +27,7 @@ pub record IsSound (s : State) : Type 0 where
   pub listed : s.committed.trees catalog_tree ≢ []
   pub own_keys : HasOwnKeys (s.now.trees 0)
   pub numbered : AreNumbered (s.now.trees 0)
+  pub own_numbers : HasOwnNumbers (s.now.trees 0)
 
 -- sound, or of no use any more
 abbrev pub IsSettled : State → Type 0

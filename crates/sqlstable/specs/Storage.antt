@@ -1,11 +1,10 @@
 -- A storage over the table, and what its calls make of it.
-use Rattle.std.specs.Prelude.{◌≡◌, ◌↔◌, ℕ, Some, IsSome, unwrap_or, List}
+use Rattle.std.specs.Prelude.{◌≡◌, ℕ, Some, IsSome, unwrap_or, List}
 use Rattle.sqlite_value.specs.Order.{Row}
 use Rattle.sqlite_trees.specs.declared.store.Store.{Ghosts}
 use Rattle.sqlite.specs.Held.{state}
-use Rattle.stable.specs.Records.{with_record}
+use Rattle.stable.specs.Records.{Change, changed}
 use Rattle.stable.specs.Script.{counted}
-use Rattle.stable.specs.declared.key.Key.{Key}
 use Rattle.stable.specs.declared.stable.Stable as stable
 use Rattle.sqlstable.specs.States.{IsUsable, table}
 use Rattle.sqlstable.specs.Keys.{records_in, HasStray}
@@ -41,14 +40,14 @@ module _ {S : Type 0} (g : Ghosts S) where
     pub rows : IsSqlHonest b → rows_of b ≡ rows_of a
     pub failures : b.failures ≡ counted a.failures
 
-  -- calls of which one put these bytes
-  pub record Puts (a : SqlStable S g) (key : Key) (bytes : List ℕ) (b : SqlStable S g) : Type 0 where
+  -- calls of which one made this change
+  pub record Changes (a : SqlStable S g) (change : Change) (b : SqlStable S g) : Type 0 where
     pub honest : IsSqlHonest b → IsSqlHonest a
-    pub records : IsSqlHonest b → records_in (rows_of b) ≡ with_record (records_in (rows_of a)) key bytes
-    pub stray : IsSqlHonest b → HasStray (rows_of b) ↔ HasStray (rows_of a)
+    pub records : IsSqlHonest b → records_in (rows_of b) ≡ changed (records_in (rows_of a)) change
+    pub stray : IsSqlHonest b → HasStray (rows_of b) → HasStray (rows_of a)
     pub failures : b.failures ≡ a.failures
 
-  -- what it is as a storage: a put that fails leaves the old records
+  -- what it is as a storage: a change that fails leaves the old records
   abbrev pub in_table : stable.Ghosts (SqlStable S g)
   in_table = record {
     contents = λ s. records_in (rows_of s);
@@ -57,7 +56,7 @@ module _ {S : Type 0} (g : Ghosts S) where
     HasStrayKey = λ s. HasStray (rows_of s);
     IsSettled = λ _. Unit {0};
     reads = Reads;
-    puts = Puts;
+    changes = Changes;
     read_fails = ReadFails;
-    fails = λ a key bytes b. ReadFails a b;
+    fails = λ a change b. ReadFails a b;
   }

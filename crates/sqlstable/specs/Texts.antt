@@ -1,14 +1,14 @@
 -- What a text has to mean for each of the four statements: the command that it is under the schema.
 use Rattle.std.specs.Prelude.{◌≡◌, ℕ, false, Some, None, Ok, codes, List, [], ◌∷◌, pos, negsuc}
-use Rattle.sqlite_value.specs.declared.value.Value.TheVariants.{Null, Int}
+use Rattle.sqlite_value.specs.declared.value.Value.TheVariants.{Null, Int, Blob}
 use Rattle.sqlite_value.specs.declared.keys.Collation.TheVariants.{Binary}
 use Rattle.sqlite_value.specs.Keys.{ascending}
 use Rattle.sqlite_sql.specs.Term.{Term, lit, col, op2}
 use Rattle.sqlite_sql.specs.Query.{Query, inner, end}
 use Rattle.sqlite_sql.specs.declared.ops.BinaryOp.TheVariants as binary
-use Rattle.sqlite_sql.specs.declared.ops.CompareOp.TheVariants.{Eq}
+use Rattle.sqlite_sql.specs.declared.ops.CompareOp.TheVariants.{Eq, Ge, Lt}
 use Rattle.sqlite_schema.specs.declared.command.Command.{Command}
-use Rattle.sqlite_schema.specs.declared.command.Command.TheVariants.{CreateTable, InsertOr, Select}
+use Rattle.sqlite_schema.specs.declared.command.Command.TheVariants.{CreateTable, Delete, InsertOr, Select}
 use Rattle.sqlite_schema.specs.declared.command.Conflict.TheVariants.{Abort}
 use Rattle.sqlite_schema.specs.declared.command.Source.{Source}
 use Rattle.sqlite_schema.specs.declared.command.Source.TheVariants.{Values}
@@ -79,3 +79,13 @@ pub record IsListing (sql : List ℕ) : Type 0 where
       (codes "k" ∷ codes "rowid" ∷ [])
   pub bare : IsPlain (understood record_schema sql)
   pub unlisted : reads_listing record_schema sql ≡ false
+
+-- the numbers of the rows whose keys are bytes from 56 on and below the parameter
+abbrev pub trim_query : Query
+trim_query = plain (op2 (binary.Compare Ge Binary) (col 1 1) (lit (Blob (0x56 ∷ [])))
+    ∷ op2 (binary.Compare Lt Binary) (col 1 1) (col 0 0) ∷ []) (col 1 0 ∷ [])
+
+-- it takes those rows out
+pub record IsTrim (sql : List ℕ) : Type 0 where
+  pub command : command_of (understood record_schema sql) ≡ Delete 0 (record { lets = []; body = trim_query })
+  pub bare : IsPlain (understood record_schema sql)

@@ -1,8 +1,7 @@
-//! Stable records in a table of a database, in memory or in a file that other tools can read.
+//! Stable records in a database table, in memory or in a file that other tools can read.
 //!
-//! `SqlStable` keeps the promises of `stable::Stable` over the kit's `sqlite`. The table is `record`, with a row for each
-//! key: the key's spelling in `k`, its bytes in `v`. Each put is one statement and a transaction of its own, which is on
-//! the disk before it is told.
+//! `SqlStable` implements `stable::Stable` over the kit's `sqlite`. The table `record` has a row for each key: the key's bytes in
+//! `k`, the record in `v`. Each put is one statement and one transaction, which is on disk before the call returns.
 #![tactic(auto)]
 
 mod closing;

@@ -2,14 +2,10 @@
 
 ghost use Rattle.std.specs.Prelude.{◌≡◌, ◌≢◌, ◌≤◌, true, take, MatchOption};
 ghost use Rattle.stable.specs.declared.key.Key.{Key};
-ghost use Rattle.sqlstable.specs.Keys.{is_valid, spelled};
+ghost use Rattle.sqlstable.specs.Keys.{is_valid, spelled, vote_key};
 
 use stable::Key;
 use synod::Slot;
-
-const PROMISE: u8 = 0x50;
-
-const ROUND: u8 = 0x52;
 
 const VOTE: u8 = 0x56;
 
@@ -23,13 +19,17 @@ pub fn spelling(key: Key) -> ([u8; MOST_BYTES], usize)
     ensures valid { is_valid key ≡ true }
 {
     match key {
-        Key::Promise => ([PROMISE, 0, 0, 0, 0], 1),
-        Key::Round => ([ROUND, 0, 0, 0, 0], 1),
-        Key::Vote(slot) => {
-            let at = slot.value().to_be_bytes();
-            ([VOTE, at[0], at[1], at[2], at[3]], MOST_BYTES)
-        }
+        Key::Vote(slot) => (vote_key(slot.value()), MOST_BYTES),
+        fixed => ([fixed.letter(), 0, 0, 0, 0], 1),
     }
+}
+
+/// The bytes of a vote's key at a slot. Those of the log's end are above all of them.
+pub fn vote_key(slot: u32) -> [u8; MOST_BYTES]
+    ensures { result ≡ vote_key slot }
+{
+    let at = slot.to_be_bytes();
+    [VOTE, at[0], at[1], at[2], at[3]]
 }
 
 /// The key that these bytes spell, or None where they spell none.
@@ -39,8 +39,7 @@ pub fn key_of(bytes: &[u8]) -> Option<Key>
         (λ key. (is_valid key ≡ true) × (spelled key ≡ bytes.now)) }
 {
     match bytes {
-        [PROMISE] => Some(Key::Promise),
-        [ROUND] => Some(Key::Round),
+        [letter] => Key::of_letter(*letter),
         [VOTE, a, b, c, d] => {
             let slot = Slot::new(u32::from_be_bytes([*a, *b, *c, *d]))?;
             Some(Key::Vote(slot))

@@ -6,9 +6,10 @@ ghost use Rattle.std.specs.Prelude.{◌≡◌, false, [], OnErr, OnOk, IfOk, opt
 ghost use Rattle.sqlite.specs.Held.{state};
 ghost use Rattle.sqlite.specs.State.{HasCleanDisk, IsUnchanged};
 ghost use Rattle.sqlstable.specs.Table.{no_schema, record_schema};
-ghost use Rattle.sqlstable.specs.Texts.{IsListing, IsLookup, IsMaking, IsPut};
+ghost use Rattle.sqlstable.specs.Texts.{IsListing, IsLookup, IsMaking, IsPut, IsTrim};
 ghost use Rattle.sqlstable.specs.States.{Follows, IsSound, IsUsable, table};
-ghost use Rattle.sqlstable.specs.Rows.{PutsRow, value_at};
+ghost use Rattle.sqlstable.specs.Rows.{PutsRow, TrimsRows, value_at};
+ghost use Rattle.sqlstable.specs.Keys.{votes};
 ghost use Rattle.sqlstable.specs.Lists.{ListsKeys, TellsValue};
 
 use sqlite::{Alter, Connection, Error, Row, params};
@@ -50,6 +51,25 @@ pub fn write<S: Alter>(
         "INSERT INTO record (k, v) VALUES (?1, ?2) ON CONFLICT (k) DO UPDATE SET v = excluded.v",
         key,
         bytes,
+    )
+}
+
+/// Takes out the rows of votes whose keys are below these bytes, in a transaction of its own.
+pub fn trim<S: Alter>(connection: &mut Connection<S>, end: &[u8]) -> Result<usize, Error>
+    ensures follows { Follows (state S.Store connection.old) (state S.Store connection.new) }
+    ensures trimmed { IsUsable (state S.Store connection.new)
+        → IsSound (state S.Store connection.old)
+        → OnOk result (TrimsRows votes end.now
+        (table (state S.Store connection.old)) (table (state S.Store connection.new))) }
+    ensures refused { IsUsable (state S.Store connection.new)
+        → IsSound (state S.Store connection.old)
+        → OnErr result (table (state S.Store connection.new)
+        ≡ table (state S.Store connection.old)) }
+{
+    run_trim(
+        connection,
+        "DELETE FROM record WHERE k >= X'56' AND k < ?1",
+        end,
     )
 }
 
@@ -117,6 +137,22 @@ fn run_put<S: Alter>(
         ≡ table (state S.Store connection.old)) }
 {
     connection.execute(sql, params![key, bytes])
+}
+
+// Runs a text that takes out rows of votes.
+fn run_trim<S: Alter>(connection: &mut Connection<S>, sql: &str, end: &[u8]) -> Result<usize, Error>
+    requires trim { IsTrim sql.now }
+    ensures follows { Follows (state S.Store connection.old) (state S.Store connection.new) }
+    ensures trimmed { IsUsable (state S.Store connection.new)
+        → IsSound (state S.Store connection.old)
+        → OnOk result (TrimsRows votes end.now
+        (table (state S.Store connection.old)) (table (state S.Store connection.new))) }
+    ensures refused { IsUsable (state S.Store connection.new)
+        → IsSound (state S.Store connection.old)
+        → OnErr result (table (state S.Store connection.new)
+        ≡ table (state S.Store connection.old)) }
+{
+    connection.execute(sql, params![end])
 }
 
 // Runs a text that selects what a key holds.

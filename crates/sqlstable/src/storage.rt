@@ -5,11 +5,12 @@ ghost use Rattle.sqlstable.specs.States.{IsSettled};
 
 use crate::fault::fault_of;
 use crate::listing::keys_in;
-use crate::spelling::spelling;
-use crate::statements::{list, read, write};
+use crate::spelling::{spelling, vote_key};
+use crate::statements::{list, read, trim, write};
 use sqlite::{Alter, Connection, Error, MemStore};
 use stable::{Key, Stable, StableFault};
 use std::alloc::Global;
+use synod::SLOTS;
 
 /// Records in a table of a database.
 ///
@@ -27,7 +28,8 @@ pub struct SqlStable<S: Alter> {
 impl<S: Alter> SqlStable<S> {
     ghost use Rattle.std.specs.Prelude.{◌≡◌, ◌≢◌, Some, OnOk, IsErrOf};
     ghost use Rattle.stable.specs.Script.{counted};
-    ghost use Rattle.sqlstable.specs.Storage.{Puts, ReadFails, Reads};
+    ghost use Rattle.sqlstable.specs.Storage.{Changes, ReadFails, Reads};
+    ghost use Rattle.stable.specs.Records.{Sets, Trims};
 
     // A connection whose table is settled, with no failure yet.
     pub(crate) fn holding(connection: Connection<S>) -> SqlStable<S>
@@ -58,9 +60,25 @@ impl<S: Alter> SqlStable<S> {
         fault
     }
 
+    // Takes out the votes at slots below this one, and leaves every other key.
+    fn trim(&mut self, below: u32) -> Result<(), StableFault>
+        ensures ok { OnOk result (Changes S.Store self.old (Trims below) self.new) }
+
+        // Each error.
+        ensures device { IsErrOf result StableFault.Device → ReadFails S.Store self.old self.new }
+        ensures memory { IsErrOf result StableFault.Memory → Reads S.Store self.old self.new }
+        ensures not_damaged { ¬ IsErrOf result StableFault.Damaged }
+    {
+        let end = vote_key(below.min(SLOTS));
+        match trim(&mut self.connection, &end) {
+            Ok(_removed) => Ok(()),
+            Err(error) => Err(self.blame(&error)),
+        }
+    }
+
     // Makes the key hold these bytes, and leaves every other key.
     fn store(&mut self, key: Key, bytes: &[u8]) -> Result<(), StableFault>
-        ensures ok { OnOk result (Puts S.Store self.old key bytes.now self.new) }
+        ensures ok { OnOk result (Changes S.Store self.old (Sets key bytes.now) self.new) }
 
         // Each error.
         ensures device { IsErrOf result StableFault.Device → ReadFails S.Store self.old self.new }
@@ -78,7 +96,7 @@ impl<S: Alter> SqlStable<S> {
 impl<S: Alter> Stable for SqlStable<S> {
     ghost use Rattle.std.specs.Prelude.{◌≡◌, ℕ, ◌↔◌, List, IfOk, OnOk, IsErrOf};
     ghost use Rattle.sqlstable.specs.Keys.{HasStray, records_in};
-    ghost use Rattle.sqlstable.specs.Storage.{IsSqlHonest, Puts, ReadFails, Reads};
+    ghost use Rattle.sqlstable.specs.Storage.{Changes, IsSqlHonest, ReadFails, Reads};
     ghost use Rattle.sqlstable.specs.Storage.{failures_of, rows_of};
     ghost use Rattle.sqlstable.specs.Laws.{table_laws};
 
@@ -94,11 +112,11 @@ impl<S: Alter> Stable for SqlStable<S> {
 
     ghost reads = { Reads S.Store };
 
-    ghost puts = { Puts S.Store };
+    ghost changes = { Changes S.Store };
 
     ghost read_fails = { ReadFails S.Store };
 
-    ghost fails = { λ a _ _ b. ReadFails S.Store a b };
+    ghost fails = { λ a _ b. ReadFails S.Store a b };
 
     fn get(&mut self, alloc: Global, key: Key) -> Result<Option<Vec<u8>>, StableFault> {
         let (spelled, length) = spelling(key);
@@ -110,6 +128,10 @@ impl<S: Alter> Stable for SqlStable<S> {
 
     fn put(&mut self, alloc: Global, key: Key, bytes: Vec<u8>) -> Result<(), StableFault> {
         self.store(key, bytes.as_slice())
+    }
+
+    fn trim_below(&mut self, alloc: Global, below: u32) -> Result<(), StableFault> {
+        self.trim(below)
     }
 
     fn keys(&mut self, alloc: Global) -> Result<Vec<Key>, StableFault> {

@@ -9,13 +9,14 @@ ghost use Rattle.sqlite.specs.State.{IsLive};
 ghost use Rattle.sqlstable.specs.States.{IsSound, IsUsable};
 ghost use Rattle.sqlstable.specs.Files.{FindsTable};
 ghost use Rattle.sqlstable.specs.States as states;
-ghost use Rattle.sqlstable.specs.Lists.{AreSoundRows, RisesTo};
+ghost use Rattle.sqlstable.specs.Lists.{AreRising, AreSoundRows, HaveOwnNumbers, RisesTo};
 ghost use Rattle.sqlstable.specs.Lists as lists;
 ghost use Rattle.sqlstable.specs.Table.{listed_schema};
 
 use crate::statements::list;
 use sqlite::{Alter, Connection, Error, Row};
 use sqlite_value::value::ValueRef;
+use std::alloc::{AllocError, Global};
 use std::cmp::Ordering;
 
 /// Whether the table may be used: no transaction is open, its rows have numbers, and no key comes twice.
@@ -33,7 +34,43 @@ pub fn survey<S: Alter>(connection: &mut Connection<S>) -> Result<bool, Error>
     if !connection.is_autocommit() {
         return Ok(false);
     }
-    Ok(are_sound(rows.as_slice()))
+    let listed = rows.as_slice();
+    if !are_sound(listed) {
+        return Ok(false);
+    }
+    let are_own = have_own_numbers(*rows.allocator(), listed)?;
+    Ok(are_own)
+}
+
+// No number comes twice.
+fn have_own_numbers(alloc: Global, rows: &[Row]) -> Result<bool, AllocError>
+    ensures { IfOk result (λ own. IsTrue own → HaveOwnNumbers rows.now) }
+{
+    let mut numbers = Vec::new(alloc);
+    for row in rows {
+        match row.get_ref(1) {
+            Ok(ValueRef::Int(number)) => numbers.push(number)?,
+            _ => return Ok(false),
+        }
+    }
+    numbers.sort_unstable();
+    Ok(rise(numbers.as_slice()))
+}
+
+// Each number is below the next.
+fn rise(numbers: &[i64]) -> bool
+    ensures { IsTrue result → AreRising numbers.entry.now }
+{
+    let mut rest = numbers;
+    while let [first, more @ ..] = rest {
+        if let [next, ..] = more
+            && first >= next
+        {
+            return false;
+        }
+        rest = more;
+    }
+    true
 }
 
 // The rows have numbers, and keys that rise.

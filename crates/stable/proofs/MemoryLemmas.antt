@@ -1,6 +1,7 @@
 -- What records in memory hold, and how their keys are listed.
 use Rattle.std.proofs.Common.{◌≡◌, ℕ, suc, ◌+◌, ◌<◌, ◌≤◌, ◌↔◌, List, [], ◌∷◌, ◌++◌, Option, Some, None}
 use Rattle.std.proofs.Common.{IsSome, Contains, Vec, Global, refl, sym, ap, subst, ◌∙◌, eqb, is_some, IfSome}
+use Rattle.std.proofs.Common.{zero, length, slice_get, slice_set, slice_index_or, if◌then◌else◌}
 use Rattle.std.proofs.Common.{MatchOption, option_copied, Bor, true, false, inl, inr, arith, option_map}
 use Rattle.std.specs.List.{AllByRecursion}
 use Rattle.std.specs.List.Sorted.{IsStrictlySortedBy}
@@ -9,33 +10,35 @@ use Rattle.std.proofs.lemmas.Bool.{eq-eqb}
 use Rattle.std.proofs.lemmas.Bool.Decides.{eqb_tells}
 use Rattle.std.proofs.lemmas.List.Elements.{Contains-push, Contains-push_cases, Contains-append_left}
 use Rattle.synod.specs.Records.{put}
-use Rattle.byslot.specs.Values.{value_at, IsEmptyFrom, IsFirstFrom}
+use Rattle.byslot.specs.Values.{place_or, value_at, without_below, IsEmptyFrom, IsFirstFrom}
 use Rattle.byslot.specs.declared.byslot.BySlot.{BySlot}
-use Rattle.byslot.proofs.ValueLemmas.{less, tells}
+use Rattle.byslot.proofs.ValueLemmas.{less, tells, written_of, unwritten_of}
 use Rattle.stable.specs.Listing.{ListsTo}
 use Rattle.stable.specs.Memory.{stored}
-use Rattle.stable.specs.Records.{Records, rank, key_cmp, IsAscending, no_records, with_record}
+use Rattle.stable.specs.Records.{Records, rank, key_cmp, IsAscending, no_records, with_record, without_votes_below}
 use Rattle.stable.specs.declared.key.Key.{Key}
-use Rattle.stable.specs.declared.key.Key.TheVariants.{Promise, Round, Vote}
+use Rattle.stable.specs.declared.key.Key.TheVariants.{Checkpoint, Promise, Round, Vote}
 use Rattle.stable.specs.declared.memory.MemStable.{MemStable}
 use Rattle.stable.proofs.KeyLemmas.{same_rank}
 
 -- ---- what is held
 pub none_stored : (votes : BySlot (Vec ℕ Global)) → value_at votes ≡ (λ _. None)
-    → stored (record { promise = None; round = None; votes = votes }) ≡ no_records
+    → stored (record { fixed = None ∷ None ∷ None ∷ []; votes = votes }) ≡ no_records
 none_stored votes none = λ k q. at q k
   where
-    at : (q : Key) → stored (record { promise = None; round = None; votes = votes }) q ≡ None
+    at : (q : Key) → stored (record { fixed = None ∷ None ∷ None ∷ []; votes = votes }) q ≡ None
+    at Checkpoint = refl
     at Promise = refl
     at Round = refl
     at (Vote s) = ap (λ (f : ℕ → Option (Vec ℕ Global)). option_map (λ v. v.items) (f s)) none
 
 -- nothing has changed of the votes
 pub same_stored : (a : MemStable) (votes : BySlot (Vec ℕ Global)) → value_at votes ≡ value_at a.votes
-    → stored (record { promise = a.promise; round = a.round; votes = votes }) ≡ stored a
+    → stored (record { fixed = a.fixed; votes = votes }) ≡ stored a
 same_stored a votes same = λ k q. at q k
   where
-    at : (q : Key) → stored (record { promise = a.promise; round = a.round; votes = votes }) q ≡ stored a q
+    at : (q : Key) → stored (record { fixed = a.fixed; votes = votes }) q ≡ stored a q
+    at Checkpoint = refl
     at Promise = refl
     at Round = refl
     at (Vote s) = ap (λ (f : ℕ → Option (Vec ℕ Global)). option_map (λ v. v.items) (f s)) same
@@ -49,15 +52,58 @@ apart m n other = elim (eqb_tells m n) [
 -- a vote was put
 pub vote_stored : (a : MemStable) (votes : BySlot (Vec ℕ Global)) (slot : ℕ) (copy : Vec ℕ Global) (key : Key) (bytes : List ℕ)
     → key ≡ Vote slot → copy.items ≡ bytes → value_at votes ≡ put (value_at a.votes) slot (Some copy)
-    → stored (record { promise = a.promise; round = a.round; votes = votes }) ≡ with_record (stored a) key bytes
+    → stored (record { fixed = a.fixed; votes = votes }) ≡ with_record (stored a) key bytes
 vote_stored a votes slot copy key bytes is copied changed = λ k q. (at q ∙ ap (λ (j : Key). with_record (stored a) j bytes q) (sym is)) k
   where
-    at : (q : Key) → stored (record { promise = a.promise; round = a.round; votes = votes }) q ≡ with_record (stored a) (Vote slot) bytes q
-    at Promise = rw (apart 0 (slot + 2) (λ e. omega (arith, e))) refl
-    at Round = rw (apart 1 (slot + 2) (λ e. omega (arith, e))) refl
+    at : (q : Key) → stored (record { fixed = a.fixed; votes = votes }) q ≡ with_record (stored a) (Vote slot) bytes q
+    at Checkpoint = rw (apart 0 (slot + 3) (λ e. omega (arith, e))) refl
+    at Promise = rw (apart 1 (slot + 3) (λ e. omega (arith, e))) refl
+    at Round = rw (apart 2 (slot + 3) (λ e. omega (arith, e))) refl
     at (Vote s) = ap (λ (f : ℕ → Option (Vec ℕ Global)). option_map (λ v. v.items) (f s)) changed ∙ elim (eqb_tells s slot) [
-      | inl same ↦ rw (same.0, eq-eqb (s + 2) (slot + 2) (ap (λ n. n + 2) same.1), copied) refl
-      | inr other ↦ rw (other.0, apart (s + 2) (slot + 2) (λ e. other.1 (omega (arith, e)))) refl
+      | inl same ↦ rw (same.0, eq-eqb (s + 3) (slot + 3) (ap (λ n. n + 3) same.1), copied) refl
+      | inr other ↦ rw (other.0, apart (s + 3) (slot + 3) (λ e. other.1 (omega (arith, e)))) refl
+    ]
+
+fixed_rank : (key : Key) → ((slot : ℕ) → key ≡ Vote slot → ⊥) → rank key < 3
+fixed_rank Checkpoint no_vote = omega arith
+fixed_rank Promise no_vote = omega arith
+fixed_rank Round no_vote = omega arith
+fixed_rank (Vote s) no_vote = absurd (no_vote s refl)
+
+-- a record of a fixed key was put
+pub fixed_stored : (a : MemStable) (fixed : List (Option (Vec ℕ Global))) (key : Key) (copy : Vec ℕ Global)
+    → ((slot : ℕ) → key ≡ Vote slot → ⊥) → length a.fixed ≡ 3 → fixed ≡ slice_set a.fixed (rank key) (Some copy)
+    → stored (record { fixed = fixed; votes = a.votes }) ≡ with_record (stored a) key copy.items
+fixed_stored a fixed key copy no_vote three set = λ k q. (at q) k
+  where
+    low : rank key < 3
+    low = fixed_rank key no_vote
+
+    place : (n : ℕ) → option_map (λ v. v.items) (place_or (slice_get fixed n) None)
+        ≡ (if eqb n (rank key) then Some copy.items else option_map (λ v. v.items) (place_or (slice_get a.fixed n) None))
+    place n = elim (eqb_tells n (rank key)) [
+      | inl same ↦ rw (set, same.0, same.1, written_of a.fixed (rank key) (Some copy) (omega (arith, low, three))) refl
+      | inr other ↦ rw (set, other.0, unwritten_of a.fixed (rank key) n (Some copy) other.1) refl
+    ]
+
+    at : (q : Key) → stored (record { fixed = fixed; votes = a.votes }) q ≡ with_record (stored a) key copy.items q
+    at Checkpoint = place 0
+    at Promise = place 1
+    at Round = place 2
+    at (Vote s) = rw (apart (s + 3) (rank key) (λ e. omega (arith, e, low))) refl
+
+-- votes below a slot are gone
+pub votes_trimmed : (a : MemStable) (votes : BySlot (Vec ℕ Global)) (below : ℕ) → value_at votes ≡ without_below (value_at a.votes) below
+    → stored (record { fixed = a.fixed; votes = votes }) ≡ without_votes_below (stored a) below
+votes_trimmed a votes below changed = λ k q. (at q) k
+  where
+    at : (q : Key) → stored (record { fixed = a.fixed; votes = votes }) q ≡ without_votes_below (stored a) below q
+    at Checkpoint = refl
+    at Promise = refl
+    at Round = refl
+    at (Vote s) = ap (λ (f : ℕ → Option (Vec ℕ Global)). option_map (λ v. v.items) (f s)) changed ∙ elim (tells s below) [
+      | inl low ↦ rw low.0 refl
+      | inr high ↦ rw high.0 refl
     ]
 
 -- ---- keys in order
@@ -152,20 +198,22 @@ between_none records n q from to = absurd (omega (arith, from, to))
 -- ---- the keys of votes
 module _ (s : MemStable) (first : ℕ) where
   pub votes_before : (slot : ℕ) (bytes : Vec ℕ Global) → IsFirstFrom (value_at s.votes) first slot bytes
-      → (q : Key) → first + 2 ≤ rank q → rank q < slot + 2 → stored s q ≡ None
+      → (q : Key) → first + 3 ≤ rank q → rank q < slot + 3 → stored s q ≡ None
+  votes_before slot bytes is Checkpoint from to = absurd (omega (arith, from))
   votes_before slot bytes is Promise from to = absurd (omega (arith, from))
   votes_before slot bytes is Round from to = absurd (omega (arith, from))
   votes_before slot bytes is (Vote t) from to = ap (option_map (λ v. v.items)) (is.none_before t (omega (arith, from)) (omega (arith, to)))
 
-  pub no_votes : IsEmptyFrom (value_at s.votes) first → (q : Key) → first + 2 ≤ rank q → stored s q ≡ None
+  pub no_votes : IsEmptyFrom (value_at s.votes) first → (q : Key) → first + 3 ≤ rank q → stored s q ≡ None
+  no_votes is Checkpoint from = absurd (omega (arith, from))
   no_votes is Promise from = absurd (omega (arith, from))
   no_votes is Round from = absurd (omega (arith, from))
   no_votes is (Vote t) from = ap (option_map (λ v. v.items)) (is t (omega (arith, from)))
 
 -- where the next look begins, and what is listed by then
 pub next_place : (records : Records) (keys : List Key) (slot n : ℕ) (o : Option ℕ) → n ≡ slot → slot < 65536
-    → IsSome o ↔ (n + 1 < 65536) → IfSome o (λ s. s ≡ n + 1) → ListsTo records (slot + 2 + 1) keys
-    → MatchOption o (ListsTo records 65538 keys) (λ first. ListsTo records (first + 2) keys)
+    → IsSome o ↔ (n + 1 < 65536) → IfSome o (λ s. s ≡ n + 1) → ListsTo records (slot + 3 + 1) keys
+    → MatchOption o (ListsTo records 65539 keys) (λ first. ListsTo records (first + 3) keys)
 next_place records keys slot n None is lt valid value listed =
     elim (tells (n + 1) 65536) [
       | inl more ↦ absurd (let bad : IsSome {T = ℕ} None = valid.1 more.1 in cc)
@@ -174,9 +222,9 @@ next_place records keys slot n None is lt valid value listed =
 next_place records keys slot n (Some s) is lt valid value listed = subst (λ m. ListsTo records m keys) (omega (arith, value, is)) listed
 
 -- a vote that is found first joins the list
-pub vote_listed : (s : MemStable) (first slot : ℕ) (bytes : Vec ℕ Global) (keys : List Key) → ListsTo (stored s) (first + 2) keys
-    → IsFirstFrom (value_at s.votes) first slot bytes → ListsTo (stored s) (slot + 2 + 1) (keys ++ Vote slot ∷ [])
+pub vote_listed : (s : MemStable) (first slot : ℕ) (bytes : Vec ℕ Global) (keys : List Key) → ListsTo (stored s) (first + 3) keys
+    → IsFirstFrom (value_at s.votes) first slot bytes → ListsTo (stored s) (slot + 3 + 1) (keys ++ Vote slot ∷ [])
 vote_listed s first slot bytes keys listed is =
     let from = is.from in
     let some : IsSome (stored s (Vote slot)) = rw is.stands refl in
-    one_more (stored s) (first + 2) keys listed (Vote slot) (omega arith) some (votes_before s first slot bytes is)
+    one_more (stored s) (first + 3) keys listed (Vote slot) (omega arith) some (votes_before s first slot bytes is)

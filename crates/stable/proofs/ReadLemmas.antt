@@ -25,5 +25,6 @@ module _ {S : Type 0} (storage : Ghosts S) (laws : IsLawful storage) where
     inner = read;
     armed = ap (λ t. t.armed) after;
     fired = ap (λ t. t.fired) after;
+    trimmed = ap (λ t. t.trimmed) after;
     list = inl (ap (λ t. t.writes) after, ap (λ t. t.unsure) after);
   })

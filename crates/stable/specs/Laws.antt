@@ -1,13 +1,12 @@
 -- The laws of a storage: what its calls may make of it, and what calls one after the other come to.
-use Rattle.std.specs.Prelude.{◌≡◌, ℕ, ◌<◌, ◌≤◌, ◌↔◌, ◌⊎◌, List}
-use Rattle.stable.specs.Records.{Records, with_record}
-use Rattle.stable.specs.declared.key.Key.{Key}
+use Rattle.std.specs.Prelude.{◌≡◌, ℕ, ◌<◌, ◌≤◌, ◌↔◌, ◌⊎◌}
+use Rattle.stable.specs.Records.{Records, Change, changed}
 
 -- a storage that is honest after a call was honest before it, and has the same stray keys; what is said of records and
 -- of the count is said where it is honest
 pub record KeepsLaws {S : Type 0} (contents : S → Records) (failures : S → ℕ) (IsHonest HasStrayKey IsSettled : S → Type 0)
-    (reads : S → S → Type 0) (puts : S → Key → List ℕ → S → Type 0)
-    (read_fails : S → S → Type 0) (fails : S → Key → List ℕ → S → Type 0) : Type 0 where
+    (reads : S → S → Type 0) (changes : S → Change → S → Type 0)
+    (read_fails : S → S → Type 0) (fails : S → Change → S → Type 0) : Type 0 where
   -- reading leaves the records
   pub reads_honest : (a b : S) → reads a b → IsHonest b → IsHonest a
   pub reads_contents : (a b : S) → reads a b → IsHonest b → contents b ≡ contents a
@@ -23,32 +22,32 @@ pub record KeepsLaws {S : Type 0} (contents : S → Records) (failures : S → �
       → failures a < failures b
   pub read_fails_stray : (a b : S) → read_fails a b → IsHonest b
       → HasStrayKey b ↔ HasStrayKey a
-  -- a put sets its key, and no other
-  pub puts_honest : (a b : S) (key : Key) (bytes : List ℕ) → puts a key bytes b → IsHonest b
+  -- a change is made, and nothing else
+  pub changes_honest : (a b : S) (change : Change) → changes a change b → IsHonest b
       → IsHonest a
-  pub puts_contents : (a b : S) (key : Key) (bytes : List ℕ) → puts a key bytes b → IsHonest b
-      → contents b ≡ with_record (contents a) key bytes
-  pub puts_failures : (a b : S) (key : Key) (bytes : List ℕ) → puts a key bytes b → IsHonest b
+  pub changes_contents : (a b : S) (change : Change) → changes a change b → IsHonest b
+      → contents b ≡ changed (contents a) change
+  pub changes_failures : (a b : S) (change : Change) → changes a change b → IsHonest b
       → failures a ≤ failures b
-  pub puts_stray : (a b : S) (key : Key) (bytes : List ℕ) → puts a key bytes b → IsHonest b
-      → HasStrayKey b ↔ HasStrayKey a
-  pub puts_settled : (a b : S) (key : Key) (bytes : List ℕ) → puts a key bytes b → IsSettled b
-  -- a put on which the device failed was counted, and left the old records or the new ones
-  pub fails_honest : (a b : S) (key : Key) (bytes : List ℕ) → fails a key bytes b → IsHonest b
+  pub changes_stray : (a b : S) (change : Change) → changes a change b → IsHonest b
+      → HasStrayKey b → HasStrayKey a
+  pub changes_settled : (a b : S) (change : Change) → changes a change b → IsSettled b
+  -- a change on which the device failed was counted, and left the old records or the new ones
+  pub fails_honest : (a b : S) (change : Change) → fails a change b → IsHonest b
       → IsHonest a
-  pub fails_contents : (a b : S) (key : Key) (bytes : List ℕ) → fails a key bytes b → IsHonest b
-      → (contents b ≡ contents a) ⊎ (contents b ≡ with_record (contents a) key bytes)
-  pub fails_failures : (a b : S) (key : Key) (bytes : List ℕ) → fails a key bytes b → IsHonest b
+  pub fails_contents : (a b : S) (change : Change) → fails a change b → IsHonest b
+      → (contents b ≡ contents a) ⊎ (contents b ≡ changed (contents a) change)
+  pub fails_failures : (a b : S) (change : Change) → fails a change b → IsHonest b
       → failures a < failures b
-  pub fails_stray : (a b : S) (key : Key) (bytes : List ℕ) → fails a key bytes b → IsHonest b
-      → HasStrayKey b ↔ HasStrayKey a
+  pub fails_stray : (a b : S) (change : Change) → fails a change b → IsHonest b
+      → HasStrayKey b → HasStrayKey a
   -- calls one after the other
   pub reads_none : (a : S) → reads a a
   pub reads_reads : (a b c : S) → reads a b → reads b c → reads a c
   pub reads_read_fails : (a b c : S) → reads a b → read_fails b c → read_fails a c
-  pub reads_puts : (a b c : S) (key : Key) (bytes : List ℕ) → reads a b → puts b key bytes c
-      → puts a key bytes c
-  pub reads_fails : (a b c : S) (key : Key) (bytes : List ℕ) → reads a b → fails b key bytes c
-      → fails a key bytes c
-  pub puts_reads : (a b c : S) (key : Key) (bytes : List ℕ) → puts a key bytes b → reads b c
-      → puts a key bytes c
+  pub reads_changes : (a b c : S) (change : Change) → reads a b → changes b change c
+      → changes a change c
+  pub reads_fails : (a b c : S) (change : Change) → reads a b → fails b change c
+      → fails a change c
+  pub changes_reads : (a b c : S) (change : Change) → changes a change b → reads b c
+      → changes a change c

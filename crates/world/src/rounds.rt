@@ -16,7 +16,8 @@ use wire::{Envelope, Frame, Message, NodeId};
 
 impl<S: Stable> Run<S> {
     ghost use Rattle.world.specs.Runs.{run_of};
-    ghost use Rattle.history.specs.Rounds.{NamesNoMember, IsLowestDown, CanMeet, IsAt, DeliversTo, DeliversPart, GoesDownOn, EndsIn};
+    ghost use Rattle.history.specs.Rounds.{NamesNoMember, IsLowestDown, IsBehind, IsLowestBehind, CanMeet, IsAt};
+    ghost use Rattle.history.specs.Rounds.{DeliversTo, DeliversPart, GoesDownOn, EndsIn};
     ghost use Rattle.history.specs.Rounds.{MeetingEnds, IsInterrupted, RoundEnds, IsPartOfRound, is_up};
     ghost use Rattle.history.specs.Rounds.{GoesOn, GoesToItsEnd, BreaksOff, begun, answered, heard};
 
@@ -76,6 +77,9 @@ impl<S: Stable> Run<S> {
         if let Some(down) = self.lowest_down(members) {
             return Ok(RoundEnd::Down(down));
         }
+        if let Some(ahead) = self.lowest_behind(node, members) {
+            return Ok(RoundEnd::Behind(ahead));
+        }
         let Some(slot) = self.slot_of(node) else {
             return Ok(RoundEnd::Refused(NodeFault::LogFull));
         };
@@ -92,6 +96,25 @@ impl<S: Stable> Run<S> {
             if let Some(node) = NodeId::new(number) {
                 if is_among(members, node) && !self.is_up(node) {
                     return Some(node);
+                }
+            }
+        }
+        None
+    }
+
+    // The lowest member that the node, which is up, is behind.
+    fn lowest_behind(&self, node: NodeId, members: &[NodeId]) -> Option<NodeId>
+        requires there { node < vec_len self.now.nodes }
+        requires up { is_up (run_of self.now) node ≡ true }
+        requires members_there { All (λ m. m < vec_len self.now.nodes) members.now }
+        ensures { MatchOption result
+            ((m : ℕ) → Contains members.now m → ¬ (IsBehind (run_of self.now) node m))
+            (IsLowestBehind (run_of self.now) node members.now) }
+    {
+        for number in 0..self.count() {
+            if let Some(member) = NodeId::new(number) {
+                if is_among(members, member) && self.is_behind(node, member) {
+                    return Some(member);
                 }
             }
         }

@@ -88,7 +88,7 @@ impl<S: Stable> Run<S> {
     ghost use Rattle.world.specs.Runs.{HasRoom};
     ghost use Rattle.history.specs.Events.{NamesNoFrame, NamesNoNode};
     ghost use Rattle.history.specs.Flushing.{Delivers, DeliversSome};
-    ghost use Rattle.history.specs.Rounds.{is_up, IsAt, RefusesToBegin, FailsToBegin};
+    ghost use Rattle.history.specs.Rounds.{is_up, IsBehind, IsAt, RefusesToBegin, FailsToBegin};
 
     /// Every frame that was sent.
     pub fn frames(&self) -> &[Frame]
@@ -111,6 +111,19 @@ impl<S: Stable> Run<S> {
     {
         match self.nodes.get(usize::from(node.value())) {
             Some(at) => at.is_up(),
+            None => false,
+        }
+    }
+
+    /// Whether a node that is up is behind another: the acceptor there may not speak of its position any more.
+    pub fn is_behind(&self, node: NodeId, other: NodeId) -> bool
+        requires there { node < vec_len self.now.nodes }
+        requires up { is_up (run_of self.now) node ≡ true }
+        ensures { IsTrue result ↔ IsBehind (run_of self.now) node other }
+    {
+        let position = self.nodes[usize::from(node.value())].position();
+        match self.nodes.get(usize::from(other.value())) {
+            Some(at) => position < at.floor(),
             None => false,
         }
     }

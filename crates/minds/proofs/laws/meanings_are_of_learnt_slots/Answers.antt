@@ -1,4 +1,4 @@
-use Rattle.minds.proofs.Learnt.{fresh_means_nothing, learnt_behind}
+use Rattle.minds.proofs.Learnt.{fresh_begins, fresh_has_learnt_nothing, learnt_behind, loaded_means}
 use Rattle.minds.proofs.Meanings.{as_many}
 use Rattle.minds.proofs.laws.meanings_are_of_learnt_slots.Goals as goal
 
@@ -9,4 +9,7 @@ pub returns-clause-learnt : goal.returns-clause-learnt
 returns-clause-learnt c = learnt_behind
 
 pub returns-clause-fresh : goal.returns-clause-fresh
-returns-clause-fresh c = fresh_means_nothing
+returns-clause-fresh c = λ id nodes m h. (fresh_begins id nodes m h, fresh_has_learnt_nothing id nodes m h)
+
+pub returns-clause-loaded : goal.returns-clause-loaded
+returns-clause-loaded c = loaded_means

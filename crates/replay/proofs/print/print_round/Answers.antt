@@ -2,6 +2,9 @@ use Rattle.std.proofs.Common.{arith}
 use Rattle.std.proofs.lemmas.Grind.{common_steps}
 use Rattle.replay.proofs.print.print_round.Goals as goal
 
+pub returns-in-Behind : goal.returns-in-Behind
+returns-in-Behind c = grind (arith, common_steps)
+
 pub returns-in-Decided : goal.returns-in-Decided
 returns-in-Decided c = grind (arith, common_steps)
 

@@ -11,11 +11,12 @@ returns g c =
     let after : State = state g.S.Store c.list.new.connection in
     let has = c.requires.ours ∙ listed_is in
     let alone : c.is_autocommit.result ≡ true = search rules in
-    let shown : IsUsable after → IsTrue c.are_sound.result → IsSound after × (table after ≡ table before) =
-    λ usable sound. found_sound before after c.in_ok-rows.rows.items c.as_slice.result.now has (c.in_ok-rows.ensures.listed usable.0 has)
+    let shown : IsUsable after → IsTrue c.in_ok-are_own.are_own → IsSound after × (table after ≡ table before) =
+    λ usable own. found_sound before after c.in_ok-rows.rows.items c.as_slice-listed.result.now has (c.in_ok-rows.ensures.listed usable.0 has)
     (c.in_ok-rows.ensures.unchanged usable.0 has) c.requires.live
     (not_in c.is_autocommit.result _ c.is_autocommit.ensures.value alone)
-    (c.is_autocommit.ensures.settled alone usable.1) c.as_slice.ensures.value (c.are_sound.ensures sound) in
+    (c.is_autocommit.ensures.settled alone usable.1) c.as_slice-listed.ensures.value (c.are_sound.ensures (search rules))
+    (c.in_ok-are_own.ensures own) in
     record {
       sound = λ usable sound. (shown usable sound).0;
       found = λ usable sound. record { was_clean = c.list.ensures.follows.clean usable.0; found = inr (shown usable sound).1 };

@@ -1,14 +1,15 @@
-use Rattle.std.proofs.Common.{◌≡◌, ◌==◌, ◌≤◌, ℕ, Some, None, Bool, true, false, not, inl, inr, refl, sym, ap}
+use Rattle.std.proofs.Common.{◌≡◌, ◌==◌, Some, Bool, true, false, not, inl, inr, refl, sym}
 use Rattle.std.proofs.Common.{rules, arith}
 use Rattle.std.proofs.lemmas.Result.{err_from_is_err_and}
 use Rattle.synod.specs.Ballots.{rank, rank_of}
 use Rattle.stable.specs.declared.key.Key.TheVariants as key
+use Rattle.stable.specs.Records.{Sets}
 use Rattle.stable.proofs.FaultLemmas.{handed_on, no_fault}
-use Rattle.acceptor.specs.Accepting.{refusing, prepare_write}
+use Rattle.acceptor.specs.Accepting.{Taken, verdict, turned_away, prepare_write}
 use Rattle.acceptor.specs.Spelling.{ballot_bytes}
 use Rattle.acceptor.specs.State.{accepting_of}
-use Rattle.acceptor.specs.declared.answer.Answer.TheVariants.{Nack}
-use Rattle.acceptor.proofs.RecordLemmas.{taken_is_above}
+use Rattle.acceptor.proofs.VerdictLemmas.{taken_is_above, taken_from_the_floor, taken_unless_away, untaken_away}
+use Rattle.acceptor.proofs.VerdictLemmas.{no_prepare_write, same_after_prepare}
 use Rattle.acceptor.proofs.acceptor.Acceptor.on_prepare.Goals as goal
 use Rattle.acceptor.proofs.acceptor.Acceptor.on_prepare.Goals.{then-ne+in_ok-write_promise, else-ne}
 
@@ -16,28 +17,27 @@ turned : (b c : Bool) → b ≡ not c → c ≡ not b
 turned b true is = rw is refl
 turned b false is = rw is refl
 
-from_zero : (n : ℕ) → 0 ≤ n
-from_zero n = omega arith
-
 -- no vote is of a ballot above the one that is promised now
 pub invariant_of-self : goal.invariant_of-self
 invariant_of-self g c = record {
   bounded = λ s v held.
-      let promise = c.args.self.now.promise in
-      let above = taken_is_above promise c.args.ballot (sym c.in_default.ensures.value) in
+      let a = accepting_of c.args.self.now in
+      let taken = taken_unless_away (verdict a c.args.ballot c.args.first) c.args.ballot (sym c.in_default.ensures) in
+      let above = taken_is_above a c.args.ballot c.args.first taken in
       let below = c.args.self.now.bounded s v held in
       omega arith;
 }
 
--- no greater ballot is promised, so the votes are told
+-- it is taken, so the votes are told
 pub returns : goal.returns
 returns g c =
     let a = accepting_of c.args.self.now in
-    let taken : refusing a.promise c.args.ballot ≡ None = sym c.in_default.ensures.value in record {
+    let taken : verdict a c.args.ballot c.args.first ≡ Taken =
+    taken_unless_away (verdict a c.args.ballot c.args.first) c.args.ballot (sym c.in_default.ensures) in record {
       answer = rw taken (record {
         promise = c.in_ok-promise.promise;
         is = refl;
-        from_the_floor = from_zero _;
+        from_the_floor = taken_from_the_floor a c.args.ballot c.args.first taken;
         tells = c.in_ok-promise.ensures.tells;
       });
       state = rw taken refl;
@@ -57,13 +57,15 @@ returns g c =
       not_damaged = λ is. no_fault _ _ is;
     }
 
--- a ballot that is refused is answered without a write
+-- what isn't taken is answered without a write
 pub returns-in-Some : goal.returns-in-Some
 returns-in-Some g c =
-    let refused : refusing c.args.self.now.promise c.args.ballot ≡ Some c.in-Some.promised = sym c.in-Some.ensures.value in record {
-      answer = rw refused (ap Nack c.refusal.ensures);
-      state = rw refused refl;
-      written = rw refused (g.met.S.Stable.laws.reads_none _);
+    let a = accepting_of c.args.self.now in
+    let away : turned_away (verdict a c.args.ballot c.args.first) c.args.ballot ≡ Some c.in-Some.answer = sym c.in-Some.ensures in
+    let not = untaken_away (verdict a c.args.ballot c.args.first) c.args.ballot c.in-Some.answer away in record {
+      answer = rw away refl;
+      state = sym (same_after_prepare a c.args.ballot c.args.first not);
+      written = rw (no_prepare_write a c.args.ballot c.args.first not) (g.met.S.Stable.laws.reads_none _);
       taken = tt;
       wanted = tt;
       device = λ is. absurd (no_fault _ _ is);
@@ -75,12 +77,15 @@ returns-in-Some g c =
 -- memory is wanting where a vote is to be told
 pub returns-in_err-promise : goal.returns-in_err-promise
 returns-in_err-promise g c =
+    let a = accepting_of c.args.self.now in
+    let taken : verdict a c.args.ballot c.args.first ≡ Taken =
+    taken_unless_away (verdict a c.args.ballot c.args.first) c.args.ballot (sym c.in_default.ensures) in
     let exit = err_from_is_err_and c.from_residual.result c.from_residual.ensures.1 in
     rw (exit.1, exit.2) (record {
       answer = tt;
       state = tt;
       written = tt;
-      taken = sym c.in_default.ensures.value;
+      taken = taken;
       wanted = inl c.in_err-promise.ensures.stands;
       device = λ is. absurd (cc);
       memory = λ _. g.met.S.Stable.laws.reads_none _;
@@ -93,9 +98,10 @@ pub returns-in_err-write_promise : goal.returns-in_err-write_promise
 returns-in_err-write_promise g c =
     let exit = err_from_is_err_and c.from_residual-in_err-write_promise.result c.from_residual-in_err-write_promise.ensures.1 in
     let a = accepting_of c.args.self.now in
-    let taken : refusing a.promise c.args.ballot ≡ None = sym c.in_default.ensures.value in
+    let taken : verdict a c.args.ballot c.args.first ≡ Taken =
+    taken_unless_away (verdict a c.args.ballot c.args.first) c.args.ballot (sym c.in_default.ensures) in
     let other : true ≡ not (rank c.args.ballot == rank_of a.promise) = search rules in
-    let write : prepare_write a c.args.ballot ≡ Some (key.Promise, ballot_bytes c.args.ballot) = rw (taken, turned _ _ other) refl in
+    let write : prepare_write a c.args.ballot c.args.first ≡ Some (Sets key.Promise (ballot_bytes c.args.ballot)) = rw (taken, turned _ _ other) refl in
     rw (exit.1, exit.2) (record {
       answer = tt;
       state = tt;

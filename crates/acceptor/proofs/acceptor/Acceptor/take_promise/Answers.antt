@@ -1,4 +1,4 @@
-use Rattle.std.proofs.Common.{ap, refl}
+use Rattle.std.proofs.Common.{ap}
 use Rattle.acceptor.specs.Casts.{vote_held}
 use Rattle.acceptor.specs.Loading.{raised}
 use Rattle.acceptor.specs.State.{accepting_of}
@@ -12,5 +12,5 @@ returns-in-Some c = λ seen fresh says.
     let ballot = c.in-Some.ballot in
     let there = RecordsSay-see_promise seen a ballot (rw c.in-Some.is at c.requires) fresh says in
     rw c.in-Some.is (RecordsSay-holds _ (record a { promise = raised a.promise ballot })
-    (accepting_of c.raise.new.self) c.raise.ensures.promise refl
+    (accepting_of c.raise.new.self) c.raise.ensures.promise c.raise.ensures.floor
     (λ s. ap (λ votes. vote_held votes s) c.raise.ensures.votes) there)

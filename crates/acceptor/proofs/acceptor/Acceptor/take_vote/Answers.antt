@@ -1,4 +1,4 @@
-use Rattle.std.proofs.Common.{Some, refl}
+use Rattle.std.proofs.Common.{Some}
 use Rattle.acceptor.specs.Accepting.{put}
 use Rattle.acceptor.specs.Casts.{vote_at, vote_held}
 use Rattle.acceptor.specs.Loading.{raised}
@@ -14,5 +14,5 @@ returns-in_ok-insert c = λ seen fresh says.
     let there = RecordsSay-see_vote seen a vote (rw c.in-Some.is at c.requires) fresh says in
     let votes = rw c.raise.ensures.votes at c.in_ok-insert.ensures.votes in
     rw c.in-Some.is (RecordsSay-holds _ (record a { promise = raised a.promise vote.ballot; vote = put a.vote vote.slot (Some vote) })
-    (record { promise = c.raise.new.self.promise; floor = 0; vote = λ s. vote_held c.insert.new.self s }) c.raise.ensures.promise refl votes
-    there)
+    (record { promise = c.raise.new.self.promise; floor = c.raise.new.self.floor; vote = λ s. vote_held c.insert.new.self s })
+    c.raise.ensures.promise c.raise.ensures.floor votes there)

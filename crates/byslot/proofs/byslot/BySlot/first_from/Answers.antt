@@ -10,11 +10,11 @@ use Rattle.byslot.proofs.byslot.BySlot.first_from.Goals as goal
 pub returns : goal.returns
 returns g c =
     let self = c.args.self.now in
-    let all : 65536 ≤ c.loop-value.value = omega (arith, c.loop-value-test.false) in
-    none_up_to (in_row self.row.items (get nat_cmp self.others)) c.args.from c.loop-value.value all c.loop-value.invariant
+    let all : 65536 ≤ c.loop-place.place = omega (arith, c.loop-place-test.false) in
+    none_up_to (in_row self.row.items (get nat_cmp self.others)) c.args.from c.loop-place.place all c.loop-place.invariant
 
-pub loop-value-init : goal.loop-value-init
-loop-value-init g c = search rules
+pub loop-place-init : goal.loop-place-init
+loop-place-init g c = search rules
 
 pub returns-in-Some-Some : goal.returns-in-Some-Some
 returns-in-Some-Some g c = grind (arith, elements)
@@ -22,5 +22,5 @@ returns-in-Some-Some g c = grind (arith, elements)
 pub returns-in-None : goal.returns-in-None
 returns-in-None g c = grind (arith, elements)
 
-pub loop-value-preserved : goal.loop-value-preserved
-loop-value-preserved g c = grind (arith, elements)
+pub loop-place-preserved : goal.loop-place-preserved
+loop-place-preserved g c = grind (arith, elements)

@@ -3,5 +3,5 @@ use Rattle.byslot.specs.Values.{value_at}
 use Rattle.byslot.proofs.byslot.BySlot.first_from.Given as goal
 
 -- at the slots that were looked at nothing stands
-abbrev pub invariant-loop-value : goal.invariant-loop-value
-invariant-loop-value g l = (s : ℕ) → l.fn.from ≤ s → s < l.value → value_at l.fn.self s ≡ None
+abbrev pub invariant-loop-place : goal.invariant-loop-place
+invariant-loop-place g l = (s : ℕ) → l.fn.from ≤ s → s < l.place → value_at l.fn.self s ≡ None

@@ -2,6 +2,7 @@ use Rattle.std.proofs.Common.{◌≡◌, Some, refl, ap, rules, subst}
 use Rattle.std.proofs.lemmas.Option.{same_Some}
 use Rattle.minds.specs.Loading.{IsFresh, IsMindOf}
 use Rattle.minds.specs.Minds.{Mind}
+use Rattle.minds.proofs.Learnt.{loaded_means}
 use Rattle.node.specs.Roles.{mind_of}
 use Rattle.node.proofs.node.Node.restart.Goals as goal
 
@@ -50,5 +51,10 @@ returns-in_err-roles-clause-restarts g c =
       other = search rules;
     }
 
+-- it has loaded its own records
 pub returns-clause-meaning : goal.returns-clause-meaning
-returns-clause-meaning g c = c.in_ok-roles.ensures.meaning
+returns-clause-meaning g c = λ honest base is.
+    loaded_means _ c.args.self.now.id c.args.self.now.nodes _ base ((returns-clause-restarts g c).loads honest) is
+
+pub returns-clause-position : goal.returns-clause-position
+returns-clause-position g c = c.in_ok-roles.ensures.position

@@ -16,3 +16,9 @@ returns-in-Ok-clause-loads g c = λ honest. c.in-Ok.ensures.loads honest
 
 pub returns-in-Ok-clause-fresh : goal.returns-in-Ok-clause-fresh
 returns-in-Ok-clause-fresh g c = c.in-Ok.ensures.fresh
+
+pub returns-in-Ok-clause-meaning : goal.returns-in-Ok-clause-meaning
+returns-in-Ok-clause-meaning g c = λ honest base is. c.in-Ok.ensures.meaning honest base is
+
+pub returns-in-Ok-clause-position : goal.returns-in-Ok-clause-position
+returns-in-Ok-clause-position g c = c.in-Ok.ensures.position

@@ -1,12 +1,14 @@
-use Rattle.std.proofs.Common.{◌≡◌, ℕ, List, Option, Some, None, MatchOption, IfSome, inl, inr, rules, ap, subst}
+use Rattle.std.proofs.Common.{◌≡◌, ℕ, zero, ◌≤◌, List, Option, Some, None, MatchOption, IfSome, inl, inr, rules, sym, ap, ◌∙◌, subst, arith}
 use Rattle.stable.specs.Records.{Records}
 use Rattle.stable.specs.declared.key.Key.TheVariants as key
 use Rattle.acceptor.specs.Forms.{IsOfItsForm, AreOfTheirForm, HasDamagedRecord}
 use Rattle.wire.specs.RecordForms.{IsRoundRecord}
-use Rattle.learner.specs.Learning.{Learning}
+use Rattle.synod.specs.declared.slot.TheConstants.{SLOTS}
+use Rattle.sessions.specs.Standing.{StandsFor}
+use Rattle.learner.specs.Learning.{Learning, unlearnt, unlearnt_from}
 use Rattle.minds.specs.Loading.{LoadsRound}
 use Rattle.proposer.specs.Proposing.{Proposing, loaded}
-use Rattle.minds.proofs.Meanings.{meaning_begun}
+use Rattle.minds.proofs.Learnt.{fresh_begins, loaded_means}
 use Rattle.node.proofs.roles.Roles.load.Goals as goal
 
 round_loaded : (found : Option (List ℕ)) (id nodes : ℕ) (p : Proposing)
@@ -44,13 +46,14 @@ returns-clause-loads g c = λ honest.
     let still = law.reads_honest _ _ c.in_ok-proposer.ensures.reads honest in
     let same = law.reads_contents _ _ c.in_ok-acceptor.ensures.reads still in
     let round = round_loaded _ _ _ _ (c.in_ok-proposer.ensures.round honest) in
+    let told = c.in_ok-acceptor.ensures.told still in
     record {
       number = search rules;
       of_all = search rules;
-      accepting = c.in_ok-acceptor.ensures.told still;
-      learning = c.new.ensures;
+      accepting = told;
+      learning = c.new.ensures ∙ ap (unlearnt_from c.args.nodes) (sym told.floor);
       proposing = subst (λ records. LoadsRound (records key.Round) c.args.id c.args.nodes c.in_ok-proposer.proposer) same round;
-      machine = c.new-2.ensures.stands;
+      machine = λ base is. subst (StandsFor c.new-2.result) (sym is) c.new-2.ensures.stands;
     }
 
 pub returns-clause-reads : goal.returns-clause-reads
@@ -62,14 +65,24 @@ returns-clause-settled g c =
     g.met.S.Stable.laws.reads_settled _ _ c.in_ok-proposer.ensures.reads c.in_ok-acceptor.ensures.settled
 
 pub returns-clause-meaning : goal.returns-clause-meaning
-returns-clause-meaning g c = meaning_begun _ c.args.nodes c.new.ensures c.new-2.ensures.stands
+returns-clause-meaning g c = λ honest base is. loaded_means _ c.args.id c.args.nodes _ base (returns-clause-loads g c honest) is
+
+begins_fresh : (learning : Learning) (nodes : ℕ) → learning ≡ unlearnt nodes
+    → (learning ≡ unlearnt_from nodes learning.first) × (learning.first ≤ SLOTS)
+begins_fresh learning nodes e =
+    let zero_ : learning.first ≡ zero = ap (λ (l : Learning). l.first) e in
+    (e ∙ ap (unlearnt_from nodes) (sym zero_), omega (arith, zero_))
 
 pub returns-clause-fresh : goal.returns-clause-fresh
-returns-clause-fresh g c = record {
-  learning = c.new.ensures;
-  proposing = c.in_ok-proposer.ensures.own;
-  machine = c.new-2.ensures.stands;
-}
+returns-clause-fresh g c =
+    let begins = begins_fresh _ c.args.nodes c.new.ensures in record {
+      learning = begins.0;
+      first_in_log = begins.1;
+      proposing = c.in_ok-proposer.ensures.own;
+    }
+
+pub returns-clause-position : goal.returns-clause-position
+returns-clause-position g c = fresh_begins c.args.id c.args.nodes _ (returns-clause-fresh g c)
 
 pub returns-clause-own : goal.returns-clause-own
 returns-clause-own g c = record {

@@ -6,7 +6,7 @@ use Rattle.stable.proofs.memory.MemStable.listed.Given as goal
 -- the keys below those of the votes that are still to be looked for are listed
 abbrev pub invariant-loop-from : goal.invariant-loop-from
 invariant-loop-from l =
-    MatchOption l.from (ListsTo (stored l.fn.self) 65538 l.keys.items) (λ first. ListsTo (stored l.fn.self) (first + 2) l.keys.items)
+    MatchOption l.from (ListsTo (stored l.fn.self) 65539 l.keys.items) (λ first. ListsTo (stored l.fn.self) (first + 3) l.keys.items)
 
 abbrev pub left : Option ℕ → ℕ
 left None = 0

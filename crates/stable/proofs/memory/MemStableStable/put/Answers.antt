@@ -1,5 +1,7 @@
-use Rattle.std.proofs.Common.{refl, rules}
-use Rattle.stable.proofs.MemoryLemmas.{vote_stored, same_stored}
+use Rattle.std.proofs.Common.{◌≡◌, ap, refl, rules, length, slice_set, Some}
+use Rattle.stable.specs.declared.fault.StableFault.TheVariants.{Device, Memory, Damaged}
+use Rattle.stable.proofs.FaultLemmas.{no_fault}
+use Rattle.stable.proofs.MemoryLemmas.{vote_stored, same_stored, fixed_stored}
 use Rattle.stable.proofs.memory.MemStableStable.put.Goals as goal
 
 -- a vote
@@ -12,6 +14,14 @@ pub returns-in_err-insert-in-Vote-clause-memory : goal.returns-in_err-insert-in-
 returns-in_err-insert-in-Vote-clause-memory c =
     λ _. same_stored c.args.self.now c.insert.new.self c.in_err-insert-in-Vote.ensures.unchanged
 
--- the round that is begun
-pub returns-in-Round-clause-device : goal.returns-in-Round-clause-device
-returns-in-Round-clause-device c = search rules
+-- a fixed key
+pub returns-in_default : goal.returns-in_default
+returns-in_default c =
+    let self = c.args.self.now in
+    let three : length self.fixed ≡ 3 = search rules in record {
+      ok = fixed_stored self (slice_set self.fixed c.rank.result (Some c.args.bytes)) c.args.key c.args.bytes c.in_default.not-Vote three
+          (ap (λ n. slice_set self.fixed n (Some c.args.bytes)) c.rank.ensures.rank);
+      device = no_fault tt Device;
+      memory = λ is. absurd (no_fault tt Memory is);
+      not_damaged = no_fault tt Damaged;
+    }
