@@ -1,4 +1,4 @@
-//! Where a replay keeps its nodes' records: what `console` is handed for it, and what `files` makes of a folder.
+//! What files are to a run of the program: `console` is handed an `Archive`, and `files` is one of the system's files.
 #![tactic(auto)]
 
 mod archive;

@@ -1,7 +1,7 @@
 //! Texts written into a line from its end to its front.
 //!
-//! Each call writes a text so that it ends at a place of the line, and tells where the text starts. What stands from that
-//! place on is kept. So the parts of a text are written in turn, the last one first, and the whole is moved once.
+//! Each call writes a text so that it ends at a given place of the line, and returns the place where it starts. The bytes from
+//! the end on are kept. So the parts of a line are written in turn, the last one first, and the whole is moved once.
 #![tactic(auto)]
 
 ghost use Rattle.std.specs.Prelude.{◌≡◌, ◌+◌, ◌≤◌, ◌∷◌, ◌++◌, length, drop};

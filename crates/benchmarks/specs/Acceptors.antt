@@ -4,7 +4,7 @@ use Rattle.synod.specs.declared.ballot.Ballot.{Ballot}
 use Rattle.stable.specs.Records.{no_records}
 use Rattle.acceptor.specs.Accepting.{Accepting, RecordsSay, AnswersPrepare, after_accept, after_prepare}
 use Rattle.acceptor.specs.declared.answer.Answer.{Answer}
-use Rattle.acceptor.specs.declared.answer.Answer.TheVariants.{Promise, Accepted, Nack}
+use Rattle.acceptor.specs.declared.answer.Answer.TheVariants.{Promise, Accepted, Nack, Behind}
 use Rattle.benchmarks.specs.declared.numbers.TheConstants.{STEP}
 use Rattle.benchmarks.specs.Requests.{vote_at}
 use Rattle.benchmarks.specs.Steps.{Reached}
@@ -25,6 +25,7 @@ abbrev pub answer_number : Answer → ℕ
 answer_number (Promise p) = 1 + p.last + length p.entries
 answer_number (Accepted v) = 0
 answer_number (Nack n) = 0
+answer_number (Behind floor) = 0
 
 -- the acceptor answers the round's ballot, which is above all before
 pub record IsPromising (votes round : ℕ) (old : Accepting) (number : ℕ) (new : Accepting) : Type 0 where
@@ -33,5 +34,5 @@ pub record IsPromising (votes round : ℕ) (old : Accepting) (number : ℕ) (new
   pub node_is : ballot.node ≡ 1
   pub answer : Answer
   pub answers : AnswersPrepare old ballot (first_slot votes round) answer
-  pub after : new ≡ after_prepare old ballot
+  pub after : new ≡ after_prepare old ballot (first_slot votes round)
   pub told : number ≡ answer_number answer

@@ -60,6 +60,6 @@ fn answer_number(answer: &Answer) -> u64
         Answer::Promise(promise) => {
             1 + u64::from(promise.last().value()) + promise.entries().len() as u64
         }
-        Answer::Accepted(_) | Answer::Nack(_) => 0,
+        Answer::Accepted(_) | Answer::Nack(_) | Answer::Behind(_) => 0,
     }
 }

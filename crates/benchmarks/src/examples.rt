@@ -2,15 +2,15 @@
 //!
 //! An example is two files of the folder that this is run in, by one name: a schedule or a document,
 //! and beside it what comes of it. The names of all schedules and documents are printed, in their
-//! order. An example that comes to something else is told and ends the run with status 1, and so
-//! does a file that belongs to no example.
+//! order, and below each what came of it. An example that comes to something else is reported and ends
+//! the run with status 1, and so does a file that belongs to no example.
 
 use crate::fault::Fault;
 use crate::outcome::{Kind, Outcome, kind_of, outcome_of};
 use std::fs::{self, DirEntry};
-use std::io;
+use std::io::{self, Write};
 
-/// Runs all examples, and prints the name of each.
+/// Runs all examples, and prints the name of each and what came of it.
 pub fn run_examples(rt: &HostRuntime) -> Result<(), Fault> {
     let names = names_in(rt, ".")?;
     let mut inputs = 0u64;
@@ -53,7 +53,7 @@ fn input_of(name: &str) -> Option<(&str, Kind)> {
     Some((stem, kind_of(ending)?))
 }
 
-/// Prints the name of an example, once what comes of it is the file beside it.
+/// Prints an example, once what comes of it is the file beside it.
 fn run_example(rt: &HostRuntime, name: &str, stem: &str, kind: Kind) -> Result<(), Fault> {
     let Ok(bytes) = fs::read(rt, name) else {
         return Err(Fault::Device);
@@ -63,10 +63,16 @@ fn run_example(rt: &HostRuntime, name: &str, stem: &str, kind: Kind) -> Result<(
         let _ = eprintln!(rt; "{name} comes to something else than the file beside it");
         return Err(Fault::Example);
     }
-    match println!(rt; "{name}") {
+    match print_example(rt, name, outcome.text.as_slice()) {
         Ok(()) => Ok(()),
         Err(_) => Err(Fault::Device),
     }
+}
+
+/// Prints the name, and below it what came of it.
+fn print_example(rt: &HostRuntime, name: &str, text: &[u8]) -> io::Result<()> {
+    println!(rt; "{name}")?;
+    rt.stdout().write_all(text)
 }
 
 /// Whether the file of this name that has such outcomes is this one.

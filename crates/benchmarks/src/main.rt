@@ -1,19 +1,15 @@
-//! Timed loops over the queries, the documents, the commands, the frames and the parts of a node.
+//! Timed loops over queries, documents, commands, frames and the parts of a node; vectors from outside; and every example.
 //!
-//! `benchmarks WORK SIZE ROUNDS` asks for one work in so many rounds, of a moving point with so many
-//! points or of a part of a node that holds so many things, and prints the sum of what was answered,
-//! which is the same on every machine. It reads no clock: the scripts in `bench/` do. Without words it does so for each line of
-//! the input; the sums in `stdout` were computed from the definitions by other programs. There a line `frame NODES FRAME` or
-//! `vote RECORD`, in hexadecimal digits, is answered with the frame or the record, read and spelled again, and `document TEXT` with the
-//! canonical document; or with the fault of each. A line `examples` runs every example of the folder.
+//! `benchmarks WORK SIZE ROUNDS` does one work so many times, on a moving point of so many points or a part of a node with so
+//! many entries, and prints the sum of the answers, which is the same on every machine. It reads no clock: the scripts in
+//! `bench/` do. Without arguments it does so for each line of the input. The expected sums in `stdout` come from the definitions,
+//! by other programs. A line `frame NODES FRAME` or `vote RECORD`, in hexadecimal, is decoded and encoded again; `document TEXT`
+//! is answered with the canonical document; each with its fault where it has one. A line `examples` runs every example of the
+//! folder.
 //!
-//! `task` reads the words, and `scene` makes a moving point and what is asked of it. `numbers` has
-//! the answers of one moving point as numbers, `queries` and `operations` those of a full database,
-//! which `fleet` makes, `documents` those of reading, `execution` those of a machine, and `messages`
-//! those of frames; `rounds` adds them up. `learners`, `acceptors`, `leader` and `indexes` have the
-//! answers of the parts of a node, to which `requests` are made; `parts` adds them up. A further kind
-//! of work is a variant of `SceneWork` or `PartWork`, a module with the number of a round, and a loop
-//! in `rounds` or `parts`.
+//! `task` parses the words, `scene` makes a moving point and what is asked of it. `numbers`, `queries`, `operations`,
+//! `documents`, `execution` and `messages` turn answers into numbers, and `rounds` adds these up. `learners`, `acceptors`,
+//! `leader` and `indexes` do so for the parts of a node, with `requests`, and `parts` adds these up.
 #![tactic(auto)]
 
 mod acceptors;

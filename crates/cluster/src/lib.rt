@@ -1,8 +1,8 @@
-//! Clusters: a world whose frames leave it through a transport, and come back as whatever the transport hands over.
+//! A world behind a transport: its frames leave through it, and what comes back is delivered.
 //!
-//! `Transport` is what carries datagrams; it may lose, repeat, reorder, cut, delay and invent them. `Queues` is one in memory. A
-//! `Cluster` gives a transport each frame that its world sends, and `pump` delivers what polls hand over, as far as the world has
-//! sent it to that node. Whatever a transport does, a cluster changes its world by the world's own steps alone, and is as safe as any.
+//! `Transport` carries datagrams; it may lose, repeat, reorder, cut, delay and invent them. `Queues` is one in memory. A
+//! `Cluster` hands each frame that its world sends to its transport. `pump` delivers what polls return, if the world has sent it
+//! to that node. Whatever a transport does, a cluster changes its world by the world's own steps alone, so it is as safe as any.
 #![tactic(auto)]
 
 mod cluster;

@@ -1,8 +1,7 @@
-//! What the words of a command line ask for: a work, and the source of the bytes that it is done on.
+//! Command-line arguments: which work they ask for, and on which source.
 //!
-//! The forms are `replay FILE`, `loopback FILE` and `check FILE`, where a FILE of `-` is standard input; no words at
-//! all stand for `replay -`. Words are read by `clap`, whose first check is dear: so they have a
-//! crate of their own, and whatever is done with a job is checked apart from it.
+//! The forms are `replay FILE`, `loopback FILE` and `check FILE`, where a FILE of `-` is standard input; no argument at all is
+//! `replay -`. `clap` parses them. Its first check is expensive, so this is a crate of its own.
 #![tactic(auto)]
 
 mod fault;

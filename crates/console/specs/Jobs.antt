@@ -1,8 +1,10 @@
 -- What a run of the program prints, and how one ends that prints nothing.
-use Rattle.std.specs.Prelude.{◌≡◌, ◌≢◌, ◌⊎◌, ℕ, List, Option, Some, None, IfSome}
+use Rattle.std.specs.Prelude.{◌≡◌, ◌≢◌, ◌⊎◌, ℕ, Bool, true, List, Option, Some, None, IfSome}
 use Rattle.stable.specs.Script.{Script}
 use Rattle.stable.specs.declared.stable.Stable.{Ghosts}
-use Rattle.commandline.specs.Forms.{AskFor, NameFolder, NameInput}
+use Rattle.commandline.specs.Forms.{AskFor, NameFolder, NameSource}
+use Rattle.commandline.specs.declared.job.Source.{Source}
+use Rattle.commandline.specs.declared.job.Source.TheVariants.{Input, File}
 use Rattle.commandline.specs.declared.job.Work.{Work}
 use Rattle.commandline.specs.declared.job.Work.TheVariants.{Replay, Loopback, Check}
 use Rattle.endings.specs.declared.failure.Failure.{Failure}
@@ -16,10 +18,24 @@ use Rattle.replay.specs.Runs.{IsReplay}
 use Rattle.schedule.specs.Schedules.{IsScheduleOf, Plan}
 use Rattle.works.specs.Works.{CheckStops, IsChecked, IsLoopedOver, IsUnread, LoopStopsOver, ReplayStops}
 
--- these may be the bytes that the words name: of the input all that it has left, where that is known; of a file nothing
--- is known
-abbrev pub MayName : List (List ℕ) → Option (List ℕ) → List ℕ → Type 0
-MayName words left bytes = NameInput words → IfSome left (λ all. bytes ≡ all)
+-- over an archive of which it is known what its calls may do
+module _ {A F : Type 0} (archive : Archives A F) where
+  -- the source gives these bytes, and so is the archive then: the input gives all that it has left, where that is known; a FILE what
+  -- the archive reads under its very name, once
+  abbrev pub Gives : Source → Option (List ℕ) → A → List ℕ → A → Type 0
+  Gives Input left before bytes after = IfSome left (λ all. bytes ≡ all) × (after ≡ before)
+  Gives (File path) left before bytes after = archive.reads before path.now bytes after
+
+  -- the source gives none: the input has failed, or memory was refused; or the archive can't read that FILE
+  abbrev pub GivesNone : Source → (has_failed : Bool) → A → Failure → A → Type 0
+  GivesNone Input has_failed before failure after = ((failure ≡ Memory) ⊎ (has_failed ≡ true)) × (after ≡ before)
+  GivesNone (File path) has_failed before failure after = archive.read_fails before path.now failure after
+
+  -- so a run ends that can't read what the words name
+  pub record IsUnheard (words : List (List ℕ)) (has_failed : Bool) (before : A) (failure : Failure) (after : A) : Type 0 where
+    pub source : Source
+    pub named : NameSource words source
+    pub gives_none : GivesNone source has_failed before failure after
 
 -- through sockets of which it is known what their calls may do
 module _ (transport : Transports Sockets) where
@@ -48,15 +64,14 @@ module _ {S A F : Type 0} (storages : Ghosts (Script S)) (archive : Archives A F
   MakesIn Loopback folder bytes before text after = IsLooped transport bytes text × (after ≡ before)
   MakesIn Check folder bytes before text after = IsChecked bytes text × (after ≡ before)
 
-  -- so it ends that makes nothing, and so is the archive then; more is known where it isn't for want of memory, nor for a device
+  -- so it ends that makes nothing, and so is the archive then; of a run that is out of memory no more is known, nor of one through
+  -- sockets that fail
   abbrev pub EndsIn : Work → Option (List ℕ) → List ℕ → A → Failure → A → Type 0
-  EndsIn Replay None bytes before failure after =
-      (failure ≢ Memory → failure ≢ Device → ReplayStops storages bytes failure) × (after ≡ before)
+  EndsIn Replay None bytes before failure after = (failure ≢ Memory → ReplayStops storages bytes failure) × (after ≡ before)
   EndsIn Replay (Some folder) bytes before failure after = EndsKept archive files folder bytes before failure after
   EndsIn Loopback folder bytes before failure after =
       (failure ≢ Memory → failure ≢ Device → IsUnread bytes failure ⊎ LoopStops transport bytes failure) × (after ≡ before)
-  EndsIn Check folder bytes before failure after =
-      (failure ≢ Memory → failure ≢ Device → CheckStops bytes failure) × (after ≡ before)
+  EndsIn Check folder bytes before failure after = (failure ≢ Memory → CheckStops bytes failure) × (after ≡ before)
 
   -- the text is what the work that the words ask for makes of the bytes that they name, with the records where they say
   pub record IsAnswer (words : List (List ℕ)) (left : Option (List ℕ)) (before : A) (text : List ℕ) (after : A) : Type 0 where
@@ -64,9 +79,12 @@ module _ {S A F : Type 0} (storages : Ghosts (Script S)) (archive : Archives A F
     pub folder : Option (List ℕ)
     pub asked : AskFor words work
     pub kept : NameFolder words work folder
+    pub source : Source
+    pub named : NameSource words source
     pub bytes : List ℕ
-    pub named : MayName words left bytes
-    pub made : MakesIn work folder bytes before text after
+    pub read : A
+    pub gives : Gives archive source left before bytes read
+    pub made : MakesIn work folder bytes read text after
 
   -- so that work ends on them
   pub record IsFaulty (words : List (List ℕ)) (left : Option (List ℕ)) (before : A) (failure : Failure) (after : A) : Type 0 where
@@ -74,10 +92,14 @@ module _ {S A F : Type 0} (storages : Ghosts (Script S)) (archive : Archives A F
     pub folder : Option (List ℕ)
     pub asked : AskFor words work
     pub kept : NameFolder words work folder
+    pub source : Source
+    pub named : NameSource words source
     pub bytes : List ℕ
-    pub named : MayName words left bytes
-    pub ends : EndsIn work folder bytes before failure after
+    pub read : A
+    pub gives : Gives archive source left before bytes read
+    pub ends : EndsIn work folder bytes read failure after
 
-  -- so it ends; or it ends before the work began, and the archive is as it was
-  abbrev pub IsCutShort : List (List ℕ) → Option (List ℕ) → A → Failure → A → Type 0
-  IsCutShort words left before failure after = (after ≡ before) ⊎ IsFaulty words left before failure after
+  -- so it ends; or what the words name can't be read; or memory was refused before that
+  abbrev pub IsCutShort : List (List ℕ) → Option (List ℕ) → (has_failed : Bool) → A → Failure → A → Type 0
+  IsCutShort words left has_failed before failure after = ((failure ≡ Memory) × (after ≡ before))
+      ⊎ IsUnheard archive words has_failed before failure after ⊎ IsFaulty words left before failure after

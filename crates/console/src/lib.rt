@@ -1,16 +1,16 @@
-//! Runs of the program over any streams: what the words ask for is done, and the answer is the run's exit status.
+//! The command line over any streams: the words are read, the command is done, its text is printed, and the answer is the exit status.
 //!
-//! The crate `commandline` says what the words ask for, `works` makes it, and `endings` says how a run ends. Here all of that
-//! meets: the bytes come from a file or from the input, the records of a replay's nodes lie in memory or in an archive that is
-//! handed in, and what is made is printed once all of it is made. What a run prints stands in `specs/Jobs.antt`. The program
-//! `mfpx` is this over the streams of its process and files of a database; it stands apart, as a program is checked with all that
-//! it is linked with.
+//! The crate `commandline` says what the words ask for, `works` does it, and `endings` says how a run ends. Here all of that
+//! meets: the bytes come from a FILE or from the input, and the text is printed once all of it is made. FILEs, and the records of a
+//! replay's nodes, are an `Archive`'s, which is handed in. What a run prints stands in `specs/Jobs.antt`. `program` is this over the
+//! words and streams of the process.
 #![tactic(auto)]
 
 mod failures;
+mod process;
 mod run;
 mod words;
 
 pub use archive::Archive;
+pub use process::program;
 pub use run::command;
-pub use words::own_words;

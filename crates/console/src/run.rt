@@ -1,11 +1,11 @@
 //! A run of the program over any streams.
 
 ghost use Rattle.std.specs.Prelude.{◌≡◌, ◌≢◌, ◌≤◌, ◌⊎◌, ℕ, List, map};
-ghost use Rattle.std.specs.Prelude.{string_bytes, true, IfOk, IfErr, IfSome, IsErrOf, OnErr, OnOk};
+ghost use Rattle.std.specs.Prelude.{string_bytes, true, IfOk, IfErr, IsErrOf, OnOk};
 ghost use Rattle.endings.specs.Failures.{line_text, status_of};
 ghost use Rattle.commandline.specs.Forms.{AskFor, NameInput, text_of as name_text};
 ghost use Rattle.console.specs.Archives.{EndsKept, HandsNone, HandsOut, IsSettledAfter, IsKept};
-ghost use Rattle.console.specs.Jobs.{EndsIn, IsAnswer, IsFaulty, IsCutShort, IsLooped, LoopStops, MakesIn};
+ghost use Rattle.console.specs.Jobs.{EndsIn, Gives, GivesNone, IsAnswer, IsFaulty, IsCutShort, IsLooped, LoopStops, MakesIn};
 ghost use Rattle.datagrams.specs.Counts.{socket_count};
 ghost use Rattle.replay.specs.Runs.{IsRunOver};
 ghost use Rattle.works.specs.Works.{IsUnread, StopsOver};
@@ -19,8 +19,6 @@ use datagrams::Sockets;
 use endings::{Failure, Tracked, device_failure};
 use schedule::Schedule;
 use stable::{MemStable, Scripted, Stable};
-use std::alloc::Global;
-use std::fs;
 use std::io::{Read, Write};
 use wire::Nodes;
 use works::{checked, looped_over, made_over, planned, transcript};
@@ -37,7 +35,7 @@ use works::{checked, looped_over, made_over, planned, transcript};
 /// | 1 | a document has the fault F | `mfpx: document fault F` |
 /// | 1 | element I of a document's list has it | `mfpx: document fault F at I` |
 /// | 2 | the words are none of the forms | `mfpx: usage` |
-/// | 3 | a file or a stream fails | `mfpx: device` |
+/// | 3 | a stream fails, or a file, a folder or a socket can't be used | `mfpx: device` |
 /// | 3 | memory is refused | `mfpx: out of memory` |
 ///
 /// Faults are told in this order: the words, reading the file, parsing, opening the records, the run, writing. An
@@ -45,7 +43,7 @@ use works::{checked, looped_over, made_over, planned, transcript};
 pub fn command<R: Read, O: Write, E: Write, A: Archive>(
     rt: &HostRuntime,
     words: Vec<String>,
-    input: &mut R,
+    input: &mut Tracked<R>,
     out: &mut Tracked<O>,
     err: &mut Tracked<E>,
     archive: &mut A,
@@ -58,23 +56,23 @@ pub fn command<R: Read, O: Write, E: Write, A: Archive>(
     // What goes to `out`: the whole text, or nothing. Of what a stream that fails took no clause speaks.
     ensures done { result ≡ 0 → (text : List ℕ)
         × IsAnswer (⟦<Scripted<MemStable> as Stable>⟧) A.Archive A.Records.Stable (⟦<Sockets as Transport>⟧)
-        (map string_bytes words.items) (R.remaining input.old) archive.old text archive.new
+        (map string_bytes words.items) (R.remaining input.old.inner) archive.old text archive.new
         × Takes O.contents out.old out.new text }
     ensures faulty_unprinted { result ≡ 1 → out.new ≡ out.old }
     ensures usage_unprinted { result ≡ 2 → out.new ≡ out.old }
     ensures failed_unprinted { result ≡ 3 → ((out.new ≡ out.old) × (failure : Failure) × (status_of failure ≡ 3)
         × IsCutShort (⟦<Scripted<MemStable> as Stable>⟧) A.Archive A.Records.Stable (⟦<Sockets as Transport>⟧)
-        (map string_bytes words.items) (R.remaining input.old) archive.old failure archive.new
+        (map string_bytes words.items) (R.remaining input.old.inner) input.new.has_failed archive.old failure archive.new
         × Tells E.contents err.old err.new (line_text failure)) ⊎ ((text : List ℕ)
         × IsAnswer (⟦<Scripted<MemStable> as Stable>⟧) A.Archive A.Records.Stable (⟦<Sockets as Transport>⟧)
-        (map string_bytes words.items) (R.remaining input.old) archive.old text archive.new
+        (map string_bytes words.items) (R.remaining input.old.inner) archive.old text archive.new
         × (out.new.has_failed ≡ true)) }
 
     // Why, and what goes to `err`: the line of that failure.
     ensures done_silently { result ≡ 0 → err.new ≡ err.old }
     ensures faulty { result ≡ 1 → (failure : Failure) × (status_of failure ≡ 1)
         × IsFaulty (⟦<Scripted<MemStable> as Stable>⟧) A.Archive A.Records.Stable (⟦<Sockets as Transport>⟧)
-        (map string_bytes words.items) (R.remaining input.old) archive.old failure archive.new
+        (map string_bytes words.items) (R.remaining input.old.inner) archive.old failure archive.new
         × Tells E.contents err.old err.new (line_text failure) }
     ensures usage { result ≡ 2 → (work : Work) → ¬ AskFor (map string_bytes words.items) work }
     ensures usage_told { result ≡ 2 → Tells E.contents err.old err.new (line_text Failure.Usage) }
@@ -103,17 +101,17 @@ fn told<E: Write>(err: &mut Tracked<E>, failure: Failure) -> u8
 fn run<R: Read, O: Write, A: Archive>(
     rt: &HostRuntime,
     words: &[String],
-    input: &mut R,
+    input: &mut Tracked<R>,
     out: &mut Tracked<O>,
     archive: &mut A,
 ) -> Result<(), Failure>
     ensures done { OnOk result ((text : List ℕ)
         × IsAnswer (⟦<Scripted<MemStable> as Stable>⟧) A.Archive A.Records.Stable (⟦<Sockets as Transport>⟧)
-        (map string_bytes words.now) (R.remaining input.old) archive.old text archive.new
+        (map string_bytes words.now) (R.remaining input.old.inner) archive.old text archive.new
         × Takes O.contents out.old out.new text) }
     ensures faulty { IfErr result (λ failure. status_of failure ≡ 1
         → IsFaulty (⟦<Scripted<MemStable> as Stable>⟧) A.Archive A.Records.Stable (⟦<Sockets as Transport>⟧)
-        (map string_bytes words.now) (R.remaining input.old) archive.old failure archive.new) }
+        (map string_bytes words.now) (R.remaining input.old.inner) archive.old failure archive.new) }
     ensures usage { IfErr result (λ failure. failure ≡ Failure.Usage
         → (work : Work) → ¬ AskFor (map string_bytes words.now) work) }
     ensures no_form { ((work : Work) → ¬ AskFor (map string_bytes words.now) work)
@@ -121,11 +119,11 @@ fn run<R: Read, O: Write, A: Archive>(
     ensures no_form_unread { ((work : Work) → ¬ AskFor (map string_bytes words.now) work) → input.new ≡ input.old }
     ensures untouched { IfErr result (λ failure. failure ≢ Failure.Device
         → out.new ≡ out.old) }
-    ensures unprinted { IfErr result (λ failure. ((out.new ≡ out.old)
+    ensures unprinted { IfErr result (λ failure. failure ≢ Failure.Usage → ((out.new ≡ out.old)
         × IsCutShort (⟦<Scripted<MemStable> as Stable>⟧) A.Archive A.Records.Stable (⟦<Sockets as Transport>⟧)
-        (map string_bytes words.now) (R.remaining input.old) archive.old failure archive.new) ⊎ ((text : List ℕ)
+        (map string_bytes words.now) (R.remaining input.old.inner) input.new.has_failed archive.old failure archive.new) ⊎ ((text : List ℕ)
         × IsAnswer (⟦<Scripted<MemStable> as Stable>⟧) A.Archive A.Records.Stable (⟦<Sockets as Transport>⟧)
-        (map string_bytes words.now) (R.remaining input.old) archive.old text archive.new
+        (map string_bytes words.now) (R.remaining input.old.inner) archive.old text archive.new
         × (out.new.has_failed ≡ true))) }
     ensures words_come_first { IfErr result (λ failure. failure ≡ Failure.Usage
         → input.new ≡ input.old) }
@@ -136,7 +134,7 @@ fn run<R: Read, O: Write, A: Archive>(
         Ok(job) => job,
         Err(fault) => return Err(words_failure(fault)),
     };
-    let bytes = content(rt, &job.source, input)?;
+    let bytes = content(rt, &job.source, input, archive)?;
     let text = text_of(rt, archive, job.work, job.folder, bytes.as_slice())?;
     match out.print(text.as_slice()) {
         Ok(()) => Ok(()),
@@ -256,41 +254,21 @@ fn bound(rt: &HostRuntime, count: Nodes) -> Result<Sockets, Failure>
     }
 }
 
-/// The bytes of the source.
-fn content<R: Read>(rt: &HostRuntime, source: &Source, input: &mut R) -> Result<Vec<u8>, Failure>
-    ensures input { source.now ≡ Source.Input → IfOk result (λ bytes.
-        IfSome (R.remaining input.old) (λ left. bytes.items ≡ left)) }
+/// The bytes of the source: all that is left of the input, or what the archive reads under the FILE's name.
+fn content<R: Read, A: Archive>(
+    rt: &HostRuntime,
+    source: &Source,
+    input: &mut Tracked<R>,
+    archive: &mut A,
+) -> Result<Vec<u8>, Failure>
+    ensures gives { IfOk result (λ bytes. Gives A.Archive source.now (R.remaining input.old.inner) archive.old bytes.items archive.new) }
+    ensures gives_none { IfErr result (λ failure.
+        GivesNone A.Archive source.now input.new.has_failed archive.old failure archive.new) }
     ensures file_alone { source.now ≢ Source.Input → input.new ≡ input.old }
-    ensures err { IfErr result (λ failure. (failure ≡ Failure.Device)
-        ⊎ (failure ≡ Failure.Memory)) }
+    ensures err { IfErr result (λ failure. (failure ≡ Failure.Device) ⊎ (failure ≡ Failure.Memory)) }
 {
     match source {
-        Source::Input => input_bytes(rt.alloc(), input),
-        Source::File(path) => file_bytes(rt, path),
-    }
-}
-
-/// All that is left of the input.
-fn input_bytes<R: Read>(alloc: Global, input: &mut R) -> Result<Vec<u8>, Failure>
-    ensures ok { IfOk result (λ bytes. IfSome (R.remaining input.old)
-        (λ left. bytes.items ≡ left)) }
-    ensures err { IfErr result (λ failure. (failure ≡ Failure.Device)
-        ⊎ (failure ≡ Failure.Memory)) }
-{
-    let mut bytes = Vec::new(alloc);
-    match input.read_to_end(&mut bytes) {
-        Ok(_) => Ok(bytes),
-        Err(error) => Err(device_failure(&error)),
-    }
-}
-
-/// The content of the file. Nothing is known of it, as it lies outside of the program.
-fn file_bytes(rt: &HostRuntime, path: &str) -> Result<Vec<u8>, Failure>
-    ensures { IfErr result (λ failure. (failure ≡ Failure.Device)
-        ⊎ (failure ≡ Failure.Memory)) }
-{
-    match fs::read(rt, path) {
-        Ok(bytes) => Ok(bytes),
-        Err(error) => Err(device_failure(&error)),
+        Source::Input => input.read_all(rt.alloc()),
+        Source::File(path) => archive.read(rt, path),
     }
 }

@@ -1,8 +1,8 @@
 //! How a run of the program ends: its exit status, and what it tells on standard error.
 //!
-//! A `Failure` says why nothing is printed, and has one status and one line. A `Tracked` writer
+//! A `Failure` says why nothing is printed, and has one status and one line. A `Tracked` stream
 //! remembers whether it failed, so that a contract can tell a line that was not written from one
-//! that couldn't be. Neither knows of schedules or documents but the numbers of their faults.
+//! that couldn't be, and a file that can't be read from a body that doesn't read it. Neither knows of schedules or documents but the numbers of their faults.
 #![tactic(auto)]
 
 mod failure;

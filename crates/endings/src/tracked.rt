@@ -1,21 +1,22 @@
-//! A writer that remembers whether it failed.
+//! A stream that remembers whether it failed.
 
-ghost use Rattle.std.specs.Prelude.{◌≡◌, false, true, OnOk, OnErr};
+ghost use Rattle.std.specs.Prelude.{◌≡◌, ◌⊎◌, false, true, IfErr, IfOk, IfSome, IsErrOf, OnErr, OnOk};
 ghost use Rattle.std.specs.Io.KnownBytes.{Appends};
 ghost use Rattle.endings.specs.Failures.{line_text};
 ghost use Rattle.endings.specs.Streams.{Takes, Tells};
 
-use crate::failure::Failure;
-use std::io::{self, Write};
+use crate::failure::{Failure, device_failure};
+use std::alloc::Global;
+use std::io::{self, Read, Write};
 use std::marker::Model;
 
-/// A writer, and whether a write to it has failed.
+/// A reader or a writer, and whether a call of it has failed.
 ///
-/// Nothing but a failed write says so: where a contract has "or the stream failed", no body can
+/// Nothing but a failed call says so: where a contract has "or the stream failed", no body can
 /// claim that of a stream that didn't.
 #[derive(Drop)]
 pub struct Tracked<W> {
-    writer: W,
+    inner: W,
     has_failed: bool,
 }
 
@@ -24,33 +25,54 @@ impl<W> Model for Tracked<W> {
 
     ghost Value = { Stream W };
 
-    ghost view = { λ t. record { writer = t.writer; has_failed = t.has_failed } };
+    ghost view = { λ t. record { inner = t.inner; has_failed = t.has_failed } };
 }
 
-impl<W: Write> Tracked<W> {
-    /// A writer to which no write has failed yet.
-    pub fn new(writer: W) -> Tracked<W>
-        ensures { result ≡ record { writer = writer; has_failed = false } }
+impl<W> Tracked<W> {
+    /// A stream of which no call has failed yet.
+    pub fn new(inner: W) -> Tracked<W>
+        ensures { result ≡ record { inner = inner; has_failed = false } }
     {
         Tracked {
-            writer,
+            inner,
             has_failed: false,
         }
     }
 
-    /// What was written to.
+    /// The stream itself.
     pub fn into_inner(self) -> W
-        ensures { result ≡ self.writer }
+        ensures { result ≡ self.inner }
     {
-        self.writer
+        self.inner
     }
+}
 
+impl<R: Read> Tracked<R> {
+    /// Reads all that is left.
+    pub fn read_all(&mut self, alloc: Global) -> Result<Vec<u8>, Failure>
+        ensures ok { IfOk result (λ bytes. IfSome (R.remaining self.old.inner) (λ left. bytes.items ≡ left)) }
+        ensures sound { OnOk result (self.new.has_failed ≡ self.old.has_failed) }
+        ensures device { IsErrOf result Failure.Device → self.new.has_failed ≡ true }
+        ensures err { IfErr result (λ failure. (failure ≡ Failure.Device) ⊎ (failure ≡ Failure.Memory)) }
+    {
+        let mut bytes = Vec::new(alloc);
+        match self.inner.read_to_end(&mut bytes) {
+            Ok(_) => Ok(bytes),
+            Err(error) => {
+                self.has_failed = true;
+                Err(device_failure(&error))
+            }
+        }
+    }
+}
+
+impl<W: Write> Tracked<W> {
     /// Writes the text, all of it, and has it handed on.
     pub fn print(&mut self, text: &[u8]) -> io::Result<()>
         ensures ok { OnOk result (Takes W.contents self.old self.new text.now) }
         ensures err { OnErr result (self.new.has_failed ≡ true) }
     {
-        let written = whole(&mut self.writer, text);
+        let written = whole(&mut self.inner, text);
         if let Err(_) = written {
             self.has_failed = true;
         }
@@ -61,7 +83,7 @@ impl<W: Write> Tracked<W> {
     pub fn tell(&mut self, failure: Failure)
         ensures { Tells W.contents self.old self.new (line_text failure) }
     {
-        if let Err(_) = failure.tell(&mut self.writer) {
+        if let Err(_) = failure.tell(&mut self.inner) {
             self.has_failed = true;
         }
     }

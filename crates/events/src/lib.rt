@@ -1,6 +1,6 @@
-//! What may happen in a world, and why a world doesn't do what it is asked.
+//! What may happen in a world, and why a world refuses it.
 //!
-//! Whoever reads events or tells of them needs none of what holds where they happen: that stands in the crate `history`.
+//! These are types alone: a parser of schedules needs nothing else. The crate `history` defines what an event does.
 #![tactic(auto)]
 
 mod event;

@@ -1,6 +1,6 @@
 -- What a storage is asked for, and what its answer says.
 use Rattle.std.specs.Prelude.{◌≡◌, ◌↔◌, List, Result, Ok, Err, IsSome, Contains, option_map}
-use Rattle.stable.specs.Records.{IsAscending}
+use Rattle.stable.specs.Records.{IsAscending, Sets, Trims}
 use Rattle.stable.specs.declared.fault.StableFault.{StableFault}
 use Rattle.stable.specs.declared.fault.StableFault.TheVariants as fault
 use Rattle.stable.specs.declared.key.Key.{Key}
@@ -33,9 +33,13 @@ module _ {S : Type 0} (g : Ghosts S) (a : S) where
   Answers (asked.Get key) (Ok (answer.Listed keys)) b = ⊥
   Answers (asked.Get key) (Err f) b = Fails (g.read_fails a) f b
   Answers (asked.Put key bytes) (Ok (answer.Found found)) b = ⊥
-  Answers (asked.Put key bytes) (Ok answer.Done) b = g.puts a key bytes.items b
+  Answers (asked.Put key bytes) (Ok answer.Done) b = g.changes a (Sets key bytes.items) b
   Answers (asked.Put key bytes) (Ok (answer.Listed keys)) b = ⊥
-  Answers (asked.Put key bytes) (Err f) b = Fails (g.fails a key bytes.items) f b
+  Answers (asked.Put key bytes) (Err f) b = Fails (g.fails a (Sets key bytes.items)) f b
+  Answers (asked.TrimBelow below) (Ok (answer.Found found)) b = ⊥
+  Answers (asked.TrimBelow below) (Ok answer.Done) b = g.changes a (Trims below) b
+  Answers (asked.TrimBelow below) (Ok (answer.Listed keys)) b = ⊥
+  Answers (asked.TrimBelow below) (Err f) b = Fails (g.fails a (Trims below)) f b
   Answers asked.Keys (Ok (answer.Found found)) b = ⊥
   Answers asked.Keys (Ok answer.Done) b = ⊥
   Answers asked.Keys (Ok (answer.Listed keys)) b = Lists keys.items b

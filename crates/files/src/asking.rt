@@ -17,6 +17,7 @@ use std::alloc::Global;
 pub(crate) enum Asked {
     Get(Key),
     Put(Key, Vec<u8>),
+    TrimBelow(u32),
     Keys,
 }
 
@@ -47,6 +48,10 @@ fn ask_any<S: Stable>(storage: &mut S, alloc: Global, asked: Asked) -> Result<An
         Asked::Get(key) => Ok(Answer::Found(storage.get(alloc, key)?)),
         Asked::Put(key, bytes) => {
             storage.put(alloc, key, bytes)?;
+            Ok(Answer::Done)
+        }
+        Asked::TrimBelow(below) => {
+            storage.trim_below(alloc, below)?;
             Ok(Answer::Done)
         }
         Asked::Keys => Ok(Answer::Listed(storage.keys(alloc)?)),

@@ -1,9 +1,9 @@
-//! The records of a replay's nodes in files: a database for each node, in one folder.
+//! FILEs, and the records of a replay's nodes in files: a database for each node, in one folder.
 
-ghost use Rattle.std.specs.Fmt.{decimal};
-ghost use Rattle.std.specs.Prelude.{◌≡◌, ◌≢◌, ◌⊎◌, ◌++◌, IfErr, IfOk, codes, string_bytes};
+ghost use Rattle.std.specs.Prelude.{◌≡◌, ◌≢◌, ◌⊎◌, IfErr, IfOk, IsErrOf, string_bytes};
+ghost use Rattle.files.specs.Opening.{is_rooted, path_in};
 
-use crate::node_file::NodeFile;
+use crate::access::FileAccess;
 use archive::Archive;
 use endings::Failure;
 use sqlstable::SqlStable;
@@ -15,24 +15,51 @@ use wire::Nodes;
 
 /// Files of SQLite, node i's records in `nodei.db` of the folder. A file is made where there is none; the folder isn't. An empty name is
 /// no folder's: the files would be looked for at the root of all folders.
+///
+/// No name is special: a folder may be called `file:d` or `:memory:`.
 #[derive(Clone, Copy, Debug)]
-pub struct Files;
+pub struct Files<A> {
+    access: A,
+}
 
-impl Archive for Files {
-    type Records = NodeFile;
+impl<A: FileAccess> Files<A> {
+    /// Files that are read and opened so.
+    pub fn new(access: A) -> Files<A>
+        ensures { result.access ≡ access }
+    {
+        Files { access }
+    }
+}
+
+impl<A: FileAccess> Archive for Files<A> {
+    ghost use Rattle.files.specs.Opening.{AreOpened, MayFail};
+
+    type Records = A::Records;
+
+    ghost reads = { λ a path bytes b. A.FileAccess.reads a.access path bytes b.access };
+
+    ghost read_fails = { λ a path failure b. A.FileAccess.read_fails a.access path failure b.access };
+
+    ghost opens = { λ _ folder _ stores _. AreOpened A.FileAccess folder stores };
+
+    ghost open_fails = { λ _ folder count failure _. MayFail A.FileAccess folder count failure };
+
+    fn read(&mut self, rt: &HostRuntime, path: &str) -> Result<Vec<u8>, Failure> {
+        self.access.read(rt, path)
+    }
 
     fn open(
         &mut self,
         rt: &HostRuntime,
         folder: &str,
         count: Nodes,
-    ) -> Result<Vec<NodeFile>, Failure> {
+    ) -> Result<Vec<A::Records>, Failure> {
         if folder.is_empty() {
             return Err(Failure::Device);
         }
         let mut stores = Vec::with_capacity(rt.alloc(), usize::from(count.count()))?;
         for number in 0..count.count() {
-            let store = open_file(rt, folder, number)?;
+            let store = open_file(rt, &mut self.access, folder, number)?;
             stores.push(store)?;
         }
         Ok(stores)
@@ -95,11 +122,19 @@ fn is_settled(rt: &HostRuntime, folder: &str, number: u8) -> bool {
 }
 
 /// A node's records.
-fn open_file(rt: &HostRuntime, folder: &str, number: u8) -> Result<NodeFile, Failure>
-    ensures { IfErr result (λ failure. (failure ≡ Failure.Device) ⊎ (failure ≡ Failure.Memory)) }
+fn open_file<A: FileAccess>(
+    rt: &HostRuntime,
+    access: &mut A,
+    folder: &str,
+    number: u8,
+) -> Result<A::Records, Failure>
+    ensures opened { IfOk result (λ store. A.FileAccess.opens access.old (path_in folder.now number) store access.new) }
+    ensures refused { IsErrOf result Failure.Device → (fault : StableFault)
+        × A.FileAccess.open_fails access.old (path_in folder.now number) fault access.new × (fault ≢ StableFault.Memory) }
+    ensures either { IfErr result (λ failure. (failure ≡ Failure.Device) ⊎ (failure ≡ Failure.Memory)) }
 {
     let path = path_of(rt, folder, number)?;
-    match NodeFile::open(rt, path.as_str()) {
+    match access.open(rt, path.as_str()) {
         Ok(store) => Ok(store),
         Err(fault) => Err(storage_failure(fault)),
     }
@@ -107,10 +142,23 @@ fn open_file(rt: &HostRuntime, folder: &str, number: u8) -> Result<NodeFile, Fai
 
 /// Where a node's records are.
 fn path_of(rt: &HostRuntime, folder: &str, number: u8) -> Result<String, AllocError>
-    ensures { IfOk result (λ path. string_bytes path
-        ≡ folder.now ++ (codes "/node" ++ decimal number ++ codes ".db")) }
+    ensures { IfOk result (λ path. string_bytes path ≡ path_in folder.now number) }
 {
-    format!(in rt.alloc(); "{folder}/node{number}.db")
+    if begins_at_root(folder.as_bytes()) {
+        format!(in rt.alloc(); "{folder}/node{number}.db")
+    } else {
+        format!(in rt.alloc(); "./{folder}/node{number}.db")
+    }
+}
+
+/// Whether the path begins at the root of all folders.
+fn begins_at_root(folder: &[u8]) -> bool
+    ensures { result ≡ is_rooted folder.now }
+{
+    match folder {
+        [] => false,
+        [first, ..] => *first == b'/',
+    }
 }
 
 /// What a storage's fault is to the program.

@@ -1,12 +1,15 @@
-//! An archive of files: a database of SQLite for each node's records, in one folder.
+//! Files: FILEs that are read whole, and a database of SQLite for each node's records, in one folder.
 //!
-//! This stands apart from the program that hands it over, so that its tests are none of that: a program of tests is checked with
+//! `Files` is an archive over a `FileAccess`, which reads one file or opens the records in one; `System` asks the system, one call
+//! each. This stands apart from the program that hands it over, so that its tests are none of that: a program of tests is checked with
 //! all that it is linked with.
 #![tactic(auto)]
 
+mod access;
 mod asking;
 mod files;
 mod node_file;
 
+pub use access::{FileAccess, System};
 pub use files::Files;
 pub use node_file::NodeFile;

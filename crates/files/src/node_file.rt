@@ -3,7 +3,7 @@
 ghost use Rattle.std.specs.Prelude.{IfOk, IsErrOf};
 ghost use Rattle.sqlite.specs.Files.{over_files};
 ghost use Rattle.sqlstable.specs.Keys.{HasStray, records_in};
-ghost use Rattle.sqlstable.specs.Storage.{IsSqlHonest, IsUnfailed, Puts, ReadFails, Reads, failures_of, rows_of};
+ghost use Rattle.sqlstable.specs.Storage.{Changes, IsSqlHonest, IsUnfailed, ReadFails, Reads, failures_of, rows_of};
 
 use crate::asking::{Answer, Asked, ask, leave};
 use sqlite::{File, FileStore};
@@ -54,11 +54,11 @@ impl Stable for NodeFile {
 
     ghost reads = { λ a b. Reads over_files a.table b.table };
 
-    ghost puts = { λ a key bytes b. Puts over_files a.table key bytes b.table };
+    ghost changes = { λ a change b. Changes over_files a.table change b.table };
 
     ghost read_fails = { λ a b. ReadFails over_files a.table b.table };
 
-    ghost fails = { λ a _ _ b. ReadFails over_files a.table b.table };
+    ghost fails = { λ a _ b. ReadFails over_files a.table b.table };
 
     fn get(&mut self, alloc: Global, key: Key) -> Result<Option<Vec<u8>>, StableFault> {
         match ask(&mut self.table, alloc, Asked::Get(key))? {
@@ -69,6 +69,13 @@ impl Stable for NodeFile {
 
     fn put(&mut self, alloc: Global, key: Key, bytes: Vec<u8>) -> Result<(), StableFault> {
         match ask(&mut self.table, alloc, Asked::Put(key, bytes))? {
+            Answer::Done => Ok(()),
+            _ => unreachable!(),
+        }
+    }
+
+    fn trim_below(&mut self, alloc: Global, below: u32) -> Result<(), StableFault> {
+        match ask(&mut self.table, alloc, Asked::TrimBelow(below))? {
             Answer::Done => Ok(()),
             _ => unreachable!(),
         }

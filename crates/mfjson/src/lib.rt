@@ -1,8 +1,7 @@
 //! Documents of moving points, and their datetimes.
 //!
-//! A document is a JSON text of one moving point with its name, in a profile of OGC 19-045r3
-//! (MF-JSON). A datetime is a text of an instant, in a profile of RFC 3339. The words of the
-//! contracts stand in `specs/`.
+//! A document is a JSON text of one moving point with its name, in a profile of OGC 19-045r3 (MF-JSON). A datetime is the text of
+//! an instant, in a profile of RFC 3339.
 #![tactic(auto)]
 
 mod datetime;

@@ -28,6 +28,8 @@ pub fn read(alloc: Global, bytes: &[u8]) -> Result<Feature, MfFault>
     // A document is read, and so is what `write` gives.
     ensures document { (f : Feature) → IsDocumentOf bytes.now f
         → (result ≡ Ok f) ⊎ (result ≡ Err MfFault.Memory) }
+    // Bytes that are no text need no memory to be refused.
+    ensures no_text { ¬ IsUtf8 bytes.now → result ≡ Err MfFault.NotJson }
 {
     // Nearly every document is read so, which is faster; the tree has the last word on the others.
     if let Some(feature) = feature_of_tokens(alloc, bytes) {
@@ -42,7 +44,11 @@ fn value_of(alloc: Global, bytes: &[u8]) -> Result<Value, MfFault>
     ensures ok { IfOk result (λ v. Shows bytes.now (view v)) }
     ensures err { IfErr result (λ fault. fault ≢ MfFault.Memory
         → (fault ≡ MfFault.NotJson) × ((d : Data) → ¬ Shows bytes.now d)) }
+    ensures no_text { ¬ IsUtf8 bytes.now → result ≡ Err MfFault.NotJson }
 {
+    if let Err(_) = str::from_utf8(bytes) {
+        return Err(MfFault::NotJson);
+    }
     match Value::from_slice(alloc, bytes) {
         Ok(value) => Ok(value),
         Err(error) => match error.classify() {

@@ -1,8 +1,7 @@
 //! The cut: what a moving point does in a period.
 //!
-//! A `Cut` lists instants with positions, as a sequence does, and has its values by the same
-//! interpolation. At an end of the period its position may be a fraction: it is never rounded.
-//! What a cut has to be stands in `specs/Cuts.antt`.
+//! A `Cut` lists instants with positions, as a sequence does, and has its values by the same interpolation. At an end of the
+//! period the position may be a fraction: it is never rounded. `specs/Cuts.antt` defines a cut.
 #![tactic(auto)]
 
 mod cutting;

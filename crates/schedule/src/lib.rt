@@ -1,9 +1,8 @@
-//! Runs as texts: a schedule says how many nodes there are and what is done, line by line.
+//! Schedules as text: how many nodes a run has, and what is done, line by line.
 //!
-//! `parse_schedule` reads the schedule that bytes spell, or tells the first faulty line and the
-//! lowest of its faults. Which bytes spell which schedule stands in `specs/Schedules.antt`, and
-//! below it in `specs/Spelling.antt` and `specs/Table.antt`; no bytes spell two. Nothing runs here:
-//! the crate `replay` does what a schedule says.
+//! `parse_schedule` returns the schedule that the bytes spell, or the first faulty line and the lowest of its faults.
+//! `specs/Schedules.antt` defines which bytes spell which schedule, over `specs/Spelling.antt` and `specs/Table.antt`; no bytes
+//! spell two. Nothing runs here: the crate `replay` does the lines.
 #![tactic(auto)]
 
 mod action;

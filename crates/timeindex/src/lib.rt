@@ -1,7 +1,7 @@
-//! Which of many things are there in a period of time: from when to when each is, by its id.
+//! A time index: from when to when each entry is there, by its id.
 //!
-//! `TimeIndex::overlapping` gives the ids of the entries that have an instant in a period. What it
-//! gives is the filter of a set, which stands in `specs/Entries.antt`.
+//! `TimeIndex::overlapping` returns the ids of the entries that have an instant in a period. `specs/Entries.antt` defines it as
+//! the filter of a set.
 #![tactic(auto)]
 
 mod index;

@@ -1,11 +1,10 @@
-//! Moving points: where something is at every instant, told by a list of instants with positions.
+//! Moving points: the position at every instant, by a list of instants with positions.
 //!
-//! A `Seq` has a value at an instant, or none, and `Seq::value_at` gives it as fractions, never
-//! rounded. Instants are whole milliseconds and coordinates whole millimetres. What a value is
-//! stands in `specs/Moving.antt` for every fraction of a millisecond, so that the crates above can
-//! cut and clip by it.
+//! `Seq::value_at` returns the position at an instant as fractions, never rounded, or none. Instants are whole milliseconds and
+//! coordinates whole millimetres. `specs/Moving.antt` defines the value for every fraction of a millisecond, so that the crates
+//! above can use it.
 //!
-//! Nothing here takes memory but `Seq::append` and the clone of a `Seq`.
+//! Only `Seq::append` and the clone of a `Seq` allocate.
 #![tactic(auto)]
 
 mod coordinate;

@@ -8,4 +8,6 @@ mod documents;
 mod frames;
 mod lines;
 mod records;
+mod snapshots;
+mod tour;
 mod values;

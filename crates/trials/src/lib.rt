@@ -1,7 +1,6 @@
-//! Tests of libraries, over what these make public: of the data, of one node, of storages, and of whole runs and the program's parts.
+//! Tests of all libraries, over what these make public.
 //!
-//! A crate with tests is proved twice, so these stand apart; and each program of tests is read, compiled and linked with all that it
-//! stands on, so they stand in one crate.
+//! A crate with tests is proved twice, and each test program is linked by itself, so all tests are in one crate.
 #![tactic(auto)]
 
 #[cfg(test)]

@@ -4,6 +4,7 @@
 mod checks;
 mod clusters;
 mod failures;
+mod folders;
 mod loopbacks;
 mod program;
 mod schedules;

@@ -1,11 +1,8 @@
-//! What a run of the program makes of the bytes that it is given: the transcript of a schedule, or
-//! the canonical form of a document, as a line.
+//! What replay, loopback and check produce from bytes: a transcript, or a canonical document as a line.
 //!
-//! `transcript` and `checked` do one work each, and where they make nothing they tell how the run ends. `planned` is the first
-//! part of a work that wants something opened: `made_over` goes on over the storages, `looped_over` over the transport that the
-//! caller has opened by then. `run_through` does a schedule's lines to any cluster. Which work is done, and where the bytes came
-//! from, words and streams, is the affair of those who call them; so the program and its examples make the same. What a work
-//! makes stands in `specs/Works.antt`.
+//! `transcript` and `checked` do one work each, or return how the run ends. `planned` is the first part of a work for which the
+//! caller opens something: `made_over` continues over storages, `looped_over` over a transport. `run_through` does a schedule's
+//! lines to any cluster. The program and its examples call the same functions. `specs/Works.antt` defines what they produce.
 #![tactic(auto)]
 
 mod failures;

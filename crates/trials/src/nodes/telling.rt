@@ -48,6 +48,7 @@ pub fn tell_fault(text: &mut String, node: u8, fault: NodeFault) -> Result<(), A
 pub fn tell_writes(text: &mut String, writes: &[Put]) -> Result<(), AllocError> {
     for put in writes {
         match put.key() {
+            Key::Checkpoint => text.push_str(" checkpoint")?,
             Key::Promise => text.push_str(" promise")?,
             Key::Round => text.push_str(" round")?,
             Key::Vote(slot) => {

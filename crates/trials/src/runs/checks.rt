@@ -22,7 +22,7 @@ impl Read for Broken {
 }
 
 // in the canonical order, with no blanks: 195 bytes, and a line feed
-const LINE: &str = concat!(
+pub(crate) const LINE: &str = concat!(
     r#"{"id":"bus-7","temporalGeometry":{"coordinates":[[0,0],[10,5]],"#,
     r#""datetimes":["2020-01-01T00:00:00.000Z","2020-01-01T00:00:03.000Z"],"#,
     r#""interpolation":"Linear","type":"MovingPoint"},"type":"Feature"}"#,
@@ -39,13 +39,11 @@ fn a_document_and_its_line(rt: HostRuntime) -> Result<(), Fail> {
 fn checks_whose_streams_fail(rt: HostRuntime) -> Result<(), Fail> {
     let words = ["check", "-"];
     // what came before the failure isn't told as a fault of the document
-    let mut input = Broken { begun: false };
-    assert!(rt; tells_a_device(&rt, &words, &mut input, Vec::new(rt.alloc()))?);
-    let mut input = LINE.as_bytes();
-    assert!(rt; tells_a_device(&rt, &words, &mut input, Unwritable)?);
+    let input = Broken { begun: false };
+    assert!(rt; tells_a_device(&rt, &words, input, Vec::new(rt.alloc()))?);
+    assert!(rt; tells_a_device(&rt, &words, LINE.as_bytes(), Unwritable)?);
     // room for all but the line feed
-    let mut input = LINE.as_bytes();
     let mut room = [0u8; 195];
-    assert!(rt; tells_a_device(&rt, &words, &mut input, room.as_mut_slice())?);
+    assert!(rt; tells_a_device(&rt, &words, LINE.as_bytes(), room.as_mut_slice())?);
     Ok(())
 }

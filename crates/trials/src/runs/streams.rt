@@ -6,6 +6,7 @@ use crate::runs::program::{FIRST_LINES, FIRST_RUN};
 use crate::runs::worlds::three_storages;
 use console::{Archive, command};
 use endings::{Failure, Tracked};
+use files::{Files, System};
 use stable::MemStable;
 use std::alloc::AllocError;
 use std::io::{self, Error, ErrorKind, Read, Write};
@@ -39,6 +40,11 @@ impl Shelf {
 
 impl Archive for Shelf {
     type Records = MemStable;
+
+    /// It has no file.
+    fn read(&mut self, _rt: &HostRuntime, _path: &str) -> Result<Vec<u8>, Failure> {
+        Err(Failure::Device)
+    }
 
     fn open(
         &mut self,
@@ -121,40 +127,40 @@ pub(crate) fn owned(rt: &HostRuntime, words: &[&str]) -> Result<Vec<String>, Fai
 /// The status of a run over these streams, and the writers as it leaves them.
 ///
 /// Nothing else calls the program: what its contract names is looked at here, once.
-fn run_over<R: Read, O: Write + Drop, E: Write + Drop>(
+fn run_over<A: Archive, R: Read + Drop, O: Write + Drop, E: Write + Drop>(
     rt: &HostRuntime,
-    shelf: &mut Shelf,
+    archive: &mut A,
     words: &[&str],
-    input: &mut R,
+    input: R,
     out: O,
     err: E,
 ) -> Result<(u8, O, E), Fail> {
     let words = owned(rt, words)?;
+    let mut input = Tracked::new(input);
     let mut out = Tracked::new(out);
     let mut err = Tracked::new(err);
-    let status = command(rt, words, input, &mut out, &mut err, shelf);
+    let status = command(rt, words, &mut input, &mut out, &mut err, archive);
     Ok((status, out.into_inner(), err.into_inner()))
 }
 
-/// The status, and what went to each stream.
+/// The status, and what went to each stream, over the files of the system.
 pub(crate) fn answer(
     rt: &HostRuntime,
     words: &[&str],
     input: &[u8],
 ) -> Result<(u8, Vec<u8>, Vec<u8>), Fail> {
-    answer_over(rt, &mut Shelf::new(3, false), words, input)
+    answer_over(rt, &mut Files::new(System), words, input)
 }
 
 /// The same over this archive.
-fn answer_over(
+fn answer_over<A: Archive>(
     rt: &HostRuntime,
-    shelf: &mut Shelf,
+    archive: &mut A,
     words: &[&str],
     input: &[u8],
 ) -> Result<(u8, Vec<u8>, Vec<u8>), Fail> {
-    let mut input = input;
     let out = Vec::new(rt.alloc());
-    run_over(rt, shelf, words, &mut input, out, Vec::new(rt.alloc()))
+    run_over(rt, archive, words, input, out, Vec::new(rt.alloc()))
 }
 
 /// Whether a run of these words on this input has this status, and these texts in its streams.
@@ -176,14 +182,14 @@ fn is_so(answer: (u8, Vec<u8>, Vec<u8>), wanted: (u8, &str, &str)) -> bool {
 }
 
 /// Whether a run tells that a device fails, where the input is read and the text is written so.
-pub(crate) fn tells_a_device<R: Read, O: Write + Drop>(
+pub(crate) fn tells_a_device<R: Read + Drop, O: Write + Drop>(
     rt: &HostRuntime,
     words: &[&str],
-    input: &mut R,
+    input: R,
     out: O,
 ) -> Result<bool, Fail> {
-    let shelf = &mut Shelf::new(3, false);
-    let (status, _out, err) = run_over(rt, shelf, words, input, out, Vec::new(rt.alloc()))?;
+    let files = &mut Files::new(System);
+    let (status, _out, err) = run_over(rt, files, words, input, out, Vec::new(rt.alloc()))?;
     Ok(status == 3 && err.as_slice() == b"mfpx: device\n".as_slice())
 }
 
@@ -223,18 +229,16 @@ fn streams_and_files_that_fail(rt: HostRuntime) -> Result<(), Fail> {
             "{path}"
         );
     }
-    assert!(rt; tells_a_device(&rt, &[], &mut Unreadable, Vec::new(rt.alloc()))?);
-    let mut input: &[u8] = b"nodes 3\n";
-    assert!(rt; tells_a_device(&rt, &[], &mut input, Unflushed)?);
+    assert!(rt; tells_a_device(&rt, &[], Unreadable, Vec::new(rt.alloc()))?);
+    assert!(rt; tells_a_device(&rt, &[], b"nodes 3\n".as_slice(), Unflushed)?);
     Ok(())
 }
 
 /// The status where nothing can be told, and whether nothing was printed.
 fn untold(rt: &HostRuntime, words: &[&str], input: &[u8]) -> Result<(u8, bool), Fail> {
-    let mut input = input;
     let out = Vec::new(rt.alloc());
-    let shelf = &mut Shelf::new(3, false);
-    let (status, out, _err) = run_over(rt, shelf, words, &mut input, out, Unwritable)?;
+    let files = &mut Files::new(System);
+    let (status, out, _err) = run_over(rt, files, words, input, out, Unwritable)?;
     Ok((status, out.is_empty()))
 }
 

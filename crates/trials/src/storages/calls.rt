@@ -50,6 +50,33 @@ pub fn keeps_records<S: Stable>(alloc: Global, storage: &mut S) -> Result<bool, 
     Ok(empty && is_filled(alloc, storage)?)
 }
 
+/// Whether a storage that is empty keeps what `fill` puts but the votes that are trimmed: first none, then those at slots below
+/// 700, and at last all of them. A trim that finds nothing is no error.
+pub fn trims_records<S: Stable>(alloc: Global, storage: &mut S) -> Result<bool, StableFault> {
+    storage.trim_below(alloc, 700)?;
+    fill(alloc, storage)?;
+    storage.trim_below(alloc, 0)?;
+    let all = is_filled(alloc, storage)?;
+    storage.trim_below(alloc, 700)?;
+    storage.trim_below(alloc, 700)?;
+    let last = is_trimmed(alloc, storage)?;
+    storage.trim_below(alloc, u32::MAX)?;
+    let none = lists(alloc, storage, [Key::Promise, Key::Round].as_slice())?;
+    Ok(all && last && none)
+}
+
+/// Whether a storage holds what `fill` puts, but the vote at slot 0.
+pub fn is_trimmed<S: Stable>(alloc: Global, storage: &mut S) -> Result<bool, StableFault> {
+    let ascending = lists(
+        alloc,
+        storage,
+        [Key::Promise, Key::Round, vote(700)].as_slice(),
+    )?;
+    let first = storage.get(alloc, vote(0))?.is_none();
+    let last = holds(alloc, storage, vote(700), b"g")?;
+    Ok(ascending && first && last)
+}
+
 // Whether these are its keys.
 fn lists<S: Stable>(alloc: Global, storage: &mut S, keys: &[Key]) -> Result<bool, StableFault> {
     Ok(storage.keys(alloc)?.as_slice() == keys)

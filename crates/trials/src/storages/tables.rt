@@ -1,11 +1,11 @@
 //! Records in a table: in memory, and in a file.
 
-use super::calls::{fill, is_filled, keeps_records};
+use super::calls::{fill, is_filled, is_trimmed, keeps_records, trims_records};
 use archive::Archive;
-use files::{Files, NodeFile};
+use files::{Files, NodeFile, System};
 use sqlite::{Connection, Error, MemStore, Options, params};
 use sqlstable::SqlStable;
-use stable::StableFault;
+use stable::{Stable, StableFault};
 use std::alloc::Global;
 use std::fs;
 use wire::Nodes;
@@ -21,6 +21,18 @@ fn memory_keeps(alloc: Global) -> Result<bool, StableFault> {
 #[test]
 fn memory_keeps_records(rt: HostRuntime) {
     assert_eq!(rt; memory_keeps(rt.alloc()), Ok(true));
+}
+
+// Whether a storage in memory is trimmed.
+fn memory_trims(alloc: Global) -> Result<bool, StableFault> {
+    let mut storage = SqlStable::open_in_memory(alloc)?;
+    let trims = trims_records(alloc, &mut storage);
+    Ok(storage.can_count() && trims?)
+}
+
+#[test]
+fn memory_is_trimmed(rt: HostRuntime) {
+    assert_eq!(rt; memory_trims(rt.alloc()), Ok(true));
 }
 
 // A database in memory, made by these two texts.
@@ -107,6 +119,34 @@ fn a_file_keeps_records(rt: HostRuntime) {
     assert!(rt; fs::remove_dir_all(&rt, FOLDER).is_ok());
 }
 
+const TRIM_FOLDER: &str = "sqlstable_trim_test";
+
+const TRIM_PATH: &str = "sqlstable_trim_test/node0.db";
+
+// A file is trimmed, and left as a run leaves it.
+fn trim_a_file(rt: &HostRuntime, path: &str) -> Result<bool, StableFault> {
+    let mut storage = NodeFile::open(rt, path)?;
+    fill(rt.alloc(), &mut storage)?;
+    storage.trim_below(rt.alloc(), 700)?;
+    is_trimmed(rt.alloc(), &mut storage)
+}
+
+// Whether a file that is opened holds what a trim left.
+fn is_file_trimmed(rt: &HostRuntime, path: &str) -> Result<bool, StableFault> {
+    let mut storage = NodeFile::open(rt, path)?;
+    is_trimmed(rt.alloc(), &mut storage)
+}
+
+#[test]
+fn a_file_is_trimmed(rt: HostRuntime) {
+    let _ = fs::remove_dir_all(&rt, TRIM_FOLDER);
+    assert!(rt; fs::create_dir(&rt, TRIM_FOLDER).is_ok());
+    assert_eq!(rt; trim_a_file(&rt, TRIM_PATH), Ok(true));
+    assert_eq!(rt; close_a_file(&rt, TRIM_PATH), Ok(()));
+    assert_eq!(rt; is_file_trimmed(&rt, TRIM_PATH), Ok(true));
+    assert!(rt; fs::remove_dir_all(&rt, TRIM_FOLDER).is_ok());
+}
+
 const RUN_FOLDER: &str = "sqlstable_run_test";
 
 const RUN_PATH: &str = "sqlstable_run_test/node0.db";
@@ -149,15 +189,15 @@ fn a_settled_file_is_alone(rt: HostRuntime) {
 #[test]
 fn an_empty_name_is_no_folder(rt: HostRuntime) {
     let nodes = Nodes::new(3).unwrap();
-    assert_eq!(rt; Files.is_left_open(&rt, "", nodes), Ok(true));
+    assert_eq!(rt; Files::new(System).is_left_open(&rt, "", nodes), Ok(true));
     assert!(rt; is_no_folder(&rt, "", nodes));
-    Files.settle(&rt, "", nodes);
+    Files::new(System).settle(&rt, "", nodes);
     assert!(rt; fs::symlink_metadata(&rt, "/node0.db").is_err());
 }
 
 // Whether no records can be kept under this name.
 fn is_no_folder(rt: &HostRuntime, folder: &str, nodes: Nodes) -> bool {
-    Files.open(rt, folder, nodes).is_err()
+    Files::new(System).open(rt, folder, nodes).is_err()
 }
 
 // What a run has left open is seen by its log, and closed in order under the names by which a run finds it.
@@ -166,11 +206,20 @@ fn an_archive_settles_its_files(rt: HostRuntime) {
     let nodes = Nodes::new(3).unwrap();
     let _ = fs::remove_dir_all(&rt, ARCHIVE);
     assert!(rt; fs::create_dir(&rt, ARCHIVE).is_ok());
-    assert_eq!(rt; Files.is_left_open(&rt, ARCHIVE, nodes), Ok(false));
+    assert_eq!(rt;
+        Files::new(System).is_left_open(&rt, ARCHIVE, nodes),
+        Ok(false)
+    );
     assert_eq!(rt; leave_a_file(&rt, FIRST_FILE), Ok(true));
-    assert_eq!(rt; Files.is_left_open(&rt, ARCHIVE, nodes), Ok(true));
-    Files.settle(&rt, ARCHIVE, nodes);
-    assert_eq!(rt; Files.is_left_open(&rt, ARCHIVE, nodes), Ok(false));
+    assert_eq!(rt;
+        Files::new(System).is_left_open(&rt, ARCHIVE, nodes),
+        Ok(true)
+    );
+    Files::new(System).settle(&rt, ARCHIVE, nodes);
+    assert_eq!(rt;
+        Files::new(System).is_left_open(&rt, ARCHIVE, nodes),
+        Ok(false)
+    );
     assert_eq!(rt; is_file_filled(&rt, FIRST_FILE), Ok(true));
     assert!(rt; fs::remove_dir_all(&rt, ARCHIVE).is_ok());
 }

@@ -17,6 +17,6 @@ returns c =
       answer = answer;
       answers = subst (λ s. AnswersPrepare (accepting_of c.args.acceptor.now) ballot s answer) (first ∙ c.first_slot.ensures.slot)
           c.in_ok-answer.ensures.answer;
-      after = c.in_ok-answer.ensures.state;
+      after = rw (first ∙ c.first_slot.ensures.slot) at c.in_ok-answer.ensures.state;
       told = c.answer_number.ensures;
     }

@@ -37,6 +37,9 @@ has_failed Usage e = absurd (omega arith)
 has_failed Device e = inl refl
 has_failed Memory e = inr refl
 
+is_no_usage : (failure : Failure) → status_of failure ≡ 3 → failure ≢ Usage
+is_no_usage failure three usage = absurd (omega (arith, sym three ∙ ap status_of usage))
+
 is_no_device : (failure : Failure) → status_of failure ≢ 3 → failure ≢ Device
 is_no_device failure other device = other (ap status_of device)
 
@@ -71,7 +74,7 @@ returns g c = record {
   done = λ zero. absurd (not_done _ (sym c.told.ensures.status ∙ zero));
   faulty_unprinted = λ one. c.in-Err.ensures.untouched (is_no_device _ (λ three. omega (arith, c.told.ensures.status)));
   usage_unprinted = λ two. c.in-Err.ensures.untouched (is_no_device _ (λ three. omega (arith, c.told.ensures.status)));
-  failed_unprinted = λ three. rw (← c.as_slice.ensures.value) (elim c.in-Err.ensures.unprinted [
+  failed_unprinted = λ three. rw (← c.as_slice.ensures.value) (elim (c.in-Err.ensures.unprinted (is_no_usage _ (sym c.told.ensures.status ∙ three))) [
     | inl unprinted ↦ inl (unprinted.0, c.in-Err.failure, sym c.told.ensures.status ∙ three, unprinted.1, c.told.ensures.line)
     | inr printed ↦ inr printed
   ]);

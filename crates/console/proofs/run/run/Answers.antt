@@ -11,11 +11,7 @@ use Rattle.commandline.specs.declared.job.Source.{Source}
 use Rattle.commandline.specs.declared.job.Source.TheVariants.{Input, File}
 use Rattle.console.proofs.run.run.Goals as goal
 
--- the source is the input exactly where the words name it
-is_input : (words : List (List ℕ)) (source : Source) → NameSource words source → NameInput words → source ≡ Input
-is_input words Input named input = refl
-is_input words (File path) named input = absurd (named.0 input)
-
+-- words that don't name the input name a file
 no_input : (words : List (List ℕ)) (source : Source) → NameSource words source → ¬ NameInput words → source ≢ Input
 no_input words source named other input = other (rw input at named)
 
@@ -28,6 +24,11 @@ no_usage : (failure : Failure) → (failure ≡ Device) ⊎ (failure ≡ Memory)
 no_usage failure (inl device) = λ usage. cc
 no_usage failure (inr memory) = λ usage. cc
 
+-- of the faults of words the one that is not usage is memory
+memory_alone : (fault : WordsFault) (failure : Failure) → failure ≡ failure_of fault → failure ≢ Usage → failure ≡ Memory
+memory_alone words.NoForm failure is other = absurd (other is)
+memory_alone words.Memory failure is other = is
+
 -- words that have no job end before anything is read
 pub returns-in-Err : goal.returns-in-Err
 returns-in-Err g c = record {
@@ -37,13 +38,13 @@ returns-in-Err g c = record {
   no_form = search rules;
   no_form_unread = λ none. refl;
   untouched = λ other. refl;
-  unprinted = inl (refl, inl refl);
+  unprinted = λ other. inl (refl, inl (memory_alone _ _ c.words_failure.ensures other, refl));
   words_come_first = λ usage. refl;
   file_alone = λ other. refl;
   archive_untouched = λ usage. refl;
 }
 
--- so does a source that can't be read, before the archive is asked for anything
+-- so does a source that can't be read, before the archive is asked for records
 pub returns-in_err-bytes : goal.returns-in_err-bytes
 returns-in_err-bytes g c =
     let p = err_from_is_err_and c.from_residual.result c.from_residual.ensures.1 in
@@ -54,10 +55,17 @@ returns-in_err-bytes g c =
       no_form = λ none. absurd (none c.in-Ok.job.work c.in-Ok.ensures.work);
       no_form_unread = λ none. absurd (none c.in-Ok.job.work c.in-Ok.ensures.work);
       untouched = λ other. refl;
-      unprinted = inl (refl, inl refl);
+      unprinted = λ other. inl (
+        refl,
+        inr (inl (record {
+          source = c.in-Ok.job.source;
+          named = c.in-Ok.ensures.source;
+          gives_none = c.in_err-bytes.ensures.gives_none;
+        })),
+      );
       words_come_first = λ usage. absurd (no_usage _ c.in_err-bytes.ensures.err usage);
       file_alone = λ other. c.content.ensures.file_alone (no_input _ _ c.in-Ok.ensures.source other);
-      archive_untouched = λ usage. refl;
+      archive_untouched = λ usage. absurd (no_usage _ c.in_err-bytes.ensures.err usage);
     })
 
 -- the words' job ends on the bytes that they name
@@ -71,25 +79,31 @@ returns-in_err-text g c =
         folder = text_of c.in-Ok.job.folder;
         asked = c.in-Ok.ensures.work;
         kept = c.in-Ok.ensures.folder;
+        source = c.in-Ok.job.source;
+        named = c.in-Ok.ensures.source;
         bytes = c.as_slice.result.now;
-        named = λ input. rw c.as_slice.ensures.value (c.in_ok-bytes.ensures.input (is_input _ _ c.in-Ok.ensures.source input));
+        read = c.content.new.archive;
+        gives = rw c.as_slice.ensures.value c.in_ok-bytes.ensures.gives;
         ends = c.in_err-text.ensures.ends;
       };
       usage = λ usage. absurd (c.in_err-text.ensures.no_usage usage);
       no_form = λ none. absurd (none c.in-Ok.job.work c.in-Ok.ensures.work);
       no_form_unread = λ none. absurd (none c.in-Ok.job.work c.in-Ok.ensures.work);
       untouched = λ other. refl;
-      unprinted = inl (
+      unprinted = λ other. inl (
         refl,
-        inr (record {
+        inr (inr (record {
           work = c.in-Ok.job.work;
           folder = text_of c.in-Ok.job.folder;
           asked = c.in-Ok.ensures.work;
           kept = c.in-Ok.ensures.folder;
+          source = c.in-Ok.job.source;
+          named = c.in-Ok.ensures.source;
           bytes = c.as_slice.result.now;
-          named = λ input. rw c.as_slice.ensures.value (c.in_ok-bytes.ensures.input (is_input _ _ c.in-Ok.ensures.source input));
+          read = c.content.new.archive;
+          gives = rw c.as_slice.ensures.value c.in_ok-bytes.ensures.gives;
           ends = c.in_err-text.ensures.ends;
-        }),
+        })),
       );
       words_come_first = λ usage. absurd (c.in_err-text.ensures.no_usage usage);
       file_alone = λ other. c.content.ensures.file_alone (no_input _ _ c.in-Ok.ensures.source other);
@@ -106,8 +120,11 @@ returns-in-Ok-print g c = record {
       folder = text_of c.in-Ok.job.folder;
       asked = c.in-Ok.ensures.work;
       kept = c.in-Ok.ensures.folder;
+      source = c.in-Ok.job.source;
+      named = c.in-Ok.ensures.source;
       bytes = c.as_slice.result.now;
-      named = λ input. rw c.as_slice.ensures.value (c.in_ok-bytes.ensures.input (is_input _ _ c.in-Ok.ensures.source input));
+      read = c.content.new.archive;
+      gives = rw c.as_slice.ensures.value c.in_ok-bytes.ensures.gives;
       made = rw c.as_slice-2.ensures.value c.in_ok-text.ensures.makes;
     },
     c.in-Ok-print.ensures.ok,
@@ -132,15 +149,18 @@ returns g c = record {
   no_form = λ none. absurd (none c.in-Ok.job.work c.in-Ok.ensures.work);
   no_form_unread = λ none. absurd (none c.in-Ok.job.work c.in-Ok.ensures.work);
   untouched = λ other. absurd (other refl);
-  unprinted = inr (
+  unprinted = λ other. inr (
     c.as_slice-2.result.now,
     record {
       work = c.in-Ok.job.work;
       folder = text_of c.in-Ok.job.folder;
       asked = c.in-Ok.ensures.work;
       kept = c.in-Ok.ensures.folder;
+      source = c.in-Ok.job.source;
+      named = c.in-Ok.ensures.source;
       bytes = c.as_slice.result.now;
-      named = λ input. rw c.as_slice.ensures.value (c.in_ok-bytes.ensures.input (is_input _ _ c.in-Ok.ensures.source input));
+      read = c.content.new.archive;
+      gives = rw c.as_slice.ensures.value c.in_ok-bytes.ensures.gives;
       made = rw c.as_slice-2.ensures.value c.in_ok-text.ensures.makes;
     },
     c.in-Err-print.ensures.err,

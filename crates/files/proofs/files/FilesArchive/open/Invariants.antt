@@ -1,6 +1,10 @@
 use Rattle.std.proofs.Common.{◌≡◌, vec_len}
+use Rattle.files.specs.Opening.{AreOpened}
 use Rattle.files.proofs.files.FilesArchive.open.Given as goal
 
--- as many files were opened
+-- as many files were opened, each under its number
 abbrev pub invariant-loop-number : goal.invariant-loop-number
-invariant-loop-number l = vec_len l.stores ≡ l.number
+invariant-loop-number g l = record {
+  counted : vec_len l.stores ≡ l.number;
+  opened : AreOpened g.A.FileAccess l.folder l.stores.items;
+}
