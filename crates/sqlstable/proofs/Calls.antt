@@ -104,9 +104,9 @@ module _ {S : Type 0} (g : Ghosts S) (a : SqlStable S g) (now : Held S) where
     records = λ h. let usable = subst (λ c. IsUsable (state g c)) is h.usable in
         ap (λ c. records_in (table (state g c))) is ∙ puts_records key bytes (table old) (table new) valid
         (made usable (sound_before f usable));
-    stray = λ h s. let usable = subst (λ c. IsUsable (state g c)) is h.usable in
-        (puts_stray key bytes (table old) (table new) valid (made usable (sound_before f usable))).0
-        (subst (λ c. HasStray (table (state g c))) is s);
+    stray = λ h. let usable = subst (λ c. IsUsable (state g c)) is h.usable in
+        let both = puts_stray key bytes (table old) (table new) valid (made usable (sound_before f usable)) in
+        (λ s. both.0 (subst (λ c. HasStray (table (state g c))) is s), λ s. subst (λ c. HasStray (table (state g c))) (sym is) (both.1 s));
     failures = counts;
   }
 

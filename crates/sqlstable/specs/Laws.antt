@@ -6,6 +6,7 @@ use Rattle.stable.specs.Records.{changed}
 use Rattle.stable.specs.Script.{counted}
 use Rattle.stable.specs.ScriptLaws.{counted_more}
 use Rattle.stable.specs.Storages.{IsLawful}
+use Rattle.stable.specs.StrayLaws.{stray_same, stray_after, stray_before}
 use Rattle.sqlstable.specs.Keys.{records_in, HasStray}
 use Rattle.sqlstable.specs.Storage.{in_table}
 
@@ -38,7 +39,7 @@ module _ {S : Type 0} (g : Ghosts S) where
     fails_honest = λ a b change f h. f.honest h;
     fails_contents = λ a b change f h. inl (ap records_in (f.rows h));
     fails_failures = λ a b change f h. one_more a.failures f.failures h.counts;
-    fails_stray = λ a b change f h. (same_strays (f.rows h)).0;
+    fails_stray = λ a b change f h. stray_same change (same_strays (f.rows h));
     reads_none = λ a. record { honest = λ h. h; rows = λ h. refl; failures = refl };
     reads_reads = λ a b c r s. record {
       honest = λ h. r.honest (s.honest h);
@@ -53,7 +54,7 @@ module _ {S : Type 0} (g : Ghosts S) where
     reads_changes = λ a b c change r p. record {
       honest = λ h. r.honest (p.honest h);
       records = λ h. p.records h ∙ ap (λ rows. changed (records_in rows) change) (r.rows (p.honest h));
-      stray = λ h s. (same_strays (r.rows (p.honest h))).0 (p.stray h s);
+      stray = λ h. stray_after _ change (same_strays (r.rows (p.honest h))) (p.stray h);
       failures = p.failures ∙ r.failures;
     };
     reads_fails = λ a b c change r f. record {
@@ -64,7 +65,7 @@ module _ {S : Type 0} (g : Ghosts S) where
     changes_reads = λ a b c change p r. record {
       honest = λ h. p.honest (r.honest h);
       records = λ h. ap records_in (r.rows h) ∙ p.records (r.honest h);
-      stray = λ h s. p.stray (r.honest h) ((same_strays (r.rows h)).0 s);
+      stray = λ h. stray_before _ change (p.stray (r.honest h)) (same_strays (r.rows h));
       failures = r.failures ∙ p.failures;
     };
   }

@@ -3,6 +3,7 @@ use Rattle.std.specs.Prelude.{◌≡◌, ℕ, Some, IsSome, unwrap_or, List}
 use Rattle.sqlite_value.specs.Order.{Row}
 use Rattle.sqlite_trees.specs.declared.store.Store.{Ghosts}
 use Rattle.sqlite.specs.Held.{state}
+use Rattle.stable.specs.Laws.{KeepsStray}
 use Rattle.stable.specs.Records.{Change, changed}
 use Rattle.stable.specs.Script.{counted}
 use Rattle.stable.specs.declared.stable.Stable as stable
@@ -44,7 +45,7 @@ module _ {S : Type 0} (g : Ghosts S) where
   pub record Changes (a : SqlStable S g) (change : Change) (b : SqlStable S g) : Type 0 where
     pub honest : IsSqlHonest b → IsSqlHonest a
     pub records : IsSqlHonest b → records_in (rows_of b) ≡ changed (records_in (rows_of a)) change
-    pub stray : IsSqlHonest b → HasStray (rows_of b) → HasStray (rows_of a)
+    pub stray : IsSqlHonest b → KeepsStray change (HasStray (rows_of a)) (HasStray (rows_of b))
     pub failures : b.failures ≡ a.failures
 
   -- what it is as a storage: a change that fails leaves the old records

@@ -15,7 +15,7 @@ use Rattle.byslot.specs.declared.byslot.BySlot.{BySlot}
 use Rattle.byslot.proofs.ValueLemmas.{less, tells, written_of, unwritten_of}
 use Rattle.stable.specs.Listing.{ListsTo}
 use Rattle.stable.specs.Memory.{stored}
-use Rattle.stable.specs.Records.{Records, rank, key_cmp, IsAscending, no_records, with_record, without_votes_below}
+use Rattle.stable.specs.Records.{Records, rank, slot_in, key_cmp, IsAscending, no_records, with_record, without_votes_below}
 use Rattle.stable.specs.declared.key.Key.{Key}
 use Rattle.stable.specs.declared.key.Key.TheVariants.{Checkpoint, Promise, Round, Vote}
 use Rattle.stable.specs.declared.memory.MemStable.{MemStable}
@@ -49,6 +49,10 @@ apart m n other = elim (eqb_tells m n) [
   | inr told ↦ told.0
 ]
 
+some_not_none : {X : Type 0} (o : Option X) → IsSome o → o ≡ None → ⊥
+some_not_none (Some x) h e = absurd cc
+some_not_none None h e = absurd cc
+
 -- a vote was put
 pub vote_stored : (a : MemStable) (votes : BySlot (Vec ℕ Global)) (slot : ℕ) (copy : Vec ℕ Global) (key : Key) (bytes : List ℕ)
     → key ≡ Vote slot → copy.items ≡ bytes → value_at votes ≡ put (value_at a.votes) slot (Some copy)
@@ -63,6 +67,15 @@ vote_stored a votes slot copy key bytes is copied changed = λ k q. (at q ∙ ap
       | inl same ↦ rw (same.0, eq-eqb (s + 3) (slot + 3) (ap (λ n. n + 3) same.1), copied) refl
       | inr other ↦ rw (other.0, apart (s + 3) (slot + 3) (λ e. other.1 (omega (arith, e)))) refl
     ]
+
+-- where no vote stands at the slot, its key holds no record
+pub no_vote_stored : (a : MemStable) (key : Key) (slot : ℕ) → key ≡ Vote slot → value_at a.votes slot ≡ None → IsSome (stored a key) → ⊥
+no_vote_stored a key slot is none held = some_not_none (stored a key) held
+    (ap (stored a) is ∙ ap (option_map (λ v. v.items)) none)
+
+-- a vote's key is none of the fixed ones
+pub no_fixed_key : (key : Key) (slot : ℕ) → key ≡ Vote slot → slot_in key ≡ None → ⊥
+no_fixed_key key slot is none = let bad : Some slot ≡ None = sym (ap slot_in is) ∙ none in absurd cc
 
 fixed_rank : (key : Key) → ((slot : ℕ) → key ≡ Vote slot → ⊥) → rank key < 3
 fixed_rank Checkpoint no_vote = omega arith
@@ -107,10 +120,6 @@ votes_trimmed a votes below changed = λ k q. (at q) k
     ]
 
 -- ---- keys in order
-some_not_none : {X : Type 0} (o : Option X) → IsSome o → o ≡ None → ⊥
-some_not_none (Some x) h e = absurd cc
-some_not_none None h e = absurd cc
-
 all_push : (P : Key → Type 0) (keys : List Key) (k : Key) → AllByRecursion P keys → P k → AllByRecursion P (keys ++ k ∷ [])
 all_push P [] k all here = (here, tt)
 all_push P (j ∷ keys) k all here = (all.0, all_push P keys k all.1 here)

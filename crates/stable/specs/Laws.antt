@@ -1,9 +1,14 @@
 -- The laws of a storage: what its calls may make of it, and what calls one after the other come to.
 use Rattle.std.specs.Prelude.{◌≡◌, ℕ, ◌<◌, ◌≤◌, ◌↔◌, ◌⊎◌}
-use Rattle.stable.specs.Records.{Records, Change, changed}
+use Rattle.stable.specs.Records.{Records, Change, Sets, Trims, changed}
 
--- a storage that is honest after a call was honest before it, and has the same stray keys; what is said of records and
--- of the count is said where it is honest
+-- whether there is a stray key before a change and after it: a put neither makes one nor loses one, a trim makes none
+abbrev pub KeepsStray : Change → Type 0 → Type 0 → Type 0
+KeepsStray (Sets key bytes) before after = after ↔ before
+KeepsStray (Trims below) before after = after → before
+
+-- a storage that is honest after a call was honest before it, and has the same stray keys, but for what a trim takes out;
+-- what is said of records and of the count is said where it is honest
 pub record KeepsLaws {S : Type 0} (contents : S → Records) (failures : S → ℕ) (IsHonest HasStrayKey IsSettled : S → Type 0)
     (reads : S → S → Type 0) (changes : S → Change → S → Type 0)
     (read_fails : S → S → Type 0) (fails : S → Change → S → Type 0) : Type 0 where
@@ -30,7 +35,7 @@ pub record KeepsLaws {S : Type 0} (contents : S → Records) (failures : S → �
   pub changes_failures : (a b : S) (change : Change) → changes a change b → IsHonest b
       → failures a ≤ failures b
   pub changes_stray : (a b : S) (change : Change) → changes a change b → IsHonest b
-      → HasStrayKey b → HasStrayKey a
+      → KeepsStray change (HasStrayKey a) (HasStrayKey b)
   pub changes_settled : (a b : S) (change : Change) → changes a change b → IsSettled b
   -- a change on which the device failed was counted, and left the old records or the new ones
   pub fails_honest : (a b : S) (change : Change) → fails a change b → IsHonest b
@@ -40,7 +45,7 @@ pub record KeepsLaws {S : Type 0} (contents : S → Records) (failures : S → �
   pub fails_failures : (a b : S) (change : Change) → fails a change b → IsHonest b
       → failures a < failures b
   pub fails_stray : (a b : S) (change : Change) → fails a change b → IsHonest b
-      → HasStrayKey b → HasStrayKey a
+      → KeepsStray change (HasStrayKey a) (HasStrayKey b)
   -- calls one after the other
   pub reads_none : (a : S) → reads a a
   pub reads_reads : (a b c : S) → reads a b → reads b c → reads a c

@@ -3,6 +3,7 @@ use Rattle.std.proofs.Common.{◌∙◌, ap, refl, rules}
 use Rattle.stable.specs.Memory.{in_memory}
 use Rattle.stable.specs.Records.{changed}
 use Rattle.stable.specs.Storages.{IsLawful}
+use Rattle.stable.specs.StrayLaws.{stray_same}
 
 pub stored_laws : IsLawful in_memory
 stored_laws = record {
@@ -18,12 +19,12 @@ stored_laws = record {
   changes_honest = λ a b change p h. tt;
   changes_contents = λ a b change p h. p;
   changes_failures = λ a b change p h. search rules;
-  changes_stray = λ a b change p h s. s;
+  changes_stray = λ a b change p h. stray_same change (λ s. s, λ s. s);
   changes_settled = λ a b change p. tt;
   fails_honest = λ a b change f h. tt;
   fails_contents = λ a b change f h. absurd f;
   fails_failures = λ a b change f h. absurd f;
-  fails_stray = λ a b change f h s. s;
+  fails_stray = λ a b change f h. stray_same change (λ s. s, λ s. s);
   reads_none = λ a. refl;
   reads_reads = λ a b c r s. s ∙ r;
   reads_read_fails = λ a b c r f. f;
