@@ -106,10 +106,10 @@ op_again (Append a) rest fits = append_again a.id a.point rest fits.0 fits.1
 op_again (Remove id) rest fits = remove_again id rest fits
 
 -- ---- requests
-abbrev IsNumber : ℕ → Type 0
+abbrev pub IsNumber : ℕ → Type 0
 IsNumber n = (1 ≤ n) × (n < 2 ^ 64)
 
-request_number_takes : (bytes : List ℕ) (x : ℕ × List ℕ) → IsBytes bytes → request_number_at bytes ≡ Ok x
+pub request_number_takes : (bytes : List ℕ) (x : ℕ × List ℕ) → IsBytes bytes → request_number_at bytes ≡ Ok x
     → Took (big_bytes 8) IsNumber bytes x
 unfolding request_number_at
 request_number_takes bytes x fits e =

@@ -1,4 +1,5 @@
 -- What is read of a frame was spelled so, and may be sent; and what may be sent is read from its spelling.
+use Rattle.std.proofs.Common.{IsOkAnd}
 use Rattle.std.proofs.Common.{◌≡◌, ℕ, zero, suc, ◌+◌, ◌<◌, ◌≤◌, Bool, true, false, cond, eqb, leb, ltb, not, ◌&&◌, ◌||◌, List, [], ◌∷◌}
 use Rattle.std.proofs.Common.{◌++◌, length, Option, Some, None, Ok, Err, refl, sym, ap, subst, ◌∙◌, append_assoc, arith, inl, inr}
 use Rattle.std.specs.List.{flat_map, AllByRecursion}
@@ -30,7 +31,8 @@ use Rattle.wire.specs.FrameReading.{slot_within, ballot_up_to, entry_at, entries
 use Rattle.wire.specs.FrameReading.{prepare_at, decided_at, message_at, envelope_at, frame_in}
 use Rattle.fields.proofs.FieldLemmas.{IsBytes, bind_ok, guard_ok, ok_is, Takes, Takes-then, Took, number_takes, number_again, back2}
 use Rattle.fields.proofs.FieldLemmas.{byte_takes, below, at_most, is_number, is_equal}
-use Rattle.wire.proofs.WideLemmas.{bind_wide}
+use Rattle.wire.specs.Puts.{BringsCommands, FrameWithCommandsBegins}
+use Rattle.wire.proofs.WideLemmas.{bind_wide, ok_and}
 use Rattle.wire.proofs.BallotLaws.{ballot_takes, ballot_again, slot_takes, slot_again}
 use Rattle.wire.proofs.CommandLaws.{command_takes, command_again}
 
@@ -153,6 +155,24 @@ head_takes nodes bytes x fits e =
     let it : Took head_text (HeadFits nodes) bytes (made, n.0.1) = record
     { takes = all; fits = record { from = tn.fits.0; to = tn.fits.1 } } in
     subst (Took head_text (HeadFits nodes) bytes) (ok_is _ _ n.2) it
+
+-- bytes whose head is read begin as a frame
+pub head_begins : (nodes : ℕ) (bytes : List ℕ) → IsBytes bytes → length bytes ≤ LONGEST_FRAME
+    → IsOkAnd (head_at nodes bytes) (λ h. BringsCommands h.0.kind) → FrameWithCommandsBegins nodes bytes
+head_begins nodes bytes fits not_long h =
+    let x = ok_and (head_at nodes bytes) _ h in
+    let t = head_takes nodes bytes x.0 fits x.1 in
+    record {
+      kind = x.0.0.kind;
+      from = x.0.0.from;
+      to = x.0.0.to;
+      body = x.0.1;
+      not_long = not_long;
+      brings = x.2;
+      from_node = t.fits.from;
+      to_node = t.fits.to;
+      begun = t.takes.parts;
+    }
 
 version_one_again : (rest : List ℕ) → version_at (big_bytes 2 MAGIC ++ 1 ∷ rest) ≡ Ok (1, rest)
 unfolding version_at

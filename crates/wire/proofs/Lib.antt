@@ -7,6 +7,7 @@ pub mod FrameExamples
 pub mod FrameLaws
 pub mod FrameLengths
 pub mod FrameSeen
+pub mod InPlaceLemmas
 pub mod PushLemmas
 pub mod RecordLaws
 pub mod WantLemmas

@@ -1,5 +1,6 @@
 //! Frames: what one node says to another, as bytes.
 
+mod checkpoint;
 mod decoding;
 mod encoding;
 mod entry;
@@ -16,6 +17,7 @@ mod spelled;
 mod spelling;
 mod telling;
 
+pub use checkpoint::Checkpoint;
 pub use decoding::{decode, no_frame_begins_another};
 pub use encoding::encode;
 pub use entry::Entry;
@@ -27,5 +29,6 @@ pub use message::Message;
 pub use nack::Nack;
 pub use promise::{Entries, MOST_ENTRIES, Promise};
 pub use records::{
-    ballot_of_record, ballot_record, round_of_record, round_record, vote_of_record, vote_record,
+    ballot_of_record, ballot_record, checkpoint_of_record, checkpoint_record, round_of_record,
+    round_record, vote_of_record, vote_record,
 };

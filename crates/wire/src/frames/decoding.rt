@@ -1,8 +1,8 @@
 //! From bytes to envelopes, with the first fault that is met.
 
-ghost use Rattle.std.specs.Prelude.{ℕ, List, [], ⊤, ◌++◌, ◌≡◌, ◌≤◌, ◌<◌, Ok, IsOk, IfOk, IsErrOf};
+ghost use Rattle.std.specs.Prelude.{ℕ, List, [], ⊤, ◌++◌, ◌≡◌, ◌≤◌, ◌<◌, length, Ok, IsOk, IsOkAnd, IfOk, IsErrOf};
 ghost use Rattle.synod.specs.Ballots.{rank};
-ghost use Rattle.wire.specs.Puts.{TakesMemory};
+ghost use Rattle.wire.specs.Puts.{TakesMemory, BringsCommands, FrameWithCommandsBegins};
 ghost use Rattle.fields.specs.Reading.{Tells};
 ghost use Rattle.wire.specs.Reading.{Gives, MayWant};
 ghost use Rattle.wire.specs.FrameReading.{version_at, kind_at, node_at, ends_at, Head, head_at};
@@ -37,6 +37,8 @@ pub fn decode(alloc: Global, bytes: &[u8], nodes: Nodes) -> Result<Envelope, Wir
     ensures exact { Gives (λ x. x) result (frame_in nodes bytes.now) }
     // Memory is taken for a command, which lies apart, and for the votes that a promise tells, and for nothing else.
     ensures in_place { (e : Envelope) → IsFrame nodes bytes.now e → ¬ TakesMemory e.message → IsOk result }
+    // Nor is it asked for bytes that are too many, or whose head is none, or that of a kind without commands.
+    ensures memory { IsErrOf result WireFault.Memory → FrameWithCommandsBegins nodes bytes.now }
 {
     let _count = nodes.count();
     read_frame(alloc, bytes, nodes)
@@ -46,6 +48,8 @@ pub fn decode(alloc: Global, bytes: &[u8], nodes: Nodes) -> Result<Envelope, Wir
 fn read_frame(alloc: Global, bytes: &[u8], nodes: Nodes) -> Result<Envelope, WireFault>
     ensures read { Gives (λ x. x) result (frame_in nodes bytes.now) }
     ensures memory { IsErrOf result WireFault.Memory → MayWant (λ e. TakesMemory e.message) (frame_in nodes bytes.now) }
+    ensures not_long { IsErrOf result WireFault.Memory → length bytes.now ≤ LONGEST_FRAME }
+    ensures brings { IsErrOf result WireFault.Memory → IsOkAnd (head_at nodes bytes.now) (λ h. BringsCommands h.0.kind) }
 {
     if bytes.len() > LONGEST_FRAME {
         return Err(WireFault::Long);
@@ -63,6 +67,7 @@ fn read_frame(alloc: Global, bytes: &[u8], nodes: Nodes) -> Result<Envelope, Wir
 fn read_envelope(alloc: Global, input: &mut Input, nodes: Nodes) -> Result<Envelope, WireFault>
     ensures read { Gives (λ x. (x, input.new)) result (envelope_at nodes input.old) }
     ensures memory { IsErrOf result WireFault.Memory → MayWant (λ x. TakesMemory x.0.message) (envelope_at nodes input.old) }
+    ensures brings { IsErrOf result WireFault.Memory → IsOkAnd (head_at nodes input.old) (λ h. BringsCommands h.0.kind) }
 {
     let head = read_head(input, nodes)?;
     let message = read_message(alloc, head.kind, input, nodes)?;
@@ -150,6 +155,7 @@ fn read_message(
 ) -> Result<Message, WireFault>
     ensures read { Gives (λ x. (x, input.new)) result (message_at kind nodes input.old) }
     ensures memory { IsErrOf result WireFault.Memory → MayWant (λ x. TakesMemory x.0) (message_at kind nodes input.old) }
+    ensures brings { IsErrOf result WireFault.Memory → BringsCommands kind }
 {
     match kind {
         Kind::Prepare => read_prepare(input, nodes),

@@ -1,9 +1,9 @@
 //! Ballots, slots and commands, read with the first fault that is met.
 
-ghost use Rattle.std.specs.Prelude.{◌≡◌, ◌<◌, ◌≤◌, ⊤, IfOk, IsErrOf};
-ghost use Rattle.fields.specs.Reading.{Tells};
+ghost use Rattle.std.specs.Prelude.{◌≡◌, ◌<◌, ◌≤◌, ⊤, IfOk, IsOk, IsErrOf};
+ghost use Rattle.fields.specs.Reading.{Tells, id_at};
 ghost use Rattle.sessions.specs.Asked.{IsShort};
-ghost use Rattle.wire.specs.Puts.{IsPut, CommandPuts};
+ghost use Rattle.wire.specs.Puts.{IsPut, CommandPuts, OpBeginsAsPut, RequestBeginsAsPut, CommandBeginsAsPut};
 ghost use Rattle.wire.specs.Reading.{Gives, MayWant, ballot_of, ballot_at, slot_at, put_at, append_at, remove_at, op_at};
 ghost use Rattle.wire.specs.Reading.{request_number_at, request_at, asked_at, command_at};
 
@@ -68,6 +68,7 @@ pub(super) fn read_held(alloc: Global, input: &mut Input) -> Result<Held, WireFa
 pub(super) fn read_command(alloc: Global, input: &mut Input) -> Result<Command, WireFault>
     ensures read { Gives (λ x. (x, input.new)) result (command_at input.old) }
     ensures memory { IsErrOf result WireFault.Memory → MayWant (λ x. CommandPuts x.0) (command_at input.old) }
+    ensures begins { IsErrOf result WireFault.Memory → CommandBeginsAsPut input.old }
 {
     match input.u8()? {
         0 => Ok(Command::NoOp),
@@ -80,6 +81,7 @@ pub(super) fn read_command(alloc: Global, input: &mut Input) -> Result<Command, 
 fn read_asked(alloc: Global, input: &mut Input) -> Result<Command, WireFault>
     ensures read { Gives (λ x. (x, input.new)) result (asked_at input.old) }
     ensures memory { IsErrOf result WireFault.Memory → MayWant (λ x. CommandPuts x.0) (asked_at input.old) }
+    ensures begins { IsErrOf result WireFault.Memory → RequestBeginsAsPut input.old }
 {
     let request = read_request(alloc, input)?;
     Ok(Command::Request(request))
@@ -89,6 +91,7 @@ fn read_asked(alloc: Global, input: &mut Input) -> Result<Command, WireFault>
 fn read_request(alloc: Global, input: &mut Input) -> Result<Request, WireFault>
     ensures read { Gives (λ x. (x, input.new)) result (request_at input.old) }
     ensures memory { IsErrOf result WireFault.Memory → MayWant (λ x. IsPut x.0.op) (request_at input.old) }
+    ensures begins { IsErrOf result WireFault.Memory → RequestBeginsAsPut input.old }
 {
     let client = input.u8()?;
     let number = read_request_number(input)?;
@@ -116,6 +119,7 @@ fn read_op(alloc: Global, input: &mut Input) -> Result<Op, WireFault>
     ensures short { IfOk result IsShort }
     ensures read { Gives (λ x. (x, input.new)) result (op_at input.old) }
     ensures memory { IsErrOf result WireFault.Memory → MayWant (λ x. IsPut x.0) (op_at input.old) }
+    ensures begins { IsErrOf result WireFault.Memory → OpBeginsAsPut input.old }
 {
     match input.u8()? {
         1 => read_put(alloc, input),
@@ -129,6 +133,7 @@ fn read_op(alloc: Global, input: &mut Input) -> Result<Op, WireFault>
 fn read_put(alloc: Global, input: &mut Input) -> Result<Op, WireFault>
     ensures short { IfOk result IsShort }
     ensures read { Gives (λ x. (x, input.new)) result (put_at input.old) }
+    ensures begins { IsErrOf result WireFault.Memory → IsOk (id_at input.old) }
 {
     let id = read_id(input)?;
     let seq = read_sequence(alloc, MOST_PUT_POINTS as u16, input)?;

@@ -7,7 +7,7 @@ use Rattle.wire.specs.declared.frames.fault.WireFault.{WireFault}
 use Rattle.wire.specs.declared.frames.fault.WireFault.TheVariants as faults
 use Rattle.wire.specs.declared.frames.envelope.Envelope.{Envelope}
 use Rattle.fields.proofs.FieldLemmas.{IsBytes}
-use Rattle.wire.proofs.FrameLaws.{frame_found, frame_only}
+use Rattle.wire.proofs.FrameLaws.{frame_found, frame_only, head_begins}
 use Rattle.wire.proofs.FrameLengths.{frame_most}
 use Rattle.wire.proofs.frames.decoding.decode.Goals as goal
 
@@ -49,3 +49,8 @@ returns-clause-in_place c e frame none =
     let whole = frame_only c.args.nodes c.args.bytes.now e frame (frame_most c.args.nodes c.args.bytes.now e frame) in
     placed c.read_frame.result (frame_in c.args.nodes c.args.bytes.now) e whole c.read_frame.ensures.read
     c.read_frame.ensures.memory none
+
+pub returns-clause-memory : goal.returns-clause-memory
+returns-clause-memory c = λ wanted.
+    head_begins c.args.nodes c.args.bytes.now (λ i. omega (arith, c.type_inv.bytes i)) (c.read_frame.ensures.not_long wanted)
+    (c.read_frame.ensures.brings wanted)

@@ -1,10 +1,19 @@
-use Rattle.std.proofs.Common.{rules, ◌≡◌, ap, arith, ℕ, [], length, Some}
+use Rattle.std.proofs.Common.{rules, ◌≡◌, ap, subst, arith, ℕ, [], length, Some, Err}
 use Rattle.std.proofs.lemmas.List.{nil_from_length}
 use Rattle.wire.specs.declared.frames.fault.WireFault.TheVariants.{Memory}
+use Rattle.wire.specs.Puts.{ChoiceBeginsAsPut}
 use Rattle.wire.specs.Reading.{Fails}
 use Rattle.wire.specs.RecordForms.{choice_at}
-use Rattle.wire.proofs.RecordLaws.{choice_is_record, fault_is_no_record, rest_is_no_record, one_record}
+use Rattle.wire.proofs.RecordLaws.{put_begins, choice_is_record, fault_is_no_record, rest_is_no_record, one_record}
 use Rattle.wire.proofs.frames.records.vote_of_record.Goals as goal
+
+-- memory was wanted, so a put begins
+pub returns-then-is_memory-clause-in_place : goal.returns-then-is_memory-clause-in_place
+returns-then-is_memory-clause-in_place c = λ none.
+    let wanted : c.in-Err.fault ≡ Memory = c.is_memory.ensures.0 c.if-is_memory.true in
+    let begins : ChoiceBeginsAsPut c.args.bytes.now =
+    subst ChoiceBeginsAsPut c.new-input.ensures (c.in-Err.ensures.begins (ap Err wanted)) in
+    absurd (none (put_begins c.args.bytes.now (λ i. omega (arith, c.type_inv.bytes i)) begins))
 
 -- the bytes have a fault
 pub returns-in-Err-clause-read : goal.returns-in-Err-clause-read

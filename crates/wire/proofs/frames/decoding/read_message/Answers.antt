@@ -1,0 +1,17 @@
+use Rattle.wire.proofs.InPlaceLemmas.{prepare_never, nack_never, slot_never, hands_on, tells_other}
+use Rattle.wire.proofs.frames.decoding.read_message.Goals as goal
+
+-- the bodies that bring no command
+pub returns-in_err-read_nack-in-Nack-clause-brings : goal.returns-in_err-read_nack-in-Nack-clause-brings
+returns-in_err-read_nack-in-Nack-clause-brings c = λ wanted.
+    absurd (hands_on _ c.in_err-read_nack-in-Nack.field-0.0 c.from_residual-in_err-read_nack-in-Nack.result (nack_never _ _)
+    c.in_err-read_nack-in-Nack.ensures c.from_residual-in_err-read_nack-in-Nack.ensures.1 wanted)
+
+pub returns-in_err-read_slot-in-Ask-clause-brings : goal.returns-in_err-read_slot-in-Ask-clause-brings
+returns-in_err-read_slot-in-Ask-clause-brings c = λ wanted.
+    absurd (hands_on _ c.in_err-read_slot-in-Ask.field-0.0 c.from_residual-in_err-read_slot-in-Ask.result (slot_never _)
+    c.in_err-read_slot-in-Ask.ensures c.from_residual-in_err-read_slot-in-Ask.ensures.1 wanted)
+
+pub returns-in-Prepare-clause-brings : goal.returns-in-Prepare-clause-brings
+returns-in-Prepare-clause-brings c = λ wanted.
+    absurd (tells_other _ c.read_prepare.result _ (prepare_never _ _) c.read_prepare.ensures wanted)
