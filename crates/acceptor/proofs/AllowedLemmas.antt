@@ -1,11 +1,13 @@
 -- What an acceptor does is allowed by the protocol.
 use Rattle.std.proofs.Common.{◌≡◌, ℕ, ◌≤◌, List, [], ◌∷◌, Option, Some, inl, inr, refl, sym, subst, ◌∙◌, arith, le_refl, append-nil}
+use Rattle.std.proofs.lemmas.Bool.{le-ltb}
 use Rattle.std.proofs.lemmas.Bool.Decides.{eqb_tells}
 use Rattle.synod.specs.Ballots.{rank, rank_of}
 use Rattle.synod.specs.declared.ballot.Ballot.{Ballot}
 use Rattle.synod.specs.declared.vote.Vote.{Vote}
 use Rattle.synod.specs.Messages.{Frame, Plain, Promise, Accept, Accepted, to_first}
-use Rattle.synod.specs.Records.{TellsVotes, with_promise, with_vote}
+use Rattle.synod.specs.Records as synod_records
+use Rattle.synod.specs.Records.{TellsVotes, with_promise, with_vote, with_floor}
 use Rattle.synod.specs.Records.{put as put_one}
 use Rattle.synod.specs.Acts as act
 use Rattle.synod.specs.Acts.{Fleet, Input, Local, Brings, Does}
@@ -16,6 +18,7 @@ use Rattle.wire.specs.Promises.{Promised}
 use Rattle.acceptor.specs.declared.answer.Answer.{Answer}
 use Rattle.acceptor.specs.declared.answer.Answer.TheVariants as answers
 use Rattle.acceptor.specs.Accepting.{Accepting, put, nack, TellsFrom, AnswersPrepare, after_prepare, accept_answer, after_accept}
+use Rattle.acceptor.specs.Accepting.{after_checkpoint, after_trim}
 use Rattle.acceptor.specs.Ranges.{IsPromiseFrom}
 use Rattle.acceptor.specs.Protocol.{RecordsStand, MayWrite, MayAnswer, answer_frames}
 use Rattle.acceptor.proofs.RangeLemmas.{told_from}
@@ -146,3 +149,29 @@ module _ (f : Fleet Command) (i : ℕ) (input : Input Command) (x : Local Comman
     | behind floor is ↦ rw is says_nothing
     | taken is high from ↦ rw is (votes_and_confirms nodes v came high from)
   ]
+
+  -- a checkpoint
+  pub checkpoint_writes : (position : ℕ) (text : List ℕ) → a.floor ≤ position
+      → MayWrite f i input x (after_checkpoint a position text) round
+  checkpoint_writes position text above = record {
+    after = with_floor x.records position;
+    does = does_one f i input x (act.Checkpoints position) (low_floor position above);
+    stands = record {
+      promise = stands.promise;
+      vote = λ s from. stands.vote s (omega (arith, above, from));
+      round_ = stands.round_;
+      floor_ = refl;
+    };
+  }
+
+-- of the votes that a trim takes out the protocol's records say nothing
+pub trim_stands : (a : Accepting) (round : ℕ) (r : synod_records.Records Command) → RecordsStand a round r
+    → RecordsStand (after_trim a) round r
+trim_stands a round r stands = record {
+  promise = stands.promise;
+  vote = λ s from.
+      let kept : (after_trim a).vote s ≡ a.vote s = rw (le-ltb s a.floor from) refl in
+      stands.vote s from ∙ sym kept;
+  round_ = stands.round_;
+  floor_ = stands.floor_;
+}

@@ -1,4 +1,6 @@
 pub mod BallotLemmas
+pub mod CheckpointLemmas
+pub mod FloorLemmas
 pub mod LoadLemmas
 pub mod RangeLemmas
 pub mod VerdictLemmas

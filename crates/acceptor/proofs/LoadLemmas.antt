@@ -1,6 +1,6 @@
 -- Records under some keys, taken in one after the other.
 use Rattle.std.proofs.Common.{◌≡◌, ◌↔◌, ℕ, suc, ◌+◌, ◌<◌, ◌≤◌, Bool, true, false, eqb, List, [], ◌∷◌, ◌++◌, length, take, drop, get_or}
-use Rattle.std.proofs.Common.{Option, Some, None, Contains, IsSome, IfSome, refl, sym, ap, subst, ◌∙◌, arith, inl, inr}
+use Rattle.std.proofs.Common.{None, Contains, IsSome, IfSome, refl, sym, ap, subst, ◌∙◌, arith, inl, inr}
 use Rattle.std.specs.declared.cmp.Ordering.TheVariants.{Less}
 use Rattle.std.specs.List.{list_any, AllByRecursion}
 use Rattle.std.specs.List.Sorted.{IsStrictlySortedBy}
@@ -11,14 +11,17 @@ use Rattle.std.proofs.lemmas.List.{take_more, take-append-drop, append-nil}
 use Rattle.std.proofs.Math.ListN.{drop_of_length-le}
 use Rattle.std.proofs.lemmas.Map.Views.{list_any-from_Contains}
 use Rattle.std.proofs.Math.Seq.{drop-cons}
+use Rattle.sessions.specs.Machines.{MachineState}
 use Rattle.stable.specs.Records.{Records, key_cmp}
 use Rattle.stable.specs.Records.{rank as place}
 use Rattle.stable.specs.declared.key.Key.{Key}
+use Rattle.stable.specs.declared.key.Key.TheVariants.{Checkpoint}
 use Rattle.stable.proofs.KeyLemmas.{same_rank as same_key}
 use Rattle.acceptor.specs.Accepting.{Accepting, RecordsSay}
 use Rattle.acceptor.specs.Forms.{IsOfItsForm, AreOfTheirForm}
-use Rattle.acceptor.specs.Loading.{with_seen, records_at}
-use Rattle.acceptor.proofs.RecordLemmas.{RecordsSay-same}
+use Rattle.acceptor.specs.Loading.{with_seen, records_at, BeginsWith}
+use Rattle.acceptor.proofs.CheckpointLemmas.{begins_same}
+use Rattle.acceptor.proofs.RecordLemmas.{RecordsSay-same, none_unless}
 
 -- whether a key is among keys
 abbrev among : Key → List Key → Bool
@@ -91,6 +94,18 @@ one_more : (keys : List Key) (i : ℕ) (key : Key) → i < length keys → key �
 one_more keys i key lt is = take_more keys i key lt ∙ ap (λ (k : Key). take i keys ++ k ∷ []) (sym is)
 
 -- a key more is taken in, whose record is what it was at the start
+unseen : (r : Records) (keys : List Key) (i : ℕ) (key : Key) → IsStrictlySortedBy key_cmp keys → i < length keys → key ≡ get_or keys i key
+    → records_at r (take i keys) key ≡ None
+unseen r keys i key sorted lt is =
+    subst (λ (k : Key). records_at r (take i keys) k ≡ None) (sym is) (fresh_at r keys i key sorted lt)
+
+seen_then : (r now : Records) (keys : List Key) (i : ℕ) (key : Key) → i < length keys → key ≡ get_or keys i key → now ≡ r
+    → (q : Key) → records_at r (take (i + 1) keys) q ≡ with_seen (records_at r (take i keys)) key (now key) q
+seen_then r now keys i key lt is same q =
+    let step : records_at r (take (i + 1) keys) q ≡ with_seen (records_at r (take i keys)) key (r key) q =
+    rw (one_more keys i key lt is) (records_more r (take i keys) key q) in
+    step ∙ ap (λ (x : Records). with_seen (records_at r (take i keys)) key (x key) q) (sym same)
+
 pub says_more : (r now : Records) (keys : List Key) (i : ℕ) (key : Key) (a b : Accepting) → IsStrictlySortedBy key_cmp keys
     → i < length keys
     → key ≡ get_or keys i key → now ≡ r
@@ -98,11 +113,18 @@ pub says_more : (r now : Records) (keys : List Key) (i : ℕ) (key : Key) (a b :
     → RecordsSay (records_at r (take i keys)) a → RecordsSay (records_at r (take (i + 1) keys)) b
 says_more r now keys i key a b sorted lt is same taken says =
     let seen : Records = records_at r (take i keys) in
-    let fresh : seen key ≡ None = subst (λ (k : Key). seen k ≡ None) (sym is) (fresh_at r keys i key sorted lt) in
-    let step : (q : Key) → records_at r (take (i + 1) keys) q ≡ with_seen seen key (r key) q =
-    λ q. rw (one_more keys i key lt is) (records_more r (take i keys) key q) in
-    RecordsSay-same (with_seen seen key (now key)) (records_at r (take (i + 1) keys)) b
-    (λ q. step q ∙ ap (λ (x : Records). with_seen seen key (x key) q) (sym same)) (taken seen fresh says)
+    RecordsSay-same (with_seen seen key (now key)) (records_at r (take (i + 1) keys)) b (seen_then r now keys i key lt is same)
+    (taken seen (unseen r keys i key sorted lt is) says)
+
+pub begins_more : (r now : Records) (keys : List Key) (i : ℕ) (key : Key) (m n : MachineState) → IsStrictlySortedBy key_cmp keys
+    → i < length keys
+    → key ≡ get_or keys i key → now ≡ r
+    → ((seen : Records) → seen key ≡ None → BeginsWith seen m → BeginsWith (with_seen seen key (now key)) n)
+    → BeginsWith (records_at r (take i keys)) m → BeginsWith (records_at r (take (i + 1) keys)) n
+begins_more r now keys i key m n sorted lt is same taken begins =
+    let seen : Records = records_at r (take i keys) in
+    begins_same (with_seen seen key (now key)) (records_at r (take (i + 1) keys)) n (seen_then r now keys i key lt is same Checkpoint)
+    (taken seen (unseen r keys i key sorted lt is) begins)
 
 pub forms_at : (r now : Records) (keys : List Key) (i : ℕ) (key : Key) → i < length keys → key ≡ get_or keys i key → now ≡ r
     → OfTheirForm r (take i keys) → IfSome (now key) (IsOfItsForm key) → OfTheirForm r (take (i + 1) keys)
@@ -112,10 +134,6 @@ forms_at r now keys i key lt is same before form =
     subst (λ (xs : List Key). OfTheirForm r xs) (sym (one_more keys i key lt is)) all
 
 -- ---- all keys
-none_unless : {X : Type 0} (o : Option X) → (IsSome o → ⊥) → o ≡ None
-none_unless (Some x) h = absurd (h refl)
-none_unless None h = refl
-
 absent : (r : Records) (keys : List Key) → ((k : Key) → Contains keys k ↔ IsSome (r k)) → (q : Key) → among q keys ≡ false → r q ≡ None
 absent r keys told q lacks =
     none_unless (r q) (λ there.
@@ -123,14 +141,19 @@ absent r keys told q lacks =
     absurd cc)
 
 -- the records under all keys that hold one are the records
+all_at : (r : Records) (keys : List Key) → ((k : Key) → Contains keys k ↔ IsSome (r k)) → (q : Key) → r q ≡ records_at r keys q
+all_at r keys told q = elim (cases_Bool (among q keys)) [
+  | inl has ↦ rw has refl
+  | inr lacks ↦ rw lacks (absent r keys told q lacks)
+]
+
 pub says_all : (r : Records) (keys : List Key) (a : Accepting) → ((k : Key) → Contains keys k ↔ IsSome (r k))
     → RecordsSay (records_at r keys) a → RecordsSay r a
-says_all r keys a told says =
-    RecordsSay-same (records_at r keys) r a
-    (λ q. elim (cases_Bool (among q keys)) [
-      | inl has ↦ rw has refl
-      | inr lacks ↦ rw lacks (absent r keys told q lacks)
-    ]) says
+says_all r keys a told says = RecordsSay-same (records_at r keys) r a (all_at r keys told) says
+
+pub begins_all : (r : Records) (keys : List Key) (m : MachineState) → ((k : Key) → Contains keys k ↔ IsSome (r k))
+    → BeginsWith (records_at r keys) m → BeginsWith r m
+begins_all r keys m told begins = begins_same (records_at r keys) r m (all_at r keys told Checkpoint) begins
 
 pub forms_all : (r : Records) (keys : List Key) → ((k : Key) → Contains keys k ↔ IsSome (r k)) → OfTheirForm r keys → AreOfTheirForm r
 forms_all r keys told forms q =

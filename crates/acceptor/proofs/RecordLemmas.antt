@@ -1,6 +1,6 @@
 -- Records that say what an acceptor holds, as records are written or read one by one.
-use Rattle.std.proofs.Common.{◌≡◌, ◌⊎◌, ℕ, ◌+◌, ◌≤◌, List, Option, Some, None, inl, inr, refl, sym, ap, subst, ◌∙◌, arith, IfSome}
-use Rattle.std.proofs.Common.{option_map}
+use Rattle.std.proofs.Common.{[], ◌≡◌, ◌⊎◌, ℕ, ◌≤◌, List, Option, Some, None, inl, inr, refl, sym, ap, subst, ◌∙◌, arith, IfSome}
+use Rattle.std.proofs.Common.{option_map, IsSome}
 use Rattle.std.proofs.lemmas.Bool.{cases_eq, cases_lt, lt-ltb, le-ltb, eq-eqb, ne_eqb}
 use Rattle.std.proofs.lemmas.Bool.Decides.{eqb_tells}
 use Rattle.std.proofs.lemmas.Option.{IfSome_then}
@@ -29,7 +29,7 @@ Votes = ℕ → Option (Vote Command)
 put_here : (f : Votes) (i s : ℕ) (x : Option (Vote Command)) → s ≡ i → put f i x s ≡ x
 put_here f i s x e = rw (eq-eqb s i e) refl
 
-put_elsewhere : (f : Votes) (i s : ℕ) (x : Option (Vote Command)) → (s ≡ i → ⊥) → put f i x s ≡ f s
+pub put_elsewhere : (f : Votes) (i s : ℕ) (x : Option (Vote Command)) → (s ≡ i → ⊥) → put f i x s ≡ f s
 put_elsewhere f i s x ne = rw (ne_eqb s i ne) refl
 
 IfSome-put : (f : Votes) (i s : ℕ) (v : Vote Command) (P : Vote Command → Type 0) → (s ≡ i → P v) → IfSome (f s) P
@@ -41,7 +41,7 @@ IfSome-put f i s v P here there =
     ]
 
 -- ---- the greater of a promise and a ballot
-raised_cases : (p : Option Ballot) (b : Ballot)
+pub raised_cases : (p : Option Ballot) (b : Ballot)
     → ((rank_of p ≤ rank b) × (raised p b ≡ Some b)) ⊎ ((rank b ≤ rank_of p) × (raised p b ≡ p))
 raised_cases None b = inl (omega arith, refl)
 raised_cases (Some p) b =
@@ -51,7 +51,7 @@ raised_cases (Some p) b =
     ]
 
 -- ---- one key of the records
-elsewhere : (r : Records) (k q : Key) (found : Option (List ℕ)) → (place q ≡ place k → ⊥) → with_seen r k found q ≡ r q
+pub elsewhere : (r : Records) (k q : Key) (found : Option (List ℕ)) → (place q ≡ place k → ⊥) → with_seen r k found q ≡ r q
 elsewhere r k q found ne = rw (ne_eqb (place q) (place k) ne) refl
 
 vote_elsewhere : (r : Records) (i s : ℕ) (found : Option (List ℕ)) → (s ≡ i → ⊥)
@@ -77,10 +77,15 @@ RecordsSay-same r q a same says =
     record {
       promised = says.promised;
       promise_record = same key.Promise ∙ says.promise_record;
-      vote_record = λ s from. same (key.Vote s) ∙ says.vote_record s from;
+      vote_record = λ s. same (key.Vote s) ∙ says.vote_record s;
       at_its_slot = says.at_its_slot;
       promise = says.promise;
+      checkpointed = says.checkpointed;
+      checkpoint_record = same key.Checkpoint ∙ says.checkpoint_record;
       floor = says.floor;
+      sealed = says.sealed;
+      text = says.text;
+      checkpoint_fits = says.checkpoint_fits;
       promised_fits = says.promised_fits;
       votes_fit = says.votes_fit;
     }
@@ -92,31 +97,46 @@ RecordsSay-promise r a b fits says le =
     record {
       promised = Some b;
       promise_record = refl;
-      vote_record = λ s from. elsewhere r key.Promise (key.Vote s) _ (λ e. absurd (omega arith)) ∙ says.vote_record s from;
+      vote_record = λ s. elsewhere r key.Promise (key.Vote s) _ (λ e. absurd (omega arith)) ∙ says.vote_record s;
       at_its_slot = says.at_its_slot;
       promise = record {
         not_below_the_record = omega arith;
-        not_below_a_vote = λ s from. IfSome_then (a.vote s) (says.promise.not_below_a_vote s from) (λ v low. omega arith);
+        not_below_the_checkpoint = let low = says.promise.not_below_the_checkpoint in omega arith;
+        not_below_a_vote = λ s. IfSome_then (a.vote s) (says.promise.not_below_a_vote s) (λ v low. omega arith);
         among_them = inl refl;
       };
+      checkpointed = says.checkpointed;
+      checkpoint_record = says.checkpoint_record;
       floor = says.floor;
+      sealed = says.sealed;
+      text = says.text;
+      checkpoint_fits = says.checkpoint_fits;
       promised_fits = fits;
       votes_fit = says.votes_fit;
     }
 
 -- the round is not the acceptor's
-pub RecordsSay-round : (r : Records) (a : Accepting) (bytes : List ℕ) → RecordsSay r a → RecordsSay (with_record r key.Round bytes) a
-RecordsSay-round r a bytes says =
+pub RecordsSay-see_round : (r : Records) (a : Accepting) (found : Option (List ℕ)) → RecordsSay r a
+    → RecordsSay (with_seen r key.Round found) a
+RecordsSay-see_round r a found says =
     record {
       promised = says.promised;
-      promise_record = elsewhere r key.Round key.Promise (Some bytes) (λ e. absurd (omega arith)) ∙ says.promise_record;
-      vote_record = λ s from. elsewhere r key.Round (key.Vote s) (Some bytes) (λ e. absurd (omega arith)) ∙ says.vote_record s from;
+      promise_record = says.promise_record;
+      vote_record = λ s. elsewhere r key.Round (key.Vote s) found (λ e. absurd (omega arith)) ∙ says.vote_record s;
       at_its_slot = says.at_its_slot;
       promise = says.promise;
+      checkpointed = says.checkpointed;
+      checkpoint_record = says.checkpoint_record;
       floor = says.floor;
+      sealed = says.sealed;
+      text = says.text;
+      checkpoint_fits = says.checkpoint_fits;
       promised_fits = says.promised_fits;
       votes_fit = says.votes_fit;
     }
+
+pub RecordsSay-round : (r : Records) (a : Accepting) (bytes : List ℕ) → RecordsSay r a → RecordsSay (with_record r key.Round bytes) a
+RecordsSay-round r a bytes says = RecordsSay-see_round r a (Some bytes) says
 
 -- nor do a promise and a vote touch the round
 pub prepare_leaves_round : (r : Records) (a : Accepting) (b : Ballot) (first : ℕ)
@@ -152,25 +172,35 @@ RecordsSay-vote r a v fits says le =
     record {
       promised = says.promised;
       promise_record = elsewhere r (key.Vote v.slot) key.Promise _ (λ e. absurd (omega arith)) ∙ says.promise_record;
-      vote_record = λ s from. votes_say r a.vote v s (says.vote_record s from);
-      at_its_slot = λ s from. IfSome-put a.vote v.slot s v (λ w. w.slot ≡ s) (λ e. sym e) (says.at_its_slot s from);
+      vote_record = λ s. votes_say r a.vote v s (says.vote_record s);
+      at_its_slot = λ s. IfSome-put a.vote v.slot s v (λ w. w.slot ≡ s) (λ e. sym e) (says.at_its_slot s);
       promise = record {
         not_below_the_record = let low = says.promise.not_below_the_record in omega arith;
-        not_below_a_vote = λ s from. IfSome-put a.vote v.slot s v (λ w. rank w.ballot ≤ rank v.ballot) (λ e. omega arith)
-            (IfSome_then (a.vote s) (says.promise.not_below_a_vote s from) (λ w low. omega arith));
-        among_them = inr (v.slot, v, put_here a.vote v.slot v.slot (Some v) refl, refl, omega (arith, says.floor));
+        not_below_the_checkpoint = let low = says.promise.not_below_the_checkpoint in omega arith;
+        not_below_a_vote = λ s. IfSome-put a.vote v.slot s v (λ w. rank w.ballot ≤ rank v.ballot) (λ e. omega arith)
+            (IfSome_then (a.vote s) (says.promise.not_below_a_vote s) (λ w low. omega arith));
+        among_them = inr (inr (v.slot, v, put_here a.vote v.slot v.slot (Some v) refl, refl));
       };
+      checkpointed = says.checkpointed;
+      checkpoint_record = elsewhere r (key.Vote v.slot) key.Checkpoint _ (λ e. absurd (omega arith)) ∙ says.checkpoint_record;
       floor = says.floor;
+      sealed = says.sealed;
+      text = says.text;
+      checkpoint_fits = says.checkpoint_fits;
       promised_fits = says.promised_fits;
-      votes_fit = λ s from. IfSome-put a.vote v.slot s v VoteFits (λ e. fits) (says.votes_fit s from);
+      votes_fit = λ s. IfSome-put a.vote v.slot s v VoteFits (λ e. fits) (says.votes_fit s);
     }
 
 -- ---- records that are seen one after the other
-unmapped : {A B : Type 0} (f : A → B) (o : Option A) → option_map f o ≡ None → o ≡ None
+pub unmapped : {A B : Type 0} (f : A → B) (o : Option A) → option_map f o ≡ None → o ≡ None
 unmapped f (Some x) e = absurd cc
 unmapped f None e = refl
 
-begun : (b : Ballot) → rank b ≤ 0 → ⊥
+pub none_unless : {X : Type 0} (o : Option X) → (IsSome o → ⊥) → o ≡ None
+none_unless (Some x) h = absurd (h refl)
+none_unless None h = refl
+
+pub begun : (b : Ballot) → rank b ≤ 0 → ⊥
 begun b low = let one : 1 ≤ b.round = b.begun in omega arith
 
 absent : (r : Records) (k : Key) → r k ≡ None → (q : Key) → with_seen r k None q ≡ r q
@@ -191,17 +221,23 @@ low_promise r a b fits fresh says le =
     record {
       promised = Some b;
       promise_record = refl;
-      vote_record = λ s from. elsewhere r key.Promise (key.Vote s) _ (λ e. absurd (omega arith)) ∙ says.vote_record s from;
+      vote_record = λ s. elsewhere r key.Promise (key.Vote s) _ (λ e. absurd (omega arith)) ∙ says.vote_record s;
       at_its_slot = says.at_its_slot;
       promise = record {
         not_below_the_record = le;
+        not_below_the_checkpoint = says.promise.not_below_the_checkpoint;
         not_below_a_vote = says.promise.not_below_a_vote;
         among_them = elim says.promise.among_them [
           | inl e ↦ absurd (begun b (subst (λ (p : Option Ballot). rank b ≤ rank_of p) (e ∙ none) le))
           | inr w ↦ inr w
         ];
       };
+      checkpointed = says.checkpointed;
+      checkpoint_record = says.checkpoint_record;
       floor = says.floor;
+      sealed = says.sealed;
+      text = says.text;
+      checkpoint_fits = says.checkpoint_fits;
       promised_fits = fits;
       votes_fit = says.votes_fit;
     }
@@ -216,24 +252,32 @@ low_vote : (r : Records) (a : Accepting) (v : Vote Command) → VoteFits v → r
     → RecordsSay (with_record r (key.Vote v.slot) (vote_bytes v)) (record a { vote = put a.vote v.slot (Some v) })
 low_vote r a v fits fresh says le =
     let none : a.vote v.slot ≡ None = unmapped vote_bytes (a.vote v.slot)
-    (sym (says.vote_record v.slot (omega (arith, says.floor))) ∙ fresh) in
+    (sym (says.vote_record v.slot) ∙ fresh) in
     record {
       promised = says.promised;
       promise_record = elsewhere r (key.Vote v.slot) key.Promise _ (λ e. absurd (omega arith)) ∙ says.promise_record;
-      vote_record = λ s from. votes_say r a.vote v s (says.vote_record s from);
-      at_its_slot = λ s from. IfSome-put a.vote v.slot s v (λ w. w.slot ≡ s) (λ e. sym e) (says.at_its_slot s from);
+      vote_record = λ s. votes_say r a.vote v s (says.vote_record s);
+      at_its_slot = λ s. IfSome-put a.vote v.slot s v (λ w. w.slot ≡ s) (λ e. sym e) (says.at_its_slot s);
       promise = record {
         not_below_the_record = says.promise.not_below_the_record;
-        not_below_a_vote = λ s from. IfSome-put a.vote v.slot s v (λ w. rank w.ballot ≤ rank_of a.promise) (λ e. le)
-            (says.promise.not_below_a_vote s from);
+        not_below_the_checkpoint = says.promise.not_below_the_checkpoint;
+        not_below_a_vote = λ s. IfSome-put a.vote v.slot s v (λ w. rank w.ballot ≤ rank_of a.promise) (λ e. le)
+            (says.promise.not_below_a_vote s);
         among_them = elim says.promise.among_them [
           | inl e ↦ inl e
-          | inr w ↦ inr (w.0, w.1, put_elsewhere a.vote v.slot w.0 (Some v) (λ e. other a v w.0 w.1 none w.2 e) ∙ w.2, w.3, w.4)
+          | inr (inl e) ↦ inr (inl e)
+          | inr (inr w) ↦
+              inr (inr (w.0, w.1, put_elsewhere a.vote v.slot w.0 (Some v) (λ e. other a v w.0 w.1 none w.2 e) ∙ w.2, w.3))
         ];
       };
+      checkpointed = says.checkpointed;
+      checkpoint_record = elsewhere r (key.Vote v.slot) key.Checkpoint _ (λ e. absurd (omega arith)) ∙ says.checkpoint_record;
       floor = says.floor;
+      sealed = says.sealed;
+      text = says.text;
+      checkpoint_fits = says.checkpoint_fits;
       promised_fits = says.promised_fits;
-      votes_fit = λ s from. IfSome-put a.vote v.slot s v VoteFits (λ e. fits) (says.votes_fit s from);
+      votes_fit = λ s. IfSome-put a.vote v.slot s v VoteFits (λ e. fits) (says.votes_fit s);
     }
 
 -- record Promise is seen for the first time
@@ -260,24 +304,34 @@ RecordsSay-see_vote r a v fits fresh says =
     ]
 
 -- an acceptor that holds the same holds what the records say
-pub RecordsSay-holds : (r : Records) (a b : Accepting) → b.promise ≡ a.promise → b.floor ≡ a.floor → ((s : ℕ) → b.vote s ≡ a.vote s)
-    → RecordsSay r a → RecordsSay r b
-RecordsSay-holds r a b p l v says =
-    let same : a ≡ b = λ i. record { promise = sym p i; floor = sym l i; vote = λ s. sym (v s) i } in
+pub RecordsSay-holds : (r : Records) (a b : Accepting) → b.promise ≡ a.promise → b.floor ≡ a.floor → b.sealed ≡ a.sealed
+    → b.text ≡ a.text → ((s : ℕ) → b.vote s ≡ a.vote s) → RecordsSay r a → RecordsSay r b
+RecordsSay-holds r a b p l c t v says =
+    let same : a ≡ b = λ i. record { promise = sym p i; floor = sym l i; sealed = sym c i; text = sym t i; vote = λ s. sym (v s) i } in
     subst (λ (x : Accepting). RecordsSay r x) same says
 
 -- no record, no promise and no vote
-pub RecordsSay-nothing : RecordsSay no_records (record { promise = None; floor = 0; vote = λ _. None })
+pub RecordsSay-nothing : RecordsSay no_records (record { promise = None; floor = 0; sealed = None; text = []; vote = λ _. None })
 RecordsSay-nothing =
     record {
       promised = None;
       promise_record = refl;
-      vote_record = λ s from. refl;
-      at_its_slot = λ s from. tt;
-      promise = record { not_below_the_record = omega arith; not_below_a_vote = λ s from. tt; among_them = inl refl };
+      checkpointed = None;
+      checkpoint_record = refl;
+      vote_record = λ s. refl;
+      at_its_slot = λ s. tt;
+      promise = record {
+        not_below_the_record = omega arith;
+        not_below_the_checkpoint = omega arith;
+        not_below_a_vote = λ s. tt;
+        among_them = inl refl;
+      };
       floor = refl;
+      sealed = refl;
+      text = refl;
       promised_fits = tt;
-      votes_fit = λ s from. tt;
+      checkpoint_fits = tt;
+      votes_fit = λ s. tt;
     }
 
 -- ---- records of their form
@@ -294,7 +348,7 @@ vote_of_its_form found slot bytes v e fits spelled =
     subst (λ (o : Option (List ℕ)). IfSome o (IsOfItsForm (key.Vote slot))) (sym e) (v, fits, spelled)
 
 -- ---- a prepare and an accept
-same_promise : (p : Option Ballot) (b : Ballot) → rank b ≡ rank_of p → p ≡ Some b
+pub same_promise : (p : Option Ballot) (b : Ballot) → rank b ≡ rank_of p → p ≡ Some b
 same_promise None b e = absurd (begun b (omega arith))
 same_promise (Some p) b e = ap Some (same_rank p b (sym e))
 
@@ -327,7 +381,7 @@ vote_stands r a v says le stands =
       | inr ne ↦ rw ne.0 refl
     ] in
     RecordsSay-holds r (record a { promise = Some v.ballot })
-    (record a { promise = Some v.ballot; vote = put a.vote v.slot (Some v) }) refl refl same
+    (record a { promise = Some v.ballot; vote = put a.vote v.slot (Some v) }) refl refl refl refl same
     (record {
       promised = says.promised;
       promise_record = says.promise_record;
@@ -335,10 +389,16 @@ vote_stands r a v says le stands =
       at_its_slot = says.at_its_slot;
       promise = record {
         not_below_the_record = let low = says.promise.not_below_the_record in omega arith;
-        not_below_a_vote = λ s from. IfSome_then (a.vote s) (says.promise.not_below_a_vote s from) (λ w low. omega arith);
-        among_them = inr (v.slot, v, stands, refl, omega (arith, says.floor));
+        not_below_the_checkpoint = let low = says.promise.not_below_the_checkpoint in omega arith;
+        not_below_a_vote = λ s. IfSome_then (a.vote s) (says.promise.not_below_a_vote s) (λ w low. omega arith);
+        among_them = inr (inr (v.slot, v, stands, refl));
       };
+      checkpointed = says.checkpointed;
+      checkpoint_record = says.checkpoint_record;
       floor = says.floor;
+      sealed = says.sealed;
+      text = says.text;
+      checkpoint_fits = says.checkpoint_fits;
       promised_fits = says.promised_fits;
       votes_fit = says.votes_fit;
     })

@@ -1,4 +1,4 @@
--- Records say one thing: no two votes that fit are spelled alike.
+-- Records say one thing: no two votes, and no two checkpoints, that fit are spelled alike.
 use Rattle.std.proofs.Common.{◌≡◌, ℕ, ◌≤◌, List, [], ◌++◌, Ok, Option, Some, None, IfSome, option_map, inl, inr, refl, sym, ap, ◌∙◌, subst}
 use Rattle.std.proofs.Common.{arith}
 use Rattle.synod.specs.Ballots.{rank, rank_of}
@@ -7,12 +7,13 @@ use Rattle.synod.specs.declared.vote.Vote.{Vote}
 use Rattle.sessions.specs.declared.command.Command.{Command}
 use Rattle.stable.specs.Records.{Records}
 use Rattle.wire.specs.Reading.{ballot_at}
-use Rattle.wire.specs.RecordForms.{IsVoteRecord, choice_at}
+use Rattle.wire.specs.RecordForms.{IsVoteRecord, choice_at, Checkpointed, checkpoint_bytes}
 use Rattle.wire.proofs.BallotLaws.{ballot_again}
 use Rattle.wire.proofs.RecordLaws.{record_is_choice}
-use Rattle.acceptor.specs.Accepting.{Accepting, RecordsSay, IsGreatest}
-use Rattle.acceptor.specs.Forms.{BallotFits, VoteFits}
+use Rattle.acceptor.specs.Accepting.{Accepting, RecordsSay, IsGreatest, floor_of, sealed_of, text_of}
+use Rattle.acceptor.specs.Forms.{BallotFits, CheckpointFits, VoteFits}
 use Rattle.acceptor.specs.Spelling.{ballot_bytes, vote_bytes}
+use Rattle.acceptor.proofs.CheckpointLemmas.{one_that_fits}
 
 -- ballots that fit and are spelled alike
 one_ballot : (a b : Ballot) → BallotFits a → BallotFits b → ballot_bytes a ≡ ballot_bytes b → a ≡ b
@@ -59,42 +60,61 @@ one_promise_record (Some a) (Some b) fits_x fits_y e =
     let bytes : ballot_bytes a ≡ ballot_bytes b = cc in
     ap Some (one_ballot a b fits_x fits_y bytes)
 
-module _ (records : Records) (a b : Accepting) (says_a : RecordsSay records a) (says_b : RecordsSay records b) where
-  pub one_floor : a.floor ≡ b.floor
-  one_floor = says_a.floor ∙ sym says_b.floor
+one_checkpoint_record : (x y : Option Checkpointed) → IfSome x CheckpointFits → IfSome y CheckpointFits
+    → option_map checkpoint_bytes x ≡ option_map checkpoint_bytes y → x ≡ y
+one_checkpoint_record None None fits_x fits_y e = refl
+one_checkpoint_record None (Some d) fits_x fits_y e = absurd cc
+one_checkpoint_record (Some c) None fits_x fits_y e = absurd cc
+one_checkpoint_record (Some c) (Some d) fits_x fits_y e =
+    let bytes : checkpoint_bytes c ≡ checkpoint_bytes d = cc in
+    ap Some (one_that_fits (checkpoint_bytes c) c d fits_x fits_y refl bytes)
 
-  pub one_vote_each : (s : ℕ) → a.floor ≤ s → a.vote s ≡ b.vote s
-  one_vote_each s from =
-      let also : b.floor ≤ s = omega (arith, one_floor, from) in
-      one_vote_at s (a.vote s) (b.vote s) (says_a.at_its_slot s from) (says_b.at_its_slot s also) (says_a.votes_fit s from)
-      (says_b.votes_fit s also)
-      (sym (says_a.vote_record s from) ∙ says_b.vote_record s also)
+module _ (records : Records) (a b : Accepting) (says_a : RecordsSay records a) (says_b : RecordsSay records b) where
+  same_checkpoint : says_a.checkpointed ≡ says_b.checkpointed
+  same_checkpoint = one_checkpoint_record says_a.checkpointed says_b.checkpointed says_a.checkpoint_fits says_b.checkpoint_fits
+      (sym says_a.checkpoint_record ∙ says_b.checkpoint_record)
+
+  pub one_floor : a.floor ≡ b.floor
+  one_floor = says_a.floor ∙ ap floor_of same_checkpoint ∙ sym says_b.floor
+
+  pub one_sealed : a.sealed ≡ b.sealed
+  one_sealed = says_a.sealed ∙ ap sealed_of same_checkpoint ∙ sym says_b.sealed
+
+  pub one_text : a.text ≡ b.text
+  one_text = says_a.text ∙ ap text_of same_checkpoint ∙ sym says_b.text
+
+  pub one_vote_each : (s : ℕ) → a.vote s ≡ b.vote s
+  one_vote_each s =
+      one_vote_at s (a.vote s) (b.vote s) (says_a.at_its_slot s) (says_b.at_its_slot s) (says_a.votes_fit s) (says_b.votes_fit s)
+      (sym (says_a.vote_record s) ∙ says_b.vote_record s)
 
   one_record : says_a.promised ≡ says_b.promised
   one_record = one_promise_record says_a.promised says_b.promised says_a.promised_fits says_b.promised_fits
       (sym says_a.promise_record ∙ says_b.promise_record)
 
 -- the greatest is not above another
-at_most : (promised : Option Ballot) (floor : ℕ) (vote : ℕ → Option (Vote Command)) (p q : Option Ballot)
-    → IsGreatest promised floor vote p → rank_of promised ≤ rank_of q
-    → ((s : ℕ) → floor ≤ s → IfSome (vote s) (λ v. rank v.ballot ≤ rank_of q)) → rank_of p ≤ rank_of q
-at_most promised floor vote p q greatest record_low votes_low =
+at_most : (promised sealed : Option Ballot) (vote : ℕ → Option (Vote Command)) (p q : Option Ballot)
+    → IsGreatest promised sealed vote p → rank_of promised ≤ rank_of q → rank_of sealed ≤ rank_of q
+    → ((s : ℕ) → IfSome (vote s) (λ v. rank v.ballot ≤ rank_of q)) → rank_of p ≤ rank_of q
+at_most promised sealed vote p q greatest record_low sealed_low votes_low =
     elim greatest.among_them [
       | inl e ↦ subst (λ (x : Option Ballot). rank_of x ≤ rank_of q) (sym e) record_low
-      | inr w ↦
-          let low : IfSome (Some w.1) (λ (v : Vote Command). rank v.ballot ≤ rank_of q) = rw w.2 at (votes_low w.0 w.4) in
+      | inr (inl e) ↦ subst (λ (x : Option Ballot). rank_of x ≤ rank_of q) (sym e) sealed_low
+      | inr (inr w) ↦
+          let low : IfSome (Some w.1) (λ (v : Vote Command). rank v.ballot ≤ rank_of q) = rw w.2 at (votes_low w.0) in
           subst (λ (x : Option Ballot). rank_of x ≤ rank_of q) (sym w.3) low
     ]
 
 not_above : (records : Records) (a b : Accepting) (says_a : RecordsSay records a) (says_b : RecordsSay records b)
     → rank_of a.promise ≤ rank_of b.promise
 not_above records a b says_a says_b =
-    at_most says_a.promised a.floor a.vote a.promise b.promise says_a.promise
+    at_most says_a.promised a.sealed a.vote a.promise b.promise says_a.promise
     (subst (λ (x : Option Ballot). rank_of x ≤ rank_of b.promise)
     (sym (one_record records a b says_a says_b)) says_b.promise.not_below_the_record)
-    (λ s from. subst (λ (x : Option (Vote Command)). IfSome x (λ v. rank v.ballot ≤ rank_of b.promise))
-    (sym (one_vote_each records a b says_a says_b s from))
-    (says_b.promise.not_below_a_vote s (omega (arith, one_floor records a b says_a says_b, from))))
+    (subst (λ (x : Option Ballot). rank_of x ≤ rank_of b.promise)
+    (sym (one_sealed records a b says_a says_b)) says_b.promise.not_below_the_checkpoint)
+    (λ s. subst (λ (x : Option (Vote Command)). IfSome x (λ v. rank v.ballot ≤ rank_of b.promise))
+    (sym (one_vote_each records a b says_a says_b s)) (says_b.promise.not_below_a_vote s))
 
 pub one_promise : (records : Records) (a b : Accepting) (says_a : RecordsSay records a) (says_b : RecordsSay records b)
     → rank_of a.promise ≡ rank_of b.promise

@@ -1,8 +1,8 @@
 -- Votes in a map by slot.
 use Rattle.std.proofs.Common.{◌≡◌, ◌≢◌, ℕ, Option, Some, None, Result, Ok, Err, refl, ap, subst, ◌∙◌, sym, inl, inr, IsSome, OnOk, OnErr}
-use Rattle.std.proofs.Common.{zero, ◌+◌, ◌≤◌, List, option_map, arith}
+use Rattle.std.proofs.Common.{zero, ◌+◌, ◌≤◌, List, option_map, arith, nat_lt, if◌then◌else◌}
 use Rattle.std.proofs.lemmas.Bool.Decides.{eqb_tells}
-use Rattle.std.proofs.lemmas.Bool.{eq-eqb}
+use Rattle.std.proofs.lemmas.Bool.{cases_Bool, eq-eqb}
 use Rattle.std.proofs.lemmas.Option.{none-some}
 use Rattle.synod.specs.Ballots.{rank, rank_of}
 use Rattle.synod.specs.declared.ballot.Ballot.{Ballot}
@@ -114,4 +114,14 @@ cast_above a v w is slot bytes e =
           let written = is.cast (record { taken = same; fresh = λ stands. some (is.already stands) }) in
           let here : v.slot + 3 ≡ slot + 3 = ap set_place (sym written ∙ e) in
           omega (arith, from, here)
+    ]
+
+-- ---- votes below a slot
+-- where casts are taken out, so are votes
+pub votes-below : (f : ℕ → Option Cast) (below s : ℕ) → option_map (vote_at s) (if nat_lt s below then None else f s)
+    ≡ (if nat_lt s below then None else option_map (vote_at s) (f s))
+votes-below f below s =
+    elim (cases_Bool (nat_lt s below)) [
+      | inl lower ↦ rw lower refl
+      | inr other ↦ rw other refl
     ]

@@ -4,10 +4,12 @@ use Rattle.std.specs.Prelude.{
   ◌≢◌,
   ℕ,
   ◌==◌,
+  ◌<◌,
   ◌≤◌,
   ◌⊎◌,
   nat_lt,
   List,
+  [],
   Option,
   Some,
   None,
@@ -21,22 +23,27 @@ use Rattle.std.specs.Prelude.{
 use Rattle.synod.specs.Ballots.{rank, rank_of}
 use Rattle.synod.specs.declared.ballot.Ballot.{Ballot}
 use Rattle.synod.specs.declared.vote.Vote.{Vote}
-use Rattle.stable.specs.Records.{Records, Change, Sets, changed}
+use Rattle.stable.specs.Records.{Records, Change, Sets, Trims, changed}
 use Rattle.stable.specs.declared.key.Key.{Key}
 use Rattle.stable.specs.declared.key.Key.TheVariants as key
 use Rattle.sessions.specs.declared.command.Command.{Command}
 use Rattle.wire.specs.Promises.{Promised}
+use Rattle.wire.specs.RecordForms.{Checkpointed, checkpoint_bytes}
 use Rattle.acceptor.specs.declared.answer.Answer.{Answer}
 use Rattle.acceptor.specs.declared.answer.Answer.TheVariants as answers
 use Rattle.acceptor.specs.declared.answer.Answer.TheVariants.{Promise, Accepted, Nack}
-use Rattle.acceptor.specs.Forms.{BallotFits, VoteFits}
+use Rattle.acceptor.specs.Forms.{BallotFits, CheckpointFits, VoteFits}
+use Rattle.acceptor.specs.Casts.{HasAnyBelow}
 use Rattle.acceptor.specs.Ranges.{IsPromiseFrom}
 use Rattle.acceptor.specs.Spelling.{ballot_bytes, vote_bytes}
 
--- an acceptor's promise, the first slot of which it may speak, and its vote at each slot
+-- an acceptor's promise, the first slot of which it may speak, what was promised when that was raised last and the text that was
+-- written then, and its vote at each slot
 pub record Accepting : Type 0 where
   pub promise : Option Ballot
   pub floor : ℕ
+  pub sealed : Option Ballot
+  pub text : List ℕ
   pub vote : ℕ → Option (Vote Command)
 
 -- a write that a call makes, if it makes one
@@ -48,27 +55,50 @@ abbrev pub put : {A : Type 0} → (ℕ → A) → ℕ → A → ℕ → A
 put f i x j = if j == i then x else f j
 
 -- ---- what the records say
--- the promise is the greatest of record Promise and of the ballots of all votes from the floor on, and none without
-pub record IsGreatest (promised : Option Ballot) (floor : ℕ) (vote : ℕ → Option (Vote Command))
-    (promise : Option Ballot) : Type 0 where
-  pub not_below_the_record : rank_of promised ≤ rank_of promise
-  pub not_below_a_vote : (s : ℕ) → floor ≤ s → IfSome (vote s) (λ v. rank v.ballot ≤ rank_of promise)
-  pub among_them : (promise ≡ promised)
-      ⊎ ((s : ℕ) × (v : Vote Command) × (vote s ≡ Some v) × (promise ≡ Some v.ballot) × (floor ≤ s))
+-- the promise is the greatest of record Promise, of the checkpoint's promise and of the ballots of all votes, and none without
+pub record IsGreatest (promised sealed : Option Ballot) (vote : ℕ → Option (Vote Command)) (promise : Option Ballot) : Type 0
+  where
+    pub not_below_the_record : rank_of promised ≤ rank_of promise
+    pub not_below_the_checkpoint : rank_of sealed ≤ rank_of promise
+    pub not_below_a_vote : (s : ℕ) → IfSome (vote s) (λ v. rank v.ballot ≤ rank_of promise)
+    pub among_them : (promise ≡ promised) ⊎ ((promise ≡ sealed)
+        ⊎ ((s : ℕ) × (v : Vote Command) × (vote s ≡ Some v) × (promise ≡ Some v.ballot)))
 
--- each record is the spelling of what the acceptor holds: of the votes, from the floor on
+-- the first slot that a checkpoint leaves, what was promised then, and its text
+abbrev pub floor_of : Option Checkpointed → ℕ
+floor_of None = zero
+floor_of (Some c) = c.position
+
+abbrev pub sealed_of : Option Checkpointed → Option Ballot
+sealed_of None = None
+sealed_of (Some c) = c.promise
+
+abbrev pub text_of : Option Checkpointed → List ℕ
+text_of None = []
+text_of (Some c) = c.text
+
+-- each record is the spelling of what the acceptor holds, of each vote that it holds below the floor too
 pub record RecordsSay (records : Key → Option (List ℕ)) (a : Accepting) : Type 0 where
   -- what record Promise holds
   pub promised : Option Ballot
   pub promise_record : records key.Promise ≡ option_map ballot_bytes promised
-  pub vote_record : (s : ℕ) → a.floor ≤ s → records (key.Vote s) ≡ option_map vote_bytes (a.vote s)
-  pub at_its_slot : (s : ℕ) → a.floor ≤ s → IfSome (a.vote s) (λ v. v.slot ≡ s)
-  pub promise : IsGreatest promised a.floor a.vote a.promise
-  -- no record raises the floor
-  pub floor : a.floor ≡ zero
+  -- what record Checkpoint holds
+  pub checkpointed : Option Checkpointed
+  pub checkpoint_record : records key.Checkpoint ≡ option_map checkpoint_bytes checkpointed
+  pub floor : a.floor ≡ floor_of checkpointed
+  pub sealed : a.sealed ≡ sealed_of checkpointed
+  pub text : a.text ≡ text_of checkpointed
+  pub vote_record : (s : ℕ) → records (key.Vote s) ≡ option_map vote_bytes (a.vote s)
+  pub at_its_slot : (s : ℕ) → IfSome (a.vote s) (λ v. v.slot ≡ s)
+  pub promise : IsGreatest promised a.sealed a.vote a.promise
   -- each fits its record, so that no two are spelled alike
   pub promised_fits : IfSome promised BallotFits
-  pub votes_fit : (s : ℕ) → a.floor ≤ s → IfSome (a.vote s) VoteFits
+  pub checkpoint_fits : IfSome checkpointed CheckpointFits
+  pub votes_fit : (s : ℕ) → IfSome (a.vote s) VoteFits
+
+-- no vote below the floor is of a ballot above the checkpoint's promise, so that no promise goes with it
+abbrev pub IsCovered : Accepting → Type 0
+IsCovered a = (s : ℕ) (v : Vote Command) → s < a.floor → a.vote s ≡ Some v → rank v.ballot ≤ rank_of a.sealed
 
 -- ---- what is asked of an acceptor, under a ballot and from a slot on, is refused, or is behind, or is taken
 -- the promise that refuses the ballot: the acceptor's, where the ballot is below it
@@ -142,6 +172,26 @@ pub record IsAcceptWrite (a : Accepting) (v : Vote Command) (write : Write) : Ty
   pub untaken : verdict a v.ballot v.slot ≢ Taken → write ≡ None
   pub already : a.vote v.slot ≡ Some v → write ≡ None
   pub nothing : write ≡ None → (verdict a v.ballot v.slot ≢ Taken) ⊎ (a.vote v.slot ≡ Some v)
+
+-- ---- a checkpoint: its record is written, with the present promise
+abbrev pub checkpoint_change : Accepting → ℕ → List ℕ → Change
+checkpoint_change a position text =
+    Sets key.Checkpoint (checkpoint_bytes (record { position = position; promise = a.promise; text = text }))
+
+abbrev pub after_checkpoint : Accepting → ℕ → List ℕ → Accepting
+after_checkpoint a position text = record a { floor = position; sealed = a.promise; text = text }
+
+-- ---- a trim: the votes below the floor are taken out
+abbrev pub HasVoteBelow : Accepting → Type 0
+HasVoteBelow a = HasAnyBelow a.vote a.floor
+
+-- nothing is written where none stands there
+abbrev pub IsTrimWrite : Accepting → Write → Type 0
+IsTrimWrite a None = ¬ HasVoteBelow a
+IsTrimWrite a (Some change) = HasVoteBelow a × (change ≡ Trims a.floor)
+
+abbrev pub after_trim : Accepting → Accepting
+after_trim a = record a { vote = λ s. if nat_lt s a.floor then None else a.vote s }
 
 -- ---- what a call makes of the storage, whose relations are given
 -- the write is made, or where there is none the storage is at most read

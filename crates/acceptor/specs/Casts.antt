@@ -1,5 +1,5 @@
 -- The votes that are held, by slot.
-use Rattle.std.specs.Prelude.{◌≡◌, ℕ, ◌≤◌, Option, Some, option_map}
+use Rattle.std.specs.Prelude.{◌≡◌, ℕ, ◌<◌, ◌≤◌, Option, Some, IsSome, option_map}
 use Rattle.byslot.specs.Values.{value_at}
 use Rattle.synod.specs.Ballots.{rank, rank_of}
 use Rattle.synod.specs.declared.ballot.Ballot.{Ballot}
@@ -23,3 +23,9 @@ vote_held votes s = option_map (vote_at s) (cast_at votes s)
 -- no vote that is held is of a ballot above the promise
 abbrev pub AreUpTo : Option Ballot → Votes → Type 0
 AreUpTo promise votes = (s : ℕ) (v : Vote Command) → vote_held votes s ≡ Some v → rank v.ballot ≤ rank_of promise
+
+-- a vote stands at a slot below this one
+pub record HasAnyBelow (vote : ℕ → Option (Vote Command)) (below : ℕ) : Type 0 where
+  pub slot : ℕ
+  pub below_ : slot < below
+  pub stands : IsSome (vote slot)

@@ -1,13 +1,17 @@
 -- Which bytes are a record: exactly a spelling, each field with a value that its type has.
-use Rattle.std.specs.Prelude.{◌≡◌, ℕ, List, Some, IfSome}
+use Rattle.std.specs.Prelude.{◌≡◌, ℕ, ◌≤◌, List, Some, IfSome}
 use Rattle.synod.specs.declared.ballot.Ballot.{Ballot}
+use Rattle.synod.specs.declared.slot.TheConstants.{SLOTS}
 use Rattle.synod.specs.declared.vote.Vote.{Vote}
+use Rattle.sessions.specs.Machines.{MachineState}
+use Rattle.sessions.specs.Snapshots.{MachineFits, snapshot_bytes}
 use Rattle.sessions.specs.declared.command.Command.{Command}
 use Rattle.stable.specs.Records.{Records}
 use Rattle.stable.specs.declared.key.Key.{Key}
 use Rattle.stable.specs.declared.key.Key.TheVariants as key
 use Rattle.wire.specs.Spelling as wire
 pub use Rattle.wire.specs.Spelling.{CommandFits}
+use Rattle.wire.specs.RecordForms.{Checkpointed, checkpoint_bytes}
 use Rattle.acceptor.specs.Spelling.{ballot_bytes, vote_bytes}
 
 -- the ballot may stand in a record, which serves the largest fleet
@@ -18,9 +22,19 @@ pub record VoteFits (v : Vote Command) : Type 0 where
   pub ballot : BallotFits v.ballot
   pub command : CommandFits v.command
 
--- the bytes are what a record under the key may be; a round is the proposer's, and is not read here; no bytes are a checkpoint's yet
+-- the bytes are the snapshot text of a machine
+abbrev pub IsText : List ℕ → Type 0
+IsText bytes = (m : MachineState) × MachineFits m × (snapshot_bytes m ≡ bytes)
+
+pub record CheckpointFits (c : Checkpointed) : Type 0 where
+  pub begun : 1 ≤ c.position
+  pub in_log : c.position ≤ SLOTS
+  pub promise : IfSome c.promise BallotFits
+  pub text : IsText c.text
+
+-- the bytes are what a record under the key may be; a round is the proposer's, and is not read here
 abbrev pub IsOfItsForm : Key → List ℕ → Type 0
-IsOfItsForm key.Checkpoint bytes = ⊥
+IsOfItsForm key.Checkpoint bytes = (c : Checkpointed) × CheckpointFits c × (bytes ≡ checkpoint_bytes c)
 IsOfItsForm key.Promise bytes = (b : Ballot) × BallotFits b × (bytes ≡ ballot_bytes b)
 IsOfItsForm key.Round bytes = Unit {0}
 IsOfItsForm (key.Vote slot) bytes = (v : Vote Command) × VoteFits v × (bytes ≡ vote_bytes v)

@@ -5,4 +5,4 @@ pub use Rattle.acceptor.specs.Casts.{vote_at, vote_held}
 
 -- what an acceptor holds
 abbrev pub accepting_of : Acceptor → Accepting
-accepting_of a = record { promise = a.promise; floor = a.floor; vote = λ s. vote_held a.votes s }
+accepting_of a = record { promise = a.promise; floor = a.floor; sealed = a.sealed; text = a.text.items; vote = λ s. vote_held a.votes s }

@@ -1,6 +1,6 @@
 //! One node's acceptor.
 
-ghost use Rattle.std.specs.Prelude.{◌≡◌, ◌<◌, ◌⊎◌, Some, None};
+ghost use Rattle.std.specs.Prelude.{◌≡◌, ◌<◌, ◌≤◌, ◌⊎◌, Some, None};
 ghost use Rattle.std.specs.Prelude.{IsSome, IfSome, IfOk, OnOk, OnErr, IsErrOf, option_map};
 ghost use Rattle.synod.specs.Ballots.{rank};
 ghost use Rattle.stable.specs.Records.{Records};
@@ -8,18 +8,21 @@ ghost use Rattle.stable.specs.declared.key.Key.TheVariants as key;
 ghost use Rattle.acceptor.specs.Accepting.{Write, RecordsSay, refusing, Taken, verdict, turned_away};
 ghost use Rattle.acceptor.specs.Accepting.{AnswersPrepare, prepare_write, after_prepare};
 ghost use Rattle.acceptor.specs.Accepting.{accept_answer, after_accept, IsAcceptWrite, IsNewVote};
-ghost use Rattle.acceptor.specs.Accepting.{HasWritten, HasFailed};
+ghost use Rattle.acceptor.specs.Accepting.{HasWritten, HasFailed, checkpoint_change, after_checkpoint, HasVoteBelow, IsTrimWrite, after_trim};
 ghost use Rattle.acceptor.specs.Casts.{AreUpTo, vote_at};
-ghost use Rattle.acceptor.specs.Forms.{BallotFits, VoteFits, IsOfItsForm, AreOfTheirForm, HasDamagedRecord};
-ghost use Rattle.acceptor.specs.Loading.{raised, with_seen};
+ghost use Rattle.acceptor.specs.Forms.{BallotFits, CheckpointFits, VoteFits, IsOfItsForm, AreOfTheirForm, HasDamagedRecord};
+ghost use Rattle.acceptor.specs.Loading.{raised, with_seen, BeginsWith, IsMachineOf, checkpoint_found};
 ghost use Rattle.acceptor.specs.Ranges.{StandsFrom};
 ghost use Rattle.acceptor.specs.Spelling.{ballot_bytes, vote_bytes};
+ghost use Rattle.sessions.specs.Snapshots.{StandsForEach, snapshot_bytes};
+ghost use Rattle.synod.specs.declared.slot.TheConstants.{SLOTS};
+ghost use Rattle.wire.specs.RecordForms.{checkpoint_bytes};
 
 use super::answer::Answer;
 use super::cast::Cast;
-use super::records::{no_checkpoint, promised, voted, write_promise};
+use super::records::{Found, checkpointed, promised, voted, write_checkpoint, write_promise};
 use super::votes::Votes;
-use sessions::Command;
+use sessions::{Command, Machine};
 use stable::{Key, Stable, StableFault};
 use std::alloc::{AllocError, Global};
 use synod::{Ballot, Slot, Vote};
@@ -30,11 +33,16 @@ use wire::{Held, Nack};
 /// One promise serves all slots. A look-up takes a number of steps that grows with the logarithm of the votes.
 pub struct Acceptor {
     promise: Option<Ballot>,
-    // It speaks of the slots from here on.
+    // It speaks of the slots from here on: the position of its checkpoint, or 0 without one.
     floor: u32,
+    // What was promised when the checkpoint was written, as its record says.
+    sealed: Option<Ballot>,
+    // The checkpoint's text, as its record has it; empty without one.
+    text: Vec<u8>,
     votes: Votes,
     // No vote is of a ballot above the promise, so that a promise may tell each.
     ghost bounded: { AreUpTo promise votes },
+    ghost in_log: { floor ≤ SLOTS },
 }
 
 // By hand, so that a crate that drops one proves nothing of what lies within.
@@ -43,8 +51,11 @@ impl Drop for Acceptor {
         let Acceptor {
             promise: _,
             floor: _,
+            sealed: _,
+            text,
             votes,
         } = self;
+        drop(text);
         drop(votes);
     }
 }
@@ -52,14 +63,40 @@ impl Drop for Acceptor {
 impl Acceptor {
     ghost use Rattle.acceptor.specs.State.{accepting_of};
 
-    /// The acceptor that the records tell of: its votes are those recorded, and its promise is the greatest of record
-    /// Promise and of the ballots of all votes.
+    /// The acceptor that the records tell of: its votes are those recorded, its floor is the position of the checkpoint, and its
+    /// promise is the greatest of record Promise, of the checkpoint's promise and of the ballots of all votes.
     ///
-    /// A stray key, and a record Promise or of a vote that is not of its form, is refused: `Damaged`. The round is not
-    /// read.
+    /// A stray key, and a record that is not of its form, is refused: `Damaged`. The round is not read.
     pub fn load<S: Stable>(alloc: Global, storage: &mut S) -> Result<Acceptor, StableFault>
         ensures told { S.IsHonest storage.new → IfOk result (λ loaded.
             RecordsSay (S.contents storage.old) (accepting_of loaded)) }
+        ensures form { S.IsHonest storage.new → OnOk result
+            (AreOfTheirForm (S.contents storage.old)) }
+        ensures no_stray { S.IsHonest storage.new → OnOk result (¬ (S.HasStrayKey storage.old)) }
+        ensures reads { OnOk result (S.reads storage.old storage.new) }
+        ensures settled { OnOk result (S.IsSettled storage.new) }
+
+        // Each error.
+        ensures device { IsErrOf result StableFault.Device → S.read_fails storage.old storage.new }
+        ensures memory { IsErrOf result StableFault.Memory → S.reads storage.old storage.new }
+        ensures damaged { IsErrOf result StableFault.Damaged → S.reads storage.old storage.new }
+        ensures damaged_record { S.IsHonest storage.new → IsErrOf result StableFault.Damaged
+            → S.HasStrayKey storage.old ⊎ HasDamagedRecord (S.contents storage.old) }
+    {
+        let (acceptor, _machine) = Acceptor::load_with_machine(alloc, storage)?;
+        Ok(acceptor)
+    }
+
+    /// As `load`, with the machine of the checkpoint's text, or the empty one without a checkpoint. Each record is read once.
+    pub fn load_with_machine<S: Stable>(
+        alloc: Global,
+        storage: &mut S,
+    ) -> Result<(Acceptor, Machine), StableFault>
+        ensures told { S.IsHonest storage.new → IfOk result (λ loaded.
+            RecordsSay (S.contents storage.old) (accepting_of loaded.0)) }
+        ensures machine { S.IsHonest storage.new → IfOk result (λ loaded.
+            BeginsWith (S.contents storage.old) loaded.1) }
+        ensures restored { IfOk result (λ loaded. IsMachineOf (accepting_of loaded.0).text loaded.1) }
         ensures form { S.IsHonest storage.new → OnOk result
             (AreOfTheirForm (S.contents storage.old)) }
         ensures no_stray { S.IsHonest storage.new → OnOk result (¬ (S.HasStrayKey storage.old)) }
@@ -77,25 +114,35 @@ impl Acceptor {
         let mut loaded = Acceptor {
             promise: None,
             floor: 0,
+            sealed: None,
+            text: Vec::new(alloc),
             votes: Votes::new(alloc),
         };
+        let mut machine = Machine::new(alloc);
         for key in &keys {
-            loaded.take_in(alloc, storage, *key)?;
+            loaded.take_in(alloc, storage, *key, &mut machine)?;
         }
-        Ok(loaded)
+        Ok((loaded, machine))
     }
 
-    /// Takes in what the record under a key says. The round is the proposer's, and is not read.
+    /// Takes in what the record under a key says; the machine of a checkpoint takes the place of the one given. The round is the
+    /// proposer's, and is not read.
     fn take_in<S: Stable>(
         &mut self,
         alloc: Global,
         storage: &mut S,
         key: Key,
+        machine: &mut Machine,
     ) -> Result<(), StableFault>
         ensures told { S.IsHonest storage.new → OnOk result ((seen : Records) → seen key ≡ None
             → RecordsSay seen (accepting_of self.old)
             → RecordsSay (with_seen seen key (S.contents storage.old key))
             (accepting_of self.new)) }
+        ensures machine { S.IsHonest storage.new → OnOk result ((seen : Records) → seen key ≡ None
+            → BeginsWith seen machine.old
+            → BeginsWith (with_seen seen key (S.contents storage.old key)) machine.new) }
+        ensures restored { OnOk result (IsMachineOf (accepting_of self.old).text machine.old
+            → IsMachineOf (accepting_of self.new).text machine.new) }
         ensures form { S.IsHonest storage.new → OnOk result
             (IfSome (S.contents storage.old key) (IsOfItsForm key)) }
         ensures reads { OnOk result (S.reads storage.old storage.new) }
@@ -108,7 +155,11 @@ impl Acceptor {
             → HasDamagedRecord (S.contents storage.old) }
     {
         match key {
-            Key::Checkpoint => no_checkpoint(alloc, storage),
+            Key::Checkpoint => {
+                let found = checkpointed(alloc, storage)?;
+                self.take_checkpoint(found, machine);
+                Ok(())
+            }
             Key::Promise => {
                 let found = promised(alloc, storage)?;
                 self.take_promise(found);
@@ -122,13 +173,47 @@ impl Acceptor {
         }
     }
 
+    /// Takes in what record Checkpoint says.
+    fn take_checkpoint(&mut self, found: Option<Found>, machine: &mut Machine)
+        requires fits { IfSome found (λ f. CheckpointFits (checkpoint_found f)) }
+        requires stands { IfSome found (λ f. StandsForEach f.text.items f.machine) }
+        requires restored { IfSome found (λ f. snapshot_bytes f.machine ≡ f.text.items) }
+        ensures told { (seen : Records) → seen key.Checkpoint ≡ None
+            → RecordsSay seen (accepting_of self.old)
+            → RecordsSay (with_seen seen key.Checkpoint (option_map checkpoint_bytes (option_map checkpoint_found found)))
+            (accepting_of self.new) }
+        ensures machine { (seen : Records) → seen key.Checkpoint ≡ None → BeginsWith seen machine.old
+            → BeginsWith (with_seen seen key.Checkpoint (option_map checkpoint_bytes (option_map checkpoint_found found)))
+            machine.new }
+        ensures restored { IsMachineOf (accepting_of self.old).text machine.old
+            → IsMachineOf (accepting_of self.new).text machine.new }
+    {
+        let Some(found) = found else {
+            return;
+        };
+        let Found {
+            position,
+            promise,
+            text,
+            machine: restored,
+        } = found;
+        *machine = restored;
+        self.floor = position;
+        self.sealed = promise;
+        self.text = text;
+        if let Some(ballot) = promise {
+            self.raise(ballot);
+        }
+    }
+
     /// Takes in what record Promise says.
     fn take_promise(&mut self, found: Option<Ballot>)
         requires { IfSome found BallotFits }
-        ensures { (seen : Records) → seen key.Promise ≡ None
+        ensures told { (seen : Records) → seen key.Promise ≡ None
             → RecordsSay seen (accepting_of self.old)
             → RecordsSay (with_seen seen key.Promise (option_map ballot_bytes found))
             (accepting_of self.new) }
+        ensures text { self.new.text ≡ self.old.text }
     {
         if let Some(ballot) = found {
             self.raise(ballot);
@@ -138,11 +223,12 @@ impl Acceptor {
     /// Takes in what the record of a slot says.
     fn take_vote(&mut self, slot: Slot, found: Option<Cast>) -> Result<(), AllocError>
         requires { IfSome found (λ cast. VoteFits (vote_at slot cast)) }
-        ensures { OnOk result ((seen : Records) → seen (key.Vote slot) ≡ None
+        ensures told { OnOk result ((seen : Records) → seen (key.Vote slot) ≡ None
             → RecordsSay seen (accepting_of self.old)
             → RecordsSay (with_seen seen (key.Vote slot)
             (option_map vote_bytes (option_map (vote_at slot) found)))
             (accepting_of self.new)) }
+        ensures text { OnOk result (self.new.text ≡ self.old.text) }
     {
         if let Some(cast) = found {
             self.raise(cast.ballot);
@@ -156,6 +242,8 @@ impl Acceptor {
         ensures promise { self.new.promise ≡ raised self.old.promise ballot }
         ensures votes { self.new.votes ≡ self.old.votes }
         ensures floor { self.new.floor ≡ self.old.floor }
+        ensures sealed { self.new.sealed ≡ self.old.sealed }
+        ensures text { self.new.text ≡ self.old.text }
     {
         if self.promise.is_none_or(|promised| promised < ballot) {
             self.promise = Some(ballot);
@@ -244,9 +332,78 @@ impl Acceptor {
         Ok(Answer::Accepted(vote))
     }
 
-    /// The first slot of which it speaks.
+    /// Writes a checkpoint: the snapshot text of a database at a position, with the present promise. From then on it speaks of
+    /// the slots from there on alone.
+    ///
+    /// Any bytes are written as they are given; those that are no snapshot text are `Damaged` at the next load. After `Device` only
+    /// another load tells which checkpoint is recorded: here it is what it was. After `Memory` nothing is written or changed.
+    pub fn checkpoint<S: Stable>(
+        &mut self,
+        alloc: Global,
+        storage: &mut S,
+        position: u32,
+        text: &[u8],
+    ) -> Result<(), StableFault>
+        requires above { (accepting_of self.old).floor < position }
+        requires in_log { position ≤ SLOTS }
+        ensures written { OnOk result (S.changes storage.old
+            (checkpoint_change (accepting_of self.old) position text.now) storage.new) }
+        ensures state { OnOk result
+            (accepting_of self.new ≡ after_checkpoint (accepting_of self.old) position text.now) }
+
+        // Each error.
+        ensures device { IsErrOf result StableFault.Device → S.fails storage.old
+            (checkpoint_change (accepting_of self.old) position text.now) storage.new }
+        ensures memory { IsErrOf result StableFault.Memory → S.reads storage.old storage.new }
+        ensures err_state { OnErr result (accepting_of self.new ≡ accepting_of self.old) }
+        ensures not_damaged { ¬ IsErrOf result StableFault.Damaged }
+    {
+        // It takes its place before it is written: after the write nothing may be refused.
+        let kept = text.to_vec(alloc)?;
+        write_checkpoint(alloc, storage, position, self.promise, text)?;
+        self.floor = position;
+        self.sealed = self.promise;
+        self.text = kept;
+        Ok(())
+    }
+
+    /// Takes out the votes below the floor, and writes nothing where none stands there.
+    ///
+    /// After `Device` only another load tells which votes are recorded: here they are what they were. After `Memory` nothing is
+    /// written or changed.
+    pub fn trim<S: Stable>(&mut self, alloc: Global, storage: &mut S) -> Result<(), StableFault>
+        ensures written { OnOk result ((w : Write) × IsTrimWrite (accepting_of self.old) w
+            × HasWritten S.reads S.changes storage.old storage.new w) }
+        ensures state { OnOk result (accepting_of self.new ≡ after_trim (accepting_of self.old)) }
+
+        // Each error.
+        ensures device { IsErrOf result StableFault.Device
+            → (w : Write) × IsTrimWrite (accepting_of self.old) w
+            × HasFailed S.fails storage.old storage.new w }
+        ensures wanted { OnErr result (HasVoteBelow (accepting_of self.old)) }
+        ensures memory { IsErrOf result StableFault.Memory → S.reads storage.old storage.new }
+        ensures err_state { OnErr result (accepting_of self.new ≡ accepting_of self.old) }
+        ensures not_damaged { ¬ IsErrOf result StableFault.Damaged }
+    {
+        if !self.votes.has_below(self.floor) {
+            return Ok(());
+        }
+        storage.trim_below(alloc, self.floor)?;
+        self.votes.remove_below(self.floor);
+        Ok(())
+    }
+
+    /// The text of its checkpoint, as the record has it; empty without one.
+    pub fn text(&self) -> &[u8]
+        ensures { result.now ≡ (accepting_of self.now).text }
+    {
+        &self.text
+    }
+
+    /// The first slot of which it speaks: the position of its checkpoint, or 0 without one.
     pub fn floor(&self) -> u32
-        ensures { result ≡ (accepting_of self.now).floor }
+        ensures value { result ≡ (accepting_of self.now).floor }
+        ensures in_log { result ≤ SLOTS }
     {
         self.floor
     }

@@ -1,9 +1,9 @@
 //! The votes that an acceptor holds.
 
-ghost use Rattle.std.specs.Prelude.{◌≡◌, ◌↔◌, IsTrue, IsSome, IfOk, OnOk, OnErr, IsErrOf, Some, None, ℕ};
+ghost use Rattle.std.specs.Prelude.{◌≡◌, ◌↔◌, IsTrue, IsSome, IfOk, OnOk, OnErr, IsErrOf, Some, None, ℕ, nat_lt, if◌then◌else◌};
 ghost use Rattle.acceptor.specs.Accepting.{put};
 ghost use Rattle.acceptor.specs.Ranges.{IsPromiseFrom, StandsFrom};
-ghost use Rattle.acceptor.specs.Casts.{AreUpTo, vote_at, cast_at, vote_held};
+ghost use Rattle.acceptor.specs.Casts.{AreUpTo, HasAnyBelow, vote_at, cast_at, vote_held};
 ghost use Rattle.acceptor.specs.Forms.{VoteFits};
 ghost use Rattle.acceptor.specs.Spelling.{vote_bytes};
 ghost use Rattle.stable.specs.Records.{Sets};
@@ -71,6 +71,23 @@ impl Votes {
             from = Slot::new(slot.value() + 1);
         }
         Ok(Promise::new(ballot, first, Slot::last(), entries).unwrap())
+    }
+
+    /// Whether a vote stands at a slot below this one.
+    pub(super) fn has_below(&self, below: u32) -> bool
+        ensures { IsTrue result ↔ HasAnyBelow (vote_held self.now) below }
+    {
+        match self.by_slot.first_from(Slot::first()) {
+            Some((slot, _cast)) => slot.value() < below,
+            None => false,
+        }
+    }
+
+    /// No vote stands at a slot below this one any more.
+    pub(super) fn remove_below(&mut self, below: u32)
+        ensures { (s : ℕ) → vote_held self.new s ≡ (if nat_lt s below then None else vote_held self.old s) }
+    {
+        self.by_slot.remove_below(below);
     }
 
     /// Takes in what was found at a slot.

@@ -89,7 +89,11 @@ invariant_of-self-2 g c = record {
             cast_bounded _ _ before vote above _ w.in_ok-cast.ensures.votes s v (rw w.self-is at held)
         | else-not-has w ↦ old_bounded _ _ before vote above s v (rw w.self-is at held)
       ];
+  in_log = c.args.self.now.in_log;
 }
 
 pub invariant_of-self : goal.invariant_of-self
-invariant_of-self g c = record { bounded = λ s v held. c.args.self.now.bounded s v (sym (c.in_err-cast.ensures.unchanged s) ∙ held) }
+invariant_of-self g c = record {
+  bounded = λ s v held. c.args.self.now.bounded s v (sym (c.in_err-cast.ensures.unchanged s) ∙ held);
+  in_log = c.args.self.now.in_log;
+}

@@ -26,6 +26,7 @@ invariant_of-self g c = record {
       let above = taken_is_above a c.args.ballot c.args.first taken in
       let below = c.args.self.now.bounded s v held in
       omega arith;
+  in_log = c.args.self.now.in_log;
 }
 
 -- it is taken, so the votes are told
