@@ -1,5 +1,6 @@
 -- What a node makes of an input by which it learns nothing is allowed.
 use Rattle.std.proofs.Common.{◌≡◌, ℕ, ◌<◌, ◌≤◌, List, [], ◌∷◌, ◌++◌, map, refl, sym, ap, ◌∙◌, subst, append-nil}
+use Rattle.std.proofs.Common.{le_refl}
 use Rattle.std.proofs.lemmas.Bool.{cond_both}
 use Rattle.std.proofs.lemmas.List.{map-append}
 use Rattle.synod.specs.declared.ballot.Ballot.{Ballot}
@@ -10,7 +11,8 @@ use Rattle.synod.proofs.Doing.{does_then}
 use Rattle.sessions.specs.Asked.{Asked}
 use Rattle.sessions.specs.declared.command.Command.{Command}
 use Rattle.sessions.specs.declared.command.Command.TheVariants.{Request}
-use Rattle.acceptor.specs.Accepting.{after_prepare, accept_answer, after_accept}
+use Rattle.acceptor.specs.Accepting.{Accepting, after_prepare, accept_answer, after_accept}
+use Rattle.acceptor.specs.Protocol.{MayWrite}
 use Rattle.acceptor.proofs.AllowedLemmas.{prepare_answers, accept_answers}
 use Rattle.acceptor.proofs.VerdictLemmas.{floor_prepared, floor_accepted}
 use Rattle.learner.specs.Learning.{learnt_at}
@@ -25,13 +27,13 @@ use Rattle.wire.specs.Promises.{Promised, Refused}
 use Rattle.wire.specs.declared.frames.message.Message.TheVariants.{Prepare, Promise, Nack, Accept, Ask}
 use Rattle.minds.specs.declared.input.Input.TheVariants as input
 use Rattle.minds.specs.Minds.{Mind, position, asked, waits}
-use Rattle.minds.specs.Outputs.{Response, sent}
+use Rattle.minds.specs.Outputs.{Response, sent, silence}
 use Rattle.minds.specs.Protocol.{fleet, message_of, frame_of, MindStands, MayComeTo}
 use Rattle.minds.specs.Sending.{envelopes, answer_sends, decided_sends, ask_others}
 use Rattle.minds.specs.Taking.{Takes, TakesMessage, proposer_sends, proposed, begins_to_lead, after_promise, with_request, after_submit}
 use Rattle.minds.proofs.AllowedSends.{outgoing_frames, proposer_frames, answered_frames, ask_others_plain, says_sends, tells_decided}
 use Rattle.minds.proofs.AllowedGoing.{MayGo, proposer_changed, stays, goes_then, goes_saying, goes_answering, goes_holding}
-use Rattle.minds.proofs.AllowedGoing.{goes_sending, goes_to}
+use Rattle.minds.proofs.AllowedGoing.{goes_writing, checkpoint_written, trim_written, goes_sending, goes_to}
 
 -- ---- a proposer proposes
 pub goes_proposing : (nodes i : ℕ) (in' : act.Input Command) (x : Local Command) (m : Mind) → 1 ≤ nodes → MindStands m x
@@ -106,6 +108,20 @@ module _ (old new : Mind) (said : Response) (x : Local Command) (stands : MindSt
       (map-append frame_of (envelopes old.id old.nodes again) asks
       ∙ ap (λ l. l ++ map frame_of asks) (proposer_frames old.id old.nodes again))
       (goes_then old.nodes old.id act.Nothing x old old (frames_of_all old.id old.nodes again) (map frame_of asks) first next)
+
+  -- ---- its acceptor writes, and nothing is said
+  writes_case : (a : Accepting) → new ≡ record old { accepting = a } → said ≡ silence → a.floor ≤ position old
+      → MayWrite (fleet old.nodes) old.id act.Nothing x a old.proposing.round → May act.Nothing
+  writes_case a leaves says low h =
+      goes_to old.nodes old.id act.Nothing x _ new said [] [] leaves says refl
+      (goes_writing old.nodes old.id act.Nothing x old a stands low h)
+
+  pub checkpoint_case : Takes old input.Checkpoint new said → May act.Nothing
+  checkpoint_case (leaves, says) =
+      writes_case _ leaves says (le_refl (position old)) (checkpoint_written old.nodes old.id act.Nothing x old stands)
+
+  pub trim_case : Takes old input.Trim new said → May act.Nothing
+  trim_case (leaves, says) = writes_case _ leaves says stands.level (trim_written old.nodes old.id act.Nothing x old stands)
 
   -- it comes to this from the one local, and sends this
   abbrev Proposes : act.Input Command → Local Command → Proposing × List Outgoing → Type 0

@@ -1,17 +1,19 @@
 -- What stands for a node after some acts of it.
-use Rattle.std.proofs.Common.{◌≡◌, ℕ, List, [], ◌++◌, map, refl, sym, ap, ◌∙◌, subst, append_assoc, append-nil, arith}
+use Rattle.std.proofs.Common.{◌≡◌, ℕ, ◌≤◌, List, [], ◌++◌, map, refl, sym, ap, ◌∙◌, subst, append_assoc, append-nil, arith}
 use Rattle.synod.specs.Messages.{Frame}
 use Rattle.synod.specs.Acts as act
 use Rattle.synod.specs.Acts.{Local, Does}
 use Rattle.synod.proofs.Doing.{sending, does_nothing, does_then}
 use Rattle.sessions.specs.Machines.{MachineState}
+use Rattle.sessions.specs.Snapshots.{snapshot_bytes}
 use Rattle.sessions.specs.declared.command.Command.{Command}
-use Rattle.acceptor.specs.Accepting.{Accepting}
-use Rattle.acceptor.specs.Protocol.{MayAnswer}
+use Rattle.acceptor.specs.Accepting.{Accepting, after_checkpoint, after_trim}
+use Rattle.acceptor.specs.Protocol.{MayAnswer, MayWrite}
+use Rattle.acceptor.proofs.AllowedLemmas.{checkpoint_writes, trim_stands}
 use Rattle.proposer.specs.Proposing.{Proposing}
 use Rattle.proposer.specs.Protocol.{ProposerStands, MayHold, MaySend}
 use Rattle.wire.specs.declared.frames.envelope.Envelope.{Envelope}
-use Rattle.minds.specs.Minds.{Mind}
+use Rattle.minds.specs.Minds.{Mind, position}
 use Rattle.minds.specs.Outputs.{Response, sent}
 use Rattle.minds.specs.Protocol.{fleet, frame_of, MindStands, MayComeTo}
 
@@ -108,6 +110,39 @@ module _ (nodes i : ℕ) (input : act.Input Command) where
     sent_ = refl;
     learnt = refl;
     submitted = refl;
+  }
+
+  -- its acceptor writes and nothing is said, and its floor is no further than the position
+  pub goes_writing : (x : Local Command) (m : Mind) (a : Accepting) → MindStands m x → a.floor ≤ position m
+      → MayWrite (fleet nodes) i input x a m.proposing.round → MayGo nodes i input x (record m { accepting = a }) []
+  goes_writing x m a s low h = record {
+    after = record x { records = h.after };
+    does = h.does;
+    stands = record {
+      records = h.stands;
+      learner = s.learner;
+      proposer = record { round = h.stands.round_; campaign = s.proposer.campaign; waiting = s.proposer.waiting };
+      position_ = s.position_;
+      level = low;
+    };
+    sent_ = sym (append-nil x.sent);
+    learnt = refl;
+    submitted = refl;
+  }
+
+  -- it may write a checkpoint
+  pub checkpoint_written : (x : Local Command) (m : Mind) → MindStands m x
+      → MayWrite (fleet nodes) i input x (after_checkpoint m.accepting (position m) (snapshot_bytes m.machine)) m.proposing.round
+  checkpoint_written x m s =
+      checkpoint_writes (fleet nodes) i input x m.accepting m.proposing.round s.records (position m) (snapshot_bytes m.machine) s.level
+
+  -- and trim its votes, which is nothing to the protocol
+  pub trim_written : (x : Local Command) (m : Mind) → MindStands m x
+      → MayWrite (fleet nodes) i input x (after_trim m.accepting) m.proposing.round
+  trim_written x m s = record {
+    after = x.records;
+    does = does_nothing (fleet nodes) i input x;
+    stands = trim_stands m.accepting m.proposing.round x.records s.records;
   }
 
   -- its proposer comes to another campaign

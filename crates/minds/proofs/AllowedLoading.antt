@@ -3,14 +3,16 @@ use Rattle.std.proofs.Common.{◌≡◌, ℕ, zero, ◌<◌, ◌^◌, List, [], 
 use Rattle.std.proofs.Common.{◌≤◌}
 use Rattle.byteorder.specs.Endian.{big_number, big_bytes}
 use Rattle.byteorder.specs.Numbers.{big_number-reads_back}
+use Rattle.synod.specs.Ballots.{rank, rank_of}
+use Rattle.synod.specs.declared.ballot.Ballot.{Ballot}
 use Rattle.synod.specs.Volatile.{Volatile, blank}
 use Rattle.synod.specs.Acts.{Local}
 use Rattle.synod.proofs.Thinking.{none_in}
 use Rattle.stable.specs.Records.{Records}
 use Rattle.stable.specs.declared.key.Key.TheVariants as key
-use Rattle.acceptor.specs.Accepting.{Accepting}
+use Rattle.acceptor.specs.Accepting.{Accepting, RecordsSay, IsCovered}
 use Rattle.acceptor.specs.Protocol.{RecordsStand}
-use Rattle.acceptor.proofs.SayingOne.{one_promise, one_floor, one_vote_each}
+use Rattle.acceptor.proofs.SayingOne.{one_promise, one_floor, one_sealed, one_vote_each}
 use Rattle.sessions.specs.declared.command.Command.{Command}
 use Rattle.learner.specs.Learning.{Learning, unlearnt_from}
 use Rattle.learner.specs.Protocol.{LearnerStands}
@@ -19,6 +21,7 @@ use Rattle.proposer.specs.Protocol.{ProposerStands}
 use Rattle.minds.specs.Loading.{IsLoaded, LoadsRound}
 use Rattle.minds.specs.Minds.{Mind, position}
 use Rattle.minds.specs.Protocol.{MindStands, RecordsHold, SaysRound}
+use Rattle.minds.proofs.Learnt.{loaded_begins}
 
 -- ---- a record says one round
 read_again : (n : ℕ) → n < 2 ^ 64 → big_number 8 (big_bytes 8 n) ≡ n
@@ -55,12 +58,25 @@ idle_stands id nodes round position x same none = record {
   waiting = λ r c. absurd (none_in r c);
 }
 
+-- where the votes of one acceptor are covered, so are those of each other that the same records tell of
+covered_too : (records : Records) (a b : Accepting) → RecordsSay records a → RecordsSay records b → IsCovered a → IsCovered b
+covered_too records a b says_a says_b covered = λ s v low there.
+    let floor = one_floor records a b says_a says_b in
+    let held : a.vote s ≡ Some v = one_vote_each records a b says_a says_b s ∙ there in
+    subst (λ (o : Option Ballot). rank v.ballot ≤ rank_of o) (one_sealed records a b says_a says_b)
+    (covered s v (omega (arith, low, floor)) held)
+
 module _ (records : Records) (id nodes : ℕ) (m : Mind) (loads : IsLoaded records id nodes m) where
   round_loaded : SaysRound (records key.Round) m.proposing.round × (m.proposing ≡ loaded id nodes m.proposing.round)
   round_loaded = loads_round (records key.Round) id nodes m.proposing loads.proposing
 
-  pub loaded_holds : RecordsHold records m.accepting m.proposing.round
-  loaded_holds = record { acceptor = loads.accepting; proposer = round_loaded.0 }
+  -- that its votes are covered it can't see, but the records are those of a run
+  pub loaded_holds : (a : Accepting) (round : ℕ) → RecordsHold records a round → RecordsHold records m.accepting m.proposing.round
+  loaded_holds a round holds = record {
+    acceptor = loads.accepting;
+    covered = covered_too records a m.accepting holds.acceptor loads.accepting holds.covered;
+    proposer = round_loaded.0;
+  }
 
   module _ (a : Accepting) (round : ℕ) (x : Local Command) (holds : RecordsHold records a round) (stands : RecordsStand a round x.records)
       (none : x.mind ≡ blank_at (position m)) where
@@ -72,7 +88,7 @@ module _ (records : Records) (id nodes : ℕ) (m : Mind) (loads : IsLoaded recor
       promise = stands.promise ∙ one_promise records a m.accepting holds.acceptor loads.accepting;
       vote = λ s from.
           let also : a.floor ≤ s = omega (arith, floors_one, from) in
-          stands.vote s also ∙ one_vote_each records a m.accepting holds.acceptor loads.accepting s also;
+          stands.vote s also ∙ one_vote_each records a m.accepting holds.acceptor loads.accepting s;
       round_ = stands.round_ ∙ one_round (records key.Round) round m.proposing.round holds.proposer round_loaded.0;
       floor_ = stands.floor_ ∙ floors_one;
     }
@@ -87,5 +103,5 @@ module _ (records : Records) (id nodes : ℕ) (m : Mind) (loads : IsLoaded recor
       proposer = subst (λ (p : Proposing). ProposerStands p x) (sym round_loaded.1)
           (idle_stands id nodes m.proposing.round (position m) x records_stand.round_ none);
       position_ = ap (λ (s : Volatile Command). s.position) none;
-      level = omega (arith, loads.accepting.floor);
+      level = (let at = loaded_begins records id nodes m loads in omega (arith, at));
     }

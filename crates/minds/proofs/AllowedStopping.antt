@@ -20,6 +20,7 @@ use Rattle.minds.specs.Loading.{IsMindOf}
 use Rattle.minds.specs.Minds.{Mind}
 use Rattle.minds.specs.Protocol.{fleet, coming, input_of, message_of, MindStands, MayStop}
 use Rattle.minds.specs.Protocol.{accepting_on, accepting_if, accepting_after, round_after}
+use Rattle.minds.proofs.AllowedGoing.{checkpoint_written, trim_written}
 
 module _ (m : Mind) (x : Local Command) (stands : MindStands m x) where
   abbrev May : act.Input Command → Accepting → ℕ → Type 0
@@ -73,6 +74,8 @@ module _ (m : Mind) (x : Local Command) (stands : MindStands m x) where
   stops (input.Message e) own a_node = envelope_stops e (concerns m.id m.nodes e)
   stops input.Timeout own a_node = stops_begun own a_node
   stops input.Tick own a_node = stops_at_once act.Nothing
+  stops input.Checkpoint own a_node = stops_written act.Nothing _ (checkpoint_written m.nodes m.id act.Nothing x m stands)
+  stops input.Trim own a_node = stops_written act.Nothing _ (trim_written m.nodes m.id act.Nothing x m stands)
 
 -- the number of the node and that of all nodes are its own
 pub unwritten_allowed : (nodes id : ℕ) (m : Mind) (in' : act.Input Command) (x : Local Command) → IsMindOf id nodes m → MindStands m x

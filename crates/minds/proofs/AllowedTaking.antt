@@ -15,7 +15,7 @@ use Rattle.minds.specs.Outputs.{Response}
 use Rattle.minds.specs.Protocol.{coming, message_of, MindStands, MayComeTo, MayTake}
 use Rattle.minds.specs.Taking.{Takes, TakesMessage, TakesEnvelope}
 use Rattle.minds.proofs.AllowedCases.{idle_case, prepare_case, accept_case, ask_case, nack_case, promise_case}
-use Rattle.minds.proofs.AllowedCases.{submit_case, timeout_case, tick_case}
+use Rattle.minds.proofs.AllowedCases.{submit_case, timeout_case, tick_case, checkpoint_case, trim_case}
 use Rattle.minds.proofs.AllowedLearning.{vote_case, decided_case}
 use Rattle.minds.proofs.Between.{from_the_run}
 
@@ -45,6 +45,8 @@ module _ (old new : Mind) (said : Response) (x : Local Command) (few : old.nodes
   takes (input.Message e) h = envelope_lem e (concerns old.id old.nodes e) refl h
   takes input.Timeout h = timeout_case old new said x stands own.proposing.0 h
   takes input.Tick h = tick_case old new said x stands h
+  takes input.Checkpoint h = checkpoint_case old new said x stands h
+  takes input.Trim h = trim_case old new said x stands h
 
 -- the number of the node and that of all nodes are its own
 pub taking_allowed : (nodes id : ℕ) (old new : Mind) (input : Input) (said : Response) (x : Local Command) → nodes ≤ 7 → id < nodes

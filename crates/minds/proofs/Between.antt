@@ -125,6 +125,8 @@ module _ (old new : Mind) (said : Response) (there : old.id < old.nodes) where
   takes_sends input.Tick k =
       says _ k.1 (both old.nodes old.id there _ _ (all_outgoing old.nodes old.id there _)
       (asks_others old.nodes old.id there (position old)))
+  -- nothing is sent
+  takes_sends other k = says _ k.1 (none old.nodes old.id there)
 
 -- ---- a step of a node
 module _ {S : Type 0} (storages : Ghosts S) (id nodes : ℕ) (old new : NodeState S) (i : Input) (is : IsMember id nodes old)

@@ -310,6 +310,8 @@ module _ (old new : Mind) (said : Response) (small : IsSmall old) where
       let again = few_outgoing (sends_again old.proposing.campaign) (again_few old.proposing.campaign small.proposals) in
       let others = others_few old.id old.nodes (position old) small.number small.of_all in
       omega (arith, both, again, others))
+  -- nothing is said
+  takes_few other k = few_sends _ k.1 refl (omega arith)
 
 -- what a node says that took an input
 pub said_few : (i : Input) (old new : Mind) (r : Result Response NodeFault) → IsSmall old

@@ -59,7 +59,6 @@ module _ (old new : Mind) (said : Response) where
   envelope_heard e true k = message_heard e.from e.to e.message k
 
   pub heard_of : (i : Input) → Takes old i new said → Hearing old i new said
-  heard_of (input.Submit client number op) k = of_nothing (so _ _ k.0 k.1 refl refl)
   heard_of (input.Message e) k = envelope_heard e (concerns old.id old.nodes e) k
   heard_of input.Timeout k = of_nothing (so _ _ k.2 k.3 refl refl)
-  heard_of input.Tick k = of_nothing (so _ _ k.0 k.1 refl refl)
+  heard_of other k = of_nothing (so _ _ k.0 k.1 refl refl)

@@ -1,19 +1,24 @@
 -- What a node has learnt, and what it tells as learnt.
 use Rattle.std.proofs.Common.{◌≡◌, ℕ, zero, suc, ◌+◌, ◌-◌, ◌<◌, ◌≤◌, ◌⊎◌, true, false, List, [], ◌∷◌, ◌++◌, length, slice_get}
-use Rattle.std.proofs.Common.{Option, Some, None, IsSome, inl, inr, refl, sym, ap, ◌∙◌, subst, arith}
+use Rattle.std.proofs.Common.{Option, Some, None, IsSome, IfSome, MatchOption, option_map, inl, inr, refl, sym, ap, ◌∙◌, subst, arith}
 use Rattle.std.proofs.lemmas.Option.{same_Some}
 use Rattle.synod.specs.Records.{put}
 use Rattle.synod.specs.declared.slot.TheConstants.{SLOTS}
 use Rattle.synod.specs.declared.vote.Vote.{Vote}
 use Rattle.synod.proofs.Puts.{put_cases, put_same}
 use Rattle.stable.specs.Records.{Records}
-use Rattle.acceptor.specs.Accepting.{Accepting, RecordsSay}
+use Rattle.stable.specs.declared.key.Key.TheVariants as key
+use Rattle.acceptor.specs.Accepting.{Accepting, RecordsSay, floor_of}
+use Rattle.acceptor.specs.Forms.{CheckpointFits}
+use Rattle.acceptor.specs.Loading.{IsCheckpointOf}
+use Rattle.acceptor.proofs.CheckpointLemmas.{one_that_fits}
 use Rattle.sessions.specs.declared.command.Command.{Command}
 use Rattle.learner.specs.Learning.{Learning, prefix, with_learnt, HearsVote, HearsDecided}
 use Rattle.learner.specs.Learning.HearsVote.{ignores, hears, learns}
 use Rattle.learner.specs.Learning.HearsDecided.{ignores_decided, learns_decided}
 use Rattle.learner.specs.declared.learned.Learned.{Learned}
 use Rattle.learner.proofs.PrefixLemmas.{unlearnt_prefix}
+use Rattle.wire.specs.RecordForms.{Checkpointed, checkpoint_bytes}
 use Rattle.wire.specs.declared.frames.envelope.Envelope.{Envelope}
 use Rattle.minds.specs.declared.input.Input.{Input}
 use Rattle.minds.specs.declared.outputs.LogEntry.{LogEntry}
@@ -150,19 +155,40 @@ fresh_has_learnt_nothing id nodes m h slot = ap (λ (l : Learning). l.learnt slo
 pub fresh_begins : (id nodes : ℕ) (m : Mind) → IsFresh id nodes m → position m ≡ m.learning.first
 fresh_begins id nodes m h = ap prefix h.learning ∙ sym (unlearnt_prefix nodes m.learning.first h.first_in_log)
 
+-- the floor that records say is a slot of the log, or its end
+checkpoint_in_log : (c : Option Checkpointed) → IfSome c CheckpointFits → floor_of c ≤ SLOTS
+checkpoint_in_log None fits = omega arith
+checkpoint_in_log (Some c) fits = fits.in_log
+
+floor_in_log : (records : Records) (a : Accepting) → RecordsSay records a → a.floor ≤ SLOTS
+floor_in_log records a says =
+    let low = checkpoint_in_log says.checkpointed says.checkpoint_fits in omega (arith, low, says.floor)
+
 -- one that has loaded its records begins at its acceptor's floor
 pub loaded_begins : (records : Records) (id nodes : ℕ) (m : Mind) → IsLoaded records id nodes m → position m ≡ m.accepting.floor
 loaded_begins records id nodes m h =
-    ap prefix h.learning ∙ sym (unlearnt_prefix nodes m.accepting.floor (omega (arith, h.accepting.floor)))
+    ap prefix h.learning ∙ sym (unlearnt_prefix nodes m.accepting.floor (floor_in_log records m.accepting h.accepting))
 
--- a list with which a node may begin is as long as its acceptor's floor says
-base_reaches : (records : Records) (a : Accepting) (base : List Command) → RecordsSay records a → IsBaseOf records base
+-- a list with which a node may begin is as long as its acceptor's floor says: the record is that of one checkpoint
+base_is_as_long : (found : Option (List ℕ)) (c : Option Checkpointed) (base : List Command) → found ≡ option_map checkpoint_bytes c
+    → IfSome c CheckpointFits → MatchOption found (base ≡ []) (IsCheckpointOf base) → length base ≡ floor_of c
+base_is_as_long None None base e fits is = ap length is
+base_is_as_long None (Some c) base e fits is = absurd cc
+base_is_as_long (Some bytes) None base e fits is = absurd cc
+base_is_as_long (Some bytes) (Some c) base e fits is =
+    is.length_ ∙ ap (λ (d : Checkpointed). d.position)
+    (one_that_fits bytes is.checkpoint c is.fits fits is.spelled (same_Some bytes (checkpoint_bytes c) e))
+
+pub base_reaches : (records : Records) (a : Accepting) (base : List Command) → RecordsSay records a → IsBaseOf records base
     → (length base ≡ a.floor) × (a.floor ≤ SLOTS)
-base_reaches records a base says is = (ap length is ∙ sym says.floor, omega (arith, says.floor))
+base_reaches records a base says is = (
+  base_is_as_long (records key.Checkpoint) says.checkpointed base says.checkpoint_record says.checkpoint_fits is ∙ sym says.floor,
+  floor_in_log records a says,
+)
 
 -- one that has loaded its records is the meaning of each list with which it may begin
 pub loaded_means : (records : Records) (id nodes : ℕ) (m : Mind) (base : List Command) → IsLoaded records id nodes m
     → IsBaseOf records base → IsMeaningOf base m
 loaded_means records id nodes m base h is =
     let reaches = base_reaches records m.accepting base h.accepting is in
-    meaning_begun base m nodes m.accepting.floor h.learning reaches.0 reaches.1 (h.machine base is)
+    meaning_begun base m nodes m.accepting.floor h.learning reaches.0 reaches.1 (h.machine.stands base is)

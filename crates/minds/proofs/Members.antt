@@ -89,7 +89,7 @@ module _ (id nodes : ℕ) (old : Mind) (is : IsMindOf id nodes old) where
     id_ = ap (λ (p : Proposing). p.id) k.1.leaves;
     nodes_ = ap (λ (p : Proposing). p.nodes) k.1.leaves;
   })
-  takes_own input.Tick new said k = changes new old k.0 refl refl refl (own old.proposing)
+  takes_own other new said k = changes new _ k.0 refl refl refl (own old.proposing)
 
 -- ---- a step of it
 module _ {S : Type 0} (storages : Ghosts S) (id nodes : ℕ) (old new : NodeState S) (i : Input) (is : IsMember id nodes old) where

@@ -2,11 +2,12 @@
 use Rattle.std.proofs.Common.{◌≡◌, ◌≤◌, ℕ, ◌^◌, List, [], Option, Some, None, Bool, true, false, nat_le}
 use Rattle.std.proofs.Common.{refl, sym, ap, ◌∙◌, subst, arith}
 use Rattle.std.proofs.lemmas.Bool.{cond_both, leb-false}
-use Rattle.std.proofs.lemmas.Option.{none-some}
+use Rattle.std.proofs.lemmas.Option.{none-some, same_Some}
 use Rattle.byteorder.specs.Endian.{big_bytes}
-use Rattle.stable.specs.Records.{Records, Sets}
+use Rattle.stable.specs.Records.{Records, Change, Sets, Trims, changed}
 use Rattle.stable.specs.declared.key.Key.TheVariants as key
-use Rattle.acceptor.specs.Accepting.{Accepting, Write, records_after, after_prepare}
+use Rattle.acceptor.specs.Accepting.{Accepting, Write, records_after, after_prepare, after_checkpoint, IsTrimWrite, after_trim}
+use Rattle.acceptor.proofs.FloorLemmas.{checkpoint_kept, trim_kept, prepare_covered, accept_covered, checkpoint_covered, trim_covered}
 use Rattle.acceptor.proofs.RecordLemmas.{prepare_kept, accept_kept, RecordsSay-round, prepare_leaves_round, accept_leaves_round}
 use Rattle.acceptor.proofs.VerdictLemmas.{floor_prepared, floor_accepted}
 use Rattle.acceptor.proofs.VoteLemmas.{other_key, promise_is_no_vote, cast_above}
@@ -15,6 +16,7 @@ use Rattle.learner.specs.declared.learned.Learned.{Learned}
 use Rattle.proposer.specs.Proposing.{Proposing, next_round, with_promised}
 use Rattle.proposer.specs.declared.outgoing.Outgoing.{Outgoing}
 use Rattle.sessions.specs.Asked.{Asked}
+use Rattle.sessions.specs.Snapshots.{snapshot_bytes}
 use Rattle.sessions.specs.declared.command.Command.{Command}
 use Rattle.wire.specs.FrameSpelling.{MessageFits}
 use Rattle.wire.specs.RecordForms.{IsRoundRecord}
@@ -25,10 +27,10 @@ use Rattle.minds.specs.declared.fault.NodeFault.TheVariants as fault
 use Rattle.minds.specs.declared.input.Input.{Input}
 use Rattle.minds.specs.declared.input.Input.TheVariants as input
 use Rattle.minds.specs.Inputs.{concerns}
-use Rattle.minds.specs.Minds.{Mind, is_full, refuses, asked, waits}
+use Rattle.minds.specs.Minds.{Mind, position, is_full, refuses, asked, waits}
 use Rattle.minds.specs.Outputs.{Response}
 use Rattle.minds.specs.Protocol.{InputFits, accepting_on, accepting_if, accepting_after, round_after, RecordsHold, SaysRound}
-use Rattle.minds.specs.Taking.{Writes, WritesOnEnvelope, WritesOnMessage, Takes, TakesMessage, TakesEnvelope, Hears}
+use Rattle.minds.specs.Taking.{Writes, WritesOnEnvelope, WritesOnMessage, WritesCheckpoint, Takes, TakesMessage, TakesEnvelope, Hears}
 use Rattle.minds.specs.Taking.{proposed, after_promise, after_submit, with_request, proposer_of, execution}
 use Rattle.minds.proofs.Campaigns.{proposes_keeps, counting_keeps}
 
@@ -43,11 +45,13 @@ message_holds m (Prepare ballot first) records w e fits both =
     subst (λ (x : Write). RecordsHold (records_after records x) (after_prepare m.accepting ballot first) m.proposing.round) (sym e)
     (record {
       acceptor = prepare_kept records m.accepting ballot first fits.0 both.acceptor;
+      covered = prepare_covered m.accepting ballot first both.covered;
       proposer = subst (λ (o : Option (List ℕ)). SaysRound o m.proposing.round)
           (sym (prepare_leaves_round records m.accepting ballot first)) both.proposer;
     })
 message_holds m (Accept v) records w is fits both = record {
   acceptor = accept_kept records m.accepting v w (record { ballot = fits.ballot; command = fits.command }) is both.acceptor;
+  covered = accept_covered m.accepting v both.covered;
   proposer = subst (λ (o : Option (List ℕ)). SaysRound o m.proposing.round)
       (sym (accept_leaves_round records m.accepting v w is)) both.proposer;
 }
@@ -70,6 +74,32 @@ drawn m none =
     let left = round_left m (is_full m) (nat_le (2 ^ 64) (next_round m.proposing)) refl refl none in
     record { begun = omega arith; fits = leb-false (2 ^ 64) (next_round m.proposing) left; spelled = refl }
 
+-- a checkpoint's record is of its form
+checkpoint_holds : (m : Mind) (records : Records) (w : Write) → WritesCheckpoint m w
+    → RecordsHold records m.accepting m.proposing.round
+    → RecordsHold (records_after records w) (after_checkpoint m.accepting (position m) (snapshot_bytes m.machine)) m.proposing.round
+checkpoint_holds m records w writes both =
+    subst (λ (x : Write). RecordsHold (records_after records x) (after_checkpoint m.accepting (position m) (snapshot_bytes m.machine)) m.proposing.round)
+    (sym writes.is) (record {
+      acceptor = checkpoint_kept records m.accepting (position m) (snapshot_bytes m.machine) (omega (arith, writes.above)) writes.in_log
+          (m.machine, writes.fits, refl) both.acceptor;
+      covered = checkpoint_covered records m.accepting (position m) (snapshot_bytes m.machine) both.acceptor;
+      proposer = both.proposer;
+    })
+
+-- only votes are taken out
+trim_leaves_round : (records : Records) (a : Accepting) (w : Write) → IsTrimWrite a w → records_after records w key.Round ≡ records key.Round
+trim_leaves_round records a None is = refl
+trim_leaves_round records a (Some change) is = ap (λ (c : Change). changed records c key.Round) is.1
+
+trim_holds : (m : Mind) (records : Records) (w : Write) → IsTrimWrite m.accepting w → RecordsHold records m.accepting m.proposing.round
+    → RecordsHold (records_after records w) (after_trim m.accepting) m.proposing.round
+trim_holds m records w is both = record {
+  acceptor = trim_kept records m.accepting w both.covered is both.acceptor;
+  covered = trim_covered m.accepting;
+  proposer = subst (λ (o : Option (List ℕ)). SaysRound o m.proposing.round) (sym (trim_leaves_round records m.accepting w is)) both.proposer;
+}
+
 pub written_holds : (m : Mind) (i : Input) (records : Records) (w : Write) → refuses m i ≡ None → Writes m i w → InputFits i
     → RecordsHold records m.accepting m.proposing.round → RecordsHold (records_after records w) (accepting_after m i) (round_after m i)
 written_holds m (input.Submit client number op) records w none e fits both = no_write records w m.accepting m.proposing.round e both
@@ -77,9 +107,12 @@ written_holds m (input.Message e) records w none writes fits both = envelope_hol
 written_holds m input.Timeout records w none e fits both =
     subst (λ (x : Write). RecordsHold (records_after records x) m.accepting (next_round m.proposing)) (sym e) (record {
       acceptor = RecordsSay-round records m.accepting (big_bytes 8 (next_round m.proposing)) both.acceptor;
+      covered = both.covered;
       proposer = drawn m none;
     })
 written_holds m input.Tick records w none e fits both = no_write records w m.accepting m.proposing.round e both
+written_holds m input.Checkpoint records w none writes fits both = checkpoint_holds m records w writes both
+written_holds m input.Trim records w none is fits both = trim_holds m records w is both
 
 -- ---- the floor
 -- no message changes it
@@ -88,14 +121,9 @@ floor_on m (Prepare ballot first) = floor_prepared m.accepting ballot first
 floor_on m (Accept v) = floor_accepted m.accepting v
 floor_on m other = refl
 
-floor_if : (m : Mind) (e : Envelope) (b : Bool) → (accepting_if m e b).floor ≡ m.accepting.floor
+pub floor_if : (m : Mind) (e : Envelope) (b : Bool) → (accepting_if m e b).floor ≡ m.accepting.floor
 floor_if m e false = refl
 floor_if m e true = floor_on m e.message
-
--- nor does any input
-pub floor_after : (m : Mind) (i : Input) → (accepting_after m i).floor ≡ m.accepting.floor
-floor_after m (input.Message e) = floor_if m e (concerns m.id m.nodes e)
-floor_after m other = refl
 
 -- a vote is written at a slot from the floor on
 vote_above_on : (m : Mind) (message : Message) (w : Write) → WritesOnMessage m message w → (slot : ℕ) (bytes : List ℕ)
@@ -110,6 +138,11 @@ vote_above_if : (m : Mind) (e : Envelope) (b : Bool) (w : Write) → WritesOnEnv
 vote_above_if m e false w none slot bytes is = absurd (none-some (Sets (key.Vote slot) bytes) (sym none ∙ is))
 vote_above_if m e true w writes slot bytes is = vote_above_on m e.message w writes slot bytes is
 
+-- a trim writes none
+trim_is_no_vote : (a : Accepting) (w : Write) → IsTrimWrite a w → (slot : ℕ) (bytes : List ℕ) → w ≡ Some (Sets (key.Vote slot) bytes) → ⊥
+trim_is_no_vote a None is slot bytes e = none-some (Sets (key.Vote slot) bytes) e
+trim_is_no_vote a (Some change) is slot bytes e = (let bad : Trims a.floor ≡ Sets (key.Vote slot) bytes = sym is.1 ∙ same_Some _ _ e in absurd cc)
+
 pub vote_above : (m : Mind) (i : Input) (w : Write) → Writes m i w → (slot : ℕ) (bytes : List ℕ) → w ≡ Some (Sets (key.Vote slot) bytes)
     → m.accepting.floor ≤ slot
 vote_above m (input.Submit client number op) w none slot bytes e = absurd (none-some (Sets (key.Vote slot) bytes) (sym none ∙ e))
@@ -117,6 +150,9 @@ vote_above m (input.Message e) w writes slot bytes is = vote_above_if m e (conce
 vote_above m input.Timeout w round slot bytes e =
     absurd (other_key key.Round slot (big_bytes 8 (next_round m.proposing)) bytes (λ same. omega (arith, same)) (sym round ∙ e))
 vote_above m input.Tick w none slot bytes e = absurd (none-some (Sets (key.Vote slot) bytes) (sym none ∙ e))
+vote_above m input.Checkpoint w writes slot bytes e =
+    absurd (other_key key.Checkpoint slot _ bytes (λ same. omega (arith, same)) (sym writes.is ∙ e))
+vote_above m input.Trim w is slot bytes e = absurd (trim_is_no_vote m.accepting w is slot bytes e)
 
 -- ---- that is what the node holds then
 -- a proposer proposes under the round that it has
@@ -174,7 +210,7 @@ held_after m (input.Message e) new said h = held_after_envelope m e (concerns m.
 held_after m input.Timeout new said h =
     with_its_round new m.accepting _ _ (held_as new (record m { proposing = new.proposing }) h.2)
     (ap (λ (p : Proposing). p.round) h.1.leaves)
-held_after m input.Tick new said h = held_as new m h.0
+held_after m other new said h = held_as new _ h.0
 
 pub taken_holds : (m : Mind) (i : Input) (new : Mind) (said : Response) (records : Records) (w : Write) → refuses m i ≡ None
     → Takes m i new said → Writes m i w → InputFits i → RecordsHold records m.accepting m.proposing.round
@@ -184,7 +220,3 @@ taken_holds m i new said records w none takes writes fits both =
     subst (λ (a : Accepting). RecordsHold (records_after records w) a new.proposing.round) (sym held.accepting_)
     (subst (λ (n : ℕ). RecordsHold (records_after records w) (accepting_after m i) n) (sym held.round_)
     (written_holds m i records w none writes fits both))
-
--- nor is the floor another where it takes the input
-pub floor_taken : (m : Mind) (i : Input) (new : Mind) (said : Response) → Takes m i new said → new.accepting.floor ≡ m.accepting.floor
-floor_taken m i new said takes = ap (λ (a : Accepting). a.floor) (held_after m i new said takes).accepting_ ∙ floor_after m i

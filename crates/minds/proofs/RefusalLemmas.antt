@@ -10,7 +10,7 @@ use Rattle.minds.specs.declared.input.Input.{Input}
 use Rattle.minds.specs.declared.input.Input.TheVariants as input
 use Rattle.minds.specs.Faults.{is_stop_fault}
 use Rattle.minds.specs.Inputs.{is_short}
-use Rattle.minds.specs.Minds.{Mind, is_full, waits, asked, refuses, refuses_submit, refuses_timeout}
+use Rattle.minds.specs.Minds.{Mind, position, is_full, waits, asked, refuses, refuses_submit, refuses_timeout, refuses_checkpoint}
 
 -- a fault, if there is one, leaves the node up
 abbrev GoesOn : Option NodeFault → Type 0
@@ -42,8 +42,11 @@ timeout_goes_on m =
     tested (is_full m) fault.LogFull (if used then Some fault.RoundsUsedUp else None) refl
     (tested used fault.RoundsUsedUp None refl goes_on_without)
 
+checkpoint_goes_on : (m : Mind) → GoesOn (refuses_checkpoint m)
+checkpoint_goes_on m = tested (nat_le (position m) m.accepting.floor) fault.NothingNew None refl goes_on_without
+
 pub refusal_goes_on : (m : Mind) (i : Input) (f : NodeFault) → refuses m i ≡ Some f → is_stop_fault f ≡ false
 refusal_goes_on m (input.Submit client number op) = submit_goes_on m (asked client number op)
-refusal_goes_on m (input.Message e) = goes_on_without
 refusal_goes_on m input.Timeout = timeout_goes_on m
-refusal_goes_on m input.Tick = goes_on_without
+refusal_goes_on m input.Checkpoint = checkpoint_goes_on m
+refusal_goes_on m other = goes_on_without

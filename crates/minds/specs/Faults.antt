@@ -7,7 +7,7 @@ use Rattle.proposer.specs.declared.fault.TimeoutFault.TheVariants as timeout_fau
 use Rattle.stable.specs.declared.fault.StableFault.{StableFault}
 use Rattle.stable.specs.declared.fault.StableFault.TheVariants as stable_fault
 use Rattle.minds.specs.declared.fault.NodeFault.{NodeFault}
-use Rattle.minds.specs.declared.fault.NodeFault.TheVariants.{Down, LogFull, RoundsUsedUp, QueueFull, TooLong, Device, Memory, Damaged}
+use Rattle.minds.specs.declared.fault.NodeFault.TheVariants.{Down, LogFull, RoundsUsedUp, QueueFull, TooLong, NothingNew, Device, Memory, Damaged}
 
 -- the number under which it is told
 abbrev pub node_code : NodeFault → ℕ
@@ -19,6 +19,7 @@ node_code TooLong = 45
 node_code Device = 46
 node_code Memory = 47
 node_code Damaged = 48
+node_code NothingNew = 49
 
 -- the node goes down with it
 abbrev pub is_stop_fault : NodeFault → Bool
@@ -27,6 +28,7 @@ is_stop_fault LogFull = false
 is_stop_fault RoundsUsedUp = false
 is_stop_fault QueueFull = false
 is_stop_fault TooLong = false
+is_stop_fault NothingNew = false
 is_stop_fault Device = true
 is_stop_fault Memory = true
 is_stop_fault Damaged = true

@@ -1,5 +1,5 @@
 -- What a node holds that has just loaded its records.
-use Rattle.std.specs.Prelude.{◌≡◌, ℕ, ◌≤◌, ◌⊎◌, List, [], Option, Some, None, Result, IsSome, IfSome, MatchOption, OnOk, OnErr}
+use Rattle.std.specs.Prelude.{◌≡◌, ℕ, ◌≤◌, ◌⊎◌, List, Option, Some, None, Result, IsSome, IfSome, MatchOption, OnOk, OnErr}
 use Rattle.std.specs.Prelude.{IfErr, IsErrOf}
 use Rattle.std.specs.Option.{ForSome}
 use Rattle.stable.specs.Records.{Records}
@@ -7,8 +7,7 @@ use Rattle.stable.specs.declared.key.Key.TheVariants as key
 use Rattle.stable.specs.declared.stable.Stable.{Ghosts}
 use Rattle.acceptor.specs.Accepting.{RecordsSay}
 use Rattle.acceptor.specs.Forms.{HasDamagedRecord}
-use Rattle.sessions.specs.Standing.{StandsFor}
-use Rattle.sessions.specs.declared.command.Command.{Command}
+pub use Rattle.acceptor.specs.Loading.{IsBaseOf, BeginsWith}
 use Rattle.synod.specs.declared.slot.TheConstants.{SLOTS}
 use Rattle.learner.specs.Learning.{unlearnt_from}
 use Rattle.proposer.specs.Proposing.{Proposing, loaded}
@@ -36,10 +35,6 @@ abbrev pub LoadsRound : Option (List ℕ) → ℕ → ℕ → Proposing → Type
 LoadsRound None id nodes p = p ≡ loaded id nodes 0
 LoadsRound (Some bytes) id nodes p = IsRoundRecord bytes p.round × (p ≡ loaded id nodes p.round)
 
--- the lists of commands with which a node may begin that has these records: the empty one alone, as no record holds the text of another
-abbrev pub IsBaseOf : Records → List Command → Type 0
-IsBaseOf records base = base ≡ []
-
 -- the records say what it has promised and voted for, its round, and with which commands it begins; the rest is as at the start
 pub record IsLoaded (records : Records) (id nodes : ℕ) (m : Mind) : Type 0 where
   pub number : m.id ≡ id
@@ -47,7 +42,7 @@ pub record IsLoaded (records : Records) (id nodes : ℕ) (m : Mind) : Type 0 whe
   pub accepting : RecordsSay records m.accepting
   pub learning : m.learning ≡ unlearnt_from nodes m.accepting.floor
   pub proposing : LoadsRound (records key.Round) id nodes m.proposing
-  pub machine : (base : List Command) → IsBaseOf records base → StandsFor m.machine base
+  pub machine : BeginsWith records m.machine
 
 -- the record of the round is that of no round
 abbrev pub HasDamagedRound : Records → Type 0

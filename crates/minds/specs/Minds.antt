@@ -93,11 +93,17 @@ refuses_timeout m =
     else if nat_le (2 ^ 64) (next_round m.proposing) then Some fault.RoundsUsedUp
     else None
 
+-- a checkpoint of no further position than the last
+abbrev pub refuses_checkpoint : Mind → Option NodeFault
+refuses_checkpoint m = if nat_le (position m) m.accepting.floor then Some fault.NothingNew else None
+
 abbrev pub refuses : Mind → Input → Option NodeFault
 refuses m (input.Submit client number op) = refuses_submit m (asked client number op)
 refuses m (input.Message e) = None
 refuses m input.Timeout = refuses_timeout m
 refuses m input.Tick = None
+refuses m input.Checkpoint = refuses_checkpoint m
+refuses m input.Trim = None
 
 -- ---- of which inputs nothing comes, and nothing is written: a request that waits already, and an envelope that doesn't concern
 -- the node
@@ -106,3 +112,5 @@ Ignores m (input.Submit client number op) = (refuses_submit m (asked client numb
 Ignores m (input.Message e) = concerns m.id m.nodes e ≡ false
 Ignores m input.Timeout = ⊥
 Ignores m input.Tick = ⊥
+Ignores m input.Checkpoint = ⊥
+Ignores m input.Trim = ⊥

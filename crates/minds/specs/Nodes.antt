@@ -55,6 +55,7 @@ StorageStops storages old m input fault.LogFull new = ⊥
 StorageStops storages old m input fault.RoundsUsedUp new = ⊥
 StorageStops storages old m input fault.QueueFull new = ⊥
 StorageStops storages old m input fault.TooLong new = ⊥
+StorageStops storages old m input fault.NothingNew new = ⊥
 StorageStops storages old m input fault.Damaged new = ⊥
 
 -- the node goes down

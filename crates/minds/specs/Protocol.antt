@@ -4,11 +4,12 @@ use Rattle.synod.specs.Acts as acts
 use Rattle.synod.specs.Acts.{Fleet, Local, Does}
 use Rattle.synod.specs.History as history
 use Rattle.synod.specs.Records as synod_records
+use Rattle.sessions.specs.Snapshots.{snapshot_bytes}
 use Rattle.sessions.specs.declared.command.Command.{Command}
 use Rattle.sessions.specs.declared.command.Command.TheVariants.{NoOp, Request}
 use Rattle.stable.specs.Records.{Records}
 use Rattle.stable.specs.declared.key.Key.TheVariants as key
-use Rattle.acceptor.specs.Accepting.{Accepting, RecordsSay, after_prepare, after_accept}
+use Rattle.acceptor.specs.Accepting.{Accepting, RecordsSay, IsCovered, after_prepare, after_accept, after_checkpoint, after_trim}
 use Rattle.acceptor.specs.Protocol.{RecordsStand}
 use Rattle.learner.specs.Protocol.{LearnerStands}
 use Rattle.proposer.specs.Proposing.{next_round}
@@ -42,6 +43,8 @@ input_of id nodes (input.Submit client number op) = acts.Nothing
 input_of id nodes (input.Message e) = coming e (concerns id nodes e)
 input_of id nodes input.Timeout = acts.Nothing
 input_of id nodes input.Tick = acts.Nothing
+input_of id nodes input.Checkpoint = acts.Nothing
+input_of id nodes input.Trim = acts.Nothing
 
 -- the commands that it submits
 abbrev pub submissions : Input → List Command
@@ -49,6 +52,8 @@ submissions (input.Submit client number op) = Request (asked client number op) �
 submissions (input.Message e) = []
 submissions input.Timeout = []
 submissions input.Tick = []
+submissions input.Checkpoint = []
+submissions input.Trim = []
 
 -- what node `id` learnt
 abbrev pub learnings : ℕ → Option LogEntry → List (history.Lesson Command)
@@ -88,6 +93,8 @@ InputFits (input.Submit client number op) = ⊤
 InputFits (input.Message e) = MessageFits 7 e.message
 InputFits input.Timeout = ⊤
 InputFits input.Tick = ⊤
+InputFits input.Checkpoint = ⊤
+InputFits input.Trim = ⊤
 
 -- what the acceptor holds once the write of a message, and of an input, is made
 abbrev pub accepting_on : Mind → Message → Accepting
@@ -104,6 +111,8 @@ accepting_after m (input.Submit client number op) = m.accepting
 accepting_after m (input.Message e) = accepting_if m e (concerns m.id m.nodes e)
 accepting_after m input.Timeout = m.accepting
 accepting_after m input.Tick = m.accepting
+accepting_after m input.Checkpoint = after_checkpoint m.accepting (position m) (snapshot_bytes m.machine)
+accepting_after m input.Trim = after_trim m.accepting
 
 -- the round that the proposer has begun last, once the write of an input is made
 abbrev pub round_after : Mind → Input → ℕ
@@ -111,15 +120,19 @@ round_after m (input.Submit client number op) = m.proposing.round
 round_after m (input.Message e) = m.proposing.round
 round_after m input.Timeout = next_round m.proposing
 round_after m input.Tick = m.proposing.round
+round_after m input.Checkpoint = m.proposing.round
+round_after m input.Trim = m.proposing.round
 
 -- what the record of a round says: without one it is 0
 abbrev pub SaysRound : Option (List ℕ) → ℕ → Type 0
 SaysRound None round = round ≡ zero
 SaysRound (Some bytes) round = IsRoundRecord bytes round
 
--- a node's records say that its acceptor holds this, and its proposer this round
+-- a node's records say that its acceptor holds this, and its proposer this round; the votes below the floor are covered by the
+-- promise of the checkpoint, as of every node of a run
 pub record RecordsHold (records : Records) (a : Accepting) (round : ℕ) : Type 0 where
   pub acceptor : RecordsSay records a
+  pub covered : IsCovered a
   pub proposer : SaysRound (records key.Round) round
 
 -- a node's records say what the protocol's do

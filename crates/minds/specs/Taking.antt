@@ -1,12 +1,15 @@
 -- What an input makes of a node that takes it: the one write, what it holds then, and what it says.
-use Rattle.std.specs.Prelude.{◌≡◌, ℕ, ◌-◌, ◌&&◌, List, [], ◌++◌, ◌∷◌, Bool, true, false, Option, Some, None, not, if◌then◌else◌}
+use Rattle.std.specs.Prelude.{◌≡◌, ℕ, ◌<◌, ◌≤◌, ◌-◌, ◌&&◌, List, [], ◌++◌, ◌∷◌, Bool, true, false, Option, Some, None, not, if◌then◌else◌}
 use Rattle.byteorder.specs.Endian.{big_bytes}
+use Rattle.synod.specs.declared.slot.TheConstants.{SLOTS}
 use Rattle.synod.specs.declared.vote.Vote.{Vote}
 use Rattle.stable.specs.declared.key.Key.TheVariants as key
 use Rattle.stable.specs.Records.{Sets}
 use Rattle.sessions.specs.Asked.{Asked}
+use Rattle.sessions.specs.Snapshots.{MachineFits, snapshot_bytes}
 use Rattle.sessions.specs.declared.command.Command.{Command}
 use Rattle.acceptor.specs.declared.answer.Answer.{Answer}
+use Rattle.acceptor.specs.Accepting.{checkpoint_change, after_checkpoint, IsTrimWrite, after_trim}
 use Rattle.acceptor.specs.Accepting.{Write, AnswersPrepare, prepare_write, after_prepare, accept_answer, after_accept, IsAcceptWrite}
 use Rattle.learner.specs.Learning.{Learning, prefix, learnt_at, HearsVote, HearsDecided}
 use Rattle.learner.specs.declared.learned.Learned.{Learned}
@@ -38,11 +41,20 @@ abbrev pub WritesOnEnvelope : Mind → Envelope → Bool → Write → Type 0
 WritesOnEnvelope m e false write = write ≡ None
 WritesOnEnvelope m e true write = WritesOnMessage m e.message write
 
+-- a checkpoint is written: the snapshot text of what is executed, at a position above the floor
+pub record WritesCheckpoint (m : Mind) (write : Write) : Type 0 where
+  pub above : m.accepting.floor < position m
+  pub in_log : position m ≤ SLOTS
+  pub fits : MachineFits m.machine
+  pub is : write ≡ Some (checkpoint_change m.accepting (position m) (snapshot_bytes m.machine))
+
 abbrev pub Writes : Mind → Input → Write → Type 0
 Writes m (input.Submit client number op) write = write ≡ None
 Writes m (input.Message e) write = WritesOnEnvelope m e (concerns m.id m.nodes e) write
 Writes m input.Timeout write = write ≡ Some (Sets key.Round (big_bytes 8 (next_round m.proposing)))
 Writes m input.Tick write = write ≡ None
+Writes m input.Checkpoint write = WritesCheckpoint m write
+Writes m input.Trim write = IsTrimWrite m.accepting write
 
 -- ---- a proposer's part
 -- what a node holds and says where its proposer comes to this, and sends this
@@ -172,3 +184,7 @@ Takes old input.Timeout new said = TakesTimeout old new said
 Takes old input.Tick new said =
     (new ≡ old)
     × (said ≡ sent (envelopes old.id old.nodes (sends_again old.proposing.campaign) ++ ask_others old.id old.nodes (position old)))
+Takes old input.Checkpoint new said =
+    (new ≡ record old { accepting = after_checkpoint old.accepting (position old) (snapshot_bytes old.machine) })
+    × (said ≡ silence)
+Takes old input.Trim new said = (new ≡ record old { accepting = after_trim old.accepting }) × (said ≡ silence)

@@ -47,11 +47,11 @@ pub fn records_go_on()
         → RecordsHold (records_after records write) new.accepting new.proposing.round }
 {}
 
-/// A node that has loaded its records holds what they say, and it stands for the protocol's records and a mind that holds nothing
-/// but its position.
+/// A node that has loaded the records of a run holds what they say, and it stands for the protocol's records and a mind that holds
+/// nothing but its position.
 pub fn loading_is_allowed()
-    ensures holds { (records : Records) (id nodes : ℕ) (m : Mind) → IsLoaded records id nodes m
-        → RecordsHold records m.accepting m.proposing.round }
+    ensures holds { (records : Records) (id nodes : ℕ) (m : Mind) (a : Accepting) (round : ℕ) → IsLoaded records id nodes m
+        → RecordsHold records a round → RecordsHold records m.accepting m.proposing.round }
     ensures stands { (records : Records) (id nodes : ℕ) (m : Mind) (a : Accepting) (round : ℕ) (x : Local Command)
         → IsLoaded records id nodes m → RecordsHold records a round → RecordsStand a round x.records
         → x.mind ≡ record blank { position = position m } → MindStands m x }

@@ -24,6 +24,8 @@ pub enum NodeFault {
     QueueFull,
     /// A sequence to be put has more instants than a request may have.
     TooLong,
+    /// Nothing was executed since the last checkpoint.
+    NothingNew,
     /// The storage failed. The node is down from then on.
     Device,
     /// A growth was refused. The node is down from then on, but for a query, which leaves it as it was.
@@ -46,6 +48,7 @@ impl NodeFault {
             NodeFault::Device => 46,
             NodeFault::Memory => 47,
             NodeFault::Damaged => 48,
+            NodeFault::NothingNew => 49,
         }
     }
 
@@ -68,6 +71,7 @@ impl fmt::Display for NodeFault {
             NodeFault::RoundsUsedUp => "no round is left",
             NodeFault::QueueFull => "as many requests wait as may",
             NodeFault::TooLong => "the sequence is too long for a request",
+            NodeFault::NothingNew => "nothing was executed since the last checkpoint",
             NodeFault::Device => "the storage failed",
             NodeFault::Memory => "out of memory",
             NodeFault::Damaged => "a record is damaged",

@@ -20,6 +20,10 @@ pub enum Input {
     Timeout,
     /// It is time to send again what may have been lost.
     Tick,
+    /// What it has executed is to be written as a checkpoint.
+    Checkpoint,
+    /// The votes that its checkpoint stands for are to be taken out.
+    Trim,
 }
 
 /// Whether an envelope concerns a node of a run of so many: it is addressed to the node, and names no node that the run

@@ -1,6 +1,6 @@
 //! One node: its records, and its roles while it is up.
 
-ghost use Rattle.std.specs.Prelude.{◌≡◌, ◌⊎◌, ◌↔◌, List, Ok, IfErr, IfOk, IfSome, OnOk, IsTrue, true, false, IsSome};
+ghost use Rattle.std.specs.Prelude.{◌≡◌, ◌⊎◌, ◌↔◌, List, Ok, IfErr, IfOk, IfSome, IsErrOf, OnOk, IsTrue, true, false, IsSome};
 ghost use Rattle.std.specs.Prelude.{None, MatchOption};
 
 use super::roles::Roles;
@@ -24,10 +24,12 @@ impl<S: Stable> Node<S> {
     ghost use Rattle.minds.specs.Composition.{IsMeaningOf};
     ghost use Rattle.minds.specs.Faults.{is_stop_fault};
     ghost use Rattle.learner.specs.Prefixes.{IsPrefix};
+    ghost use Rattle.acceptor.specs.Loading.{IsMachineOf};
     ghost use Rattle.minds.specs.Loading.{IsBaseOf, IsLoaded, IsFresh, IsDamaged, IsMember, Restarts};
     ghost use Rattle.minds.specs.Minds.{is_past, position};
     ghost use Rattle.minds.specs.Nodes.{NodeSteps, NodeAnswers, StaysMeaning, AnswersMeaning};
     ghost use Rattle.node.specs.Seen.{state_of};
+    ghost use Rattle.node.specs.Wanting.{IsForRecords, MayWant};
     ghost use Rattle.minds.specs.Outputs.{IsFew, silence};
     ghost use Rattle.minds.specs.declared.input.Input.TheVariants as input;
 
@@ -43,6 +45,7 @@ impl<S: Stable> Node<S> {
         ensures meaning { S.IsHonest (state_of result).storage → IfSome (state_of result).up (λ m.
             (base : List Command) → IsBaseOf (S.contents storage) base → IsMeaningOf base m) }
         ensures position { IfSome (state_of result).up (λ m. position m ≡ m.learning.first) }
+        ensures restored { IfSome (state_of result).up (λ m. IsMachineOf m.accepting.text m.machine) }
         ensures up { IsSome (state_of result).up → S.reads storage (state_of result).storage }
         ensures down { (state_of result).up ≡ None → S.reads storage (state_of result).storage
             ⊎ S.read_fails storage (state_of result).storage }
@@ -70,6 +73,7 @@ impl<S: Stable> Node<S> {
         ensures meaning { S.IsHonest (state_of self.new).storage → IfSome (state_of self.new).up (λ m.
             (base : List Command) → IsBaseOf (S.contents (state_of self.old).storage) base → IsMeaningOf base m) }
         ensures position { IfSome (state_of self.new).up (λ m. position m ≡ m.learning.first) }
+        ensures restored { IfSome (state_of self.new).up (λ m. IsMachineOf m.accepting.text m.machine) }
         ensures settled { OnOk result (S.IsSettled (state_of self.new).storage) }
     {
         self.stop();
@@ -112,6 +116,11 @@ impl<S: Stable> Node<S> {
         ensures steps { NodeSteps S.Stable (state_of self.old) input result (state_of self.new) }
         ensures meaning { StaysMeaning (state_of self.old) result (state_of self.new) }
         ensures few { IfOk result IsFew }
+
+        // After a checkpoint's or a trim's write nothing is wanted, and a trim of nothing is done.
+        ensures unwritten { IsErrOf result NodeFault.Memory → IsForRecords input
+            → S.reads (state_of self.old).storage (state_of self.new).storage }
+        ensures wanted { IfSome (state_of self.old).up (λ m. IfErr result (λ _. MayWant m input)) }
     {
         let Some(roles) = &mut self.roles else {
             return Err(NodeFault::Down);
@@ -145,6 +154,7 @@ impl<S: Stable> Node<S> {
         ensures goes_on { IfErr outcome.now (λ fault. is_stop_fault fault ≡ false → self.new ≡ self.old) }
         ensures stops { IfErr outcome.now (λ fault. is_stop_fault fault ≡ true
             → state_of self.new ≡ record (state_of self.old) { up = None }) }
+        ensures storage { (state_of self.new).storage ≡ (state_of self.old).storage }
     {
         if let Err(fault) = outcome {
             if fault.is_stop() {

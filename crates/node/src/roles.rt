@@ -63,9 +63,11 @@ impl Drop for Roles {
 
 impl Roles {
     ghost use Rattle.minds.specs.Loading.{IsBaseOf, IsLoaded, IsFresh, IsDamaged, IsMindOf};
+    ghost use Rattle.acceptor.specs.Loading.{IsMachineOf};
     ghost use Rattle.minds.specs.Inputs.{concerns};
-    ghost use Rattle.minds.specs.Minds.{Mind, IsSmall, position, asked, waits, refuses, refuses_submit, refuses_timeout, Ignores};
+    ghost use Rattle.minds.specs.Minds.{Mind, IsSmall, position, asked, waits, refuses, refuses_submit, refuses_timeout, refuses_checkpoint, Ignores};
     ghost use Rattle.node.specs.Roles.{mind_of};
+    ghost use Rattle.node.specs.Wanting.{IsForRecords, MayWant};
     ghost use Rattle.minds.specs.Nodes.{HasMade, HasFailedToMake};
     ghost use Rattle.minds.specs.Outputs.{sent, silence};
     ghost use Rattle.minds.specs.Sending.{to_one, ask_sends, decided_sends};
@@ -86,6 +88,7 @@ impl Roles {
         ensures meaning { S.IsHonest storage.new → IfOk result (λ roles.
             (base : List Command) → IsBaseOf (S.contents storage.old) base → IsMeaningOf base (mind_of roles)) }
         ensures position { IfOk result (λ roles. position (mind_of roles) ≡ (mind_of roles).learning.first) }
+        ensures restored { IfOk result (λ roles. IsMachineOf (mind_of roles).accepting.text (mind_of roles).machine) }
         ensures sound { S.IsHonest storage.new → OnOk result (¬ (IsDamaged S.Stable storage.old)) }
         ensures reads { OnOk result (S.reads storage.old storage.new) }
         ensures settled { OnOk result (S.IsSettled storage.new) }
@@ -97,15 +100,16 @@ impl Roles {
         ensures damaged_record { S.IsHonest storage.new → IsErrOf result StableFault.Damaged
             → IsDamaged S.Stable storage.old }
     {
-        let acceptor = Acceptor::load(alloc, storage)?;
+        let (acceptor, machine) = Acceptor::load_with_machine(alloc, storage)?;
         let proposer = Proposer::load(alloc, storage, id, nodes)?;
+        let learner = Learner::start_at(alloc, nodes, acceptor.floor());
         Ok(Roles {
             id,
             nodes,
             acceptor,
-            learner: Learner::new(alloc, nodes),
+            learner,
             proposer,
-            machine: Machine::new(alloc),
+            machine,
             room: Vec::new(alloc),
         })
     }
@@ -193,12 +197,16 @@ impl Roles {
             → HasFailedToMake S.Stable storage.old storage.new (Writes (mind_of self.old) input) }
         ensures memory { IsErrOf result NodeFault.Memory → S.reads storage.old storage.new
             ⊎ HasMade S.Stable storage.old storage.new (Writes (mind_of self.old) input) }
+        ensures unwritten { IsErrOf result NodeFault.Memory → IsForRecords input → S.reads storage.old storage.new }
+        ensures wanted { IfErr result (λ _. MayWant (mind_of self.old) input) }
     {
         match input {
             Input::Submit { client, number, op } => self.submit(alloc, client, number, op),
             Input::Message(envelope) => self.receive(alloc, storage, &envelope),
             Input::Timeout => self.timeout(alloc, storage),
             Input::Tick => self.tick(alloc),
+            Input::Checkpoint => self.checkpoint(alloc, storage),
+            Input::Trim => self.trim(alloc, storage),
         }
     }
 
@@ -266,6 +274,50 @@ impl Roles {
         send_each(alloc, &mut sends, self.id, self.nodes, again)?;
         send_asks(alloc, &mut sends, self.id, self.nodes, self.position())?;
         Ok(Outputs::sent(alloc, sends))
+    }
+
+    /// What it has executed is written as a checkpoint of its position. That is refused where the last is of no lower position.
+    // The text is made before it is written: after the write nothing may be refused.
+    fn checkpoint<S: Stable>(
+        &mut self,
+        alloc: Global,
+        storage: &mut S,
+    ) -> Result<Outputs, NodeFault>
+        ensures takes { IfOk result (λ said.
+            Takes (mind_of self.old) input.Checkpoint (mind_of self.new) said) }
+        ensures written { OnOk result (HasMade S.Stable storage.old storage.new
+            (Writes (mind_of self.old) input.Checkpoint)) }
+        ensures refuses { IfSome (refuses_checkpoint (mind_of self.old)) (λ fault. (result ≡ Err fault)
+            × (mind_of self.new ≡ mind_of self.old) × (storage.new ≡ storage.old)) }
+        ensures err { IfErr result (λ fault. (fault ≡ NodeFault.Device) ⊎ (fault ≡ NodeFault.Memory)
+            ⊎ (refuses_checkpoint (mind_of self.old) ≡ Some fault)) }
+        ensures device { IsErrOf result NodeFault.Device
+            → HasFailedToMake S.Stable storage.old storage.new (Writes (mind_of self.old) input.Checkpoint) }
+        ensures memory { IsErrOf result NodeFault.Memory → S.reads storage.old storage.new }
+    {
+        let position = self.position();
+        if position <= self.floor() {
+            return Err(NodeFault::NothingNew);
+        }
+        let text = self.machine.snapshot(alloc)?;
+        self.acceptor.checkpoint(alloc, storage, position, &text)?;
+        Ok(Outputs::silence(alloc))
+    }
+
+    /// The votes below the floor are taken out.
+    fn trim<S: Stable>(&mut self, alloc: Global, storage: &mut S) -> Result<Outputs, NodeFault>
+        ensures takes { IfOk result (λ said.
+            Takes (mind_of self.old) input.Trim (mind_of self.new) said) }
+        ensures written { OnOk result (HasMade S.Stable storage.old storage.new
+            (Writes (mind_of self.old) input.Trim)) }
+        ensures err { IfErr result (λ fault. (fault ≡ NodeFault.Device) ⊎ (fault ≡ NodeFault.Memory)) }
+        ensures device { IsErrOf result NodeFault.Device
+            → HasFailedToMake S.Stable storage.old storage.new (Writes (mind_of self.old) input.Trim) }
+        ensures memory { IsErrOf result NodeFault.Memory → S.reads storage.old storage.new }
+        ensures wanted { IfErr result (λ _. MayWant (mind_of self.old) input.Trim) }
+    {
+        self.acceptor.trim(alloc, storage)?;
+        Ok(Outputs::silence(alloc))
     }
 
     /// An envelope has come. One that doesn't concern the node is ignored.

@@ -58,3 +58,6 @@ returns-clause-meaning g c = λ honest base is.
 
 pub returns-clause-position : goal.returns-clause-position
 returns-clause-position g c = c.in_ok-roles.ensures.position
+
+pub returns-clause-restored : goal.returns-clause-restored
+returns-clause-restored g c = c.in_ok-roles.ensures.restored

@@ -22,3 +22,6 @@ returns-in-Ok-clause-meaning g c = λ honest base is. c.in-Ok.ensures.meaning ho
 
 pub returns-in-Ok-clause-position : goal.returns-in-Ok-clause-position
 returns-in-Ok-clause-position g c = c.in-Ok.ensures.position
+
+pub returns-in-Ok-clause-restored : goal.returns-in-Ok-clause-restored
+returns-in-Ok-clause-restored g c = c.in-Ok.ensures.restored

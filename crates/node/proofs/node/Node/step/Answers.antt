@@ -1,4 +1,6 @@
-use Rattle.std.proofs.Common.{◌≡◌, Some, None, option_map, ap}
+use Rattle.std.proofs.Common.{◌≡◌, Option, Some, None, option_map, IfSome, IfErr, ap, sym, subst}
+use Rattle.minds.specs.Minds.{Mind}
+use Rattle.node.specs.Wanting.{MayWant}
 use Rattle.std.proofs.lemmas.Result.{IfOk-weaker, IfErr-weaker}
 use Rattle.node.specs.Seen.{state_of}
 use Rattle.node.specs.Roles.{mind_of}
@@ -31,10 +33,19 @@ returns g c =
             c.take-result.ensures.takes;
       };
       few = said_few c.args.input m n r c.see_small.ensures c.take-result.ensures.takes;
+      unwritten = λ memory alone. subst (λ s. g.S.Stable.reads c.args.self.now.storage s) (sym c.stop_after.ensures.storage)
+          (c.take-result.ensures.unwritten memory alone);
+      wanted = subst (λ (o : Option Mind). IfSome o (λ m. IfErr r (λ _. MayWant m c.args.input))) (sym up) c.take-result.ensures.wanted;
     }
 
 -- it is down
 pub returns-in_default : goal.returns-in_default
 returns-in_default g c =
     let down : (state_of c.args.self.now).up ≡ None = ap (λ o. option_map mind_of o) c.in_default.is in
-    record { steps = steps_down _ _ _ down; meaning = stays_down _ down; few = tt }
+    record {
+      steps = steps_down _ _ _ down;
+      meaning = stays_down _ down;
+      few = tt;
+      unwritten = λ memory. absurd cc;
+      wanted = subst (λ (o : Option Mind). IfSome o (λ m. MayWant m c.args.input)) (sym down) tt;
+    }

@@ -1,11 +1,10 @@
-use Rattle.std.proofs.Common.{◌≡◌, ℕ, zero, ◌≤◌, List, Option, Some, None, MatchOption, IfSome, inl, inr, rules, sym, ap, ◌∙◌, subst, arith}
+use Rattle.std.proofs.Common.{◌≡◌, ℕ, ◌≤◌, List, Option, Some, None, MatchOption, IfSome, inl, inr, rules, sym, ap, ◌∙◌, subst, arith}
 use Rattle.stable.specs.Records.{Records}
 use Rattle.stable.specs.declared.key.Key.TheVariants as key
 use Rattle.acceptor.specs.Forms.{IsOfItsForm, AreOfTheirForm, HasDamagedRecord}
 use Rattle.wire.specs.RecordForms.{IsRoundRecord}
 use Rattle.synod.specs.declared.slot.TheConstants.{SLOTS}
-use Rattle.sessions.specs.Standing.{StandsFor}
-use Rattle.learner.specs.Learning.{Learning, unlearnt, unlearnt_from}
+use Rattle.learner.specs.Learning.{Learning, unlearnt_from}
 use Rattle.minds.specs.Loading.{LoadsRound}
 use Rattle.proposer.specs.Proposing.{Proposing, loaded}
 use Rattle.minds.proofs.Learnt.{fresh_begins, loaded_means}
@@ -46,14 +45,13 @@ returns-clause-loads g c = λ honest.
     let still = law.reads_honest _ _ c.in_ok-proposer.ensures.reads honest in
     let same = law.reads_contents _ _ c.in_ok-acceptor.ensures.reads still in
     let round = round_loaded _ _ _ _ (c.in_ok-proposer.ensures.round honest) in
-    let told = c.in_ok-acceptor.ensures.told still in
     record {
       number = search rules;
       of_all = search rules;
-      accepting = told;
-      learning = c.new.ensures ∙ ap (unlearnt_from c.args.nodes) (sym told.floor);
+      accepting = c.in_ok-acceptor.ensures.told still;
+      learning = c.start_at-learner.ensures ∙ ap (unlearnt_from c.args.nodes) c.floor.ensures.value;
       proposing = subst (λ records. LoadsRound (records key.Round) c.args.id c.args.nodes c.in_ok-proposer.proposer) same round;
-      machine = λ base is. subst (StandsFor c.new-2.result) (sym is) c.new-2.ensures.stands;
+      machine = c.in_ok-acceptor.ensures.machine still;
     }
 
 pub returns-clause-reads : goal.returns-clause-reads
@@ -67,15 +65,15 @@ returns-clause-settled g c =
 pub returns-clause-meaning : goal.returns-clause-meaning
 returns-clause-meaning g c = λ honest base is. loaded_means _ c.args.id c.args.nodes _ base (returns-clause-loads g c honest) is
 
-begins_fresh : (learning : Learning) (nodes : ℕ) → learning ≡ unlearnt nodes
+begins_fresh : (learning : Learning) (nodes first : ℕ) → learning ≡ unlearnt_from nodes first → first ≤ SLOTS
     → (learning ≡ unlearnt_from nodes learning.first) × (learning.first ≤ SLOTS)
-begins_fresh learning nodes e =
-    let zero_ : learning.first ≡ zero = ap (λ (l : Learning). l.first) e in
-    (e ∙ ap (unlearnt_from nodes) (sym zero_), omega (arith, zero_))
+begins_fresh learning nodes first e within =
+    let at : learning.first ≡ first = ap (λ (l : Learning). l.first) e in
+    (e ∙ ap (unlearnt_from nodes) (sym at), omega (arith, at, within))
 
 pub returns-clause-fresh : goal.returns-clause-fresh
 returns-clause-fresh g c =
-    let begins = begins_fresh _ c.args.nodes c.new.ensures in record {
+    let begins = begins_fresh _ c.args.nodes _ c.start_at-learner.ensures c.floor.ensures.in_log in record {
       learning = begins.0;
       first_in_log = begins.1;
       proposing = c.in_ok-proposer.ensures.own;
@@ -84,11 +82,14 @@ returns-clause-fresh g c =
 pub returns-clause-position : goal.returns-clause-position
 returns-clause-position g c = fresh_begins c.args.id c.args.nodes _ (returns-clause-fresh g c)
 
+pub returns-clause-restored : goal.returns-clause-restored
+returns-clause-restored g c = c.in_ok-acceptor.ensures.restored
+
 pub returns-clause-own : goal.returns-clause-own
 returns-clause-own g c = record {
   number = search rules;
   of_all = search rules;
-  learning = ap (λ (l : Learning). l.nodes) c.new.ensures;
+  learning = ap (λ (l : Learning). l.nodes) c.start_at-learner.ensures;
   proposing = (
     ap (λ (p : Proposing). p.id) c.in_ok-proposer.ensures.own,
     ap (λ (p : Proposing). p.nodes) c.in_ok-proposer.ensures.own,

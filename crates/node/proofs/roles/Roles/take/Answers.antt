@@ -15,6 +15,8 @@ returns-in-Submit g c = rw c.in-Submit.is (record {
   device = λ is. absurd (memory_or_refused c.submit.result (mind_of c.args.self.now)
       (input.Submit c.in-Submit.client c.in-Submit.number c.in-Submit.op) c.submit.ensures.err is);
   memory = λ _. inl (g.met.S.Stable.laws.reads_none _);
+  unwritten = λ _ alone. absurd alone;
+  wanted = IfErr-weaker c.submit.result _ _ (λ _ _. tt) c.submit.ensures.err;
 })
 
 pub returns-in-Message : goal.returns-in-Message
@@ -26,6 +28,8 @@ returns-in-Message g c = rw c.in-Message.is (record {
   ignores = c.receive.ensures.ignores;
   device = c.receive.ensures.device;
   memory = c.receive.ensures.memory;
+  unwritten = λ _ alone. absurd alone;
+  wanted = IfErr-weaker c.receive.result _ _ (λ _ _. tt) c.receive.ensures.err;
 })
 
 pub returns-in-Timeout : goal.returns-in-Timeout
@@ -37,6 +41,8 @@ returns-in-Timeout g c = rw c.in-Timeout.is (record {
   ignores = λ is. absurd is;
   device = c.timeout.ensures.device;
   memory = c.timeout.ensures.memory;
+  unwritten = λ _ alone. absurd alone;
+  wanted = IfErr-weaker c.timeout.result _ _ (λ _ _. tt) c.timeout.ensures.err;
 })
 
 pub returns-in-Tick : goal.returns-in-Tick
@@ -48,4 +54,32 @@ returns-in-Tick g c = rw c.in-Tick.is (record {
   ignores = λ is. absurd is;
   device = λ is. absurd (memory_alone c.tick.result c.tick.ensures.err is);
   memory = λ _. inl (g.met.S.Stable.laws.reads_none _);
+  unwritten = λ _ alone. absurd alone;
+  wanted = IfErr-weaker c.tick.result _ _ (λ _ _. tt) c.tick.ensures.err;
+})
+
+pub returns-in-Checkpoint : goal.returns-in-Checkpoint
+returns-in-Checkpoint g c = rw c.in-Checkpoint.is (record {
+  takes = c.checkpoint.ensures.takes;
+  written = c.checkpoint.ensures.written;
+  refuses = c.checkpoint.ensures.refuses;
+  err = c.checkpoint.ensures.err;
+  ignores = λ is. absurd is;
+  device = c.checkpoint.ensures.device;
+  memory = λ memory. inl (c.checkpoint.ensures.memory memory);
+  unwritten = λ memory _. c.checkpoint.ensures.memory memory;
+  wanted = IfErr-weaker c.checkpoint.result _ _ (λ _ _. tt) c.checkpoint.ensures.err;
+})
+
+pub returns-in-Trim : goal.returns-in-Trim
+returns-in-Trim g c = rw c.in-Trim.is (record {
+  takes = c.trim.ensures.takes;
+  written = c.trim.ensures.written;
+  refuses = tt;
+  err = IfErr-weaker c.trim.result _ _ (λ _ w. elim w [ inl device ↦ inl device | inr memory ↦ inr (inl memory) ]) c.trim.ensures.err;
+  ignores = λ is. absurd is;
+  device = c.trim.ensures.device;
+  memory = λ memory. inl (c.trim.ensures.memory memory);
+  unwritten = λ memory _. c.trim.ensures.memory memory;
+  wanted = c.trim.ensures.wanted;
 })
