@@ -5,6 +5,7 @@ ghost use Rattle.std.specs.Prelude.{IsErrOf, vec_capacity};
 ghost use Rattle.std.specs.Prelude.{OnErr, OnOk, Option, Some, ℕ, option_map};
 ghost use Rattle.wire.specs.declared.frames.envelope.TheConstants.{LONGEST_FRAME};
 ghost use Rattle.history.specs.Events.{NamesNoFrame, NamesNoNode};
+ghost use Rattle.history.specs.Progress.{PromisesProgress};
 ghost use Rattle.history.specs.Rounds.{IsPartOfRound, NamesNoMember, RoundEnds};
 ghost use Rattle.history.specs.Staying.{IsSafeOver};
 ghost use Rattle.history.specs.Worlds.{Steps};
@@ -150,6 +151,8 @@ impl<T: Transport> Cluster<T> {
         members: &[NodeId],
     ) -> Result<RoundEnd, WorldFault>
         ensures ends { IfOk result (λ end. RoundEnds (⟦<Scripted<MemStable> as Stable>⟧)
+            (world_in self.old) node members.now end (world_in self.new)) }
+        ensures progress { IfOk result (λ end. PromisesProgress (λ _. Unit {0})
             (world_in self.old) node members.now end (world_in self.new)) }
         ensures sends { HasPassed (⟦<T as Transport>⟧)
             self.old.transport (sendings (world_in self.old) (world_in self.new)) self.new.transport }

@@ -2,6 +2,7 @@
 
 ghost use Rattle.std.specs.Prelude.{◌≡◌, ◌+◌, ◌<◌, ◌↔◌, ◌⊎◌, length, IfErr, IfOk, IsErrOf, MatchOption, OnErr, OnOk, Some, slice_get};
 ghost use Rattle.history.specs.Events.{NamesNoFrame, NamesNoNode};
+ghost use Rattle.history.specs.Progress.{PromisesProgress};
 ghost use Rattle.history.specs.Rounds.{IsPartOfRound, NamesNoMember, RoundEnds};
 ghost use Rattle.world.specs.Seen.{world_of};
 ghost use Rattle.history.specs.Staying.{IsSafeOver};
@@ -75,6 +76,8 @@ impl IndexedWorld {
         members: &[NodeId],
     ) -> Result<RoundEnd, WorldFault>
         ensures ends { IfOk result (λ end. RoundEnds (⟦<Scripted<MemStable> as Stable>⟧)
+            (world_of self.old.world) node members.now end (world_of self.new.world)) }
+        ensures progress { IfOk result (λ end. PromisesProgress (λ _. Unit {0})
             (world_of self.old.world) node members.now end (world_of self.new.world)) }
 
         // Each fault.

@@ -23,6 +23,10 @@ pub enum Event {
     Timeout(NodeId),
     /// A node sends again what may have been lost.
     Tick(NodeId),
+    /// A node writes what it has executed as a checkpoint.
+    Checkpoint(NodeId),
+    /// A node takes out the votes that its checkpoint stands for.
+    Trim(NodeId),
     /// A node loses what is not in its records, and starts from these.
     Restart(NodeId),
     /// A node's next put, or the reading with which its next restart begins, fails so.

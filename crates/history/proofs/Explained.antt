@@ -5,6 +5,8 @@ use Rattle.std.proofs.lemmas.Bool.{cases_eq}
 use Rattle.std.proofs.lemmas.List.Elements.{Contains-append_left, Contains-append_right, Contains-append_cases, Contains-push}
 use Rattle.std.proofs.lemmas.List.Elements.{Contains-push_cases}
 use Rattle.std.proofs.lemmas.Option.{same_Some, slice_get_within}
+use Rattle.stable.specs.Records.{Records}
+use Rattle.stable.specs.Script.{Script}
 use Rattle.synod.specs.declared.slot.TheConstants.{SLOTS}
 use Rattle.synod.proofs.Thinking.{none_in}
 use Rattle.sessions.specs.Meaning.{Answers}
@@ -46,10 +48,10 @@ table_only f n i c e =
 
 -- ---- what nodes have learnt begins the list
 -- each command of the one stands at its place in the other
-abbrev IsBeginning : List Command → List Command → Type 0
+abbrev pub IsBeginning : List Command → List Command → Type 0
 IsBeginning log l = (i : ℕ) (c : Command) → slice_get log i ≡ Some c → slice_get l i ≡ Some c
 
-begins_with : (log l : List Command) → IsBeginning log l → (length log ≤ length l) × (take (length log) l ≡ log)
+pub begins_with : (log l : List Command) → IsBeginning log l → (length log ≤ length l) × (take (length log) l ≡ log)
 begins_with [] l b = (omega arith, refl)
 begins_with (c ∷ log) [] b = absurd (let h : None ≡ Some c = b zero c refl in cc)
 begins_with (c ∷ log) (d ∷ l) b =
@@ -180,9 +182,9 @@ module _ (submitted : List Submission) (learnt : List Learnt) (agree : LearntAgr
     answer_there a t = answer_of whole t.log a (begins_so t.log t.known) t.position t.answers
 
 -- what is told is explained
-pub explained : {S : Type 0} (w : WorldState S) → Tells w → LearntAgree w.learnt → LearntInLog w.learnt
+pub explained : {S : Type 0} (contents : Script S → Records) (w : WorldState S) → Tells contents w → LearntAgree w.learnt → LearntInLog w.learnt
     → LearntGrounded w.submitted w.learnt → IsExplained w.submitted w.learnt w.replies w.answers
-explained w tells agree in_log grounded = record {
+explained contents w tells agree in_log grounded = record {
   log = whole w.submitted w.learnt agree grounded SLOTS in_log;
   explains = record {
     fits = fits_there w.submitted w.learnt agree grounded SLOTS in_log;

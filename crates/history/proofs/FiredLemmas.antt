@@ -171,6 +171,7 @@ module _ {S : Type 0} {storages : Ghosts (Script S)} (calls : CountsCalls storag
   stopped old new m i fault.RoundsUsedUp h = absurd h
   stopped old new m i fault.QueueFull h = absurd h
   stopped old new m i fault.TooLong h = absurd h
+  stopped old new m i fault.NothingNew h = absurd h
   stopped old new m i fault.Damaged h = absurd h
 
   refused : (old new : NodeState (Script S)) (m : Mind) (i : Input) (f : NodeFault) (b : Bool)

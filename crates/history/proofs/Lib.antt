@@ -1,6 +1,7 @@
 -- one node of a world
 pub mod StorageLaws
 pub mod RestartLemmas
+pub mod FloorLemmas
 pub mod NodeMoves
 pub mod Casting
 pub mod ListedPuts
@@ -20,15 +21,19 @@ pub mod Longer
 pub mod Explained
 pub mod Validity
 pub mod InLog
+pub mod CheckpointPuts
+pub mod OwnBallots
+pub mod OfTheRun
 pub mod PromisesStand
+pub mod Texts
 pub mod OneAnswer
+pub mod OneReply
 pub mod TallyLemmas
 -- rounds by hand
 pub mod RoundMembers
 pub mod RoundBeginnings
 pub mod RoundLemmas
 -- what a round that nothing disturbs comes to, phase by phase
-pub mod OwnBallots
 pub mod RoundPremises
 pub mod Handing
 pub mod Leading
@@ -46,3 +51,4 @@ pub mod FiredLemmas
 pub mod FramesGrow
 -- all of it, for every step, flush and round
 pub mod SoundSteps
+pub mod PromisesKept

@@ -1,5 +1,5 @@
 -- Where a node comes to in the protocol, and what its list of writes tells there.
-use Rattle.std.proofs.Common.{◌≡◌, ◌⊎◌, ℕ, ◌<◌, ◌≤◌, inl, inr, List, [], map, Bool, true, false, Option, Some, None, IfSome, IsSome, IfOk}
+use Rattle.std.proofs.Common.{◌≡◌, ◌⊎◌, ℕ, ◌+◌, ◌<◌, ◌≤◌, inl, inr, List, [], map, Bool, true, false, Option, Some, None, IfSome, IsSome, IfOk}
 use Rattle.std.proofs.Common.{IfErr, OnOk, OnErr, Contains, MatchBool, Result, Ok, Err, refl, sym, ap, subst, ◌∙◌, rules, arith}
 use Rattle.std.specs.Prelude.{◌↔◌}
 use Rattle.std.proofs.lemmas.List.Elements.{Contains-append_left}
@@ -8,20 +8,23 @@ use Rattle.synod.specs.Records as synod_records
 use Rattle.synod.specs.Records.{VoteWrite}
 use Rattle.synod.specs.Volatile as synod_volatile
 use Rattle.synod.specs.Acts as act
-use Rattle.synod.specs.Acts.{Local, Does}
+use Rattle.synod.specs.Acts.{Local, Does, Brings}
 use Rattle.synod.specs.Invariant.{AreSound}
+use Rattle.synod.specs.Messages.{Accept}
 use Rattle.synod.specs.Runs as synod_runs
 use Rattle.synod.specs.Runs.{placed, HasCome, IsReached}
 use Rattle.synod.specs.declared.vote.Vote.{Vote}
 use Rattle.synod.proofs.Doing.{does_nothing, does_one, does_then}
 use Rattle.synod.proofs.Puts.{put_same, put_other}
 use Rattle.synod.proofs.Running.{does_reaches, reached_holds}
-use Rattle.stable.specs.Records.{Records}
+use Rattle.stable.specs.Records.{Records, Sets, Trims, rank}
 use Rattle.stable.specs.Script.{Script}
 use Rattle.stable.specs.Script as script
+use Rattle.stable.specs.declared.key.Key.TheVariants as key
 use Rattle.stable.specs.declared.stable.Stable.{Ghosts}
 use Rattle.stable.specs.Storages.{IsLawful}
 use Rattle.acceptor.specs.Accepting.{Write, HasWritten, HasFailed}
+use Rattle.acceptor.specs.Spelling.{vote_bytes}
 use Rattle.sessions.specs.declared.command.Command.{Command}
 use Rattle.minds.specs.declared.fault.NodeFault.{NodeFault}
 use Rattle.minds.specs.declared.fault.NodeFault.TheVariants as fault
@@ -32,12 +35,13 @@ use Rattle.minds.specs.Minds.{Mind}
 use Rattle.minds.specs.Nodes.{NodeState, NodeSteps, TakesInput, RefusesInput, StopsOnInput, StorageStops}
 use Rattle.minds.specs.Outputs.{Response}
 use Rattle.minds.specs.Protocol.{fleet, frame_of, input_of, InputFits, HoldsRecords, MindStands}
+use Rattle.minds.specs.Taking.{Writes, WritesCheckpoint}
 use Rattle.minds.proofs.AllowedLoading.{blank_at}
 use Rattle.minds.proofs.RecordsGoOn.{vote_above}
 use Rattle.history.specs.Reaching.{NodeStands, PutsStand, StandsAt}
 use Rattle.history.specs.Voting.{vote_put, HasVote}
 use Rattle.history.proofs.ListedPuts.{GoesOn, KeepsPuts, put_by, sets_put, same_goes, same_lists}
-use Rattle.history.proofs.NodeMoves.{NodeMoves, node_moves, sends_of, learnt_of, submitted_of}
+use Rattle.history.proofs.NodeMoves.{IsLevelOn, NodeMoves, node_moves, sends_of, learnt_of, submitted_of}
 use Rattle.history.proofs.RestartLemmas.{begins_at, restart_stands}
 use Rattle.history.proofs.VotesStand.{puts_go_on, listed_when_sure}
 
@@ -160,19 +164,59 @@ sound_after nodes w i input y reached came does =
 
 -- ---- what an input makes of a node's list of writes
 -- the node has gone down, and its list is as it was
-record WentDown {S : Type 0} (old new : NodeState (Script S)) (r : Result Response NodeFault) : Type 0 where
-  fault_ : NodeFault
-  failed : r ≡ Err fault_
-  down : new.up ≡ None
-  list : new.storage.writes ≡ old.storage.writes
+pub record WentDown {S : Type 0} (old new : NodeState (Script S)) (r : Result Response NodeFault) : Type 0 where
+  pub fault_ : NodeFault
+  pub failed : r ≡ Err fault_
+  pub down : new.up ≡ None
+  pub list : new.storage.writes ≡ old.storage.writes
 
-record ListGoesOn {S : Type 0} (contents : Script S → Records) (m : Mind) (old new : NodeState (Script S))
+-- what becomes of its storage: the one put that is made, if one is, is that of the input
+pub record ListGoesOn {S : Type 0} (contents : Script S → Records) (m : Mind) (input : Input) (old new : NodeState (Script S))
     (r : Result Response NodeFault) : Type 0 where
-  made : Write
-  -- a vote is put at a slot from the floor on
-  above : (v : Vote Command) → put_by made ≡ Some (vote_put v) → m.accepting.floor ≤ v.slot
-  goes : GoesOn contents (put_by made) old.storage new.storage
-  sure : (new.storage.unsure ≡ None) ⊎ WentDown old new r
+  pub made : Write
+  pub writes : (made ≡ None) ⊎ Writes m input made
+  pub goes : GoesOn contents (put_by made) old.storage new.storage
+  pub sure : old.storage.unsure ≡ None → (new.storage.unsure ≡ None) ⊎ WentDown old new r
+
+-- of a node that is up or not
+pub record NodeGoesOn {S : Type 0} (contents : Script S → Records) (input : Input) (old new : NodeState (Script S)) : Type 0 where
+  pub made : Write
+  pub writes : (made ≡ None) ⊎ ((m : Mind) × (old.up ≡ Some m) × Writes m input made)
+  pub goes : GoesOn contents (put_by made) old.storage new.storage
+
+-- the place of the key of what is put, if something is
+abbrev place_of : Write → ℕ
+place_of None = 0
+place_of (Some (Trims below)) = 0
+place_of (Some (Sets k bytes)) = rank k
+
+-- a checkpoint puts no vote
+checkpoint_puts_no_vote : (m : Mind) (w : Write) (v : Vote Command) → WritesCheckpoint m w → w ≡ Some (Sets (key.Vote v.slot) (vote_bytes v)) → ⊥
+checkpoint_puts_no_vote m w v writes e =
+    let places : 0 ≡ v.slot + 3 = ap place_of (sym writes.is ∙ e) in
+    absurd (omega (arith, places))
+
+-- a vote is put at a slot from the floor on
+made_above : {S : Type 0} {contents : Script S → Records} (m : Mind) (input : Input) (old new : NodeState (Script S))
+    (r : Result Response NodeFault) (on : ListGoesOn contents m input old new r) (before after : ℕ) → before ≡ m.accepting.floor
+    → IsLevelOn input before after → (v : Vote Command) → put_by on.made ≡ Some (vote_put v) → after ≤ v.slot
+made_above m input old new r on before after floor level v e = elim on.writes [
+  | inl none ↦ absurd (none-some (vote_put v) (ap put_by (sym none) ∙ e))
+  | inr writes ↦ elim level [
+    | inl checkpoint ↦ absurd (checkpoint_puts_no_vote m on.made v (subst (λ (i : Input). Writes m i on.made) checkpoint writes)
+        (sets_put on.made (vote_put v) e))
+    | inr same ↦
+        let above : m.accepting.floor ≤ v.slot = vote_above m input on.made writes v.slot _ (sets_put on.made (vote_put v) e) in
+        omega (arith, above, floor, same)
+  ]
+]
+
+-- where an accept has come the floor is what it was
+accept_levels : (nodes i : ℕ) (input : Input) (before after : ℕ) → IsLevelOn input before after → (v : Vote Command)
+    → Brings (input_of i nodes input) (Accept v) → after ≡ before
+accept_levels nodes i input before after (inl checkpoint) v brings =
+    absurd (subst (λ (x : Input). Brings (input_of i nodes x) (Accept v)) checkpoint brings)
+accept_levels nodes i input before after (inr same) v brings = same
 
 -- node i may come on this input to what stands for it, and tells this on the way
 pub record NodeComes {S : Type 0} (contents : Script S → Records) (nodes i : ℕ) (input : Input) (w : synod_runs.World Command)
@@ -226,66 +270,108 @@ module _ {S : Type 0} {storages : Ghosts (Script S)} (laws : IsLawful storages)
   -- ---- an input
   stopped : (old new : NodeState (Script S)) (m : Mind) (input : Input) (f : NodeFault)
       → StorageStops storages old.storage m input f new.storage
-      → new.up ≡ None → old.storage.unsure ≡ None → storages.IsHonest new.storage → ListGoesOn storages.contents m old new (Err f)
-  stopped old new m input fault.Device h down sure honest = record {
+      → new.up ≡ None → storages.IsHonest new.storage → ListGoesOn storages.contents m input old new (Err f)
+  stopped old new m input fault.Device h down honest = record {
     made = h.write;
-    above = λ v e. vote_above m input h.write h.made v.slot _ (sets_put h.write (vote_put v) e);
+    writes = inr h.made;
     goes = failed_goes old.storage new.storage h.write h.leaves honest;
-    sure = elim (failed_list old.storage new.storage h.write h.leaves sure) [
+    sure = λ sure. elim (failed_list old.storage new.storage h.write h.leaves sure) [
       | inl now ↦ inl now
       | inr list ↦ inr (record { fault_ = fault.Device; failed = refl; down = down; list = list })
     ];
   }
-  stopped old new m input fault.Memory (inl h) down sure honest =
+  stopped old new m input fault.Memory (inl h) down honest =
       record {
         made = None;
-        above = λ v e. absurd (none-some (vote_put v) e);
+        writes = inl refl;
         goes = lists.reads_on old.storage new.storage h honest;
-        sure = inl (read_sure old.storage new.storage h sure);
+        sure = λ sure. inl (read_sure old.storage new.storage h sure);
       }
-  stopped old new m input fault.Memory (inr h) down sure honest = record {
+  stopped old new m input fault.Memory (inr h) down honest = record {
     made = h.write;
-    above = λ v e. vote_above m input h.write h.made v.slot _ (sets_put h.write (vote_put v) e);
+    writes = inr h.made;
     goes = written_goes old.storage new.storage h.write h.leaves honest;
-    sure = inl (written_sure old.storage new.storage h.write h.leaves sure);
+    sure = λ sure. inl (written_sure old.storage new.storage h.write h.leaves sure);
   }
-  stopped old new m input fault.Down h down sure honest = absurd h
-  stopped old new m input fault.LogFull h down sure honest = absurd h
-  stopped old new m input fault.RoundsUsedUp h down sure honest = absurd h
-  stopped old new m input fault.QueueFull h down sure honest = absurd h
-  stopped old new m input fault.TooLong h down sure honest = absurd h
-  stopped old new m input fault.Damaged h down sure honest = absurd h
+  stopped old new m input fault.Down h down honest = absurd h
+  stopped old new m input fault.LogFull h down honest = absurd h
+  stopped old new m input fault.RoundsUsedUp h down honest = absurd h
+  stopped old new m input fault.QueueFull h down honest = absurd h
+  stopped old new m input fault.TooLong h down honest = absurd h
+  stopped old new m input fault.NothingNew h down honest = absurd h
+  stopped old new m input fault.Damaged h down honest = absurd h
 
-  unchanged : (old new : NodeState (Script S)) (m : Mind) (r : Result Response NodeFault) → new ≡ old → old.storage.unsure ≡ None
-      → ListGoesOn storages.contents m old new r
-  unchanged old new m r e sure =
-      subst (λ (n : NodeState (Script S)). ListGoesOn storages.contents m old n r) (sym e)
-      (record {
+  stays_goes : (a b : Script S) → b ≡ a → GoesOn storages.contents None a b
+  stays_goes a b e = subst (λ (s : Script S). GoesOn storages.contents None a s) (sym e)
+      (same_goes storages.contents None a a (same_lists storages.contents a a refl refl refl))
+
+  unchanged : (old new : NodeState (Script S)) (m : Mind) (input : Input) (r : Result Response NodeFault) → new ≡ old
+      → ListGoesOn storages.contents m input old new r
+  unchanged old new m input r e =
+      let same : new.storage ≡ old.storage = ap (λ (n : NodeState (Script S)). n.storage) e in
+      record {
         made = None;
-        above = λ v e. absurd (none-some (vote_put v) e);
-        goes = same_goes storages.contents None old.storage old.storage
-            (same_lists storages.contents old.storage old.storage refl refl refl);
-        sure = inl sure;
-      })
+        writes = inl refl;
+        goes = stays_goes old.storage new.storage same;
+        sure = λ sure. inl (ap (λ (s : Script S). s.unsure) same ∙ sure);
+      }
 
   list_refused : (old new : NodeState (Script S)) (m : Mind) (input : Input) (f : NodeFault) (b : Bool)
-      → MatchBool b (StopsOnInput storages old m input f new) (RefusesInput old m input f new) → old.storage.unsure ≡ None
-      → storages.IsHonest new.storage → ListGoesOn storages.contents m old new (Err f)
-  list_refused old new m input f true h sure honest =
-      stopped old new m input f h.storage (ap (λ (n : NodeState (Script S)). n.up) h.leaves) sure honest
-  list_refused old new m input f false h sure honest = unchanged old new m (Err f) h.leaves sure
+      → MatchBool b (StopsOnInput storages old m input f new) (RefusesInput old m input f new)
+      → storages.IsHonest new.storage → ListGoesOn storages.contents m input old new (Err f)
+  list_refused old new m input f true h honest =
+      stopped old new m input f h.storage (ap (λ (n : NodeState (Script S)). n.up) h.leaves) honest
+  list_refused old new m input f false h honest = unchanged old new m input (Err f) h.leaves
 
   list_on : (old new : NodeState (Script S)) (m : Mind) (input : Input) (r : Result Response NodeFault)
       → IfOk r (λ told. TakesInput storages old m input told new)
       → IfErr r (λ f. MatchBool (is_stop_fault f) (StopsOnInput storages old m input f new) (RefusesInput old m input f new))
-      → old.storage.unsure ≡ None → storages.IsHonest new.storage → ListGoesOn storages.contents m old new r
-  list_on old new m input (Ok told) h refused sure honest = record {
+      → storages.IsHonest new.storage → ListGoesOn storages.contents m input old new r
+  list_on old new m input (Ok told) h refused honest = record {
     made = h.made.write;
-    above = λ v e. vote_above m input h.made.write h.made.made v.slot _ (sets_put h.made.write (vote_put v) e);
+    writes = inr h.made.made;
     goes = written_goes old.storage new.storage h.made.write h.made.leaves honest;
-    sure = inl (written_sure old.storage new.storage h.made.write h.made.leaves sure);
+    sure = λ sure. inl (written_sure old.storage new.storage h.made.write h.made.leaves sure);
   }
-  list_on old new m input (Err f) taken h sure honest = list_refused old new m input f (is_stop_fault f) h sure honest
+  list_on old new m input (Err f) taken h honest = list_refused old new m input f (is_stop_fault f) h honest
+
+  -- a node that is up
+  list_up : (old new : NodeState (Script S)) (m : Mind) (input : Input) (r : Result Response NodeFault) → old.up ≡ Some m
+      → NodeSteps storages old input r new → storages.IsHonest new.storage → ListGoesOn storages.contents m input old new r
+  list_up old new m input r up h honest =
+      list_on old new m input r
+      (subst (λ (o : Option Mind). IfSome o (λ n. IfOk r (λ told. TakesInput storages old n input told new))) up h.taken)
+      (subst (λ (o : Option Mind). IfSome o (λ n. IfErr r (λ f. MatchBool (is_stop_fault f)
+      (StopsOnInput storages old n input f new) (RefusesInput old n input f new)))) up h.refused) honest
+
+  goes_by_mind : (old new : NodeState (Script S)) (input : Input) (r : Result Response NodeFault) (o : Option Mind) → old.up ≡ o
+      → NodeSteps storages old input r new → storages.IsHonest new.storage → NodeGoesOn storages.contents input old new
+  goes_by_mind old new input r None up h honest = record {
+    made = None;
+    writes = inl refl;
+    goes = stays_goes old.storage new.storage (ap (λ (n : NodeState (Script S)). n.storage) (h.down up).1);
+  }
+  goes_by_mind old new input r (Some m) up h honest =
+      let on = list_up old new m input r up h honest in
+      record {
+        made = on.made;
+        writes = elim on.writes [ inl none ↦ inl none | inr writes ↦ inr (m, up, writes) ];
+        goes = on.goes;
+      }
+
+  -- what an input makes of a node's storage
+  pub node_goes : (old new : NodeState (Script S)) (input : Input) (r : Result Response NodeFault) → NodeSteps storages old input r new
+      → storages.IsHonest new.storage → NodeGoesOn storages.contents input old new
+  node_goes old new input r h honest = goes_by_mind old new input r old.up refl h honest
+
+  -- and a restart
+  pub restart_goes : (old new : NodeState (Script S)) (r : Result (Unit {0}) NodeFault) → Restarts storages old r new
+      → storages.IsHonest new.storage → GoesOn storages.contents None old.storage new.storage
+  restart_goes old new (Ok x) h honest = lists.reads_on old.storage new.storage h.up.1 honest
+  restart_goes old new (Err f) h honest = elim h.other [
+    | inl device ↦ lists.read_fails_on old.storage new.storage (h.device (ap failed_with device)) honest
+    | inr other ↦ lists.reads_on old.storage new.storage other.1 honest
+  ]
 
   module _ (nodes i : ℕ) (there : i < nodes) (few : nodes ≤ 7) (w : synod_runs.World Command) (reached : IsReached (fleet nodes) w) where
     -- a node that is down, or refuses, does nothing
@@ -356,17 +442,15 @@ module _ {S : Type 0} {storages : Ghosts (Script S)} (laws : IsLawful storages)
         subst (λ (y : Local Command). PutsStand storages.contents old.storage y.records) (s.sure sure) s.puts in
         let moves : NodeMoves storages.contents nodes i input x new r =
         node_moves laws nodes i there few old new input r x h stands member fits honest in
-        let on : ListGoesOn storages.contents m old new r = list_on old new m input r
-        (subst (λ (o : Option Mind). IfSome o (λ n. IfOk r (λ told. TakesInput storages old n input told new))) up h.taken)
-        (subst (λ (o : Option Mind). IfSome o (λ n. IfErr r (λ f. MatchBool (is_stop_fault f)
-        (StopsOnInput storages old n input f new) (RefusesInput old n input f new)))) up h.refused) sure honest in
+        let on : ListGoesOn storages.contents m input old new r = list_up old new m input r up h honest in
         arrives old new input r new.storage.unsure refl came s moves
         (puts_go_on storages.contents (fleet nodes) i (input_of i nodes input) (put_by on.made) x moves.after old.storage new moves.does
         (record {
-          put_above = λ v e. omega (arith, on.above v e, moves.floor_, floor_up storages.contents old m x up stands);
-          same_floor = λ v came_. moves.floor_;
+          put_above = made_above m input old new r on x.records.floor moves.after.records.floor
+              (floor_up storages.contents old m x up stands) moves.floor_;
+          same_floor = accept_levels nodes i input x.records.floor moves.after.records.floor moves.floor_;
         }) on.goes moves.stands
-        (sound_after nodes w i (input_of i nodes input) moves.after reached came moves.does) stand) on.sure
+        (sound_after nodes w i (input_of i nodes input) moves.after reached came moves.does) stand) (on.sure sure)
 
     -- a node comes to what stands for it after an input
     pub node_comes : (old new : NodeState (Script S)) (input : Input) (r : Result Response NodeFault)
@@ -376,14 +460,6 @@ module _ {S : Type 0} {storages : Ghosts (Script S)} (laws : IsLawful storages)
     node_comes old new input r came h s member fits honest = by_mind old new input r old.up refl came h s member fits honest
 
     -- ---- a restart
-    restart_goes : (old new : NodeState (Script S)) (r : Result (Unit {0}) NodeFault) → Restarts storages old r new
-        → storages.IsHonest new.storage → GoesOn storages.contents None old.storage new.storage
-    restart_goes old new (Ok x) h honest = lists.reads_on old.storage new.storage h.up.1 honest
-    restart_goes old new (Err f) h honest = elim h.other [
-      | inl device ↦ lists.read_fails_on old.storage new.storage (h.device (ap failed_with device)) honest
-      | inr other ↦ lists.reads_on old.storage new.storage other.1 honest
-    ]
-
     restart_list : (old new : NodeState (Script S)) (r : Result (Unit {0}) NodeFault) → Restarts storages old r new
         → (new.storage.unsure ≡ None) ⊎ ((new.storage.writes ≡ old.storage.writes) × (new.storage.unsure ≡ old.storage.unsure))
     restart_list old new (Ok x) h = lists.reads_unsure old.storage new.storage h.up.1

@@ -15,6 +15,7 @@ use Rattle.wire.specs.declared.frames.envelope.Envelope.{Envelope}
 use Rattle.minds.specs.declared.fault.NodeFault.{NodeFault}
 use Rattle.minds.specs.declared.fault.NodeFault.TheVariants as fault
 use Rattle.minds.specs.declared.input.Input.{Input}
+use Rattle.minds.specs.declared.input.Input.TheVariants.{Checkpoint}
 use Rattle.minds.specs.Faults.{is_stop_fault}
 use Rattle.minds.specs.Loading.{IsMember, IsMindOf}
 use Rattle.minds.specs.Minds.{Mind, refuses}
@@ -25,9 +26,10 @@ use Rattle.minds.specs.Protocol.{HoldsRecords, accepting_after, round_after}
 use Rattle.minds.specs.Taking.{Writes}
 use Rattle.minds.proofs.AllowedStopping.{unwritten_allowed, written_allowed}
 use Rattle.minds.proofs.AllowedTaking.{taking_allowed}
-use Rattle.minds.proofs.RecordsGoOn.{written_holds, taken_holds, floor_after, floor_taken}
+use Rattle.minds.proofs.RecordsGoOn.{written_holds, taken_holds}
 use Rattle.minds.proofs.RefusalLemmas.{refusal_goes_on}
 use Rattle.history.specs.Reaching.{NodeStands}
+use Rattle.history.proofs.FloorLemmas.{floor_left, floor_then}
 use Rattle.history.proofs.StorageLaws.{written_honest, written_contents, failed_honest, failed_contents}
 
 -- what a node said: the frames, what it learnt, what was submitted to it
@@ -43,13 +45,21 @@ abbrev pub submitted_of : Input → Result Response NodeFault → List Command
 submitted_of input (Ok said) = submissions input
 submitted_of input (Err f) = []
 
+-- no input but a checkpoint changes the floor
+abbrev pub IsLevelOn : Input → ℕ → ℕ → Type 0
+IsLevelOn input old new = (input ≡ Checkpoint) ⊎ (new ≡ old)
+
+leveled : (input : Input) (old mid new : ℕ) → new ≡ mid → IsLevelOn input old mid → IsLevelOn input old new
+leveled input old mid new same (inl checkpoint) = inl checkpoint
+leveled input old mid new same (inr level) = inr (same ∙ level)
+
 -- some allowed acts lead from x to what stands for the node then, and tell this
 pub record NodeMoves {S : Type 0} (contents : Script S → Records) (nodes i : ℕ) (input : Input) (x : Local Command)
     (new : NodeState (Script S)) (result : Result Response NodeFault) : Type 0 where
   pub after : Local Command
   pub does : Does (fleet nodes) i (input_of i nodes input) x after
   pub stands : NodeStands contents new after
-  pub floor_ : after.records.floor ≡ x.records.floor
+  pub floor_ : IsLevelOn input x.records.floor after.records.floor
   pub sent : after.sent ≡ x.sent ++ map frame_of (sends_of result)
   pub learnt : after.learnt ≡ x.learnt ++ learnt_of i result
   pub submitted : after.submitted ≡ x.submitted ++ submitted_of input result
@@ -74,15 +84,16 @@ module _ {S : Type 0} {storages : Ghosts (Script S)} (laws : IsLawful storages)
     after = x;
     does = does_nothing (fleet nodes) i (input_of i nodes input) x;
     stands = stands;
-    floor_ = refl;
+    floor_ = inr refl;
     sent = sym (append-nil x.sent);
     learnt = sym (append-nil x.learnt);
     submitted = sym (append-nil x.submitted);
   }
 
-  -- a node that has gone down with these records, and the floor that it had
+  -- a node that has gone down with these records
   stops : (input : Input) (x : Local Command) (new : NodeState (Script S)) (f : NodeFault) (a : Accepting) (round : ℕ) → new.up ≡ None
-      → a.floor ≡ x.records.floor → RecordsHold (storages.contents new.storage) a round → MayStop nodes i (input_of i nodes input) x a round
+      → IsLevelOn input x.records.floor a.floor → RecordsHold (storages.contents new.storage) a round
+      → MayStop nodes i (input_of i nodes input) x a round
       → NodeMoves storages.contents nodes i input x new (Err f)
   stops input x new f a round down level holds s = record {
     after = stopping x s.records;
@@ -92,7 +103,7 @@ module _ {S : Type 0} {storages : Ghosts (Script S)} (laws : IsLawful storages)
       up = subst (λ (o : Option Mind). IfSome o (λ m. HoldsRecords m (storages.contents new.storage) × MindStands m (stopping x s.records)))
           (sym down) tt;
     };
-    floor_ = s.stands.floor_ ∙ level;
+    floor_ = leveled input x.records.floor a.floor _ s.stands.floor_ level;
     sent = sym (append-nil x.sent);
     learnt = sym (append-nil x.learnt);
     submitted = sym (append-nil x.submitted);
@@ -109,6 +120,13 @@ module _ {S : Type 0} {storages : Ghosts (Script S)} (laws : IsLawful storages)
       let both : HoldsRecords m (storages.contents old.storage) × MindStands m x =
       subst (λ (o : Option Mind). IfSome o (λ n. HoldsRecords n (storages.contents old.storage) × MindStands n x)) up stands.up in
       record { holds = both.0; mind = both.1 }
+
+  level_after : (m : Mind) (input : Input) (x : Local Command) → MindStands m x
+      → IsLevelOn input x.records.floor (accepting_after m input).floor
+  level_after m input x mind = elim (floor_left m input) [
+    | inl checkpoint ↦ inl checkpoint
+    | inr same ↦ inr (same ∙ sym mind.records.floor_)
+  ]
 
   takes : (old new : NodeState (Script S)) (m : Mind) (input : Input) (said : Response) (x : Local Command) → StandsUp old m x
       → IsMindOf i nodes m
@@ -130,7 +148,9 @@ module _ {S : Type 0} {storages : Ghosts (Script S)} (laws : IsLawful storages)
               × MindStands k t.after))
               (sym h.leaves) (holds, t.stands);
         };
-        floor_ = t.stands.records.floor_ ∙ floor_taken m input h.mind said h.takes ∙ sym up.mind.records.floor_;
+        floor_ = leveled input x.records.floor (accepting_after m input).floor _
+            (t.stands.records.floor_ ∙ floor_then m input h.mind said (storages.contents old.storage) h.made.write none h.takes h.made.made
+            fits up.holds) (level_after m input x up.mind);
         sent = t.sent;
         learnt = t.learnt;
         submitted = t.submitted;
@@ -141,7 +161,7 @@ module _ {S : Type 0} {storages : Ghosts (Script S)} (laws : IsLawful storages)
       → IsMindOf i nodes m → new.up ≡ None → storages.contents new.storage ≡ storages.contents old.storage
       → NodeMoves storages.contents nodes i input x new (Err f)
   stops_as_it_was old new m input f x up mind down same =
-      stops input x new f m.accepting m.proposing.round down (sym up.mind.records.floor_) (other_records same up.holds)
+      stops input x new f m.accepting m.proposing.round down (inr (sym up.mind.records.floor_)) (other_records same up.holds)
       (unwritten_allowed nodes i m (input_of i nodes input) x mind up.mind)
 
   stops_with : (old new : NodeState (Script S)) (m : Mind) (input : Input) (f : NodeFault) (w : Write) (x : Local Command)
@@ -152,7 +172,7 @@ module _ {S : Type 0} {storages : Ghosts (Script S)} (laws : IsLawful storages)
       → NodeMoves storages.contents nodes i input x new (Err f)
   stops_with old new m input f w x up mind fits none made down (inl same) = stops_as_it_was old new m input f x up mind down same
   stops_with old new m input f w x up mind fits none made down (inr written) =
-      stops input x new f (accepting_after m input) (round_after m input) down (floor_after m input ∙ sym up.mind.records.floor_)
+      stops input x new f (accepting_after m input) (round_after m input) down (level_after m input x up.mind)
       (other_records written (written_holds m input (storages.contents old.storage) w none made fits up.holds))
       (written_allowed nodes i m input x (omega (arith, there, few)) mind up.mind)
 
@@ -173,6 +193,7 @@ module _ {S : Type 0} {storages : Ghosts (Script S)} (laws : IsLawful storages)
   stops_by old new m input fault.RoundsUsedUp x up mind fits none h down honest = absurd h
   stops_by old new m input fault.QueueFull x up mind fits none h down honest = absurd h
   stops_by old new m input fault.TooLong x up mind fits none h down honest = absurd h
+  stops_by old new m input fault.NothingNew x up mind fits none h down honest = absurd h
   stops_by old new m input fault.Damaged x up mind fits none h down honest = absurd h
 
   -- what is to be refused doesn't stop the node
@@ -229,7 +250,8 @@ module _ {S : Type 0} {storages : Ghosts (Script S)} (laws : IsLawful storages)
       → storages.IsHonest new.storage → NodeMoves storages.contents nodes i input x new r
   node_moves old new input r x h stands member fits honest = by_mind old new input r x old.up refl h stands member fits honest
 
-  -- ---- a storage that is honest afterwards was so before
+-- ---- a storage that is honest afterwards was so before
+module _ {S : Type 0} {storages : Ghosts (Script S)} (laws : IsLawful storages) where
   honest_stopped : (old new : NodeState (Script S)) (m : Mind) (input : Input) (f : NodeFault)
       → StorageStops storages old.storage m input f new.storage → storages.IsHonest new.storage → storages.IsHonest old.storage
   honest_stopped old new m input fault.Device h honest = failed_honest laws old.storage new.storage h.write h.leaves honest
@@ -240,6 +262,7 @@ module _ {S : Type 0} {storages : Ghosts (Script S)} (laws : IsLawful storages)
   honest_stopped old new m input fault.RoundsUsedUp h honest = absurd h
   honest_stopped old new m input fault.QueueFull h honest = absurd h
   honest_stopped old new m input fault.TooLong h honest = absurd h
+  honest_stopped old new m input fault.NothingNew h honest = absurd h
   honest_stopped old new m input fault.Damaged h honest = absurd h
 
   honest_refused : (old new : NodeState (Script S)) (m : Mind) (input : Input) (f : NodeFault) (b : Bool)

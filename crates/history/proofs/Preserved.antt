@@ -35,6 +35,8 @@ taken_of node (input.Submit client number op) false = []
 taken_of node (input.Message e) b = []
 taken_of node input.Timeout b = []
 taken_of node input.Tick b = []
+taken_of node input.Checkpoint b = []
+taken_of node input.Trim b = []
 
 -- an input that is the node's own: nobody submits, and no frame comes
 pub record IsItsOwn (i : Input) : Type 0 where
@@ -72,6 +74,12 @@ own_timeout = record { fits = tt; unasked = λ node nodes. refl; unsubmitted = �
 own_tick : IsItsOwn input.Tick
 own_tick = record { fits = tt; unasked = λ node nodes. refl; unsubmitted = λ node taken. refl }
 
+own_checkpoint : IsItsOwn input.Checkpoint
+own_checkpoint = record { fits = tt; unasked = λ node nodes. refl; unsubmitted = λ node taken. refl }
+
+own_trim : IsItsOwn input.Trim
+own_trim = record { fits = tt; unasked = λ node nodes. refl; unsubmitted = λ node taken. refl }
+
 nothing : BringsNothing (Done 0 0)
 nothing = record { learnt = refl; replies = refl; answers = refl }
 
@@ -94,6 +102,8 @@ module _ {S : Type 0} {storages : Ghosts (Script S)} {R : WorldState S → Event
   step_holds old (event.Drop k) new h = p.loses old (event.Drop k) k (Done 0 0) new nothing h
   step_holds old (event.Timeout node) new h = p.takes old (event.Timeout node) node input.Timeout h.0 new h.1 own_timeout
   step_holds old (event.Tick node) new h = p.takes old (event.Tick node) node input.Tick h.0 new h.1 own_tick
+  step_holds old (event.Checkpoint node) new h = p.takes old (event.Checkpoint node) node input.Checkpoint h.0 new h.1 own_checkpoint
+  step_holds old (event.Trim node) new h = p.takes old (event.Trim node) node input.Trim h.0 new h.1 own_trim
   step_holds old (event.Restart node) new h = p.restarts old node new h
   step_holds old (event.Fault node failing) new h = p.arms old (event.Fault node failing) node failing new h
   step_holds old (event.Query node query) new h = p.answers old (event.Query node query) node query new h

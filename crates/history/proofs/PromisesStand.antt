@@ -1,6 +1,6 @@
 -- Whatever promise was put at a node is of a node of the run.
-use Rattle.std.proofs.Common.{◌≡◌, ◌==◌, ◌&&◌, ◌⊎◌, ℕ, zero, ◌<◌, nat_lt, inl, inr, List, [], ◌∷◌, ◌++◌, length, slice_get, slice_set}
-use Rattle.std.proofs.Common.{Bool, true, false, if◌then◌else◌, Option, Some, None, IfSome, IfOk, IfErr, MatchBool, Result, Ok, Err}
+use Rattle.std.proofs.Common.{◌≡◌, ◌==◌, ◌&&◌, ℕ, zero, ◌<◌, nat_lt, inl, inr, List, [], ◌∷◌, ◌++◌, length, slice_get, slice_set}
+use Rattle.std.proofs.Common.{Bool, true, false, if◌then◌else◌, Option, Some, None, Result}
 use Rattle.std.proofs.Common.{refl, sym, ap, subst, ◌∙◌, arith}
 use Rattle.std.specs.Int.{bytes_high_first}
 use Rattle.std.proofs.Math.ListN.{length-set}
@@ -9,8 +9,8 @@ use Rattle.std.proofs.lemmas.Option.{same_Some, none-some}
 use Rattle.synod.specs.Ballots.{rank_of}
 use Rattle.synod.specs.Ballots as ballots
 use Rattle.synod.specs.declared.ballot.Ballot.{Ballot}
-use Rattle.stable.specs.Records.{Records, Sets, Trims, rank}
-use Rattle.stable.specs.Script.{Script, Shows}
+use Rattle.stable.specs.Records.{Records, Change, Sets, rank}
+use Rattle.stable.specs.Script.{Script}
 use Rattle.stable.specs.Script as script
 use Rattle.stable.specs.declared.key.Key.{Key}
 use Rattle.stable.specs.declared.key.Key.TheVariants as key
@@ -20,35 +20,34 @@ use Rattle.stable.specs.Storages.{IsLawful}
 use Rattle.wire.specs.declared.frames.envelope.Envelope.{Envelope}
 use Rattle.wire.specs.declared.frames.message.Message.{Message}
 use Rattle.wire.specs.declared.frames.message.Message.TheVariants.{Prepare, Accept}
-use Rattle.acceptor.specs.Accepting.{Accepting, Write, HasWritten, HasFailed, records_after, IsAcceptWrite}
+use Rattle.acceptor.specs.Accepting.{Accepting, Write, RecordsSay, IsAcceptWrite, IsTrimWrite}
 use Rattle.acceptor.specs.Accepting.{Verdict, Refused, Behind, Taken, verdict, if_taken}
 use Rattle.acceptor.proofs.VerdictLemmas.{judged, refused as is_refused, behind as is_behind, taken as is_taken}
+use Rattle.acceptor.specs.Forms.{CheckpointFits}
 use Rattle.acceptor.specs.Spelling.{ballot_bytes}
+use Rattle.wire.specs.RecordForms.{Checkpointed, checkpoint_bytes}
 use Rattle.minds.specs.declared.fault.NodeFault.{NodeFault}
-use Rattle.minds.specs.declared.fault.NodeFault.TheVariants as fault
 use Rattle.minds.specs.declared.input.Input.{Input}
 use Rattle.minds.specs.declared.input.Input.TheVariants as input
-use Rattle.minds.specs.Faults.{is_stop_fault}
 use Rattle.minds.specs.Inputs.{names_run, concerns}
 use Rattle.minds.specs.Loading.{IsMember, Restarts}
-use Rattle.minds.specs.Minds.{Mind}
-use Rattle.minds.specs.Nodes.{NodeState, NodeSteps, TakesInput, RefusesInput, StopsOnInput, StorageStops}
+use Rattle.minds.specs.Minds.{Mind, promised}
+use Rattle.minds.specs.Nodes.{NodeState, NodeSteps}
 use Rattle.minds.specs.Outputs.{Response}
 use Rattle.minds.specs.Taking.{WritesOnMessage, WritesOnEnvelope, Writes}
 use Rattle.events.specs.declared.event.Event.{Event}
 use Rattle.history.specs.Fleets.{IsFleet}
 use Rattle.history.specs.Flushing.{IsStart}
-use Rattle.history.specs.Reaching.{HoldsPut, AreHonest, IsAllowed}
+use Rattle.history.specs.Reaching.{AreHonest, IsAllowed}
 use Rattle.history.specs.Safety.{PromisesAmong, PromisesOfRun}
-use Rattle.history.specs.Worlds.{WorldState, TakesAt, Steps, with_node, without_wait}
+use Rattle.history.specs.Worlds.{WorldState, mind_in, mind_at, TakesAt, Steps, with_node, without_wait}
+use Rattle.history.proofs.CheckpointPuts.{checkpoint_put}
 use Rattle.history.proofs.FleetSteps.{set_at}
-use Rattle.history.proofs.ListedPuts.{GoesOn, KeepsPuts, same_lists, same_goes, put_cases, put_by, left_shows}
-use Rattle.history.proofs.NodeComes.{written_goes, failed_goes}
+use Rattle.history.proofs.ListedPuts.{GoesOn, KeepsPuts, same_lists, same_goes, put_by, sets_put}
+use Rattle.history.proofs.NodeComes.{NodeGoesOn, node_goes, restart_goes}
+use Rattle.history.proofs.OfTheRun.{up_at, promise_of_run}
 use Rattle.history.proofs.Preserved.{HoldsOf, step_holds, recorded_nodes, submission_nodes, answered_nodes}
-use Rattle.history.proofs.RestartLemmas.{failed_with}
 use Rattle.history.proofs.SafetyLemmas.{none_put}
-use Rattle.history.proofs.StorageLaws.{written_contents, failed_contents}
-use Rattle.history.proofs.VotesStand.{held_shown}
 use Rattle.history.proofs.WorldMoves.{set_there}
 
 -- ---- the node of a ballot is the last byte of its spelling
@@ -107,6 +106,12 @@ cast_among nodes a v write h b e =
           (h.cast (record { taken = same; fresh = λ stands. some (h.already stands) })) b e
     ]
 
+-- a trim puts nothing
+trim_among : (nodes : ℕ) (a : Accepting) (write : Write) → IsTrimWrite a write → WritesAmong nodes write
+trim_among nodes a None h b e = absurd (none-some (Sets key.Promise (ballot_bytes b)) e)
+trim_among nodes a (Some change) h b e =
+    absurd (none-some (key.Promise, ballot_bytes b) (ap (λ (x : Change). put_by (Some x)) (sym h.1) ∙ ap put_by e))
+
 -- on a message that names the run
 message_among : (m : Mind) (message : Message) (write : Write) → names_run m.nodes message ≡ true → WritesOnMessage m message write
     → WritesAmong m.nodes write
@@ -134,137 +139,98 @@ input_among m (input.Submit client number op) write w = none_among m.nodes write
 input_among m (input.Message e) write w = envelope_among m e write (concerns m.id m.nodes e) refl w
 input_among m input.Timeout write w = other_among m.nodes write key.Round _ (λ zero_. absurd (omega arith)) w
 input_among m input.Tick write w = none_among m.nodes write w
+input_among m input.Checkpoint write w = other_among m.nodes write key.Checkpoint _ (λ zero_. absurd (omega arith)) w.is
+input_among m input.Trim write w = trim_among m.nodes m.accepting write w
 
--- ---- what records show after a write
--- what they show of promises they showed before, or it is of one of so many nodes
-abbrev ShowsAmong : ℕ → Records → Records → Type 0
-ShowsAmong nodes before after = (b : Ballot) → Shows after (key.Promise, ballot_bytes b)
-    → Shows before (key.Promise, ballot_bytes b) ⊎ (b.node < nodes)
+-- ---- what is put
+-- a promise that is put, alone or in a checkpoint, is of one of so many nodes
+record PutsAmong (nodes : ℕ) (made : Option script.Write) : Type 0 where
+  alone : (b : Ballot) → made ≡ Some (key.Promise, ballot_bytes b) → b.node < nodes
+  sealed : (c : Checkpointed) (b : Ballot) → CheckpointFits c → made ≡ Some (key.Checkpoint, checkpoint_bytes c) → c.promise ≡ Some b
+      → b.node < nodes
 
-after_among : (nodes : ℕ) (before : Records) (write : Write) → WritesAmong nodes write
-    → ShowsAmong nodes before (records_after before write)
-after_among nodes before None among b shows = inl shows
-after_among nodes before (Some (Trims below)) among b shows = inl (left_shows before below (key.Promise, ballot_bytes b) shows)
-after_among nodes before (Some (Sets other bytes)) among b shows =
-    elim (put_cases before other bytes (key.Promise, ballot_bytes b) shows) [
-      | inl this ↦ inr (among b (ap (λ (w : script.Write). Some (Sets w.0 w.1)) this))
-      | inr old ↦ inl old
-    ]
+nothing_among : (nodes : ℕ) → PutsAmong nodes None
+nothing_among nodes = record {
+  alone = λ b e. absurd (none-some (key.Promise, ballot_bytes b) e);
+  sealed = λ c b fits e is. absurd (none-some (key.Checkpoint, checkpoint_bytes c) e);
+}
 
-same_among : (nodes : ℕ) (before after : Records) → after ≡ before → ShowsAmong nodes before after
-same_among nodes before after same b shows = inl (subst (λ (r : Records). Shows r (key.Promise, ballot_bytes b)) same shows)
+-- what a node that is up puts, as it has promised a ballot of such a node
+puts_among : (records : Records) (m : Mind) (i : Input) (write : Write) → RecordsSay records m.accepting
+    → ((b : Ballot) → promised m ≡ Some b → b.node < m.nodes) → Writes m i write → PutsAmong m.nodes (put_by write)
+puts_among records m i write says of_run writes = record {
+  alone = λ b e. input_among m i write writes b (sets_put write (key.Promise, ballot_bytes b) e);
+  sealed = λ c b fits e is.
+      let put = checkpoint_put records m i write says writes c fits e in
+      let same : c.promise ≡ promised m = ap (λ (x : Checkpointed). x.promise) put.is in
+      of_run b (sym same ∙ is);
+}
 
 -- ---- nothing is put yet
 pub start_promises : {S : Type 0} (storages : Ghosts (Script S)) (count : ℕ) (w : WorldState S) → IsStart storages count w
     → PromisesOfRun storages.contents w.nodes
-start_promises storages count w start i n here b t =
-    absurd (none_put n.storage (key.Promise, ballot_bytes b) (start.nodes.each i n here).unused t)
+start_promises storages count w start i n here = record {
+  alone = λ b t. absurd (none_put n.storage (key.Promise, ballot_bytes b) (start.nodes.each i n here).unused t);
+  sealed = λ c b fits t is. absurd (none_put n.storage (key.Checkpoint, checkpoint_bytes c) (start.nodes.each i n here).unused t);
+}
 
 module _ {S : Type 0} {storages : Ghosts (Script S)} (laws : IsLawful storages) (lists : KeepsPuts storages) where
   abbrev Among : ℕ → Script S → Type 0
   Among = PromisesAmong storages.contents
 
-  -- each key holds what was put
-  abbrev Held : Script S → Type 0
-  Held s = (k : Key) → HoldsPut storages.contents s k
-
   -- ---- a storage goes on
-  goes_among : (nodes : ℕ) (made : Option script.Write) (a b : Script S) → GoesOn storages.contents made a b → Held a
-      → ShowsAmong nodes (storages.contents a) (storages.contents b) → Among nodes a → Among nodes b
-  goes_among nodes made a b goes held shows among x t = elim (goes.new (key.Promise, ballot_bytes x) t) [
-    | inl before ↦ among x before
-    | inr now ↦ elim (shows x now.1) [
-      | inl old ↦ among x (held_shown storages.contents a held (key.Promise, ballot_bytes x) old)
-      | inr below ↦ below
-    ]
-  ]
-
-  written_among : (nodes : ℕ) (a b : Script S) (w : Write) → HasWritten storages.reads storages.changes a b w → WritesAmong nodes w
-      → storages.IsHonest b → Held a → Among nodes a → Among nodes b
-  written_among nodes a b w h writes honest held =
-      goes_among nodes (put_by w) a b (written_goes laws lists a b w h honest) held
-      (subst (λ (r : Records). ShowsAmong nodes (storages.contents a) r) (sym (written_contents laws a b w h honest))
-      (after_among nodes (storages.contents a) w writes))
-
-  failed_shows : (nodes : ℕ) (a b : Script S) (w : Write) → HasFailed storages.fails a b w → WritesAmong nodes w
-      → storages.IsHonest b → ShowsAmong nodes (storages.contents a) (storages.contents b)
-  failed_shows nodes a b w h writes honest = elim (failed_contents laws a b w h honest) [
-    | inl old ↦ same_among nodes (storages.contents a) (storages.contents b) old
-    | inr new ↦ subst (λ (r : Records). ShowsAmong nodes (storages.contents a) r) (sym new)
-        (after_among nodes (storages.contents a) w writes)
-  ]
-
-  failed_among : (nodes : ℕ) (a b : Script S) (w : Write) → HasFailed storages.fails a b w → WritesAmong nodes w
-      → storages.IsHonest b → Held a → Among nodes a → Among nodes b
-  failed_among nodes a b w h writes honest held =
-      goes_among nodes (put_by w) a b (failed_goes laws lists a b w h honest) held (failed_shows nodes a b w h writes honest)
-
-  read_among : (nodes : ℕ) (a b : Script S) → storages.reads a b → storages.IsHonest b → Held a → Among nodes a → Among nodes b
-  read_among nodes a b h honest held =
-      goes_among nodes None a b (lists.reads_on a b h honest) held
-      (same_among nodes (storages.contents a) (storages.contents b) (laws.reads_contents a b h honest))
-
-  read_failed_among : (nodes : ℕ) (a b : Script S) → storages.read_fails a b → storages.IsHonest b → Held a
+  goes_among : (nodes : ℕ) (made : Option script.Write) (a b : Script S) → GoesOn storages.contents made a b → PutsAmong nodes made
       → Among nodes a → Among nodes b
-  read_failed_among nodes a b h honest held =
-      goes_among nodes None a b (lists.read_fails_on a b h honest) held
-      (same_among nodes (storages.contents a) (storages.contents b) (laws.read_fails_contents a b h honest))
+  goes_among nodes made a b goes puts among = record {
+    alone = λ x t. elim (goes.new (key.Promise, ballot_bytes x) t) [
+      | inl before ↦ among.alone x before
+      | inr now ↦ puts.alone x now.0
+    ];
+    sealed = λ c x fits t is. elim (goes.new (key.Checkpoint, checkpoint_bytes c) t) [
+      | inl before ↦ among.sealed c x fits before is
+      | inr now ↦ puts.sealed c x fits now.0 is
+    ];
+  }
 
   -- ---- a node takes an input
-  stopped_among : (a b : Script S) (m : Mind) (i : Input) (f : NodeFault) → StorageStops storages a m i f b
-      → storages.IsHonest b → Held a → Among m.nodes a → Among m.nodes b
-  stopped_among a b m i fault.Device h = failed_among m.nodes a b h.write h.leaves (input_among m i h.write h.made)
-  stopped_among a b m i fault.Memory (inl h) = read_among m.nodes a b h
-  stopped_among a b m i fault.Memory (inr h) = written_among m.nodes a b h.write h.leaves (input_among m i h.write h.made)
-  stopped_among a b m i fault.Down h = absurd h
-  stopped_among a b m i fault.LogFull h = absurd h
-  stopped_among a b m i fault.RoundsUsedUp h = absurd h
-  stopped_among a b m i fault.QueueFull h = absurd h
-  stopped_among a b m i fault.TooLong h = absurd h
-  stopped_among a b m i fault.Damaged h = absurd h
+  -- where it is up it holds what its records say, and has promised a ballot of one of so many nodes
+  record IsSureOf (nodes : ℕ) (n : NodeState (Script S)) (m : Mind) : Type 0 where
+    says : RecordsSay (storages.contents n.storage) m.accepting
+    of_run : (b : Ballot) → promised m ≡ Some b → b.node < nodes
 
-  refused_among : (old new : NodeState (Script S)) (m : Mind) (i : Input) (f : NodeFault) (b : Bool)
-      → MatchBool b (StopsOnInput storages old m i f new) (RefusesInput old m i f new)
-      → storages.IsHonest new.storage → Held old.storage → Among m.nodes old.storage → Among m.nodes new.storage
-  refused_among old new m i f true h honest held among = stopped_among old.storage new.storage m i f h.storage honest held among
-  refused_among old new m i f false h honest held among =
-      subst (λ (n : NodeState (Script S)). Among m.nodes n.storage) (sym h.leaves) among
+  made_among : (id nodes : ℕ) (old new : NodeState (Script S)) (i : Input) → IsMember id nodes old
+      → ((m : Mind) → old.up ≡ Some m → IsSureOf nodes old m) → (on : NodeGoesOn storages.contents i old new)
+      → PutsAmong nodes (put_by on.made)
+  made_among id nodes old new i member is on = elim on.writes [
+    | inl none ↦ subst (λ (w : Write). PutsAmong nodes (put_by w)) (sym none) (nothing_among nodes)
+    | inr writer ↦
+        let m : Mind = writer.0 in
+        let of_all : m.nodes ≡ nodes = (member.up m writer.1).of_all in
+        let sure : IsSureOf nodes old m = is m writer.1 in
+        subst (λ (k : ℕ). PutsAmong k (put_by on.made)) of_all
+        (puts_among (storages.contents old.storage) m i on.made sure.says
+        (λ b e. subst (λ (k : ℕ). b.node < k) (sym of_all) (sure.of_run b e)) writer.2)
+  ]
 
-  up_among : (old new : NodeState (Script S)) (m : Mind) (i : Input) (r : Result Response NodeFault)
-      → IfOk r (λ told. TakesInput storages old m i told new)
-      → IfErr r (λ f. MatchBool (is_stop_fault f) (StopsOnInput storages old m i f new) (RefusesInput old m i f new))
-      → storages.IsHonest new.storage → Held old.storage → Among m.nodes old.storage → Among m.nodes new.storage
-  up_among old new m i (Ok told) h refused =
-      written_among m.nodes old.storage new.storage h.made.write h.made.leaves (input_among m i h.made.write h.made.made)
-  up_among old new m i (Err f) taken h = refused_among old new m i f (is_stop_fault f) h
-
-  node_among : (id nodes : ℕ) (old new : NodeState (Script S)) (i : Input) (r : Result Response NodeFault) (o : Option Mind)
-      → old.up ≡ o → NodeSteps storages old i r new → IsMember id nodes old → storages.IsHonest new.storage → Held old.storage
-      → Among nodes old.storage → Among nodes new.storage
-  node_among id nodes old new i r None up h member honest held among =
-      subst (λ (n : NodeState (Script S)). Among nodes n.storage) (sym (h.down up).1) among
-  node_among id nodes old new i r (Some m) up h member honest held among =
-      subst (λ (k : ℕ). Among k old.storage → Among k new.storage) (member.up m up).of_all
-      (up_among old new m i r
-      (subst (λ (o : Option Mind). IfSome o (λ n. IfOk r (λ told. TakesInput storages old n i told new))) up h.taken)
-      (subst (λ (o : Option Mind). IfSome o (λ n. IfErr r (λ f. MatchBool (is_stop_fault f)
-      (StopsOnInput storages old n i f new) (RefusesInput old n i f new)))) up h.refused) honest held) among
+  node_among : (id nodes : ℕ) (old new : NodeState (Script S)) (i : Input) (r : Result Response NodeFault)
+      → NodeSteps storages old i r new → IsMember id nodes old → ((m : Mind) → old.up ≡ Some m → IsSureOf nodes old m)
+      → storages.IsHonest new.storage → Among nodes old.storage → Among nodes new.storage
+  node_among id nodes old new i r h member is honest =
+      let on : NodeGoesOn storages.contents i old new = node_goes laws lists old new i r h honest in
+      goes_among nodes (put_by on.made) old.storage new.storage on.goes (made_among id nodes old new i member is on)
 
   -- a node restarts
   restarted_among : (nodes : ℕ) (old new : NodeState (Script S)) (r : Result (Unit {0}) NodeFault) → Restarts storages old r new
-      → storages.IsHonest new.storage → Held old.storage → Among nodes old.storage → Among nodes new.storage
-  restarted_among nodes old new (Ok x) h honest held = read_among nodes old.storage new.storage h.up.1 honest held
-  restarted_among nodes old new (Err f) h honest held = elim h.other [
-    | inl device ↦ read_failed_among nodes old.storage new.storage (h.device (ap failed_with device)) honest held
-    | inr other ↦ read_among nodes old.storage new.storage other.1 honest held
-  ]
+      → storages.IsHonest new.storage → Among nodes old.storage → Among nodes new.storage
+  restarted_among nodes old new r h honest =
+      goes_among nodes None old.storage new.storage (restart_goes laws lists old new r h honest) (nothing_among nodes)
 
   -- a node whose next put fails
   armed_among : (nodes : ℕ) (a b : Script S) → storages.contents b ≡ storages.contents a → b.writes ≡ a.writes → b.unsure ≡ a.unsure
-      → Held a → Among nodes a → Among nodes b
-  armed_among nodes a b records writes unsure held =
-      goes_among nodes None a b (same_goes storages.contents None a b (same_lists storages.contents a b records writes unsure)) held
-      (same_among nodes (storages.contents a) (storages.contents b) records)
+      → Among nodes a → Among nodes b
+  armed_among nodes a b records writes unsure =
+      goes_among nodes None a b (same_goes storages.contents None a b (same_lists storages.contents a b records writes unsure))
+      (nothing_among nodes)
 
   -- ---- a world
   abbrev Nodes : Type 0
@@ -279,9 +245,17 @@ module _ {S : Type 0} {storages : Ghosts (Script S)} (laws : IsLawful storages) 
   abbrev Honest : Nodes → Type 0
   Honest nodes = AreHonest storages.IsHonest nodes
 
-  -- each key holds what was put, at every node
-  each_held : (w : WorldState S) (i : ℕ) (n : NodeState (Script S)) → slice_get w.nodes i ≡ Some n → Allowed w → Held n.storage
-  each_held w i n here allowed = (allowed.stands.node i n here).puts.held
+  -- who is up holds what its records say, and has promised a ballot of the run
+  sure_of : (w : WorldState S) (i : ℕ) (n : NodeState (Script S)) → slice_get w.nodes i ≡ Some n → IsFleet w.nodes w.frames → Allowed w
+      → OfRun w.nodes → (m : Mind) → n.up ≡ Some m → IsSureOf (length w.nodes) n m
+  sure_of w i n here fleet allowed promises m up =
+      let there : mind_at w i ≡ Some m = ap (λ (o : Option (NodeState (Script S))). mind_in o) here ∙ up in
+      let at = up_at storages.contents w allowed i m there in
+      let same : at.node ≡ n = same_Some at.node n (sym at.here ∙ here) in
+      record {
+        says = subst (λ (x : NodeState (Script S)). RecordsSay (storages.contents x.storage) m.accepting) same at.records.acceptor;
+        of_run = promise_of_run storages.contents w allowed fleet promises i m there;
+      }
 
   -- one node is another
   set_promises : (nodes : Nodes) (i : ℕ) (n : NodeState (Script S)) → OfRun nodes → Among (length nodes) n.storage
@@ -297,24 +271,23 @@ module _ {S : Type 0} {storages : Ghosts (Script S)} (laws : IsLawful storages) 
 
   -- a node comes to this, and the others stay
   changed_promises : (old new : WorldState S) (node : ℕ) (before after : NodeState (Script S)) → slice_get old.nodes node ≡ Some before
-      → new.nodes ≡ slice_set old.nodes node after → Allowed old → OfRun old.nodes → Honest new.nodes
-      → (storages.IsHonest after.storage → Held before.storage → Among (length old.nodes) before.storage
-      → Among (length old.nodes) after.storage)
+      → new.nodes ≡ slice_set old.nodes node after → OfRun old.nodes → Honest new.nodes
+      → (storages.IsHonest after.storage → Among (length old.nodes) before.storage → Among (length old.nodes) after.storage)
       → OfRun new.nodes
-  changed_promises old new node before after here nodes allowed promises honest keeps =
+  changed_promises old new node before after here nodes promises honest keeps =
       let own : storages.IsHonest after.storage =
       honest node after (ap (λ (x : Nodes). slice_get x node) nodes ∙ set_there old.nodes node after before here) in
       subst (λ (x : Nodes). OfRun x) (sym nodes)
-      (set_promises old.nodes node after promises
-      (keeps own (each_held old node before here allowed) (promises node before here)))
+      (set_promises old.nodes node after promises (keeps own (promises node before here)))
 
   takes_promises : (old : WorldState S) (node : ℕ) (i : Input) (taken : Bool) (new : WorldState S)
       → TakesAt storages old node i taken new → IsFleet old.nodes old.frames → Allowed old → OfRun old.nodes → Honest new.nodes
       → OfRun new.nodes
   takes_promises old node i taken new h fleet allowed promises honest =
       changed_promises old new node h.before h.after h.here
-      (ap (λ (w : WorldState S). w.nodes) h.leaves ∙ recorded_nodes (with_node old node h.after) node h.result) allowed promises honest
-      (node_among node (length old.nodes) h.before h.after i h.result h.before.up refl h.steps (fleet.members node h.before h.here))
+      (ap (λ (w : WorldState S). w.nodes) h.leaves ∙ recorded_nodes (with_node old node h.after) node h.result) promises honest
+      (node_among node (length old.nodes) h.before h.after i h.result h.steps (fleet.members node h.before h.here)
+      (sure_of old node h.before h.here fleet allowed promises))
 
   -- ---- one step
   promises_hold : ((s : Script S) (f : Failing) → storages.contents (record s { armed = Some f }) ≡ storages.contents s)
@@ -331,11 +304,11 @@ module _ {S : Type 0} {storages : Ghosts (Script S)} (laws : IsLawful storages) 
     loses = λ old e k o new brings h fleet allowed promises honest.
         same_promises old new (ap (λ (w : WorldState S). w.nodes) h) promises;
     restarts = λ old node new h fleet allowed promises honest.
-        changed_promises old new node h.before h.after h.here (ap (λ (w : WorldState S). w.nodes) h.leaves) allowed promises honest
+        changed_promises old new node h.before h.after h.here (ap (λ (w : WorldState S). w.nodes) h.leaves) promises honest
         (restarted_among (length old.nodes) h.before h.after h.result h.restarts);
     arms = λ old e node failing new h fleet allowed promises honest.
         let after : NodeState (Script S) = record h.before { storage = record h.before.storage { armed = Some failing } } in
-        changed_promises old new node h.before after h.here (ap (λ (w : WorldState S). w.nodes) h.leaves) allowed promises honest
+        changed_promises old new node h.before after h.here (ap (λ (w : WorldState S). w.nodes) h.leaves) promises honest
         (λ _. armed_among (length old.nodes) h.before.storage after.storage (armed h.before.storage failing) refl refl);
     answers = λ old e node query new h fleet allowed promises honest.
         same_promises old new (ap (λ (w : WorldState S). w.nodes) h.leaves ∙ answered_nodes old node query h.result) promises;

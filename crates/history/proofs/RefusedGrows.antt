@@ -103,6 +103,8 @@ takes_grows old input.Timeout new said h =
     let round : new.proposing.round ≡ next_round old.proposing = ap (λ (p : Proposing). p.round) h.1.leaves in
     record { own = ap (λ (m : Mind). m.id) h.2; refused_ = omega (arith, refused); round_ = omega (arith, round) }
 takes_grows old input.Tick new said h = with_grows old new _ h.0 refl (same_rounds old.proposing)
+takes_grows old input.Checkpoint new said h = with_grows old new _ h.0 refl (same_rounds old.proposing)
+takes_grows old input.Trim new said h = with_grows old new _ h.0 refl (same_rounds old.proposing)
 
 -- a refusal that concerns it
 told_so : (old : Mind) (e : Envelope) (n : Refused) (new : Mind) (said : Response) → concerns old.id old.nodes e ≡ true → e.message ≡ Nack n

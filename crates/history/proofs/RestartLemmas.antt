@@ -1,11 +1,13 @@
 -- A node that restarts has forgotten what was not in its records, and begins where they say.
-use Rattle.std.proofs.Common.{◌≡◌, ℕ, zero, inl, inr, Option, Some, None, IfSome, Result, Ok, Err, refl, sym, ap, ◌∙◌, subst}
+use Rattle.std.proofs.Common.{◌≡◌, ℕ, zero, inl, inr, Option, Some, None, IfSome, Result, Ok, Err, option_map, refl, sym, ap, ◌∙◌, subst}
 use Rattle.synod.specs.Acts.{Local}
 use Rattle.stable.specs.Records.{Records, no_records}
 use Rattle.stable.specs.Script.{Script}
 use Rattle.stable.specs.declared.stable.Stable.{Ghosts}
 use Rattle.stable.specs.Storages.{IsLawful}
 use Rattle.sessions.specs.declared.command.Command.{Command}
+use Rattle.wire.specs.RecordForms.{checkpoint_bytes}
+use Rattle.acceptor.specs.Accepting.{floor_of}
 use Rattle.minds.specs.declared.fault.NodeFault.{NodeFault}
 use Rattle.minds.specs.Loading.{IsLoaded, Restarts}
 use Rattle.minds.specs.Minds.{Mind, position}
@@ -34,7 +36,8 @@ module _ {S : Type 0} {contents : Script S → Records} where
     up = subst (λ (o : Option Mind). IfSome o (Up (contents new.storage) x)) (sym up) tt;
   }
   up_again old new x (Some m) up same agree none loads =
-      let holds : HoldsRecords m (contents old.storage) = loaded_holds (contents old.storage) old.id old.nodes m loads in
+      let holds : HoldsRecords m (contents old.storage) =
+      loaded_holds (contents old.storage) old.id old.nodes m loads agree.accepting agree.round agree.holds in
       let stands : MindStands m x =
       loaded_stands (contents old.storage) old.id old.nodes m loads agree.accepting agree.round x agree.holds agree.stands none in
       record {
@@ -43,10 +46,18 @@ module _ {S : Type 0} {contents : Script S → Records} where
             (subst (λ (c : Records). HoldsRecords m c) (sym same) holds, stands);
       }
 
+-- what is none once it is told otherwise is none
+none_before : {A B : Type 0} (f : A → B) (o : Option A) → option_map f o ≡ None → o ≡ None
+none_before f None e = refl
+none_before f (Some x) e = absurd cc
+
 -- one that comes up without records begins at slot 0
 pub begins_at_first : (id nodes : ℕ) (o : Option Mind) → IfSome o (IsLoaded no_records id nodes) → begins_at o ≡ zero
 begins_at_first id nodes None loads = refl
-begins_at_first id nodes (Some m) loads = loaded_begins no_records id nodes m loads ∙ loads.accepting.floor
+begins_at_first id nodes (Some m) loads =
+    let says = loads.accepting in
+    loaded_begins no_records id nodes m loads
+    ∙ (says.floor ∙ ap floor_of (none_before checkpoint_bytes says.checkpointed (sym says.checkpoint_record)))
 
 -- ---- a restart
 abbrev pub failed_with : NodeFault → Result (Unit {0}) NodeFault
@@ -79,6 +90,12 @@ module _ {S : Type 0} {storages : Ghosts (Script S)} (laws : IsLawful storages) 
         (laws.read_fails_contents old.storage new.storage failed honest, laws.read_fails_honest old.storage new.storage failed honest)
     | inr other ↦ read_only old new other.1 honest
   ]
+
+  -- the records are read, and left as they are
+  pub restart_contents : (old new : NodeState (Script S)) (result : Result (Unit {0}) NodeFault) → Restarts storages old result new
+      → storages.IsHonest new.storage → storages.contents new.storage ≡ storages.contents old.storage
+  unfolding SameAndHonest
+  restart_contents old new result h honest = (restart_reads old new result h honest).0
 
   pub restart_honest : (old new : NodeState (Script S)) (result : Result (Unit {0}) NodeFault) → Restarts storages old result new
       → storages.IsHonest new.storage → storages.IsHonest old.storage

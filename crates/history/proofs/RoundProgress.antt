@@ -102,6 +102,7 @@ module _ {S : Type 0} (storages : Ghosts (Script S)) where
   kind_of before after m i fault.RoundsUsedUp h up down = absurd (same_up before after m h.leaves up down)
   kind_of before after m i fault.QueueFull h up down = absurd (same_up before after m h.leaves up down)
   kind_of before after m i fault.TooLong h up down = absurd (same_up before after m h.leaves up down)
+  kind_of before after m i fault.NothingNew h up down = absurd (same_up before after m h.leaves up down)
 
   stop_outcome : (node : ℕ) (f : NodeFault) → (f ≡ fault.Memory) ⊎ (f ≡ fault.Device) → outcome_of node f ≡ outcome.Stopped node f
   stop_outcome node f (inl e) = subst (λ (x : NodeFault). outcome_of node x ≡ outcome.Stopped node x) (sym e) refl

@@ -35,7 +35,8 @@ use Rattle.history.proofs.Handing.{hands_all, same_mind}
 use Rattle.history.proofs.RefusedGrows.{told_among, above_told}
 use Rattle.history.proofs.RoundAsked.{is_below, both, IsAnswer, promises, declines, answer_of_one, answer_of_each}
 use Rattle.history.proofs.RoundDecides.{Facts, took_taken, IsAsked, asked_lem, AreVoted, voted_lem, decides, owner_there}
-use Rattle.history.proofs.RoundPremises.{is_member, unheard_next, votes_of_run, promise_of_run}
+use Rattle.history.proofs.OfTheRun.{votes_of_run, promise_of_run}
+use Rattle.history.proofs.RoundPremises.{is_member, unheard_next}
 use Rattle.history.proofs.RoundProgress.{up_some, some_of, refused_so, refuses_above, not_refused, taken_in_log, goes_down}
 
 is_there : {A : Type 0} (o : Option A) (a : A) → o ≡ Some a → IsSome o
@@ -58,7 +59,7 @@ module _ {S : Type 0} (storages : Ghosts (Script S)) (contents : Script S → Re
     level = λ j m among there. subst (λ (s : ℕ). m.accepting.floor ≤ s) (sym at) (meets.level mind m j among here there);
     known = λ j m e. (is_member contents old fleet sound j m e).1;
     unheard = λ a less. unheard_next contents old fleet sound node mind here ballot next slot a less;
-    of_run = λ j m e. votes_of_run contents old fleet sound j m e;
+    of_run = λ j m e. votes_of_run contents old sound.allowed fleet j m e;
   }
 
   -- ---- a campaign that has begun
@@ -215,7 +216,7 @@ module _ {S : Type 0} (storages : Ghosts (Script S)) (contents : Script S → Re
       let names : names_run (length old.nodes) (Nack n) ≡ true =
       both (is_of_run (length old.nodes) m.ballot) (is_of_run (length old.nodes) greatest)
       (is_below m.ballot.node (length old.nodes) (owner_there storages old node members slot m.ballot m.mind m.facts))
-      (is_below greatest.node (length old.nodes) (promise_of_run contents old fleet sound t.member t.mind t.here greatest t.has)) in
+      (is_below greatest.node (length old.nodes) (promise_of_run contents old sound.allowed fleet sound.promises t.member t.mind t.here greatest t.has)) in
       above_told node greatest new
       (told_among (length old.nodes) node n h.greatest_.frame (drop h.first h.between.frames) h.between new
       (hands_all storages (node ∷ []) h.between h.first new h.delivers) h.greatest_.among (ap (λ (e : Envelope). e.to) t.is)

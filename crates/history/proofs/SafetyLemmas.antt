@@ -152,7 +152,7 @@ module _ {S : Type 0} (w : WorldState S) (h : HasAgreed w) where
   }
 
 abbrev nothing_held : Accepting
-nothing_held = record { promise = None; floor = 0; vote = λ s. None }
+nothing_held = record { promise = None; floor = 0; sealed = None; text = []; vote = λ s. None }
 
 module _ {S : Type 0} {contents : Script S → Records} where
   pub allowed_agrees : (w : WorldState S) → IsAllowed contents w.nodes w.frames w.learnt w.submitted → HasAgreed w
@@ -171,7 +171,7 @@ nothing_agrees : (records : Records) → records ≡ no_records → RecordsAgree
 nothing_agrees records e = subst (λ (c : Records). RecordsAgree c nothing_written) (sym e) (record {
   accepting = nothing_held;
   round = zero;
-  holds = record { acceptor = RecordsSay-nothing; proposer = refl };
+  holds = record { acceptor = RecordsSay-nothing; covered = λ s v low held. absurd (omega (arith, low)); proposer = refl };
   stands = record { promise = refl; vote = λ s from. refl; round_ = refl; floor_ = refl };
 })
 

@@ -30,18 +30,21 @@ use Rattle.history.proofs.PromisesStand.{start_promises, step_promises}
 use Rattle.history.proofs.RestartLemmas.{restart_honest}
 use Rattle.history.proofs.SafetyLemmas.{allowed_agrees, has_chosen, learnt_agree, learnt_grounded, start_allowed}
 use Rattle.history.proofs.Tellings.{steps_tell, start_tells}
+use Rattle.history.proofs.Texts.{texts_explained, nodes_explained}
 use Rattle.history.proofs.Validity.{start_valid, step_valid}
 use Rattle.history.proofs.WorldMoves.{honest_nodes, honest_took, step_allowed}
 
 -- what is sound is safe
 pub sound_is_safe : {S : Type 0} {contents : Script S → Records} (w : WorldState S) → IsSound contents w → IsSafe w
-sound_is_safe w sound =
+sound_is_safe {S} {contents} w sound =
     let agreed : HasAgreed w = allowed_agrees w sound.allowed in
     record {
       agreed = agreed;
       chosen = has_chosen w agreed;
-      explained = explained w sound.tells (learnt_agree w agreed) sound.in_log (learnt_grounded w agreed);
+      explained = explained contents w sound.tells (learnt_agree w agreed) sound.in_log (learnt_grounded w agreed);
       valid = sound.valid;
+      texts = texts_explained contents w sound.tells;
+      nodes = nodes_explained contents w sound.tells;
     }
 
 pub safe_if_honest : {S : Type 0} {contents : Script S → Records} {IsHonest : Script S → Type 0} (w : WorldState S)
@@ -74,26 +77,26 @@ module _ {S : Type 0} {storages : Ghosts (Script S)} (laws : IsLawful storages)
   same_nodes old new e honest = subst (λ (x : List (NodeState (Script S))). AreHonest storages.IsHonest x) e honest
 
   took : (old : WorldState S) (node : ℕ) (i : Input) (taken : Bool) (new : WorldState S) → TakesAt storages old node i taken new
-      → IsFleet old.nodes old.frames → Honest new → Honest old
+      → Honest new → Honest old
   took = honest_took laws armed_honest armed_contents lists
 
-  was_honest : HoldsOf storages (λ old e new. IsFleet old.nodes old.frames → Honest new → Honest old)
+  pub was_honest : HoldsOf storages (λ old e new. Honest new → Honest old)
   was_honest = record {
     takes = λ old e node i taken new h own. took old node i taken new h;
-    submits = λ old e node r new h fleet honest.
-        took old node (input.Submit r.client r.number r.op) h.taken h.between h.takes fleet
+    submits = λ old e node r new h honest.
+        took old node (input.Submit r.client r.number r.op) h.taken h.between h.takes
         (same_nodes h.between new (ap (λ (w : WorldState S). w.nodes) h.leaves
         ∙ submission_nodes h.between h.taken node r) honest);
     hears = λ old e k frame taken new sent fits h. took (without_wait old k) frame.to (input.Message frame) taken new h;
-    loses = λ old e k o new brings h fleet honest. same_nodes old new (ap (λ (w : WorldState S). w.nodes) h) honest;
-    restarts = λ old node new h fleet honest.
+    loses = λ old e k o new brings h honest. same_nodes old new (ap (λ (w : WorldState S). w.nodes) h) honest;
+    restarts = λ old node new h honest.
         honest_nodes laws armed_honest armed_contents lists old.nodes node h.before h.after h.here
         (restart_honest laws h.before h.after h.result h.restarts)
         (subst (λ (x : List (NodeState (Script S))). AreHonest storages.IsHonest x) (ap (λ (w : WorldState S). w.nodes) h.leaves) honest);
-    arms = λ old e node failing new h fleet honest.
+    arms = λ old e node failing new h honest.
         honest_nodes laws armed_honest armed_contents lists old.nodes node h.before _ h.here (armed_honest h.before.storage failing)
         (subst (λ (x : List (NodeState (Script S))). AreHonest storages.IsHonest x) (ap (λ (w : WorldState S). w.nodes) h.leaves) honest);
-    answers = λ old e node query new h fleet honest.
+    answers = λ old e node query new h honest.
         same_nodes old new (ap (λ (w : WorldState S). w.nodes) h.leaves
         ∙ answered_nodes old node query h.result) honest;
   }
@@ -104,10 +107,10 @@ module _ {S : Type 0} {storages : Ghosts (Script S)} (laws : IsLawful storages)
       → IsSoundIfHonest storages.contents storages.IsHonest new
   step_sound old e new h fleet before = record {
     sound = λ honest.
-        let was = before.sound (step_holds was_honest old e new h fleet honest) in
+        let was = before.sound (step_holds was_honest old e new h honest) in
         record {
           allowed = step_allowed laws armed_honest armed_contents lists old e new h fleet (λ then. (before.sound then).allowed) honest;
-          tells = steps_tell storages old new e h honest was.tells;
+          tells = steps_tell laws lists armed_contents old new e h honest was.allowed was.tells;
           in_log = step_in_log storages old e new h was.in_log;
           valid = step_valid storages old e new h was.valid;
           promises = step_promises laws lists armed_contents old e new h fleet was.allowed was.promises honest;

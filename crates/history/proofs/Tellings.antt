@@ -1,20 +1,27 @@
 -- Each step keeps what the lists of a world tell of one another.
 use Rattle.std.proofs.Common.{◌≡◌, ℕ, zero, suc, ◌-◌, ◌<◌, ◌⊎◌, length, inl, inr, List, [], ◌∷◌, ◌++◌, map, Bool, true, false, Option}
-use Rattle.std.proofs.Common.{Some, None, Result, Ok, Err, IfSome, IfOk, IfErr, MatchBool, Contains, slice_get}
+use Rattle.std.proofs.Common.{Some, None, Result, Ok, Err, IfSome, IfOk, IfErr, MatchBool, MatchOption, Contains, slice_get, option_map}
 use Rattle.std.proofs.Common.{slice_set, refl, sym, ap, ◌∙◌, subst, append-nil, arith}
 use Rattle.std.proofs.lemmas.List.Elements.{Contains-append_left, Contains-append_right, Contains-append_cases, Contains-push}
 use Rattle.std.proofs.lemmas.List.Elements.{Contains-push_cases}
 use Rattle.std.proofs.lemmas.Bool.{cases_lt}
-use Rattle.std.proofs.lemmas.Option.{same_Some}
+use Rattle.std.proofs.lemmas.Option.{same_Some, none-some}
 use Rattle.stable.specs.Records.{Records, no_records}
-use Rattle.stable.specs.Script.{Script}
+use Rattle.stable.specs.Script.{Script, Write}
+use Rattle.stable.specs.Storages.{IsLawful}
+use Rattle.stable.specs.declared.key.Key.{Key}
+use Rattle.stable.specs.declared.key.Key.TheVariants as key
 use Rattle.stable.specs.declared.scripted.Failing.{Failing}
 use Rattle.stable.specs.declared.stable.Stable.{Ghosts}
 use Rattle.synod.proofs.Thinking.{none_in}
 use Rattle.sessions.specs.Asked.{Asked}
+use Rattle.sessions.proofs.Snapshots.{tells_each}
 use Rattle.sessions.specs.Meaning.{Answers}
 use Rattle.sessions.specs.declared.command.Command.{Command}
 use Rattle.store.specs.declared.query.Query.{Query}
+use Rattle.wire.specs.RecordForms.{Checkpointed, checkpoint_bytes}
+use Rattle.acceptor.specs.Forms.{CheckpointFits}
+use Rattle.acceptor.specs.Loading.{IsCheckpointOf}
 use Rattle.learner.specs.Learning.{Learning}
 use Rattle.minds.specs.declared.fault.NodeFault.{NodeFault}
 use Rattle.minds.specs.declared.fault.NodeFault.TheVariants as fault
@@ -38,18 +45,24 @@ use Rattle.history.specs.declared.lists.Learnt.{Learnt}
 use Rattle.history.specs.declared.lists.Replied.{Replied}
 use Rattle.history.specs.declared.lists.Answered.{Answered}
 use Rattle.history.specs.Flushing.{IsStart, IsStarted}
-use Rattle.history.specs.Reaching.{AreHonest}
+use Rattle.history.specs.Reaching.{HoldsPut, IsAllowed, AreHonest}
 use Rattle.history.specs.Outputs.{replied_at, replied_by}
-use Rattle.history.specs.Telling.{WasLearnt, WereLearnt, TellsReply, TellsAnswer, Knows, ListsTell, Tells}
+use Rattle.history.specs.Telling.{WasLearnt, WereLearnt, TellsReply, TellsAnswer, TellsText, TextsTold, Knows, ListsTell, Tells}
 use Rattle.history.specs.Worlds.{WorldState, TakesAt, SubmitsAt, AsksAt, ArmsAt, RestartsAt, Steps, recorded, with_node}
-use Rattle.history.specs.Worlds.{with_submission, without_wait, learnt_by, answered}
-use Rattle.history.proofs.Preserved.{HoldsOf, step_holds}
+use Rattle.history.specs.Worlds.{with_submission, without_wait, learnt_by, answered, mind_in, mind_at}
+use Rattle.history.proofs.CheckpointPuts.{IsCheckpointOfNode, checkpoint_put}
+use Rattle.history.proofs.ListedPuts.{GoesOn, KeepsPuts, put_by, same_goes, same_lists}
+use Rattle.history.proofs.NodeComes.{NodeGoesOn, node_goes, restart_goes}
+use Rattle.history.proofs.OfTheRun.{up_at}
+use Rattle.history.proofs.Preserved.{HoldsOf, step_holds, recorded_nodes, submission_nodes}
 use Rattle.history.proofs.RestartLemmas.{loads_or_down}
+use Rattle.history.proofs.SafetyLemmas.{none_put}
+use Rattle.history.proofs.VotesStand.{held_shown}
 use Rattle.history.proofs.WorldMoves.{set_there}
 
 -- ---- lists
 -- what stands in a list to which a function is applied is its value at an element
-out_of_map : {A B : Type 0} (f : A → B) (xs : List A) (y : B) → Contains (map f xs) y → (x : A) × Contains xs x × (f x ≡ y)
+pub out_of_map : {A B : Type 0} (f : A → B) (xs : List A) (y : B) → Contains (map f xs) y → (x : A) × Contains xs x × (f x ≡ y)
 out_of_map f [] y c = absurd (none_in y c)
 out_of_map f (x ∷ xs) y c = elim (Contains-append_cases (f x ∷ []) (map f xs) y c) [
   | inl first ↦ elim (Contains-push_cases [] (f x) y first) [
@@ -118,6 +131,16 @@ now_learnt learnt i (Some d) slot c e =
       holds = ap (λ (x : LogEntry). x.command) is;
     }
 
+-- a text that was told stays so
+text_still : (learnt more : List Learnt) (position : ℕ) (text : List ℕ) → TellsText learnt position text
+    → TellsText (learnt ++ more) position text
+text_still learnt more position text t = record {
+  log = t.log;
+  known = λ slot c e. was_still learnt more slot c (t.known slot c e);
+  length_ = t.length_;
+  is = t.is;
+}
+
 -- what stands in front in two lists that are joined
 get_before : {A : Type 0} (xs ys : List A) (k : ℕ) (x : A) → k < length xs → slice_get (xs ++ ys) k ≡ Some x → slice_get xs k ≡ Some x
 get_before [] ys k x less e = absurd (omega (arith, less))
@@ -125,7 +148,7 @@ get_before (z ∷ xs) ys zero x less e = e
 get_before (z ∷ xs) ys (suc k) x less e = get_before xs ys k x (omega (arith, less)) e
 
 -- of what a node is the meaning was learnt, by it or by some node before it began
-known_of : (learnt : List Learnt) (m : Mind) (k : Knows learnt m) → WereLearnt learnt (executed_from k.base m)
+pub known_of : (learnt : List Learnt) (m : Mind) (k : Knows learnt m) → WereLearnt learnt (executed_from k.base m)
 known_of learnt m k slot c e = elim (cases_lt slot (length k.base)) [
   | inl below ↦ k.begins slot c
       (get_before k.base (commands m.learning.learnt m.learning.first (position m - m.learning.first)) slot c below e)
@@ -215,98 +238,205 @@ new_reply learnt i after replies says p c =
     let reply = says.replied of.0 of.1 in
     subst (TellsReply learnt) of.2 (record { log = reply.0; known = reply.1; replies = reply.2 })
 
-said_tells : {S : Type 0} (nodes : List (NodeState S)) (learnt : List Learnt) (replies : List Replied) (answers : List Answered)
-    (i : ℕ) (after : NodeState S) (said : Response) → ListsTell nodes learnt replies answers
-    → Says (learnt ++ learnt_by i said.learnt) after.up said.replies
-    → ListsTell (slice_set nodes i after) (learnt ++ learnt_by i said.learnt) (replies ++ replied_by i said.replies) answers
-said_tells {S} nodes learnt replies answers i after said t says = record {
+-- ---- the texts of a storage
+module _ {S : Type 0} (contents : Script S → Records) where
+  texts_still : (learnt more : List Learnt) (s : Script S) → TextsTold contents learnt s → TextsTold contents (learnt ++ more) s
+  texts_still learnt more s told c fits took = text_still learnt more c.position c.text (told c fits took)
+
+  -- a storage goes on: what is new is the one checkpoint that was put, if one was
+  texts_go_on : (learnt : List Learnt) (made : Option Write) (a b : Script S) → GoesOn contents made a b
+      → ((c : Checkpointed) → CheckpointFits c → made ≡ Some (key.Checkpoint, checkpoint_bytes c) → TellsText learnt c.position c.text)
+      → TextsTold contents learnt a → TextsTold contents learnt b
+  texts_go_on learnt made a b goes put told c fits took = elim (goes.new (key.Checkpoint, checkpoint_bytes c) took) [
+    | inl before ↦ told c fits before
+    | inr now ↦ put c fits now.0
+  ]
+
+  -- nothing is put
+  texts_stay : (learnt : List Learnt) (a b : Script S) → GoesOn contents None a b → TextsTold contents learnt a → TextsTold contents learnt b
+  texts_stay learnt a b goes =
+      texts_go_on learnt None a b goes (λ c fits e. absurd (none-some (key.Checkpoint, checkpoint_bytes c) e))
+
+-- a checkpoint of a node is the text of what it knows
+node_text : (learnt : List Learnt) (m : Mind) (c : Checkpointed) → Knows learnt m → IsCheckpointOfNode m c
+    → TellsText learnt c.position c.text
+node_text learnt m c knows of =
+    let log : List Command = executed_from knows.base m in
+    subst (λ (x : Checkpointed). TellsText learnt x.position x.text) (sym of.is) (record {
+      log = log;
+      known = known_of learnt m knows;
+      length_ = as_many knows.base m knows.meaning;
+      is = tells_each m.machine of.machine log knows.meaning.stands;
+    })
+
+said_tells : {S : Type 0} (contents : Script S → Records) (nodes : List (NodeState (Script S))) (learnt : List Learnt)
+    (replies : List Replied) (answers : List Answered)
+    (i : ℕ) (after : NodeState (Script S)) (said : Response) → ListsTell contents nodes learnt replies answers
+    → Says (learnt ++ learnt_by i said.learnt) after.up said.replies → TextsTold contents learnt after.storage
+    → ListsTell contents (slice_set nodes i after) (learnt ++ learnt_by i said.learnt) (replies ++ replied_by i said.replies) answers
+said_tells {S} contents nodes learnt replies answers i after said t says texts = record {
   replied = λ p c. elim (Contains-append_cases replies (replied_by i said.replies) p c) [
     | inl old ↦ reply_still learnt (learnt_by i said.learnt) p (t.replied p old)
     | inr new ↦ new_reply (learnt ++ learnt_by i said.learnt) i after.up said.replies says p new
   ];
   answered = λ a c. answer_still learnt (learnt_by i said.learnt) a (t.answered a c);
   knows = λ j n m there up. elim (set_cases nodes i j after n there) [
-    | inl at ↦ says.knows m (ap (λ (x : NodeState S). x.up) at.1 ∙ up)
+    | inl at ↦ says.knows m (ap (λ (x : NodeState (Script S)). x.up) at.1 ∙ up)
     | inr elsewhere ↦ knows_still learnt (learnt_by i said.learnt) m (t.knows j n m elsewhere up)
   ];
+  texts = λ j n there. texts_still contents learnt (learnt_by i said.learnt) n.storage (elim (set_cases nodes i j after n there) [
+    | inl at ↦ subst (λ (x : NodeState (Script S)). TextsTold contents learnt x.storage) at.1 texts
+    | inr elsewhere ↦ t.texts j n elsewhere
+  ]);
 }
 
 -- nothing is told
-quiet_tells : {S : Type 0} (nodes : List (NodeState S)) (learnt : List Learnt) (replies : List Replied) (answers : List Answered)
-    → ListsTell nodes (learnt ++ []) (replies ++ []) answers → ListsTell nodes learnt replies answers
-quiet_tells nodes learnt replies answers t =
-    subst (λ (ls : List Learnt). ListsTell nodes ls replies answers) (append-nil learnt)
-    (subst (λ (rs : List Replied). ListsTell nodes (learnt ++ []) rs answers) (append-nil replies) t)
+quiet_tells : {S : Type 0} (contents : Script S → Records) (nodes : List (NodeState (Script S))) (learnt : List Learnt)
+    (replies : List Replied) (answers : List Answered)
+    → ListsTell contents nodes (learnt ++ []) (replies ++ []) answers → ListsTell contents nodes learnt replies answers
+quiet_tells contents nodes learnt replies answers t =
+    subst (λ (ls : List Learnt). ListsTell contents nodes ls replies answers) (append-nil learnt)
+    (subst (λ (rs : List Replied). ListsTell contents nodes (learnt ++ []) rs answers) (append-nil replies) t)
 
-changed_tells : {S : Type 0} (old : WorldState S) (node : ℕ) (after : NodeState (Script S)) → Tells old → Says old.learnt after.up []
-    → ListsTell (slice_set old.nodes node after) old.learnt old.replies old.answers
-changed_tells old node after tells says =
-    quiet_tells (slice_set old.nodes node after) old.learnt old.replies old.answers
-    (said_tells old.nodes old.learnt old.replies old.answers node after silence tells
-    (subst (λ (ls : List Learnt). Says ls after.up []) (sym (append-nil old.learnt)) says))
+changed_tells : {S : Type 0} (contents : Script S → Records) (old : WorldState S) (node : ℕ) (after : NodeState (Script S))
+    → Tells contents old → Says old.learnt after.up [] → TextsTold contents old.learnt after.storage
+    → ListsTell contents (slice_set old.nodes node after) old.learnt old.replies old.answers
+changed_tells contents old node after tells says texts =
+    quiet_tells contents (slice_set old.nodes node after) old.learnt old.replies old.answers
+    (said_tells contents old.nodes old.learnt old.replies old.answers node after silence tells
+    (subst (λ (ls : List Learnt). Says ls after.up []) (sym (append-nil old.learnt)) says) texts)
+
+-- ---- a node that has loaded its records
+-- it has learnt nothing, and is the meaning of the list with which it began
+loaded_knows : (learnt : List Learnt) (records : Records) (id nodes : ℕ) (m : Mind) (base : List Command) → WereLearnt learnt base
+    → IsBaseOf records base → IsLoaded records id nodes m → Knows learnt m
+loaded_knows learnt records id nodes m base begins is loaded = record {
+  base = base;
+  begins = begins;
+  listed = λ slot c e. absurd (let h : None ≡ Some c = sym (ap (λ (l : Learning). l.learnt slot) loaded.learning) ∙ e in cc);
+  meaning = loaded_means records id nodes m base loaded is;
+}
+
+-- without a checkpoint it begins with nothing
+begins_with_nothing : (learnt : List Learnt) (records : Records) (id nodes : ℕ) (m : Mind) → records key.Checkpoint ≡ None
+    → IsLoaded records id nodes m → Knows learnt m
+begins_with_nothing learnt records id nodes m none loaded =
+    let base : List Command = [] in
+    loaded_knows learnt records id nodes m base (λ slot c e. absurd (let h : None ≡ Some c = e in cc))
+    (subst (λ (o : Option (List ℕ)). MatchOption o (base ≡ []) (IsCheckpointOf base)) (sym none) refl) loaded
+
+-- the checkpoint in its record was put, so it is the text of what was learnt: it begins with that
+begins_with_text : {S : Type 0} (contents : Script S → Records) (learnt : List Learnt) (s : Script S) (id nodes : ℕ) (m : Mind)
+    (c : Checkpointed) → contents s key.Checkpoint ≡ Some (checkpoint_bytes c) → CheckpointFits c
+    → ((k : Key) → HoldsPut contents s k) → TextsTold contents learnt s → IsLoaded (contents s) id nodes m → Knows learnt m
+begins_with_text contents learnt s id nodes m c there fits held told loaded =
+    let t : TellsText learnt c.position c.text =
+    told c fits (held_shown contents s held (key.Checkpoint, checkpoint_bytes c) there) in
+    let base : IsCheckpointOf t.log (checkpoint_bytes c) =
+    record { checkpoint = c; fits = fits; spelled = refl; length_ = t.length_; text = t.is } in
+    loaded_knows learnt (contents s) id nodes m t.log t.known
+    (subst (λ (o : Option (List ℕ)). MatchOption o (t.log ≡ []) (IsCheckpointOf t.log)) (sym there) base) loaded
+
+begins_with : {S : Type 0} (contents : Script S → Records) (learnt : List Learnt) (s : Script S) (id nodes : ℕ) (m : Mind)
+    (o : Option Checkpointed) → contents s key.Checkpoint ≡ option_map checkpoint_bytes o → IfSome o CheckpointFits
+    → ((k : Key) → HoldsPut contents s k) → TextsTold contents learnt s → IsLoaded (contents s) id nodes m → Knows learnt m
+begins_with contents learnt s id nodes m None e fits held told loaded = begins_with_nothing learnt (contents s) id nodes m e loaded
+begins_with contents learnt s id nodes m (Some c) e fits held told loaded =
+    begins_with_text contents learnt s id nodes m c e fits held told loaded
 
 -- ---- the kinds of step
-module _ {S : Type 0} (storages : Ghosts (Script S)) where
+module _ {S : Type 0} {storages : Ghosts (Script S)} (laws : IsLawful storages) (lists : KeepsPuts storages)
+    (armed_contents : (s : Script S) (f : Failing) → storages.contents (record s { armed = Some f }) ≡ storages.contents s) where
+  abbrev Told : WorldState S → Type 0
+  Told w = Tells storages.contents w
+
+  abbrev Allowed : WorldState S → Type 0
+  Allowed w = IsAllowed storages.contents w.nodes w.frames w.learnt w.submitted
+
+  abbrev Honest : WorldState S → Type 0
+  Honest w = AreHonest storages.IsHonest w.nodes
+
   recorded_result : (old : WorldState S) (i : ℕ) (after : NodeState (Script S)) (result : Result Response NodeFault)
-      → ListsTell (slice_set old.nodes i after) (old.learnt ++ learnt_by i (said_of result).learnt)
-      (old.replies ++ replied_by i (said_of result).replies) old.answers → Tells (recorded (with_node old i after) i result)
+      → ListsTell storages.contents (slice_set old.nodes i after) (old.learnt ++ learnt_by i (said_of result).learnt)
+      (old.replies ++ replied_by i (said_of result).replies) old.answers → Told (recorded (with_node old i after) i result)
   recorded_result old i after (Ok said) t = t
-  recorded_result old i after (Err f) t = quiet_tells (slice_set old.nodes i after) old.learnt old.replies old.answers t
+  recorded_result old i after (Err f) t = quiet_tells storages.contents (slice_set old.nodes i after) old.learnt old.replies old.answers t
+
+  -- the storage of the node that takes an input
+  taken_texts : (old : WorldState S) (node : ℕ) (i : Input) (before after : NodeState (Script S)) → slice_get old.nodes node ≡ Some before
+      → NodeGoesOn storages.contents i before after → Allowed old → Told old → TextsTold storages.contents old.learnt after.storage
+  taken_texts old node i before after here on allowed tells =
+      texts_go_on storages.contents old.learnt (put_by on.made) before.storage after.storage on.goes
+      (λ c fits e. elim on.writes [
+        | inl none ↦ absurd (none-some (key.Checkpoint, checkpoint_bytes c) (ap put_by (sym none) ∙ e))
+        | inr writer ↦
+            let m : Mind = writer.0 in
+            let there : mind_at old node ≡ Some m = ap (λ (o : Option (NodeState (Script S))). mind_in o) here ∙ writer.1 in
+            let says = (up_at storages.contents old allowed node m there).records.acceptor in
+            node_text old.learnt m c (tells.knows node before m here writer.1) (checkpoint_put _ m i on.made says writer.2 c fits e)
+      ]) (tells.texts node before here)
+
+  own_honest : (old new : WorldState S) (node : ℕ) (before after : NodeState (Script S)) → slice_get old.nodes node ≡ Some before
+      → new.nodes ≡ slice_set old.nodes node after → Honest new → storages.IsHonest after.storage
+  own_honest old new node before after here nodes honest =
+      honest node after (ap (λ (ns : List (NodeState (Script S))). slice_get ns node) nodes ∙ set_there old.nodes node after before here)
 
   takes_at : (old : WorldState S) (node : ℕ) (i : Input) (taken : Bool) (new : WorldState S)
-      → TakesAt storages old node i taken new → Tells old → Tells new
-  takes_at old node i taken new t tells =
-      subst (λ (w : WorldState S). Tells w) (sym t.leaves)
+      → TakesAt storages old node i taken new → Honest new → Allowed old → Told old → Told new
+  takes_at old node i taken new t honest allowed tells =
+      let own : storages.IsHonest t.after.storage =
+      own_honest old new node t.before t.after t.here
+      (ap (λ (w : WorldState S). w.nodes) t.leaves ∙ recorded_nodes (with_node old node t.after) node t.result) honest in
+      subst (λ (w : WorldState S). Told w) (sym t.leaves)
       (recorded_result old node t.after t.result
-      (said_tells old.nodes old.learnt old.replies old.answers node t.after (said_of t.result) tells
+      (said_tells storages.contents old.nodes old.learnt old.replies old.answers node t.after (said_of t.result) tells
       (node_says storages old.learnt node t.before t.after i t.before.up t.result refl (λ m up. tells.knows node t.before m t.here up)
-      t.steps.down t.steps.taken t.steps.refused t.meaning.goes_on)))
+      t.steps.down t.steps.taken t.steps.refused t.meaning.goes_on)
+      (taken_texts old node i t.before t.after t.here (node_goes laws lists t.before t.after i t.result t.steps own) allowed tells)))
 
-  submission_tells : (w : WorldState S) (taken : Bool) (node : ℕ) (r : Asked) → Tells w → Tells (with_submission w taken node r)
+  submission_tells : (w : WorldState S) (taken : Bool) (node : ℕ) (r : Asked) → Told w → Told (with_submission w taken node r)
   submission_tells w true node r t = t
   submission_tells w false node r t = t
 
   submits_at : (old : WorldState S) (node : ℕ) (r : Asked) (new : WorldState S)
-      → SubmitsAt storages old node r new → Tells old → Tells new
-  submits_at old node r new s tells =
-      subst (λ (w : WorldState S). Tells w) (sym s.leaves)
+      → SubmitsAt storages old node r new → Honest new → Allowed old → Told old → Told new
+  submits_at old node r new s honest allowed tells =
+      let then : Honest s.between = subst (λ (x : List (NodeState (Script S))). AreHonest storages.IsHonest x)
+      (ap (λ (w : WorldState S). w.nodes) s.leaves ∙ submission_nodes s.between s.taken node r) honest in
+      subst (λ (w : WorldState S). Told w) (sym s.leaves)
       (submission_tells s.between s.taken node r
-      (takes_at old node (input.Submit r.client r.number r.op) s.taken s.between s.takes tells))
-
-  -- a node that has loaded its records has learnt nothing, and is the meaning of the list with which it began
-  loaded_knows : (learnt : List Learnt) (records : Records) (id nodes : ℕ) (m : Mind) (base : List Command) → WereLearnt learnt base
-      → IsBaseOf records base → IsLoaded records id nodes m → Knows learnt m
-  loaded_knows learnt records id nodes m base begins is loaded = record {
-    base = base;
-    begins = begins;
-    listed = λ slot c e. absurd (let h : None ≡ Some c = sym (ap (λ (l : Learning). l.learnt slot) loaded.learning) ∙ e in cc);
-    meaning = loaded_means records id nodes m base loaded is;
-  }
-
-  -- no record tells of what was learnt: it begins with nothing
-  begins_with_nothing : (learnt : List Learnt) (records : Records) (id nodes : ℕ) (m : Mind) → IsLoaded records id nodes m
-      → Knows learnt m
-  begins_with_nothing learnt records id nodes m loaded =
-      loaded_knows learnt records id nodes m [] (λ slot c e. absurd (let h : None ≡ Some c = e in cc)) refl loaded
+      (takes_at old node (input.Submit r.client r.number r.op) s.taken s.between s.takes then allowed tells))
 
   restarts_at : (old : WorldState S) (node : ℕ) (new : WorldState S) → RestartsAt storages old node new
-      → AreHonest storages.IsHonest new.nodes → Tells old → Tells new
-  restarts_at old node new r honest tells =
+      → Honest new → Allowed old → Told old → Told new
+  restarts_at old node new r honest allowed tells =
       let own : storages.IsHonest r.after.storage =
-      honest node r.after (ap (λ (w : WorldState S). slice_get w.nodes node) r.leaves ∙ set_there old.nodes node r.after r.before r.here) in
+      own_honest old new node r.before r.after r.here (ap (λ (w : WorldState S). w.nodes) r.leaves) honest in
       let loads = loads_or_down r.before r.after r.result r.restarts own in
-      subst (λ (w : WorldState S). Tells w) (sym r.leaves)
-      (changed_tells old node r.after tells (record {
-        knows = λ m up. begins_with_nothing old.learnt (storages.contents r.before.storage) r.before.id r.before.nodes m
-            (subst (λ (o : Option Mind). IfSome o (IsLoaded (storages.contents r.before.storage) r.before.id r.before.nodes)) up loads);
+      let held = (allowed.stands.node node r.before r.here).puts.held in
+      let texts : TextsTold storages.contents old.learnt r.before.storage = tells.texts node r.before r.here in
+      subst (λ (w : WorldState S). Told w) (sym r.leaves)
+      (changed_tells storages.contents old node r.after tells (record {
+        knows = λ m up.
+            let loaded : IsLoaded (storages.contents r.before.storage) r.before.id r.before.nodes m =
+            subst (λ (o : Option Mind). IfSome o (IsLoaded (storages.contents r.before.storage) r.before.id r.before.nodes)) up loads in
+            begins_with storages.contents old.learnt r.before.storage r.before.id r.before.nodes m loaded.accepting.checkpointed
+            loaded.accepting.checkpoint_record loaded.accepting.checkpoint_fits held texts loaded;
         replied = λ e c. absurd (none_in e c);
-      }))
+      })
+      (texts_stay storages.contents old.learnt r.before.storage r.after.storage
+      (restart_goes laws lists r.before r.after r.result r.restarts own) texts))
 
-  arms_at : (old : WorldState S) (node : ℕ) (failing : Failing) (new : WorldState S) → ArmsAt old node failing new → Tells old → Tells new
+  arms_at : (old : WorldState S) (node : ℕ) (failing : Failing) (new : WorldState S) → ArmsAt old node failing new → Told old → Told new
   arms_at old node failing new a tells =
-      subst (λ (w : WorldState S). Tells w) (sym a.leaves)
-      (changed_tells old node (record a.before { storage = record a.before.storage { armed = Some failing } }) tells
-      (says_still old.learnt a.before.up a.before.up refl (λ m up. tells.knows node a.before m a.here up)))
+      let after : NodeState (Script S) = record a.before { storage = record a.before.storage { armed = Some failing } } in
+      subst (λ (w : WorldState S). Told w) (sym a.leaves)
+      (changed_tells storages.contents old node after tells
+      (says_still old.learnt a.before.up a.before.up refl (λ m up. tells.knows node a.before m a.here up))
+      (texts_stay storages.contents old.learnt a.before.storage after.storage
+      (same_goes storages.contents None a.before.storage after.storage
+      (same_lists storages.contents a.before.storage after.storage (armed_contents a.before.storage failing) refl refl))
+      (tells.texts node a.before a.here)))
 
   -- ---- queries
   abbrev answer_at : ℕ → Query → ℕ → List ℕ → Answered
@@ -328,7 +458,7 @@ module _ {S : Type 0} (storages : Ghosts (Script S)) where
 
   answered_tells : (old : WorldState S) (node : ℕ) (n : NodeState (Script S)) (query : Query)
       (result : Result (ℕ × List ℕ) NodeFault) → slice_get old.nodes node ≡ Some n → NodeAnswers n query result
-      → AnswersMeaning n query result → Tells old → Tells (answered old node query result)
+      → AnswersMeaning n query result → Told old → Told (answered old node query result)
   answered_tells old node n query (Ok answer) here says means t =
       let new : TellsAnswer old.learnt (answer_at node query answer.0 answer.1) =
       answer_tells old.learnt node query answer.0 answer.1 n.up (λ m up. t.knows node n m here up)
@@ -341,40 +471,43 @@ module _ {S : Type 0} (storages : Ghosts (Script S)) where
           | inr same ↦ subst (TellsAnswer old.learnt) same new
         ];
         knows = t.knows;
+        texts = t.texts;
       }
   answered_tells old node n query (Err f) here says means t = t
 
-  asks_at : (old : WorldState S) (node : ℕ) (query : Query) (new : WorldState S) → AsksAt old node query new → Tells old → Tells new
+  asks_at : (old : WorldState S) (node : ℕ) (query : Query) (new : WorldState S) → AsksAt old node query new → Told old → Told new
   asks_at old node query new a tells =
-      subst (λ (w : WorldState S). Tells w) (sym a.leaves)
+      subst (λ (w : WorldState S). Told w) (sym a.leaves)
       (answered_tells old node a.asked query a.result a.here a.answers a.meaning tells)
 
   -- ---- each step
-  tell : HoldsOf storages (λ old e new. AreHonest storages.IsHonest new.nodes → Tells old → Tells new)
+  tell : HoldsOf storages (λ old e new. Honest new → Allowed old → Told old → Told new)
   tell = record {
-    takes = λ old e node i taken new h own honest tells. takes_at old node i taken new h tells;
-    submits = λ old e node r new h honest tells. submits_at old node r new h tells;
-    hears = λ old e k frame taken new sent fits h honest tells.
-        takes_at (without_wait old k) frame.to (input.Message frame) taken new h tells;
-    loses = λ old e k o new brings h honest tells. subst (λ (w : WorldState S). Tells w) (sym h) tells;
-    restarts = λ old node new h honest tells. restarts_at old node new h honest tells;
-    arms = λ old e node failing new h honest tells. arms_at old node failing new h tells;
-    answers = λ old e node query new h honest tells. asks_at old node query new h tells;
+    takes = λ old e node i taken new h own honest allowed tells. takes_at old node i taken new h honest allowed tells;
+    submits = λ old e node r new h honest allowed tells. submits_at old node r new h honest allowed tells;
+    hears = λ old e k frame taken new sent fits h honest allowed tells.
+        takes_at (without_wait old k) frame.to (input.Message frame) taken new h honest allowed tells;
+    loses = λ old e k o new brings h honest allowed tells. subst (λ (w : WorldState S). Told w) (sym h) tells;
+    restarts = λ old node new h honest allowed tells. restarts_at old node new h honest allowed tells;
+    arms = λ old e node failing new h honest allowed tells. arms_at old node failing new h tells;
+    answers = λ old e node query new h honest allowed tells. asks_at old node query new h tells;
   }
 
-  pub steps_tell : (old new : WorldState S) (e : Event) → Steps storages old e new → AreHonest storages.IsHonest new.nodes
-      → Tells old → Tells new
-  steps_tell old new e h honest tells = step_holds tell old e new h honest tells
+  pub steps_tell : (old new : WorldState S) (e : Event) → Steps storages old e new → Honest new → Allowed old → Told old → Told new
+  steps_tell old new e h honest allowed tells = step_holds tell old e new h honest allowed tells
 
-  -- ---- the start
-  -- nothing is told, and no node has learnt or executed anything
-  pub start_tells : (count : ℕ) (w : WorldState S) → IsStart storages count w → AreHonest storages.IsHonest w.nodes → Tells w
-  start_tells count w s honest =
-      subst (λ (x : WorldState S). Tells x) (sym s.nothing) (record {
-        replied = λ p c. absurd (none_in p c);
-        answered = λ a c. absurd (none_in a c);
-        knows = λ i n m here up.
-            let started : IsStarted storages i count n = s.nodes.each i n here in
-            begins_with_nothing [] no_records i count m
-            (subst (λ (o : Option Mind). IfSome o (IsLoaded no_records i count)) up (started.up (honest i n here)));
-      })
+-- ---- the start
+-- nothing is told, and no node has learnt or executed anything
+pub start_tells : {S : Type 0} (storages : Ghosts (Script S)) (count : ℕ) (w : WorldState S) → IsStart storages count w
+    → AreHonest storages.IsHonest w.nodes → Tells storages.contents w
+start_tells {S} storages count w s honest =
+    subst (λ (x : WorldState S). Tells storages.contents x) (sym s.nothing) (record {
+      replied = λ p c. absurd (none_in p c);
+      answered = λ a c. absurd (none_in a c);
+      knows = λ i n m here up.
+          let started : IsStarted storages i count n = s.nodes.each i n here in
+          begins_with_nothing [] no_records i count m refl
+          (subst (λ (o : Option Mind). IfSome o (IsLoaded no_records i count)) up (started.up (honest i n here)));
+      texts = λ i n here c fits took.
+          absurd (none_put n.storage (key.Checkpoint, checkpoint_bytes c) (s.nodes.each i n here).unused took);
+    })

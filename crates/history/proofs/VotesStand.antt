@@ -55,14 +55,14 @@ module _ {S : Type 0} (contents : Script S → Records) where
       → y.records.floor ≤ v.slot → y.records.vote v.slot ≡ Some v → Shows (contents n.storage) (vote_put v)
   vote_shows n y stands v from e =
       let low = from_the_floor n y stands v.slot from in
-      stands.records.holds.acceptor.vote_record v.slot low ∙ ap (option_map vote_bytes) (sym (stands.records.stands.vote v.slot low) ∙ e)
+      stands.records.holds.acceptor.vote_record v.slot ∙ ap (option_map vote_bytes) (sym (stands.records.stands.vote v.slot low) ∙ e)
 
   vote_fits : (n : NodeState (Script S)) (y : Local Command) → (stands : NodeStands contents n y) → (v : Vote Command)
       → y.records.floor ≤ v.slot → y.records.vote v.slot ≡ Some v → VoteFits v
   vote_fits n y stands v from e =
       let low = from_the_floor n y stands v.slot from in
       subst (λ (o : Option (Vote Command)). IfSome o VoteFits) (sym (stands.records.stands.vote v.slot low) ∙ e)
-      (stands.records.holds.acceptor.votes_fit v.slot low)
+      (stands.records.holds.acceptor.votes_fit v.slot)
 
   vote_stands : (n : NodeState (Script S)) (y : Local Command) → (stands : NodeStands contents n y) → (v : Vote Command)
       → y.records.floor ≤ v.slot → VoteFits v → Shows (contents n.storage) (vote_put v) → y.records.vote v.slot ≡ Some v
@@ -70,8 +70,8 @@ module _ {S : Type 0} (contents : Script S → Records) where
       let says = stands.records.holds.acceptor in
       let low = from_the_floor n y stands v.slot from in
       stands.records.stands.vote v.slot low
-      ∙ one_spelled (stands.records.accepting.vote v.slot) v (says.at_its_slot v.slot low) (says.votes_fit v.slot low) fits
-      (sym (says.vote_record v.slot low) ∙ shows)
+      ∙ one_spelled (stands.records.accepting.vote v.slot) v (says.at_its_slot v.slot) (says.votes_fit v.slot) fits
+      (sym (says.vote_record v.slot) ∙ shows)
 
   -- what acts of a node make of its votes, and what became of its storage
   pub puts_go_on : (f : Fleet Command) (i : ℕ) (input : act.Input Command) (made : Option Write) (x y : Local Command) (a : Script S)

@@ -78,6 +78,10 @@ taken_listed node input.Timeout (Ok told) = refl
 taken_listed node input.Timeout (Err f) = refl
 taken_listed node input.Tick (Ok told) = refl
 taken_listed node input.Tick (Err f) = refl
+taken_listed node input.Checkpoint (Ok told) = refl
+taken_listed node input.Checkpoint (Err f) = refl
+taken_listed node input.Trim (Ok told) = refl
+taken_listed node input.Trim (Err f) = refl
 
 module _ {S : Type 0} {storages : Ghosts (Script S)} (laws : IsLawful storages)
     (armed_honest : (s : Script S) (f : Failing) → storages.IsHonest (record s { armed = Some f }) → storages.IsHonest s)
@@ -137,13 +141,11 @@ module _ {S : Type 0} {storages : Ghosts (Script S)} (laws : IsLawful storages)
     submitted : new.submitted ≡ old.submitted
 
   pub honest_took : (old : WorldState S) (node : ℕ) (i : Input) (taken : Bool) (new : WorldState S) → TakesAt storages old node i taken new
-      → IsFleet old.nodes old.frames → WorldHonest new → WorldHonest old
-  honest_took old node i taken new h fleet_ honest =
+      → WorldHonest new → WorldHonest old
+  honest_took old node i taken new h honest =
       let nodes : new.nodes ≡ slice_set old.nodes node h.after = ap (λ (w : WorldState S). w.nodes) h.leaves
       ∙ recorded_nodes (with_node old node h.after) node h.result in
-      let there : node < length old.nodes = slice_get_within old.nodes node h.before h.here in
-      honest_nodes old.nodes node h.before h.after h.here
-      (honest_before laws (length old.nodes) node there fleet_.few h.before h.after i h.result h.steps)
+      honest_nodes old.nodes node h.before h.after h.here (honest_before laws h.before h.after i h.result h.steps)
       (subst (λ (x : Nodes). AreHonest storages.IsHonest x) nodes honest)
 
   takes_allowed : (old : WorldState S) (node : ℕ) (i : Input) (taken : Bool) (new : WorldState S) → TakesAt storages old node i taken new
@@ -213,7 +215,7 @@ module _ {S : Type 0} {storages : Ghosts (Script S)} (laws : IsLawful storages)
       → IsFleet old.nodes old.frames → InputFits i → ((a : WorldAllowed old) → HasCome a.state.past (input_of node (length old.nodes) i))
       → (WorldHonest old → WorldAllowed old) → WorldHonest new → WorldAllowed new
   takes_step old node i taken new none h fleet_ fits came before honest =
-      let a : WorldAllowed old = before (honest_took old node i taken new h fleet_ honest) in
+      let a : WorldAllowed old = before (honest_took old node i taken new h honest) in
       takes_quietly old node i taken new none (takes_allowed old node i taken new h fleet_ fits a (came a) honest)
 
   -- ---- a node is changed, and nothing is told
@@ -311,7 +313,7 @@ module _ {S : Type 0} {storages : Ghosts (Script S)} (laws : IsLawful storages)
         let nodes : new.nodes ≡ h.between.nodes =
         ap (λ (w : WorldState S). w.nodes) h.leaves ∙ submission_nodes h.between h.taken node r in
         let then : WorldHonest h.between = subst (λ (x : Nodes). AreHonest storages.IsHonest x) nodes honest in
-        let a : WorldAllowed old = before (honest_took old node i h.taken h.between h.takes fleet_ then) in
+        let a : WorldAllowed old = before (honest_took old node i h.taken h.between h.takes then) in
         submits_allowed old h.between new node r h.taken h.leaves (takes_allowed old node i h.taken h.between h.takes fleet_ tt a tt then);
     hears = λ old e k frame taken new sent fits h fleet_ before honest.
         takes_step (without_wait old k) frame.to (input.Message frame) taken new refl h fleet_ fits.message

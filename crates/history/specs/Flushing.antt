@@ -26,6 +26,7 @@ module _ {S : Type 0} (storages : Ghosts (Script S)) where
   -- no record was ever written, no put is made to fail, and none is listed
   pub record IsUnused (storage : Script S) : Type 0 where
     pub empty : storages.IsHonest storage → storages.contents storage ≡ no_records
+    pub no_stray : storages.IsHonest storage → ¬ (storages.HasStrayKey storage)
     pub unarmed : IsUnarmed storage.armed
     pub no_puts : storage.writes ≡ []
     pub sure : storage.unsure ≡ None

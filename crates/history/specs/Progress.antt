@@ -1,6 +1,6 @@
 -- What is promised of progress: a round by hand that nothing disturbs decides, or tells the promise that was in its way, or
 -- ends as a member goes down.
-use Rattle.std.specs.Prelude.{◌≡◌, ℕ, ◌<◌, ◌≤◌, ◌⊎◌, ◌^◌, List, [], ◌∷◌, ◌++◌, Option, Some, None, IsSome, Contains}
+use Rattle.std.specs.Prelude.{◌≡◌, ℕ, ◌<◌, ◌≤◌, ◌⊎◌, ◌^◌, List, [], ◌∷◌, ◌++◌, Some, IsSome, Contains}
 use Rattle.stable.specs.Script.{Script}
 use Rattle.stable.specs.declared.stable.Stable.{Ghosts}
 use Rattle.synod.specs.Ballots.{rank, rank_of}
@@ -16,6 +16,7 @@ use Rattle.history.specs.declared.lists.Outcome.TheVariants as outcome
 use Rattle.history.specs.declared.round_end.RoundEnd.{RoundEnd}
 use Rattle.history.specs.declared.round_end.RoundEnd.TheVariants.{Stopped, TooLow, Decided}
 use Rattle.history.specs.Fired.{AreHonestInside}
+use Rattle.history.specs.Reaching.{IsAllowed, AreHonest}
 use Rattle.history.specs.Rounds.{CanMeet}
 use Rattle.history.specs.Worlds.{WorldState, Steps, with_outcome}
 pub use Rattle.history.specs.Worlds.{mind_in, mind_at}
@@ -102,6 +103,8 @@ Restarts node (event.Deliver k) = ⊥
 Restarts node (event.Drop k) = ⊥
 Restarts node (event.Timeout i) = ⊥
 Restarts node (event.Tick i) = ⊥
+Restarts node (event.Checkpoint i) = ⊥
+Restarts node (event.Trim i) = ⊥
 Restarts node (event.Fault i failing) = ⊥
 Restarts node (event.Query i query) = ⊥
 
@@ -110,3 +113,16 @@ abbrev pub BallotsNeverFall : {S : Type 0} → Ghosts (Script S) → Type 0
 BallotsNeverFall {S} storages = (old : WorldState S) (e : Event) (new : WorldState S) (node : ℕ) → Steps storages old e new
     → (Restarts node e → ⊥) → (before after : Mind) → mind_at old node ≡ Some before → mind_at new node ≡ Some after
     → (b c : Ballot) → IsNextBallot before b → IsNextBallot after c → rank b ≤ rank c
+
+-- one step after the other leads from one world to another
+abbrev pub StepsAll : {S : Type 0} → Ghosts (Script S) → WorldState S → List Event → WorldState S → Type 0
+StepsAll storages old [] new = new ≡ old
+StepsAll {S} storages old (e ∷ more) new = (between : WorldState S) × Steps storages old e between × StepsAll storages between more new
+
+-- over honest storages no steps make the promise of a node lower, whether it was down in between and restarted or not
+abbrev pub PromisesNeverFall : {S : Type 0} → Ghosts (Script S) → Type 0
+PromisesNeverFall {S} storages = (old : WorldState S) (events : List Event) (new : WorldState S) (node : ℕ)
+    → IsAllowed storages.contents old.nodes old.frames old.learnt old.submitted → AreHonest storages.IsHonest new.nodes
+    → StepsAll storages old events new
+    → (before after : Mind) → mind_at old node ≡ Some before → mind_at new node ≡ Some after
+    → rank_of (promised before) ≤ rank_of (promised after)

@@ -1,5 +1,5 @@
 -- What is promised of a world whose storages are honest.
-use Rattle.std.specs.Prelude.{◌≡◌, ◌↔◌, ℕ, ◌<◌, List, map, length, slice_get, Some, IsSome}
+use Rattle.std.specs.Prelude.{◌≡◌, ◌↔◌, ℕ, ◌<◌, ◌≤◌, List, map, take, Contains, length, slice_get, Some, IsSome}
 use Rattle.stable.specs.Records.{Records}
 use Rattle.stable.specs.Script.{Script, Write}
 use Rattle.stable.specs.declared.key.Key.TheVariants as key
@@ -10,15 +10,20 @@ use Rattle.synod.specs.Runs.{IsReached}
 use Rattle.synod.specs.declared.ballot.Ballot.{Ballot}
 use Rattle.synod.specs.declared.vote.Vote.{Vote}
 use Rattle.acceptor.specs.Spelling.{ballot_bytes}
+use Rattle.sessions.specs.Snapshots.{IsSnapshot}
+use Rattle.sessions.specs.Standing.{StandsFor}
 use Rattle.sessions.specs.declared.command.Command.{Command}
-use Rattle.history.specs.Explaining.{IsExplained, LearntInLog}
+use Rattle.wire.specs.RecordForms.{Checkpointed, checkpoint_bytes}
+use Rattle.acceptor.specs.Forms.{CheckpointFits}
+use Rattle.minds.specs.Minds.{Mind, position}
+use Rattle.history.specs.Explaining.{Explains, IsExplained, LearntInLog}
 use Rattle.history.specs.Protocol.{fleet, frame_of, learnt_as, command_of}
 use Rattle.history.specs.Reaching.{TookEffect, IsAllowed, AreHonest}
 use Rattle.minds.specs.States.{NodeState}
 use Rattle.history.specs.Submissions.{BringValid}
 use Rattle.history.specs.Telling.{Tells}
 use Rattle.history.specs.Voting.{HasVote, HasChosen}
-use Rattle.history.specs.Worlds.{WorldState}
+use Rattle.history.specs.Worlds.{WorldState, mind_at}
 
 -- the writes of each node
 abbrev pub writes_of : {S : Type 0} → List (NodeState (Script S)) → List (List Write)
@@ -37,6 +42,24 @@ pub record HasAgreed {S : Type 0} (w : WorldState S) : Type 0 where
       → (v : Vote Command) → Voted state.past i v ↔ HasVote n.storage.writes v
   pub agreed : IsAgreed (fleet (length w.nodes)) state.past
 
+-- the text is that of the list's first entries, as many as the position says, and these are there
+pub record IsTextOfFirst (l : List Command) (position : ℕ) (text : List ℕ) : Type 0 where
+  pub there : position ≤ length l
+  pub is : IsSnapshot (take position l) text
+
+-- so it is of the text of each checkpoint that any node wrote, also where another has taken its place since
+abbrev pub HasTexts : List Command → List (List Write) → Type 0
+HasTexts l nodes = (writes : List Write) (c : Checkpointed) → Contains nodes writes → CheckpointFits c
+    → Contains writes (key.Checkpoint, checkpoint_bytes c) → IsTextOfFirst l c.position c.text
+
+-- each node that is up stands for the list's first entries, as many as its position says, and these are there
+pub record StandsForFirst (l : List Command) (m : Mind) : Type 0 where
+  pub there : position m ≤ length l
+  pub stands : StandsFor m.machine (take (position m) l)
+
+abbrev pub NodesStand : {S : Type 0} → List Command → WorldState S → Type 0
+NodesStand l w = (i : ℕ) (m : Mind) → mind_at w i ≡ Some m → StandsForFirst l m
+
 -- so whatever any node learnt is chosen by the lists of writes, and one list of commands explains everything that any
 -- node told. What the requests bring is valid, so that a query has one answer over such a list
 pub record IsSafe {S : Type 0} (w : WorldState S) : Type 0 where
@@ -44,11 +67,16 @@ pub record IsSafe {S : Type 0} (w : WorldState S) : Type 0 where
   pub chosen : HasChosen (writes_of w.nodes) w.learnt w.submitted
   pub explained : IsExplained w.submitted w.learnt w.replies w.answers
   pub valid : BringValid w.submitted
+  -- whatever list explains the world
+  pub texts : (l : List Command) → Explains l w.submitted w.learnt w.replies w.answers → HasTexts l (writes_of w.nodes)
+  pub nodes : (l : List Command) → Explains l w.submitted w.learnt w.replies w.answers → NodesStand l w
 
 -- ---- what is kept from call to call
--- each promise that was put and took effect is of one of so many nodes
-abbrev pub PromisesAmong : {S : Type 0} → (Script S → Records) → ℕ → Script S → Type 0
-PromisesAmong contents nodes s = (b : Ballot) → TookEffect contents s (key.Promise, ballot_bytes b) → b.node < nodes
+-- each promise that was put and took effect, alone or in a checkpoint, is of one of so many nodes
+pub record PromisesAmong {S : Type 0} (contents : Script S → Records) (nodes : ℕ) (s : Script S) : Type 0 where
+  pub alone : (b : Ballot) → TookEffect contents s (key.Promise, ballot_bytes b) → b.node < nodes
+  pub sealed : (c : Checkpointed) (b : Ballot) → CheckpointFits c → TookEffect contents s (key.Checkpoint, checkpoint_bytes c)
+      → c.promise ≡ Some b → b.node < nodes
 
 -- so it is at each node, of the nodes of the run
 abbrev pub PromisesOfRun : {S : Type 0} → (Script S → Records) → List (NodeState (Script S)) → Type 0
@@ -59,7 +87,7 @@ PromisesOfRun {S} contents nodes =
 -- what was submitted is valid, and what was promised is of a node of the run
 pub record IsSound {S : Type 0} (contents : Script S → Records) (w : WorldState S) : Type 0 where
   pub allowed : IsAllowed contents w.nodes w.frames w.learnt w.submitted
-  pub tells : Tells w
+  pub tells : Tells contents w
   pub in_log : LearntInLog w.learnt
   pub valid : BringValid w.submitted
   pub promises : PromisesOfRun contents w.nodes

@@ -1,7 +1,13 @@
 -- What the lists of a world tell of one another: whatever a reply or an answer rests on was learnt by some node.
 use Rattle.std.specs.Prelude.{◌≡◌, ℕ, List, length, Some, Contains, slice_get}
+use Rattle.stable.specs.Records.{Records}
+use Rattle.stable.specs.Script.{Script}
+use Rattle.stable.specs.declared.key.Key.TheVariants as key
 use Rattle.sessions.specs.Meaning.{Answers}
+use Rattle.sessions.specs.Snapshots.{IsSnapshot}
 use Rattle.sessions.specs.declared.command.Command.{Command}
+use Rattle.wire.specs.RecordForms.{Checkpointed, checkpoint_bytes}
+use Rattle.acceptor.specs.Forms.{CheckpointFits}
 use Rattle.minds.specs.Composition.{IsMeaningOf, IsReplyOf}
 use Rattle.minds.specs.Minds.{Mind, learnt_in}
 use Rattle.minds.specs.States.{NodeState}
@@ -9,6 +15,7 @@ use Rattle.history.specs.declared.lists.Learnt.{Learnt}
 use Rattle.history.specs.declared.lists.Replied.{Replied}
 use Rattle.history.specs.declared.lists.Answered.{Answered}
 use Rattle.history.specs.Outputs.{executed_of}
+use Rattle.history.specs.Reaching.{TookEffect}
 use Rattle.history.specs.Worlds.{WorldState}
 
 -- some node learnt the command at the slot
@@ -35,6 +42,18 @@ pub record TellsAnswer (learnt : List Learnt) (a : Answered) : Type 0 where
   pub position : a.position ≡ length log
   pub answers : Answers log a.query a.text
 
+-- the text is that of a list of what was learnt, as long as the position says: so each slot below it was learnt by some node
+pub record TellsText (learnt : List Learnt) (position : ℕ) (text : List ℕ) : Type 0 where
+  pub log : List Command
+  pub known : WereLearnt learnt log
+  pub length_ : length log ≡ position
+  pub is : IsSnapshot log text
+
+-- each checkpoint that was written and took effect, replaced since or not, has such a text
+abbrev pub TextsTold : {S : Type 0} → (Script S → Records) → List Learnt → Script S → Type 0
+TextsTold contents learnt s = (c : Checkpointed) → CheckpointFits c → TookEffect contents s (key.Checkpoint, checkpoint_bytes c)
+    → TellsText learnt c.position c.text
+
 -- what a node that is up has learnt is listed, and it is the meaning of a list with which it began, of what some nodes learnt, and of
 -- what it has learnt behind it
 pub record Knows (learnt : List Learnt) (m : Mind) : Type 0 where
@@ -43,11 +62,12 @@ pub record Knows (learnt : List Learnt) (m : Mind) : Type 0 where
   pub listed : (slot : ℕ) (c : Command) → learnt_in m slot ≡ Some c → WasLearnt learnt slot c
   pub meaning : IsMeaningOf base m
 
-pub record ListsTell {S : Type 0} (nodes : List (NodeState S)) (learnt : List Learnt) (replies : List Replied)
-    (answers : List Answered) : Type 0 where
+pub record ListsTell {S : Type 0} (contents : Script S → Records) (nodes : List (NodeState (Script S))) (learnt : List Learnt)
+    (replies : List Replied) (answers : List Answered) : Type 0 where
   pub replied : (p : Replied) → Contains replies p → TellsReply learnt p
   pub answered : (a : Answered) → Contains answers a → TellsAnswer learnt a
-  pub knows : (i : ℕ) (n : NodeState S) (m : Mind) → slice_get nodes i ≡ Some n → n.up ≡ Some m → Knows learnt m
+  pub knows : (i : ℕ) (n : NodeState (Script S)) (m : Mind) → slice_get nodes i ≡ Some n → n.up ≡ Some m → Knows learnt m
+  pub texts : (i : ℕ) (n : NodeState (Script S)) → slice_get nodes i ≡ Some n → TextsTold contents learnt n.storage
 
-abbrev pub Tells : {S : Type 0} → WorldState S → Type 0
-Tells w = ListsTell w.nodes w.learnt w.replies w.answers
+abbrev pub Tells : {S : Type 0} → (Script S → Records) → WorldState S → Type 0
+Tells contents w = ListsTell contents w.nodes w.learnt w.replies w.answers

@@ -188,6 +188,10 @@ Steps storages old (event.Timeout node) new =
     (taken : Bool) × TakesAt storages old node input.Timeout taken new
 Steps storages old (event.Tick node) new =
     (taken : Bool) × TakesAt storages old node input.Tick taken new
+Steps storages old (event.Checkpoint node) new =
+    (taken : Bool) × TakesAt storages old node input.Checkpoint taken new
+Steps storages old (event.Trim node) new =
+    (taken : Bool) × TakesAt storages old node input.Trim taken new
 Steps storages old (event.Restart node) new =
     RestartsAt storages old node new
 Steps storages old (event.Fault node failing) new = ArmsAt old node failing new

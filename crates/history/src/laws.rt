@@ -1,11 +1,13 @@
 //! What holds of all runs. Nothing runs.
 
 ghost use Rattle.std.specs.Prelude.{◌≡◌, Contains};
-ghost use Rattle.history.specs.Progress.{BallotsNeverFall};
+ghost use Rattle.history.specs.Progress.{BallotsNeverFall, PromisesNeverFall};
 ghost use Rattle.history.specs.Safety.{IsSafe};
 ghost use Rattle.history.specs.Tallies.{StepsTally};
 ghost use Rattle.history.specs.Worlds.{WorldState};
 ghost use Rattle.history.specs.declared.lists.Answered.{Answered};
+ghost use Rattle.history.specs.declared.lists.Replied.{Replied};
+ghost use Rattle.sessions.specs.Outcomes.{outcome_code};
 
 use stable::{Scripted, Stable};
 
@@ -21,7 +23,19 @@ pub fn answers_are_one<S>()
         → a.query ≡ b.query → a.position ≡ b.position → a.text ≡ b.text }
 {}
 
+/// In every world that is safe two replies at one position have one number, whoever gave them.
+pub fn replies_are_one<S>()
+    ensures { (w : WorldState S) → ∥ IsSafe w ∥₁ → (a b : Replied) → Contains w.replies a → Contains w.replies b
+        → a.position ≡ b.position → outcome_code a.reply ≡ outcome_code b.reply }
+{}
+
 /// No step but its restart makes the next ballot of a node lower, as long as it stays up: what a round was told of stays below it.
 pub fn ballots_never_fall<S: Stable>()
     ensures { BallotsNeverFall (⟦<Scripted<S> as Stable>⟧) }
+{}
+
+/// No steps make what a node has promised lower, also where the votes that raised it are trimmed, or where it goes down and restarts on
+/// the way.
+pub fn promises_never_fall<S: Stable>()
+    ensures { PromisesNeverFall (⟦<Scripted<S> as Stable>⟧) }
 {}

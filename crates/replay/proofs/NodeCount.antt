@@ -18,7 +18,7 @@ use Rattle.history.specs.declared.round_end.RoundEnd.{RoundEnd}
 use Rattle.history.specs.declared.round_end.RoundEnd.TheVariants.{NotAQuorum, Down, Behind, Refused, Stopped, TooLow, Decided}
 use Rattle.history.specs.Worlds.{WorldState, Steps, TakesAt, ReceivesAt, DeliversFrame, recorded, answered, with_submission}
 use Rattle.events.specs.declared.event.Event.{Event}
-use Rattle.events.specs.declared.event.Event.TheVariants.{Submit, Deliver, Drop, Timeout, Tick, Restart, Fault, Query}
+use Rattle.events.specs.declared.event.Event.TheVariants.{Submit, Deliver, Drop, Timeout, Tick, Checkpoint, Trim, Restart, Fault, Query}
 use Rattle.minds.specs.declared.fault.NodeFault.{NodeFault}
 use Rattle.minds.specs.declared.input.Input.{Input}
 use Rattle.schedule.specs.Lines.{NumberedText}
@@ -130,6 +130,8 @@ module _ {S : Type 0} (storages : Ghosts (Script S)) where
   step_keeps old (Drop k) new s = ap size s
   step_keeps old (Timeout node) new s = takes_keep old node _ s.0 new s.1
   step_keeps old (Tick node) new s = takes_keep old node _ s.0 new s.1
+  step_keeps old (Checkpoint node) new s = takes_keep old node _ s.0 new s.1
+  step_keeps old (Trim node) new s = takes_keep old node _ s.0 new s.1
   step_keeps old (Restart node) new s = ap size s.leaves ∙ length-set old.nodes node s.after
   step_keeps old (Fault node failing) new s = ap size s.leaves ∙ length-set old.nodes node _
   step_keeps old (Query node query) new s = ap size s.leaves ∙ answered_keeps old node query s.result
@@ -152,6 +154,8 @@ named_below w n words (Deliver frame) same spells lacks = lacks
 named_below w n words (Drop frame) same spells lacks = lacks
 named_below w n words (Timeout node) same spells lacks = absurd (omega (arith, spells.2.2.below))
 named_below w n words (Tick node) same spells lacks = absurd (omega (arith, spells.2.2.below))
+named_below w n words (Checkpoint node) same spells lacks = absurd (omega (arith, spells.2.2.below))
+named_below w n words (Trim node) same spells lacks = absurd (omega (arith, spells.2.2.below))
 named_below w n words (Restart node) same spells lacks = absurd (omega (arith, spells.2.2.below))
 named_below w n words (Fault node failing) same spells lacks = absurd (omega (arith, spells.2.2.below))
 named_below w n words (Query node query) same spells lacks = absurd (omega (arith, spells.1.to_node.below))

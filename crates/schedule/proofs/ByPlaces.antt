@@ -20,6 +20,8 @@ action_made (line_of keyword.Drop) (_, (frame, _)) = Some (Step (event.Drop fram
 action_made (line_of keyword.Flush) _ = Some Flush
 action_made (line_of keyword.Timeout) (_, (node, _)) = Some (Step (event.Timeout node))
 action_made (line_of keyword.Tick) (_, (node, _)) = Some (Step (event.Tick node))
+action_made (line_of keyword.Checkpoint) (_, (node, _)) = Some (Step (event.Checkpoint node))
+action_made (line_of keyword.Trim) (_, (node, _)) = Some (Step (event.Trim node))
 action_made (line_of keyword.Restart) (_, (node, _)) = Some (Step (event.Restart node))
 action_made (line_of keyword.Fault) (_, (node, (failing, _))) = Some (Step (event.Fault node failing))
 action_made (line_of keyword.Round) (_, (node, (members, _))) = Some (Round node members)
@@ -80,6 +82,14 @@ by_places n words (Step (event.Timeout node)) (others, e, (word, one, w)) = (
 )
 by_places n words (Step (event.Tick node)) (others, e, (word, one, w)) = (
   line_of keyword.Tick,
+  record { values = (tt, (node, tt)); its_count = rw (e, one) refl; said = rw (e, one) (refl, (w, tt)); made = refl },
+)
+by_places n words (Step (event.Checkpoint node)) (others, e, (word, one, w)) = (
+  line_of keyword.Checkpoint,
+  record { values = (tt, (node, tt)); its_count = rw (e, one) refl; said = rw (e, one) (refl, (w, tt)); made = refl },
+)
+by_places n words (Step (event.Trim node)) (others, e, (word, one, w)) = (
+  line_of keyword.Trim,
   record { values = (tt, (node, tt)); its_count = rw (e, one) refl; said = rw (e, one) (refl, (w, tt)); made = refl },
 )
 by_places n words (Step (event.Restart node)) (others, e, (word, one, w)) = (

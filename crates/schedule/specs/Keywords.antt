@@ -3,7 +3,7 @@ use Rattle.std.specs.Prelude.{ℕ, List, codes}
 use Rattle.stable.specs.declared.scripted.Failing.{Failing}
 use Rattle.stable.specs.declared.scripted.Failing.TheVariants.{Old, New, Read}
 use Rattle.schedule.specs.declared.keyword.Keyword.{Keyword}
-use Rattle.schedule.specs.declared.keyword.Keyword.TheVariants.{Nodes, Deliver, Drop, Flush, Timeout, Tick, Restart, Fault, Round}
+use Rattle.schedule.specs.declared.keyword.Keyword.TheVariants.{Nodes, Deliver, Drop, Flush, Timeout, Tick, Checkpoint, Trim, Restart, Fault, Round}
 use Rattle.schedule.specs.declared.keyword.Operation.{Operation}
 use Rattle.schedule.specs.declared.keyword.Operation.TheVariants.{Put, Append, Remove}
 use Rattle.schedule.specs.declared.keyword.Question.{Question}
@@ -17,6 +17,8 @@ text_of Drop = codes "drop"
 text_of Flush = codes "flush"
 text_of Timeout = codes "timeout"
 text_of Tick = codes "tick"
+text_of Checkpoint = codes "checkpoint"
+text_of Trim = codes "trim"
 text_of Restart = codes "restart"
 text_of Fault = codes "fault"
 text_of Round = codes "round"

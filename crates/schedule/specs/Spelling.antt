@@ -103,6 +103,10 @@ WordsSpell n words (Step (event.Timeout node)) =
     BeginsWith (codes "timeout") words (IsOneWord (λ word. IsNode n word node))
 WordsSpell n words (Step (event.Tick node)) =
     BeginsWith (codes "tick") words (IsOneWord (λ word. IsNode n word node))
+WordsSpell n words (Step (event.Checkpoint node)) =
+    BeginsWith (codes "checkpoint") words (IsOneWord (λ word. IsNode n word node))
+WordsSpell n words (Step (event.Trim node)) =
+    BeginsWith (codes "trim") words (IsOneWord (λ word. IsNode n word node))
 WordsSpell n words (Step (event.Restart node)) =
     BeginsWith (codes "restart") words (IsOneWord (λ word. IsNode n word node))
 WordsSpell n words (Step (event.Fault node failing)) =

@@ -12,7 +12,7 @@ use Rattle.schedule.specs.Keywords.{text_of, failing_text, operation_text, quest
 use Rattle.schedule.specs.Numbers.{Writes, IsCoordinate}
 use Rattle.schedule.specs.Words.{words_of}
 use Rattle.schedule.specs.declared.keyword.Keyword.{Keyword}
-use Rattle.schedule.specs.declared.keyword.Keyword.TheVariants.{Nodes, Deliver, Drop, Flush, Timeout, Tick, Restart, Fault, Round}
+use Rattle.schedule.specs.declared.keyword.Keyword.TheVariants.{Nodes, Deliver, Drop, Flush, Timeout, Tick, Checkpoint, Trim, Restart, Fault, Round}
 use Rattle.schedule.specs.declared.keyword.Operation.{Operation}
 use Rattle.schedule.specs.declared.keyword.Operation.TheVariants.{Put, Append, Remove}
 use Rattle.schedule.specs.declared.keyword.Question.{Question}
@@ -56,6 +56,8 @@ keyword_places Drop = a_frame_number ∷ []
 keyword_places Flush = []
 keyword_places Timeout = a_node ∷ []
 keyword_places Tick = a_node ∷ []
+keyword_places Checkpoint = a_node ∷ []
+keyword_places Trim = a_node ∷ []
 keyword_places Restart = a_node ∷ []
 keyword_places Fault = a_node ∷ a_failing ∷ []
 keyword_places Round = a_node ∷ some_nodes ∷ []

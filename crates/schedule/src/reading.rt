@@ -129,6 +129,10 @@ fn row<'a>(nodes: Nodes, keyword: Keyword, words: Words<'a>) -> Result<Unread<'a
             nodes, words,
         )?)))),
         Keyword::Tick => Ok(Unread::Whole(Action::Step(Event::Tick(node_row(nodes, words)?)))),
+        Keyword::Checkpoint => Ok(Unread::Whole(Action::Step(Event::Checkpoint(node_row(
+            nodes, words,
+        )?)))),
+        Keyword::Trim => Ok(Unread::Whole(Action::Step(Event::Trim(node_row(nodes, words)?)))),
         Keyword::Restart => Ok(Unread::Whole(Action::Step(Event::Restart(node_row(
             nodes, words,
         )?)))),

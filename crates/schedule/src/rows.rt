@@ -24,7 +24,7 @@ pub(crate) fn frame_row(words: Words) -> Result<u64, ScheduleFault>
     decimal(words.only()?).ok_or(ScheduleFault::WordForm)
 }
 
-/// After `timeout`, `tick` and `restart`: a node.
+/// After `timeout`, `tick`, `checkpoint`, `trim` and `restart`: a node.
 pub(crate) fn node_row(nodes: Nodes, words: Words) -> Result<NodeId, ScheduleFault>
     ensures { MatchResult result (λ node. IsOneWord (λ word. IsNode nodes word node) words.entry)
         (IsFaultAt nodes (keyword_places Keyword.Timeout) words.entry) }

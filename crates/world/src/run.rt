@@ -198,6 +198,8 @@ impl<S: Stable> Run<S> {
             Event::Drop(frame) => self.drop_frame(frame),
             Event::Timeout(node) => self.input(alloc, node, Input::Timeout),
             Event::Tick(node) => self.input(alloc, node, Input::Tick),
+            Event::Checkpoint(node) => self.input(alloc, node, Input::Checkpoint),
+            Event::Trim(node) => self.input(alloc, node, Input::Trim),
             Event::Restart(node) => self.restart(alloc, node),
             Event::Fault(node, failing) => self.arm(node, failing),
             Event::Query(node, query) => self.query(alloc, node, &query),

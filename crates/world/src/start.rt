@@ -74,8 +74,10 @@ fn start_node<S: Stable + Drop>(
 fn see_empty<S: Stable>(alloc: Global, store: &mut S) -> Result<(), WorldFault>
     ensures reads { OnOk result (S.reads store.old store.new) }
     ensures empty { S.IsHonest store.new → OnOk result (S.contents store.old ≡ no_records) }
+    ensures no_stray { S.IsHonest store.new → OnOk result (¬ (S.HasStrayKey store.old)) }
 
-    // Each fault.
+    // Each fault. Whatever it answers, the storage was only read.
+    ensures only_read { WasRead S.Stable store.old store.new }
     ensures used { IfErr result (λ f. f ≡ WorldFault.NotEmpty → IsUsed S.Stable store.old) }
     ensures faults { IfErr result (λ f. (f ≡ WorldFault.NotEmpty) ⊎ (f ≡ WorldFault.Memory)) }
 {

@@ -1,6 +1,10 @@
-use Rattle.stable.specs.Storages.{scripted}
+use Rattle.std.proofs.Common.{refl}
+use Rattle.stable.specs.ScriptLaws.{scripted_laws}
+use Rattle.history.proofs.ListedPuts.{script_puts}
 use Rattle.history.proofs.Tellings.{steps_tell}
 use Rattle.history.proofs.explaining.steps_tell.Goals as goal
 
 pub returns : goal.returns
-returns g c = steps_tell {S = g.row.S.Denot} (scripted g.S.Stable)
+returns g c = λ old new event steps honest allowed told.
+    steps_tell (scripted_laws g.met.S.Stable.laws) (script_puts g.S.Stable g.met.S.Stable.laws) (λ s f. refl) old new event steps honest
+    allowed told

@@ -8,6 +8,9 @@ returns-in-drop c = grind (arith, common_steps)
 pub returns-in-tick : goal.returns-in-tick
 returns-in-tick c = grind (arith, common_steps)
 
+pub returns-in-trim : goal.returns-in-trim
+returns-in-trim c = grind (arith, common_steps)
+
 pub returns-in-nodes : goal.returns-in-nodes
 returns-in-nodes c = grind (arith, common_steps)
 
@@ -28,3 +31,6 @@ returns-in-timeout c = grind (arith, elements)
 
 pub returns-in-restart : goal.returns-in-restart
 returns-in-restart c = grind (arith, elements)
+
+pub returns-in-checkpoint : goal.returns-in-checkpoint
+returns-in-checkpoint c = grind (arith, elements)

@@ -2,7 +2,7 @@
 use Rattle.std.proofs.Common.{◌∷◌, ap}
 use Rattle.schedule.specs.Keywords.{text_of}
 use Rattle.schedule.specs.declared.keyword.Keyword.{Keyword}
-use Rattle.schedule.specs.declared.keyword.Keyword.TheVariants.{Deliver, Drop, Flush, Timeout, Tick, Restart, Fault}
+use Rattle.schedule.specs.declared.keyword.Keyword.TheVariants.{Deliver, Drop, Flush, Timeout, Tick, Checkpoint, Trim, Restart, Fault}
 use Rattle.schedule.proofs.RowLemmas.{refused_row}
 use Rattle.schedule.proofs.reading.row.Goals as goal
 
@@ -24,6 +24,14 @@ returns-in_ok-node_row-in-Timeout c =
 pub returns-in_ok-node_row-in-Tick : goal.returns-in_ok-node_row-in-Tick
 returns-in_ok-node_row-in-Tick c =
     (c.args.words, ap (λ (k : Keyword). text_of k ∷ c.args.words) c.in-Tick.is, c.in_ok-node_row-in-Tick.ensures)
+
+pub returns-in_ok-node_row-in-Checkpoint : goal.returns-in_ok-node_row-in-Checkpoint
+returns-in_ok-node_row-in-Checkpoint c =
+    (c.args.words, ap (λ (k : Keyword). text_of k ∷ c.args.words) c.in-Checkpoint.is, c.in_ok-node_row-in-Checkpoint.ensures)
+
+pub returns-in_ok-node_row-in-Trim : goal.returns-in_ok-node_row-in-Trim
+returns-in_ok-node_row-in-Trim c =
+    (c.args.words, ap (λ (k : Keyword). text_of k ∷ c.args.words) c.in-Trim.is, c.in_ok-node_row-in-Trim.ensures)
 
 pub returns-in_ok-node_row-in-Restart : goal.returns-in_ok-node_row-in-Restart
 returns-in_ok-node_row-in-Restart c =
@@ -49,6 +57,16 @@ pub returns-in_err-node_row-in-Tick : goal.returns-in_err-node_row-in-Tick
 returns-in_err-node_row-in-Tick c =
     refused_row c.args.nodes Tick _ c.args.words _ _ _ c.in-Tick.is (λ e. cc) c.from_residual-in_err-node_row-in-Tick.ensures.1
     c.in_err-node_row-in-Tick.ensures
+
+pub returns-in_err-node_row-in-Checkpoint : goal.returns-in_err-node_row-in-Checkpoint
+returns-in_err-node_row-in-Checkpoint c =
+    refused_row c.args.nodes Checkpoint _ c.args.words _ _ _ c.in-Checkpoint.is (λ e. cc) c.from_residual-in_err-node_row-in-Checkpoint.ensures.1
+    c.in_err-node_row-in-Checkpoint.ensures
+
+pub returns-in_err-node_row-in-Trim : goal.returns-in_err-node_row-in-Trim
+returns-in_err-node_row-in-Trim c =
+    refused_row c.args.nodes Trim _ c.args.words _ _ _ c.in-Trim.is (λ e. cc) c.from_residual-in_err-node_row-in-Trim.ensures.1
+    c.in_err-node_row-in-Trim.ensures
 
 pub returns-in_err-node_row-in-Restart : goal.returns-in_err-node_row-in-Restart
 returns-in_err-node_row-in-Restart c =

@@ -3,6 +3,7 @@ use Rattle.stable.specs.Memory.{in_memory}
 use Rattle.stable.specs.Storages.{scripted}
 use Rattle.events.specs.declared.fault.WorldFault.TheVariants as fault
 use Rattle.history.specs.Rounds.{RoundEnds, IsPartOfRound}
+use Rattle.history.specs.Progress.{PromisesProgress}
 use Rattle.world.specs.Seen.{world_of}
 use Rattle.cluster.proofs.Clustering.{round_frames}
 use Rattle.cluster.proofs.cluster.Cluster.round.Goals as goal
@@ -29,3 +30,9 @@ returns-clause-memory g c =
     subst (λ w. IsErrOf c.round-ended.result fault.Memory
     → IsPartOfRound (scripted in_memory) (world_of c.args.self.now.indexed.world) c.args.node c.args.members.now (world_of w.world))
     (sym c.send_from.ensures.same) c.round-ended.ensures.memory
+
+pub returns-clause-progress : goal.returns-clause-progress
+returns-clause-progress g c =
+    subst (λ w. IfOk c.round-ended.result (λ end.
+    PromisesProgress (λ _. Unit {0}) (world_of c.args.self.now.indexed.world) c.args.node c.args.members.now end (world_of w.world)))
+    (sym c.send_from.ensures.same) c.round-ended.ensures.progress

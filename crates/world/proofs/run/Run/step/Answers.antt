@@ -46,6 +46,24 @@ returns-in-Tick g c = rw c.in-Tick.is (record {
   faults = node_faults _ c.input-in-Tick.ensures.faults;
 })
 
+pub returns-in-Checkpoint : goal.returns-in-Checkpoint
+returns-in-Checkpoint g c = rw c.in-Checkpoint.is (record {
+  steps = c.input-in-Checkpoint.ensures.takes;
+  err = c.input-in-Checkpoint.ensures.err;
+  no_frame = no_frame_named _ c.input-in-Checkpoint.ensures.faults;
+  no_node = c.input-in-Checkpoint.ensures.no_node;
+  faults = node_faults _ c.input-in-Checkpoint.ensures.faults;
+})
+
+pub returns-in-Trim : goal.returns-in-Trim
+returns-in-Trim g c = rw c.in-Trim.is (record {
+  steps = c.input-in-Trim.ensures.takes;
+  err = c.input-in-Trim.ensures.err;
+  no_frame = no_frame_named _ c.input-in-Trim.ensures.faults;
+  no_node = c.input-in-Trim.ensures.no_node;
+  faults = node_faults _ c.input-in-Trim.ensures.faults;
+})
+
 pub returns-in-Restart : goal.returns-in-Restart
 returns-in-Restart g c = rw c.in-Restart.is (record {
   steps = c.restart.ensures.restarts;
