@@ -29,12 +29,11 @@ def program(name):
 
 def fixed(mfpx, seed):
     """The checks of a fixed length: the script, the program that it needs, its words."""
-    example = os.path.join(EXAMPLES, "crash_before_the_vote.schedule")
     return (
         ("one_log_selftest.py", None, [EXAMPLES, "--longest", "40", "--changes", "1", "--seed", str(seed)]),
         ("why_selftest.py", None, ["--runs", "1000", "--seed", str(seed)]),
-        ("storage_faults.py", mfpx, [mfpx, example]),
-        ("refuse_memory.py", mfpx, [mfpx, "first_run", "crash_before_the_vote", "bus-7"]),
+        ("storage_faults.py", mfpx, [mfpx]),
+        ("refuse_memory.py", mfpx, [mfpx]),
         ("records_on_disk.py", mfpx, [mfpx, EXAMPLES, "8", str(seed)]),
         ("disk_full.py", mfpx, [mfpx]),
         ("kill_at_random.py", mfpx, [mfpx, "50", str(seed)]),

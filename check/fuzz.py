@@ -16,9 +16,9 @@ other files, and results that lie beside their inputs, are passed over. Kinds of
 Each run has to end by itself within a second (ten, of 64 kB and more; in one of three tries), with status 0 to 3, and with standard
 error as docs/FORMATS.md says. The result is compared with what `reference_parser.py` and `reference_db.py` find: the first faulty line
 and its lowest fault, a document's fault and its place, the canonical document. The transcript of a right schedule has to be explained
-(`one_log.py`); one that has too many readings or databases to be judged is counted as undecided. With --other
-another program of the same meaning is run as well, and has to print the same, unless the input or the words of the command line
-have one of the words of --unlike, which the other one knows and this one doesn't.
+(`one_log.py`), with the checkpoints that it leaves in files; one that has too many readings or databases to be judged is counted as
+undecided. With --other another program of the same meaning is run as well, and has to print the same, unless the input or the words of
+the command line have one of the words of --unlike, which the other one knows and this one doesn't.
 
 A run that fails is made shorter, by lines or by bytes, as long as it fails in the same way, and is kept in FOLDER. What is
 printed at the end is how many runs of each kind ended in which way; the script ends with 1 where any failed. The same seed,
@@ -32,6 +32,7 @@ import random
 import re
 import subprocess
 import sys
+import tempfile
 import time
 
 import one_log
@@ -43,13 +44,16 @@ LARGE = 64 * 1024
 USAGE, DEVICE = b"mfpx: usage\n", b"mfpx: device\n"
 AT_LINE = re.compile(rb"mfpx: line ([1-9][0-9]*) fault ([1-9][0-9]*)\n")
 MOST_EVENTS = 3000
+# Files are made in memory where there is such a folder.
+MEMORY = "/dev/shm" if os.path.isdir("/dev/shm") else None
 MOST_KEPT = 3000
 WRONG_BYTES = (0x00, 0x09, 0x0D, 0x1F, 0x7F, 0x80, 0xC3, 0xFF)
 NUMBERS = ("0", "00", "-0", "1", "-1", "2", "3", "5", "6", "7", "8", "+1", "1.0", "1e3", "255", "256", "65535", "65536",
            "10000000000", "10000000001", "-10000000000", "-10000000001", "18446744073709551615", "18446744073709551616",
            "99999999999999999999999999", "")
-WORDS = ("nodes", "submit", "deliver", "drop", "flush", "timeout", "tick", "restart", "round", "fault", "query", "old", "new", "read",
-         "put", "append", "remove", "at", "cut", "ever", "always", "within", "get", "count", "bus-7", "a", "b", "x" * 64, "x" * 65,
+WORDS = ("nodes", "submit", "deliver", "drop", "flush", "timeout", "tick", "checkpoint", "trim", "restart", "round", "fault", "query",
+         "old", "new", "read", "put", "append", "remove", "at", "cut", "ever", "always", "within", "get", "count",
+         "bus-7", "a", "b", "x" * 64, "x" * 65,
          "2020-01-01T00:00:00Z", "2020-01-01T00:00:00.000Z", "1969-12-31T23:59:59.999Z", "9999-12-31T23:59:59.999Z",
          "2020-02-30T00:00:00Z", "{}", "[]", "null", "") + NUMBERS
 
@@ -134,8 +138,8 @@ class Drawing:
         """A schedule with its kinds of events drawn by weights that are drawn first, and queries of all nodes at the end."""
         draw, nodes = self.draw, self.draw.choice((3, 3, 5, 7))
         self.numbers, self.frames, self.fresh = {}, 1, 10
-        kinds = ("submit", "timeout", "deliver", "drop", "flush", "tick", "fault", "restart", "query", "round")
-        weights = [draw.random() ** 2 * most for most in (6, 1.2, 12, 1, 1, 1, 1, 1, 4, 1)]
+        kinds = ("submit", "timeout", "deliver", "drop", "flush", "tick", "checkpoint", "trim", "fault", "restart", "query", "round")
+        weights = [draw.random() ** 2 * most for most in (6, 1.2, 12, 1, 1, 1, 1, 1, 1, 1, 4, 1)]
         lines = ["nodes %d" % nodes] + (self.beginning(nodes) if draw.random() < 0.6 else [])
         lines += [self.line(draw.choices(kinds, weights)[0], nodes) for _ in range(count or draw.randrange(4, 90))]
         lines += ["restart %d" % draw.randrange(nodes)] * draw.randrange(2) + ["flush"] * draw.randrange(2)
@@ -403,16 +407,25 @@ class Runs:
         return "fault " + found.group(2).decode()
 
     def explained(self, data, events, out):
-        """Whether one list explains a transcript."""
+        """Whether one list explains a transcript, and the checkpoints that the same run leaves in files."""
         if len(events) > MOST_EVENTS:
             return "too long to judge"
         try:
-            one_log.explain(data, out.decode("ascii"), most=MOST_KEPT)
+            with tempfile.TemporaryDirectory(dir=MEMORY) as folder:
+                has_checkpoints = any(event.kind == "checkpoint" for event in events)
+                if has_checkpoints and self.over_files(data, folder) != out:
+                    raise Failed("another transcript over files")
+                one_log.explain(data, out.decode("ascii"), most=MOST_KEPT, folder=folder if has_checkpoints else None)
         except (one_log.Unexplained, UnicodeDecodeError) as why:
             raise Failed("the transcript is not explained") from why
         except one_log.Undecided:
             return "undecided"
         return "explained"
+
+    def over_files(self, data, folder):
+        """The transcript of a schedule whose nodes keep their records in files. It is run once, as a second run finds the first one's."""
+        words = [self.program, "replay", "-", "--db", folder]
+        return subprocess.run(words, input=data, capture_output=True, timeout=60).stdout
 
     def checked(self, data, status, out, err):
         """How a check of a document ended."""

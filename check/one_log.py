@@ -1,19 +1,23 @@
 #!/usr/bin/env python3
 """Says whether one list of commands explains all that a run of `mfpx replay` printed.
 
-    check/one_log.py SCHEDULE TRANSCRIPT [--memory] [--most N] [--list]
+    check/one_log.py SCHEDULE TRANSCRIPT [--db DIR] [--memory] [--most N] [--list]
 
 SCHEDULE is what was run, and TRANSCRIPT is what the program printed. Nothing is taken from the program or its crates. Two
 things are looked for:
 
 1. A reading: which line of the schedule printed which line of the transcript. Only a query prints an answer, a node that
    is down prints nothing but `refuse NODE 41`, a slot is learnt once in a node's life, replies follow the slot that they
-   rest on, a submission is refused where 64 others wait, and so on. What a frame does is not known: any delivery may print
-   what any frame could. All readings are kept.
+   rest on, a submission is refused where 64 others wait, a restart begins at the position of the last checkpoint that was
+   written, and so on. What a frame does is not known: any delivery may print what any frame could, and any trim may find
+   no vote to take out. All readings are kept.
 2. A list: each learnt slot has the one command that all nodes learnt there, a no-op or a request that was submitted and
    accepted by then, with the operation of one of its submissions; each reply and each answer at a position is, byte for
    byte, that of a plain database (`reference_db.py`) that executed so many entries of the list, each request once. All lists are
    kept, as long as their databases differ.
+
+With `--db` the nodes' records were kept in DIR. Each node's record Checkpoint is then at the position of its last checkpoint that was
+written, and its text that of the database and clients after so many entries of the list; without a checkpoint there is no record.
 
 It prints `explained` and ends with 0, or the first line that no list explains and ends with 1, or `undecided` and ends with
 2, where more than N databases (100,000) would have to be kept. With `--memory` requests for memory were refused: nodes may
@@ -21,6 +25,8 @@ begin down, and any event may end with 47. `--list` prints the list too.
 """
 
 import argparse
+import os
+import sqlite3
 import sys
 from typing import NamedTuple
 
@@ -91,6 +97,34 @@ def told_lines(transcript):
     return told
 
 
+# Records in files.
+
+
+class Checkpoint(NamedTuple):
+    """A node's record Checkpoint: without one the position is 0, and there is no text."""
+    position: int
+    text: bytes = b""
+
+
+def checkpoint(record):
+    """What a record Checkpoint says. The promise in it is passed over."""
+    promises = {0: 5, 1: 14}
+    if len(record) < 5 or record[4] not in promises:
+        raise Unexplained(1, "a checkpoint is not well-formed: %s" % record[:14].hex())
+    return Checkpoint(int.from_bytes(record[:4], "big"), record[promises[record[4]]:])
+
+
+def checkpoints(folder, nodes):
+    """The checkpoints of so many nodes that keep their records in the folder. Nobody writes there."""
+    found = []
+    for node in range(nodes):
+        connection = sqlite3.connect("file:%s?immutable=1" % os.path.join(folder, "node%d.db" % node), uri=True)
+        rows = connection.execute("SELECT v FROM record WHERE k = X'43'").fetchall()
+        connection.close()
+        found.append(checkpoint(rows[0][0]) if rows else Checkpoint(0))
+    return found
+
+
 # Readings: which event told which lines.
 
 
@@ -98,9 +132,11 @@ class Reading(NamedTuple):
     """What is known of the nodes after some events that told some lines. Chains are numbers of `Chains`."""
     line: int           # how many lines are read
     down: int           # nodes that are down, as bits
-    armed: int          # nodes whose next put fails, as bits
+    armed: int          # nodes whose next put or trim fails, as bits
+    late: int           # of these, the nodes at which it is written all the same, as bits
     unread: int         # nodes whose records can't be read at the next restart, as bits
-    learnt: tuple       # of each node, the slots that it has learnt in this life, as bits
+    floors: tuple       # of each node, the position of its checkpoint
+    learnt: tuple       # of each node, the slots that its checkpoint stands for or that it has learnt in this life, as bits
     waiting: tuple      # of each node, the requests that wait there
     accepted: int       # chain of the submissions that were accepted, by their lines of the schedule
     answered: int       # chain of answers: line, and the query's line of the schedule
@@ -166,9 +202,9 @@ class Reader:
 
     def beginnings(self):
         """All nodes are up, or, where memory may be refused, some are not."""
-        empty = (0,) * self.nodes, (frozenset(),) * self.nodes
+        empty = (0,) * self.nodes, (0,) * self.nodes, (frozenset(),) * self.nodes
         downs = range(2 ** self.nodes) if self.memory else (0,)
-        return {Reading(0, down, 0, 0, *empty, 0, 0, 0) for down in downs}
+        return {Reading(0, down, 0, 0, 0, *empty, 0, 0, 0) for down in downs}
 
     def collect(self):
         """The command of each slot that any node has learnt: there is one."""
@@ -214,7 +250,7 @@ class Reader:
             return []
         # Memory may run out before the put or after it.
         disarmed = [reading.armed & ~bit] if armed else {reading.armed, reading.armed & ~bit}
-        return [reading._replace(line=reading.line + 1, down=reading.down | bit, armed=left,
+        return [reading._replace(line=reading.line + 1, down=reading.down | bit, armed=left, late=reading.late & left,
                                  learnt=changed(reading.learnt, line.node, 0),
                                  waiting=changed(reading.waiting, line.node, frozenset())) for left in disarmed]
 
@@ -260,11 +296,14 @@ class Reader:
         """One is armed at a time: a later one takes the place of an earlier one."""
         bit = 1 << event.node
         if event.what == "read":
-            return [reading._replace(armed=reading.armed & ~bit, unread=reading.unread | bit)]
-        return [reading._replace(armed=reading.armed | bit, unread=reading.unread & ~bit)]
+            return [reading._replace(armed=reading.armed & ~bit, late=reading.late & ~bit, unread=reading.unread | bit)]
+        late = reading.late | bit if event.what == "new" else reading.late & ~bit
+        return [reading._replace(armed=reading.armed | bit, late=late, unread=reading.unread & ~bit)]
 
     def restart(self, reading, event):
-        up = reading._replace(down=reading.down & ~(1 << event.node), learnt=changed(reading.learnt, event.node, 0),
+        """A new life begins at the position of the checkpoint."""
+        known = (1 << reading.floors[event.node]) - 1
+        up = reading._replace(down=reading.down & ~(1 << event.node), learnt=changed(reading.learnt, event.node, known),
                               waiting=changed(reading.waiting, event.node, frozenset()))
         if not reading.unread >> event.node & 1:
             return [up] + (self.stopped(up, [event.node]) if self.memory else [])
@@ -297,6 +336,20 @@ class Reader:
 
     def tick(self, reading, event):
         return [reading] + (self.stopped(reading, [event.node]) if self.memory else [])
+
+    def checkpoint(self, reading, event):
+        """Refused where nothing was executed since the last one (49); else it is written, or the node stops."""
+        node, position = event.node, prefix(reading.learnt[event.node])
+        if position <= reading.floors[node]:
+            return self.refused(reading, node, 49)
+        written = reading._replace(floors=changed(reading.floors, node, position))
+        armed, line = reading.armed >> node & 1, self.next(reading)
+        is_late = reading.late >> node & 1 and line and line.number == 46
+        return ([] if armed else [written]) + self.stopped(written if is_late else reading, [node])
+
+    def trim(self, reading, event):
+        """Nothing is told, whether votes were taken out or none stood there; where some did it may fail."""
+        return [reading] + (self.stopped(reading, [event.node]) if reading.floors[event.node] else [])
 
     def query(self, reading, event):
         """An answer at the first slot that the node hasn't learnt."""
@@ -332,6 +385,9 @@ class Reader:
         if down:
             return self.ended(reading, node, "down %d" % down[0])
         position = prefix(reading.learnt[node])
+        ahead = [member for member in sorted(members) if position < reading.floors[member]]
+        if ahead:
+            return self.ended(reading, node, "behind %d" % ahead[0])
         if position == MOST_SLOTS:
             return self.ended(reading, node, "refused 42")
         return [after for behind in self.delivered({reading}, event) for after in self.phased(behind, reading, node, members, position)]
@@ -374,9 +430,11 @@ class Lists:
         self.replied = reader.chains.items(reading.replied)
         self.texts = {}
 
-    def explain(self, lines):
-        """Whether a list explains the first lines, by their number. `self.list` has one then."""
-        answers, replies = {}, {}
+    def explain(self, lines, left=()):
+        """Whether a list explains the first lines, by their number, and the checkpoints that are left. `self.list` has one then."""
+        answers, replies, texts = {}, {}, {}
+        for found in left:
+            texts.setdefault(found.position, set()).add(found.text)
         for line, query in self.answers:
             if line < lines:
                 answers.setdefault(self.told[line].number, []).append((query, self.told[line].text))
@@ -388,13 +446,15 @@ class Lists:
             if told.kind == "learn":
                 log.setdefault(told.number, told.text)
                 latest.setdefault(told.number, self.reader.latest.get(line, 0))
-        return self.execute(log, latest, answers, replies)
+        return all(place in log for place in range(max(texts, default=0))) and self.execute(log, latest, answers, replies, texts)
 
-    def execute(self, log, latest, answers, replies):
-        """Whether some database passes all answers and replies. One is kept of those that agree in all that counts later."""
-        counted, worlds, length = {}, [({}, {}, ())], max(list(answers) + [place + 1 for place in replies], default=0)
+    def execute(self, log, latest, answers, replies, texts):
+        """Whether some database passes all answers, replies and texts. One is kept of those that agree in all that counts later."""
+        counted, worlds, length = {}, [({}, {}, ())], max(list(answers) + list(texts) + [place + 1 for place in replies], default=0)
         for place in range(length + 1):
             worlds = [world for world in worlds if all(self.answer(world[0], query) == text for query, text in answers.get(place, ()))]
+            if place in texts:
+                worlds = [world for world in worlds if texts[place] == {snapshot(world, counted)}]
             if place < length:
                 worlds = self.executed(worlds, log[place], latest[place], counted, replies.get(place, set()))
             if len(worlds) > self.most:
@@ -451,6 +511,12 @@ class Lists:
         return self.texts[key]
 
 
+def snapshot(world, counted):
+    """The snapshot text of a database with the replies that are kept, and the clients' last numbers that counted."""
+    database, kept, _ = world
+    return reference_db.snapshot_text(database, {client: (counted[client], reply) for client, reply in kept.items()})
+
+
 def lowest_that_fails(passes, length):
     """The least number of lines that doesn't pass, where all of them don't."""
     low, high = 0, length
@@ -466,24 +532,33 @@ class Explanation(NamedTuple):
     operations: tuple
 
 
-def explain(schedule, transcript, memory=False, most=100_000):
-    """The explanation of a run; or `Unexplained`, or `Undecided`. The schedule is right, and its bytes were run."""
+def explain(schedule, transcript, memory=False, most=100_000, folder=None):
+    """The explanation of a run; or `Unexplained`, or `Undecided`. The schedule is right, and its bytes were run. Where the nodes kept
+    their records in a folder, it explains the checkpoints there too."""
     nodes, events = reference_parser.read(schedule)
     reader = Reader(nodes, events, told_lines(transcript), memory, most)
-    first = None
-    for reading in {reading[-3:]: reading for reading in reader.run()}.values():
+    first, readings, left, is_other = None, reader.run(), [], False
+    if folder:
+        found = checkpoints(folder, nodes)
+        left = [it for it in found if it.position]
+        readings = [reading for reading in readings if reading.floors == tuple(it.position for it in found)]
+        if not readings:
+            raise Unexplained(len(reader.told), "no reading has the checkpoints at %s" % ", ".join(str(it.position) for it in found))
+    for reading in {reading[-3:]: reading for reading in readings}.values():
         lists = Lists(reader, reading)
-        if lists.explain(len(reader.told)):
+        if lists.explain(len(reader.told), left):
             return Explanation(reader.log, lists.list)
+        is_other |= bool(left) and lists.explain(len(reader.told))
         line = lowest_that_fails(lists.explain, len(reader.told))
         first = line if first is None else max(first, line)
-    raise Unexplained(first, "no list has all of the lines up to it")
+    raise Unexplained(first, "no list has the text of each checkpoint" if is_other else "no list has all of the lines up to it")
 
 
 def main():
     parser = argparse.ArgumentParser(description=__doc__, formatter_class=argparse.RawDescriptionHelpFormatter)
     parser.add_argument("schedule")
     parser.add_argument("transcript")
+    parser.add_argument("--db", metavar="DIR", help="the folder in which the nodes kept their records")
     parser.add_argument("--memory", action="store_true", help="requests for memory were refused")
     parser.add_argument("--most", type=int, default=100_000, metavar="N", help="how many readings and databases are kept")
     parser.add_argument("--list", action="store_true", help="print the learnt commands")
@@ -493,7 +568,7 @@ def main():
     with open(words.transcript, encoding="ascii", newline="") as file:
         transcript = file.read()
     try:
-        explanation = explain(schedule, transcript, words.memory, words.most)
+        explanation = explain(schedule, transcript, words.memory, words.most, words.db)
     except reference_parser.Faulty as fault:
         sys.exit("%s has fault %d in line %d, so nothing is to be explained" % (words.schedule, fault.fault, fault.line))
     except Unexplained as fault:

@@ -4,10 +4,10 @@
     check/records_on_disk.py PROGRAM SCHEDULES [COUNT [SEED]]
 
 PROGRAM is the built `mfpx`, SCHEDULES a folder of schedules, of which so many are drawn where COUNT says so; results that are in it
-beside their inputs are passed over. Each schedule
-is run over an empty folder: it ends and prints as in memory, and leaves one file for each node and nothing beside it, which Python's
-SQLite reads. A file that is no schedule leaves the folder empty. Run again it prints nothing, reports fault 55, ends with 1, and leaves
-every file as it was. A folder that isn't there is `mfpx: device`.
+beside their inputs are passed over. Each schedule is run over an empty folder: it ends and prints as in memory, and leaves one file for
+each node and nothing beside it, which Python's SQLite reads. The list that explains what it printed has the texts of the checkpoints there
+(`one_log.py`, for up to 200 lines). A file that is no schedule leaves the folder empty. Run again it prints nothing, reports fault 55, ends
+with 1, and leaves every file as it was. A folder that isn't there is `mfpx: device`.
 """
 import os
 import random
@@ -15,6 +15,10 @@ import sqlite3
 import subprocess
 import sys
 import tempfile
+
+import one_log
+
+SHORT = 200
 
 
 def run(program, schedule, *more):
@@ -56,15 +60,61 @@ def rows_of(path):
     return rows
 
 
+def number(data, at, size):
+    """The number of so many bytes."""
+    return int.from_bytes(data[at:at + size], "big")
+
+
+def is_checkpoint(value):
+    """Whether a record is a position, what was promised, and a snapshot text."""
+    flag = value[4:5]
+    promised = value[5:14] if flag == b"\1" else b""
+    is_promise = flag == b"\0" or flag == b"\1" and number(promised, 0, 8) > 0 and number(promised, 8, 1) < 7
+    return 0 < number(value, 0, 4) <= 65536 and is_promise and is_snapshot(value[5 + len(promised):])
+
+
+def is_snapshot(text):
+    """Whether a text lists features by rising ids, and the last number and reply of rising clients; points aren't looked at."""
+    at, last = 2, b""
+    for _ in range(number(text, 0, 2)):
+        behind = at + 1 + number(text, at, 1)
+        if text[at + 1:behind] <= last:
+            return False
+        at, last = behind + 3 + 24 * number(text, behind + 1, 2), text[at + 1:behind]
+    clients = [text[i:i + 10] for i in range(at + 2, len(text), 10)]
+    rise = all(client[0] < after[0] for client, after in zip(clients, clients[1:]))
+    are_right = all(len(client) == 10 and number(client, 1, 8) > 0 and client[9] in (0, 21, 22, 23, 24) for client in clients)
+    return at + 2 <= len(text) and number(text, at, 2) == len(clients) and rise and are_right
+
+
 def are_records(rows):
     """Whether keys and values have the forms of docs/FORMATS.md."""
     for key, value in rows:
-        if key in (b"P", b"R"):
+        if key == b"C":
+            good = is_checkpoint(value)
+        elif key in (b"P", b"R"):
             good = len(value) == (9 if key == b"P" else 8)
+        elif key == b"C":
+            good = len(value) >= 9
         else:
             good = len(key) == 5 and key[:1] == b"V" and len(value) > 9
         if not good:
             return False
+    return True
+
+
+def is_explained(schedule, printed, folder):
+    """Whether one list explains what was printed and the checkpoints in the folder. Long runs, and undecided ones, are passed over."""
+    with open(schedule, "rb") as file:
+        text = file.read()
+    if text.count(b"\n") > SHORT:
+        return True
+    try:
+        one_log.explain(text, printed.decode(), folder=folder)
+    except one_log.Unexplained:
+        return False
+    except one_log.Undecided:
+        pass
     return True
 
 
@@ -87,6 +137,8 @@ def failures_of(program, schedule):
         rows = [rows_of(os.path.join(folder, name)) for name in names]
         if not all(are_records(of_node) for of_node in rows):
             told.append("a record of another form")
+        if alone[0] == 0 and not is_explained(schedule, alone[1], folder):
+            told.append("no list explains it")
         again = run(program, schedule, "--db", folder)
         if again != (IN_USE if any(rows) else alone):
             told.append(f"again: {again}")

@@ -1,4 +1,4 @@
-"""A plain database of its own: documents, operations, and the texts of queries, worked out slowly and with fractions.
+"""A plain database of its own: documents, operations, the texts of queries and of snapshots, worked out slowly and with fractions.
 
 It is written after docs/FORMATS.md and docs/SPECIFICATION.md alone, and shares nothing with the crates. A sequence is its
 interpolation and a tuple of points (t, x, y), t in milliseconds and x, y in millimetres. `one_log.py` stands on it.
@@ -311,3 +311,24 @@ def answer(database, query):
         mark = "" if begin_in and end_in else " " + "(["[begin_in] + ")]"[end_in]
         return " | ".join(["cut %s %d%s" % (sequence[0], len(listed), mark)] + [numbers(row) for row in listed])
     return "%s %s" % (kind, (ever if kind == "ever" else always)(sequence, *words))
+
+
+# Snapshots.
+
+
+def spelled(number, size):
+    return number.to_bytes(size, "big", signed=size == 8)
+
+
+def feature_text(name, sequence):
+    """A feature as a snapshot has it: its id, then its interpolation, and its points with their number."""
+    interpolation, points = sequence
+    head = spelled(len(name), 1) + name.encode() + spelled(INTERPOLATIONS.index(interpolation) + 1, 1) + spelled(len(points), 2)
+    return head + b"".join(spelled(value, 8) for point in points for value in point)
+
+
+def snapshot_text(database, counted):
+    """The bytes of a database, and of what is kept of each client: its last number that counted, and the reply to it."""
+    features = [feature_text(name, database[name]) for name in sorted(database)]
+    clients = [spelled(client, 1) + number.to_bytes(8, "big") + spelled(reply, 1) for client, (number, reply) in sorted(counted.items())]
+    return b"".join([spelled(len(features), 2), *features, spelled(len(clients), 2), *clients])

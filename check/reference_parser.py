@@ -13,7 +13,7 @@ LARGEST = 2**64 - 1
 ANY = None
 
 # How many words a line has, by its first one; of a submission and a query, by its kind.
-WORDS = {"deliver": 2, "drop": 2, "flush": 1, "timeout": 2, "tick": 2, "restart": 2, "fault": 3, "round": ANY}
+WORDS = {"deliver": 2, "drop": 2, "flush": 1, "timeout": 2, "tick": 2, "checkpoint": 2, "trim": 2, "restart": 2, "fault": 3, "round": ANY}
 SUBMISSIONS = {"put": 6, "append": 9, "remove": 6}
 QUERIES = {"at": 5, "cut": 6, "ever": 10, "always": 10, "within": 9, "get": 4, "count": 3}
 

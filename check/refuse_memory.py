@@ -4,7 +4,7 @@
     check/refuse_memory.py [PROGRAM [NAME..]]
 
 PROGRAM is crates/mfpx/out/mfpx where none is given. The NAMEs are of examples, or paths of files `.schedule` and `.json`; without any
-all examples are run, and those of thousands of lines take hours.
+six short examples are run. `all` is every example; those of thousands of lines take hours.
 
 The first run refuses the first request, the second the second, and so on until a run meets no refusal. A run ends well in
 one of these ways:
@@ -15,6 +15,9 @@ one of these ways:
     began down    as if that node had been down from the start
     no frame      status 1 and fault 51 at a line that delivers or drops what was never sent, as a node was down by then
     no memory     status 3, nothing printed, and `mfpx: out of memory`
+
+Each example is run as it is, with the lines of `afterwards` behind it, and for each node M with lines of `OUT` before each of its lines:
+checkpoints, trims and restarts of M, and faults of these.
 
 Each transcript of a schedule of at most 200 lines has to be explained by `one_log.py` besides, whatever its end.
 
@@ -33,7 +36,12 @@ import one_log
 
 HERE = os.path.dirname(os.path.abspath(__file__))
 EXAMPLES = os.path.join(HERE, "..", "examples")
+NAMES = ("first_run", "leaders_in_turn", "requests_after_a_restart", "gap_filled_by_a_no_op", "round_too_low", "bus-7")
 SHORT = 200
+# What comes before a line, each in its turn.
+OUT = (("checkpoint M", "trim M"), ("checkpoint M", "trim M", "restart M"), ("fault M old", "checkpoint M", "restart M"),
+       ("fault M new", "checkpoint M", "restart M", "trim M"), ("checkpoint M", "fault M old", "trim M", "restart M"),
+       ("checkpoint M", "fault M new", "trim M", "restart M"), ("fault M read", "restart M", "restart M"))
 ENDS = ("right", "stopped", "refused", "began down", "no frame", "no memory")
 
 
@@ -46,6 +54,19 @@ def afterwards(lines):
     """A restart and a tick of each node, a flush, and a query of each."""
     nodes = range(nodes_of(lines))
     return ["restart %d" % n for n in nodes] + ["tick %d" % n for n in nodes] + ["flush"] + ["query %d count" % n for n in nodes]
+
+
+def with_outs(runs, lines, node):
+    """The lines with checkpoints and trims of a node between them, and without those that name a frame which is never sent then."""
+    found = lines[:1]
+    for place, line in enumerate(lines[1:]):
+        found += [more.replace("M", str(node)) for more in OUT[place % len(OUT)]] + [line]
+    while True:
+        status, _, error, _ = runs.run(found)
+        at = int(error.split()[2]) - 1 if status == 1 else -1
+        if status != 1 or found[at].split()[0] not in ("deliver", "drop"):
+            return found
+        found = found[:at] + found[at + 1:]
 
 
 class Runs:
@@ -238,9 +259,9 @@ def report(title, words, counts, bad):
 
 
 def inputs(suffix, result, names):
-    """The inputs that are run, each with its name and path: examples with such a result beside them, or those among the names."""
+    """The inputs that are run, each with its name and path: examples with such a result beside them, all or those among the names."""
     found = [os.path.splitext(path)[0] + suffix for path in sorted(glob.glob(os.path.join(EXAMPLES, "*" + result)))]
-    found = [path for path in found if not names or title_of(path) in names] + [name for name in names if name.endswith(suffix)]
+    found = [path for path in found if "all" in names or title_of(path) in names] + [name for name in names if name.endswith(suffix)]
     return [(title_of(path), path) for path in found]
 
 
@@ -257,21 +278,22 @@ def main():
                        check=True)
         runs = Runs(os.path.abspath(program), library)
         print("%-24s %-14s %8s  %s" % ("example", "words", "requests", "  ".join(ENDS)))
-        for name, path in inputs(".schedule", ".transcript", sys.argv[2:]):
+        names = sys.argv[2:] or NAMES
+        for name, path in inputs(".schedule", ".transcript", names):
             with open(path) as file:
                 lines = file.read().splitlines()
-            for title, tried, words in (
+            for title, tried, words in [
                 (name, lines, []),
                 (name, lines, ["replay", "FILE"]),
                 (name + " +", lines + afterwards(lines), []),
-            ):
+            ] + [("%s M=%d" % (name, node), with_outs(runs, lines + afterwards(lines), node), []) for node in range(nodes_of(lines))]:
                 rows.append(report(title, words, *try_each(runs, title, tried, words)))
-        for name, path in inputs(".json", ".json", sys.argv[2:]):
+        for name, path in inputs(".json", ".json", names):
             with open(path, "rb") as file:
                 document = file.read()
             for words in ["check", "-"], ["check", "FILE"]:
                 rows.append(report(name, words, *check_each(runs, name, document, words)))
-    print("`+`: followed by a restart and a tick of each node, a flush, and a query of each")
+    print("`+`: followed by a restart and a tick of each node, a flush, and a query of each; `M=`: with checkpoints and trims of M besides")
     tried, wrong = (sum(row[i] for row in rows) for i in range(2))
     print("%d requests refused, %d runs wrong" % (tried, wrong))
     sys.exit(1 if wrong else 0)

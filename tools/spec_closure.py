@@ -44,6 +44,7 @@ SUBJECTS = (
         "chosen; what a node knows; actions; runs": "synod.Chosen synod.Volatile synod.Acts synod.Runs",
         "the three safety properties": "synod.Invariant",
         "safe": "history.Safety",
+        "checkpoints: their records, texts and databases": "sessions store timeindex wire.RecordForms acceptor.Forms",
         "what a node and a world are": "",
     },
     {

@@ -50,7 +50,8 @@ FORMS = {
 }
 RECTANGLE = ["X0", "Y0", "X1", "Y1"]
 LINES = {
-    "deliver": ["K"], "drop": ["K"], "flush": [], "timeout": ["NODE"], "tick": ["NODE"], "restart": ["NODE"],
+    "deliver": ["K"], "drop": ["K"], "flush": [], "timeout": ["NODE"], "tick": ["NODE"],
+    "checkpoint": ["NODE"], "trim": ["NODE"], "restart": ["NODE"],
     "fault": ["NODE", "HOW"], "round": ["NODE", "NODE"],
     "submit put": ["NODE", "CLIENT", "NUMBER", "put", "JSON"],
     "submit append": ["NODE", "CLIENT", "NUMBER", "append", "ID", "DATETIME", "X", "Y"],

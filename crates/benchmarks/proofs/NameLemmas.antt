@@ -1,6 +1,12 @@
 -- A word that is the name of no work of any kind is the name of no work.
 use Rattle.std.proofs.Common.{◌≢◌, ℕ, List, codes}
 use Rattle.benchmarks.specs.Tasks.{scene_name, point_name, query_name, apply_name, encode_name, decode_name}
+use Rattle.benchmarks.specs.Tasks.{name_of, part_name, text_name, log_name}
+use Rattle.benchmarks.specs.declared.task.Work.{Work}
+use Rattle.benchmarks.specs.declared.task.Work.TheVariants.{Scene, Part, Text, Log}
+use Rattle.benchmarks.specs.declared.task.PartWork.{PartWork}
+use Rattle.benchmarks.specs.declared.task.TextWork.{TextWork}
+use Rattle.benchmarks.specs.declared.task.LogWork.{LogWork}
 use Rattle.benchmarks.specs.declared.task.SceneWork.{SceneWork}
 use Rattle.benchmarks.specs.declared.task.SceneWork.TheVariants.{Point, Query, Apply, Check, Execute, Encode, Decode}
 use Rattle.benchmarks.specs.declared.task.PointWork.{PointWork}
@@ -18,3 +24,10 @@ none_named word point query apply encode decode check execute (Encode s) = encod
 none_named word point query apply encode decode check execute (Decode s) = decode s
 none_named word point query apply encode decode check execute Check = check
 none_named word point query apply encode decode check execute Execute = execute
+
+pub no_work_named : (word : List ℕ) → ((w : SceneWork) → word ≢ scene_name w) → ((w : PartWork) → word ≢ part_name w) →
+    ((w : TextWork) → word ≢ text_name w) → ((w : LogWork) → word ≢ log_name w) → (work : Work) → word ≢ name_of work
+no_work_named word scene part text log (Scene w) = scene w
+no_work_named word scene part text log (Part w) = part w
+no_work_named word scene part text log (Text w) = text w
+no_work_named word scene part text log (Log w) = log w

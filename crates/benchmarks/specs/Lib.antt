@@ -14,4 +14,6 @@ pub mod Acceptors
 pub mod Leaders
 pub mod Indexes
 pub mod Parts
+pub mod Texts
+pub mod Logs
 pub mod Rounds

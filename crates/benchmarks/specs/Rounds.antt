@@ -5,7 +5,7 @@ use Rattle.benchmarks.specs.declared.scene.Scene.{Scene}
 use Rattle.benchmarks.specs.declared.scene.TheConstants.{START}
 use Rattle.benchmarks.specs.declared.numbers.TheConstants.{STEP}
 use Rattle.benchmarks.specs.declared.task.Work.{Work}
-use Rattle.benchmarks.specs.declared.task.Work.TheVariants.{Scene as OfScene, Part}
+use Rattle.benchmarks.specs.declared.task.Work.TheVariants.{Scene as OfScene, Part, Text, Log}
 use Rattle.benchmarks.specs.declared.task.SceneWork.{SceneWork}
 use Rattle.benchmarks.specs.declared.task.SceneWork.TheVariants.{Point, Query, Apply, Check, Execute, Encode, Decode}
 use Rattle.benchmarks.specs.declared.task.PointWork.{PointWork}
@@ -19,6 +19,8 @@ use Rattle.benchmarks.specs.Commands.{IsOutcomeNumber}
 use Rattle.benchmarks.specs.Fleets.{fleet_of, query_of, IsAnswerLength, IsReplyNumber}
 use Rattle.benchmarks.specs.Messages.{IsFrameLength, IsSlotNumber}
 use Rattle.benchmarks.specs.Parts.{PartAnswers}
+use Rattle.benchmarks.specs.Texts.{IsTextSum}
+use Rattle.benchmarks.specs.Logs.{TellsSlots}
 
 -- the length of the canonical document
 pub record IsLength (s : Scene) (number : ℕ) : Type 0 where
@@ -56,6 +58,8 @@ pub record IsSceneSum (work : SceneWork) (points rounds total : ℕ) : Type 0 wh
 abbrev pub IsSum : Work → ℕ → ℕ → ℕ → Type 0
 IsSum (OfScene work) size rounds total = IsSceneSum work size rounds total
 IsSum (Part work) size rounds total = SumsTo (PartAnswers work size) rounds total
+IsSum (Text work) size rounds total = IsTextSum rounds total
+IsSum (Log work) size rounds total = SumsTo (TellsSlots size) rounds total
 
 -- the sum that a task asks for
 abbrev pub IsSumOf : Task → ℕ → Type 0

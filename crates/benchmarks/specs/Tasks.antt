@@ -3,7 +3,7 @@ use Rattle.std.specs.Prelude.{◌≡◌, ℕ, ◌^◌, ◌<◌, List, [], ◌∷
 use Rattle.std.specs.Str.Parse.{IsNumeral, digits_value, without_leading_plus}
 use Rattle.benchmarks.specs.declared.task.Task.{Task}
 use Rattle.benchmarks.specs.declared.task.Work.{Work}
-use Rattle.benchmarks.specs.declared.task.Work.TheVariants.{Scene, Part}
+use Rattle.benchmarks.specs.declared.task.Work.TheVariants.{Scene, Part, Text, Log}
 use Rattle.benchmarks.specs.declared.task.SceneWork.{SceneWork}
 use Rattle.benchmarks.specs.declared.task.SceneWork.TheVariants.{Point, Query, Apply, Check, Execute, Encode, Decode}
 use Rattle.benchmarks.specs.declared.task.PointWork.{PointWork}
@@ -17,6 +17,10 @@ use Rattle.benchmarks.specs.declared.task.Sent.{Sent}
 use Rattle.benchmarks.specs.declared.task.Sent.TheVariants as sent
 use Rattle.benchmarks.specs.declared.task.PartWork.{PartWork}
 use Rattle.benchmarks.specs.declared.task.PartWork.TheVariants.{Tellings, Promises, Proposals, Overlapping, Flushed, Pumped}
+use Rattle.benchmarks.specs.declared.task.TextWork.{TextWork}
+use Rattle.benchmarks.specs.declared.task.TextWork.TheVariants.{Copied, Written, Restored, WrittenAgain}
+use Rattle.benchmarks.specs.declared.task.LogWork.{LogWork}
+use Rattle.benchmarks.specs.declared.task.LogWork.TheVariants.{Put, Trimmed, TrimmedAgain}
 
 -- the word for a work
 abbrev pub point_name : PointWork → List ℕ
@@ -75,9 +79,22 @@ part_name Overlapping = codes "overlapping"
 part_name Flushed = codes "flushed"
 part_name Pumped = codes "pumped"
 
+abbrev pub text_name : TextWork → List ℕ
+text_name Copied = codes "text_copied"
+text_name Written = codes "text_written"
+text_name Restored = codes "text_restored"
+text_name WrittenAgain = codes "text_written_again"
+
+abbrev pub log_name : LogWork → List ℕ
+log_name Put = codes "votes_put"
+log_name Trimmed = codes "votes_trimmed"
+log_name TrimmedAgain = codes "votes_trimmed_again"
+
 abbrev pub name_of : Work → List ℕ
 name_of (Scene work) = scene_name work
 name_of (Part work) = part_name work
+name_of (Text work) = text_name work
+name_of (Log work) = log_name work
 
 -- a word is read as a number below 2^bits: decimal digits, and a plus before them or not
 pub record IsReadAs (bits : ℕ) (word : List ℕ) (n : ℕ) : Type 0 where

@@ -34,7 +34,7 @@ pub fn name(place: u32) -> Id
 }
 
 /// One of the first sixteen letters.
-fn letter(place: u32) -> u8
+pub fn letter(place: u32) -> u8
     ensures { result ≡ 97 + place % 16 }
 {
     b'a' + (place % 16) as u8

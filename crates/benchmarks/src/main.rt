@@ -9,7 +9,8 @@
 //!
 //! `task` parses the words, `scene` makes a moving point and what is asked of it. `numbers`, `queries`, `operations`,
 //! `documents`, `execution` and `messages` turn answers into numbers, and `rounds` adds these up. `learners`, `acceptors`,
-//! `leader` and `indexes` do so for the parts of a node, with `requests`, and `parts` adds these up.
+//! `leader` and `indexes` do so for the parts of a node, with `requests`, and `parts` adds these up. `texts` has the snapshot text
+//! of a machine, and `logs` the votes in a storage in memory.
 #![tactic(auto)]
 
 mod acceptors;
@@ -22,6 +23,7 @@ mod fleet;
 mod indexes;
 mod leader;
 mod learners;
+mod logs;
 mod messages;
 mod numbers;
 mod operations;
@@ -33,6 +35,7 @@ mod requests;
 mod rounds;
 mod scene;
 mod task;
+mod texts;
 
 ghost use Rattle.std.specs.Prelude.{◌≡◌, ◌≢◌, IfOk, map, string_bytes};
 ghost use Rattle.std.specs.IoError.{error_kind};
@@ -43,11 +46,13 @@ ghost use Rattle.benchmarks.specs.Tasks.{Asks};
 
 use crate::examples::run_examples;
 use crate::fault::Fault;
+use crate::logs::log_total;
 use crate::outside::{document_again, frame_again, vote_again};
 use crate::parts::part_total;
 use crate::rounds::scene_total;
 use crate::scene::Scene;
 use crate::task::{Task, Work, task_of};
+use crate::texts::text_total;
 use std::alloc::Global;
 use std::env;
 use std::fmt::Display;
@@ -171,6 +176,8 @@ fn sum(rt: &HostRuntime, task: Task) -> Result<u64, Fault>
             scene_total(rt.alloc(), work, &scene, task.rounds)
         }
         Work::Part(work) => part_total(rt.alloc(), work, task.size, task.rounds),
+        Work::Text(work) => text_total(rt.alloc(), work, task.size, task.rounds),
+        Work::Log(work) => log_total(rt.alloc(), work, task.size, task.rounds),
     }
 }
 

@@ -86,7 +86,7 @@ fn fixes(alloc: Global, count: u16) -> Result<Vec<Point>, AllocError>
 }
 
 /// The point at a place. Every other one lies off the diagonal, so that no leg is along it.
-fn fix(k: u16) -> Point
+pub fn fix(k: u16) -> Point
     ensures { result ≡ fix k }
 {
     let along = 1000 * i64::from(k);

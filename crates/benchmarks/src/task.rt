@@ -2,7 +2,7 @@
 
 ghost use Rattle.std.specs.Prelude.{◌≡◌, ◌≢◌, ℕ, MatchOption, map, string_bytes};
 ghost use Rattle.benchmarks.specs.Tasks.{name_of, scene_name, point_name, query_name, apply_name, encode_name, decode_name, part_name};
-ghost use Rattle.benchmarks.specs.Tasks.{IsReadAs, Names, Asks};
+ghost use Rattle.benchmarks.specs.Tasks.{text_name, log_name, IsReadAs, Names, Asks};
 
 /// What is timed.
 #[derive(Clone, Copy)]
@@ -11,6 +11,10 @@ pub enum Work {
     Scene(SceneWork),
     /// What is asked of a part of a node, which holds so many things by then.
     Part(PartWork),
+    /// What is done with the snapshot text of a machine whose features have so many points.
+    Text(TextWork),
+    /// What is done to the votes in a storage in memory, at so many slots.
+    Log(LogWork),
 }
 
 /// What is done with a moving point of so many points.
@@ -119,11 +123,35 @@ pub enum PartWork {
     Pumped,
 }
 
+/// What is done with the snapshot text of a machine that has as many features and clients as one may have.
+#[derive(Clone, Copy)]
+pub enum TextWork {
+    /// Its bytes are copied.
+    Copied,
+    /// It is written.
+    Written,
+    /// A machine is restored from it.
+    Restored,
+    /// The same, and the text of that machine is written and compared with it.
+    WrittenAgain,
+}
+
+/// What is done to the votes in a storage in memory.
+#[derive(Clone, Copy)]
+pub enum LogWork {
+    /// Each round puts votes at so many further slots.
+    Put,
+    /// Each round trims a full log by so many further slots.
+    Trimmed,
+    /// The votes at so many slots are gone, and each round trims the log by them once more.
+    TrimmedAgain,
+}
+
 /// A work, how large that is on which it is done, and how many times.
 #[derive(Clone, Copy)]
 pub struct Task {
     pub work: Work,
-    /// How many points a moving point has, or how many things a part of a node holds.
+    /// How many points a moving point has, how many things a part of a node holds, or how many slots are meant.
     pub size: u16,
     pub rounds: u32,
 }
@@ -166,6 +194,7 @@ fn number_of_rounds(word: &str) -> Option<u32>
 }
 
 /// The work of this name.
+#[tactic(auto, using(crate::proofs::NameLemmas::no_work_named))]
 fn work_of(name: &str) -> Option<Work>
     ensures { MatchOption result ((work : Work) → name.now ≢ name_of work)
         (λ work. name.now ≡ name_of work) }
@@ -173,7 +202,13 @@ fn work_of(name: &str) -> Option<Work>
     if let Some(work) = scene_work_of(name) {
         return Some(Work::Scene(work));
     }
-    part_work_of(name).map(Work::Part)
+    if let Some(work) = part_work_of(name) {
+        return Some(Work::Part(work));
+    }
+    if let Some(work) = text_work_of(name) {
+        return Some(Work::Text(work));
+    }
+    log_work_of(name).map(Work::Log)
 }
 
 #[tactic(auto, using(crate::proofs::NameLemmas::none_named))]
@@ -288,6 +323,31 @@ fn part_work_of(name: &str) -> Option<PartWork>
         "overlapping" => Some(PartWork::Overlapping),
         "flushed" => Some(PartWork::Flushed),
         "pumped" => Some(PartWork::Pumped),
+        _ => None,
+    }
+}
+
+fn text_work_of(name: &str) -> Option<TextWork>
+    ensures { MatchOption result ((work : TextWork) → name.now ≢ text_name work)
+        (λ work. name.now ≡ text_name work) }
+{
+    match name {
+        "text_copied" => Some(TextWork::Copied),
+        "text_written" => Some(TextWork::Written),
+        "text_restored" => Some(TextWork::Restored),
+        "text_written_again" => Some(TextWork::WrittenAgain),
+        _ => None,
+    }
+}
+
+fn log_work_of(name: &str) -> Option<LogWork>
+    ensures { MatchOption result ((work : LogWork) → name.now ≢ log_name work)
+        (λ work. name.now ≡ log_name work) }
+{
+    match name {
+        "votes_put" => Some(LogWork::Put),
+        "votes_trimmed" => Some(LogWork::Trimmed),
+        "votes_trimmed_again" => Some(LogWork::TrimmedAgain),
         _ => None,
     }
 }

@@ -6,6 +6,8 @@
 #[cfg(test)]
 mod data;
 #[cfg(test)]
+mod memory;
+#[cfg(test)]
 mod nodes;
 #[cfg(test)]
 mod runs;

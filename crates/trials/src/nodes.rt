@@ -3,6 +3,7 @@
 //!
 //! Steps are a text: each line a step, and behind `>` what is told of it, where something is.
 
+mod checkpoints;
 mod faults;
 mod fleet;
 mod foreign;
@@ -10,6 +11,7 @@ mod letters;
 mod limits;
 mod losses;
 mod news;
+mod promises;
 mod runs;
 mod telling;
 

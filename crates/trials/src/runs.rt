@@ -1,6 +1,7 @@
 //! Tests of whole runs and of the program's parts: of `history`, `world`, `cluster`, `datagrams`, `schedule`, `replay` and `works`; of
 //! `commandline`, `endings` and `console`.
 
+mod checkpoints;
 mod checks;
 mod clusters;
 mod failures;
@@ -9,5 +10,6 @@ mod loopbacks;
 mod program;
 mod schedules;
 mod streams;
+mod transcripts;
 mod words;
 mod worlds;

@@ -1,5 +1,5 @@
 //! Tests of storages: of `stable`, of `sqlstable` over memory and over files, and of the archive in `files`.
 
-mod calls;
+pub mod calls;
 mod scripts;
 mod tables;

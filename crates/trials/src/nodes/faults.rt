@@ -111,7 +111,12 @@ fn a_restart_finds_what_was_written(rt: HostRuntime) -> Result<(), Fail> {
 
 #[test]
 fn damaged_records_keep_a_node_down(rt: HostRuntime) -> Result<(), Fail> {
-    for &key in &[Key::Promise, Key::Round, Key::Vote(Slot::first())] {
+    for &key in &[
+        Key::Checkpoint,
+        Key::Promise,
+        Key::Round,
+        Key::Vote(Slot::first()),
+    ] {
         assert!(rt; is_kept_down(rt.alloc(), key)?, "{key:?}");
     }
     Ok(())
@@ -119,11 +124,16 @@ fn damaged_records_keep_a_node_down(rt: HostRuntime) -> Result<(), Fail> {
 
 /// Whether a node stays down where this record of it is of no form.
 fn is_kept_down(alloc: Global, key: Key) -> Result<bool, Fail> {
+    let mut fleet = node_over(alloc, damaged(alloc, key)?)?;
+    Ok(stays_down(alloc, fleet.member(0)?))
+}
+
+/// Node 0 of three, over these records.
+pub fn node_over(alloc: Global, records: MemStable) -> Result<Fleet, Fail> {
     let nodes = Nodes::new(3).ok_or("nodes")?;
-    let records = damaged(alloc, key)?;
     let mut fleet = Fleet::empty(alloc);
     fleet.start(alloc, records, 0, nodes)?;
-    Ok(stays_down(alloc, fleet.member(0)?))
+    Ok(fleet)
 }
 
 /// Records of which one is of no form.
@@ -135,7 +145,7 @@ fn damaged(alloc: Global, key: Key) -> Result<MemStable, Fail> {
 }
 
 /// Whether a node is down, and a restart finds the damage and leaves it down.
-fn stays_down(alloc: Global, member: &mut Member) -> bool {
+pub fn stays_down(alloc: Global, member: &mut Member) -> bool {
     let was_up = member.is_up();
     let restarted = member.restart(alloc);
     !was_up && restarted == Err(NodeFault::Damaged) && !member.is_up()

@@ -3,11 +3,11 @@
 //! A step begins with its word, and the number of a node comes next, where there is one:
 //!
 //! - `submit 0 7 1`: the client and the number of a request that removes `bus-7`; `put 0 7 1 512`: of one that puts it at so many instants.
-//! - `timeout 0`, `tick 0`, `restart 0`.
+//! - `timeout 0`, `tick 0`, `checkpoint 0`, `trim 0`, `restart 0`.
 //! - `hear 0 1, ask 0`: it hears from another node, which comes next; `overhear 0 1, ask 0`: what is addressed to that node.
 //! - `deliver 3`: the frame of this number comes to whom it is addressed, again or for the first time; `lose 3`: it waits no more.
 //! - `flush`: frames are delivered, the lowest that waits first, until none waits. What is sent then isn't told.
-//! - `arm 0 old`, `arm 0 new`: the next put fails, and leaves the old or the new record.
+//! - `arm 0 old`, `arm 0 new`: the next put or trim fails, and leaves the old or the new records.
 //! - `count 0`: how many features there are; `look 0`: whether it is up, its position, and the keys of the puts that took effect.
 
 use super::letters::{envelope, node_id, number, numbers, removal, small};
@@ -224,6 +224,8 @@ impl Fleet {
         match word {
             "timeout" => self.give(alloc, text, small(at), Input::Timeout),
             "tick" => self.give(alloc, text, small(at), Input::Tick),
+            "checkpoint" => self.give(alloc, text, small(at), Input::Checkpoint),
+            "trim" => self.give(alloc, text, small(at), Input::Trim),
             "deliver" => self.deliver(alloc, text, at as usize),
             "lose" => self.lose(at as usize),
             _ => handle(alloc, text, small(at), self.member(small(at))?, word, step),

@@ -43,12 +43,14 @@ pub fn removal() -> Result<Op, Fail> {
     Ok(Op::Remove(id))
 }
 
-fn ballot(round: u64, node: u64) -> Result<Ballot, Fail> {
+/// The ballot of a round and a node.
+pub fn ballot(round: u64, node: u64) -> Result<Ballot, Fail> {
     let ballot = Ballot::new(round, small(node)).ok_or("ballot")?;
     Ok(ballot)
 }
 
-fn slot(value: u64) -> Result<Slot, Fail> {
+/// The slot of this number.
+pub fn slot(value: u64) -> Result<Slot, Fail> {
     let slot = Slot::new(value.min(65_536) as u32).ok_or("slot")?;
     Ok(slot)
 }
@@ -65,7 +67,7 @@ fn command(alloc: Global, client: u64, value: u64) -> Result<Held, Fail> {
 }
 
 /// The vote of five numbers: the ballot, the slot and the command.
-fn vote(alloc: Global, numbers: &[u64]) -> Result<Vote<Held>, Fail> {
+pub fn vote(alloc: Global, numbers: &[u64]) -> Result<Vote<Held>, Fail> {
     let &[round, node, at, client, value] = numbers else {
         return Err("a vote".into());
     };

@@ -8,7 +8,7 @@ use std::test::Fail;
 use synod::SLOTS;
 
 // Each fault, and its number and text.
-const FAULTS: [(NodeFault, &str); 8] = [
+const FAULTS: [(NodeFault, &str); 9] = [
     (NodeFault::Down, "41: the node is down"),
     (NodeFault::LogFull, "42: the whole log is executed"),
     (NodeFault::RoundsUsedUp, "43: no round is left"),
@@ -20,6 +20,10 @@ const FAULTS: [(NodeFault, &str); 8] = [
     (NodeFault::Device, "46: the storage failed"),
     (NodeFault::Memory, "47: out of memory"),
     (NodeFault::Damaged, "48: a record is damaged"),
+    (
+        NodeFault::NothingNew,
+        "49: nothing was executed since the last checkpoint",
+    ),
 ];
 
 #[test]

@@ -1,6 +1,6 @@
 //! Whole checks of documents: what goes in, and all that comes out. Further ones are the examples.
 
-use crate::runs::streams::{Unwritable, ends_so, tells_a_device};
+use crate::runs::streams::{Unwritable, tells_a_device};
 use std::io::{self, Error, ErrorKind, Read};
 use std::test::Fail;
 
@@ -28,12 +28,6 @@ pub(crate) const LINE: &str = concat!(
     r#""interpolation":"Linear","type":"MovingPoint"},"type":"Feature"}"#,
     "\n"
 );
-
-#[test]
-fn a_document_and_its_line(rt: HostRuntime) -> Result<(), Fail> {
-    assert!(rt; ends_so(&rt, &["check", "-"], LINE.as_bytes(), (0, LINE, ""))?);
-    Ok(())
-}
 
 #[test]
 fn checks_whose_streams_fail(rt: HostRuntime) -> Result<(), Fail> {

@@ -2,6 +2,7 @@
 
 ghost use Rattle.std.specs.Prelude.{[], ◌<◌};
 
+use crate::runs::transcripts::ROUND_LINES;
 use cluster::{Cluster, Queues, Transport, TransportFault};
 use replay::transcript;
 use sessions::Number;
@@ -20,11 +21,22 @@ pub(crate) fn node(value: u8) -> NodeId
     NodeId::new(value).unwrap()
 }
 
-// Queues that lose all, or send each datagram twice and hand over what comes first after what comes behind it.
+// What becomes of datagrams.
+#[derive(Clone, Copy, PartialEq)]
+enum Trouble {
+    // No send succeeds.
+    Lost,
+    // Each is sent twice, and what comes first is handed over after what comes behind it.
+    TurnedRound,
+    // No poll succeeds.
+    Unheard,
+}
+
+// Queues in trouble.
 #[derive(Drop)]
 struct Net {
     queues: Queues,
-    loses_all: bool,
+    trouble: Trouble,
 }
 
 impl Transport for Net {
@@ -39,7 +51,7 @@ impl Transport for Net {
         to: NodeId,
         bytes: &[u8],
     ) -> Result<(), TransportFault> {
-        if self.loses_all {
+        if self.trouble == Trouble::Lost {
             return Err(TransportFault);
         }
         self.queues.send(alloc, from, to, bytes)?;
@@ -47,6 +59,9 @@ impl Transport for Net {
     }
 
     fn poll(&mut self, alloc: Global, node: NodeId) -> Result<Option<Vec<u8>>, TransportFault> {
+        if self.trouble == Trouble::Unheard {
+            return Err(TransportFault);
+        }
         behind_the_first(alloc, &mut self.queues, node)
     }
 }
@@ -66,9 +81,9 @@ fn behind_the_first(
     Ok(first)
 }
 
-fn troubled(alloc: Global, loses_all: bool) -> Result<Net, AllocError> {
+fn troubled(alloc: Global, trouble: Trouble) -> Result<Net, AllocError> {
     let queues = Queues::new(alloc)?;
-    Ok(Net { queues, loses_all })
+    Ok(Net { queues, trouble })
 }
 
 fn three_nodes<T: Transport + Drop>(alloc: Global, transport: T) -> Result<Cluster<T>, WorldFault> {
@@ -183,7 +198,7 @@ pub(crate) const REMOVED: [&str; 4] = [
 #[test]
 fn clusters_send(rt: HostRuntime) -> Result<(), Fail> {
     let alloc = rt.alloc();
-    let mut cluster = three_nodes(alloc, troubled(alloc, true)?)?;
+    let mut cluster = three_nodes(alloc, troubled(alloc, Trouble::Lost)?)?;
     assert_eq!(rt; cluster.step(alloc, Event::Timeout(node(1))), Ok(()));
     assert_eq!(rt; cluster.failed_sends(), 3);
     let end = cluster.round(alloc, node(0), &[node(0), node(2)]);
@@ -209,13 +224,66 @@ fn one_request_over_queues(rt: HostRuntime) -> Result<(), Fail> {
     Ok(())
 }
 
+// Whether these bytes, and nothing else, are handed over to the node next.
+fn is_next(
+    alloc: Global,
+    queues: &mut Queues,
+    to: NodeId,
+    bytes: &[u8],
+) -> Result<bool, TransportFault> {
+    match queues.poll(alloc, to)? {
+        Some(datagram) => Ok(datagram.as_slice() == bytes),
+        None => Ok(false),
+    }
+}
+
+// Each datagram comes to its own node, once, in the order of sending.
+#[test]
+fn queues_keep_the_order(rt: HostRuntime) -> Result<(), Fail> {
+    let alloc = rt.alloc();
+    let (first, second) = (node(0), node(1));
+    let mut queues = Queues::new(alloc)?;
+    queues.send(alloc, first, second, b"a")?;
+    queues.send(alloc, first, first, b"b")?;
+    queues.send(alloc, second, second, b"c")?;
+    assert!(rt; is_next(alloc, &mut queues, second, b"a")?);
+    assert!(rt; is_next(alloc, &mut queues, second, b"c")?);
+    assert!(rt; is_next(alloc, &mut queues, first, b"b")?);
+    assert!(rt; queues.poll(alloc, first)?.is_none() && queues.poll(alloc, second)?.is_none());
+    Ok(())
+}
+
 // Repeated and turned round.
 #[test]
 fn datagrams_that_are_turned_round(rt: HostRuntime) -> Result<(), Fail> {
     let alloc = rt.alloc();
-    let cluster = asked(alloc, troubled(alloc, false)?)?;
+    let cluster = asked(alloc, troubled(alloc, Trouble::TurnedRound)?)?;
     let run = pump_twice(alloc, cluster, REMOVED.as_slice())?;
     assert!(rt; run.is_told);
     assert_eq!(rt; (run.strangers, run.failed_polls), (0, 0));
+    Ok(())
+}
+
+// A poll that fails is nothing: each pump ends after a hundred passes over three nodes.
+#[test]
+fn polls_that_fail(rt: HostRuntime) -> Result<(), Fail> {
+    let alloc = rt.alloc();
+    let cluster = asked(alloc, troubled(alloc, Trouble::Unheard)?)?;
+    let run = pump_twice(alloc, cluster, &[])?;
+    assert!(rt; run.is_told);
+    assert_eq!(rt; (run.first, run.second, run.failed_polls), (0, 0, 600));
+    Ok(())
+}
+
+// Rounds need no transport: what is told of them is told of a replay.
+#[test]
+fn rounds_in_each_others_way(rt: HostRuntime) -> Result<(), Fail> {
+    let alloc = rt.alloc();
+    let mut cluster = three_nodes(alloc, troubled(alloc, Trouble::Lost)?)?;
+    let (first, second, third) = (node(0), node(1), node(2));
+    cluster.round(alloc, third, &[first, third])?;
+    cluster.round(alloc, first, &[first, second])?;
+    cluster.round(alloc, first, &[first, second])?;
+    assert_eq!(rt; told(alloc, &cluster)?.as_slice(), ROUND_LINES.as_bytes());
     Ok(())
 }

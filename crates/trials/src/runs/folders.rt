@@ -13,7 +13,7 @@ const SCHEDULE: &str = "folders_test/first_run.schedule";
 const DOCUMENT: &str = "folders_test/bus-7.json";
 
 // An empty folder of this name.
-fn make_folder(rt: &HostRuntime, folder: &str) -> io::Result<()> {
+pub(crate) fn make_folder(rt: &HostRuntime, folder: &str) -> io::Result<()> {
     let _ = fs::remove_dir_all(rt, folder);
     fs::create_dir(rt, folder)
 }
@@ -48,12 +48,25 @@ fn a_file_has_what_was_written(rt: HostRuntime) -> Result<(), Fail> {
     Ok(())
 }
 
-// Whether a run keeps a file for each node in the folder and prints its lines, and the next run finds records there.
+// Whether a run keeps a file for each node in the folder and prints its lines, and the next run finds records there and leaves
+// them as they were.
 fn keeps_records(rt: &HostRuntime, folder: &str) -> Result<bool, Fail> {
     let words = ["replay", "--db", folder, "-"];
     let is_done = ends_so(rt, &words, FIRST_RUN, (0, FIRST_LINES, ""))?;
+    let kept = records_in(rt, folder)?;
     let is_found = ends_so(rt, &words, FIRST_RUN, (1, "", "mfpx: fault 55\n"))?;
-    Ok(is_done && is_found && fs::read_dir(rt, folder)?.count() == 3)
+    let is_same = kept.as_slice() == records_in(rt, folder)?.as_slice();
+    Ok(is_done && is_found && is_same && fs::read_dir(rt, folder)?.count() == 3)
+}
+
+// The bytes of all three files.
+fn records_in(rt: &HostRuntime, folder: &str) -> Result<Vec<u8>, Fail> {
+    let mut all = Vec::new(rt.alloc());
+    for number in 0..3 {
+        let path = format!(in rt.alloc(); "{folder}/node{number}.db")?;
+        all.extend_from_slice(fs::read(rt, path.as_str())?.as_slice())?;
+    }
+    Ok(all)
 }
 
 // No name is special to what reads the files.

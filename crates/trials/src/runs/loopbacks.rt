@@ -45,18 +45,20 @@ fn bound(rt: &HostRuntime, count: Nodes) -> Result<Sockets, Failure> {
 // Whether it has these lines, in some order, and then that of its strangers.
 fn is_looped(rt: &HostRuntime, schedule: &[u8], lines: &[&str]) -> bool {
     match looped(rt, schedule) {
-        Ok(text) => ends_so(text, lines),
+        Ok(text) => end_with_strangers(text.as_slice(), lines),
         Err(_) => false,
     }
 }
 
-// Whether these lines come, in some order, and then that of the strangers, of whom there is none.
-fn ends_so(text: Vec<u8>, lines: &[&str]) -> bool {
-    let Ok(text) = str::from_utf8(text.as_slice()) else {
+/// Whether these lines come, in some order, and last that of the strangers, however many others send to the sockets.
+pub(crate) fn end_with_strangers(text: &[u8], lines: &[&str]) -> bool {
+    let Ok(text) = str::from_utf8(text) else {
         return false;
     };
-    match text.strip_suffix("strangers 0\n") {
-        Some(others) => has_lines(others, lines),
+    match text.split_once("strangers ") {
+        Some((others, number)) => number.ends_with('\n')
+            && number.lines().count() == 1
+            && has_lines(others, lines),
         None => false,
     }
 }

@@ -31,7 +31,7 @@ deliver0\n\
 dTeliver 6\n\
 timeou 2\n\
 rounds 0 0\n\
-checkpoint 9\n\
+checkpoints 9\n\
 query 0 foo\n\
 query 0 \n\
 query 0 counet\n\

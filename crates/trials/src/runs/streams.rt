@@ -2,6 +2,7 @@
 
 ghost use Rattle.std.specs.Prelude.{◌≡◌, vec_len};
 
+use crate::runs::checks::LINE;
 use crate::runs::program::{FIRST_LINES, FIRST_RUN};
 use crate::runs::worlds::three_storages;
 use console::{Archive, command};
@@ -193,42 +194,65 @@ pub(crate) fn tells_a_device<R: Read + Drop, O: Write + Drop>(
     Ok(status == 3 && err.as_slice() == b"mfpx: device\n".as_slice())
 }
 
-#[test]
-fn schedules_that_are_none(rt: HostRuntime) -> Result<(), Fail> {
-    // the file, and the line that tells what is wrong
-    let cases: [(&[u8], &str); 3] = [
-        (b"", "mfpx: line 1 fault 3\n"),
-        (b"nodes 4\n", "mfpx: line 1 fault 3\n"),
-        (b"\n\n", "mfpx: line 1 fault 3\n"),
-    ];
-    for (file, line) in cases {
-        for words in [[].as_slice(), &["replay", "-"]] {
-            assert!(rt; ends_so(&rt, words, file, (1, "", line))?, "{words:?}");
-        }
-    }
-    Ok(())
-}
+type Ending = (u8, &'static str, &'static str);
 
-#[test]
-fn words_that_are_none_of_the_forms(rt: HostRuntime) -> Result<(), Fail> {
-    let forms: [&[&str]; 3] = [&["-"], &["check", "no such file", "-"], &["--help"]];
-    for words in forms {
-        let usage = (2, "", "mfpx: usage\n");
-        assert!(rt; ends_so(&rt, words, b"nodes 3\n", usage)?, "{words:?}");
-    }
-    Ok(())
-}
+const USAGE: Ending = (2, "", "mfpx: usage\n");
 
-#[test]
-fn streams_and_files_that_fail(rt: HostRuntime) -> Result<(), Fail> {
+const DEVICE: Ending = (3, "", "mfpx: device\n");
+
+// words, the input, and how the run ends; a script of `check` lets memory run out
+const ENDINGS: [(&[&str], &str, Ending); 14] = [
+    (&[], "", (1, "", "mfpx: line 1 fault 3\n")),
+    (&["replay", "-"], "\n\n", (1, "", "mfpx: line 1 fault 3\n")),
+    (
+        &["replay", "-"],
+        "nodes 4\n",
+        (1, "", "mfpx: line 1 fault 3\n"),
+    ),
+    (
+        &["replay", "-"],
+        "nodes 3\ndeliver 0\n",
+        (1, "", "mfpx: line 2 fault 51\n"),
+    ),
+    (&["check", "-"], "{}", (1, "", "mfpx: document fault 2\n")),
+    (
+        &["check", "-"],
+        TWICE,
+        (1, "", "mfpx: document fault 12 at 1\n"),
+    ),
+    (&["-"], "nodes 3\n", USAGE),
+    (&["play", "-"], "nodes 3\n", USAGE),
+    (
+        &["replay", "--db", "a", "--db", "a", "-"],
+        "nodes 3\n",
+        USAGE,
+    ),
+    (&["check", "no such file", "-"], "nodes 3\n", USAGE),
+    (&["help"], "nodes 3\n", USAGE),
+    (&["--help"], "nodes 3\n", USAGE),
     // a file that isn't there, and a folder
-    for path in ["no such file", "."] {
-        let device = (3, "", "mfpx: device\n");
-        assert!(rt;
-            ends_so(&rt, &["replay", path], b"nodes 3\n", device)?,
-            "{path}"
-        );
+    (&["replay", "no such file"], "nodes 3\n", DEVICE),
+    (&["replay", "."], "nodes 3\n", DEVICE),
+];
+
+// a document with one datetime twice
+const TWICE: &str = concat!(
+    r#"{"id":"bus-7","temporalGeometry":{"coordinates":[[0,0],[10,5]],"#,
+    r#""datetimes":["2020-01-01T00:00:00Z","2020-01-01T00:00:00Z"],"#,
+    r#""interpolation":"Linear","type":"MovingPoint"},"type":"Feature"}"#
+);
+
+#[test]
+fn statuses_and_their_lines(rt: HostRuntime) -> Result<(), Fail> {
+    assert!(rt; ends_so(&rt, &["check", "-"], LINE.as_bytes(), (0, LINE, ""))?);
+    for (words, input, wanted) in ENDINGS {
+        assert!(rt; ends_so(&rt, words, input.as_bytes(), wanted)?, "{words:?}");
     }
+    Ok(())
+}
+
+#[test]
+fn streams_that_fail(rt: HostRuntime) -> Result<(), Fail> {
     assert!(rt; tells_a_device(&rt, &[], Unreadable, Vec::new(rt.alloc()))?);
     assert!(rt; tells_a_device(&rt, &[], b"nodes 3\n".as_slice(), Unflushed)?);
     Ok(())

@@ -3,7 +3,8 @@
 ghost use Rattle.std.specs.Prelude.{◌≡◌, vec_len, IfOk};
 
 use history::{
-    a_start_tells, answers_are_one, lists_are_as_told, steps_tell, tellings_are_explained,
+    a_start_tells, answers_are_one, ballots_never_fall, lists_are_as_told, promises_never_fall,
+    steps_tell, tellings_are_explained,
 };
 use stable::{Key, MemStable, Stable, StableFault};
 use std::alloc::Global;
@@ -12,6 +13,8 @@ use std::alloc::Global;
 fn laws_run_nothing() {
     lists_are_as_told::<MemStable>();
     answers_are_one::<MemStable>();
+    ballots_never_fall::<MemStable>();
+    promises_never_fall::<MemStable>();
     a_start_tells::<MemStable>();
     steps_tell::<MemStable>();
     tellings_are_explained::<MemStable>();

@@ -119,9 +119,10 @@ fn a_file_keeps_records(rt: HostRuntime) {
     assert!(rt; fs::remove_dir_all(&rt, FOLDER).is_ok());
 }
 
-const TRIM_FOLDER: &str = "sqlstable_trim_test";
+// Below `out`, which no checkout keeps: the file stays there, for `check/trimmed_file.py`.
+const TRIM_FOLDER: &str = "out/trimmed";
 
-const TRIM_PATH: &str = "sqlstable_trim_test/node0.db";
+const TRIM_PATH: &str = "out/trimmed/node0.db";
 
 // A file is trimmed, and left as a run leaves it.
 fn trim_a_file(rt: &HostRuntime, path: &str) -> Result<bool, StableFault> {
@@ -140,11 +141,11 @@ fn is_file_trimmed(rt: &HostRuntime, path: &str) -> Result<bool, StableFault> {
 #[test]
 fn a_file_is_trimmed(rt: HostRuntime) {
     let _ = fs::remove_dir_all(&rt, TRIM_FOLDER);
-    assert!(rt; fs::create_dir(&rt, TRIM_FOLDER).is_ok());
+    assert!(rt; fs::create_dir_all(&rt, TRIM_FOLDER).is_ok());
     assert_eq!(rt; trim_a_file(&rt, TRIM_PATH), Ok(true));
     assert_eq!(rt; close_a_file(&rt, TRIM_PATH), Ok(()));
     assert_eq!(rt; is_file_trimmed(&rt, TRIM_PATH), Ok(true));
-    assert!(rt; fs::remove_dir_all(&rt, TRIM_FOLDER).is_ok());
+    assert_eq!(rt; close_a_file(&rt, TRIM_PATH), Ok(()));
 }
 
 const RUN_FOLDER: &str = "sqlstable_run_test";
