@@ -51,6 +51,10 @@ byte_at (b ∷ rest) = Ok (b, rest)
 abbrev pub number_at : ℕ → List ℕ → Read ℕ
 number_at n bytes = if nat_lt (length bytes) n then Err Short else Ok (big_number n bytes, drop n bytes)
 
+-- so many bytes, as they stand
+abbrev pub bytes_at : ℕ → List ℕ → Read (List ℕ)
+bytes_at n bytes = if nat_lt (length bytes) n then Err Short else Ok (take n bytes, drop n bytes)
+
 -- ---- ids
 -- so many bytes, each of them an id's; one that is none is met before the bytes end
 abbrev pub text_at : ℕ → List ℕ → Read (List ℕ)

@@ -2,7 +2,7 @@
 
 ghost use Rattle.std.specs.Prelude.{◌≡◌, ◌≤◌, ◌==◌, if◌then◌else◌, length, OnErr};
 ghost use Rattle.std.specs.List.{list_all};
-ghost use Rattle.fields.specs.Reading.{Tells, byte_at, number_at, text_at};
+ghost use Rattle.fields.specs.Reading.{Tells, byte_at, number_at, bytes_at, text_at};
 ghost use Rattle.tpoint.specs.Ids.{is_id_byte};
 
 use crate::fault::FieldFault;
@@ -90,6 +90,19 @@ impl<'a> Input<'a> {
         let number = BigEndian::read_u64(self.rest);
         self.rest = &self.rest[8..];
         Ok(number)
+    }
+
+    /// The next bytes, so many, as they stand.
+    pub fn bytes(&mut self, len: usize) -> Result<&'a [u8], FieldFault>
+        ensures read { Tells (λ x. (x.now, self.new)) result (bytes_at len self.old) }
+        ensures err { OnErr result (self.new ≡ self.old) }
+    {
+        if self.rest.len() < len {
+            return Err(FieldFault::Short);
+        }
+        let (bytes, rest) = self.rest.split_at(len);
+        self.rest = rest;
+        Ok(bytes)
     }
 
     /// The next bytes, so many, as an id.

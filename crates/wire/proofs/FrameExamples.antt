@@ -6,12 +6,13 @@ use Rattle.sessions.specs.declared.command.Command.TheVariants.{Request}
 use Rattle.wire.specs.declared.frames.envelope.Envelope.{Envelope}
 use Rattle.wire.specs.declared.frames.fault.WireFault.TheVariants.{Short, Magic, Version, Field, Trailing}
 use Rattle.wire.specs.declared.frames.fault.WireFault.TheVariants as fault
-use Rattle.wire.specs.declared.frames.message.Message.TheVariants.{Prepare, Promise, Nack, Accept, Ask, Decided}
+use Rattle.wire.specs.declared.frames.message.Message.TheVariants.{Prepare, Promise, Nack, Accept, Ask, Decided, SnapAsk, SnapPart, Behind}
 use Rattle.wire.specs.FrameSpelling.{spelling}
 use Rattle.fields.specs.Reading.{id_at}
 use Rattle.wire.specs.Reading.{ballot_of, ballot_at, slot_at, command_at, asked_at, request_at, request_number_at, op_at, remove_at}
 use Rattle.wire.specs.FrameReading.{version_at, kind_at, node_at, ends_at, head_at, range_at, few_at, entries_at, told_at, promise_at}
 use Rattle.wire.specs.FrameReading.{ballot_above, nack_at, vote_at, prepare_at, decided_at, message_at, envelope_at, frame_in}
+use Rattle.wire.specs.FrameReading.{position_at, part_below, snap_ask_at, total_at, part_bytes_at, piece_at}
 
 -- an envelope, its bytes, and what three nodes read in them
 record Vector (e : Envelope) (bytes : List ℕ) : Type 0 where
@@ -60,6 +61,26 @@ unfolding removal frame_in envelope_at head_at version_at kind_at ends_at node_a
     request_at request_number_at op_at remove_at id_at
 decided_vector = record { spelled = refl; read = refl }
 
+snap_ask_vector : Vector (record { from = 2; to = 0; message = SnapAsk 1 0 })
+    (0x4D ∷ 0x50 ∷ 2 ∷ 8 ∷ 2 ∷ 0 ∷ 0 ∷ 0 ∷ 0 ∷ 1 ∷ 0 ∷ 0 ∷ 0 ∷ 0 ∷ [])
+unfolding frame_in envelope_at head_at version_at kind_at ends_at node_at message_at snap_ask_at position_at part_below
+snap_ask_vector = record { spelled = refl; read = refl }
+
+-- the whole text of an empty database
+snap_part_vector : Vector (record {
+  from = 0;
+  to = 2;
+  message = SnapPart
+      (record { position = 1; total = 4; number = 0; bytes = 0 ∷ 0 ∷ 0 ∷ 0 ∷ [] });
+})
+    (0x4D ∷ 0x50 ∷ 2 ∷ 9 ∷ 0 ∷ 2 ∷ 0 ∷ 0 ∷ 0 ∷ 1 ∷ 0 ∷ 0 ∷ 0 ∷ 4 ∷ 0 ∷ 0 ∷ 0 ∷ 0 ∷ 0 ∷ 4 ∷ 0 ∷ 0 ∷ 0 ∷ 0 ∷ [])
+unfolding frame_in envelope_at head_at version_at kind_at ends_at node_at message_at piece_at position_at total_at part_below part_bytes_at
+snap_part_vector = record { spelled = refl; read = refl }
+
+behind_vector : Vector (record { from = 0; to = 2; message = Behind 1 }) (0x4D ∷ 0x50 ∷ 2 ∷ 0xA ∷ 0 ∷ 2 ∷ 0 ∷ 0 ∷ 0 ∷ 1 ∷ [])
+unfolding frame_in envelope_at head_at version_at kind_at ends_at node_at message_at position_at
+behind_vector = record { spelled = refl; read = refl }
+
 -- ---- faults
 nothing_is_short : frame_in 3 [] ≡ Err Short
 unfolding frame_in envelope_at head_at version_at
@@ -69,13 +90,22 @@ other_magic : frame_in 3 (0x4D ∷ 0x51 ∷ []) ≡ Err Magic
 unfolding frame_in envelope_at head_at version_at
 other_magic = refl
 
-other_version : frame_in 3 (0x4D ∷ 0x50 ∷ 2 ∷ []) ≡ Err Version
+other_version : frame_in 3 (0x4D ∷ 0x50 ∷ 3 ∷ []) ≡ Err Version
 unfolding frame_in envelope_at head_at version_at
 other_version = refl
 
 other_kind : frame_in 3 (0x4D ∷ 0x50 ∷ 1 ∷ 8 ∷ []) ≡ Err fault.Kind
 unfolding frame_in envelope_at head_at version_at kind_at
 other_kind = refl
+
+-- a kind that has the other version
+asked_of_version_1 : frame_in 3 (0x4D ∷ 0x50 ∷ 2 ∷ 6 ∷ []) ≡ Err fault.Kind
+unfolding frame_in envelope_at head_at version_at kind_at
+asked_of_version_1 = refl
+
+eleventh_kind : frame_in 3 (0x4D ∷ 0x50 ∷ 2 ∷ 0xB ∷ []) ≡ Err fault.Kind
+unfolding frame_in envelope_at head_at version_at kind_at
+eleventh_kind = refl
 
 fourth_node : frame_in 3 (0x4D ∷ 0x50 ∷ 1 ∷ 6 ∷ 3 ∷ []) ≡ Err Field
 unfolding frame_in envelope_at head_at version_at kind_at ends_at node_at

@@ -1,6 +1,6 @@
 -- What is read of a frame was spelled so, and may be sent; and what may be sent is read from its spelling.
 use Rattle.std.proofs.Common.{IsOkAnd}
-use Rattle.std.proofs.Common.{◌≡◌, ℕ, zero, suc, ◌+◌, ◌<◌, ◌≤◌, Bool, true, false, cond, eqb, leb, ltb, not, ◌&&◌, ◌||◌, List, [], ◌∷◌}
+use Rattle.std.proofs.Common.{◌≡◌, ℕ, zero, suc, ◌+◌, ◌<◌, ◌≤◌, true, false, cond, eqb, leb, ltb, not, ◌&&◌, ◌||◌, List, [], ◌∷◌}
 use Rattle.std.proofs.Common.{◌++◌, length, Option, Some, None, Ok, Err, refl, sym, ap, subst, ◌∙◌, append_assoc, arith, inl, inr}
 use Rattle.std.specs.List.{flat_map, AllByRecursion}
 use Rattle.std.proofs.lemmas.Bool.Decides.{nat_tests}
@@ -18,7 +18,7 @@ use Rattle.wire.specs.declared.frames.envelope.TheConstants.{MAGIC, LONGEST_FRAM
 use Rattle.wire.specs.declared.frames.kind.Kind.{Kind}
 use Rattle.wire.specs.declared.frames.kind.Kind.TheVariants as kind
 use Rattle.wire.specs.declared.frames.message.Message.{Message}
-use Rattle.wire.specs.declared.frames.message.Message.TheVariants.{Prepare, Promise, Nack, Accept, Accepted, Ask, Decided}
+use Rattle.wire.specs.declared.frames.message.Message.TheVariants.{Prepare, Promise, Nack, Accept, Accepted, Ask, Decided, SnapAsk, SnapPart, Behind}
 use Rattle.wire.specs.declared.frames.promise.TheConstants.{MOST_ENTRIES}
 use Rattle.wire.specs.Promises.{Promised, Refused, IsTold, AreTold, IsPromise}
 use Rattle.wire.specs.Spelling.{ballot_bytes, BallotFits, slot_bytes, SlotFits, command_bytes, CommandFits}
@@ -28,23 +28,16 @@ use Rattle.fields.specs.Reading.{number_at, byte_at}
 use Rattle.wire.specs.Reading.{ballot_at, slot_at, command_at}
 use Rattle.wire.specs.FrameReading.{is_version, version_at, found_among, known, kind_at, node_at, ends_at, Head, head_at, range_at, few_at}
 use Rattle.wire.specs.FrameReading.{slot_within, ballot_up_to, entry_at, entries_at, told_at, promise_at, ballot_above, nack_at, vote_at}
-use Rattle.wire.specs.FrameReading.{prepare_at, decided_at, message_at, envelope_at, frame_in}
+use Rattle.wire.specs.FrameReading.{prepare_at, decided_at, position_at, piece_at, message_at, envelope_at, frame_in}
 use Rattle.fields.proofs.FieldLemmas.{IsBytes, bind_ok, guard_ok, ok_is, Takes, Takes-then, Took, number_takes, number_again, back2}
 use Rattle.fields.proofs.FieldLemmas.{byte_takes, below, at_most, is_number, is_equal}
-use Rattle.wire.specs.Puts.{BringsCommands, FrameWithCommandsBegins}
-use Rattle.wire.proofs.WideLemmas.{bind_wide, ok_and}
+use Rattle.wire.specs.Puts.{BringsContent, FrameWithContentBegins}
+use Rattle.wire.proofs.WideLemmas.{bind_wide, ok_and, neither, both_hold}
 use Rattle.wire.proofs.BallotLaws.{ballot_takes, ballot_again, slot_takes, slot_again}
 use Rattle.wire.proofs.CommandLaws.{command_takes, command_again}
+use Rattle.wire.proofs.PartLaws.{position_takes, position_again, snap_ask_takes, snap_ask_again, piece_takes, piece_again}
 
 -- ---- tests
-neither : (a b : Bool) → (a || b) ≡ false → (a ≡ false) × (b ≡ false)
-neither true b e = absurd cc
-neither false b e = (refl, e)
-
-both_hold : (a b : Bool) → (a && b) ≡ true → (a ≡ true) × (b ≡ true)
-both_hold true b e = (refl, e)
-both_hold false b e = absurd cc
-
 above : (k n : ℕ) → leb n k ≡ false → k < n
 above k n e = grind (arith, nat_tests)
 
@@ -158,7 +151,7 @@ head_takes nodes bytes x fits e =
 
 -- bytes whose head is read begin as a frame
 pub head_begins : (nodes : ℕ) (bytes : List ℕ) → IsBytes bytes → length bytes ≤ LONGEST_FRAME
-    → IsOkAnd (head_at nodes bytes) (λ h. BringsCommands h.0.kind) → FrameWithCommandsBegins nodes bytes
+    → IsOkAnd (head_at nodes bytes) (λ h. BringsContent h.0.kind) → FrameWithContentBegins nodes bytes
 head_begins nodes bytes fits not_long h =
     let x = ok_and (head_at nodes bytes) _ h in
     let t = head_takes nodes bytes x.0 fits x.1 in
@@ -178,6 +171,10 @@ version_one_again : (rest : List ℕ) → version_at (big_bytes 2 MAGIC ++ 1 ∷
 unfolding version_at
 version_one_again rest = let first = number_again 2 MAGIC (1 ∷ rest) (omega arith) in rw first refl
 
+version_two_again : (rest : List ℕ) → version_at (big_bytes 2 MAGIC ++ 2 ∷ rest) ≡ Ok (2, rest)
+unfolding version_at
+version_two_again rest = let first = number_again 2 MAGIC (2 ∷ rest) (omega arith) in rw first refl
+
 version_again : (k : Kind) (rest : List ℕ) → version_at (big_bytes 2 MAGIC ++ version_of k ∷ rest) ≡ Ok (version_of k, rest)
 version_again kind.Prepare rest = version_one_again rest
 version_again kind.Promise rest = version_one_again rest
@@ -186,6 +183,9 @@ version_again kind.Accept rest = version_one_again rest
 version_again kind.Accepted rest = version_one_again rest
 version_again kind.Ask rest = version_one_again rest
 version_again kind.Decided rest = version_one_again rest
+version_again kind.SnapAsk rest = version_two_again rest
+version_again kind.SnapPart rest = version_two_again rest
+version_again kind.Behind rest = version_two_again rest
 
 kind_again : (k : Kind) (rest : List ℕ) → kind_at (version_of k) (byte_of k ∷ rest) ≡ Ok (k, rest)
 unfolding kind_at
@@ -196,6 +196,9 @@ kind_again kind.Accept rest = refl
 kind_again kind.Accepted rest = refl
 kind_again kind.Ask rest = refl
 kind_again kind.Decided rest = refl
+kind_again kind.SnapAsk rest = refl
+kind_again kind.SnapPart rest = refl
+kind_again kind.Behind rest = refl
 
 node_again : (nodes n : ℕ) (rest : List ℕ) → n < nodes → node_at nodes (n ∷ rest) ≡ Ok (n, rest)
 unfolding node_at
@@ -572,6 +575,21 @@ message_takes kind.Ask nodes few bytes x fits e =
     let it : TookBody nodes kind.Ask bytes (Ask p.0.0, p.0.1) = record { takes = t.takes; fits = t.fits; kind = refl } in
     subst (TookBody nodes kind.Ask bytes) (ok_is _ _ p.2) it
 message_takes kind.Decided nodes few bytes x fits e = decided_takes nodes bytes x fits e
+message_takes kind.SnapAsk nodes few bytes x fits e =
+    let p = snap_ask_takes bytes x fits e in
+    let it : TookBody nodes kind.SnapAsk bytes (SnapAsk p.0.0.0 p.0.0.1, p.0.1) = record
+    { takes = p.2.takes; fits = p.2.fits; kind = refl } in
+    subst (TookBody nodes kind.SnapAsk bytes) p.1 it
+message_takes kind.SnapPart nodes few bytes x fits e =
+    let p = bind_ok (piece_at bytes) _ x e in
+    let t = piece_takes bytes p.0 fits p.1 in
+    let it : TookBody nodes kind.SnapPart bytes (SnapPart p.0.0, p.0.1) = record { takes = t.takes; fits = t.fits; kind = refl } in
+    subst (TookBody nodes kind.SnapPart bytes) (ok_is _ _ p.2) it
+message_takes kind.Behind nodes few bytes x fits e =
+    let p = bind_ok (position_at bytes) _ x e in
+    let t = position_takes bytes p.0 fits p.1 in
+    let it : TookBody nodes kind.Behind bytes (Behind p.0.0, p.0.1) = record { takes = t.takes; fits = t.fits; kind = refl } in
+    subst (TookBody nodes kind.Behind bytes) (ok_is _ _ p.2) it
 
 prepare_again : (nodes : ℕ) (b : Ballot) (first : ℕ) (rest : List ℕ) → BallotFits nodes b → SlotFits first
     → prepare_at nodes ((ballot_bytes b ++ slot_bytes first) ++ rest) ≡ Ok (Prepare b first, rest)
@@ -597,6 +615,9 @@ message_again nodes (Accept v) rest fits = rw (vote_again nodes v rest fits) ref
 message_again nodes (Accepted v) rest fits = rw (vote_again nodes v rest fits) refl
 message_again nodes (Ask slot) rest fits = rw (slot_again slot rest fits) refl
 message_again nodes (Decided slot c) rest fits = decided_again slot c rest fits.0 fits.1
+message_again nodes (SnapAsk position number) rest fits = snap_ask_again position number rest fits.0 fits.1
+message_again nodes (SnapPart p) rest fits = rw (piece_again p rest fits) refl
+message_again nodes (Behind floor) rest fits = rw (position_again floor rest fits) refl
 
 -- ---- envelopes
 pub envelope_takes : (nodes : ℕ) → nodes ≤ 7 → (bytes : List ℕ) (x : Envelope × List ℕ) → IsBytes bytes → envelope_at nodes bytes ≡ Ok x

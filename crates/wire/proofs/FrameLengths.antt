@@ -13,8 +13,9 @@ use Rattle.wire.specs.FrameSpelling.{entry_bytes, VoteFits, body_bytes, MessageF
 use Rattle.wire.specs.declared.frames.envelope.Envelope.{Envelope}
 use Rattle.wire.specs.declared.frames.envelope.TheConstants.{LONGEST_FRAME}
 use Rattle.wire.specs.declared.frames.message.Message.{Message}
-use Rattle.wire.specs.declared.frames.message.Message.TheVariants.{Prepare, Promise, Nack, Accept, Accepted, Ask, Decided}
+use Rattle.wire.specs.declared.frames.message.Message.TheVariants.{Prepare, Promise, Nack, Accept, Accepted, Ask, Decided, SnapAsk, SnapPart, Behind}
 use Rattle.fields.proofs.LengthLemmas.{put_len, append_len}
+use Rattle.wire.proofs.PartLaws.{piece_most}
 
 -- an operation: a Put of the longest id and the most instants is the largest
 op_most : (op : Op) → OpFits op → length (op_bytes op) ≤ 12357
@@ -59,6 +60,11 @@ body_most nodes (Ask slot) f = omega arith
 body_most nodes (Decided slot command) f =
     let most = command_most command f.1 in
     omega (arith, most)
+body_most nodes (SnapAsk position number) f = omega arith
+body_most nodes (SnapPart p) f =
+    let most = piece_most p f in
+    omega (arith, most)
+body_most nodes (Behind floor) f = omega arith
 
 spelling_most : (nodes : ℕ) (e : Envelope) → Fits nodes e → length (spelling e) ≤ LONGEST_FRAME
 spelling_most nodes e f =

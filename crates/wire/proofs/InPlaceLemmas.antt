@@ -16,6 +16,8 @@ use Rattle.wire.specs.declared.frames.kind.Kind.{Kind}
 use Rattle.wire.specs.FrameSpelling.{kinds}
 use Rattle.wire.specs.Reading.{wide, ballot_at, slot_at, append_at, remove_at, request_number_at}
 use Rattle.wire.specs.FrameReading.{version_at, known, found_among, kind_at, node_at, ends_at, head_at, ballot_above, nack_at, prepare_at}
+use Rattle.wire.specs.FrameReading.{position_at, part_below, snap_ask_at}
+use Rattle.sessions.specs.declared.snapshot.TheConstants.{LONGEST_SNAPSHOT}
 
 -- reading doesn't fail by this fault
 abbrev pub Never : {A F : Type 0} → F → Result A F → Type 0
@@ -166,6 +168,23 @@ unfolding nack_at
 nack_never nodes bytes =
     two_steps Memory (ballot_at nodes bytes) _ (ballot_never nodes bytes)
     (λ ballot. two_steps Memory (ballot_above nodes ballot.0 ballot.1) _ (above_never nodes ballot.0 ballot.1) (λ promised. done Memory _))
+
+pub position_never : (bytes : List ℕ) → Never Memory (position_at bytes)
+unfolding position_at
+position_never bytes =
+    two_steps Memory (wide (number_at 4 bytes)) _ (wide_number 4 bytes) (λ position. tested Memory Field _ _ (λ e. cc) (done Memory _))
+
+below_never : (total : ℕ) (bytes : List ℕ) → Never Memory (part_below total bytes)
+unfolding part_below
+below_never total bytes =
+    two_steps Memory (wide (number_at 4 bytes)) _ (wide_number 4 bytes) (λ offset. tested Memory Field _ _ (λ e. cc) (done Memory _))
+
+pub snap_ask_never : (bytes : List ℕ) → Never Memory (snap_ask_at bytes)
+unfolding snap_ask_at
+snap_ask_never bytes =
+    two_steps Memory (position_at bytes) _ (position_never bytes)
+    (λ position. two_steps Memory (part_below LONGEST_SNAPSHOT position.1) _ (below_never LONGEST_SNAPSHOT position.1)
+    (λ number. done Memory _))
 
 -- ---- what is returned
 -- a fault that a field without memory hands on

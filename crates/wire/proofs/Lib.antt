@@ -8,6 +8,7 @@ pub mod FrameLaws
 pub mod FrameLengths
 pub mod FrameSeen
 pub mod InPlaceLemmas
+pub mod PartLaws
 pub mod PushLemmas
 pub mod RecordLaws
 pub mod WantLemmas

@@ -1,5 +1,5 @@
 -- The envelope that bytes spell, or their first fault in reading order. Only their number is tested before all.
-use Rattle.std.specs.Prelude.{Bool, ℕ, zero, suc, ◌+◌, not, ◌==◌, ◌&&◌, ◌||◌, if◌then◌else◌, nat_lt, nat_le}
+use Rattle.std.specs.Prelude.{Bool, ℕ, zero, suc, ◌+◌, ◌-◌, ◌/◌, ◌%◌, min, not, ◌==◌, ◌&&◌, ◌||◌, if◌then◌else◌, nat_lt, nat_le}
 use Rattle.std.specs.Prelude.{List, [], ◌∷◌, length, Option, Some, None, Result, Ok, Err}
 use Rattle.std.specs.List.{list_any}
 use Rattle.synod.specs.Ballots.{rank}
@@ -7,8 +7,12 @@ use Rattle.synod.specs.declared.ballot.Ballot.{Ballot}
 use Rattle.synod.specs.declared.vote.Vote.{Vote}
 use Rattle.sessions.specs.declared.command.Command.{Command}
 use Rattle.wire.specs.FrameSpelling.{versions, version_of, byte_of, kinds}
+use Rattle.synod.specs.declared.slot.TheConstants.{SLOTS}
+use Rattle.sessions.specs.declared.snapshot.TheConstants.{LONGEST_SNAPSHOT}
+use Rattle.wire.specs.Parts.{Piece, is_total, offset_of}
 use Rattle.wire.specs.Promises.{Promised, Refused}
-use Rattle.fields.specs.Reading.{◌>>=◌, number_at, byte_at}
+use Rattle.wire.specs.declared.frames.part.TheConstants.{PART}
+use Rattle.fields.specs.Reading.{◌>>=◌, number_at, byte_at, bytes_at}
 use Rattle.wire.specs.Reading.{Read, wide, ballot_at, slot_at, command_at}
 use Rattle.wire.specs.declared.frames.envelope.Envelope.{Envelope}
 use Rattle.wire.specs.declared.frames.envelope.TheConstants.{MAGIC, LONGEST_FRAME}
@@ -18,7 +22,7 @@ use Rattle.wire.specs.declared.frames.fault.WireFault.TheVariants as fault
 use Rattle.wire.specs.declared.frames.kind.Kind.{Kind}
 use Rattle.wire.specs.declared.frames.kind.Kind.TheVariants as kind
 use Rattle.wire.specs.declared.frames.message.Message.{Message}
-use Rattle.wire.specs.declared.frames.message.Message.TheVariants.{Prepare, Promise, Nack, Accept, Accepted, Ask, Decided}
+use Rattle.wire.specs.declared.frames.message.Message.TheVariants.{Prepare, Promise, Nack, Accept, Accepted, Ask, Decided, SnapAsk, SnapPart, Behind}
 use Rattle.wire.specs.declared.frames.promise.TheConstants.{MOST_ENTRIES}
 
 -- ---- the head
@@ -161,6 +165,45 @@ decided_at bytes = do
   command ← command_at slot.1
   Ok (Decided slot.0 command.0, command.1)
 
+-- ---- what carries a snapshot
+-- the position of a checkpoint
+unfoldable pub position_at : List ℕ → Read ℕ
+position_at bytes = do
+  position ← wide (number_at 4 bytes)
+  if position.0 == 0 || nat_lt SLOTS position.0 then Err Field else Ok position
+
+-- a part of a text of at most so many bytes, by the place at which it begins
+unfoldable pub part_below : ℕ → List ℕ → Read ℕ
+part_below total bytes = do
+  offset ← wide (number_at 4 bytes)
+  if not (offset.0 % PART == 0) || nat_le total offset.0 then Err Field else Ok (offset.0 / PART, offset.1)
+
+unfoldable pub snap_ask_at : List ℕ → Read Message
+snap_ask_at bytes = do
+  position ← position_at bytes
+  number ← part_below LONGEST_SNAPSHOT position.1
+  Ok (SnapAsk position.0 number.0, number.1)
+
+-- how many bytes a whole text has
+unfoldable pub total_at : List ℕ → Read ℕ
+total_at bytes = do
+  total ← wide (number_at 4 bytes)
+  if not (is_total total.0) then Err Field else Ok total
+
+-- how many bytes this part of it has, and they themselves
+unfoldable pub part_bytes_at : ℕ → ℕ → List ℕ → Read (List ℕ)
+part_bytes_at total number bytes = do
+  count ← wide (number_at 2 bytes)
+  if not (count.0 == min PART (total - offset_of number)) then Err Field else wide (bytes_at count.0 count.1)
+
+unfoldable pub piece_at : List ℕ → Read Piece
+piece_at bytes = do
+  position ← position_at bytes
+  total ← total_at position.1
+  number ← part_below total.0 total.1
+  text ← part_bytes_at total.0 number.0 number.1
+  Ok (record { position = position.0; total = total.0; number = number.0; bytes = text.0 }, text.1)
+
 -- a value as a message
 abbrev pub as_message : {A : Type 0} → (A → Message) → A × List ℕ → Read Message
 as_message f x = Ok (f x.0, x.1)
@@ -174,6 +217,9 @@ message_at kind.Accept nodes bytes = vote_at nodes bytes >>= as_message Accept
 message_at kind.Accepted nodes bytes = vote_at nodes bytes >>= as_message Accepted
 message_at kind.Ask nodes bytes = slot_at bytes >>= as_message Ask
 message_at kind.Decided nodes bytes = decided_at bytes
+message_at kind.SnapAsk nodes bytes = snap_ask_at bytes
+message_at kind.SnapPart nodes bytes = piece_at bytes >>= as_message SnapPart
+message_at kind.Behind nodes bytes = position_at bytes >>= as_message Behind
 
 -- what a frame begins with
 unfoldable pub envelope_at : ℕ → List ℕ → Read Envelope

@@ -6,7 +6,7 @@ use Rattle.wire.specs.declared.frames.fault.WireFault.{WireFault}
 use Rattle.wire.specs.declared.frames.spelled.Spelled.{Spelled}
 use Rattle.wire.specs.declared.frames.spelled.Spelled.TheVariants.{Alone, Shared}
 use Rattle.wire.specs.declared.frames.message.Message.{Message}
-use Rattle.wire.specs.declared.frames.message.Message.TheVariants.{Prepare, Promise, Nack, Accept, Accepted, Ask, Decided}
+use Rattle.wire.specs.declared.frames.message.Message.TheVariants.{Prepare, Promise, Nack, Accept, Accepted, Ask, Decided, SnapAsk, SnapPart, Behind}
 
 -- the bytes of a frame, its own or shared
 abbrev pub bytes_in : Spelled → List ℕ
@@ -35,3 +35,6 @@ voted_slot (Nack n) = None
 voted_slot (Accept v) = None
 voted_slot (Ask slot) = None
 voted_slot (Decided slot command) = None
+voted_slot (SnapAsk position number) = None
+voted_slot (SnapPart p) = None
+voted_slot (Behind floor) = None

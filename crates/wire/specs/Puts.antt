@@ -1,4 +1,5 @@
--- What is read into memory that is asked for: the points of a sequence, a command that lies apart, and the votes that a promise tells.
+-- What is read into memory that is asked for: the points of a sequence, a command that lies apart, the votes that a promise tells, and
+-- the bytes of a part.
 use Rattle.std.specs.Prelude.{◌≡◌, ⊤, ℕ, ◌<◌, ◌≤◌, List, [], ◌∷◌, ◌++◌, length, IsOk, IsOkAnd}
 use Rattle.fields.specs.Reading.{byte_at, id_at}
 use Rattle.synod.specs.declared.vote.Vote.{Vote}
@@ -12,7 +13,7 @@ use Rattle.wire.specs.declared.frames.envelope.TheConstants.{LONGEST_FRAME}
 use Rattle.wire.specs.declared.frames.kind.Kind.{Kind}
 use Rattle.wire.specs.declared.frames.kind.Kind.TheVariants as kind
 use Rattle.wire.specs.declared.frames.message.Message.{Message}
-use Rattle.wire.specs.declared.frames.message.Message.TheVariants.{Prepare, Promise, Nack, Accept, Accepted, Ask, Decided}
+use Rattle.wire.specs.declared.frames.message.Message.TheVariants.{Prepare, Promise, Nack, Accept, Accepted, Ask, Decided, SnapAsk, SnapPart, Behind}
 
 abbrev pub IsPut : Op → Type 0
 IsPut (Put id seq) = ⊤
@@ -36,26 +37,32 @@ TakesMemory (Accept v) = ⊤
 TakesMemory (Accepted v) = ⊤
 TakesMemory (Ask slot) = ⊥
 TakesMemory (Decided slot command) = ⊤
+TakesMemory (SnapAsk position number) = ⊥
+TakesMemory (SnapPart p) = ⊤
+TakesMemory (Behind floor) = ⊥
 
 -- ---- bytes for which memory may be asked, whatever follows them
--- messages of this kind bring a command, or tell votes
-abbrev pub BringsCommands : Kind → Type 0
-BringsCommands kind.Prepare = ⊥
-BringsCommands kind.Promise = ⊤
-BringsCommands kind.Nack = ⊥
-BringsCommands kind.Accept = ⊤
-BringsCommands kind.Accepted = ⊤
-BringsCommands kind.Ask = ⊥
-BringsCommands kind.Decided = ⊤
+-- messages of this kind bring a command, tell votes, or bring a part of a text
+abbrev pub BringsContent : Kind → Type 0
+BringsContent kind.Prepare = ⊥
+BringsContent kind.Promise = ⊤
+BringsContent kind.Nack = ⊥
+BringsContent kind.Accept = ⊤
+BringsContent kind.Accepted = ⊤
+BringsContent kind.Ask = ⊥
+BringsContent kind.Decided = ⊤
+BringsContent kind.SnapAsk = ⊥
+BringsContent kind.SnapPart = ⊤
+BringsContent kind.Behind = ⊥
 
 -- the bytes are not too many for a frame, and begin as one of such a kind, from one node to another
-pub record FrameWithCommandsBegins (nodes : ℕ) (bytes : List ℕ) : Type 0 where
+pub record FrameWithContentBegins (nodes : ℕ) (bytes : List ℕ) : Type 0 where
   pub kind : Kind
   pub from : ℕ
   pub to : ℕ
   pub body : List ℕ
   pub not_long : length bytes ≤ LONGEST_FRAME
-  pub brings : BringsCommands kind
+  pub brings : BringsContent kind
   pub from_node : from < nodes
   pub to_node : to < nodes
   pub begun : bytes ≡ head_bytes kind from to ++ body

@@ -10,6 +10,9 @@ mod frame;
 mod kind;
 mod message;
 mod nack;
+mod part;
+mod parts;
+mod position;
 mod promise;
 mod reading;
 mod records;
@@ -27,6 +30,8 @@ pub use frame::Frame;
 pub use kind::Kind;
 pub use message::Message;
 pub use nack::Nack;
+pub use part::{MOST_PARTS, PART, Part, PartNumber, parts_make_the_text};
+pub use position::Position;
 pub use promise::{Entries, MOST_ENTRIES, Promise};
 pub use records::{
     ballot_of_record, ballot_record, checkpoint_of_record, checkpoint_record, round_of_record,

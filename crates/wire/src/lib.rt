@@ -11,10 +11,11 @@ mod nodes;
 mod sizes;
 
 pub use frames::{
-    Checkpoint, Entries, Entry, Envelope, Frame, Kind, LONGEST_FRAME, MAGIC, MOST_ENTRIES, Message,
-    Nack, Promise, WireFault, ballot_of_record, ballot_record, checkpoint_of_record,
-    checkpoint_record, decode, encode, no_frame_begins_another, round_of_record, round_record,
-    vote_of_record, vote_record,
+    Checkpoint, Entries, Entry, Envelope, Frame, Kind, LONGEST_FRAME, MAGIC, MOST_ENTRIES,
+    MOST_PARTS, Message, Nack, PART, Part, PartNumber, Position, Promise, WireFault,
+    ballot_of_record, ballot_record, checkpoint_of_record, checkpoint_record, decode, encode,
+    no_frame_begins_another, parts_make_the_text, round_of_record, round_record, vote_of_record,
+    vote_record,
 };
 pub use held::Held;
 pub use node_set::NodeSet;

@@ -2,7 +2,7 @@
 
 ghost use Rattle.std.specs.Prelude.{ℕ, List, [], ⊤, ◌++◌, ◌≡◌, ◌≤◌, ◌<◌, length, Ok, IsOk, IsOkAnd, IfOk, IsErrOf};
 ghost use Rattle.synod.specs.Ballots.{rank};
-ghost use Rattle.wire.specs.Puts.{TakesMemory, BringsCommands, FrameWithCommandsBegins};
+ghost use Rattle.wire.specs.Puts.{TakesMemory, BringsContent, FrameWithContentBegins};
 ghost use Rattle.fields.specs.Reading.{Tells};
 ghost use Rattle.wire.specs.Reading.{Gives, MayWant};
 ghost use Rattle.wire.specs.FrameReading.{version_at, kind_at, node_at, ends_at, Head, head_at};
@@ -16,6 +16,7 @@ use super::fault::WireFault;
 use super::kind::Kind;
 use super::message::Message;
 use super::nack::Nack;
+use super::parts::{read_part, read_position, read_snap_ask};
 use super::reading::{read_ballot, read_held, read_slot};
 use super::telling::read_promise;
 use crate::{Held, NodeId, Nodes};
@@ -35,10 +36,10 @@ pub fn decode(alloc: Global, bytes: &[u8], nodes: Nodes) -> Result<Envelope, Wir
     ensures only { (e : Envelope) → IsFrame nodes bytes.now e → Gives (λ x. x) result (Ok e) }
     // Which fault it is.
     ensures exact { Gives (λ x. x) result (frame_in nodes bytes.now) }
-    // Memory is taken for a command, which lies apart, and for the votes that a promise tells, and for nothing else.
+    // Memory is taken for a command, which lies apart, for the votes that a promise tells, for the bytes of a part, and for nothing else.
     ensures in_place { (e : Envelope) → IsFrame nodes bytes.now e → ¬ TakesMemory e.message → IsOk result }
-    // Nor is it asked for bytes that are too many, or whose head is none, or that of a kind without commands.
-    ensures memory { IsErrOf result WireFault.Memory → FrameWithCommandsBegins nodes bytes.now }
+    // Nor is it asked for bytes that are too many, or whose head is none, or that of a kind that brings none of these.
+    ensures memory { IsErrOf result WireFault.Memory → FrameWithContentBegins nodes bytes.now }
 {
     let _count = nodes.count();
     read_frame(alloc, bytes, nodes)
@@ -49,7 +50,7 @@ fn read_frame(alloc: Global, bytes: &[u8], nodes: Nodes) -> Result<Envelope, Wir
     ensures read { Gives (λ x. x) result (frame_in nodes bytes.now) }
     ensures memory { IsErrOf result WireFault.Memory → MayWant (λ e. TakesMemory e.message) (frame_in nodes bytes.now) }
     ensures not_long { IsErrOf result WireFault.Memory → length bytes.now ≤ LONGEST_FRAME }
-    ensures brings { IsErrOf result WireFault.Memory → IsOkAnd (head_at nodes bytes.now) (λ h. BringsCommands h.0.kind) }
+    ensures brings { IsErrOf result WireFault.Memory → IsOkAnd (head_at nodes bytes.now) (λ h. BringsContent h.0.kind) }
 {
     if bytes.len() > LONGEST_FRAME {
         return Err(WireFault::Long);
@@ -67,7 +68,7 @@ fn read_frame(alloc: Global, bytes: &[u8], nodes: Nodes) -> Result<Envelope, Wir
 fn read_envelope(alloc: Global, input: &mut Input, nodes: Nodes) -> Result<Envelope, WireFault>
     ensures read { Gives (λ x. (x, input.new)) result (envelope_at nodes input.old) }
     ensures memory { IsErrOf result WireFault.Memory → MayWant (λ x. TakesMemory x.0.message) (envelope_at nodes input.old) }
-    ensures brings { IsErrOf result WireFault.Memory → IsOkAnd (head_at nodes input.old) (λ h. BringsCommands h.0.kind) }
+    ensures brings { IsErrOf result WireFault.Memory → IsOkAnd (head_at nodes input.old) (λ h. BringsContent h.0.kind) }
 {
     let head = read_head(input, nodes)?;
     let message = read_message(alloc, head.kind, input, nodes)?;
@@ -105,7 +106,7 @@ fn read_version(input: &mut Input) -> Result<u8, WireFault>
         return Err(WireFault::Magic);
     }
     let version = input.u8()?;
-    if version != 1 {
+    if version != 1 && version != 2 {
         return Err(WireFault::Version);
     }
     Ok(version)
@@ -155,7 +156,7 @@ fn read_message(
 ) -> Result<Message, WireFault>
     ensures read { Gives (λ x. (x, input.new)) result (message_at kind nodes input.old) }
     ensures memory { IsErrOf result WireFault.Memory → MayWant (λ x. TakesMemory x.0) (message_at kind nodes input.old) }
-    ensures brings { IsErrOf result WireFault.Memory → BringsCommands kind }
+    ensures brings { IsErrOf result WireFault.Memory → BringsContent kind }
 {
     match kind {
         Kind::Prepare => read_prepare(input, nodes),
@@ -167,6 +168,11 @@ fn read_message(
             slot: read_slot(input)?,
         }),
         Kind::Decided => read_decided(alloc, input),
+        Kind::SnapAsk => read_snap_ask(input),
+        Kind::SnapPart => Ok(Message::SnapPart(read_part(alloc, input)?)),
+        Kind::Behind => Ok(Message::Behind {
+            floor: read_position(input)?,
+        }),
     }
 }
 

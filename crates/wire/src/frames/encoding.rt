@@ -2,17 +2,22 @@
 
 ghost use Rattle.std.specs.Prelude.{◌≡◌, ℕ, ◌+◌, ◌*◌, ◌<◌, ◌≤◌, ◌++◌, length, IfOk, OnOk};
 ghost use Rattle.std.specs.List.{flat_map, AllByRecursion};
+ghost use Rattle.byteorder.specs.Endian.{big_bytes};
 ghost use Rattle.wire.specs.FrameSpelling.{IsFrame, MessageFits, VoteFits, PromiseFits, head_bytes, body_bytes};
-ghost use Rattle.wire.specs.FrameSpelling.{vote_bytes, entry_bytes, promise_bytes, spelling};
+ghost use Rattle.wire.specs.FrameSpelling.{vote_bytes, entry_bytes, promise_bytes, part_asked_bytes, piece_bytes, spelling};
+ghost use Rattle.wire.specs.Parts.{IsPiece, IsPosition, IsPartNumber};
 ghost use Rattle.wire.specs.declared.frames.message.Message.TheVariants as message;
 
 use super::entry::Entry;
 use super::envelope::{Envelope, LONGEST_FRAME, MAGIC};
 use super::kind::Kind;
 use super::message::Message;
+use super::part::{Part, PartNumber};
+use super::position::Position;
 use super::promise::Promise;
 use super::spelling::{command_len, push_ballot, push_command, push_slot};
 use crate::{Held, NodeId, Slot};
+use fields::push_u32;
 use sessions::Command;
 use std::alloc::{AllocError, Global};
 use synod::Vote;
@@ -96,7 +101,45 @@ fn push_body(out: &mut Vec<u8>, message: &Message) -> Result<(), AllocError>
         Message::Accepted(vote) => push_vote(out, vote),
         Message::Ask { slot } => push_slot(out, *slot),
         Message::Decided { slot, command } => push_decided(out, *slot, command.command()),
+        Message::SnapAsk { position, number } => push_part_asked(out, *position, *number),
+        Message::SnapPart(part) => push_part(out, part),
+        Message::Behind { floor } => push_u32(out, floor.value()),
     }
+}
+
+/// Which part of which checkpoint's text is asked for.
+fn push_part_asked(
+    out: &mut Vec<u8>,
+    position: Position,
+    number: PartNumber,
+) -> Result<(), AllocError>
+    ensures spelled { OnOk result (out.new.items ≡ out.old.items ++ part_asked_bytes position number) }
+    ensures fits { OnOk result (IsPosition position × IsPartNumber number) }
+{
+    push_u32(out, position.value())?;
+    push_u32(out, number.offset())
+}
+
+/// A part of a text.
+#[tactic(auto, using(crate::proofs::PartLaws::piece_most))]
+fn push_part(out: &mut Vec<u8>, part: &Part) -> Result<(), AllocError>
+    ensures spelled { OnOk result (out.new.items ≡ out.old.items ++ piece_bytes part.now) }
+    ensures fits { OnOk result (IsPiece part.now) }
+{
+    push_u32(out, part.position().value())?;
+    push_u32(out, part.total())?;
+    push_u32(out, part.number().offset())?;
+    push_counted(out, part.bytes())
+}
+
+/// So many bytes as two bytes can count: how many they are, and they themselves.
+fn push_counted(out: &mut Vec<u8>, bytes: &[u8]) -> Result<(), AllocError>
+    requires { length bytes.now < 65_536 }
+    ensures spelled { OnOk result (out.new.items ≡ out.old.items ++ (big_bytes 2 (length bytes.now) ++ bytes.now)) }
+{
+    let count = bytes.len() as u16;
+    out.extend_from_slice(&count.to_be_bytes())?;
+    out.extend_from_slice(bytes)
 }
 
 /// What is proposed or was voted for.
@@ -145,6 +188,7 @@ fn push_entry(out: &mut Vec<u8>, vote: &Vote<Held>) -> Result<(), AllocError>
 }
 
 /// How many bytes the frame has: at most those of a promise of four of the largest commands.
+#[tactic(auto, using(crate::proofs::PartLaws::piece_most))]
 fn frame_len(message: &Message) -> usize
     ensures value { (from to : ℕ) → result ≡ length (spelling (record { from = from; to = to; message = message.now })) }
     ensures most { result ≤ 49_544 }
@@ -157,6 +201,9 @@ fn frame_len(message: &Message) -> usize
         Message::Accepted(vote) => 13 + command_len(vote.command.command()),
         Message::Ask { .. } => 4,
         Message::Decided { command, .. } => 4 + command_len(command.command()),
+        Message::SnapAsk { .. } => 8,
+        Message::SnapPart(part) => 14 + part.bytes().len(),
+        Message::Behind { .. } => 4,
     };
     6 + body
 }

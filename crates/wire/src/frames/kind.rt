@@ -14,6 +14,9 @@ pub enum Kind {
     Accepted,
     Ask,
     Decided,
+    SnapAsk,
+    SnapPart,
+    Behind,
 }
 
 impl Kind {
@@ -29,6 +32,7 @@ impl Kind {
             | Kind::Accepted
             | Kind::Ask
             | Kind::Decided => 1,
+            Kind::SnapAsk | Kind::SnapPart | Kind::Behind => 2,
         }
     }
 
@@ -44,6 +48,9 @@ impl Kind {
             Kind::Accepted => 5,
             Kind::Ask => 6,
             Kind::Decided => 7,
+            Kind::SnapAsk => 8,
+            Kind::SnapPart => 9,
+            Kind::Behind => 10,
         }
     }
 
@@ -59,6 +66,9 @@ impl Kind {
             (1, 5) => Some(Kind::Accepted),
             (1, 6) => Some(Kind::Ask),
             (1, 7) => Some(Kind::Decided),
+            (2, 8) => Some(Kind::SnapAsk),
+            (2, 9) => Some(Kind::SnapPart),
+            (2, 10) => Some(Kind::Behind),
             _ => None,
         }
     }

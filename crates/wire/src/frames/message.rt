@@ -5,6 +5,8 @@ ghost use Rattle.wire.specs.FrameSpelling.{kind_of};
 
 use super::kind::Kind;
 use super::nack::Nack;
+use super::part::{Part, PartNumber};
+use super::position::Position;
 use super::promise::Promise;
 use crate::Held;
 use sessions::Command;
@@ -14,7 +16,10 @@ use synod::{Ballot, Slot, Vote};
 #[derive(Drop)]
 pub enum Message {
     /// Asks for a promise of this ballot, and for the votes from this slot on.
-    Prepare { ballot: Ballot, first: Slot },
+    Prepare {
+        ballot: Ballot,
+        first: Slot,
+    },
     /// The ballot is promised.
     Promise(Promise),
     /// A prepare or an accept is refused.
@@ -24,9 +29,25 @@ pub enum Message {
     /// The sender voted so.
     Accepted(Vote<Held>),
     /// Asks what is decided at this slot.
-    Ask { slot: Slot },
+    Ask {
+        slot: Slot,
+    },
     /// The sender has learnt that this is chosen.
-    Decided { slot: Slot, command: Held },
+    Decided {
+        slot: Slot,
+        command: Held,
+    },
+    /// Asks for this part of the text of the checkpoint at this position.
+    SnapAsk {
+        position: Position,
+        number: PartNumber,
+    },
+    /// A part of the text of a checkpoint.
+    SnapPart(Part),
+    /// The sender may not speak of slots below this one any more.
+    Behind {
+        floor: Position,
+    },
 }
 
 impl Message {
@@ -42,6 +63,9 @@ impl Message {
             Message::Accepted(_) => Kind::Accepted,
             Message::Ask { .. } => Kind::Ask,
             Message::Decided { .. } => Kind::Decided,
+            Message::SnapAsk { .. } => Kind::SnapAsk,
+            Message::SnapPart(_) => Kind::SnapPart,
+            Message::Behind { .. } => Kind::Behind,
         }
     }
 }

@@ -1,7 +1,7 @@
-use Rattle.wire.proofs.InPlaceLemmas.{prepare_never, nack_never, slot_never, hands_on, tells_other}
+use Rattle.wire.proofs.InPlaceLemmas.{prepare_never, nack_never, slot_never, position_never, snap_ask_never, hands_on, tells_other}
 use Rattle.wire.proofs.frames.decoding.read_message.Goals as goal
 
--- the bodies that bring no command
+-- the bodies that bring nothing
 pub returns-in_err-read_nack-in-Nack-clause-brings : goal.returns-in_err-read_nack-in-Nack-clause-brings
 returns-in_err-read_nack-in-Nack-clause-brings c = λ wanted.
     absurd (hands_on _ c.in_err-read_nack-in-Nack.field-0.0 c.from_residual-in_err-read_nack-in-Nack.result (nack_never _ _)
@@ -15,3 +15,12 @@ returns-in_err-read_slot-in-Ask-clause-brings c = λ wanted.
 pub returns-in-Prepare-clause-brings : goal.returns-in-Prepare-clause-brings
 returns-in-Prepare-clause-brings c = λ wanted.
     absurd (tells_other _ c.read_prepare.result _ (prepare_never _ _) c.read_prepare.ensures wanted)
+
+pub returns-in-SnapAsk-clause-brings : goal.returns-in-SnapAsk-clause-brings
+returns-in-SnapAsk-clause-brings c = λ wanted.
+    absurd (tells_other _ c.read_snap_ask.result _ (snap_ask_never _) c.read_snap_ask.ensures wanted)
+
+pub returns-in_err-read_position-in-Behind-clause-brings : goal.returns-in_err-read_position-in-Behind-clause-brings
+returns-in_err-read_position-in-Behind-clause-brings c = λ wanted.
+    absurd (hands_on _ c.in_err-read_position-in-Behind.field-0.0 c.from_residual-in_err-read_position-in-Behind.result (position_never _)
+    c.in_err-read_position-in-Behind.ensures.read c.from_residual-in_err-read_position-in-Behind.ensures.1 wanted)
