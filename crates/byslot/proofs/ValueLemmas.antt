@@ -1,7 +1,7 @@
 -- Values by slot, of which the first lie in a row.
-use Rattle.std.proofs.Common.{◌≡◌, ◌≢◌, ℕ, zero, suc, ◌+◌, ◌<◌, ◌≤◌, ◌⊎◌, Bool, true, false, List, [], ◌∷◌, ◌++◌, length, filter, All, Contains}
+use Rattle.std.proofs.Common.{◌≡◌, ◌≢◌, ℕ, zero, suc, ◌+◌, ◌-◌, ◌<◌, ◌≤◌, ◌⊎◌, Bool, true, false, List, [], ◌∷◌, ◌++◌, length, filter, All, Contains}
 use Rattle.std.proofs.Common.{Option, Some, None, slice_get, slice_index_or, slice_set, nat_lt, min, max, refl, sym, ap, subst}
-use Rattle.std.proofs.Common.{◌∙◌, inl, inr, arith, Result, Ok, Err, OnErr}
+use Rattle.std.proofs.Common.{◌∙◌, inl, inr, arith, Result, Ok, Err, OnOk, OnErr}
 use Rattle.std.specs.BTreeMap.{BTreeMap, get, is_at, Updates, IsOrdered}
 use Rattle.std.specs.BTreeMap.Range.{entries_between, range_contains, IsEntryInRange}
 use Rattle.std.specs.declared.ops.Bound.TheVariants.{Included, Unbounded}
@@ -14,12 +14,13 @@ use Rattle.std.proofs.lemmas.Bool.{cond_both}
 use Rattle.std.proofs.lemmas.Bool.Decides.{nat_tests, eqb_tells, leb_tells}
 use Rattle.std.proofs.lemmas.Cmp.{by_ranked}
 use Rattle.std.proofs.lemmas.Grind.{common_steps}
+use Rattle.std.proofs.lemmas.List.{length-append}
 use Rattle.std.proofs.lemmas.List.Elements.{All-contains}
 use Rattle.std.proofs.lemmas.List.Kept.{IsStrictlySortedBy-filter}
 use Rattle.std.proofs.lemmas.Map.Entries.{lookup-filter-keys, lookup_at_gap}
 use Rattle.synod.specs.Records.{put}
-use Rattle.byslot.specs.Places.{AreEmptyTo}
-use Rattle.byslot.specs.Values.{in_row, in_log, without_below, IsEmptyFrom, IsFirstFrom, IsEmptyBetween}
+use Rattle.byslot.specs.Places.{AreEmptyTo, AreApart}
+use Rattle.byslot.specs.Values.{row_from, in_row, in_log, without_below, IsEmptyFrom, IsFirstFrom, IsEmptyBetween}
 
 -- a number is below another, or it isn't
 pub tells : (a b : ℕ) → ((nat_lt a b ≡ true) × (a < b)) ⊎ ((nat_lt a b ≡ false) × (b ≤ a))
@@ -32,20 +33,15 @@ pub where_refused : {T E P : Type 0} (r : Result T E) → P → OnErr r P
 where_refused (Ok x) p = tt
 where_refused (Err e) p = p
 
+clash : {A : Type 0} (o : Option A) (x : A) → o ≡ None → o ≡ Some x → ⊥
+clash o x none some = let bad : None ≡ Some x = sym none ∙ some in cc
+
 -- ---- the slots of the log
 module _ {V : Type 0} where
   pub at_slot : (f : ℕ → Option V) (s : ℕ) → s < 65536 → in_log f s ≡ f s
   at_slot f s lt = elim (tells s 65536) [
     | inl here ↦ rw here.0 refl
     | inr behind ↦ absurd (omega (arith, lt, behind.1))
-  ]
-
-  -- where nothing stands from one slot of the log up to its end
-  pub none_up_to : (f : ℕ → Option V) (first end : ℕ) → 65536 ≤ end → ((s : ℕ) → first ≤ s → s < end → in_log f s ≡ None)
-      → IsEmptyFrom (in_log f) first
-  none_up_to f first end all none s from = elim (tells s 65536) [
-    | inl here ↦ none s from (omega (arith, here.1, all))
-    | inr behind ↦ rw behind.0 refl
   ]
 
   -- a change at a slot of the log
@@ -75,6 +71,12 @@ module _ {V : Type 0} where
   place_there (q ∷ row) zero p lt is = ap Some (sym is)
   place_there (q ∷ row) (suc s) p lt is = place_there row s p (omega (arith, lt)) is
 
+  -- before the end there is one
+  pub there : (row : List (Option V)) (s : ℕ) → s < length row → slice_get row s ≡ None → ⊥
+  there [] s lt none = absurd (omega (arith, lt))
+  there (p ∷ row) zero lt none = let bad : Some p ≡ None = none in cc
+  there (p ∷ row) (suc s) lt none = there row s (omega (arith, lt)) none
+
   -- a place that joins the row is its last
   last_of : (row : List (Option V)) (p : Option V) → slice_get (row ++ p ∷ []) (length row) ≡ Some p
   last_of [] p = refl
@@ -101,84 +103,92 @@ module _ {V : Type 0} where
   unwritten_of (q ∷ row) (suc i) zero p apart = refl
   unwritten_of (q ∷ row) (suc i) (suc s) p apart = unwritten_of row i s p (λ e. apart (ap suc e))
 
+-- ---- a row that begins at a slot
+module _ {V : Type 0} (first : ℕ) (row : List (Option V)) where
+  -- a slot from its first on lies in its place
+  pub in_its_place : (s n : ℕ) → s ≡ first + n → row_from first row s ≡ slice_get row n
+  in_its_place s n is = elim (tells s first) [
+    | inl low ↦ absurd (omega (arith, is, low.1))
+    | inr high ↦
+        let place : s - first ≡ n = omega (arith, is) in
+        rw (high.0, place) refl
+  ]
+
+  -- what is read of another row that is alike but at one place
+  alike : (more : List (Option V)) (i n : ℕ) → i ≡ first + n → ((k : ℕ) → k ≢ n → slice_get more k ≡ slice_get row k) → (s : ℕ) → s ≢ i
+      → row_from first more s ≡ row_from first row s
+  alike more i n is same s other = elim (tells s first) [
+    | inl low ↦ rw low.0 refl
+    | inr high ↦ rw high.0 (same (s - first) (λ e. other (let from = high.1 in omega (arith, is, e, from))))
+  ]
+
+module _ {V : Type 0} (first : ℕ) (row : List (Option V)) where
+  -- a place that joins it is that of the next slot, which wasn't of it
+  joined : (p : Option V) (n : ℕ) → n ≡ first + length row → row_from first (row ++ p ∷ []) n ≡ Some p
+  joined p n next = in_its_place first (row ++ p ∷ []) n (length row) next ∙ last_of row p
+
+  pub next_is_free : (n : ℕ) → n ≡ first + length row → row_from first row n ≡ None
+  next_is_free n next = in_its_place first row n (length row) next ∙ none_behind row (length row) (omega arith)
+
   -- what stands at the next slot joins the row, and all slots read as before
-  pub row_longer : (row more : List (Option V)) (p : Option V) (f g : ℕ → Option V) (n : ℕ) → more ≡ row ++ p ∷ [] → n ≡ length row
-      → p ≡ f n → ((s : ℕ) → g s ≡ put f n None s) → in_log (in_row more g) ≡ in_log (in_row row f)
-  row_longer row more p f g n is there here changed = ap in_log (λ k s. (ap (λ l. in_row l g s) is ∙ at s) k)
+  pub row_longer : (more : List (Option V)) (p : Option V) (f g : ℕ → Option V) (n : ℕ) → more ≡ row ++ p ∷ [] → n ≡ first + length row
+      → p ≡ f n → ((s : ℕ) → g s ≡ put f n None s) → in_log (in_row first more g) ≡ in_log (in_row first row f)
+  row_longer more p f g n is next here changed = ap in_log (λ k s. (ap (λ l. in_row first l g s) is ∙ at s) k)
     where
-      at : (s : ℕ) → in_row (row ++ p ∷ []) g s ≡ in_row row f s
+      at : (s : ℕ) → in_row first (row ++ p ∷ []) g s ≡ in_row first row f s
       at s = elim (eqb_tells s n) [
-        | inl same ↦ rw (same.1, there, last_of row p, none_behind row (length row) (omega arith)) (here ∙ ap f there)
-        | inr other ↦ rw (others_of row p s (rw (← there) other.1), changed s, other.0) refl
+        | inl same ↦ rw (same.1, joined p n next, next_is_free n next) here
+        | inr other ↦ rw (alike first row (row ++ p ∷ []) n (length row) next (others_of row p) s other.1, changed s, other.0) refl
       ]
 
   -- what is put at the next slot joins the row
-  pub row_next : (row more : List (Option V)) (f g : ℕ → Option V) (n : ℕ) (x : Option V) → n < 65536 → more ≡ row ++ x ∷ []
-      → n ≡ length row → ((s : ℕ) → g s ≡ put f n None s) → in_log (in_row more g) ≡ put (in_log (in_row row f)) n x
-  row_next row more f g n x lt is there changed =
-      ap in_log (λ k s. (ap (λ l. in_row l g s) is ∙ at s) k) ∙ put_in_log (in_row row f) n x lt
+  pub row_next : (more : List (Option V)) (f g : ℕ → Option V) (n : ℕ) (x : Option V) → n < 65536 → more ≡ row ++ x ∷ []
+      → n ≡ first + length row → ((s : ℕ) → g s ≡ put f n None s)
+      → in_log (in_row first more g) ≡ put (in_log (in_row first row f)) n x
+  row_next more f g n x lt is next changed =
+      ap in_log (λ k s. (ap (λ l. in_row first l g s) is ∙ at s) k) ∙ put_in_log (in_row first row f) n x lt
     where
-      at : (s : ℕ) → in_row (row ++ x ∷ []) g s ≡ put (in_row row f) n x s
+      at : (s : ℕ) → in_row first (row ++ x ∷ []) g s ≡ put (in_row first row f) n x s
       at s = elim (eqb_tells s n) [
-        | inl same ↦ rw (same.0, same.1, there, last_of row x) refl
-        | inr other ↦ rw (others_of row x s (rw (← there) other.1), changed s, other.0) refl
+        | inl same ↦ rw (same.0, same.1, joined x n next) refl
+        | inr other ↦ rw (alike first row (row ++ x ∷ []) n (length row) next (others_of row x) s other.1, changed s, other.0) refl
       ]
 
-  -- a change behind the row is a change there
-  pub row_put : (row : List (Option V)) (f g : ℕ → Option V) (i : ℕ) (x : Option V) → i < 65536 → length row ≤ i
-      → ((s : ℕ) → g s ≡ put f i x s) → in_log (in_row row g) ≡ put (in_log (in_row row f)) i x
-  row_put row f g i x lt behind changed = ap in_log (λ k s. at s k) ∙ put_in_log (in_row row f) i x lt
+  -- a change at a slot that isn't of the row is a change there
+  pub row_put : (f g : ℕ → Option V) (i : ℕ) (x : Option V) → i < 65536 → row_from first row i ≡ None → ((s : ℕ) → g s ≡ put f i x s)
+      → in_log (in_row first row g) ≡ put (in_log (in_row first row f)) i x
+  row_put f g i x lt none changed = ap in_log (λ k s. at s k) ∙ put_in_log (in_row first row f) i x lt
     where
-      at : (s : ℕ) → in_row row g s ≡ put (in_row row f) i x s
+      at : (s : ℕ) → in_row first row g s ≡ put (in_row first row f) i x s
       at s = elim (eqb_tells s i) [
-        | inl same ↦ rw (changed s, same.0, same.1, none_behind row i behind) refl
+        | inl same ↦ rw (changed s, same.0, same.1, none) refl
         | inr other ↦ rw (changed s, other.0) refl
       ]
 
   -- and a change of a place of the row
-  pub row_set : (row more : List (Option V)) (f : ℕ → Option V) (i : ℕ) (x : Option V) → more ≡ slice_set row i x → i < 65536
-      → i < length row → in_log (in_row more f) ≡ put (in_log (in_row row f)) i x
-  row_set row more f i x is lt within = ap in_log (λ k s. (ap (λ l. in_row l f s) is ∙ at s) k) ∙ put_in_log (in_row row f) i x lt
+  pub row_set : (more : List (Option V)) (f : ℕ → Option V) (i n : ℕ) (x : Option V) → more ≡ slice_set row n x → i < 65536
+      → i ≡ first + n → n < length row → in_log (in_row first more f) ≡ put (in_log (in_row first row f)) i x
+  row_set more f i n x is lt place within =
+      ap in_log (λ k s. (ap (λ l. in_row first l f s) is ∙ at s) k) ∙ put_in_log (in_row first row f) i x lt
     where
-      at : (s : ℕ) → in_row (slice_set row i x) f s ≡ put (in_row row f) i x s
+      here : row_from first (slice_set row n x) i ≡ Some x
+      here = in_its_place first (slice_set row n x) i n place ∙ written_of row n x within
+
+      at : (s : ℕ) → in_row first (slice_set row n x) f s ≡ put (in_row first row f) i x s
       at s = elim (eqb_tells s i) [
-        | inl same ↦ rw (same.0, same.1, written_of row i x within) refl
-        | inr other ↦ rw (other.0, unwritten_of row i s x other.1) refl
+        | inl same ↦ rw (same.0, same.1, here) refl
+        | inr other ↦ rw (other.0, alike first row (slice_set row n x) i n place (λ k apart. unwritten_of row n k x apart) s other.1) refl
       ]
 
-  -- behind the row that is read which is kept there
-  pub behind_reads : (row : List (Option V)) (f : ℕ → Option V) (s : ℕ) → s < 65536 → length row ≤ s → in_log (in_row row f) s ≡ f s
-  behind_reads row f s lt le = at_slot (in_row row f) s lt ∙ rw (none_behind row s le) refl
+  -- of a slot that isn't of the row that is read which is kept beside it
+  pub other_reads : (f : ℕ → Option V) (s : ℕ) → s < 65536 → row_from first row s ≡ None → in_log (in_row first row f) s ≡ f s
+  other_reads f s lt none = at_slot (in_row first row f) s lt ∙ rw none refl
 
-  -- of the row that is read which lies there
-  pub row_reads : (row : List (Option V)) (f : ℕ → Option V) (s : ℕ) (p : Option V) → s < 65536 → s < length row
-      → p ≡ slice_index_or row s p → in_log (in_row row f) s ≡ p
-  row_reads row f s p lt within is = at_slot (in_row row f) s lt ∙ rw (place_there row s p within is) refl
+  -- and of one of the row that which lies in its place
+  pub row_reads : (f : ℕ → Option V) (s : ℕ) (p : Option V) → s < 65536 → row_from first row s ≡ Some p → in_log (in_row first row f) s ≡ p
+  row_reads f s p lt is = at_slot (in_row first row f) s lt ∙ rw is refl
 
-  -- the first behind the row, where nothing stands at the slots of the row from one on
-  module _ (row : List (Option V)) (f : ℕ → Option V) (first next : ℕ) (behind : length row ≤ next) (le : first ≤ next)
-      (none : (s : ℕ) → first ≤ s → s < next → in_log (in_row row f) s ≡ None) where
-    pub first_of_row : (slot : ℕ) (value : V) → slot < 65536 → IsFirstFrom f next slot value
-        → IsFirstFrom (in_log (in_row row f)) first slot value
-    first_of_row slot value lt is = record {
-      from = (let there = is.from in omega arith);
-      stands = behind_reads row f slot lt (let there = is.from in omega arith) ∙ is.stands;
-      none_before = λ s from before. elim (tells s next) [
-        | inl low ↦ none s from low.1
-        | inr high ↦ (let end = high.1 in behind_reads row f s (omega arith) (omega arith) ∙ is.none_before s end before)
-      ];
-    }
-
-    pub none_of_row : IsEmptyFrom f next → IsEmptyFrom (in_log (in_row row f)) first
-    none_of_row is = λ s from. elim (tells s 65536) [
-      | inl here ↦ elim (tells s next) [
-        | inl low ↦ none s from low.1
-        | inr high ↦ (let end = high.1 in behind_reads row f s here.1 (omega arith) ∙ is s end)
-      ]
-      | inr behind ↦ rw behind.0 refl
-    ]
-
--- ---- what is kept behind it
+-- ---- what is kept in the tree
 -- a change of a map at one slot
 pub get-updated : {X : Type 0} (m n : BTreeMap ℕ X) (slot : ℕ) (w : Option X) → Updates nat_cmp m n slot w → (s : ℕ)
     → get nat_cmp n s ≡ put (get nat_cmp m) slot w s
@@ -287,22 +297,74 @@ module _ {V : Type 0} where
     | inr high ↦ absurd (omega (arith, high.1, lt))
   ]
 
+-- ---- the row and the tree
+module _ {V : Type 0} (first : ℕ) (row : List (Option V)) (m n : BTreeMap ℕ V) (apart : AreApart first row m) where
+  -- a change at a slot that isn't of the row
+  pub apart_put : (i : ℕ) (x : Option V) → row_from first row i ≡ None → ((s : ℕ) → get nat_cmp n s ≡ put (get nat_cmp m) i x s)
+      → AreApart first row n
+  apart_put i x none changed s lt = changed (first + s) ∙ elim (eqb_tells (first + s) i) [
+    | inl same ↦ absurd (there row s lt (sym (in_its_place first row i s (sym same.1)) ∙ none))
+    | inr other ↦ rw other.0 (apart s lt)
+  ]
+
+  pub apart_tried : {A E : Type 0} (r : Result A E) (i : ℕ) (x : Option V) → row_from first row i ≡ None
+      → OnOk r (Updates nat_cmp m n i x) → OnErr r (n.entries ≡ m.entries) → AreApart first row n
+  apart_tried (Ok a) i x none updates same = apart_put i x none (get-updated m n i x updates)
+  apart_tried (Err e) i x none updates same = λ s lt. ap (λ es. lookup (is_at (nat_cmp (first + s))) es) same ∙ apart s lt
+
+  -- what stood at the next slot of the row goes as it joins it
+  pub apart_longer : (more : List (Option V)) (p : Option V) (i : ℕ) → more ≡ row ++ p ∷ [] → i ≡ first + length row
+      → ((s : ℕ) → get nat_cmp n s ≡ put (get nat_cmp m) i None s) → AreApart first more n
+  apart_longer more p i is next changed s lt = changed (first + s) ∙ elim (eqb_tells (first + s) i) [
+    | inl same ↦ rw same.0 refl
+    | inr other ↦
+        let long : length more ≡ length row + 1 = ap length is ∙ length-append row (p ∷ []) in
+        let elsewhere : first + s ≢ i = other.1 in
+        rw other.0 (apart s (omega (arith, lt, long, next, elsewhere)))
+  ]
+
 -- ---- the empty places of the row
 module _ {V : Type 0} where
-  -- a place where nothing stands is empty
-  place_empty : (row : List (Option V)) (f : ℕ → Option V) (s : ℕ) → s < length row → in_row row f s ≡ None → slice_get row s ≡ Some None
-  place_empty [] f s lt none = absurd (omega (arith, lt))
-  place_empty (p ∷ row) f zero lt none = ap Some none
-  place_empty (p ∷ row) f (suc s) lt none = place_empty row (λ n. f (suc n)) s (omega (arith, lt)) none
+  -- they stay so as the row goes on
+  pub still_empty : (row more : List (Option V)) (p : Option V) (end : ℕ) → more ≡ row ++ p ∷ [] → AreEmptyTo end row
+      → AreEmptyTo end more
+  still_empty row more p end is empty s lt = ap (λ l. slice_get l s) is
+      ∙ others_of row p s (λ e. clash (slice_get row s) None (none_behind row s (omega (arith, e))) (empty s lt)) ∙ empty s lt
 
-  pub emptied : (row : List (Option V)) (f : ℕ → Option V) (old below end : ℕ) → AreEmptyTo old row
-      → ((s : ℕ) → s < below → in_log (in_row row f) s ≡ None) → end ≡ max old (min (length row) (min below 65536)) → AreEmptyTo end row
-  emptied row f old below end empty none is s lt = elim (tells s old) [
+  -- where all are, the row may go
+  pub cleared : (first : ℕ) (row : List (Option V)) (m : BTreeMap ℕ V) → AreEmptyTo (length row) row → AreApart first row m
+      → in_log (in_row first [] (get nat_cmp m)) ≡ in_log (in_row first row (get nat_cmp m))
+  cleared first row m empty apart = ap in_log (λ k s. at s k)
+    where
+      at : (s : ℕ) → in_row first [] (get nat_cmp m) s ≡ in_row first row (get nat_cmp m) s
+      at s = elim (tells s first) [
+        | inl low ↦ rw low.0 refl
+        | inr high ↦ elim (tells (s - first) (length row)) [
+          | inl within ↦
+              let back : first + (s - first) ≡ s = (let from = high.1 in omega (arith, from)) in
+              rw (high.0, empty (s - first) within.1) (subst (λ k. get nat_cmp m k ≡ None) back (apart (s - first) within.1))
+          | inr behind ↦ rw (high.0, none_behind row (s - first) behind.1) refl
+        ]
+      ]
+
+  -- a place where nothing stands is empty
+  place_empty : (row : List (Option V)) (s : ℕ) → s < length row → ((p : Option V) → slice_get row s ≡ Some p → p ≡ None)
+      → slice_get row s ≡ Some None
+  place_empty [] s lt none = absurd (omega (arith, lt))
+  place_empty (p ∷ row) zero lt none = ap Some (none p refl)
+  place_empty (p ∷ row) (suc s) lt none = place_empty row s (omega (arith, lt)) none
+
+  -- where nothing stands below a slot, the places up to there are empty
+  pub emptied : (first : ℕ) (row : List (Option V)) (f : ℕ → Option V) (old below end : ℕ) → AreEmptyTo old row
+      → ((s : ℕ) → s < below → in_log (in_row first row f) s ≡ None) → end ≡ max old (min (length row) (min below 65536 - first))
+      → AreEmptyTo end row
+  emptied first row f old below end empty none is s lt = elim (tells s old) [
     | inl before ↦ empty s before.1
     | inr from ↦
-        let low : s < min (length row) (min below 65536) = (let at = from.1 in grind (arith, is, lt, at)) in
+        let low : s < min (length row) (min below 65536 - first) = (let at = from.1 in grind (arith, is, lt, at)) in
         let within : s < length row = grind (arith, low) in
-        let lower : s < below = grind (arith, low) in
-        let here : s < 65536 = grind (arith, low) in
-        place_empty row f s within (sym (at_slot (in_row row f) s here) ∙ none s lower)
+        let lower : first + s < below = grind (arith, low) in
+        let here : first + s < 65536 = grind (arith, low) in
+        place_empty row s within (λ p at. sym (row_reads first row f (first + s) p here (in_its_place first row (first + s) s refl ∙ at))
+        ∙ none (first + s) lower)
   ]

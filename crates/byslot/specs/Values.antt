@@ -1,5 +1,5 @@
 -- What stands at each slot.
-use Rattle.std.specs.Prelude.{◌≡◌, ℕ, ◌<◌, ◌≤◌, List, Option, Some, None, slice_get, nat_lt, if◌then◌else◌}
+use Rattle.std.specs.Prelude.{◌≡◌, ℕ, ◌<◌, ◌≤◌, ◌-◌, List, Option, Some, None, slice_get, nat_lt, if◌then◌else◌}
 use Rattle.std.specs.BTreeMap.{get}
 use Rattle.std.specs.Ordering.{nat_cmp}
 use Rattle.synod.specs.declared.slot.TheConstants.{SLOTS}
@@ -10,9 +10,13 @@ abbrev pub place_or : {V : Type 0} → Option (Option V) → Option V → Option
 place_or None otherwise = otherwise
 place_or (Some place) otherwise = place
 
--- what is read of a row, and of the slots behind it what stands there otherwise
-abbrev pub in_row : {V : Type 0} → List (Option V) → (ℕ → Option V) → ℕ → Option V
-in_row row behind s = place_or (slice_get row s) (behind s)
+-- the place of a slot in a row that begins at this one, where it has one
+abbrev pub row_from : {V : Type 0} → ℕ → List (Option V) → ℕ → Option (Option V)
+row_from first row s = if nat_lt s first then None else slice_get row (s - first)
+
+-- what is read of such a row, and of the slots that aren't of it what stands there otherwise
+abbrev pub in_row : {V : Type 0} → ℕ → List (Option V) → (ℕ → Option V) → ℕ → Option V
+in_row first row others s = place_or (row_from first row s) (others s)
 
 -- the same of the slots of the log, and nothing of others
 abbrev pub in_log : {V : Type 0} → (ℕ → Option V) → ℕ → Option V
@@ -20,7 +24,7 @@ in_log f s = if nat_lt s SLOTS then f s else None
 
 -- the value that stands at each slot
 abbrev pub value_at : {V : Type 0} → BySlot V → ℕ → Option V
-value_at b = in_log (in_row b.row.items (get nat_cmp b.others))
+value_at b = in_log (in_row b.from b.row.items (get nat_cmp b.others))
 
 -- the same, but nothing at a slot below this one
 abbrev pub without_below : {V : Type 0} → (ℕ → Option V) → ℕ → ℕ → Option V

@@ -1,11 +1,11 @@
 //! Values by slot.
 
-ghost use Rattle.std.specs.Prelude.{◌≡◌, ◌≤◌, ◌<◌, ◌+◌, length, vec_len, vec_capacity, Some, None, IfOk, OnOk, OnErr, MatchOption};
+ghost use Rattle.std.specs.Prelude.{◌≡◌, ◌≤◌, ◌<◌, ◌+◌, ℕ, length, slice_get, vec_len, vec_capacity, Some, None, IfOk, OnOk, OnErr, MatchOption};
 ghost use Rattle.std.specs.Option.{option_copied};
 ghost use Rattle.std.specs.BTreeMap.{get};
 ghost use Rattle.std.specs.Ordering.{nat_cmp};
 ghost use Rattle.synod.specs.Records.{put};
-ghost use Rattle.byslot.specs.Places.{AreEmptyTo};
+ghost use Rattle.byslot.specs.Places.{AreEmptyTo, AreApart};
 
 use std::alloc::{AllocError, Global};
 use std::collections::BTreeMap;
@@ -16,22 +16,27 @@ const REACH: usize = 64;
 
 /// Values by slot: at each slot at most one.
 ///
-/// What stands at the first slots is found by its place. What stands far behind them is searched for, in a number of steps that
-/// grows with the logarithm of the values.
+/// What stands at the slots from one on is found by its place: from the first at which something is put, where nothing stood
+/// so far. What stands below that slot, or far behind the others, is searched for, in a number of steps that grows with the
+/// logarithm of the values.
 pub struct BySlot<V> {
-    // What stands at slot 0, 1 and so on.
+    // The slot at which the row begins.
+    from: u32,
+    // What stands at that slot, at the next and so on.
     row: Vec<Option<V>>,
-    // What stands behind them.
+    // What stands at all other slots.
     others: BTreeMap<Slot, V>,
     // The places of the row before this one hold nothing, and are looked at no more.
     empty: usize,
     ghost vacant: { AreEmptyTo empty row.items },
+    ghost apart: { AreApart from row.items others },
 }
 
 // By hand, so that a crate that drops one proves nothing of what lies within.
 impl<V: Drop> Drop for BySlot<V> {
     fn drop(self) {
         let BySlot {
+            from: _,
             row,
             others,
             empty: _,
@@ -42,7 +47,7 @@ impl<V: Drop> Drop for BySlot<V> {
 }
 
 impl<V: Drop> BySlot<V> {
-    ghost use Rattle.byslot.specs.Values.{value_at, without_below, IsEmptyFrom, IsFirstFrom, IsFirstBelow, IsEmptyBetween};
+    ghost use Rattle.byslot.specs.Values.{row_from, value_at, without_below, IsEmptyFrom, IsFirstFrom, IsFirstBelow, IsEmptyBetween};
 
     /// Nothing stands at any slot, and no memory is taken.
     pub fn new(alloc: Global) -> BySlot<V>
@@ -50,6 +55,7 @@ impl<V: Drop> BySlot<V> {
         ensures capacity { vec_capacity result.row ≡ 0 }
     {
         BySlot {
+            from: 0,
             row: Vec::new(alloc),
             others: BTreeMap::new(alloc),
             empty: 0,
@@ -61,10 +67,30 @@ impl<V: Drop> BySlot<V> {
     pub fn get(&self, slot: Slot) -> Option<&V>
         ensures { option_copied result ≡ value_at self.now slot }
     {
-        match self.row.get(slot.value() as usize) {
+        match self.row.get(self.place(slot)) {
             Some(place) => place.as_ref(),
             None => self.others.get(&slot),
         }
+    }
+
+    // Where a slot lies in the row. For one that isn't of the row, a place behind its end.
+    #[inline]
+    fn place(&self, slot: Slot) -> usize
+        ensures within { result < length self.now.row.items → slot ≡ self.now.from + result }
+        ensures reads { slice_get self.now.row.items result ≡ row_from self.now.from self.now.row.items slot }
+    {
+        if slot.value() < self.from {
+            return usize::MAX;
+        }
+        (slot.value() - self.from) as usize
+    }
+
+    // The first slot behind the row.
+    #[inline]
+    fn end(&self) -> usize
+        ensures { result ≡ self.now.from + length self.now.row.items }
+    {
+        self.from as usize + self.row.len()
     }
 
     /// Of the slots from this one on the first at which a value stands, and the value.
@@ -72,19 +98,37 @@ impl<V: Drop> BySlot<V> {
         ensures { MatchOption result (IsEmptyFrom (value_at self.now) from)
             (λ found. IsFirstFrom (value_at self.now) from found.0 found.1.now) }
     {
-        for place in self.empty.max(from.value() as usize)..SLOTS as usize {
-            let slot = Slot::new(place as u32).unwrap();
-            match self.row.get(place) {
+        if let Some(found) = self.first_before(from) {
+            return Some(found);
+        }
+        let filled = self.from as usize + self.empty;
+        for next in filled.max(from.value() as usize)..SLOTS as usize {
+            let slot = Slot::new(next as u32).unwrap();
+            match self.row.get(self.place(slot)) {
                 Some(Some(found)) => return Some((slot, found)),
                 Some(None) => {}
-                None => return self.first_behind(slot),
+                None => return self.first_other(slot),
             }
         }
         None
     }
 
+    // The first from a slot on, where it lies before the row.
+    fn first_before(&self, from: Slot) -> Option<(Slot, &V)>
+        ensures { MatchOption result (IsEmptyBetween (value_at self.now) from self.now.from)
+            (λ found. IsFirstFrom (value_at self.now) from found.0 found.1.now) }
+    {
+        if from.value() >= self.from {
+            return None;
+        }
+        match self.first_other(from) {
+            Some((slot, found)) if slot.value() < self.from => Some((slot, found)),
+            _ => None,
+        }
+    }
+
     // The first of what is searched for, from a slot on.
-    fn first_behind(&self, from: Slot) -> Option<(Slot, &V)>
+    fn first_other(&self, from: Slot) -> Option<(Slot, &V)>
         ensures { MatchOption result (IsEmptyFrom (get nat_cmp self.now.others) from)
             (λ found. IsFirstFrom (get nat_cmp self.now.others) from found.0 found.1.now) }
     {
@@ -103,16 +147,16 @@ impl<V: Drop> BySlot<V> {
         ensures absent { OnErr result (value_at self.old slot ≡ None) }
         ensures unchanged { OnErr result (value_at self.new ≡ value_at self.old) }
 
-        // Memory is wanted only for a slot behind the row, and little of it goes to the row.
-        ensures behind { OnErr result (length self.new.row.items ≤ slot) }
+        // Memory is wanted only for a slot that isn't of the row, and little of it goes to the row.
+        ensures behind { OnErr result (row_from self.new.from self.new.row.items slot ≡ None) }
         ensures row { length self.new.row.items ≤ length self.old.row.items + 64 }
     {
         // Slots come nearly in turn, so the next of the row is what mostly comes.
-        let place = slot.value() as usize;
-        if place == self.row.len() && self.row.len() < self.row.capacity() {
+        if slot.value() as usize == self.end() && self.row.len() < self.row.capacity() {
             return Ok(self.lay(slot, value));
         }
         self.lengthen(slot);
+        let place = self.place(slot);
         self.empty = self.empty.min(place);
         match self.row.get_mut(place) {
             Some(place) => Ok(place.replace(value)),
@@ -125,7 +169,8 @@ impl<V: Drop> BySlot<V> {
         ensures before { result ≡ value_at self.old slot }
         ensures gone { value_at self.new ≡ put (value_at self.old) slot None }
     {
-        match self.row.get_mut(slot.value() as usize) {
+        let place = self.place(slot);
+        match self.row.get_mut(place) {
             Some(place) => place.take(),
             None => self.others.remove(&slot),
         }
@@ -141,9 +186,20 @@ impl<V: Drop> BySlot<V> {
             let _ = self.remove(slot);
             next = slot.value() + 1;
         }
-        self.empty = self
-            .empty
-            .max(self.row.len().min(below.min(SLOTS) as usize));
+        self.pass_over(below);
+    }
+
+    // Nothing stands below a slot: the places of the row up to there are looked at no more. If it has no others, it begins anew.
+    fn pass_over(&mut self, below: u32)
+        requires { (s : ℕ) → s < below → value_at self.old s ≡ None }
+        ensures { value_at self.new ≡ value_at self.old }
+    {
+        let places = below.min(SLOTS).saturating_sub(self.from) as usize;
+        self.empty = self.empty.max(self.row.len().min(places));
+        if self.empty == self.row.len() {
+            self.empty = 0;
+            self.row.clear();
+        }
     }
 
     // Of the slots from one on, and below another, the first at which a value stands.
@@ -160,7 +216,7 @@ impl<V: Drop> BySlot<V> {
     // A value goes to the end of the row, which has room for it, and what stood at its slot is handed out.
     #[inline(always)]
     fn lay(&mut self, slot: Slot, value: V) -> Option<V>
-        requires next { slot ≡ vec_len self.old.row }
+        requires next { slot ≡ self.old.from + vec_len self.old.row }
         requires room { vec_len self.old.row < vec_capacity self.old.row }
         ensures before { result ≡ value_at self.old slot }
         ensures stands { value_at self.new ≡ put (value_at self.old) slot (Some value) }
@@ -177,13 +233,24 @@ impl<V: Drop> BySlot<V> {
         ensures same { value_at self.new ≡ value_at self.old }
         ensures row { length self.new.row.items ≤ length self.old.row.items + 64 }
     {
-        let place = slot.value() as usize;
-        let end = self.row.len();
-        if place.saturating_sub(end) >= REACH {
+        self.begin(slot);
+        let last = slot.value() as usize;
+        let end = self.end();
+        if last.saturating_sub(end) >= REACH {
             return;
         }
-        for next in end..place + 1 {
+        for next in end..last + 1 {
             self.join(Slot::new(next as u32).unwrap());
+        }
+    }
+
+    // A row without a place is to begin at this slot.
+    fn begin(&mut self, slot: Slot)
+        ensures same { value_at self.new ≡ value_at self.old }
+        ensures row { self.new.row.items ≡ self.old.row.items }
+    {
+        if self.row.is_empty() {
+            self.from = slot.value();
         }
     }
 
@@ -192,7 +259,7 @@ impl<V: Drop> BySlot<V> {
         ensures same { value_at self.new ≡ value_at self.old }
         ensures row { length self.new.row.items ≤ length self.old.row.items + 1 }
     {
-        if next.value() as usize != self.row.len() {
+        if next.value() as usize != self.end() {
             return;
         }
         if let Err(_) = self.row.try_reserve(1) {

@@ -3,7 +3,7 @@ use Rattle.std.specs.BTreeMap.Range.{entries_between, IsEntryInRange}
 use Rattle.std.specs.Ordering.{nat_cmp}
 use Rattle.std.specs.declared.ops.Bound.TheVariants.{Included, Unbounded}
 use Rattle.byslot.proofs.ValueLemmas.{first_listed, none_listed}
-use Rattle.byslot.proofs.byslot.BySlot.first_behind.Goals as goal
+use Rattle.byslot.proofs.byslot.BySlot.first_other.Goals as goal
 
 -- the first that the map lists from the slot on
 pub returns-in-Some : goal.returns-in-Some
