@@ -22,7 +22,7 @@ module _ {S : Type 0} (g : Ghosts S) (a : S) where
     pub told : g.IsHonest b → (k : Key) → Contains keys k ↔ IsSome (g.contents a k)
     pub ascending : g.IsHonest b → IsAscending keys
     pub no_stray : g.IsHonest b → ¬ (g.HasStrayKey a)
-    pub reads : g.reads a b
+    pub looks : g.looks a b
     pub settled : g.IsSettled b
 
   -- what the answer to what is asked for says
@@ -44,5 +44,5 @@ module _ {S : Type 0} (g : Ghosts S) (a : S) where
   Answers asked.Keys (Ok answer.Done) b = ⊥
   Answers asked.Keys (Ok (answer.Listed keys)) b = Lists keys.items b
   Answers asked.Keys (Err fault.Device) b = g.read_fails a b
-  Answers asked.Keys (Err fault.Memory) b = g.reads a b
-  Answers asked.Keys (Err fault.Damaged) b = g.reads a b × (g.IsHonest b → g.HasStrayKey a)
+  Answers asked.Keys (Err fault.Memory) b = g.looks a b
+  Answers asked.Keys (Err fault.Damaged) b = g.looks a b × (g.IsHonest b → g.HasStrayKey a)

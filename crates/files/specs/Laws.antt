@@ -4,11 +4,11 @@ use Rattle.stable.specs.Laws.{KeepsLaws}
 use Rattle.stable.specs.Records.{Records, Change}
 
 module _ {S T : Type 0} {contents : S → Records} {failures : S → ℕ} {IsHonest HasStrayKey IsSettled : S → Type 0}
-    {reads : S → S → Type 0} {changes : S → Change → S → Type 0}
+    {reads looks : S → S → Type 0} {changes : S → Change → S → Type 0}
     {read_fails : S → S → Type 0} {fails : S → Change → S → Type 0} where
-  pub seen_laws : (see : T → S) → KeepsLaws contents failures IsHonest HasStrayKey IsSettled reads changes read_fails fails
+  pub seen_laws : (see : T → S) → KeepsLaws contents failures IsHonest HasStrayKey IsSettled reads looks changes read_fails fails
       → KeepsLaws (λ t. contents (see t)) (λ t. failures (see t)) (λ t. IsHonest (see t)) (λ t. HasStrayKey (see t))
-      (λ t. IsSettled (see t)) (λ a b. reads (see a) (see b)) (λ a change b. changes (see a) change (see b))
+      (λ t. IsSettled (see t)) (λ a b. reads (see a) (see b)) (λ a b. looks (see a) (see b)) (λ a change b. changes (see a) change (see b))
       (λ a b. read_fails (see a) (see b)) (λ a change b. fails (see a) change (see b))
   seen_laws see laws = record {
     reads_honest = λ a b. laws.reads_honest (see a) (see b);
@@ -29,8 +29,11 @@ module _ {S T : Type 0} {contents : S → Records} {failures : S → ℕ} {IsHon
     fails_contents = λ a b. laws.fails_contents (see a) (see b);
     fails_failures = λ a b. laws.fails_failures (see a) (see b);
     fails_stray = λ a b. laws.fails_stray (see a) (see b);
+    looks_reads = λ a b. laws.looks_reads (see a) (see b);
     reads_none = λ a. laws.reads_none (see a);
     reads_reads = λ a b c. laws.reads_reads (see a) (see b) (see c);
+    reads_looks = λ a b c. laws.reads_looks (see a) (see b) (see c);
+    looks_then_reads = λ a b c. laws.looks_then_reads (see a) (see b) (see c);
     reads_read_fails = λ a b c. laws.reads_read_fails (see a) (see b) (see c);
     reads_changes = λ a b c. laws.reads_changes (see a) (see b) (see c);
     reads_fails = λ a b c. laws.reads_fails (see a) (see b) (see c);

@@ -3,7 +3,7 @@
 ghost use Rattle.std.specs.Prelude.{IfOk, IsErrOf};
 ghost use Rattle.sqlite.specs.Files.{over_files};
 ghost use Rattle.sqlstable.specs.Keys.{HasStray, records_in};
-ghost use Rattle.sqlstable.specs.Storage.{Changes, IsSqlHonest, IsUnfailed, ReadFails, Reads, failures_of, rows_of};
+ghost use Rattle.sqlstable.specs.Storage.{Changes, HasCleanStore, IsSqlHonest, IsUnfailed, ReadFails, Reads, failures_of, rows_of};
 
 use crate::asking::{Answer, Asked, ask, leave};
 use sqlite::{File, FileStore};
@@ -23,6 +23,7 @@ impl NodeFile {
     ///
     /// `Device` where the file can't be used, where it is in use, and where it holds anything but the table of records.
     pub fn open(rt: &HostRuntime, path: &str) -> Result<NodeFile, StableFault>
+        ensures usable { IfOk result (λ n. HasCleanStore over_files n.table → IsSqlHonest over_files n.table) }
         ensures unfailed { IfOk result (λ n. IsUnfailed over_files n.table) }
         ensures not_damaged { ¬ IsErrOf result StableFault.Damaged }
     {
@@ -53,6 +54,8 @@ impl Stable for NodeFile {
     ghost IsSettled = { λ _. Unit {0} };
 
     ghost reads = { λ a b. Reads over_files a.table b.table };
+
+    ghost looks = { λ a b. Reads over_files a.table b.table };
 
     ghost changes = { λ a change b. Changes over_files a.table change b.table };
 

@@ -1,5 +1,5 @@
 -- What the calls of the storage come to.
-use Rattle.std.proofs.Common.{◌≡◌, ◌≢◌, ℕ, ◌<◌, ◌≤◌, min, arith, true, false, List, [], ◌∷◌, Option, IsSome, Ok, Err, Result, IfOk, OnOk}
+use Rattle.std.proofs.Common.{◌≡◌, ◌≢◌, ℕ, ◌<◌, ◌≤◌, min, arith, inl, inr, true, false, List, [], ◌∷◌, Option, IsSome, Ok, Err, Result, IfOk, OnOk}
 use Rattle.std.proofs.Common.{Contains, ◌↔◌, length, sym, ap, subst, ◌∙◌}
 use Rattle.std.proofs.Math.Logic.{∥∥₁_elim}
 use base.Stored.{Coded-set}
@@ -12,7 +12,8 @@ use Rattle.sqlite_trees.specs.Props.{rows_set, AllByRecursion-prop, IsAscending-
 use Rattle.sqlite_trees.specs.declared.store.Store.{Ghosts}
 use Rattle.sqlite_schema.specs.declared.schema.Schema.{Schema}
 use Rattle.sqlite_schema.specs.contracts.schema.Schema as schema_row
-use Rattle.sqlite.specs.State.{State}
+use Rattle.sqlite.specs.State.{State, HasCleanDisk}
+use Rattle.sqlite_disk.specs.Disk.{MoreFaults}
 use Rattle.sqlite.specs.Held.{Held, state}
 use Rattle.sqlite_rules.specs.Lists.{Has}
 use Rattle.stable.specs.declared.fault.StableFault.{StableFault}
@@ -26,7 +27,7 @@ use Rattle.sqlstable.specs.Rows.{has_key, value_at, AreApart, HasOwnKeys, PutsRo
 use Rattle.sqlstable.specs.Lists.{ListsKeys}
 use Rattle.sqlstable.specs.States.{IsSound, IsSettled, IsUsable, Follows, table}
 use Rattle.sqlstable.specs.Keys.{spelled, is_valid, vote_key, records_in, HasStray, AreKeysOf, TellsNone}
-use Rattle.sqlstable.specs.Storage.{Reads, ReadFails, Changes}
+use Rattle.sqlstable.specs.Storage.{StaysHonest, Reads, ReadFails, Changes}
 use Rattle.sqlstable.specs.declared.storage.SqlStable.{SqlStable}
 use Rattle.sqlstable.proofs.Keys.{puts_records, puts_stray, trims_records, trims_stray, at_most_all, keys_tell, keys_ascend, stray_row, no_stray_row}
 
@@ -67,10 +68,25 @@ module _ {S : Type 0} (g : Ghosts S) (a : SqlStable S g) (now : Held S) where
   pub usable_before : Follows old new → IsUsable new → IsUsable old
   usable_before f usable = (f.clean usable.0, f.was_open usable.0 usable.1)
 
+  -- where the disk is clean it goes on being honest, but for a fault of the disk
+  stays_honest : (b : SqlStable S g) → Follows old new → b.connection ≡ now → StaysHonest g a b
+  stays_honest b f is = record {
+    clean = λ h. f.clean (subst (λ c. HasCleanDisk (state g c)) is h);
+    faults = subst (λ c. old.faults ≤ (state g c).faults) (sym is) f.faults;
+    stays = λ h some honest. elim (f.closes (subst (λ c. HasCleanDisk (state g c)) is h) honest.usable.1) [
+      | inl still ↦ inl (record {
+        usable = subst (λ c. IsUsable (state g c)) (sym is) (subst (λ c. HasCleanDisk (state g c)) is h, still);
+        counts = some;
+      })
+      | inr more ↦ inr (subst (λ c. MoreFaults old.faults (state g c).faults) (sym is) more)
+    ];
+  }
+
   -- a call that read
   pub read_made : (b : SqlStable S g) → Follows old new → (IsUsable new → IsSound old → table new ≡ table old) → b.connection ≡ now
       → b.failures ≡ a.failures → Reads g a b
   read_made b f same is counts = record {
+    disk = stays_honest b f is;
     honest = λ h. record {
       usable = usable_before f (subst (λ c. IsUsable (state g c)) is h.usable);
       counts = subst IsSome counts h.counts;
@@ -84,6 +100,7 @@ module _ {S : Type 0} (g : Ghosts S) (a : SqlStable S g) (now : Held S) where
   pub read_failed : (b : SqlStable S g) → Follows old new → (IsUsable new → IsSound old → table new ≡ table old) → b.connection ≡ now
       → b.failures ≡ counted a.failures → ReadFails g a b
   read_failed b f same is counts = record {
+    disk = stays_honest b f is;
     honest = λ h. record {
       usable = usable_before f (subst (λ c. IsUsable (state g c)) is h.usable);
       counts = counted_before a.failures (subst IsSome counts h.counts);
@@ -97,6 +114,7 @@ module _ {S : Type 0} (g : Ghosts S) (a : SqlStable S g) (now : Held S) where
       → (IsUsable new → IsSound old → PutsRow (spelled key) bytes (table old) (table new)) → b.connection ≡ now
       → b.failures ≡ a.failures → Changes g a (Sets key bytes) b
   put_made key bytes b valid f made is counts = record {
+    disk = stays_honest b f is;
     honest = λ h. record {
       usable = usable_before f (subst (λ c. IsUsable (state g c)) is h.usable);
       counts = subst IsSome counts h.counts;
@@ -114,6 +132,7 @@ module _ {S : Type 0} (g : Ghosts S) (a : SqlStable S g) (now : Held S) where
       → (IsUsable new → IsSound old → TrimsRows (0x56 ∷ []) (vote_key end) (table old) (table new)) → b.connection ≡ now
       → b.failures ≡ a.failures → Changes g a (Trims below) b
   trim_done below end b at f made is counts = record {
+    disk = stays_honest b f is;
     honest = λ h. record {
       usable = usable_before f (subst (λ c. IsUsable (state g c)) is h.usable);
       counts = subst IsSome counts h.counts;

@@ -1,8 +1,9 @@
 -- What one statement does to the state.
-use Rattle.std.proofs.Common.{◌≡◌, inl, inr, ℕ, List, [], ◌∷◌, false, Option, Some, None, Ok, Err, Result, OnErr, OnOk, IfOk, IfErr, IsTrue}
+use Rattle.std.proofs.Common.{◌≡◌, ◌⊎◌, ◌≤◌, inl, inr, ℕ, List, [], ◌∷◌, false, Option, Some, None, Ok, Err, Result, OnErr, OnOk, IfOk, IfErr, IsTrue}
 use Rattle.std.proofs.Common.{refl, sym, ap, ◌∙◌, subst}
 use Rattle.sqlite_value.specs.declared.value.Value.TheVariants.{Blob}
 use Rattle.sqlite_value.specs.Order.{Row}
+use Rattle.sqlite_disk.specs.Disk.{MoreFaults}
 use Rattle.sqlite_schema.specs.declared.schema.Schema.{Schema}
 use Rattle.sqlite_schema.specs.declared.command.Returning.{Returning}
 use Rattle.sqlite_schema.specs.declared.command.Command.TheVariants.{CreateTable}
@@ -138,9 +139,13 @@ module _ (old new : State) where
   -- ---- what a caller keeps
 
   pub put_follows : (sql : List ℕ) (put : IsPut sql) (k v : List ℕ) (r : Result ℕ Error) → (HasCleanDisk new → HasCleanDisk old)
+      → (old.faults ≤ new.faults)
+      → (HasCleanDisk new → IsTrue old.is_open → IsTrue new.is_open ⊎ MoreFaults old.faults new.faults)
       → (HasCleanDisk new → Executes sql (Blob k ∷ Blob v ∷ []) old new r) → Follows old new
-  put_follows sql put k v r clean ran = record {
+  put_follows sql put k v r clean faults closes ran = record {
     clean = clean;
+    faults = faults;
+    closes = closes;
     was_open = λ h now. executes_open old new sql (Blob k ∷ Blob v ∷ []) r (ran h) now;
     settled = λ was h now. step_sound sql put k v r (ran h) now
         (was (clean h) (executes_open old new sql (Blob k ∷ Blob v ∷ []) r (ran h) now));
@@ -158,10 +163,14 @@ module _ (old new : State) where
     query_keeps (Err e) ok err s = query_fails sql params e err
 
     pub query_follows : (r : Result X Error) → (HasCleanDisk new → HasCleanDisk old)
+        → (old.faults ≤ new.faults)
+        → (HasCleanDisk new → IsTrue old.is_open → IsTrue new.is_open ⊎ MoreFaults old.faults new.faults)
         → (HasCleanDisk new → IfOk r (λ x. Shown sql params old new (rows_in x)))
         → (HasCleanDisk new → IfErr r (FailsToQuery sql params old new)) → Follows old new
-    query_follows r clean ok err = record {
+    query_follows r clean faults closes ok err = record {
       clean = clean;
+      faults = faults;
+      closes = closes;
       was_open = λ h now. query_open r (ok h) (err h) now;
       settled = λ was h now. let s = was (clean h) (query_open r (ok h) (err h) now) in
           (kept_sound (query_keeps r (ok h) (err h) s) now s).0;
@@ -192,3 +201,8 @@ module _ (old new : State) where
         },
         made.1,
       )
+
+  pub create_open : (sql : List ℕ) (making : IsMaking sql) (r : Result ℕ Error) → old.now.schema ≡ no_schema
+      → Executes sql [] old new r → OnOk r (IsTrue new.is_open)
+  create_open sql making (Err e) has h = tt
+  create_open sql making (Ok count) has h = (runs_as sql [] old new no_schema has CreateTable making.command making.bare count h).shown.is_open

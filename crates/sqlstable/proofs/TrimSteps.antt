@@ -1,6 +1,7 @@
 -- What one trim does to the state.
-use Rattle.std.proofs.Common.{◌≡◌, ℕ, List, [], ◌∷◌, false, Ok, Err, Result, OnErr, OnOk, IsTrue, refl, sym, ap, ◌∙◌, subst}
+use Rattle.std.proofs.Common.{◌≡◌, ◌⊎◌, ◌≤◌, ℕ, List, [], ◌∷◌, false, Ok, Err, Result, OnErr, OnOk, IsTrue, refl, sym, ap, ◌∙◌, subst}
 use Rattle.sqlite_value.specs.declared.value.Value.TheVariants.{Blob}
+use Rattle.sqlite_disk.specs.Disk.{MoreFaults}
 use Rattle.sqlite_trees.specs.Objects.{catalog_tree}
 use Rattle.sqlite.specs.declared.error.Error.{Error}
 use Rattle.sqlite.specs.Effect.{Database}
@@ -57,9 +58,13 @@ module _ (old new : State) where
     trim_refused (Err e) h now s = (kept_sound old new (refused_keeps old new sql _ e h) now s).1
 
     pub trim_follows : (r : Result ℕ Error) → (HasCleanDisk new → HasCleanDisk old)
+        → (old.faults ≤ new.faults)
+        → (HasCleanDisk new → IsTrue old.is_open → IsTrue new.is_open ⊎ MoreFaults old.faults new.faults)
         → (HasCleanDisk new → Executes sql (Blob high ∷ []) old new r) → Follows old new
-    trim_follows r clean ran = record {
+    trim_follows r clean faults closes ran = record {
       clean = clean;
+      faults = faults;
+      closes = closes;
       was_open = λ h now. executes_open old new sql (Blob high ∷ []) r (ran h) now;
       settled = λ was h now. trim_step r (ran h) now
           (was (clean h) (executes_open old new sql (Blob high ∷ []) r (ran h) now));

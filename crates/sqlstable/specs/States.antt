@@ -1,6 +1,7 @@
 -- What a connection keeps of the table between calls.
-use Rattle.std.specs.Prelude.{◌≡◌, ◌≢◌, ◌⊎◌, false, IsTrue, List, []}
+use Rattle.std.specs.Prelude.{◌≡◌, ◌≢◌, ◌⊎◌, ◌≤◌, false, IsTrue, List, []}
 use Rattle.sqlite_value.specs.Order.{Row}
+use Rattle.sqlite_disk.specs.Disk.{MoreFaults}
 use Rattle.sqlite_trees.specs.Objects.{catalog_tree}
 use Rattle.sqlite.specs.State.{State, HasCleanDisk, IsUnchanged, IsRolledBack}
 use Rattle.sqlstable.specs.Table.{record_schema}
@@ -33,8 +34,11 @@ pub record IsSound (s : State) : Type 0 where
 abbrev pub IsSettled : State → Type 0
 IsSettled s = HasCleanDisk s → IsTrue s.is_open → IsSound s
 
--- no call makes a disk honest again, or opens a connection again, or spoils the table
+-- no call makes a disk honest again, opens a connection again, forgets a fault of the disk or spoils the table; and as long as the disk
+-- has returned what was written, only a fault of it shuts the connection
 pub record Follows (old new : State) : Type 0 where
   pub clean : HasCleanDisk new → HasCleanDisk old
   pub was_open : HasCleanDisk new → IsTrue new.is_open → IsTrue old.is_open
   pub settled : IsSettled old → IsSettled new
+  pub faults : old.faults ≤ new.faults
+  pub closes : HasCleanDisk new → IsTrue old.is_open → IsTrue new.is_open ⊎ MoreFaults old.faults new.faults

@@ -1,8 +1,10 @@
 -- A storage over the table, and what its calls make of it.
-use Rattle.std.specs.Prelude.{◌≡◌, ℕ, Some, IsSome, unwrap_or, List}
+use Rattle.std.specs.Prelude.{◌≡◌, ◌⊎◌, ◌≤◌, ℕ, Some, IsSome, unwrap_or, List}
 use Rattle.sqlite_value.specs.Order.{Row}
+use Rattle.sqlite_disk.specs.Disk.{MoreFaults}
 use Rattle.sqlite_trees.specs.declared.store.Store.{Ghosts}
 use Rattle.sqlite.specs.Held.{state}
+use Rattle.sqlite.specs.State.{HasCleanDisk}
 use Rattle.stable.specs.Laws.{KeepsStray}
 use Rattle.stable.specs.Records.{Change, changed}
 use Rattle.stable.specs.Script.{counted}
@@ -29,20 +31,34 @@ module _ {S : Type 0} (g : Ghosts S) where
     pub usable : IsUsable (state g s.connection)
     pub counts : IsSome s.failures
 
+  -- its disk has returned so far what was written
+  abbrev pub HasCleanStore : SqlStable S g → Type 0
+  HasCleanStore s = HasCleanDisk (state g s.connection)
+
+  -- as long as that is so and the failures can be counted, it goes on being honest, but where the disk itself has failed
+  pub record StaysHonest (a b : SqlStable S g) : Type 0 where
+    pub clean : HasCleanStore b → HasCleanStore a
+    pub faults : (state g a.connection).faults ≤ (state g b.connection).faults
+    pub stays : HasCleanStore b → IsSome b.failures → IsSqlHonest a
+        → IsSqlHonest b ⊎ MoreFaults (state g a.connection).faults (state g b.connection).faults
+
   -- calls that write nothing, on which the device didn't fail
   pub record Reads (a b : SqlStable S g) : Type 0 where
+    pub disk : StaysHonest a b
     pub honest : IsSqlHonest b → IsSqlHonest a
     pub rows : IsSqlHonest b → rows_of b ≡ rows_of a
     pub failures : b.failures ≡ a.failures
 
   -- the same, but the last of them answers Device
   pub record ReadFails (a b : SqlStable S g) : Type 0 where
+    pub disk : StaysHonest a b
     pub honest : IsSqlHonest b → IsSqlHonest a
     pub rows : IsSqlHonest b → rows_of b ≡ rows_of a
     pub failures : b.failures ≡ counted a.failures
 
   -- calls of which one made this change
   pub record Changes (a : SqlStable S g) (change : Change) (b : SqlStable S g) : Type 0 where
+    pub disk : StaysHonest a b
     pub honest : IsSqlHonest b → IsSqlHonest a
     pub records : IsSqlHonest b → records_in (rows_of b) ≡ changed (records_in (rows_of a)) change
     pub stray : IsSqlHonest b → KeepsStray change (HasStray (rows_of a)) (HasStray (rows_of b))
@@ -57,6 +73,7 @@ module _ {S : Type 0} (g : Ghosts S) where
     HasStrayKey = λ s. HasStray (rows_of s);
     IsSettled = λ _. Unit {0};
     reads = Reads;
+    looks = Reads;
     changes = Changes;
     read_fails = ReadFails;
     fails = λ a change b. ReadFails a b;

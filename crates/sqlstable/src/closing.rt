@@ -6,7 +6,7 @@ ghost use Rattle.sqlite.specs.Held.{state};
 ghost use Rattle.sqlite_wal.specs.Reads.{AreClean};
 ghost use Rattle.sqlstable.specs.Files.{AreThoseHeld, HoldRowsAlone};
 ghost use Rattle.sqlstable.specs.States.{IsUsable};
-ghost use Rattle.sqlstable.specs.Storage.{IsSqlHonest, rows_of};
+ghost use Rattle.sqlstable.specs.Storage.{HasCleanStore, IsSqlHonest, rows_of};
 
 use crate::fault::or_fault;
 use crate::storage::SqlStable;
@@ -28,6 +28,7 @@ impl<D: Disk + Drop> SqlStable<FileStore<D>> {
         requires db { IsTrue (D.Disk.is_usable files.db) }
         ensures clean { IfOk result (λ s. IsSqlHonest over_files s
             → AreClean D.Disk files.log files.db) }
+        ensures usable { IfOk result (λ s. HasCleanStore over_files s → IsSqlHonest over_files s) }
         ensures found { IfOk result (λ s. IsSqlHonest over_files s
             → AreThoseHeld (image_of D.Disk files) (rows_of over_files s)) }
         ensures not_damaged { ¬ IsErrOf result StableFault.Damaged }

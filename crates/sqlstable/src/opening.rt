@@ -1,10 +1,11 @@
 //! Opening a storage.
 
-ghost use Rattle.std.specs.Prelude.{◌≡◌, [], Ok, IfOk, OnOk, IsErrOf};
+ghost use Rattle.std.specs.Prelude.{◌≡◌, [], Ok, IfOk, IsTrue, OnOk, IsErrOf};
 ghost use Rattle.sqlite.specs.Held.{state};
+ghost use Rattle.sqlite.specs.State.{HasCleanDisk};
 ghost use Rattle.sqlstable.specs.States.{IsSound, IsUsable, table};
 ghost use Rattle.sqlstable.specs.Files.{FindsTable};
-ghost use Rattle.sqlstable.specs.Storage.{IsSqlHonest, IsUnfailed, rows_of};
+ghost use Rattle.sqlstable.specs.Storage.{HasCleanStore, IsSqlHonest, IsUnfailed, rows_of};
 ghost use Rattle.sqlstable.specs.Table.{no_schema};
 
 use crate::fault::{fault_of, or_fault};
@@ -43,6 +44,7 @@ impl SqlStable<FileStore<File>> {
     ///
     /// `Device` where the file can't be used, where it is in use, and where it holds anything but the table of records.
     pub fn open(rt: &HostRuntime, path: &str) -> Result<SqlStable<FileStore<File>>, StableFault>
+        ensures usable { IfOk result (λ s. HasCleanStore over_files s → IsSqlHonest over_files s) }
         ensures unfailed { IfOk result (IsUnfailed over_files) }
         ensures not_damaged { ¬ IsErrOf result StableFault.Damaged }
     {
@@ -63,6 +65,7 @@ impl<F: Start> SqlStable<FileStore<FileFrom<F>>> {
     ) -> Result<SqlStable<FileStore<FileFrom<F>>>, StableFault>
         ensures found { IfOk result (λ s. IsSqlHonest over_files s
             → AreThoseHeld (image_at F.Start) (rows_of over_files s)) }
+        ensures usable { IfOk result (λ s. HasCleanStore over_files s → IsSqlHonest over_files s) }
         ensures unfailed { IfOk result (IsUnfailed over_files) }
         ensures not_damaged { ¬ IsErrOf result StableFault.Damaged }
     {
@@ -79,6 +82,7 @@ impl<D: Disk + Drop> SqlStable<FileStore<D>> {
     ) -> Result<SqlStable<FileStore<D>>, StableFault>
         ensures found { IfOk result (λ s. IsSqlHonest over_files s
             → FindsTable (state over_files connection) (rows_of over_files s)) }
+        ensures usable { IfOk result (λ s. HasCleanStore over_files s → IsSqlHonest over_files s) }
         ensures unfailed { IfOk result (IsUnfailed over_files) }
         ensures not_damaged { ¬ IsErrOf result StableFault.Damaged }
     {
@@ -92,6 +96,7 @@ impl<D: Disk + Drop> SqlStable<FileStore<D>> {
         ensures found { IfOk result (λ s. IsSqlHonest over_files s
             → (connection : _) × (outcome ≡ Ok connection)
             × FindsTable (state over_files connection) (rows_of over_files s)) }
+        ensures usable { IfOk result (λ s. HasCleanStore over_files s → IsSqlHonest over_files s) }
         ensures unfailed { IfOk result (IsUnfailed over_files) }
         ensures not_damaged { ¬ IsErrOf result StableFault.Damaged }
     {
@@ -107,6 +112,7 @@ impl<S: Alter + Drop> SqlStable<S> {
     pub fn over(mut connection: Connection<S>) -> Result<SqlStable<S>, StableFault>
         ensures found { IfOk result (λ s. IsSqlHonest S.Store s
             → FindsTable (state S.Store connection) (rows_of S.Store s)) }
+        ensures usable { IfOk result (λ s. HasCleanStore S.Store s → IsSqlHonest S.Store s) }
         ensures unfailed { IfOk result (IsUnfailed S.Store) }
         ensures not_damaged { ¬ IsErrOf result StableFault.Damaged }
     {
@@ -121,6 +127,8 @@ fn prepare<S: Alter>(connection: &mut Connection<S>) -> Result<(), StableFault>
         → OnOk result (IsSound (state S.Store connection.new)) }
     ensures found { IsUsable (state S.Store connection.new)
         → OnOk result (FindsTable (state S.Store connection.old) (table (state S.Store connection.new))) }
+    ensures opened { HasCleanDisk (state S.Store connection.new)
+        → OnOk result (IsTrue (state S.Store connection.new).is_open) }
     ensures not_damaged { ¬ IsErrOf result StableFault.Damaged }
 {
     if is_blank(connection.schema()) {
@@ -145,6 +153,8 @@ fn begin<S: Alter>(connection: &mut Connection<S>) -> Result<(), StableFault>
         → OnOk result (table (state S.Store connection.new) ≡ []) }
     ensures was_usable { IsUsable (state S.Store connection.new)
         → OnOk result (IsUsable (state S.Store connection.old)) }
+    ensures opened { HasCleanDisk (state S.Store connection.new)
+        → OnOk result (IsTrue (state S.Store connection.new).is_open) }
     ensures not_damaged { ¬ IsErrOf result StableFault.Damaged }
 {
     if !connection.is_autocommit() {

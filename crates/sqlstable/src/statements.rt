@@ -2,7 +2,7 @@
 //!
 //! The connection keeps the plans of the texts that it ran, so each text is compiled once.
 
-ghost use Rattle.std.specs.Prelude.{◌≡◌, false, [], OnErr, OnOk, IfOk, option_map};
+ghost use Rattle.std.specs.Prelude.{◌≡◌, false, [], IsTrue, OnErr, OnOk, IfOk, option_map};
 ghost use Rattle.sqlite.specs.Held.{state};
 ghost use Rattle.sqlite.specs.State.{HasCleanDisk, IsUnchanged};
 ghost use Rattle.sqlstable.specs.Table.{no_schema, record_schema};
@@ -20,6 +20,8 @@ pub fn create<S: Alter>(connection: &mut Connection<S>) -> Result<usize, Error>
     requires autocommit { connection.old.in_transaction ≡ false }
     ensures was_usable { IsUsable (state S.Store connection.new)
         → IsUsable (state S.Store connection.old) }
+    ensures opened { HasCleanDisk (state S.Store connection.new)
+        → OnOk result (IsTrue (state S.Store connection.new).is_open) }
     ensures made { HasCleanDisk (state S.Store connection.new)
         → OnOk result (IsSound (state S.Store connection.new)
         × (table (state S.Store connection.new) ≡ [])) }
@@ -111,6 +113,8 @@ fn run_making<S: Alter>(connection: &mut Connection<S>, sql: &str) -> Result<usi
     requires autocommit { connection.old.in_transaction ≡ false }
     ensures was_usable { IsUsable (state S.Store connection.new)
         → IsUsable (state S.Store connection.old) }
+    ensures opened { HasCleanDisk (state S.Store connection.new)
+        → OnOk result (IsTrue (state S.Store connection.new).is_open) }
     ensures made { HasCleanDisk (state S.Store connection.new)
         → OnOk result (IsSound (state S.Store connection.new)
         × (table (state S.Store connection.new) ≡ [])) }

@@ -112,6 +112,8 @@ impl<S: Alter> Stable for SqlStable<S> {
 
     ghost reads = { Reads S.Store };
 
+    ghost looks = { Reads S.Store };
+
     ghost changes = { Changes S.Store };
 
     ghost read_fails = { ReadFails S.Store };

@@ -1,11 +1,11 @@
 //! What an open looks for in a table that is there.
 
-ghost use Rattle.std.specs.Prelude.{◌≡◌, true, IfOk, IsTrue};
+ghost use Rattle.std.specs.Prelude.{◌≡◌, true, IfOk, OnOk, IsTrue};
 ghost use Rattle.sqlite_value.specs.Order.{column};
 ghost use Rattle.sqlite_value.specs.Value.{owned};
 ghost use Rattle.sqlite_trees.specs.View.{is_int};
 ghost use Rattle.sqlite.specs.Held.{state};
-ghost use Rattle.sqlite.specs.State.{IsLive};
+ghost use Rattle.sqlite.specs.State.{HasCleanDisk, IsLive};
 ghost use Rattle.sqlstable.specs.States.{IsSound, IsUsable};
 ghost use Rattle.sqlstable.specs.Files.{FindsTable};
 ghost use Rattle.sqlstable.specs.States as states;
@@ -27,6 +27,8 @@ pub fn survey<S: Alter>(connection: &mut Connection<S>) -> Result<bool, Error>
     requires live { IsLive (state S.Store connection.old) }
     ensures sound { IsUsable (state S.Store connection.new) → IfOk result (λ sound. IsTrue sound
         → IsSound (state S.Store connection.new)) }
+    ensures opened { HasCleanDisk (state S.Store connection.new)
+        → OnOk result (IsTrue (state S.Store connection.new).is_open) }
     ensures found { IsUsable (state S.Store connection.new) → IfOk result (λ sound. IsTrue sound
         → FindsTable (state S.Store connection.old) (states.table (state S.Store connection.new))) }
 {

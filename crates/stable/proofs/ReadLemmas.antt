@@ -1,10 +1,11 @@
 -- What a reading of a scripted storage comes to, from what the storage inside makes of it.
-use Rattle.std.proofs.Common.{Result, Ok, Err, OnOk, IsErrOf, ◌≡◌, refl, ap, inl}
-use Rattle.stable.specs.Script.{Script, Reads}
+use Rattle.std.proofs.Common.{Result, Ok, Err, OnOk, IsErrOf, Some, ◌≡◌, ◌≢◌, refl, ap, inl}
+use Rattle.stable.specs.Script.{Script, Reads, Looks}
 use Rattle.stable.specs.ScriptLaws.{scripted_laws}
 use Rattle.stable.specs.Storages.{IsLawful}
 use Rattle.stable.specs.declared.fault.StableFault.{StableFault}
 use Rattle.stable.specs.declared.fault.StableFault.TheVariants.{Device, Memory, Damaged}
+use Rattle.stable.specs.declared.scripted.Failing.TheVariants.{Read}
 use Rattle.stable.specs.declared.stable.Stable.{Ghosts}
 
 module _ {S : Type 0} (storage : Ghosts S) (laws : IsLawful storage) where
@@ -28,3 +29,10 @@ module _ {S : Type 0} (storage : Ghosts S) (laws : IsLawful storage) where
     trimmed = ap (λ t. t.trimmed) after;
     list = inl (ap (λ t. t.writes) after, ap (λ t. t.unsure) after);
   })
+
+  -- only the storage inside was asked for its keys, and nothing was armed against that
+  pub then_look : (a m b : Script S) → Reads storage.contents storage.IsHonest storage.reads a m
+      → b ≡ record m { inner = b.inner } → a.armed ≢ Some Read → storage.looks m.inner b.inner
+      → Looks storage.contents storage.IsHonest storage.reads a b
+  then_look a m b before after unarmed look =
+      record { read = then_read a m b before after (laws.looks_reads _ _ look); unarmed = unarmed }

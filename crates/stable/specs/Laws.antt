@@ -10,7 +10,7 @@ KeepsStray (Trims below) before after = after → before
 -- a storage that is honest after a call was honest before it, and has the same stray keys, but for what a trim takes out;
 -- what is said of records and of the count is said where it is honest
 pub record KeepsLaws {S : Type 0} (contents : S → Records) (failures : S → ℕ) (IsHonest HasStrayKey IsSettled : S → Type 0)
-    (reads : S → S → Type 0) (changes : S → Change → S → Type 0)
+    (reads looks : S → S → Type 0) (changes : S → Change → S → Type 0)
     (read_fails : S → S → Type 0) (fails : S → Change → S → Type 0) : Type 0 where
   -- reading leaves the records
   pub reads_honest : (a b : S) → reads a b → IsHonest b → IsHonest a
@@ -46,9 +46,13 @@ pub record KeepsLaws {S : Type 0} (contents : S → Records) (failures : S → �
       → failures a < failures b
   pub fails_stray : (a b : S) (change : Change) → fails a change b → IsHonest b
       → KeepsStray change (HasStrayKey a) (HasStrayKey b)
+  -- calls that look are calls that read
+  pub looks_reads : (a b : S) → looks a b → reads a b
   -- calls one after the other
   pub reads_none : (a : S) → reads a a
   pub reads_reads : (a b c : S) → reads a b → reads b c → reads a c
+  pub reads_looks : (a b c : S) → reads a b → looks b c → looks a c
+  pub looks_then_reads : (a b c : S) → looks a b → reads b c → looks a c
   pub reads_read_fails : (a b c : S) → reads a b → read_fails b c → read_fails a c
   pub reads_changes : (a b c : S) (change : Change) → reads a b → changes b change c
       → changes a change c

@@ -1,13 +1,13 @@
 -- Storages, each seen as one record of what it holds and of what its calls may make of it.
 use Rattle.std.specs.Prelude.{◌≡◌, ◌+◌, None, IsSome, unwrap_or}
 use Rattle.stable.specs.Laws.{KeepsLaws}
-use Rattle.stable.specs.Script.{Script, Reads, ReadFails, Changes, Fails}
+use Rattle.stable.specs.Script.{Script, Reads, Looks, ReadFails, Changes, Fails}
 use Rattle.stable.specs.declared.stable.Stable.{Ghosts}
 
 -- it keeps the laws
 abbrev pub IsLawful : {S : Type 0} → Ghosts S → Type 0
 IsLawful storage = KeepsLaws storage.contents storage.failures storage.IsHonest storage.HasStrayKey storage.IsSettled
-    storage.reads storage.changes storage.read_fails storage.fails
+    storage.reads storage.looks storage.changes storage.read_fails storage.fails
 
 -- a scripted storage, by the storage inside
 abbrev pub scripted : {S : Type 0} → Ghosts S → Ghosts (Script S)
@@ -18,6 +18,7 @@ scripted storage = record {
   HasStrayKey = λ s. storage.HasStrayKey s.inner;
   IsSettled = λ s. s.unsure ≡ None;
   reads = Reads storage.contents storage.IsHonest storage.reads;
+  looks = Looks storage.contents storage.IsHonest storage.reads;
   changes = Changes storage.contents storage.IsHonest storage.reads storage.changes;
   read_fails = ReadFails storage.contents storage.IsHonest storage.reads storage.read_fails;
   fails = Fails storage.contents storage.IsHonest storage.reads storage.read_fails storage.changes storage.fails;

@@ -8,7 +8,8 @@ pub returns-clause-follows : goal.returns-clause-follows
 returns-clause-follows g c =
     query_follows (state g.S.Store c.args.connection.now) (state g.S.Store c.query_all.new.self)
     (λ rows. rows.items) c.args.sql.now [] c.requires.listing.bare c.query_all.result
-    (λ clean. omega (arith, c.query_all.ensures.survives.clean, clean)) c.query_all.ensures.ok c.query_all.ensures.err
+    (λ clean. omega (arith, c.query_all.ensures.survives.clean, clean)) c.query_all.ensures.survives.counts
+    c.query_all.ensures.survives.closes c.query_all.ensures.ok c.query_all.ensures.err
 
 pub returns-clause-same : goal.returns-clause-same
 returns-clause-same g c =

@@ -9,7 +9,8 @@ pub returns-clause-follows : goal.returns-clause-follows
 returns-clause-follows g c =
     query_follows (state g.S.Store c.args.connection.now) (state g.S.Store c.query_all.new.self) (λ rows. rows.items) c.args.sql.now
     (Blob c.args.key.now ∷ []) c.requires.lookup.bare c.query_all.result
-    (λ clean. omega (arith, c.query_all.ensures.survives.clean, clean)) (rw c.params-to_sql.ensures at c.query_all.ensures.ok)
+    (λ clean. omega (arith, c.query_all.ensures.survives.clean, clean)) c.query_all.ensures.survives.counts
+    c.query_all.ensures.survives.closes (rw c.params-to_sql.ensures at c.query_all.ensures.ok)
     (rw c.params-to_sql.ensures at c.query_all.ensures.err)
 
 pub returns-clause-same : goal.returns-clause-same

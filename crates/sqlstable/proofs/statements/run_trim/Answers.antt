@@ -7,7 +7,7 @@ pub returns-clause-follows : goal.returns-clause-follows
 returns-clause-follows g c =
     trim_follows (state g.S.Store c.args.connection.now) (state g.S.Store c.execute.new.self) c.args.sql.now c.requires.trim
     c.args.end.now c.execute.result
-    (λ clean. omega (arith, c.execute.ensures.survives.clean, clean))
+    (λ clean. omega (arith, c.execute.ensures.survives.clean, clean)) c.execute.ensures.survives.counts c.execute.ensures.survives.closes
     (λ clean. rw c.params-to_sql.ensures at (c.execute.ensures.runs clean))
 
 pub returns-clause-trimmed : goal.returns-clause-trimmed

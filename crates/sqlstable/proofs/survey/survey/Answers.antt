@@ -18,6 +18,16 @@ returns g c =
     (c.is_autocommit.ensures.settled alone usable.1) c.as_slice-listed.ensures.value (c.are_sound.ensures (search rules))
     (c.in_ok-are_own.ensures own) in
     record {
+      opened = λ clean. (c.in_ok-rows.ensures.unchanged clean has).0.is_open;
       sound = λ usable sound. (shown usable sound).0;
       found = λ usable sound. record { was_clean = c.list.ensures.follows.clean usable.0; found = inr (shown usable sound).1 };
     }
+
+-- a survey leaves the connection open
+pub returns-then-not-is_autocommit-clause-opened : goal.returns-then-not-is_autocommit-clause-opened
+returns-then-not-is_autocommit-clause-opened g c =
+    λ clean. (c.in_ok-rows.ensures.unchanged clean (c.requires.ours ∙ listed_is)).0.is_open
+
+pub returns-then-not-are_sound-clause-opened : goal.returns-then-not-are_sound-clause-opened
+returns-then-not-are_sound-clause-opened g c =
+    λ clean. (c.in_ok-rows.ensures.unchanged clean (c.requires.ours ∙ listed_is)).0.is_open
