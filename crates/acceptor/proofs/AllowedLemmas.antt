@@ -1,5 +1,5 @@
 -- What an acceptor does is allowed by the protocol.
-use Rattle.std.proofs.Common.{◌≡◌, ℕ, ◌≤◌, List, [], ◌∷◌, Option, Some, inl, inr, refl, sym, subst, ◌∙◌, arith, le_refl, append-nil}
+use Rattle.std.proofs.Common.{◌≡◌, ℕ, ◌≤◌, List, [], ◌∷◌, Option, Some, inl, inr, refl, sym, ◌∙◌, arith, le_refl}
 use Rattle.std.proofs.lemmas.Bool.{le-ltb}
 use Rattle.std.proofs.lemmas.Bool.Decides.{eqb_tells}
 use Rattle.synod.specs.Ballots.{rank, rank_of}
@@ -33,15 +33,6 @@ module _ (f : Fleet Command) (i : ℕ) (input : Input Command) (x : Local Comman
     (stands : RecordsStand a round x.records) where
   same_records : MayWrite f i input x a round
   same_records = record { after = x.records; does = does_nothing f i input x; stands = stands }
-
-  -- it sends nothing
-  says_nothing : MayAnswer f i input x a round []
-  says_nothing = record {
-    after = x.records;
-    does = subst (λ (l : List (Frame Command)). Does f i input x (record x { sent = l })) (sym (append-nil x.sent))
-        (does_nothing f i input x);
-    stands = stands;
-  }
 
   refuses : (to : ℕ) → MayAnswer f i input x a round (record { sender = i; receiver = to; message = Plain } ∷ [])
   refuses to = record { after = x.records; does = does_one f i input x (act.Says to) tt; stands = stands }
@@ -100,7 +91,7 @@ module _ (f : Fleet Command) (i : ℕ) (input : Input Command) (x : Local Comman
         rw (is, away) (refuses to)
     | behind floor is ↦
         let away : answer ≡ answers.Behind floor = rw is at answers_ in
-        rw (is, away) says_nothing
+        rw (is, away) (refuses to)
     | taken is high from ↦
         let told : TellsFrom a b first answer = rw is at answers_ in
         rw (is, told.is) (promises_and_tells nodes to first b told.promise high told.from_the_floor told.tells)
@@ -146,7 +137,7 @@ module _ (f : Fleet Command) (i : ℕ) (input : Input Command) (x : Local Comman
       → MayAnswer f i input x (after_accept a v) round (answer_frames i nodes to (accept_answer a v))
   accept_answers nodes to v came = elim (judged a v.ballot v.slot) [
     | refused p is ↦ rw is (refuses to)
-    | behind floor is ↦ rw is says_nothing
+    | behind floor is ↦ rw is (refuses to)
     | taken is high from ↦ rw is (votes_and_confirms nodes v came high from)
   ]
 

@@ -18,13 +18,14 @@ pub record RecordsStand (a : Accepting) (round : ℕ) (r : synod_records.Records
   pub round_ : r.round ≡ round
   pub floor_ : r.floor ≡ a.floor
 
--- what node i of so many sends to answer node `to`: Accepted goes to every node, and no message tells that something is behind
+-- what node i of so many sends to answer node `to`: Accepted goes to every node; of a refusal, and of where its floor is, safety says
+-- nothing
 abbrev pub answer_frames : ℕ → ℕ → ℕ → Answer → List (Frame Command)
 answer_frames i nodes to (Promise p) =
     record { sender = i; receiver = to; message = synod.Promise p.ballot p.first p.last p.entries } ∷ []
 answer_frames i nodes to (Accepted v) = to_first nodes i (synod.Accepted v)
 answer_frames i nodes to (Nack n) = record { sender = i; receiver = to; message = Plain } ∷ []
-answer_frames i nodes to (Behind floor) = []
+answer_frames i nodes to (Behind floor) = record { sender = i; receiver = to; message = Plain } ∷ []
 
 -- from x the node may come to records that stand for this, and nothing else changes: the case of a node that
 -- goes down once the write is made

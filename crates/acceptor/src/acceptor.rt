@@ -26,7 +26,7 @@ use sessions::{Command, Machine};
 use stable::{Key, Stable, StableFault};
 use std::alloc::{AllocError, Global};
 use synod::{Ballot, Slot, Vote};
-use wire::{Held, Nack};
+use wire::{Held, Nack, Position};
 
 /// What one node has promised, and what it has voted for at each slot.
 ///
@@ -73,13 +73,13 @@ impl Acceptor {
         ensures form { S.IsHonest storage.new → OnOk result
             (AreOfTheirForm (S.contents storage.old)) }
         ensures no_stray { S.IsHonest storage.new → OnOk result (¬ (S.HasStrayKey storage.old)) }
-        ensures reads { OnOk result (S.reads storage.old storage.new) }
+        ensures looks { OnOk result (S.looks storage.old storage.new) }
         ensures settled { OnOk result (S.IsSettled storage.new) }
 
         // Each error.
         ensures device { IsErrOf result StableFault.Device → S.read_fails storage.old storage.new }
-        ensures memory { IsErrOf result StableFault.Memory → S.reads storage.old storage.new }
-        ensures damaged { IsErrOf result StableFault.Damaged → S.reads storage.old storage.new }
+        ensures memory { IsErrOf result StableFault.Memory → S.looks storage.old storage.new }
+        ensures damaged { IsErrOf result StableFault.Damaged → S.looks storage.old storage.new }
         ensures damaged_record { S.IsHonest storage.new → IsErrOf result StableFault.Damaged
             → S.HasStrayKey storage.old ⊎ HasDamagedRecord (S.contents storage.old) }
     {
@@ -100,13 +100,13 @@ impl Acceptor {
         ensures form { S.IsHonest storage.new → OnOk result
             (AreOfTheirForm (S.contents storage.old)) }
         ensures no_stray { S.IsHonest storage.new → OnOk result (¬ (S.HasStrayKey storage.old)) }
-        ensures reads { OnOk result (S.reads storage.old storage.new) }
+        ensures looks { OnOk result (S.looks storage.old storage.new) }
         ensures settled { OnOk result (S.IsSettled storage.new) }
 
         // Each error.
         ensures device { IsErrOf result StableFault.Device → S.read_fails storage.old storage.new }
-        ensures memory { IsErrOf result StableFault.Memory → S.reads storage.old storage.new }
-        ensures damaged { IsErrOf result StableFault.Damaged → S.reads storage.old storage.new }
+        ensures memory { IsErrOf result StableFault.Memory → S.looks storage.old storage.new }
+        ensures damaged { IsErrOf result StableFault.Damaged → S.looks storage.old storage.new }
         ensures damaged_record { S.IsHonest storage.new → IsErrOf result StableFault.Damaged
             → S.HasStrayKey storage.old ⊎ HasDamagedRecord (S.contents storage.old) }
     {
@@ -416,7 +416,8 @@ impl Acceptor {
             return Some(Answer::Nack(refusal(ballot, promised)));
         }
         if slot.value() < self.floor {
-            return Some(Answer::Behind(self.floor));
+            let floor = Position::new(self.floor).unwrap();
+            return Some(Answer::Behind(floor));
         }
         None
     }

@@ -2,7 +2,7 @@
 
 use sessions::Command;
 use synod::Vote;
-use wire::{Held, Nack, Promise};
+use wire::{Held, Nack, Position, Promise};
 
 /// An acceptor's answer to a prepare or an accept.
 #[derive(Drop)]
@@ -14,5 +14,5 @@ pub enum Answer {
     /// A greater ballot is promised.
     Nack(Nack),
     /// The slot is below this floor, from which on the acceptor speaks.
-    Behind(u32),
+    Behind(Position),
 }

@@ -1,6 +1,10 @@
 -- The prefix is the first slot that isn't learnt.
 use Rattle.std.proofs.Common.{◌≡◌, ℕ, zero, suc, ◌+◌, ◌-◌, ◌<◌, ◌≤◌, ◌⊎◌, inl, inr, true, false, Option, Some, None, IsSome, is_some}
-use Rattle.std.proofs.Common.{refl, sym, ap, subst, ◌∙◌, arith}
+use Rattle.std.proofs.Common.{refl, sym, ap, subst, ◌∙◌, arith, ltb}
+use Rattle.std.proofs.lemmas.Bool.{cases_Bool}
+use Rattle.std.proofs.lemmas.Bool.Decides.{nat_tests}
+use Rattle.synod.specs.Volatile.{Volatile}
+use Rattle.learner.specs.Protocol.{LearnerStands}
 use Rattle.std.proofs.lemmas.Grind.{common_steps}
 use Rattle.synod.specs.Records.{put}
 use Rattle.synod.specs.declared.vote.Vote.{Vote}
@@ -8,7 +12,7 @@ use Rattle.synod.proofs.Puts.{put_cases}
 use Rattle.synod.specs.declared.slot.TheConstants.{SLOTS}
 use Rattle.sessions.specs.declared.command.Command.{Command}
 use Rattle.learner.specs.declared.learned.Learned.{Learned}
-use Rattle.learner.specs.Learning.{Learning, first_unlearnt, prefix, unlearnt_from, with_learnt, HearsVote, HearsDecided}
+use Rattle.learner.specs.Learning.{Learning, first_unlearnt, prefix, skipped, unlearnt_from, with_learnt, HearsVote, HearsDecided}
 use Rattle.learner.specs.Learning.{ignores, hears, learns, ignores_decided, learns_decided}
 use Rattle.learner.specs.Prefixes.{IsLearntTo, IsPrefix}
 
@@ -145,3 +149,44 @@ pub decided_grows : (old new : Learning) (s : ℕ) (c : Command) (learned : Opti
 decided_grows old new s c learned (ignores_decided never none same) =
     with_none old new (ap (λ (l : Learning). l.first) same) (ap (λ (l : Learning). l.learnt) same)
 decided_grows old new s c learned (learns_decided open' is same) = with_one old new s c same
+
+-- ---- where slots are passed over
+-- the prefix is not before the first slot
+from_first : (l : Learning) → l.first ≤ prefix l
+from_first l = elim (same_or_not l.first SLOTS) [
+  | inl e ↦ (prefix_is l (omega (arith, e))).learnt_to.from
+  | inr apart ↦ elim apart [
+    | inl less ↦ (prefix_is l (omega (arith, less))).learnt_to.from
+    | inr more ↦ omega (arith, first_of_none l more)
+  ]
+]
+
+abbrev from_there : Learning → ℕ → Learning
+from_there l position = record l { first = position }
+
+module _ (l : Learning) (position : ℕ) where
+  skip_cases : (P : Learning → Type 0) → (prefix l < position → P (from_there l position)) → (position ≤ prefix l → P l)
+      → P (skipped l position)
+  skip_cases P passes stays = elim (cases_Bool (ltb (prefix l) position)) [
+    | inl e ↦ rw e (passes (grind (arith, nat_tests)))
+    | inr e ↦ rw e (stays (grind (arith, nat_tests)))
+  ]
+
+  pub skipped_grows : prefix l ≤ prefix (skipped l position)
+  skipped_grows = skip_cases (λ k. prefix l ≤ prefix k)
+      (λ above. omega (arith, above, from_first (from_there l position))) (λ _. omega arith)
+
+  pub skipped_reaches : position ≤ SLOTS → position ≤ prefix (skipped l position)
+  skipped_reaches _ = skip_cases (λ k. position ≤ prefix k) (λ _. from_first (from_there l position)) (λ reached. reached)
+
+  pub skipped_first : prefix l < position → (skipped l position).first ≡ position
+  skipped_first above = skip_cases (λ k. k.first ≡ position) (λ _. refl) (λ reached. absurd (omega (arith, above, reached)))
+
+  pub skipped_stands : (m : Volatile Command) → LearnerStands l m → LearnerStands (skipped l position) m
+  skipped_stands m s = skip_cases (λ k. LearnerStands k m) (λ _. record { learnt = s.learnt; heard = s.heard }) (λ _. s)
+
+  pub skipped_on : prefix l < position → skipped l position ≡ from_there l position
+  skipped_on above = skip_cases (λ k. k ≡ from_there l position) (λ _. refl) (λ reached. absurd (omega (arith, above, reached)))
+
+  pub skipped_none : position ≤ prefix l → skipped l position ≡ l
+  skipped_none reached = skip_cases (λ k. k ≡ l) (λ above. absurd (omega (arith, above, reached))) (λ _. refl)

@@ -1,5 +1,5 @@
 -- What a learner has heard of votes and what it has learnt, and what it makes of the news.
-use Rattle.std.specs.Prelude.{◌≡◌, ◌≢◌, ℕ, zero, suc, ◌-◌, ◌<◌, ◌≤◌, ◌&&◌, nat_eq, Bool, Option, Some, None, is_some, if◌then◌else◌}
+use Rattle.std.specs.Prelude.{◌≡◌, ◌≢◌, ℕ, zero, suc, ◌-◌, ◌<◌, ◌≤◌, ◌&&◌, nat_eq, nat_lt, Bool, Option, Some, None, is_some, if◌then◌else◌}
 use Rattle.synod.specs.Majorities.{Majority}
 use Rattle.synod.specs.Records.{put}
 use Rattle.synod.specs.declared.ballot.Ballot.{Ballot}
@@ -45,6 +45,11 @@ first_unlearnt learnt s (suc n) = if is_some (learnt s) then first_unlearnt lear
 -- the first slot that isn't learnt, of those that are kept; where all of them are, the number of slots
 unfoldable pub prefix : Learning → ℕ
 prefix l = first_unlearnt l.learnt l.first (SLOTS - l.first)
+
+-- ---- what is passed over
+-- slots are kept from this one on, where the prefix doesn't reach it; what is learnt below stays learnt
+abbrev pub skipped : Learning → ℕ → Learning
+skipped l position = if nat_lt (prefix l) position then record l { first = position } else l
 
 -- ---- the news of a vote
 -- the two ballots are one

@@ -2,13 +2,15 @@
 //!
 //! Each law is the contract of a function that does nothing.
 
-ghost use Rattle.std.specs.Prelude.{◌≡◌, ◌≤◌, ℕ, Option};
+ghost use Rattle.std.specs.Prelude.{◌≡◌, ◌<◌, ◌≤◌, ℕ, Option};
 ghost use Rattle.synod.specs.declared.vote.Vote.{Vote};
 ghost use Rattle.synod.specs.Messages.{Accepted, Decided};
 ghost use Rattle.synod.specs.Acts.{Fleet, Input, Local, Came, Brings};
 ghost use Rattle.sessions.specs.declared.command.Command.{Command};
 ghost use Rattle.learner.specs.declared.learned.Learned.{Learned};
-ghost use Rattle.learner.specs.Learning.{Learning, prefix, HearsVote, HearsDecided};
+ghost use Rattle.learner.specs.Learning.{Learning, prefix, skipped, HearsVote, HearsDecided};
+ghost use Rattle.synod.specs.Volatile.{Volatile};
+ghost use Rattle.synod.specs.declared.slot.TheConstants.{SLOTS};
 ghost use Rattle.learner.specs.Protocol.{LearnerStands, MayLearn};
 
 /// What a learner makes of the news of a vote that has come is allowed.
@@ -31,4 +33,13 @@ pub fn prefix_never_falls()
         → HearsVote old from v learned new → prefix old ≤ prefix new }
     ensures decided { (old new : Learning) (s : ℕ) (c : Command) (learned : Option Learned)
         → HearsDecided old s c learned new → prefix old ≤ prefix new }
+{}
+
+/// A learner may pass over slots for which a snapshot stands: it stands for the same mind then, and its prefix lies at their end or
+/// further on.
+pub fn skipping_is_allowed()
+    ensures stands { (l : Learning) (m : Volatile Command) (position : ℕ) → LearnerStands l m → LearnerStands (skipped l position) m }
+    ensures prefix { (l : Learning) (position : ℕ) → prefix l ≤ prefix (skipped l position) }
+    ensures reached { (l : Learning) (position : ℕ) → position ≤ SLOTS → position ≤ prefix (skipped l position) }
+    ensures first { (l : Learning) (position : ℕ) → prefix l < position → (skipped l position).first ≡ position }
 {}

@@ -48,6 +48,16 @@ impl Known {
         }
     }
 
+    /// The row is to begin at this slot, unless something lies in it.
+    pub(super) fn skip_to(&mut self, from: u32)
+        ensures learnt { known_learnt self.new ≡ known_learnt self.old }
+        ensures heard { known_heard self.new ≡ known_heard self.old }
+    {
+        if self.settled.is_empty() {
+            self.from = from;
+        }
+    }
+
     /// The command of a slot of the row.
     fn settled_at(&self, slot: Slot) -> Option<&Held>
         ensures { option_copied result ≡ row_from self.now.from self.now.settled.items slot }

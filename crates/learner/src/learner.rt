@@ -41,7 +41,7 @@ impl Drop for Learner {
 }
 
 impl Learner {
-    ghost use Rattle.learner.specs.Learning.{unlearnt, unlearnt_from, learnt_at, prefix, IsOpen, Counts, IsUntold, HearsVote, HearsDecided};
+    ghost use Rattle.learner.specs.Learning.{unlearnt, unlearnt_from, learnt_at, prefix, skipped, IsOpen, Counts, IsUntold, HearsVote, HearsDecided};
     ghost use Rattle.learner.specs.State.{learning_of};
 
     /// Nothing is heard or learnt yet.
@@ -88,6 +88,20 @@ impl Learner {
         ensures counted { IsPrefix (learnt_at (learning_of self.now)) (learning_of self.now).first result }
     {
         self.prefix
+    }
+
+    /// Slots below this one aren't waited for any more, as a snapshot stands for them: one that isn't learnt never is, and one that is
+    /// stays so. Where all slots up to there are learnt, nothing changes.
+    pub fn skip_to(&mut self, position: u32)
+        requires { position ≤ SLOTS }
+        ensures { learning_of self.new ≡ skipped (learning_of self.old) position }
+    {
+        if position <= self.prefix {
+            return;
+        }
+        self.first = position;
+        self.slots.skip_to(position);
+        self.prefix = self.slots.first_unlearnt(position);
     }
 
     /// A node tells that it voted so. The slot is learnt in the very call in which a majority of different nodes has

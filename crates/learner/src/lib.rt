@@ -13,7 +13,7 @@ mod slots;
 mod tallies;
 mod tally;
 
-pub use allowed::{decided_is_allowed, prefix_never_falls, vote_is_allowed};
+pub use allowed::{decided_is_allowed, prefix_never_falls, skipping_is_allowed, vote_is_allowed};
 pub use learned::Learned;
 pub use learner::Learner;
 pub use prefixes::prefix_is_first_unlearnt;

@@ -1,8 +1,8 @@
 -- Proposals of slots that are settled may be closed.
 use Rattle.std.proofs.Common.{◌≡◌, ◌⊎◌, ℕ, ◌==◌, Bool, true, false, cond, not, inl, inr, Option, Some, None, max, ◌+◌, refl, sym, ap, ◌∙◌}
-use Rattle.std.proofs.Common.{subst}
+use Rattle.std.proofs.Common.{subst, ◌<◌, ◌≤◌, leb, arith}
 use Rattle.std.proofs.lemmas.Bool.{cond_both}
-use Rattle.std.proofs.lemmas.Bool.Decides.{eqb_tells}
+use Rattle.std.proofs.lemmas.Bool.Decides.{eqb_tells, nat_tests}
 use Rattle.synod.specs.Volatile as synod_volatile
 use Rattle.synod.specs.Volatile.{IsSettled}
 use Rattle.synod.specs.Acts as act
@@ -10,7 +10,7 @@ use Rattle.synod.specs.Acts.{Fleet, Input, Local, Does, MayClose, campaigns}
 use Rattle.synod.proofs.Doing.{does_nothing, does_one}
 use Rattle.sessions.specs.declared.command.Command.{Command}
 use Rattle.proposer.specs.Campaigning.{Campaigning}
-use Rattle.proposer.specs.Proposing.{Proposing, learnt_in, after_learned}
+use Rattle.proposer.specs.Proposing.{Proposing, learnt_in, after_learned, closed_to, skipped_to}
 use Rattle.proposer.specs.Protocol.{CampaignStands, CampaignsStand, ProposerStands, proposed_at, MayHold}
 use Rattle.proposer.proofs.Proposed.{left, proposed_left, apart_left, stands_with}
 
@@ -79,3 +79,29 @@ module _ (f : Fleet Command) (i : ℕ) (input : Input Command) (x : Local Comman
 
   pub learned_lem : MayHold f i input x (after_learned p slot)
   learned_lem = learnt_cases p.campaign stands.campaign
+
+-- ---- slots for which a snapshot stands
+is_below : (position s : ℕ) → leb position s ≡ false → s < position
+is_below position s e = grind (arith, nat_tests)
+
+module _ (f : Fleet Command) (i : ℕ) (input : Input Command) (x : Local Command) (p : Proposing) (position : ℕ)
+    (reached : position ≤ x.mind.position) (stands : ProposerStands p x) where
+  skipped_cases : (o : Option Campaigning) → CampaignsStand o x.mind.campaign
+      → MayHold f i input x (record p { campaign = closed_to position o })
+  skipped_cases None h = record {
+    campaign = x.mind.campaign;
+    does = does_nothing f i input x;
+    stands = record { round = stands.round; campaign = h; waiting = stands.waiting };
+  }
+  skipped_cases (Some k) h = record {
+    campaign = Some (closing (leb position) k h.0);
+    does = closes (leb position) k h.0 h.2 f i input x h.1 (λ s e. inl (omega (arith, is_below position s e, reached)));
+    stands = record {
+      round = stands.round;
+      campaign = (closing (leb position) k h.0, refl, closing_stands (leb position) k h.0 h.2);
+      waiting = stands.waiting;
+    };
+  }
+
+  pub skipped_lem : MayHold f i input x (skipped_to p position)
+  skipped_lem = skipped_cases p.campaign stands.campaign

@@ -68,6 +68,14 @@ learnt_in slot (Some k) = Some (closed slot k)
 abbrev pub after_learned : Proposing → ℕ → Proposing
 after_learned p slot = record p { learnt_to = max p.learnt_to (slot + 1); campaign = learnt_in slot p.campaign }
 
+-- a snapshot stands for the slots below this one: no proposal for them is open any more
+abbrev pub closed_to : ℕ → Option Campaigning → Option Campaigning
+closed_to position None = None
+closed_to position (Some k) = Some (closed_below position k)
+
+abbrev pub skipped_to : Proposing → ℕ → Proposing
+skipped_to p position = record p { campaign = closed_to position p.campaign }
+
 -- ---- a leader proposes
 -- a campaign leads
 abbrev pub is_led : Option Campaigning → Bool

@@ -16,7 +16,7 @@ ghost use Rattle.learner.specs.Protocol.{LearnerStands};
 ghost use Rattle.proposer.specs.declared.outgoing.Outgoing.{Outgoing};
 ghost use Rattle.proposer.specs.Requests.{without};
 ghost use Rattle.proposer.specs.Proposing.{Proposing, loaded, next_round, StartsCampaign, with_promised, after_nack, after_learned};
-ghost use Rattle.proposer.specs.Proposing.{proposes, sends_again};
+ghost use Rattle.proposer.specs.Proposing.{proposes, sends_again, skipped_to};
 ghost use Rattle.proposer.specs.Protocol.{ProposerStands, MayHold, MaySend, MayCome, submitting, advancing, stopping, frames_of};
 ghost use Rattle.proposer.specs.Protocol.{frames_of_all};
 
@@ -92,4 +92,10 @@ pub fn stop_is_allowed()
     ensures written { (f : Fleet Command) (i : ℕ) (input : Input Command) (x : Local Command) (p : Proposing)
         → p.id ≡ i → p.id < 7 → ProposerStands p x
         → MayCome f i input x (loaded p.id p.nodes (next_round p)) (stopping x (with_round x.records (next_round p))) }
+{}
+
+/// Where the log is executed past them by a snapshot, the proposals for the slots below may be closed.
+pub fn skipping_is_allowed()
+    ensures { (f : Fleet Command) (i : ℕ) (input : Input Command) (x : Local Command) (p : Proposing) (position : ℕ)
+        → position ≤ x.mind.position → ProposerStands p x → MayHold f i input x (skipped_to p position) }
 {}

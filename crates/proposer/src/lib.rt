@@ -17,8 +17,8 @@ mod window;
 
 pub use allowed::{
     advance_is_allowed, execution_is_allowed, learning_is_allowed, nack_is_allowed,
-    promise_is_allowed, proposing_is_allowed, stop_is_allowed, submission_is_allowed,
-    tick_is_allowed, timeout_is_allowed,
+    promise_is_allowed, proposing_is_allowed, skipping_is_allowed, stop_is_allowed,
+    submission_is_allowed, tick_is_allowed, timeout_is_allowed,
 };
 pub use fault::{SubmitFault, TimeoutFault};
 pub use outgoing::{Outgoing, Recipients};

@@ -11,7 +11,7 @@ ghost use Rattle.learner.specs.Learning.{prefix};
 ghost use Rattle.learner.specs.State.{learning_of};
 ghost use Rattle.proposer.specs.Campaigning.{BringsVotes};
 ghost use Rattle.proposer.specs.Requests.{is_of, without};
-ghost use Rattle.proposer.specs.Proposing.{loaded, next_round, StartsCampaign, with_promised, after_nack, after_learned, is_led};
+ghost use Rattle.proposer.specs.Proposing.{loaded, next_round, StartsCampaign, with_promised, after_nack, after_learned, skipped_to, is_led};
 ghost use Rattle.proposer.specs.Proposing.{gathers_on, proposes, sends_again};
 
 use super::campaign::Campaign;
@@ -248,6 +248,15 @@ impl Proposer {
             return;
         };
         campaign.close(slot);
+    }
+
+    /// A snapshot stands for the slots below this one: no proposal for them is open any more.
+    pub fn skip_to(&mut self, position: u32)
+        ensures { self.new ≡ skipped_to self.old position }
+    {
+        if let Some(campaign) = &mut self.campaign {
+            campaign.close_below(position);
+        }
     }
 
     /// The request of this client and number is executed: whether it waited. It waits no more.

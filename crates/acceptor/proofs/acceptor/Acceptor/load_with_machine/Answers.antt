@@ -25,27 +25,27 @@ invariant_of-loaded g c =
 pub returns-in_err-take_in-clause-device : goal.returns-in_err-take_in-clause-device
 returns-in_err-take_in-clause-device g c = λ device.
     let law = g.met.S.Stable.laws in
-    let before = law.reads_reads _ _ _ c.in_ok-keys.ensures.ok c.loop-key.invariant.0 in
+    let before = law.reads_reads _ _ _ (law.looks_reads _ _ c.in_ok-keys.ensures.ok) c.loop-key.invariant.0 in
     law.reads_read_fails _ _ _ before (c.in_err-take_in.ensures.device (search rules))
 
 pub returns-in_err-take_in-clause-memory : goal.returns-in_err-take_in-clause-memory
 returns-in_err-take_in-clause-memory g c = λ memory.
     let law = g.met.S.Stable.laws in
-    let before = law.reads_reads _ _ _ c.in_ok-keys.ensures.ok c.loop-key.invariant.0 in
-    law.reads_reads _ _ _ before (c.in_err-take_in.ensures.memory (search rules))
+    let later = law.reads_reads _ _ _ c.loop-key.invariant.0 (c.in_err-take_in.ensures.memory (search rules)) in
+    law.looks_then_reads _ _ _ c.in_ok-keys.ensures.ok later
 
 pub returns-in_err-take_in-clause-damaged : goal.returns-in_err-take_in-clause-damaged
 returns-in_err-take_in-clause-damaged g c = λ damaged.
     let law = g.met.S.Stable.laws in
-    let before = law.reads_reads _ _ _ c.in_ok-keys.ensures.ok c.loop-key.invariant.0 in
-    law.reads_reads _ _ _ before (c.in_err-take_in.ensures.damaged (search rules))
+    let later = law.reads_reads _ _ _ c.loop-key.invariant.0 (c.in_err-take_in.ensures.damaged (search rules)) in
+    law.looks_then_reads _ _ _ c.in_ok-keys.ensures.ok later
 
 pub returns-in_err-take_in-clause-damaged_record : goal.returns-in_err-take_in-clause-damaged_record
 returns-in_err-take_in-clause-damaged_record g c = λ honest damaged.
     let law = g.met.S.Stable.laws in
     let reads = c.in_err-take_in.ensures.damaged (search rules) in
     let still = law.reads_honest _ _ reads honest in
-    let before = law.reads_reads _ _ _ c.in_ok-keys.ensures.ok c.loop-key.invariant.0 in
+    let before = law.reads_reads _ _ _ (law.looks_reads _ _ c.in_ok-keys.ensures.ok) c.loop-key.invariant.0 in
     let same = law.reads_contents _ _ before still in
     inr (rw same at (c.in_err-take_in.ensures.damaged_record honest (search rules)))
 
@@ -56,7 +56,7 @@ loop-key-preserved g c =
     let keys = c.deref-key-items.result.now in
     let i = c.loop-key.key-index in
     let lt : i < length keys = omega arith in
-    let read = law.reads_reads _ _ _ c.in_ok-keys.ensures.ok c.loop-key.invariant.0 in (
+    let read = law.reads_reads _ _ _ (law.looks_reads _ _ c.in_ok-keys.ensures.ok) c.loop-key.invariant.0 in (
       law.reads_reads _ _ _ c.loop-key.invariant.0 c.in_ok-take_in.ensures.reads,
       λ honest.
           let still = law.reads_honest _ _ c.in_ok-take_in.ensures.reads honest in
@@ -118,8 +118,8 @@ returns-clause-no_stray g c = λ honest.
     let law = g.met.S.Stable.laws in
     c.in_ok-keys.ensures.no_stray (law.reads_honest _ _ c.loop-key.invariant.0 honest)
 
-pub returns-clause-reads : goal.returns-clause-reads
-returns-clause-reads g c = g.met.S.Stable.laws.reads_reads _ _ _ c.in_ok-keys.ensures.ok c.loop-key.invariant.0
+pub returns-clause-looks : goal.returns-clause-looks
+returns-clause-looks g c = g.met.S.Stable.laws.looks_then_reads _ _ _ c.in_ok-keys.ensures.ok c.loop-key.invariant.0
 
 pub returns-clause-settled : goal.returns-clause-settled
 returns-clause-settled g c = g.met.S.Stable.laws.reads_settled _ _ c.loop-key.invariant.0 c.in_ok-keys.ensures.settled

@@ -1,4 +1,5 @@
-use Rattle.std.proofs.Common.{rules, ◌≡◌, ◌∙◌, ◌≤◌, ℕ, Option, None, Some, inl, inr, refl, sym, arith}
+use mathlib.Core.Path.{fun_ext}
+use Rattle.std.proofs.Common.{rules, ◌≡◌, ◌∙◌, ◌≤◌, ℕ, Option, None, Some, inl, inr, refl, sym, ap, arith}
 use Rattle.std.proofs.lemmas.Bool.Decides.{eqb_tells}
 use Rattle.synod.specs.Ballots.{rank, rank_of}
 use Rattle.synod.specs.declared.ballot.Ballot.{Ballot}
@@ -26,6 +27,27 @@ returns-in_err-cast-clause-device g c = λ device.
       cast_write a vote taken (λ told. let has = c.has.ensures.1 told in search rules),
       search rules,
     )
+
+-- the vote is cast, or stood there already
+stands_already : (f : ℕ → Option (Vote Command)) (slot : ℕ) (v : Vote Command) → f slot ≡ Some v → (s : ℕ) → f s ≡ put f slot (Some v) s
+stands_already f slot v here s = elim (eqb_tells s slot) [
+  | inl same ↦ rw same.0 (ap f same.1 ∙ here)
+  | inr apart ↦ rw apart.0 refl
+]
+
+pub returns-clause-state : goal.returns-clause-state
+returns-clause-state g c =
+    let a = accepting_of c.args.self.now in
+    let vote = c.args.vote in
+    let taken : verdict a vote.ballot vote.slot ≡ Taken =
+    taken_unless_away (verdict a vote.ballot vote.slot) vote.ballot (sym c.in_default.ensures) in
+    elim c.if-not-has.branch [
+      | then-not-has+in_ok-cast w ↦ rw (taken, w.self-is)
+          (ap (λ (f : ℕ → Option (Vote Command)). record a { promise = Some vote.ballot; vote = f }) (fun_ext w.in_ok-cast.ensures.votes))
+      | else-not-has w ↦ rw (taken, w.self-is)
+          (ap (λ (f : ℕ → Option (Vote Command)). record a { promise = Some vote.ballot; vote = f })
+          (fun_ext (stands_already a.vote vote.slot vote (c.has.ensures.0 (search rules)))))
+    ]
 
 -- the vote was written, or stood there already
 pub returns-clause-written : goal.returns-clause-written
