@@ -1,6 +1,6 @@
 -- What a node makes of an input by which it learns nothing is allowed.
 use Rattle.std.proofs.Common.{◌≡◌, ℕ, ◌<◌, ◌≤◌, List, [], ◌∷◌, ◌++◌, map, refl, sym, ap, ◌∙◌, subst, append-nil}
-use Rattle.std.proofs.Common.{le_refl}
+use Rattle.std.proofs.Common.{le_refl, Bool, true, false, Option, Some}
 use Rattle.std.proofs.lemmas.Bool.{cond_both}
 use Rattle.std.proofs.lemmas.List.{map-append}
 use Rattle.synod.specs.declared.ballot.Ballot.{Ballot}
@@ -24,15 +24,19 @@ use Rattle.proposer.proofs.AllowedPromise.{promise_lem}
 use Rattle.proposer.proofs.AllowedPropose.{propose_lem}
 use Rattle.proposer.proofs.AllowedTick.{tick_lem, submit_last_lem, submit_again_lem}
 use Rattle.wire.specs.Promises.{Promised, Refused}
-use Rattle.wire.specs.declared.frames.message.Message.TheVariants.{Prepare, Promise, Nack, Accept, Ask}
+use Rattle.wire.specs.declared.frames.envelope.Envelope.{Envelope}
+use Rattle.wire.specs.declared.frames.message.Message.TheVariants.{Prepare, Promise, Nack, Accept, Ask, SnapAsk, Behind}
 use Rattle.minds.specs.declared.input.Input.TheVariants as input
+use Rattle.minds.specs.Fetching.{Fetching, nothing_of}
 use Rattle.minds.specs.Minds.{Mind, position, asked, waits}
 use Rattle.minds.specs.Outputs.{Response, sent, silence}
 use Rattle.minds.specs.Protocol.{fleet, message_of, frame_of, MindStands, MayComeTo}
-use Rattle.minds.specs.Sending.{envelopes, answer_sends, decided_sends, ask_others}
+use Rattle.minds.specs.Sending.{envelopes, answer_sends, decided_sends, snapshot_sends, to_others}
 use Rattle.minds.specs.Taking.{Takes, TakesMessage, proposer_sends, proposed, begins_to_lead, after_promise, with_request, after_submit}
-use Rattle.minds.proofs.AllowedSends.{outgoing_frames, proposer_frames, answered_frames, ask_others_plain, says_sends, tells_decided}
-use Rattle.minds.proofs.AllowedGoing.{MayGo, proposer_changed, stays, goes_then, goes_saying, goes_answering, goes_holding}
+use Rattle.minds.specs.Taking.{HearsOfFloor, is_ahead, asks_again}
+use Rattle.minds.proofs.AllowedSends.{ArePlainFrom, outgoing_frames, proposer_frames, answered_frames, asks_plain, says_sends}
+use Rattle.minds.proofs.AllowedSends.{tells_decided, snapshot_plain, others_plain}
+use Rattle.minds.proofs.AllowedGoing.{MayGo, proposer_changed, stays, goes_then, goes_saying, goes_fetching, goes_answering, goes_holding}
 use Rattle.minds.proofs.AllowedGoing.{goes_writing, checkpoint_written, trim_written, goes_sending, goes_to}
 
 -- ---- a proposer proposes
@@ -75,9 +79,34 @@ module _ (old new : Mind) (said : Response) (x : Local Command) (stands : MindSt
   pub ask_case : (from slot : ℕ) → TakesMessage old from (Ask slot) new said → May (act.Came from (message_of (Ask slot)))
   ask_case from slot (leaves, says) =
       let in' : act.Input Command = act.Came from (message_of (Ask slot)) in
-      goes_to old.nodes old.id in' x old new said (decided_sends old.id from slot (learnt_at old.learning slot)) _ leaves says refl
+      let floor : ℕ = old.accepting.floor in
+      goes_to old.nodes old.id in' x old new said (decided_sends old.id from slot floor (learnt_at old.learning slot)) _ leaves says refl
       (goes_saying old.nodes old.id in' x old _ stands
-      (tells_decided (fleet old.nodes) old.id in' x from slot (learnt_at old.learning slot) (stands.learner.learnt slot)))
+      (tells_decided (fleet old.nodes) old.id in' x from slot floor (learnt_at old.learning slot) (stands.learner.learnt slot)))
+
+  -- ---- what safety says nothing of
+  -- it sends such messages, and what it fetches may change
+  pub plain_case : (in' : act.Input Command) (f : Option Fetching) (sends : List Envelope) → ArePlainFrom old.id sends
+      → new ≡ record old { fetching = f } → said ≡ sent sends → May in'
+  plain_case in' f sends plain leaves says =
+      goes_to old.nodes old.id in' x (record old { fetching = f }) new said sends (map frame_of sends) leaves says refl
+      (goes_fetching old.nodes old.id in' x old f (map frame_of sends)
+      (goes_saying old.nodes old.id in' x old (map frame_of sends) stands
+      (says_sends (fleet old.nodes) old.id in' x sends plain)))
+
+  pub snap_ask_case : (in' : act.Input Command) (from target number : ℕ) → TakesMessage old from (SnapAsk target number) new said → May in'
+  snap_ask_case in' from target number (leaves, says) =
+      plain_case in' old.fetching (snapshot_sends old.accepting old.id from target number)
+      (snapshot_plain old.accepting old.id from target number) leaves says
+
+  floor_case : (in' : act.Input Command) (floor : ℕ) (b : Bool) → HearsOfFloor old floor b new said → May in'
+  floor_case in' floor false (leaves, says) = idle_case in' leaves says
+  floor_case in' floor true (leaves, says) =
+      plain_case in' (Some (nothing_of floor)) (to_others old.id old.nodes (SnapAsk floor 0))
+      (others_plain old.id old.nodes (SnapAsk floor 0) refl) leaves says
+
+  pub behind_case : (in' : act.Input Command) (from floor : ℕ) → TakesMessage old from (Behind floor) new said → May in'
+  behind_case in' from floor h = floor_case in' floor (is_ahead old floor) h
 
   -- ---- the proposer
   pub nack_case : (from : ℕ) (n : Refused) → TakesMessage old from (Nack n) new said → May (act.Came from (message_of (Nack n)))
@@ -100,10 +129,11 @@ module _ (old new : Mind) (said : Response) (x : Local Command) (stands : MindSt
       let first : MayGo old.nodes old.id act.Nothing x old (frames_of_all old.id old.nodes again) =
       goes_sending old.nodes old.id act.Nothing x old old.proposing (frames_of_all old.id old.nodes again) stands
       (tick_lem (fleet old.nodes) old.id act.Nothing x old.proposing stands.proposer old.nodes) in
-      let asks = ask_others old.id old.nodes (position old) in
+      let asks = asks_again old in
       let next : MayGo old.nodes old.id act.Nothing first.after old (map frame_of asks) =
       goes_saying old.nodes old.id act.Nothing first.after old (map frame_of asks) first.stands
-      (says_sends (fleet old.nodes) old.id act.Nothing first.after asks (ask_others_plain old.id old.nodes (position old))) in
+      (says_sends (fleet old.nodes) old.id act.Nothing first.after asks
+      (asks_plain old.id old.nodes (position old) old.fetching)) in
       goes_to old.nodes old.id act.Nothing x old new said (envelopes old.id old.nodes again ++ asks) _ leaves says
       (map-append frame_of (envelopes old.id old.nodes again) asks
       ∙ ap (λ l. l ++ map frame_of asks) (proposer_frames old.id old.nodes again))

@@ -1,5 +1,5 @@
 -- What stands for a node after some acts of it.
-use Rattle.std.proofs.Common.{◌≡◌, ℕ, ◌≤◌, List, [], ◌++◌, map, refl, sym, ap, ◌∙◌, subst, append_assoc, append-nil, arith}
+use Rattle.std.proofs.Common.{◌≡◌, ℕ, ◌≤◌, Option, List, [], ◌++◌, map, refl, sym, ap, ◌∙◌, subst, append_assoc, append-nil, arith}
 use Rattle.synod.specs.Messages.{Frame}
 use Rattle.synod.specs.Acts as act
 use Rattle.synod.specs.Acts.{Local, Does}
@@ -13,6 +13,7 @@ use Rattle.acceptor.proofs.AllowedLemmas.{checkpoint_writes, trim_stands}
 use Rattle.proposer.specs.Proposing.{Proposing}
 use Rattle.proposer.specs.Protocol.{ProposerStands, MayHold, MaySend}
 use Rattle.wire.specs.declared.frames.envelope.Envelope.{Envelope}
+use Rattle.minds.specs.Fetching.{Fetching}
 use Rattle.minds.specs.Minds.{Mind, position}
 use Rattle.minds.specs.Outputs.{Response, sent}
 use Rattle.minds.specs.Protocol.{fleet, frame_of, MindStands, MayComeTo}
@@ -54,6 +55,11 @@ pub machine_changed : (m : Mind) (x : Local Command) (machine : MachineState) �
 machine_changed m x machine s =
     record { records = s.records; learner = s.learner; proposer = s.proposer; position_ = s.position_; level = s.level }
 
+-- nor is what is fetched
+pub fetching_changed : (m : Mind) (x : Local Command) (f : Option Fetching) → MindStands m x → MindStands (record m { fetching = f }) x
+fetching_changed m x f s =
+    record { records = s.records; learner = s.learner; proposer = s.proposer; position_ = s.position_; level = s.level }
+
 module _ (nodes i : ℕ) (input : act.Input Command) where
   -- ---- ways
   -- it stays where it is
@@ -91,6 +97,18 @@ module _ (nodes i : ℕ) (input : act.Input Command) where
     sent_ = refl;
     learnt = refl;
     submitted = refl;
+  }
+
+  -- it comes to fetch something else
+  pub goes_fetching : (x : Local Command) (m : Mind) (f : Option Fetching) (frames : List (Frame Command))
+      → MayGo nodes i input x m frames → MayGo nodes i input x (record m { fetching = f }) frames
+  goes_fetching x m f frames g = record {
+    after = g.after;
+    does = g.does;
+    stands = fetching_changed m g.after f g.stands;
+    sent_ = g.sent_;
+    learnt = g.learnt;
+    submitted = g.submitted;
   }
 
   -- its acceptor answers, and has the floor that it had

@@ -25,13 +25,14 @@ use Rattle.proposer.proofs.AllowedMoves.{execution_lem, advance_lem}
 use Rattle.wire.specs.declared.frames.envelope.Envelope.{Envelope}
 use Rattle.wire.specs.declared.frames.message.Message.TheVariants.{Accepted, Decided}
 use Rattle.minds.specs.Executing.{Executing, executing, executed}
+use Rattle.minds.specs.Fetching.{still_fetched}
 use Rattle.minds.specs.Minds.{Mind, position}
 use Rattle.minds.specs.Outputs.{Response, silence}
 use Rattle.minds.specs.Protocol.{fleet, message_of, frame_of, MindStands, MayComeTo}
 use Rattle.minds.specs.Sending.{ask_sends}
 use Rattle.minds.specs.Taking.{TakesMessage, Hears, Learns, executing_of, execution, news, proposer_of, after_news, proposer_sends}
 use Rattle.minds.proofs.AllowedSends.{ArePlainFrom, proposer_frames, ask_plain, says_sends}
-use Rattle.minds.proofs.AllowedGoing.{MayGo, machine_changed, goes_then, goes_saying, goes_holding}
+use Rattle.minds.proofs.AllowedGoing.{MayGo, machine_changed, fetching_changed, goes_then, goes_saying, goes_holding}
 use Rattle.minds.proofs.AllowedCases.{goes_proposing}
 
 -- ---- what is executed waits no more
@@ -40,7 +41,7 @@ module _ (f : Fleet Command) (i : ℕ) (in' : act.Input Command) (p : Proposing)
   abbrev waiting_at : List Asked → Proposing
   waiting_at rs = record p { waiting = rs }
 
-  holds_then : (x : Local Command) (q : Proposing) (first : MayHold f i in' x q) (r : Proposing)
+  pub holds_then : (x : Local Command) (q : Proposing) (first : MayHold f i in' x q) (r : Proposing)
       → MayHold f i in' (record x { mind = record x.mind { campaign = first.campaign } }) r → MayHold f i in' x r
   holds_then x q first r next = record {
     campaign = next.campaign;
@@ -48,7 +49,7 @@ module _ (f : Fleet Command) (i : ℕ) (in' : act.Input Command) (p : Proposing)
     stands = next.stands;
   }
 
-  execution_holds : (cs : List Command) (e : Executing) (slot : ℕ) (x : Local Command) → ProposerStands (waiting_at e.waiting) x
+  pub execution_holds : (cs : List Command) (e : Executing) (slot : ℕ) (x : Local Command) → ProposerStands (waiting_at e.waiting) x
       → MayHold f i in' x (waiting_at (executed e slot cs).waiting)
   execution_holds [] e slot x h = record { campaign = x.mind.campaign; does = does_nothing f i in' x; stands = h }
   execution_holds (NoOp ∷ cs) e slot x h = execution_holds cs (executing e slot NoOp) (suc slot) x h
@@ -159,10 +160,12 @@ module _ (old : Mind) (some_node : 1 ≤ old.nodes) (in' : act.Input Command) (x
         learning = l;
         proposing = (after_news old n.slot l).0;
         machine = (execution old l).machine;
+        fetching = still_fetched (prefix l) old.fetching;
       })) (sym k.says) (record {
         after = g.after;
         does = does_then (fleet old.nodes) old.id in' h.does g.does;
-        stands = machine_changed (record with_news { proposing = (after_news old n.slot l).0 }) g.after (execution old l).machine g.stands;
+        stands = fetching_changed _ g.after (still_fetched (prefix l) old.fetching)
+            (machine_changed (record with_news { proposing = (after_news old n.slot l).0 }) g.after (execution old l).machine g.stands);
         sent = g.sent_ ∙ ap (λ fs. fs ++ frames) h.sent ∙ ap (λ fs. x.sent ++ fs) (sym same);
         learnt = g.learnt ∙ h.learnt;
         submitted = g.submitted ∙ h.submitted ∙ sym (append-nil x.submitted);

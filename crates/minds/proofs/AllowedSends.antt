@@ -1,7 +1,8 @@
 -- What the sends of a node are to the protocol.
 use Rattle.std.proofs.Common.{◌≡◌, ℕ, zero, suc, List, [], ◌∷◌, ◌++◌, map, filter, not, Bool, true, false, cond, Option, Some, None}
-use Rattle.std.proofs.Common.{nat_lt, refl, sym, ap, ◌∙◌, subst}
+use Rattle.std.proofs.Common.{◌==◌, if◌then◌else◌, nat_lt, refl, sym, ap, ◌∙◌, subst}
 use Rattle.std.specs.Prelude.{⊤}
+use Rattle.std.proofs.lemmas.Bool.{cond_both}
 use Rattle.std.proofs.lemmas.List.{map-append}
 use Rattle.synod.specs.Messages as synod
 use Rattle.synod.specs.Messages.{Frame, to_first}
@@ -10,6 +11,7 @@ use Rattle.synod.specs.Acts.{Fleet, Local, Input, Does}
 use Rattle.synod.specs.declared.slot.TheConstants.{SLOTS}
 use Rattle.synod.proofs.Doing.{sending, does_nothing, does_one, does_then}
 use Rattle.sessions.specs.declared.command.Command.{Command}
+use Rattle.acceptor.specs.Accepting.{Accepting}
 use Rattle.acceptor.specs.declared.answer.Answer.{Answer}
 use Rattle.acceptor.specs.declared.answer.Answer.TheVariants as answer
 use Rattle.acceptor.specs.Protocol.{answer_frames}
@@ -19,11 +21,15 @@ use Rattle.proposer.specs.declared.outgoing.Recipients.TheVariants.{All, Others}
 use Rattle.proposer.specs.Protocol.{frames_to, frames_of, frames_of_all}
 use Rattle.proposer.proofs.AllowedTick.{sending_nothing, sending_both}
 use Rattle.wire.specs.NodeSets.{has_node, no_nodes, with_node}
+use Rattle.wire.specs.Parts.{Piece, piece_of}
 use Rattle.wire.specs.declared.frames.envelope.Envelope.{Envelope}
 use Rattle.wire.specs.declared.frames.message.Message.{Message}
-use Rattle.wire.specs.declared.frames.message.Message.TheVariants.{Accepted, Ask}
+use Rattle.wire.specs.declared.frames.message.Message.TheVariants.{Accepted, Ask, SnapAsk, SnapPart, Behind}
+use Rattle.minds.specs.Fetching.{Fetching, next_part}
 use Rattle.minds.specs.Protocol.{message_of, frame_of}
 use Rattle.minds.specs.Sending.{to_one, to_all, to_recipients, envelopes_of, envelopes, answer_sends, decided_sends, ask_sends, ask_others}
+use Rattle.minds.specs.Sending.{to_others, part_sends, snapshot_sends}
+use Rattle.minds.specs.Taking.{asks_for}
 
 -- ---- which frames they are
 -- a message to all nodes
@@ -87,9 +93,12 @@ both_plain : (i : ℕ) (es gs : List Envelope) → ArePlainFrom i es → ArePlai
 both_plain i [] gs p q = q
 both_plain i (e ∷ es) gs p q = (p.0, both_plain i es gs p.1 q)
 
-all_ask : (i nodes slot : ℕ) → ArePlainFrom i (to_all i nodes (Ask slot))
-all_ask i zero slot = tt
-all_ask i (suc n) slot = both_plain i (to_all i n (Ask slot)) _ (all_ask i n slot) (record { sender = refl; plain = refl }, tt)
+pub one_plain : (i to : ℕ) (m : Message) → message_of m ≡ synod.Plain → ArePlainFrom i (to_one i to m)
+one_plain i to m plain = (record { sender = refl; plain = plain }, tt)
+
+all_plain : (i nodes : ℕ) (m : Message) → message_of m ≡ synod.Plain → ArePlainFrom i (to_all i nodes m)
+all_plain i zero m plain = tt
+all_plain i (suc n) m plain = both_plain i (to_all i n m) (to_one i n m) (all_plain i n m plain) (one_plain i n m plain)
 
 kept_plain : (i : ℕ) (b : Bool) (e : Envelope) (es : List Envelope) → IsPlainFrom i e → ArePlainFrom i es
     → ArePlainFrom i (cond b (e ∷ es) es)
@@ -107,12 +116,33 @@ if_plain i false es p = tt
 -- what asks one node, and what asks all others
 pub ask_plain : (i to position : ℕ) → ArePlainFrom i (ask_sends i to position)
 ask_plain i to position =
-    if_plain i (nat_lt position SLOTS) (to_one i to (Ask position)) (record { sender = refl; plain = refl }, tt)
+    if_plain i (nat_lt position SLOTS) (to_one i to (Ask position)) (one_plain i to (Ask position) refl)
+
+pub others_plain : (i nodes : ℕ) (m : Message) → message_of m ≡ synod.Plain → ArePlainFrom i (to_others i nodes m)
+others_plain i nodes m plain =
+    some_plain i (λ e. not (has_node (with_node no_nodes i) e.to)) (to_all i nodes m) (all_plain i nodes m plain)
 
 pub ask_others_plain : (i nodes position : ℕ) → ArePlainFrom i (ask_others i nodes position)
 ask_others_plain i nodes position =
-    if_plain i (nat_lt position SLOTS) (to_recipients (Others (with_node no_nodes i)) (to_all i nodes (Ask position)))
-    (some_plain i (λ e. not (has_node (with_node no_nodes i) e.to)) (to_all i nodes (Ask position)) (all_ask i nodes position))
+    if_plain i (nat_lt position SLOTS) (to_others i nodes (Ask position)) (others_plain i nodes (Ask position) refl)
+
+pub asks_plain : (i nodes position : ℕ) (o : Option Fetching) → ArePlainFrom i (asks_for i nodes position o)
+asks_plain i nodes position None = ask_others_plain i nodes position
+asks_plain i nodes position (Some f) = others_plain i nodes (SnapAsk f.target (next_part f)) refl
+
+-- what tells where a floor is, and what brings a part of a checkpoint's text
+pub behind_plain : (i to slot floor : ℕ) → ArePlainFrom i (if nat_lt slot floor then to_one i to (Behind floor) else [])
+behind_plain i to slot floor = if_plain i (nat_lt slot floor) (to_one i to (Behind floor)) (one_plain i to (Behind floor) refl)
+
+part_plain : (i to : ℕ) (o : Option Piece) → ArePlainFrom i (part_sends i to o)
+part_plain i to None = tt
+part_plain i to (Some p) = one_plain i to (SnapPart p) refl
+
+pub snapshot_plain : (a : Accepting) (i to position number : ℕ) → ArePlainFrom i (snapshot_sends a i to position number)
+snapshot_plain a i to position number =
+    cond_both (a.floor == position) (part_sends i to (piece_of position a.text number))
+    (if nat_lt position a.floor then to_one i to (Behind a.floor) else []) (λ (es : List Envelope). ArePlainFrom i es)
+    (λ _. part_plain i to (piece_of position a.text number)) (λ _. behind_plain i to position a.floor)
 
 -- ---- what may be sent
 frame_is_plain : (i : ℕ) (e : Envelope) → IsPlainFrom i e → record { sender = i; receiver = e.to; message = synod.Plain } ≡ frame_of e
@@ -130,8 +160,8 @@ module _ (f : Fleet Command) (i : ℕ) (input : Input Command) where
       subst (Does f i input x) (sending_both x (frame_of e ∷ []) (map frame_of es))
       (does_then f i input one (says_sends (sending x (frame_of e ∷ [])) es p.1))
 
-  -- what is learnt may be told
-  pub tells_decided : (x : Local Command) (to slot : ℕ) (o : Option Command) → x.mind.learnt slot ≡ o
-      → Does f i input x (sending x (map frame_of (decided_sends i to slot o)))
-  tells_decided x to slot None here = subst (Does f i input x) (sym (sending_nothing x)) (does_nothing f i input x)
-  tells_decided x to slot (Some c) here = does_one f i input x (act.Reports to slot c) here
+  -- what is learnt may be told, and where the floor is
+  pub tells_decided : (x : Local Command) (to slot floor : ℕ) (o : Option Command) → x.mind.learnt slot ≡ o
+      → Does f i input x (sending x (map frame_of (decided_sends i to slot floor o)))
+  tells_decided x to slot floor None here = says_sends x (decided_sends i to slot floor None) (behind_plain i to slot floor)
+  tells_decided x to slot floor (Some c) here = does_one f i input x (act.Reports to slot c) here

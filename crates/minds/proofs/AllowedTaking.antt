@@ -5,6 +5,7 @@ use Rattle.sessions.specs.declared.command.Command.{Command}
 use Rattle.wire.specs.declared.frames.envelope.Envelope.{Envelope}
 use Rattle.wire.specs.declared.frames.message.Message.{Message}
 use Rattle.wire.specs.declared.frames.message.Message.TheVariants.{Prepare, Promise, Nack, Accept, Accepted, Ask, Decided}
+use Rattle.wire.specs.declared.frames.message.Message.TheVariants.{SnapAsk, SnapPart, Behind}
 use Rattle.synod.specs.Acts as act
 use Rattle.minds.specs.declared.input.Input.{Input}
 use Rattle.minds.specs.declared.input.Input.TheVariants as input
@@ -15,8 +16,9 @@ use Rattle.minds.specs.Outputs.{Response}
 use Rattle.minds.specs.Protocol.{coming, message_of, MindStands, MayComeTo, MayTake}
 use Rattle.minds.specs.Taking.{Takes, TakesMessage, TakesEnvelope}
 use Rattle.minds.proofs.AllowedCases.{idle_case, prepare_case, accept_case, ask_case, nack_case, promise_case}
-use Rattle.minds.proofs.AllowedCases.{submit_case, timeout_case, tick_case, checkpoint_case, trim_case}
+use Rattle.minds.proofs.AllowedCases.{snap_ask_case, behind_case, submit_case, timeout_case, tick_case, checkpoint_case, trim_case}
 use Rattle.minds.proofs.AllowedLearning.{vote_case, decided_case}
+use Rattle.minds.proofs.AllowedRestoring.{part_case}
 use Rattle.minds.proofs.Between.{from_the_run}
 
 module _ (old new : Mind) (said : Response) (x : Local Command) (few : old.nodes ≤ 7) (there : old.id < old.nodes)
@@ -34,6 +36,9 @@ module _ (old new : Mind) (said : Response) (x : Local Command) (few : old.nodes
   message_lem from (Accepted v) sender h = vote_case old new said x stands some_node from v (sym own.learning) h
   message_lem from (Ask slot) sender h = ask_case old new said x stands from slot h
   message_lem from (Decided slot c) sender h = decided_case old new said x stands some_node from slot c h
+  message_lem from (SnapAsk target number) sender h = snap_ask_case old new said x stands _ from target number h
+  message_lem from (SnapPart p) sender h = part_case old new said x stands some_node _ from p h
+  message_lem from (Behind floor) sender h = behind_case old new said x stands _ from floor h
 
   envelope_lem : (e : Envelope) (b : Bool) → concerns old.id old.nodes e ≡ b → TakesEnvelope old e b new said
       → MayComeTo old.nodes old.id (coming e b) [] x new said

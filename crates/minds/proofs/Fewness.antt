@@ -1,7 +1,7 @@
 -- What a node says on one input is not much.
 use Rattle.std.proofs.Common.{◌≡◌, ◌||◌, ℕ, zero, suc, ◌+◌, ◌-◌, ◌*◌, ◌<◌, ◌≤◌, nat_lt, nat_le, min, Bool, true, false, cond, not, List, []}
 use Rattle.std.proofs.Common.{◌∷◌, length, filter, map, Option, Some, None, Result, Ok, Err, IfOk, IfSome, refl, sym, ap, ◌∙◌, subst}
-use Rattle.std.proofs.Common.{arith, is_some, ◌⊎◌, inl, inr}
+use Rattle.std.proofs.Common.{◌==◌, if◌then◌else◌, arith, is_some, ◌⊎◌, inl, inr}
 use Rattle.std.specs.List.{list_any}
 use Rattle.std.proofs.Math.Nat.{min-le_left}
 use Rattle.std.proofs.lemmas.Bool.{cond_both}
@@ -12,9 +12,10 @@ use Rattle.std.proofs.lemmas.List.Sums.{length-filter, count_by-le-length}
 use Rattle.synod.specs.declared.ballot.Ballot.{Ballot}
 use Rattle.synod.specs.declared.slot.TheConstants.{SLOTS}
 use Rattle.sessions.specs.Asked.{Asked}
+use Rattle.sessions.specs.Machines.{MachineState}
 use Rattle.sessions.specs.declared.command.Command.{Command}
 use Rattle.sessions.specs.declared.command.Command.TheVariants.{NoOp, Request}
-use Rattle.acceptor.specs.Accepting.{accept_answer}
+use Rattle.acceptor.specs.Accepting.{Accepting, accept_answer}
 use Rattle.acceptor.specs.declared.answer.Answer.{Answer}
 use Rattle.acceptor.specs.declared.answer.Answer.TheVariants as answer
 use Rattle.learner.specs.Learning.{Learning, prefix, learnt_at}
@@ -28,19 +29,25 @@ use Rattle.proposer.specs.declared.outgoing.Recipients.{Recipients}
 use Rattle.proposer.specs.declared.outgoing.Recipients.TheVariants.{All, Others}
 use Rattle.proposer.specs.declared.window.TheConstants.{MOST_OPEN}
 use Rattle.wire.specs.NodeSets.{has_node, no_nodes, with_node}
+use Rattle.wire.specs.Parts.{Piece, piece_of}
 use Rattle.wire.specs.declared.frames.envelope.Envelope.{Envelope}
 use Rattle.wire.specs.declared.frames.message.Message.{Message}
-use Rattle.wire.specs.declared.frames.message.Message.TheVariants.{Prepare, Promise, Nack, Accept, Accepted, Ask, Decided}
+use Rattle.wire.specs.declared.frames.message.Message.TheVariants.{Prepare, Promise, Nack, Accept, Accepted, Ask, Decided, SnapAsk, SnapPart, Behind}
 use Rattle.minds.specs.declared.fault.NodeFault.{NodeFault}
 use Rattle.minds.specs.declared.input.Input.{Input}
 use Rattle.minds.specs.declared.input.Input.TheVariants as input
 use Rattle.minds.specs.Executing.{Executing, executing, executed, reply_at}
+use Rattle.minds.specs.Fetching.{Fetching, next_part}
 use Rattle.minds.specs.Inputs.{concerns}
 use Rattle.minds.specs.Minds.{Mind, IsSmall, position, asked, waits}
 use Rattle.minds.specs.Outputs.{Response, IsFew}
-use Rattle.minds.specs.Sending.{to_one, to_all, to_recipients, envelopes_of, envelopes, answer_sends, decided_sends, ask_sends, ask_others}
+use Rattle.minds.specs.Sending.{to_one, to_all, to_recipients, envelopes_of, envelopes, answer_sends, decided_sends, ask_sends}
 use Rattle.minds.specs.Taking.{Takes, TakesEnvelope, TakesMessage, Hears, begins_to_lead, after_counting, with_request, after_submit}
-use Rattle.minds.specs.Taking.{executing_of, execution, after_news, after_promise, news, proposer_of}
+use Rattle.minds.specs.Sending.{to_others, part_sends, snapshot_sends}
+use Rattle.minds.specs.Taking.{executing_of, execution, after_news, after_promise, news, proposer_of, executed_to_the_end, learnt_from}
+use Rattle.minds.specs.Taking.{execution_from, HearsOfFloor, TakesPart, RestoresText, Restores, is_ahead, asks_for, asks_again}
+use Rattle.minds.specs.Taking.TakesPart.{passes as part_passes, keeps, completes}
+use Rattle.minds.specs.Taking.RestoresText.{restores, gives_up}
 
 -- ---- messages to nodes
 to_all-length : (from n : ℕ) (m : Message) → length (to_all from n m) ≡ n
@@ -79,14 +86,27 @@ answers_few from n to (answer.Accepted v) few = omega (arith, few, to_all-length
 answers_few from n to (answer.Nack v) few = omega arith
 answers_few from n to (answer.Behind floor) few = omega arith
 
-tells_few : (from to slot : ℕ) (o : Option Command) → length (decided_sends from to slot o) ≤ 1
-tells_few from to slot None = omega arith
-tells_few from to slot (Some c) = omega arith
+-- a message to one node where a test holds
+one_few : (b : Bool) (from to : ℕ) (m : Message) → length (if b then to_one from to m else []) ≤ 1
+one_few b from to m =
+    cond_both b (to_one from to m) [] (λ (es : List Envelope). length es ≤ 1) (λ _. omega arith) (λ _. omega arith)
+
+tells_few : (from to slot floor : ℕ) (o : Option Command) → length (decided_sends from to slot floor o) ≤ 1
+tells_few from to slot floor None = one_few (nat_lt slot floor) from to (Behind floor)
+tells_few from to slot floor (Some c) = omega arith
 
 asks_few : (from to slot : ℕ) → length (ask_sends from to slot) ≤ 1
-asks_few from to slot =
-    cond_both (nat_lt slot SLOTS) (to_one from to (Ask slot)) [] (λ (es : List Envelope). length es ≤ 1)
-    (λ _. omega arith) (λ _. omega arith)
+asks_few from to slot = one_few (nat_lt slot SLOTS) from to (Ask slot)
+
+part_few : (from to : ℕ) (o : Option Piece) → length (part_sends from to o) ≤ 1
+part_few from to None = omega arith
+part_few from to (Some p) = omega arith
+
+snapshot_few : (a : Accepting) (from to target number : ℕ) → length (snapshot_sends a from to target number) ≤ 1
+snapshot_few a from to target number =
+    cond_both (a.floor == target) (part_sends from to (piece_of target a.text number))
+    (if nat_lt target a.floor then to_one from to (Behind a.floor) else []) (λ (es : List Envelope). length es ≤ 1)
+    (λ _. part_few from to (piece_of target a.text number)) (λ _. one_few (nat_lt target a.floor) from to (Behind a.floor))
 
 -- ---- messages to all nodes but one
 itself : (id : ℕ) → id < 7 → has_node (with_node no_nodes id) id ≡ true
@@ -133,15 +153,18 @@ module _ (set : List Bool) (id from : ℕ) (m : Message) (in_set : has_node set 
             omega (arith, parts, one, before))
       ]
 
-others_few : (id n slot : ℕ) → id < 7 → n ≤ 7 → length (ask_others id n slot) ≤ 6
-others_few id n slot number few =
-    cond_both (nat_lt slot SLOTS) (to_recipients (Others (with_node no_nodes id)) (to_all id n (Ask slot))) []
-    (λ (es : List Envelope). length es ≤ 6) (λ _. elim (six_or_seven n few) [
-      | inl six ↦ (let some = some_few (Others (with_node no_nodes id)) (to_all id n (Ask slot)) in
-          omega (arith, six, some, to_all-length id n (Ask slot)))
-      | inr seven ↦ (let some = one_fewer (with_node no_nodes id) id id (Ask slot) (itself id number) n (omega (arith, number, seven)) in
-          omega (arith, few, some))
-    ]) (λ _. omega arith)
+others_few : (id n : ℕ) (m : Message) → id < 7 → n ≤ 7 → length (to_others id n m) ≤ 6
+others_few id n m number few = elim (six_or_seven n few) [
+  | inl six ↦ (let some = some_few (Others (with_node no_nodes id)) (to_all id n m) in omega (arith, six, some, to_all-length id n m))
+  | inr seven ↦ (let some = one_fewer (with_node no_nodes id) id id m (itself id number) n (omega (arith, number, seven)) in
+      omega (arith, few, some))
+]
+
+again_asks_few : (id n slot : ℕ) (o : Option Fetching) → id < 7 → n ≤ 7 → length (asks_for id n slot o) ≤ 6
+again_asks_few id n slot None number few =
+    cond_both (nat_lt slot SLOTS) (to_others id n (Ask slot)) [] (λ (es : List Envelope). length es ≤ 6)
+    (λ _. others_few id n (Ask slot) number few) (λ _. omega arith)
+again_asks_few id n slot (Some f) number few = others_few id n (SnapAsk f.target (next_part f)) number few
 
 -- ---- a proposer
 -- a slot of the window is gone through, and a message at most is sent
@@ -163,7 +186,7 @@ stepped_few k waiting learnt_to learnt slot f =
 going_few : (o : Option Filling) (f : Filling) (rest : Filling → Filling) (n : ℕ) → OneMore f o
     → ((g : Filling) → length (rest g).sent ≤ length g.sent + n) → length (going_on o f rest).sent ≤ length f.sent + suc n
 going_few None f rest n one more = omega arith
-going_few (Some g) f rest n one more = let then = more g in omega (arith, one, then)
+going_few (Some g) f rest n one more = let after = more g in omega (arith, one, after)
 
 filled_few : (k : Campaigning) (waiting : List Asked) (learnt_to : ℕ) (learnt : ℕ → Option Command) (n slot : ℕ) (f : Filling)
     → length (filled k waiting learnt_to learnt n slot f).sent ≤ length f.sent + n
@@ -249,6 +272,11 @@ execution_few : (m : Mind) (l : Learning) → length (execution m l).replies ≤
 execution_few m l =
     let all = executed_few (executing_of m []) (position m) (news m l) in omega (arith, all)
 
+-- a node that has restored a text replies to no more requests than waited
+restored_few : (m : Mind) (target : ℕ) → length (execution_from m target).replies ≤ length m.proposing.waiting
+restored_few m target =
+    let all = executed_few (executing_of m []) target (learnt_from m target) in omega (arith, all)
+
 -- ---- each input
 module _ (old new : Mind) (said : Response) (small : IsSmall old) where
   few_sends : (r : Response) → said ≡ r → r.replies ≡ [] → length r.sends ≤ 62 → IsFew said
@@ -277,6 +305,34 @@ module _ (old new : Mind) (said : Response) (small : IsSmall old) where
         replies = omega (arith, replies_, small.waiting);
       })
 
+  floor_few : (floor : ℕ) (b : Bool) → HearsOfFloor old floor b new said → IsFew said
+  floor_few floor false k = few_sends _ k.1 refl (omega arith)
+  floor_few floor true k =
+      few_sends _ k.1 refl (let n = others_few old.id old.nodes (SnapAsk floor 0) small.number small.of_all in omega (arith, n))
+
+  restores_few : (from target : ℕ) (machine : MachineState) → Restores old from target machine new said → IsFew said
+  restores_few from target machine k =
+      let p : Proposing = (executed_to_the_end k.m target).proposing in
+      let x : Proposing × List Outgoing = proposes p p.campaign k.m.learning in
+      let both = length-append (sends_of x.1) (ask_sends old.id from (position k.m)) in
+      let proposals = few_outgoing x.1 (proposes_few p p.campaign k.m.learning) in
+      let asks = asks_few old.id from (position k.m) in
+      let replies_ = restored_few k.m target in
+      let waited : length k.m.proposing.waiting ≡ length old.proposing.waiting = ap (λ (m : Mind). length m.proposing.waiting) k.begins in
+      subst IsFew (sym k.says) (record {
+        sends = omega (arith, both, proposals, asks);
+        replies = omega (arith, replies_, waited, small.waiting);
+      })
+
+  text_few : (from target : ℕ) (text : List ℕ) → RestoresText old from target text new said → IsFew said
+  text_few from target text (restores machine has k) = restores_few from target machine k
+  text_few from target text (gives_up none leaves e) = few_sends _ e refl (omega arith)
+
+  part_taken_few : (from : ℕ) (p : Piece) → TakesPart old from p new said → IsFew said
+  part_taken_few from p (part_passes unwanted leaves e) = few_sends _ e refl (omega arith)
+  part_taken_few from p (keeps f counts number is leaves e) = few_sends _ e refl (omega arith)
+  part_taken_few from p (completes f counts none k) = text_few from f.target _ k
+
   message_few : (from : ℕ) (message : Message) → TakesMessage old from message new said → IsFew said
   message_few from (Prepare ballot first) (a, answers_, leaves, e) =
       few_sends _ e refl (let n = answers_few old.id old.nodes from a small.of_all in omega (arith, n))
@@ -290,8 +346,12 @@ module _ (old new : Mind) (said : Response) (small : IsSmall old) where
       few_sends _ k.1 refl (let n = answers_few old.id old.nodes from (accept_answer old.accepting v) small.of_all in omega (arith, n))
   message_few from (Accepted v) (o, l, heard, k) = hears_few v.command o l [] (omega arith) k
   message_few from (Ask slot) k =
-      few_sends _ k.1 refl (let n = tells_few old.id from slot (learnt_at old.learning slot) in omega (arith, n))
+      few_sends _ k.1 refl (let n = tells_few old.id from slot old.accepting.floor (learnt_at old.learning slot) in omega (arith, n))
   message_few from (Decided slot c) (o, l, heard, k) = hears_few c o l _ (asks_few old.id from (prefix l)) k
+  message_few from (SnapAsk target number) k =
+      few_sends _ k.1 refl (let n = snapshot_few old.accepting old.id from target number in omega (arith, n))
+  message_few from (SnapPart p) k = part_taken_few from p k
+  message_few from (Behind floor) k = floor_few floor (is_ahead old floor) k
 
   envelope_few : (e : Envelope) (b : Bool) → TakesEnvelope old e b new said → IsFew said
   envelope_few e false k = few_sends _ k.1 refl (omega arith)
@@ -306,9 +366,9 @@ module _ (old new : Mind) (said : Response) (small : IsSmall old) where
       few_sends _ e refl (let n = outgoing_few old.id old.nodes prepare_ small.of_all in omega (arith, n))
   takes_few input.Tick k =
       few_sends _ k.1 refl
-      (let both = length-append (sends_of (sends_again old.proposing.campaign)) (ask_others old.id old.nodes (position old)) in
+      (let both = length-append (sends_of (sends_again old.proposing.campaign)) (asks_again old) in
       let again = few_outgoing (sends_again old.proposing.campaign) (again_few old.proposing.campaign small.proposals) in
-      let others = others_few old.id old.nodes (position old) small.number small.of_all in
+      let others = again_asks_few old.id old.nodes (position old) old.fetching small.number small.of_all in
       omega (arith, both, again, others))
   -- nothing is said
   takes_few other k = few_sends _ k.1 refl (omega arith)

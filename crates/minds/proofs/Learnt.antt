@@ -29,7 +29,8 @@ use Rattle.minds.specs.Minds.{Mind, learnt_in, position}
 use Rattle.minds.specs.Outputs.{Response}
 use Rattle.minds.specs.Taking.{Takes, Hears, Learns}
 use Rattle.minds.proofs.Hearings.{Hearing, heard_of}
-use Rattle.minds.proofs.Hearings.Hearing.{of_vote, of_decision, of_nothing}
+use Rattle.minds.proofs.Hearings.Hearing.{of_vote, of_decision, of_text, of_nothing}
+use Rattle.minds.proofs.Keeping.{restored_learner, skipped_is}
 use Rattle.minds.proofs.Meanings.{learnt_below, meaning_begun}
 
 -- ---- what a node newly learns it tells
@@ -101,7 +102,32 @@ module _ (old new : Mind) (said : Response) where
   hearing_tells : (i : Input) → Hearing old i new said → Tells old new said
   hearing_tells i (of_vote from to v is (o, l, heard, k)) = vote_tells from v o l heard k
   hearing_tells i (of_decision from to slot c is (o, l, heard, k)) = decided_tells slot c _ o l heard k
+  hearing_tells i (of_text h) =
+      let target : ℕ = h.part.position in
+      tells_nothing
+      (ap (λ (l : Learning). l.learnt)
+      (restored_learner old new said h.from target h.machine h.whole ∙ skipped_is old.learning target h.ahead))
+      (ap (λ (r : Response). r.learnt) h.whole.says)
   hearing_tells i (of_nothing none) = tells_nothing (ap (λ (l : Learning). l.learnt) none.learner) none.learnt
+
+  -- with a text that is restored nothing is learnt
+  none_restored : (target : ℕ) (r : Response) → said ≡ r → r.restored ≡ None → said.restored ≡ Some target → said.learnt ≡ None
+  none_restored target r says none is =
+      absurd (let clash : None ≡ Some target = sym none ∙ ap (λ (x : Response). x.restored) (sym says) ∙ is in cc)
+
+  heard_restored : (c : Command) (o : Option Learned) (l : Learning) (asks : List Envelope) (target : ℕ) → Hears old c o l asks new said
+      → said.restored ≡ Some target → said.learnt ≡ None
+  heard_restored c None l asks target k is = ap (λ (r : Response). r.learnt) k.1
+  heard_restored c (Some learned) l asks target k is = none_restored target _ k.says refl is
+
+  hearing_restored : (i : Input) (target : ℕ) → Hearing old i new said → said.restored ≡ Some target → said.learnt ≡ None
+  hearing_restored i target (of_vote from to v at (o, l, heard, k)) is = heard_restored v.command o l [] target k is
+  hearing_restored i target (of_decision from to slot c at (o, l, heard, k)) is = heard_restored c o l _ target k is
+  hearing_restored i target (of_text h) is = ap (λ (r : Response). r.learnt) h.whole.says
+  hearing_restored i target (of_nothing none) is = none.learnt
+
+  pub takes_restored : (i : Input) → Takes old i new said → (target : ℕ) → said.restored ≡ Some target → said.learnt ≡ None
+  takes_restored i k target is = hearing_restored i target (heard_of old new said i k) is
 
   pub takes_tells : (i : Input) → Takes old i new said → Tells old new said
   takes_tells i k = hearing_tells i (heard_of old new said i k)

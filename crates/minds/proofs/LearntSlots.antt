@@ -14,7 +14,7 @@ use Rattle.minds.specs.Outputs.{Response}
 use Rattle.minds.specs.Protocol.{InputFits}
 use Rattle.minds.specs.Taking.{Takes, Hears}
 use Rattle.minds.proofs.Hearings.{Hearing, heard_of}
-use Rattle.minds.proofs.Hearings.Hearing.{of_vote, of_decision, of_nothing}
+use Rattle.minds.proofs.Hearings.Hearing.{of_vote, of_decision, of_text, of_nothing}
 use Rattle.minds.proofs.News.{vote_news, decided_news}
 
 module _ (old new : Mind) (said : Response) where
@@ -41,6 +41,7 @@ module _ (old new : Mind) (said : Response) where
   hearing_in_log i fits (of_decision from to slot c is (o, l, news, k)) =
       let message : MessageFits 7 (Decided slot c) = subst InputFits is fits in
       heard c o l _ (λ learned e. subst (λ s. s < SLOTS) (sym (decided_news old.learning l slot c o learned news e).at) message.0) k
+  hearing_in_log i fits (of_text h) = says_none (ap (λ (x : Response). x.learnt) h.whole.says)
   hearing_in_log i fits (of_nothing none) = says_none none.learnt
 
   pub taken_in_log : (i : Input) → InputFits i → Takes old i new said → IsInLog

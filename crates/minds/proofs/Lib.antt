@@ -7,6 +7,7 @@ pub mod Hearings
 pub mod Keeping
 -- what a node is the meaning of
 pub mod Meanings
+pub mod Restoring
 pub mod News
 pub mod LearntSlots
 pub mod Learnt
@@ -23,6 +24,7 @@ pub mod AllowedSends
 pub mod AllowedGoing
 pub mod AllowedCases
 pub mod AllowedLearning
+pub mod AllowedRestoring
 pub mod AllowedTaking
 pub mod AllowedStopping
 pub mod AllowedLoading

@@ -25,8 +25,8 @@ use Rattle.minds.specs.Outputs.{Response}
 use Rattle.minds.specs.Taking.{Takes, HearsOfVote, HearsOfDecided, Hears, Learns, news}
 use Rattle.minds.proofs.Commands.{commands_append, commands_same, commands_length, commands_none}
 use Rattle.minds.proofs.Hearings.{Hearing, heard_of}
-use Rattle.minds.proofs.Hearings.Hearing.{of_vote, of_decision, of_nothing}
-use Rattle.minds.proofs.Keeping.{KeepsLearnt, vote_keeps, decided_keeps}
+use Rattle.minds.proofs.Hearings.Hearing.{of_vote, of_decision, of_text, of_nothing}
+use Rattle.minds.proofs.Keeping.{KeepsLearnt, vote_keeps, decided_keeps, vote_first, decided_first}
 
 -- ---- nothing is learnt
 -- where neither what is learnt nor the machine changes, and there is no reply
@@ -70,7 +70,8 @@ module _ (base : List Command) (m : Mind) (h : IsMeaningOf base m) where
       omega (arith, there, both, h.begun, meaning_prefix.learnt_to.from)
 
 -- ---- what is learnt by now is what was learnt, and the news
-module _ (base : List Command) (old : Mind) (l : Learning) (h : IsMeaningOf base old) (keeps : KeepsLearnt old.learning l) where
+module _ (base : List Command) (old : Mind) (l : Learning) (h : IsMeaningOf base old) (keeps : KeepsLearnt old.learning l)
+    (first : l.first ≡ old.learning.first) where
   abbrev before : ℕ
   before = position old
 
@@ -82,7 +83,6 @@ module _ (base : List Command) (old : Mind) (l : Learning) (h : IsMeaningOf base
 
   grown : base ++ commands l.learnt l.first (prefix l - l.first) ≡ executed_from base old ++ news old l
   grown =
-      let first : l.first ≡ old.learning.first = keeps.first in
       let n : prefix l - old.learning.first ≡ (before - old.learning.first) + (prefix l - before) =
       omega (arith, keeps.grows, is_prefix.learnt_to.from) in
       let at : old.learning.first + (before - old.learning.first) ≡ before = omega (arith, is_prefix.learnt_to.from) in
@@ -105,8 +105,8 @@ module _ (base : List Command) (old : Mind) (l : Learning) (h : IsMeaningOf base
       ap (λ (x : Learning). base ++ commands x.learnt x.first (prefix x - x.first)) learning ∙ grown in
       record {
         meaning = record {
-          begun = h.begun ∙ sym keeps.first ∙ ap (λ (x : Learning). x.first) (sym learning);
-          in_log = subst (λ (x : Learning). x.first ≤ SLOTS) (sym learning) (subst (λ (n : ℕ). n ≤ SLOTS) (sym keeps.first) h.in_log);
+          begun = h.begun ∙ sym first ∙ ap (λ (x : Learning). x.first) (sym learning);
+          in_log = subst (λ (x : Learning). x.first ≤ SLOTS) (sym learning) (subst (λ (n : ℕ). n ≤ SLOTS) (sym first) h.in_log);
           stands = rw whole (k.stands.stands (executed_from base old) h.stands);
         };
         position_ = subst (λ (x : Learning). before ≤ prefix x) (sym learning) keeps.grows;
@@ -122,7 +122,6 @@ module _ (base : List Command) (old : Mind) (l : Learning) (h : IsMeaningOf base
       let learning : new.learning ≡ l = ap (λ (m : Mind). m.learning) k.0 in
       let machine : new.machine ≡ old.machine = ap (λ (m : Mind). m.machine) k.0 in
       let learnt : l.learnt ≡ old.learning.learnt = same refl in
-      let first : l.first ≡ old.learning.first = keeps.first in
       let at : prefix l ≡ prefix old.learning = same_prefix l old.learning learnt first in
       let whole : executed_from base new ≡ executed_from base old =
       ap (λ (x : Learning). base ++ commands x.learnt x.first (prefix x - x.first)) learning
@@ -145,7 +144,7 @@ module _ (base : List Command) (old : Mind) (l : Learning) (h : IsMeaningOf base
 module _ (base : List Command) (old new : Mind) (said : Response) (h : IsMeaningOf base old) where
   vote_goes_on : (from : ℕ) (v : Vote Command) → HearsOfVote old from v new said → GoesOnFrom base old new said
   vote_goes_on from v (learned, l, hears_, k) =
-      goes_on_hearing base old l h (vote_keeps old.learning l from v learned hears_)
+      goes_on_hearing base old l h (vote_keeps old.learning l from v learned hears_) (vote_first old.learning l from v learned hears_)
       learned v.command [] new said (unlearnt_by_vote l learned from v hears_) k
     where
       unlearnt_by_vote : (l : Learning) (learned : Option Learned) (from : ℕ) (v : Vote Command) → HearsVote old.learning from v learned l
@@ -156,7 +155,7 @@ module _ (base : List Command) (old new : Mind) (said : Response) (h : IsMeaning
 
   decided_goes_on : (from slot : ℕ) (c : Command) → HearsOfDecided old from slot c new said → GoesOnFrom base old new said
   decided_goes_on from slot c (learned, l, hears_, k) =
-      goes_on_hearing base old l h (decided_keeps old.learning l slot c learned hears_)
+      goes_on_hearing base old l h (decided_keeps old.learning l slot c learned hears_) (decided_first old.learning l slot c learned hears_)
       learned c _ new said (unlearnt_by_decided l learned slot c hears_) k
     where
       unlearnt_by_decided : (l : Learning) (learned : Option Learned) (slot : ℕ) (c : Command) → HearsDecided old.learning slot c learned l
@@ -164,13 +163,15 @@ module _ (base : List Command) (old new : Mind) (said : Response) (h : IsMeaning
       unlearnt_by_decided l learned slot c (ignores_decided never none same) e = ap (λ (x : Learning). x.learnt) same
       unlearnt_by_decided l learned slot c (learns_decided opened some same) e = absurd (cc)
 
-  hearing_goes_on : (i : Input) → Hearing old i new said → GoesOnFrom base old new said
-  hearing_goes_on i (of_vote from to v is k) = vote_goes_on from v k
-  hearing_goes_on i (of_decision from to slot c is k) = decided_goes_on from slot c k
-  hearing_goes_on i (of_nothing none) = goes_on_same base old new said h none.learner none.machine none.replies
+  hearing_goes_on : (i : Input) → Hearing old i new said → said.restored ≡ None → GoesOnFrom base old new said
+  hearing_goes_on i (of_vote from to v is k) none = vote_goes_on from v k
+  hearing_goes_on i (of_decision from to slot c is k) none = decided_goes_on from slot c k
+  hearing_goes_on i (of_text t) none =
+      absurd (let clash : Some t.part.position ≡ None = sym (ap (λ (r : Response). r.restored) t.whole.says) ∙ none in cc)
+  hearing_goes_on i (of_nothing same) none = goes_on_same base old new said h same.learner same.machine same.replies
 
-  pub goes_on : (i : Input) → Takes old i new said → GoesOnFrom base old new said
-  goes_on i k = hearing_goes_on i (heard_of old new said i k)
+  pub goes_on : (i : Input) → Takes old i new said → said.restored ≡ None → GoesOnFrom base old new said
+  goes_on i k none = hearing_goes_on i (heard_of old new said i k) none
 
 -- ---- a node
 -- one that has just begun with a list, and has learnt nothing
@@ -190,8 +191,10 @@ meaning_begun base m nodes first e many within h =
 -- one that was up, and took an input or not
 pub meaning_stays : (base : List Command) (input : Input) (o p : Option Mind) (m n : Mind) (r : Result Response NodeFault) (Same : Type 0)
     → o ≡ Some m → OnOk r Same → (Same → p ≡ Some n) → IfOk r (λ said. Takes m input n said)
-    → IfSome o (λ (a : Mind). IsMeaningOf base a → IfOk r (λ said. IfSome p (λ (b : Mind). GoesOnFrom base a b said)))
-meaning_stays base input o p m n (Ok said) Same up same still takes = rw up (λ h. rw (still same) (goes_on base m n said h input takes))
+    → IfSome o (λ (a : Mind). IsMeaningOf base a → IfOk r (λ said.
+    said.restored ≡ None → IfSome p (λ (b : Mind). GoesOnFrom base a b said)))
+meaning_stays base input o p m n (Ok said) Same up same still takes =
+    rw up (λ h. λ none. rw (still same) (goes_on base m n said h input takes none))
 meaning_stays base input o p m n (Err f) Same up same still takes = rw up (λ h. tt)
 
 -- its answer is that of each list of which it is the meaning

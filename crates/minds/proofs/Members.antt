@@ -1,16 +1,18 @@
 -- A node stays the node that it is.
-use Rattle.std.proofs.Common.{◌≡◌, ℕ, Bool, true, false, List, Option, Some, None, Result, Ok, Err, IfSome, IfOk}
+use Rattle.std.proofs.Common.{◌≡◌, ℕ, nat_lt, Bool, true, false, List, Option, Some, None, Result, Ok, Err, IfSome, IfOk}
 use Rattle.std.proofs.Common.{IfErr, MatchBool, refl, sym, ap, ◌∙◌, subst}
 use Rattle.std.proofs.lemmas.Bool.{cond_both}
 use Rattle.stable.specs.declared.stable.Stable.{Ghosts}
+use Rattle.sessions.specs.Machines.{MachineState}
 use Rattle.sessions.specs.declared.command.Command.{Command}
-use Rattle.learner.specs.Learning.{Learning}
+use Rattle.learner.specs.Learning.{Learning, skipped, prefix}
 use Rattle.learner.specs.declared.learned.Learned.{Learned}
 use Rattle.proposer.specs.Proposing.{Proposing, with_promised}
+use Rattle.wire.specs.Parts.{Piece}
 use Rattle.proposer.specs.declared.outgoing.Outgoing.{Outgoing}
 use Rattle.wire.specs.declared.frames.envelope.Envelope.{Envelope}
 use Rattle.wire.specs.declared.frames.message.Message.{Message}
-use Rattle.wire.specs.declared.frames.message.Message.TheVariants.{Prepare, Promise, Accepted, Decided}
+use Rattle.wire.specs.declared.frames.message.Message.TheVariants.{Prepare, Promise, Accepted, Decided, SnapPart, Behind}
 use Rattle.minds.specs.declared.fault.NodeFault.{NodeFault}
 use Rattle.minds.specs.declared.input.Input.{Input}
 use Rattle.minds.specs.declared.input.Input.TheVariants as input
@@ -21,7 +23,9 @@ use Rattle.minds.specs.Minds.{Mind, waits, asked}
 use Rattle.minds.specs.Nodes.{NodeState, NodeSteps, TakesInput, StopsOnInput, RefusesInput}
 use Rattle.minds.specs.Outputs.{Response}
 use Rattle.minds.specs.Taking.{Takes, TakesEnvelope, TakesMessage, Hears, after_counting, with_request, proposer_of, proposed}
-use Rattle.minds.specs.Taking.{execution}
+use Rattle.minds.specs.Taking.{execution, HearsOfFloor, TakesPart, RestoresText, Restores, restored, executed_to_the_end, is_ahead}
+use Rattle.minds.specs.Taking.TakesPart.{passes, keeps, completes}
+use Rattle.minds.specs.Taking.RestoresText.{restores, gives_up}
 use Rattle.minds.proofs.Campaigns.{KeepsRest, proposes_keeps, counting_keeps}
 use Rattle.minds.proofs.Keeping.{vote_keeps, decided_keeps}
 
@@ -61,6 +65,39 @@ module _ (id nodes : ℕ) (old : Mind) (is : IsMindOf id nodes old) where
       changes new _ k.leaves refl refl e
       (then_own old.proposing p (proposed p l) (record { id_ = refl; nodes_ = refl }) (proposes_keeps p p.campaign l))
 
+  floor_own : (floor : ℕ) (b : Bool) (new : Mind) (said : Response) → HearsOfFloor old floor b new said → IsMindOf id nodes new
+  floor_own floor false new said k = changes new old k.0 refl refl refl (own old.proposing)
+  floor_own floor true new said k = changes new _ k.0 refl refl refl (record { id_ = refl; nodes_ = refl })
+
+  skipped_nodes : (l : Learning) (target : ℕ) → (skipped l target).nodes ≡ l.nodes
+  skipped_nodes l target =
+      cond_both (nat_lt (prefix l) target) (record l { first = target }) l (λ (x : Learning). x.nodes ≡ l.nodes) (λ _. refl) (λ _. refl)
+
+  -- the machine of a text is restored
+  restored_own : (from target : ℕ) (machine : MachineState) (new : Mind) (said : Response) → Restores old from target machine new said
+      → IsMindOf id nodes new
+  restored_own from target machine new said k =
+      let p : Proposing = (executed_to_the_end k.m target).proposing in
+      let of : (m : Mind) → m ≡ restored old target machine → KeepsOwn old.proposing m.proposing =
+      λ m e. subst (λ (n : Mind). KeepsOwn old.proposing n.proposing) (sym e) (record { id_ = refl; nodes_ = refl }) in
+      changes new _ k.leaves (ap (λ (m : Mind). m.id) k.begins) (ap (λ (m : Mind). m.nodes) k.begins)
+      (ap (λ (m : Mind). m.learning.nodes) k.begins ∙ skipped_nodes old.learning target)
+      (then_own old.proposing p (proposed p k.m.learning)
+      (let h = of k.m k.begins in record { id_ = h.id_; nodes_ = h.nodes_ })
+      (proposes_keeps p p.campaign k.m.learning))
+
+  text_own : (from target : ℕ) (text : List ℕ) (new : Mind) (said : Response) → RestoresText old from target text new said
+      → IsMindOf id nodes new
+  text_own from target text new said (restores machine has k) = restored_own from target machine new said k
+  text_own from target text new said (gives_up none leaves says) =
+      changes new _ leaves refl refl refl (record { id_ = refl; nodes_ = refl })
+
+  part_own : (from : ℕ) (p : Piece) (new : Mind) (said : Response) → TakesPart old from p new said → IsMindOf id nodes new
+  part_own from p new said (passes unwanted leaves says) = changes new old leaves refl refl refl (own old.proposing)
+  part_own from p new said (keeps f counts number is leaves says) =
+      changes new _ leaves refl refl refl (record { id_ = refl; nodes_ = refl })
+  part_own from p new said (completes f counts none k) = text_own from f.target _ new said k
+
   message_own : (from : ℕ) (message : Message) (new : Mind) (said : Response) → TakesMessage old from message new said
       → IsMindOf id nodes new
   message_own from (Prepare ballot first) new said k = changes new _ k.2 refl refl refl (own old.proposing)
@@ -72,6 +109,8 @@ module _ (id nodes : ℕ) (old : Mind) (is : IsMindOf id nodes old) where
       learner_changes l learned v.command _ new said (vote_keeps old.learning l from v learned heard).nodes_ k
   message_own from (Decided slot c) new said (learned, l, heard, k) =
       learner_changes l learned c _ new said (decided_keeps old.learning l slot c learned heard).nodes_ k
+  message_own from (SnapPart p) new said k = part_own from p new said k
+  message_own from (Behind floor) new said k = floor_own floor (is_ahead old floor) new said k
   message_own from other new said k = changes new _ k.0 refl refl refl (record { id_ = refl; nodes_ = refl })
 
   envelope_own : (e : Envelope) (b : Bool) (new : Mind) (said : Response) → TakesEnvelope old e b new said → IsMindOf id nodes new

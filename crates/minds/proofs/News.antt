@@ -1,5 +1,5 @@
 -- What a learner makes of news by which a slot is learnt.
-use Rattle.std.proofs.Common.{◌≡◌, ℕ, ◌++◌, [], List, Option, Some, inl, inr, refl, sym, ap, ◌∙◌, subst, append-nil}
+use Rattle.std.proofs.Common.{◌≡◌, ℕ, ◌++◌, [], List, Option, Some, None, inl, inr, refl, sym, ap, ◌∙◌, subst, append-nil}
 use Rattle.std.proofs.lemmas.Bool.Decides.{eqb_tells}
 use Rattle.synod.specs.Records.{put}
 use Rattle.synod.specs.declared.vote.Vote.{Vote}
@@ -55,6 +55,7 @@ decided_news old new slot c o learned (learns_decided opened some same) e =
 -- what a node says
 abbrev response : Mind → ℕ → Command → Learning → List Envelope → Response
 response old slot c l sends = record {
+  restored = None;
   learnt = Some (record { slot = slot; command = c });
   replies = (execution old l).replies;
   sends = sends;

@@ -76,8 +76,9 @@ steps_past storages reads_none n m e up counted past = record {
 
 pub stays_past : {S : Type 0} (n : NodeState S) (m : Mind) (e : Envelope)
     → n.up ≡ Some m → IsPrefix m.learning.learnt m.learning.first (position m) → is_past m e.message ≡ true
-    → StaysMeaning n (Ok silence) n
+    → StaysMeaning n (input.Message e) (Ok silence) n
 stays_past n m e up counted past = record {
   goes_on = λ base. meaning_stays base (input.Message e) n.up n.up m m (Ok silence) (n.up ≡ Some m) up up (λ still. still)
       (takes_past m counted e past);
+  restores = λ base. rw up tt;
 }

@@ -16,13 +16,15 @@ use Rattle.learner.specs.declared.learned.Learned.{Learned}
 use Rattle.proposer.specs.Proposing.{Proposing, next_round, with_promised}
 use Rattle.proposer.specs.declared.outgoing.Outgoing.{Outgoing}
 use Rattle.sessions.specs.Asked.{Asked}
+use Rattle.sessions.specs.Machines.{MachineState}
 use Rattle.sessions.specs.Snapshots.{snapshot_bytes}
 use Rattle.sessions.specs.declared.command.Command.{Command}
 use Rattle.wire.specs.FrameSpelling.{MessageFits}
+use Rattle.wire.specs.Parts.{Piece}
 use Rattle.wire.specs.RecordForms.{IsRoundRecord}
 use Rattle.wire.specs.declared.frames.envelope.Envelope.{Envelope}
 use Rattle.wire.specs.declared.frames.message.Message.{Message}
-use Rattle.wire.specs.declared.frames.message.Message.TheVariants.{Prepare, Promise, Accept, Accepted, Decided}
+use Rattle.wire.specs.declared.frames.message.Message.TheVariants.{Prepare, Promise, Accept, Accepted, Decided, SnapPart, Behind}
 use Rattle.minds.specs.declared.fault.NodeFault.TheVariants as fault
 use Rattle.minds.specs.declared.input.Input.{Input}
 use Rattle.minds.specs.declared.input.Input.TheVariants as input
@@ -32,6 +34,9 @@ use Rattle.minds.specs.Outputs.{Response}
 use Rattle.minds.specs.Protocol.{InputFits, accepting_on, accepting_if, accepting_after, round_after, RecordsHold, SaysRound}
 use Rattle.minds.specs.Taking.{Writes, WritesOnEnvelope, WritesOnMessage, WritesCheckpoint, Takes, TakesMessage, TakesEnvelope, Hears}
 use Rattle.minds.specs.Taking.{proposed, after_promise, after_submit, with_request, proposer_of, execution}
+use Rattle.minds.specs.Taking.{HearsOfFloor, TakesPart, RestoresText, Restores, executed_to_the_end, is_ahead}
+use Rattle.minds.specs.Taking.TakesPart.{passes, keeps, completes}
+use Rattle.minds.specs.Taking.RestoresText.{restores, gives_up}
 use Rattle.minds.proofs.Campaigns.{proposes_keeps, counting_keeps}
 
 -- ---- what the records say once the write is made
@@ -189,12 +194,40 @@ held_after_news m c (Some n) l asks new said h =
     let then : Proposing = proposer_of m n.slot (execution m l) in
     with_its_round new m.accepting _ _ (held_as new _ h.leaves) (proposed_round then l)
 
+held_after_floor : (m : Mind) (floor : ℕ) (b : Bool) (new : Mind) (said : Response) → HearsOfFloor m floor b new said
+    → HoldsRecords new m.accepting m.proposing.round
+held_after_floor m floor false new said h = held_as new m h.0
+held_after_floor m floor true new said h = held_as new _ h.0
+
+held_restored : (m : Mind) (from target : ℕ) (machine : MachineState) (new : Mind) (said : Response)
+    → Restores m from target machine new said → HoldsRecords new m.accepting m.proposing.round
+held_restored m from target machine new said h =
+    let then : Proposing = (executed_to_the_end h.m target).proposing in
+    record {
+      accepting_ = ap (λ (n : Mind). n.accepting) h.leaves ∙ ap (λ (n : Mind). n.accepting) h.begins;
+      round_ = ap (λ (n : Mind). n.proposing.round) h.leaves ∙ proposed_round then h.m.learning
+          ∙ ap (λ (n : Mind). n.proposing.round) h.begins;
+    }
+
+held_after_text : (m : Mind) (from target : ℕ) (text : List ℕ) (new : Mind) (said : Response) → RestoresText m from target text new said
+    → HoldsRecords new m.accepting m.proposing.round
+held_after_text m from target text new said (restores machine has h) = held_restored m from target machine new said h
+held_after_text m from target text new said (gives_up none leaves says) = held_as new _ leaves
+
+held_after_part : (m : Mind) (from : ℕ) (p : Piece) (new : Mind) (said : Response) → TakesPart m from p new said
+    → HoldsRecords new m.accepting m.proposing.round
+held_after_part m from p new said (passes unwanted leaves says) = held_as new m leaves
+held_after_part m from p new said (keeps f counts number is leaves says) = held_as new _ leaves
+held_after_part m from p new said (completes f counts none h) = held_after_text m from f.target _ new said h
+
 held_after_message : (m : Mind) (from : ℕ) (message : Message) (new : Mind) (said : Response) → TakesMessage m from message new said
     → HoldsRecords new (accepting_on m message) m.proposing.round
 held_after_message m from (Prepare ballot first) new said h = held_as new _ h.2
 held_after_message m from (Promise p) new said h = with_its_round new m.accepting _ _ (held_as new _ h.0) (promised_round m from p)
 held_after_message m from (Accepted v) new said h = held_after_news m v.command h.0 h.1 [] new said h.3
 held_after_message m from (Decided slot command) new said h = held_after_news m command h.0 h.1 _ new said h.3
+held_after_message m from (SnapPart p) new said h = held_after_part m from p new said h
+held_after_message m from (Behind floor) new said h = held_after_floor m floor (is_ahead m floor) new said h
 held_after_message m from other new said h = held_as new _ h.0
 
 held_after_envelope : (m : Mind) (e : Envelope) (b : Bool) (new : Mind) (said : Response) → TakesEnvelope m e b new said

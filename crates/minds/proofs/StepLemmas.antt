@@ -25,8 +25,8 @@ steps_down storages node i down = record {
   refuses_ = rw down tt;
 }
 
-pub stays_down : {S : Type 0} (node : NodeState S) → node.up ≡ None → StaysMeaning node (Err Down) node
-stays_down node down = record { goes_on = λ base. rw down tt }
+pub stays_down : {S : Type 0} (node : NodeState S) (i : Input) → node.up ≡ None → StaysMeaning node i (Err Down) node
+stays_down node i down = record { goes_on = λ base. rw down tt; restores = λ base. rw down tt }
 
 -- a fault stops the node, or the input is refused
 abbrev Refused : {S : Type 0} → Ghosts S → NodeState S → Mind → Input → NodeFault → NodeState S → Type 0

@@ -56,3 +56,10 @@ pub record GoesOnFrom (base : List Command) (old new : Mind) (said : Response) :
   -- the list goes on: nothing that was learnt changes
   pub more : (cs : List Command) × (executed_from base new ≡ executed_from base old ++ cs)
   pub replies_ : (e : Executed) → Contains said.replies e → IsReplyOf (executed_from base new) e
+
+-- a node that has restored the text of such a list is its meaning and that of what it has learnt from there on, its position hasn't
+-- fallen, and its replies are those of the list
+pub record RestoresFrom (base : List Command) (old new : Mind) (said : Response) : Type 0 where
+  pub meaning : IsMeaningOf base new
+  pub position_ : position old ≤ position new
+  pub replies_ : (e : Executed) → Contains said.replies e → IsReplyOf (executed_from base new) e

@@ -9,7 +9,7 @@ use Rattle.sessions.specs.declared.command.Command.{Command}
 use Rattle.sessions.specs.declared.request.TheConstants.{MOST_PUT_POINTS}
 use Rattle.wire.specs.declared.frames.envelope.Envelope.{Envelope}
 use Rattle.wire.specs.declared.frames.message.Message.{Message}
-use Rattle.wire.specs.declared.frames.message.Message.TheVariants.{Prepare, Promise, Nack, Accept, Accepted, Ask, Decided}
+use Rattle.wire.specs.declared.frames.message.Message.TheVariants.{Prepare, Promise, Nack, Accept, Accepted, Ask, Decided, SnapAsk, SnapPart, Behind}
 
 -- a request may ask for it: a sequence to be put is no longer than a request may bring
 abbrev pub is_short : Op → Bool
@@ -18,13 +18,14 @@ is_short (Append addition) = true
 is_short (Remove id) = true
 
 -- ---- each message is for one role of a node
--- an acceptor is asked for a promise or a vote, a proposer is answered, a learner hears what was voted or decided, and the log is
--- asked what was decided
+-- an acceptor is asked for a promise or a vote, a proposer is answered, a learner hears what was voted or decided, the log is asked
+-- what was decided or what a checkpoint stands for, and a node that is behind fetches that
 pub data Role : Type 0 where
   Acceptor : Role
   Proposer : Role
   Learner : Role
   Log : Role
+  Fetcher : Role
 
 abbrev pub role_of : Message → Role
 role_of (Prepare ballot first) = Acceptor
@@ -34,6 +35,9 @@ role_of (Accept v) = Acceptor
 role_of (Accepted v) = Learner
 role_of (Ask slot) = Log
 role_of (Decided slot command) = Learner
+role_of (SnapAsk position number) = Log
+role_of (SnapPart p) = Fetcher
+role_of (Behind floor) = Fetcher
 
 -- ---- a message names a node by each of its ballots
 -- the ballot is of a node of so many
@@ -52,6 +56,9 @@ names_run nodes (Accept v) = is_vote_of_run nodes v
 names_run nodes (Accepted v) = is_vote_of_run nodes v
 names_run nodes (Ask slot) = true
 names_run nodes (Decided slot command) = true
+names_run nodes (SnapAsk position number) = true
+names_run nodes (SnapPart p) = true
+names_run nodes (Behind floor) = true
 
 -- the envelope is addressed to the node, and every node that it names is of the run; any other is ignored
 abbrev pub concerns : ℕ → ℕ → Envelope → Bool

@@ -1,6 +1,7 @@
 pub mod Composition
 pub mod Executing
 pub mod Faults
+pub mod Fetching
 pub mod Inputs
 pub mod Loading
 pub mod Minds

@@ -24,11 +24,12 @@ pub record IsMindOf (id nodes : ℕ) (m : Mind) : Type 0 where
   pub learning : m.learning.nodes ≡ nodes
   pub proposing : (m.proposing.id ≡ id) × (m.proposing.nodes ≡ nodes)
 
--- nothing is learnt, nothing waits, and no campaign is on its way
+-- nothing is learnt, nothing waits, no campaign is on its way, and nothing is fetched
 pub record IsFresh (id nodes : ℕ) (m : Mind) : Type 0 where
   pub learning : m.learning ≡ unlearnt_from nodes m.learning.first
   pub first_in_log : m.learning.first ≤ SLOTS
   pub proposing : m.proposing ≡ loaded id nodes m.proposing.round
+  pub fetching : m.fetching ≡ None
 
 -- a proposer that has just loaded the record of its round, if there is one
 abbrev pub LoadsRound : Option (List ℕ) → ℕ → ℕ → Proposing → Type 0
@@ -43,6 +44,7 @@ pub record IsLoaded (records : Records) (id nodes : ℕ) (m : Mind) : Type 0 whe
   pub learning : m.learning ≡ unlearnt_from nodes m.accepting.floor
   pub proposing : LoadsRound (records key.Round) id nodes m.proposing
   pub machine : BeginsWith records m.machine
+  pub fetching : m.fetching ≡ None
 
 -- the record of the round is that of no round
 abbrev pub HasDamagedRound : Records → Type 0
@@ -60,7 +62,7 @@ pub record Restarts {S : Type 0} (storages : Ghosts S)
   pub own : ForSome new.up (IsMindOf old.id old.nodes)
   -- whatever the storage is: what was not in the records is gone
   pub fresh : ForSome new.up (IsFresh old.id old.nodes)
-  pub up : OnOk result (IsSome new.up × storages.reads old.storage new.storage)
+  pub up : OnOk result (IsSome new.up × storages.looks old.storage new.storage)
   pub loads : storages.IsHonest new.storage → OnOk result
       (IfSome new.up (IsLoaded (storages.contents old.storage) old.id old.nodes))
   pub down : OnErr result (new.up ≡ None)
@@ -69,7 +71,7 @@ pub record Restarts {S : Type 0} (storages : Ghosts S)
   pub damaged : storages.IsHonest new.storage → IsErrOf result fault.Damaged → IsDamaged storages old.storage
   pub device : IsErrOf result fault.Device → storages.read_fails old.storage new.storage
   pub other : IfErr result (λ f. (f ≡ fault.Device)
-      ⊎ (((f ≡ fault.Memory) ⊎ (f ≡ fault.Damaged)) × storages.reads old.storage new.storage))
+      ⊎ (((f ≡ fault.Memory) ⊎ (f ≡ fault.Damaged)) × storages.looks old.storage new.storage))
 
 -- the node is this one, of so many
 pub record IsMember {S : Type 0} (id nodes : ℕ) (n : NodeState S) : Type 0 where

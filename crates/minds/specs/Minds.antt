@@ -17,13 +17,14 @@ use Rattle.proposer.specs.declared.waiting.TheConstants.{MOST_WAITING}
 use Rattle.proposer.specs.declared.window.TheConstants.{MOST_OPEN}
 use Rattle.wire.specs.Framing.{voted_slot}
 use Rattle.wire.specs.declared.frames.message.Message.{Message}
+use Rattle.minds.specs.Fetching.{Fetching}
 use Rattle.minds.specs.Inputs.{is_short, concerns}
 use Rattle.minds.specs.declared.fault.NodeFault.{NodeFault}
 use Rattle.minds.specs.declared.fault.NodeFault.TheVariants as fault
 use Rattle.minds.specs.declared.input.Input.{Input}
 use Rattle.minds.specs.declared.input.Input.TheVariants as input
 
--- its number, that of all nodes, and what its roles hold; its machine has executed the commands below the position
+-- its number, that of all nodes, what its roles hold, and what it fetches; its machine has executed the commands below the position
 pub record Mind : Type 0 where
   pub id : ℕ
   pub nodes : ℕ
@@ -31,6 +32,7 @@ pub record Mind : Type 0 where
   pub learning : Learning
   pub proposing : Proposing
   pub machine : MachineState
+  pub fetching : Option Fetching
 
 -- the first slot that isn't learnt, of those that are kept
 abbrev pub position : Mind → ℕ

@@ -1,16 +1,19 @@
 -- One node: its records, and what it holds while it is up.
-use Rattle.std.specs.Prelude.{◌≡◌, ℕ, ◌⊎◌, List, Some, None, Result, Ok, Err, IfSome, IfOk, IfErr, MatchBool}
+use Rattle.std.specs.Prelude.{◌≡◌, ℕ, ◌⊎◌, List, [], length, Some, None, Result, Ok, Err, IfSome, IfOk, IfErr, MatchBool}
 use Rattle.stable.specs.declared.stable.Stable.{Ghosts}
 use Rattle.store.specs.Answers.{IsAnswer}
 use Rattle.store.specs.declared.query.Query.{Query}
 use Rattle.sessions.specs.Meaning.{Answers}
+use Rattle.sessions.specs.Snapshots.{IsSnapshot}
 use Rattle.sessions.specs.declared.command.Command.{Command}
 use Rattle.acceptor.specs.Accepting.{Write, HasWritten, HasFailed}
 use Rattle.minds.specs.declared.fault.NodeFault.{NodeFault}
 use Rattle.minds.specs.declared.fault.NodeFault.TheVariants as fault
 use Rattle.minds.specs.declared.input.Input.{Input}
-use Rattle.minds.specs.Composition.{IsMeaningOf, GoesOnFrom, executed_from}
+use Rattle.minds.specs.declared.input.Input.TheVariants as input
+use Rattle.minds.specs.Composition.{IsMeaningOf, GoesOnFrom, RestoresFrom, executed_from}
 use Rattle.minds.specs.Faults.{is_stop_fault}
+use Rattle.minds.specs.Fetching.{text_with}
 use Rattle.minds.specs.Minds.{Mind, position, refuses, Ignores}
 use Rattle.minds.specs.Outputs.{Response, silence}
 use Rattle.minds.specs.Taking.{Writes, Takes}
@@ -86,10 +89,19 @@ pub record NodeAnswers {S : Type 0} (node : NodeState S) (query : Query) (result
   pub memory : IfSome node.up (λ m. IfErr result (λ f. f ≡ fault.Memory))
 
 -- ---- composition
+-- the text that the parts make that a node has once the input has brought its own
+abbrev pub fetched_text : Mind → Input → List ℕ
+fetched_text m (input.Message e) = text_with m.fetching e.message
+fetched_text m other = []
+
 -- what a node that is the meaning of a list makes of an input that it takes
-pub record StaysMeaning {S : Type 0} (old : NodeState S) (result : Result Response NodeFault) (new : NodeState S) : Type 0 where
-  pub goes_on : (base : List Command) → IfSome old.up (λ m. IsMeaningOf base m → IfOk result (λ said.
-      IfSome new.up (λ n. GoesOnFrom base m n said)))
+pub record StaysMeaning {S : Type 0} (old : NodeState S) (input : Input) (result : Result Response NodeFault) (new : NodeState S) : Type 0
+  where
+    pub goes_on : (base : List Command) → IfSome old.up (λ m. IsMeaningOf base m → IfOk result (λ said.
+        said.restored ≡ None → IfSome new.up (λ n. GoesOnFrom base m n said)))
+    -- one that restores a text is from then on the meaning of each list of as many commands that has it, whatever it was before
+    pub restores : (base : List Command) → IfSome old.up (λ m. IfOk result (λ said. IfSome said.restored (λ target.
+        length base ≡ target → IsSnapshot base (fetched_text m input) → IfSome new.up (λ n. RestoresFrom base m n said))))
 
 -- an answer is that of the commands up to the position
 pub record AnswersMeaning {S : Type 0} (node : NodeState S) (query : Query) (result : Result (ℕ × List ℕ) NodeFault) : Type 0 where

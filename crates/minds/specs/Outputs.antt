@@ -1,5 +1,5 @@
 -- What comes of an input.
-use Rattle.std.specs.Prelude.{◌≤◌, List, [], length, Option, None}
+use Rattle.std.specs.Prelude.{◌≤◌, ℕ, List, [], length, Option, None}
 use Rattle.proposer.specs.declared.waiting.TheConstants.{MOST_WAITING}
 use Rattle.wire.specs.declared.frames.envelope.Envelope.{Envelope}
 use Rattle.minds.specs.declared.outputs.Executed.{Executed}
@@ -8,6 +8,8 @@ use Rattle.minds.specs.declared.outputs.TheConstants.{MOST_SENDS}
 
 -- what a node says, in this order
 pub record Response : Type 0 where
+  -- the position of the checkpoint whose text it restored
+  pub restored : Option ℕ
   -- the slot that was newly learnt, and what it holds
   pub learnt : Option LogEntry
   -- the replies to requests that waited, in the order in which they were executed
@@ -16,7 +18,7 @@ pub record Response : Type 0 where
 
 -- messages alone
 abbrev pub sent : List Envelope → Response
-sent sends = record { learnt = None; replies = []; sends = sends }
+sent sends = record { restored = None; learnt = None; replies = []; sends = sends }
 
 abbrev pub silence : Response
 silence = sent []

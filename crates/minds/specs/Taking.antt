@@ -1,34 +1,38 @@
 -- What an input makes of a node that takes it: the one write, what it holds then, and what it says.
-use Rattle.std.specs.Prelude.{◌≡◌, ℕ, ◌<◌, ◌≤◌, ◌-◌, ◌&&◌, List, [], ◌++◌, ◌∷◌, Bool, true, false, Option, Some, None, not, if◌then◌else◌}
+use Rattle.std.specs.Prelude.{◌≡◌, ℕ, ◌<◌, ◌≤◌, ◌-◌, ◌&&◌, nat_lt, List, [], ◌++◌, ◌∷◌, Bool, true, false, Option, Some, None, not, if◌then◌else◌}
 use Rattle.byteorder.specs.Endian.{big_bytes}
 use Rattle.synod.specs.declared.slot.TheConstants.{SLOTS}
 use Rattle.synod.specs.declared.vote.Vote.{Vote}
 use Rattle.stable.specs.declared.key.Key.TheVariants as key
 use Rattle.stable.specs.Records.{Sets}
 use Rattle.sessions.specs.Asked.{Asked}
+use Rattle.sessions.specs.Machines.{MachineState}
 use Rattle.sessions.specs.Snapshots.{MachineFits, snapshot_bytes}
 use Rattle.sessions.specs.declared.command.Command.{Command}
 use Rattle.acceptor.specs.declared.answer.Answer.{Answer}
 use Rattle.acceptor.specs.Accepting.{checkpoint_change, after_checkpoint, IsTrimWrite, after_trim}
 use Rattle.acceptor.specs.Accepting.{Write, AnswersPrepare, prepare_write, after_prepare, accept_answer, after_accept, IsAcceptWrite}
-use Rattle.learner.specs.Learning.{Learning, prefix, learnt_at, HearsVote, HearsDecided}
+use Rattle.learner.specs.Learning.{Learning, prefix, learnt_at, HearsVote, HearsDecided, skipped}
 use Rattle.learner.specs.declared.learned.Learned.{Learned}
 use Rattle.proposer.specs.Proposing.{Proposing, next_round, StartsCampaign, with_promised, after_nack, after_learned, is_led, proposes}
-use Rattle.proposer.specs.Proposing.{sends_again}
+use Rattle.proposer.specs.Proposing.{sends_again, skipped_to}
 use Rattle.proposer.specs.declared.outgoing.Outgoing.{Outgoing}
+use Rattle.wire.specs.Parts.{Piece, joined}
 use Rattle.wire.specs.Promises.{Promised}
 use Rattle.wire.specs.declared.frames.envelope.Envelope.{Envelope}
 use Rattle.wire.specs.declared.frames.message.Message.{Message}
-use Rattle.wire.specs.declared.frames.message.Message.TheVariants.{Prepare, Promise, Nack, Accept, Accepted, Ask, Decided}
+use Rattle.wire.specs.declared.frames.message.Message.TheVariants.{Prepare, Promise, Nack, Accept, Accepted, Ask, Decided, SnapAsk, SnapPart, Behind}
 use Rattle.minds.specs.declared.input.Input.{Input}
 use Rattle.minds.specs.declared.input.Input.TheVariants as input
 use Rattle.minds.specs.declared.outputs.Executed.{Executed}
 use Rattle.minds.specs.Composition.{StandsForMore, RepliesToMore}
 use Rattle.minds.specs.Executing.{Executing, executed, commands}
+use Rattle.minds.specs.Fetching.{Fetching, nothing_of, is_above_target, still_fetched, wants, with_part, missing, next_part}
 use Rattle.minds.specs.Inputs.{concerns}
 use Rattle.minds.specs.Minds.{Mind, position, asked, waits}
 use Rattle.minds.specs.Outputs.{Response, sent, silence}
 use Rattle.minds.specs.Sending.{envelopes_of, envelopes, answer_sends, decided_sends, ask_sends, ask_others}
+use Rattle.minds.specs.Sending.{to_one, to_others, snapshot_sends}
 
 -- ---- the one write that an input makes, if it makes one
 -- on a message only an acceptor writes
@@ -120,8 +124,10 @@ pub record Learns (old : Mind) (slot : ℕ) (c : Command) (l : Learning) (asks :
       learning = l;
       proposing = (after_news old slot l).0;
       machine = (execution old l).machine;
+      fetching = still_fetched (prefix l) old.fetching;
     }
     pub says : said ≡ record {
+      restored = None;
       learnt = Some (record { slot = slot; command = c });
       replies = (execution old l).replies;
       sends = proposer_sends old (after_news old slot l) ++ asks;
@@ -146,6 +152,79 @@ HearsOfVote old from v new said =
     (learned : Option Learned) × (l : Learning) × HearsVote old.learning from v learned l
     × Hears old v.command learned l [] new said
 
+-- ---- a snapshot is fetched
+-- a node is told of a floor above its position and above what it fetches: it asks every other node for the first part of that text
+abbrev pub is_ahead : Mind → ℕ → Bool
+is_ahead m floor = nat_lt (position m) floor && is_above_target m.fetching floor
+
+abbrev pub HearsOfFloor : Mind → ℕ → Bool → Mind → Response → Type 0
+HearsOfFloor old floor false new said = (new ≡ old) × (said ≡ silence)
+HearsOfFloor old floor true new said =
+    (new ≡ record old { fetching = Some (nothing_of floor) })
+    × (said ≡ sent (to_others old.id old.nodes (SnapAsk floor 0)))
+
+-- a part counts, and this is fetched with it
+pub record Counts (m : Mind) (p : Piece) (f : Fetching) : Type 0 where
+  pub before : Fetching
+  pub fetching_ : m.fetching ≡ Some before
+  pub wanted : wants m.fetching (position m) p ≡ true
+  pub is : f ≡ with_part before p
+
+-- the machine of a restored text takes the place of the node's: what it has learnt below the target is passed over
+abbrev pub restored : Mind → ℕ → MachineState → Mind
+restored m target machine = record m {
+  learning = skipped m.learning target;
+  proposing = skipped_to m.proposing target;
+  machine = machine;
+  fetching = None;
+}
+
+-- what is learnt from a slot on is executed
+abbrev pub execution_from : Mind → ℕ → Executing
+execution_from m slot = executed (executing_of m []) slot (learnt_from m slot)
+
+abbrev pub executed_to_the_end : Mind → ℕ → Mind
+executed_to_the_end m slot = with_executing m (execution_from m slot)
+
+-- what a node makes of the machine of a whole text: `m` is what it holds then
+pub record Restores (old : Mind) (from target : ℕ) (machine : MachineState) (new : Mind) (said : Response) : Type 0 where
+  pub in_log : target ≤ SLOTS
+  pub m : Mind
+  pub begins : m ≡ restored old target machine
+  pub leaves : new ≡ with_proposer (executed_to_the_end m target) (proposed (executed_to_the_end m target).proposing m.learning)
+  pub says : said ≡ record {
+    restored = Some target;
+    learnt = None;
+    replies = (execution_from m target).replies;
+    sends = proposer_sends old (proposed (executed_to_the_end m target).proposing m.learning) ++ ask_sends old.id from (position m);
+  }
+  -- what that is to each list of commands that the machine stands for
+  pub stands : StandsForMore machine new.machine (learnt_from m target)
+  pub replies : RepliesToMore machine target (learnt_from m target) said.replies
+
+-- the machine has this text
+pub record IsMachineOfText (text : List ℕ) (machine : MachineState) : Type 0 where
+  pub fits : MachineFits machine
+  pub is : snapshot_bytes machine ≡ text
+
+-- a whole text is there, which is a machine's, or none's and then given up
+pub data RestoresText (old : Mind) (from target : ℕ) (text : List ℕ) (new : Mind) (said : Response) : Type 0 where
+  restores : (machine : MachineState) → IsMachineOfText text machine → Restores old from target machine new said
+      → RestoresText old from target text new said
+  gives_up : ((machine : MachineState) → ¬ IsMachineOfText text machine) → new ≡ record old { fetching = None } → said ≡ silence
+      → RestoresText old from target text new said
+
+-- a part has come from a node
+pub data TakesPart (old : Mind) (from : ℕ) (p : Piece) (new : Mind) (said : Response) : Type 0 where
+  -- it doesn't count
+  passes : wants old.fetching (position old) p ≡ false → new ≡ old → said ≡ silence → TakesPart old from p new said
+  -- it counts, and the lowest part that is missing is asked for next
+  keeps : (f : Fetching) → Counts old p f → (number : ℕ) → missing f ≡ Some number → new ≡ record old { fetching = Some f }
+      → said ≡ sent (to_one old.id from (SnapAsk f.target number)) → TakesPart old from p new said
+  -- none is missing
+  completes : (f : Fetching) → Counts old p f → missing f ≡ None → RestoresText old from f.target (joined f.held) new said
+      → TakesPart old from p new said
+
 -- ---- what an input makes of a node, and what the node says
 abbrev pub TakesMessage : Mind → ℕ → Message → Mind → Response → Type 0
 TakesMessage old from (Prepare ballot first) new said =
@@ -161,13 +240,25 @@ TakesMessage old from (Accept v) new said =
     × (said ≡ sent (answer_sends old.id old.nodes from (accept_answer old.accepting v)))
 TakesMessage old from (Accepted v) new said = HearsOfVote old from v new said
 TakesMessage old from (Ask slot) new said =
-    (new ≡ old) × (said ≡ sent (decided_sends old.id from slot (learnt_at old.learning slot)))
+    (new ≡ old) × (said ≡ sent (decided_sends old.id from slot old.accepting.floor (learnt_at old.learning slot)))
 TakesMessage old from (Decided slot command) new said = HearsOfDecided old from slot command new said
+TakesMessage old from (SnapAsk position number) new said =
+    (new ≡ old) × (said ≡ sent (snapshot_sends old.accepting old.id from position number))
+TakesMessage old from (SnapPart p) new said = TakesPart old from p new said
+TakesMessage old from (Behind floor) new said = HearsOfFloor old floor (is_ahead old floor) new said
 
 -- an envelope that doesn't concern the node is ignored
 abbrev pub TakesEnvelope : Mind → Envelope → Bool → Mind → Response → Type 0
 TakesEnvelope old e false new said = (new ≡ old) × (said ≡ silence)
 TakesEnvelope old e true new said = TakesMessage old e.from e.message new said
+
+-- the others are asked for what is learnt at the position, or for the lowest part that is missing of what is fetched
+abbrev pub asks_for : ℕ → ℕ → ℕ → Option Fetching → List Envelope
+asks_for id nodes position None = ask_others id nodes position
+asks_for id nodes position (Some f) = to_others id nodes (SnapAsk f.target (next_part f))
+
+abbrev pub asks_again : Mind → List Envelope
+asks_again m = asks_for m.id m.nodes (position m) m.fetching
 
 -- a campaign begins, and its prepares are sent
 abbrev pub TakesTimeout : Mind → Mind → Response → Type 0
@@ -183,7 +274,7 @@ Takes old (input.Message e) new said = TakesEnvelope old e (concerns old.id old.
 Takes old input.Timeout new said = TakesTimeout old new said
 Takes old input.Tick new said =
     (new ≡ old)
-    × (said ≡ sent (envelopes old.id old.nodes (sends_again old.proposing.campaign) ++ ask_others old.id old.nodes (position old)))
+    × (said ≡ sent (envelopes old.id old.nodes (sends_again old.proposing.campaign) ++ asks_again old))
 Takes old input.Checkpoint new said =
     (new ≡ record old { accepting = after_checkpoint old.accepting (position old) (snapshot_bytes old.machine) })
     × (said ≡ silence)

@@ -52,6 +52,7 @@ fn names_run(nodes: Nodes, message: &Message) -> bool
         }
         Message::Accept(vote) | Message::Accepted(vote) => is_of_run(nodes, vote.ballot),
         Message::Ask { .. } | Message::Decided { .. } => true,
+        Message::SnapAsk { .. } | Message::SnapPart(_) | Message::Behind { .. } => true,
     }
 }
 

@@ -40,7 +40,8 @@ pub fn members_stay<S: Stable>()
         → IfOk result (λ said. All (IsBetween nodes) said.sends) }
 {}
 
-/// What a node newly learns it tells, and it tells nothing else as learnt. Where what comes fits, that is at a slot of the log.
+/// What a node newly learns it tells, and it tells nothing else as learnt. Where what comes fits, that is at a slot of the log. With a
+/// text that it restores it learns nothing.
 pub fn learnt_is_told()
     ensures told { (old new : Mind) (input : Input) (said : Response) → Takes old input new said
         → (slot : ℕ) (c : Command) → learnt_in new slot ≡ Some c
@@ -49,4 +50,6 @@ pub fn learnt_is_told()
         → (e : LogEntry) → said.learnt ≡ Some e → (learnt_in new e.slot ≡ Some e.command) × (learnt_in old e.slot ≡ None) }
     ensures in_log { (old new : Mind) (input : Input) (said : Response) → InputFits input → Takes old input new said
         → (e : LogEntry) → said.learnt ≡ Some e → e.slot < SLOTS }
+    ensures restoring { (old new : Mind) (input : Input) (said : Response) → Takes old input new said
+        → (target : ℕ) → said.restored ≡ Some target → said.learnt ≡ None }
 {}

@@ -8,7 +8,7 @@ use sessions::Number;
 use std::alloc::Global;
 use std::marker::Model;
 use synod::Slot;
-use wire::Frame;
+use wire::{Frame, Position};
 
 /// At most this many messages are sent on an input: eight proposals to each of seven nodes, and a question to six of them.
 pub const MOST_SENDS: usize = 62;
@@ -62,6 +62,8 @@ impl Text {
 /// What comes of an input, to be told in this order.
 #[derive(Drop)]
 pub struct Outputs {
+    /// The position of the checkpoint whose text was restored. Then nothing was learnt.
+    pub restored: Option<Position>,
     /// What was newly learnt.
     pub learnt: Option<LogEntry>,
     /// The replies to requests that waited, in the order of their positions.
@@ -76,6 +78,7 @@ impl Model for Outputs {
     ghost Value = { Response };
 
     ghost view = { λ o. record {
+      restored = o.restored;
       learnt = o.learnt;
       replies = o.replies.items;
       sends = o.sends.items;
@@ -88,6 +91,7 @@ impl Outputs {
         ensures { result ≡ sent sends.items }
     {
         Outputs {
+            restored: None,
             learnt: None,
             replies: Vec::new(alloc),
             sends,

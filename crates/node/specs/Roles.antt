@@ -2,7 +2,9 @@
 use Rattle.acceptor.specs.State.{accepting_of}
 use Rattle.learner.specs.State.{learning_of}
 use Rattle.node.specs.declared.roles.Roles.{Roles}
+use Rattle.std.specs.Prelude.{option_map}
 use Rattle.minds.specs.Minds.{Mind}
+use Rattle.node.specs.Fetching.{fetching_of}
 
 abbrev pub mind_of : Roles → Mind
 mind_of r = record {
@@ -12,4 +14,5 @@ mind_of r = record {
   learning = learning_of r.learner;
   proposing = r.proposer;
   machine = r.machine;
+  fetching = option_map fetching_of r.fetching;
 }

@@ -4,9 +4,11 @@
 //! before anything is sent that rests on it. The crate `minds` defines the effect of each input.
 #![tactic(auto)]
 
+mod fetching;
 mod node;
 mod roles;
 mod sends;
+mod snapshots;
 
 pub use minds::{Executed, Input, LogEntry, MOST_SENDS, NodeFault, Outputs, Text};
 pub use node::Node;

@@ -46,8 +46,8 @@ impl<S: Stable> Node<S> {
             (base : List Command) → IsBaseOf (S.contents storage) base → IsMeaningOf base m) }
         ensures position { IfSome (state_of result).up (λ m. position m ≡ m.learning.first) }
         ensures restored { IfSome (state_of result).up (λ m. IsMachineOf m.accepting.text m.machine) }
-        ensures up { IsSome (state_of result).up → S.reads storage (state_of result).storage }
-        ensures down { (state_of result).up ≡ None → S.reads storage (state_of result).storage
+        ensures up { IsSome (state_of result).up → S.looks storage (state_of result).storage }
+        ensures down { (state_of result).up ≡ None → S.looks storage (state_of result).storage
             ⊎ S.read_fails storage (state_of result).storage }
     {
         let mut storage = storage;
@@ -114,7 +114,7 @@ impl<S: Stable> Node<S> {
     #[inline(always)]
     pub fn step(&mut self, alloc: Global, input: Input) -> Result<Outputs, NodeFault>
         ensures steps { NodeSteps S.Stable (state_of self.old) input result (state_of self.new) }
-        ensures meaning { StaysMeaning (state_of self.old) result (state_of self.new) }
+        ensures meaning { StaysMeaning (state_of self.old) input result (state_of self.new) }
         ensures few { IfOk result IsFew }
 
         // After a checkpoint's or a trim's write nothing is wanted, and a trim of nothing is done.
@@ -135,7 +135,7 @@ impl<S: Stable> Node<S> {
     #[inline(always)]
     pub fn receive(&mut self, alloc: Global, envelope: &Envelope) -> Result<Outputs, NodeFault>
         ensures steps { NodeSteps S.Stable (state_of self.old) (input.Message envelope.now) result (state_of self.new) }
-        ensures meaning { StaysMeaning (state_of self.old) result (state_of self.new) }
+        ensures meaning { StaysMeaning (state_of self.old) (input.Message envelope.now) result (state_of self.new) }
         ensures few { IfOk result IsFew }
     {
         let Some(roles) = &mut self.roles else {
@@ -169,7 +169,8 @@ impl<S: Stable> Node<S> {
         ensures value { MatchOption (state_of self.now).up (result ≡ false) (λ m. result ≡ is_past m frame.now.message) }
         ensures silent { IsTrue result
             → NodeSteps S.Stable (state_of self.now) (input.Message frame.now) (Ok silence) (state_of self.now) }
-        ensures meaning { IsTrue result → StaysMeaning (state_of self.now) (Ok silence) (state_of self.now) }
+        ensures meaning { IsTrue result
+            → StaysMeaning (state_of self.now) (input.Message frame.now) (Ok silence) (state_of self.now) }
     {
         let Some(roles) = &self.roles else {
             return false;
@@ -189,8 +190,8 @@ impl<S: Stable> Node<S> {
         }
     }
 
-    // Goes down: what is not in the records is gone.
-    fn stop(&mut self)
+    /// Goes down: what is not in the records is gone. The records are as they were.
+    pub fn stop(&mut self)
         ensures { state_of self.new ≡ record (state_of self.old) { up = None } }
     {
         self.roles = None;

@@ -15,7 +15,8 @@ ghost use Rattle.minds.specs.declared.input.Input.TheVariants as input;
 ghost use Rattle.minds.specs.Composition.{IsMeaningOf, StandsForMore, RepliesToMore, AddsReplies};
 ghost use Rattle.minds.specs.Executing.{executed, with_command};
 
-use super::sends::{send_answer, send_ask, send_asks, send_decided, send_each, send_outgoing};
+use super::fetching::Fetching;
+use super::sends::{send_answer, send_ask, send_decided, send_each, send_outgoing};
 use acceptor::Acceptor;
 use learner::{Learned, Learner};
 use minds::{Executed, Input, LogEntry, NodeFault, Outputs, concerns};
@@ -30,13 +31,15 @@ use wire::{Envelope, Frame, Held, Message, Nack, NodeId, Nodes, Promise};
 
 /// A node's roles. All of it is gone after a restart.
 pub struct Roles {
-    id: NodeId,
-    nodes: Nodes,
-    acceptor: Acceptor,
-    learner: Learner,
-    proposer: Proposer,
+    pub(super) id: NodeId,
+    pub(super) nodes: Nodes,
+    pub(super) acceptor: Acceptor,
+    pub(super) learner: Learner,
+    pub(super) proposer: Proposer,
     // It has executed what is learnt, up to the learner's prefix.
-    machine: Machine,
+    pub(super) machine: Machine,
+    // The snapshot that it fetches, as it is behind others that have forgotten what it misses.
+    pub(super) fetching: Option<Fetching>,
     // Nothing: room for what is sent next.
     room: Vec<Frame>,
 }
@@ -51,12 +54,14 @@ impl Drop for Roles {
             learner,
             proposer,
             machine,
+            fetching,
             room,
         } = self;
         drop(acceptor);
         drop(learner);
         drop(proposer);
         drop(machine);
+        drop(fetching);
         drop(room);
     }
 }
@@ -90,13 +95,13 @@ impl Roles {
         ensures position { IfOk result (λ roles. position (mind_of roles) ≡ (mind_of roles).learning.first) }
         ensures restored { IfOk result (λ roles. IsMachineOf (mind_of roles).accepting.text (mind_of roles).machine) }
         ensures sound { S.IsHonest storage.new → OnOk result (¬ (IsDamaged S.Stable storage.old)) }
-        ensures reads { OnOk result (S.reads storage.old storage.new) }
+        ensures looks { OnOk result (S.looks storage.old storage.new) }
         ensures settled { OnOk result (S.IsSettled storage.new) }
 
         // Each error.
         ensures device { IsErrOf result StableFault.Device → S.read_fails storage.old storage.new }
-        ensures memory { IsErrOf result StableFault.Memory → S.reads storage.old storage.new }
-        ensures damaged { IsErrOf result StableFault.Damaged → S.reads storage.old storage.new }
+        ensures memory { IsErrOf result StableFault.Memory → S.looks storage.old storage.new }
+        ensures damaged { IsErrOf result StableFault.Damaged → S.looks storage.old storage.new }
         ensures damaged_record { S.IsHonest storage.new → IsErrOf result StableFault.Damaged
             → IsDamaged S.Stable storage.old }
     {
@@ -110,6 +115,7 @@ impl Roles {
             learner,
             proposer,
             machine,
+            fetching: None,
             room: Vec::new(alloc),
         })
     }
@@ -139,7 +145,7 @@ impl Roles {
     }
 
     // An empty list, with the room that there is.
-    fn take_room(&mut self, alloc: Global) -> Vec<Frame>
+    pub(super) fn take_room(&mut self, alloc: Global) -> Vec<Frame>
         ensures empty { result.items ≡ [] }
         ensures same { mind_of self.new ≡ mind_of self.old }
     {
@@ -263,7 +269,7 @@ impl Roles {
         Ok(Outputs::sent(alloc, sends))
     }
 
-    /// What may have been lost is sent again, and the others are asked for what is learnt at the position.
+    /// What may have been lost is sent again, and the others are asked for what is missing.
     fn tick(&mut self, alloc: Global) -> Result<Outputs, NodeFault>
         ensures takes { IfOk result (λ said.
             Takes (mind_of self.old) input.Tick (mind_of self.new) said) }
@@ -272,7 +278,7 @@ impl Roles {
         let again = self.proposer.tick(alloc)?;
         let mut sends = self.take_room(alloc);
         send_each(alloc, &mut sends, self.id, self.nodes, again)?;
-        send_asks(alloc, &mut sends, self.id, self.nodes, self.position())?;
+        self.ask_again(alloc, &mut sends)?;
         Ok(Outputs::sent(alloc, sends))
     }
 
@@ -377,6 +383,11 @@ impl Roles {
             Message::Decided { slot, command } => {
                 self.on_decided(alloc, from, *slot, command.share()?)
             }
+            Message::SnapAsk { position, number } => {
+                self.on_snap_ask(alloc, from, *position, *number)
+            }
+            Message::SnapPart(part) => self.on_part(alloc, from, part),
+            Message::Behind { floor } => self.on_behind(alloc, *floor),
         }
     }
 
@@ -511,7 +522,7 @@ impl Roles {
         Ok(Outputs::sent(alloc, sends))
     }
 
-    /// What is learnt at a slot, to the node that asks.
+    /// What is learnt at a slot, to the node that asks, or else, where a checkpoint stands for the slot, where that ends.
     fn tell_decided(
         &self,
         alloc: Global,
@@ -520,12 +531,16 @@ impl Roles {
         slot: Slot,
     ) -> Result<(), AllocError>
         ensures { OnOk result (sends.new.items ≡ sends.old.items
-            ++ decided_sends (mind_of self.now).id to slot (learnt_at (mind_of self.now).learning slot)) }
+            ++ decided_sends (mind_of self.now).id to slot (mind_of self.now).accepting.floor
+            (learnt_at (mind_of self.now).learning slot)) }
     {
-        match self.learner.get(slot) {
-            Some(command) => send_decided(alloc, sends, self.id, to, slot, command),
-            None => Ok(()),
+        if let Some(command) = self.learner.get(slot) {
+            return send_decided(alloc, sends, self.id, to, slot, command);
         }
+        if slot.value() < self.floor() {
+            return self.tell_floor(alloc, sends, to);
+        }
+        Ok(())
     }
 
     /// A slot is newly learnt: what is learnt by now is executed, from the position before on, and the proposer proposes.
@@ -546,7 +561,9 @@ impl Roles {
         self.proposer.on_learned(slot);
         let replies = self.execute(alloc, from)?;
         let sends = self.propose(alloc)?;
+        self.give_up_reached();
         Ok(Outputs {
+            restored: None,
             learnt: Some(LogEntry { slot, command }),
             replies,
             sends,
@@ -554,7 +571,7 @@ impl Roles {
     }
 
     /// Executes what is learnt, from a slot to the position: the replies to requests that waited.
-    fn execute(&mut self, alloc: Global, from: u32) -> Result<Vec<Executed>, AllocError>
+    pub(super) fn execute(&mut self, alloc: Global, from: u32) -> Result<Vec<Executed>, AllocError>
         requires kept { (mind_of self.old).learning.first ≤ from }
         ensures executes { IfOk result (λ replies. executing_of (mind_of self.new) replies.items
             ≡ executed (executing_of (mind_of self.old) []) from (learnt_from (mind_of self.old) from)) }
@@ -603,7 +620,7 @@ impl Roles {
     }
 
     /// The proposer proposes what it may: what is sent.
-    fn propose(&mut self, alloc: Global) -> Result<Vec<Frame>, AllocError>
+    pub(super) fn propose(&mut self, alloc: Global) -> Result<Vec<Frame>, AllocError>
         ensures state { OnOk result (mind_of self.new ≡ with_proposer (mind_of self.old)
             (proposed (mind_of self.old).proposing (mind_of self.old).learning)) }
         ensures sends { IfOk result (λ sends. sends.items ≡ proposer_sends (mind_of self.old)

@@ -3,7 +3,7 @@
 ghost use Rattle.std.specs.Prelude.{◌≡◌, ◌++◌, ◌==◌, ◌<◌, IfOk, OnOk, filter, not};
 ghost use Rattle.wire.specs.NodeSets.{has_node};
 ghost use Rattle.wire.specs.declared.frames.message.Message.TheVariants as message;
-ghost use Rattle.minds.specs.Sending.{to_one, to_all, envelopes_of, envelopes, answer_sends, ask_sends, ask_others};
+ghost use Rattle.minds.specs.Sending.{to_one, to_all, to_others, envelopes_of, envelopes, answer_sends, ask_sends, ask_others};
 
 use acceptor::Answer;
 use proposer::{Outgoing, Recipients};
@@ -100,7 +100,7 @@ pub fn send_outgoing(
     }
 }
 
-/// An acceptor's answer, to whom it concerns. That a slot is behind is told to nobody.
+/// An acceptor's answer, to whom it concerns.
 pub fn send_answer(
     alloc: Global,
     sends: &mut Vec<Frame>,
@@ -115,7 +115,7 @@ pub fn send_answer(
         Answer::Promise(promise) => send(alloc, sends, from, to, &Message::Promise(promise)),
         Answer::Nack(nack) => send(alloc, sends, from, to, &Message::Nack(nack)),
         Answer::Accepted(vote) => send_to_all(alloc, sends, from, nodes, &Message::Accepted(vote)),
-        Answer::Behind(_) => Ok(()),
+        Answer::Behind(floor) => send(alloc, sends, from, to, &Message::Behind { floor }),
     }
 }
 
@@ -163,7 +163,20 @@ pub fn send_asks(
     let Some(slot) = Slot::new(position) else {
         return Ok(());
     };
+    send_to_the_others(alloc, sends, from, nodes, &Message::Ask { slot })
+}
+
+/// A message from one node to every other, in order of their numbers.
+pub fn send_to_the_others(
+    alloc: Global,
+    sends: &mut Vec<Frame>,
+    from: NodeId,
+    nodes: Nodes,
+    message: &Message,
+) -> Result<(), AllocError>
+    ensures { OnOk result (sends.new.items ≡ sends.old.items ++ to_others from nodes message.now) }
+{
     let mut itself = NodeSet::new();
     itself.insert(from);
-    send_to_others(alloc, sends, from, nodes, &itself, &Message::Ask { slot })
+    send_to_others(alloc, sends, from, nodes, &itself, message)
 }

@@ -1,4 +1,4 @@
-use Rattle.minds.proofs.Learnt.{takes_tells}
+use Rattle.minds.proofs.Learnt.{takes_tells, takes_restored}
 use Rattle.minds.proofs.LearntSlots.{taken_in_log}
 use Rattle.minds.proofs.laws.learnt_is_told.Goals as goal
 
@@ -10,3 +10,6 @@ returns-clause-news c = λ old new input said k. (takes_tells old new said input
 
 pub returns-clause-in_log : goal.returns-clause-in_log
 returns-clause-in_log c = λ old new i said fits takes. taken_in_log old new said i fits takes
+
+pub returns-clause-restoring : goal.returns-clause-restoring
+returns-clause-restoring c = λ old new input said k. takes_restored old new said input k

@@ -5,6 +5,7 @@ use Rattle.node.specs.Roles.{mind_of}
 use Rattle.minds.specs.declared.input.Input.TheVariants as input
 use Rattle.minds.proofs.Fewness.{said_few}
 use Rattle.minds.proofs.Meanings.{meaning_stays}
+use Rattle.minds.proofs.Restoring.{meaning_restored}
 use Rattle.minds.proofs.StepLemmas.{steps_up, steps_down, stays_down}
 use Rattle.node.proofs.node.Node.receive.Goals as goal
 
@@ -31,6 +32,9 @@ returns g c =
         goes_on = λ base. meaning_stays base (input.Message c.args.envelope.now) _ _ m n r _ up c.stop_after.ensures.ok
             (λ same. ap (λ n. (state_of n).up) same)
             c.receive-result.ensures.takes;
+        restores = λ base. meaning_restored base (input.Message c.args.envelope.now) _ _ m n r _ up c.stop_after.ensures.ok
+            (λ same. ap (λ n. (state_of n).up) same)
+            c.receive-result.ensures.takes;
       };
       few = said_few (input.Message c.args.envelope.now) m n r c.see_small.ensures c.receive-result.ensures.takes;
     }
@@ -39,4 +43,4 @@ returns g c =
 pub returns-in_default : goal.returns-in_default
 returns-in_default g c =
     let down : (state_of c.args.self.now).up ≡ None = ap (λ o. option_map mind_of o) c.in_default.is in
-    record { steps = steps_down _ _ _ down; meaning = stays_down _ down; few = tt }
+    record { steps = steps_down _ _ _ down; meaning = stays_down _ _ down; few = tt }

@@ -23,7 +23,7 @@ returns-clause-restarts g c =
           (rw id at (rw nodes at c.in_ok-roles.ensures.own));
       fresh = λ m up. subst (λ (x : Mind). IsFresh c.args.self.now.id c.args.self.now.nodes x) (same_Some _ m up)
           (rw id at (rw nodes at c.in_ok-roles.ensures.fresh));
-      up = (refl, rw storage at c.in_ok-roles.ensures.reads);
+      up = (refl, rw storage at c.in_ok-roles.ensures.looks);
       loads = λ honest. rw id at (rw nodes at (rw storage at (c.in_ok-roles.ensures.loads honest)));
       down = search rules;
       sound = λ honest. rw storage at (c.in_ok-roles.ensures.sound honest);

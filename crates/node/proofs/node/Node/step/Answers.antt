@@ -6,6 +6,7 @@ use Rattle.node.specs.Seen.{state_of}
 use Rattle.node.specs.Roles.{mind_of}
 use Rattle.minds.proofs.Fewness.{said_few}
 use Rattle.minds.proofs.Meanings.{meaning_stays}
+use Rattle.minds.proofs.Restoring.{meaning_restored}
 use Rattle.minds.proofs.StepLemmas.{steps_up, steps_down, stays_down}
 use Rattle.node.proofs.node.Node.step.Goals as goal
 
@@ -31,6 +32,9 @@ returns g c =
       meaning = record {
         goes_on = λ base. meaning_stays base c.args.input _ _ m n r _ up c.stop_after.ensures.ok (λ same. ap (λ n. (state_of n).up) same)
             c.take-result.ensures.takes;
+        restores = λ base. meaning_restored base c.args.input _ _ m n r _ up c.stop_after.ensures.ok
+            (λ same. ap (λ n. (state_of n).up) same)
+            c.take-result.ensures.takes;
       };
       few = said_few c.args.input m n r c.see_small.ensures c.take-result.ensures.takes;
       unwritten = λ memory alone. subst (λ s. g.S.Stable.reads c.args.self.now.storage s) (sym c.stop_after.ensures.storage)
@@ -44,7 +48,7 @@ returns-in_default g c =
     let down : (state_of c.args.self.now).up ≡ None = ap (λ o. option_map mind_of o) c.in_default.is in
     record {
       steps = steps_down _ _ _ down;
-      meaning = stays_down _ down;
+      meaning = stays_down _ _ down;
       few = tt;
       unwritten = λ memory. absurd cc;
       wanted = subst (λ (o : Option Mind). IfSome o (λ m. MayWant m c.args.input)) (sym down) tt;

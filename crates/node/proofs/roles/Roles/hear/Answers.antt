@@ -115,3 +115,30 @@ returns-in_ok-share-in-Decided g c =
       device = λ is. absurd (memory_alone c.on_decided.result c.on_decided.ensures.err is);
       memory = λ _. inl (g.met.S.Stable.laws.reads_none _);
     })
+
+pub returns-in-SnapAsk : goal.returns-in-SnapAsk
+returns-in-SnapAsk g c = rw c.in-SnapAsk.is (record {
+  takes = c.on_snap_ask.ensures.takes;
+  written = on_ok c.on_snap_ask.result (made_none _ _ _ _ (g.met.S.Stable.laws.reads_none _) refl);
+  err = memory_of_two c.on_snap_ask.result c.on_snap_ask.ensures.err;
+  device = λ is. absurd (memory_alone c.on_snap_ask.result c.on_snap_ask.ensures.err is);
+  memory = λ _. inl (g.met.S.Stable.laws.reads_none _);
+})
+
+pub returns-in-SnapPart : goal.returns-in-SnapPart
+returns-in-SnapPart g c = rw c.in-SnapPart.is (record {
+  takes = c.on_part.ensures.takes;
+  written = on_ok c.on_part.result (made_none _ _ _ _ (g.met.S.Stable.laws.reads_none _) refl);
+  err = memory_of_two c.on_part.result c.on_part.ensures.err;
+  device = λ is. absurd (memory_alone c.on_part.result c.on_part.ensures.err is);
+  memory = λ _. inl (g.met.S.Stable.laws.reads_none _);
+})
+
+pub returns-in-Behind : goal.returns-in-Behind
+returns-in-Behind g c = rw c.in-Behind.is (record {
+  takes = c.on_behind.ensures.takes c.args.from;
+  written = on_ok c.on_behind.result (made_none _ _ _ _ (g.met.S.Stable.laws.reads_none _) refl);
+  err = memory_of_two c.on_behind.result c.on_behind.ensures.err;
+  device = λ is. absurd (memory_alone c.on_behind.result c.on_behind.ensures.err is);
+  memory = λ _. inl (g.met.S.Stable.laws.reads_none _);
+})

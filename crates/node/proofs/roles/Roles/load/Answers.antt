@@ -1,4 +1,4 @@
-use Rattle.std.proofs.Common.{◌≡◌, ℕ, ◌≤◌, List, Option, Some, None, MatchOption, IfSome, inl, inr, rules, sym, ap, ◌∙◌, subst, arith}
+use Rattle.std.proofs.Common.{◌≡◌, ℕ, ◌≤◌, List, Option, Some, None, MatchOption, IfSome, inl, inr, rules, refl, sym, ap, ◌∙◌, subst, arith}
 use Rattle.stable.specs.Records.{Records}
 use Rattle.stable.specs.declared.key.Key.TheVariants as key
 use Rattle.acceptor.specs.Forms.{IsOfItsForm, AreOfTheirForm, HasDamagedRecord}
@@ -31,7 +31,7 @@ pub returns-clause-sound : goal.returns-clause-sound
 returns-clause-sound g c = λ honest damaged.
     let law = g.met.S.Stable.laws in
     let still = law.reads_honest _ _ c.in_ok-proposer.ensures.reads honest in
-    let same = law.reads_contents _ _ c.in_ok-acceptor.ensures.reads still in
+    let same = law.reads_contents _ _ (law.looks_reads _ _ c.in_ok-acceptor.ensures.looks) still in
     elim damaged [
       | inl stray ↦ c.in_ok-acceptor.ensures.no_stray still stray
       | inr (inl record_) ↦ records_sound _ (c.in_ok-acceptor.ensures.form still) record_
@@ -43,7 +43,7 @@ pub returns-clause-loads : goal.returns-clause-loads
 returns-clause-loads g c = λ honest.
     let law = g.met.S.Stable.laws in
     let still = law.reads_honest _ _ c.in_ok-proposer.ensures.reads honest in
-    let same = law.reads_contents _ _ c.in_ok-acceptor.ensures.reads still in
+    let same = law.reads_contents _ _ (law.looks_reads _ _ c.in_ok-acceptor.ensures.looks) still in
     let round = round_loaded _ _ _ _ (c.in_ok-proposer.ensures.round honest) in
     record {
       number = search rules;
@@ -52,11 +52,12 @@ returns-clause-loads g c = λ honest.
       learning = c.start_at-learner.ensures ∙ ap (unlearnt_from c.args.nodes) c.floor.ensures.value;
       proposing = subst (λ records. LoadsRound (records key.Round) c.args.id c.args.nodes c.in_ok-proposer.proposer) same round;
       machine = c.in_ok-acceptor.ensures.machine still;
+      fetching = refl;
     }
 
-pub returns-clause-reads : goal.returns-clause-reads
-returns-clause-reads g c =
-    g.met.S.Stable.laws.reads_reads _ _ _ c.in_ok-acceptor.ensures.reads c.in_ok-proposer.ensures.reads
+pub returns-clause-looks : goal.returns-clause-looks
+returns-clause-looks g c =
+    g.met.S.Stable.laws.looks_then_reads _ _ _ c.in_ok-acceptor.ensures.looks c.in_ok-proposer.ensures.reads
 
 pub returns-clause-settled : goal.returns-clause-settled
 returns-clause-settled g c =
@@ -77,6 +78,7 @@ returns-clause-fresh g c =
       learning = begins.0;
       first_in_log = begins.1;
       proposing = c.in_ok-proposer.ensures.own;
+      fetching = refl;
     }
 
 pub returns-clause-position : goal.returns-clause-position
@@ -99,19 +101,20 @@ returns-clause-own g c = record {
 -- what the proposer finds in the storage that the acceptor only read, it would have found there before
 pub returns-in_err-proposer-clause-device : goal.returns-in_err-proposer-clause-device
 returns-in_err-proposer-clause-device g c = λ device.
-    g.met.S.Stable.laws.reads_read_fails _ _ _ c.in_ok-acceptor.ensures.reads (c.in_err-proposer.ensures.device (search rules))
+    let law = g.met.S.Stable.laws in
+    law.reads_read_fails _ _ _ (law.looks_reads _ _ c.in_ok-acceptor.ensures.looks) (c.in_err-proposer.ensures.device (search rules))
 
 pub returns-in_err-proposer-clause-memory : goal.returns-in_err-proposer-clause-memory
 returns-in_err-proposer-clause-memory g c = λ memory.
-    g.met.S.Stable.laws.reads_reads _ _ _ c.in_ok-acceptor.ensures.reads (c.in_err-proposer.ensures.memory (search rules))
+    g.met.S.Stable.laws.looks_then_reads _ _ _ c.in_ok-acceptor.ensures.looks (c.in_err-proposer.ensures.memory (search rules))
 
 pub returns-in_err-proposer-clause-damaged : goal.returns-in_err-proposer-clause-damaged
 returns-in_err-proposer-clause-damaged g c = λ damaged.
-    g.met.S.Stable.laws.reads_reads _ _ _ c.in_ok-acceptor.ensures.reads (c.in_err-proposer.ensures.damaged_reads (search rules))
+    g.met.S.Stable.laws.looks_then_reads _ _ _ c.in_ok-acceptor.ensures.looks (c.in_err-proposer.ensures.damaged_reads (search rules))
 
 pub returns-in_err-proposer-clause-damaged_record : goal.returns-in_err-proposer-clause-damaged_record
 returns-in_err-proposer-clause-damaged_record g c = λ honest damaged.
     let law = g.met.S.Stable.laws in
     let still = law.reads_honest _ _ (c.in_err-proposer.ensures.damaged_reads (search rules)) honest in
-    let same = law.reads_contents _ _ c.in_ok-acceptor.ensures.reads still in
+    let same = law.reads_contents _ _ (law.looks_reads _ _ c.in_ok-acceptor.ensures.looks) still in
     inr (inr (rw same at (c.in_err-proposer.ensures.damaged honest (search rules))))

@@ -10,7 +10,7 @@ use Rattle.node.proofs.roles.Roles.on_ask.Goals as goal
 -- the room that was taken changes nothing of what is known
 pub returns-clause-takes : goal.returns-clause-takes
 returns-clause-takes c =
-    let told : Mind → List Envelope = λ m. decided_sends m.id c.args.from c.args.slot (learnt_at m.learning c.args.slot) in
+    let told : Mind → List Envelope = λ m. decided_sends m.id c.args.from c.args.slot m.accepting.floor (learnt_at m.learning c.args.slot) in
     let now : Mind = mind_of c.take_room-sends.new.self in
     let said : c.sent.result ≡ sent (told now) =
     c.sent.ensures ∙ ap sent (c.in_ok-tell_decided.ensures ∙ ap (λ (es : List Envelope). es ++ told now) c.take_room-sends.ensures.empty) in

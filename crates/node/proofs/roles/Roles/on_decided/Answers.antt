@@ -34,7 +34,7 @@ returns-clause-takes c =
       subst (λ (o : Option Learned). HearsDecided old.learning c.args.slot c.args.command o l) c.in-Some.is heard,
       asks_last old c.in-Some.learned.slot c.args.command l (ask_sends old.id c.args.from (prefix l)) (mind_of c.go_on.new.self)
           c.in_ok-outputs.outputs _ learns
-          (ap (λ (es : List Envelope). record { learnt = c.outputs.inside.learnt; replies = c.outputs.inside.replies.items; sends = es })
+          (ap (λ (es : List Envelope). record { restored = c.outputs.inside.restored; learnt = c.outputs.inside.learnt; replies = c.outputs.inside.replies.items; sends = es })
           sent
           ∙ ap (λ (r : Response). record r { sends = r.sends ++ ask_sends old.id c.args.from (prefix l) }) c.outputs.view_is),
     )
