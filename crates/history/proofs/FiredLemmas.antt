@@ -44,6 +44,7 @@ CountsOn a b = (b.fired ≡ a.fired) ⊎ (b.fired ≡ counted a.fired)
 -- so it is of every kind of call
 pub record CountsCalls {S : Type 0} (storages : Ghosts (Script S)) : Type 0 where
   pub reading : (a b : Script S) → storages.reads a b → CountsOn a b
+  pub looking : (a b : Script S) → storages.looks a b → CountsOn a b
   pub failed_reading : (a b : Script S) → storages.read_fails a b → CountsOn a b
   pub changing : (a b : Script S) (change : Change) → storages.changes a change b → CountsOn a b
   pub failed_changing : (a b : Script S) (change : Change) → storages.fails a change b → CountsOn a b
@@ -58,6 +59,7 @@ module _ {S : Type 0} (storages : Ghosts S) where
   pub script_counts : CountsCalls (scripted storages)
   script_counts = record {
     reading = λ a b r. inl r.fired;
+    looking = λ a b l. inl l.read.fired;
     failed_reading = read_fails_fired;
     changing = λ a b change p. inl p.fired;
     failed_changing = fails_count;
@@ -206,10 +208,10 @@ module _ {S : Type 0} {storages : Ghosts (Script S)} (calls : CountsCalls storag
   -- a node restarts
   restarted : (old new : NodeState (Script S)) (result : Result (Unit {0}) NodeFault) → Restarts storages old result new
       → CountsOn old.storage new.storage
-  restarted old new (Ok x) h = calls.reading old.storage new.storage h.up.1
+  restarted old new (Ok x) h = calls.looking old.storage new.storage h.up.1
   restarted old new (Err f) h = elim h.other [
     | inl device ↦ calls.failed_reading old.storage new.storage (h.device (ap failed_with device))
-    | inr other ↦ calls.reading old.storage new.storage other.1
+    | inr other ↦ calls.looking old.storage new.storage other.1
   ]
 
   counts : HoldsOf storages (λ old e new. CountsStep old new)

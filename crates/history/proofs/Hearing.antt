@@ -16,7 +16,7 @@ use Rattle.wire.specs.declared.frames.envelope.Envelope.{Envelope}
 use Rattle.wire.specs.declared.frames.message.Message.TheVariants.{Accepted}
 use Rattle.minds.specs.declared.input.Input.TheVariants as input
 use Rattle.minds.specs.Inputs.{role_of, concerns}
-use Rattle.minds.specs.Inputs.Role.{Learner}
+use Rattle.minds.specs.Inputs.Role.{Learner, Fetcher}
 use Rattle.minds.specs.Minds.{Mind}
 use Rattle.minds.specs.Outputs.{Response}
 use Rattle.minds.specs.Taking.{Takes, TakesEnvelope, TakesMessage}
@@ -174,15 +174,15 @@ hears_of_vote old from v new said (learned, l, heard, k) = (
   subst (λ (x : Learning). HearsVote old.learning from v learned x) (sym (heard_learner old new said v.command learned l _ k)) heard,
 )
 
--- its learner is as it was, where the message is for another role
+-- its learner is as it was, where the message is for another role, and brings no part of a text
 same_by_envelope : (old : Mind) (e : Envelope) (b : Bool) (new : Mind) (said : Response) → role_of e.message ≢ Learner
-    → TakesEnvelope old e b new said → new.learning ≡ old.learning
-same_by_envelope old e false new said other h = ap (λ (m : Mind). m.learning) h.0
-same_by_envelope old e true new said other h = (learns_nothing old new said e.from e.message other h).learner
+    → role_of e.message ≢ Fetcher → TakesEnvelope old e b new said → new.learning ≡ old.learning
+same_by_envelope old e false new said other apart h = ap (λ (m : Mind). m.learning) h.0
+same_by_envelope old e true new said other apart h = (learns_nothing old new said e.from e.message other apart h).learner
 
 pub same_learner : (old : Mind) (e : Envelope) (new : Mind) (said : Response) → role_of e.message ≢ Learner
-    → Takes old (input.Message e) new said → new.learning ≡ old.learning
-same_learner old e new said other h = same_by_envelope old e (concerns old.id old.nodes e) new said other h
+    → role_of e.message ≢ Fetcher → Takes old (input.Message e) new said → new.learning ≡ old.learning
+same_learner old e new said other apart h = same_by_envelope old e (concerns old.id old.nodes e) new said other apart h
 
 -- ---- whatever message comes
 -- what is learnt stays learnt

@@ -1,6 +1,7 @@
 -- one node of a world
 pub mod StorageLaws
 pub mod RestartLemmas
+pub mod ArmedReads
 pub mod FloorLemmas
 pub mod NodeMoves
 pub mod Casting
@@ -15,6 +16,9 @@ pub mod FleetSteps
 pub mod MovingLemmas
 pub mod WorldMoves
 pub mod SafetyLemmas
+-- the parts of texts that nodes send and hold
+pub mod SentParts
+pub mod HeldParts
 -- what the lists tell, and the list that explains them
 pub mod Tellings
 pub mod Longer

@@ -367,10 +367,10 @@ module _ {S : Type 0} {storages : Ghosts (Script S)} (laws : IsLawful storages)
   -- and a restart
   pub restart_goes : (old new : NodeState (Script S)) (r : Result (Unit {0}) NodeFault) → Restarts storages old r new
       → storages.IsHonest new.storage → GoesOn storages.contents None old.storage new.storage
-  restart_goes old new (Ok x) h honest = lists.reads_on old.storage new.storage h.up.1 honest
+  restart_goes old new (Ok x) h honest = lists.reads_on old.storage new.storage (laws.looks_reads _ _ h.up.1) honest
   restart_goes old new (Err f) h honest = elim h.other [
     | inl device ↦ lists.read_fails_on old.storage new.storage (h.device (ap failed_with device)) honest
-    | inr other ↦ lists.reads_on old.storage new.storage other.1 honest
+    | inr other ↦ lists.reads_on old.storage new.storage (laws.looks_reads _ _ other.1) honest
   ]
 
   module _ (nodes i : ℕ) (there : i < nodes) (few : nodes ≤ 7) (w : synod_runs.World Command) (reached : IsReached (fleet nodes) w) where
@@ -462,10 +462,10 @@ module _ {S : Type 0} {storages : Ghosts (Script S)} (laws : IsLawful storages)
     -- ---- a restart
     restart_list : (old new : NodeState (Script S)) (r : Result (Unit {0}) NodeFault) → Restarts storages old r new
         → (new.storage.unsure ≡ None) ⊎ ((new.storage.writes ≡ old.storage.writes) × (new.storage.unsure ≡ old.storage.unsure))
-    restart_list old new (Ok x) h = lists.reads_unsure old.storage new.storage h.up.1
+    restart_list old new (Ok x) h = lists.reads_unsure old.storage new.storage (laws.looks_reads _ _ h.up.1)
     restart_list old new (Err f) h = elim h.other [
       | inl device ↦ lists.read_fails_unsure old.storage new.storage (h.device (ap failed_with device))
-      | inr other ↦ lists.reads_unsure old.storage new.storage other.1
+      | inr other ↦ lists.reads_unsure old.storage new.storage (laws.looks_reads _ _ other.1)
     ]
 
     sure_again : (new : NodeState (Script S)) (r : Result (Unit {0}) NodeFault) → OnOk r (new.storage.unsure ≡ None)

@@ -43,6 +43,7 @@ pub record IsItsOwn (i : Input) : Type 0 where
   pub fits : InputFits i
   pub unasked : (node nodes : ℕ) → input_of node nodes i ≡ act.Nothing
   pub unsubmitted : (node : ℕ) (taken : Bool) → taken_of node i taken ≡ []
+  pub unsent : (frame : Envelope) → i ≡ input.Message frame → ⊥
 
 -- an outcome that tells of no entry of a list
 pub record BringsNothing (o : Outcome) : Type 0 where
@@ -69,16 +70,16 @@ pub record HoldsOf {S : Type 0} (storages : Ghosts (Script S)) (R : WorldState S
       → AsksAt old node query new → R old e new
 
 own_timeout : IsItsOwn input.Timeout
-own_timeout = record { fits = tt; unasked = λ node nodes. refl; unsubmitted = λ node taken. refl }
+own_timeout = record { fits = tt; unasked = λ node nodes. refl; unsubmitted = λ node taken. refl; unsent = λ frame is. cc }
 
 own_tick : IsItsOwn input.Tick
-own_tick = record { fits = tt; unasked = λ node nodes. refl; unsubmitted = λ node taken. refl }
+own_tick = record { fits = tt; unasked = λ node nodes. refl; unsubmitted = λ node taken. refl; unsent = λ frame is. cc }
 
 own_checkpoint : IsItsOwn input.Checkpoint
-own_checkpoint = record { fits = tt; unasked = λ node nodes. refl; unsubmitted = λ node taken. refl }
+own_checkpoint = record { fits = tt; unasked = λ node nodes. refl; unsubmitted = λ node taken. refl; unsent = λ frame is. cc }
 
 own_trim : IsItsOwn input.Trim
-own_trim = record { fits = tt; unasked = λ node nodes. refl; unsubmitted = λ node taken. refl }
+own_trim = record { fits = tt; unasked = λ node nodes. refl; unsubmitted = λ node taken. refl; unsent = λ frame is. cc }
 
 nothing : BringsNothing (Done 0 0)
 nothing = record { learnt = refl; replies = refl; answers = refl }

@@ -10,15 +10,18 @@ use Rattle.learner.specs.declared.learned.Learned.{Learned}
 use Rattle.proposer.specs.Proposing.{Proposing, with_promised, next_round}
 use Rattle.proposer.specs.declared.outgoing.Outgoing.{Outgoing}
 use Rattle.proposer.proofs.Votes.{in_cons, in_head, in_none}
+use Rattle.wire.specs.Parts.{Piece}
 use Rattle.wire.specs.Promises.{Refused}
 use Rattle.wire.specs.declared.frames.envelope.Envelope.{Envelope}
 use Rattle.wire.specs.declared.frames.message.Message.{Message}
-use Rattle.wire.specs.declared.frames.message.Message.TheVariants.{Prepare, Promise, Nack, Accepted, Decided}
+use Rattle.wire.specs.declared.frames.message.Message.TheVariants.{Prepare, Promise, Nack, Accepted, Decided, SnapPart, Behind}
 use Rattle.minds.specs.Inputs.{concerns, names_run}
 use Rattle.minds.specs.Minds.{Mind, asked, waits}
 use Rattle.minds.specs.Outputs.{Response}
 use Rattle.minds.specs.Taking.{Takes, TakesEnvelope, TakesMessage, Hears, after_counting, proposer_of, proposed, execution}
-use Rattle.minds.specs.Taking.{with_request}
+use Rattle.minds.specs.Taking.{with_request, HearsOfFloor, TakesPart, RestoresText, is_ahead, executed_to_the_end}
+use Rattle.minds.specs.Taking.TakesPart.{passes, keeps, completes}
+use Rattle.minds.specs.Taking.RestoresText.{restores, gives_up}
 use Rattle.minds.proofs.Campaigns.{KeepsRest, proposes_keeps, counting_keeps}
 use Rattle.minds.specs.declared.input.Input.{Input}
 use Rattle.minds.specs.declared.input.Input.TheVariants as input
@@ -69,6 +72,27 @@ hears_grows old c (Some learned) l asks new said h =
     with_grows old new _ h.leaves refl (over old.proposing p (proposed p l) (record { refused_ = refl; round_ = refl })
     (proposes_keeps p p.campaign l))
 
+-- a part of a text has come
+text_grows : (old : Mind) (from target : ℕ) (text : List ℕ) (new : Mind) (said : Response) → RestoresText old from target text new said
+    → Grows old new
+text_grows old from target text new said (restores machine has k) =
+    let q : Proposing = (executed_to_the_end k.m target).proposing in
+    with_grows old new _ k.leaves (ap (λ (m : Mind). m.id) k.begins) (over old.proposing q (proposed q k.m.learning)
+    (record {
+      refused_ = ap (λ (m : Mind). m.proposing.refused) k.begins;
+      round_ = ap (λ (m : Mind). m.proposing.round) k.begins;
+    }) (proposes_keeps q q.campaign k.m.learning))
+text_grows old from target text new said (gives_up none leaves says) = with_grows old new _ leaves refl (same_rounds old.proposing)
+
+part_grows : (old : Mind) (from : ℕ) (p : Piece) (new : Mind) (said : Response) → TakesPart old from p new said → Grows old new
+part_grows old from p new said (passes unwanted leaves says) = with_grows old new _ leaves refl (same_rounds old.proposing)
+part_grows old from p new said (keeps f counts number is leaves says) = with_grows old new _ leaves refl (same_rounds old.proposing)
+part_grows old from p new said (completes f counts all k) = text_grows old from f.target _ new said k
+
+floor_grows : (old : Mind) (floor : ℕ) (b : Bool) (new : Mind) (said : Response) → HearsOfFloor old floor b new said → Grows old new
+floor_grows old floor false new said h = with_grows old new _ h.0 refl (same_rounds old.proposing)
+floor_grows old floor true new said h = with_grows old new _ h.0 refl (same_rounds old.proposing)
+
 message_grows : (old : Mind) (from : ℕ) (message : Message) (new : Mind) (said : Response) → TakesMessage old from message new said
     → Grows old new
 message_grows old from (Prepare ballot first) new said h = with_grows old new _ h.2 refl (same_rounds old.proposing)
@@ -82,6 +106,8 @@ message_grows old from (Nack n) new said h =
     record { own = ap (λ (m : Mind). m.id) h.0; refused_ = omega (arith, is); round_ = omega (arith, round) }
 message_grows old from (Accepted v) new said (learned, l, heard, k) = hears_grows old v.command learned l _ new said k
 message_grows old from (Decided slot c) new said (learned, l, heard, k) = hears_grows old c learned l _ new said k
+message_grows old from (SnapPart p) new said h = part_grows old from p new said h
+message_grows old from (Behind floor) new said h = floor_grows old floor (is_ahead old floor) new said h
 message_grows old from other new said h = with_grows old new _ h.0 refl (same_rounds old.proposing)
 
 envelope_grows : (old : Mind) (e : Envelope) (b : Bool) (new : Mind) (said : Response) → TakesEnvelope old e b new said → Grows old new

@@ -83,12 +83,12 @@ module _ {S : Type 0} {storages : Ghosts (Script S)} (laws : IsLawful storages) 
   restart_reads : (old new : NodeState (Script S)) (result : Result (Unit {0}) NodeFault) → Restarts storages old result new
       → storages.IsHonest new.storage → SameAndHonest old new
   unfolding SameAndHonest
-  restart_reads old new (Ok x) h honest = read_only old new h.up.1 honest
+  restart_reads old new (Ok x) h honest = read_only old new (laws.looks_reads _ _ h.up.1) honest
   restart_reads old new (Err f) h honest = elim h.other [
     | inl device ↦
         let failed = h.device (ap failed_with device) in
         (laws.read_fails_contents old.storage new.storage failed honest, laws.read_fails_honest old.storage new.storage failed honest)
-    | inr other ↦ read_only old new other.1 honest
+    | inr other ↦ read_only old new (laws.looks_reads _ _ other.1) honest
   ]
 
   -- the records are read, and left as they are

@@ -19,7 +19,7 @@ use Rattle.minds.specs.Minds.{Mind, promised}
 use Rattle.minds.specs.Outputs.{Response}
 use Rattle.minds.specs.Sending.{to_all, answer_sends}
 use Rattle.minds.specs.Inputs.{role_of}
-use Rattle.minds.specs.Inputs.Role.{Acceptor, Learner}
+use Rattle.minds.specs.Inputs.Role.{Acceptor, Learner, Fetcher}
 use Rattle.minds.specs.Taking.{Takes, TakesMessage}
 use Rattle.minds.specs.declared.input.Input.TheVariants as input
 use Rattle.minds.proofs.Members.{takes_own}
@@ -166,7 +166,8 @@ module _ {S : Type 0} (w : WorldState S) (nodes node : ℕ) (members : List ℕ)
   no_news : (e : Envelope) (m new : Mind) (said : Response) → AsksForVote e → Takes m (input.Message e) new said
       → new.learning ≡ m.learning
   no_news e m new said asks h =
-      same_learner m e new said (λ is. let clash : Acceptor ≡ Learner = ap role_of (sym asks.1) ∙ is in cc) h
+      same_learner m e new said (λ is. let clash : Acceptor ≡ Learner = ap role_of (sym asks.1) ∙ is in cc)
+      (λ is. let clash : Acceptor ≡ Fetcher = ap role_of (sym asks.1) ∙ is in cc) h
 
   pub learns_no_more : (mind : Mind) (es : List Envelope) → All AsksForVote es → (old new : WorldState S) → HandsOn members es old new
       → LearnsAs mind old → LearnsAs mind new

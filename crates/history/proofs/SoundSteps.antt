@@ -30,7 +30,7 @@ use Rattle.history.proofs.PromisesStand.{start_promises, step_promises}
 use Rattle.history.proofs.RestartLemmas.{restart_honest}
 use Rattle.history.proofs.SafetyLemmas.{allowed_agrees, has_chosen, learnt_agree, learnt_grounded, start_allowed}
 use Rattle.history.proofs.Tellings.{steps_tell, start_tells}
-use Rattle.history.proofs.Texts.{texts_explained, nodes_explained}
+use Rattle.history.proofs.Texts.{texts_explained, parts_explained, nodes_explained}
 use Rattle.history.proofs.Validity.{start_valid, step_valid}
 use Rattle.history.proofs.WorldMoves.{honest_nodes, honest_took, step_allowed}
 
@@ -44,6 +44,7 @@ sound_is_safe {S} {contents} w sound =
       explained = explained contents w sound.tells (learnt_agree w agreed) sound.in_log (learnt_grounded w agreed);
       valid = sound.valid;
       texts = texts_explained contents w sound.tells;
+      parts = parts_explained contents w sound.tells;
       nodes = nodes_explained contents w sound.tells;
     }
 
@@ -110,7 +111,8 @@ module _ {S : Type 0} {storages : Ghosts (Script S)} (laws : IsLawful storages)
         let was = before.sound (step_holds was_honest old e new h honest) in
         record {
           allowed = step_allowed laws armed_honest armed_contents lists old e new h fleet (λ then. (before.sound then).allowed) honest;
-          tells = steps_tell laws lists armed_contents old new e h honest was.allowed was.tells;
+          tells = steps_tell laws lists armed_contents old new e h honest was.allowed
+              (learnt_agree old (allowed_agrees old was.allowed)) was.tells;
           in_log = step_in_log storages old e new h was.in_log;
           valid = step_valid storages old e new h was.valid;
           promises = step_promises laws lists armed_contents old e new h fleet was.allowed was.promises honest;

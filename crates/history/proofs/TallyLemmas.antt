@@ -1,16 +1,24 @@
 -- Every step keeps the lists as long as the outcomes say.
-use Rattle.std.proofs.Common.{◌≡◌, ℕ, List, [], ◌∷◌, ◌++◌, length, sum_by, refl, sym, ap, subst, arith}
+use Rattle.std.proofs.Common.{◌≡◌, ℕ, List, [], ◌∷◌, ◌++◌, length, sum_by, Option, Some, None, IfSome, Result, Ok, Err, IfOk}
+use Rattle.std.proofs.Common.{refl, sym, ap, ◌∙◌, subst, arith}
 use Rattle.std.proofs.lemmas.List.{length-append, length-map}
 use Rattle.std.proofs.lemmas.List.Sums.{sum_by-append}
 use Rattle.stable.specs.Script.{Script}
 use Rattle.stable.specs.declared.stable.Stable.{Ghosts}
 use Rattle.store.specs.declared.query.Query.{Query}
 use Rattle.history.specs.declared.lists.Outcome.{Outcome}
-use Rattle.history.specs.declared.lists.Outcome.TheVariants.{Done, Answered}
+use Rattle.history.specs.declared.lists.Outcome.TheVariants.{Answered}
 use Rattle.history.specs.Flushing.{IsStart}
+use Rattle.minds.specs.declared.fault.NodeFault.{NodeFault}
+use Rattle.minds.specs.declared.fault.NodeFault.TheVariants as fault
+use Rattle.minds.specs.declared.input.Input.{Input}
+use Rattle.minds.specs.declared.outputs.LogEntry.{LogEntry}
+use Rattle.minds.specs.Minds.{Mind}
+use Rattle.minds.specs.Nodes.{NodeState, NodeSteps, TakesInput}
 use Rattle.minds.specs.Outputs.{Response}
+use Rattle.minds.proofs.Learnt.{takes_restored}
 use Rattle.history.specs.Tallies.{learnt_told, replies_told, answers_told, IsTallied, StepsTally}
-use Rattle.history.specs.Worlds.{WorldState, with_node, with_response, with_outcome, with_answer, without_wait, learnt_by}
+use Rattle.history.specs.Worlds.{WorldState, with_node, with_response, with_outcome, with_answer, without_wait, learnt_by, came_of}
 use Rattle.history.specs.Outputs.{replied_at, replied_by}
 use Rattle.history.proofs.Preserved.{Preserved, step_keeps}
 
@@ -24,6 +32,20 @@ stays : {A : Type 0} (xs : List A) (f : Outcome → ℕ) (os : List Outcome) (o 
     → 0 ≡ f o → length xs ≡ sum_by f (os ++ o ∷ [])
 stays xs f os o e g = omega (arith, sum_by-append f os (o ∷ []), e, g)
 
+-- what came of a step tells of what was learnt, where none is with a text that is restored, and of the replies
+came_learnt : (node : ℕ) (o : Option ℕ) (learnt replies : ℕ) → ((target : ℕ) → o ≡ Some target → learnt ≡ 0)
+    → learnt ≡ learnt_told (came_of node o learnt replies)
+came_learnt node None learnt replies none = refl
+came_learnt node (Some target) learnt replies none = none target refl
+
+came_replies : (node : ℕ) (o : Option ℕ) (learnt replies : ℕ) → replies ≡ replies_told (came_of node o learnt replies)
+came_replies node None learnt replies = refl
+came_replies node (Some target) learnt replies = refl
+
+came_answers : (node : ℕ) (o : Option ℕ) (learnt replies : ℕ) → 0 ≡ answers_told (came_of node o learnt replies)
+came_answers node None learnt replies = refl
+came_answers node (Some target) learnt replies = refl
+
 module _ {S : Type 0} where
   -- an outcome that tells of no entry
   with_quiet : (w : WorldState S) (o : Outcome) → 0 ≡ learnt_told o → 0 ≡ replies_told o → 0 ≡ answers_told o
@@ -34,15 +56,34 @@ module _ {S : Type 0} where
     answers = stays w.answers answers_told w.outcomes o t.answers a;
   }
 
-  said_tallied : (w : WorldState S) (node : ℕ) (said : Response) → IsTallied w → IsTallied (with_response w node said)
-  said_tallied w node said t =
-      let o = Done (length (learnt_by node said.learnt)) (length said.replies) in
+  said_tallied : (w : WorldState S) (node : ℕ) (said : Response) → ((target : ℕ) → said.restored ≡ Some target → said.learnt ≡ None)
+      → IsTallied w → IsTallied (with_response w node said)
+  said_tallied w node said restoring t =
+      let learnt : ℕ = length (learnt_by node said.learnt) in
+      let o : Outcome = came_of node said.restored learnt (length said.replies) in
+      let none : (target : ℕ) → said.restored ≡ Some target → length (learnt_by node said.learnt) ≡ 0 = λ target is.
+      ap (λ (e : Option LogEntry). length (learnt_by node e)) (restoring target is) in
       record {
-        learnt = grows w.learnt (learnt_by node said.learnt) learnt_told w.outcomes o t.learnt refl;
+        learnt = grows w.learnt (learnt_by node said.learnt) learnt_told w.outcomes o t.learnt
+            (came_learnt node said.restored learnt (length said.replies) none);
         replies = grows w.replies (replied_by node said.replies) replies_told w.outcomes o t.replies
-            (length-map said.replies (replied_at node));
-        answers = stays w.answers answers_told w.outcomes o t.answers refl;
+            (length-map said.replies (replied_at node) ∙ came_replies node said.restored learnt (length said.replies));
+        answers = stays w.answers answers_told w.outcomes o t.answers
+            (came_answers node said.restored learnt (length said.replies));
       }
+
+  -- with a text that it restores a node learns nothing
+  node_restoring : {storages : Ghosts (Script S)} (old new : NodeState (Script S)) (i : Input) (r : Result Response NodeFault)
+      (said : Response) (o : Option Mind) → r ≡ Ok said → old.up ≡ o → NodeSteps storages old i r new
+      → (target : ℕ) → said.restored ≡ Some target → said.learnt ≡ None
+  node_restoring old new i r said None is up h target some =
+      absurd (let e : ◌≡◌ {A = Result Response NodeFault} (Ok said) (Err fault.Down) = sym is ∙ (h.down up).0 in cc)
+  node_restoring {storages} old new i r said (Some m) is up h target some =
+      let takes : IfOk r (λ s. TakesInput storages old m i s new) =
+      subst (λ (o : Option Mind). IfSome o (λ n. IfOk r (λ s. TakesInput storages old n i s new))) up h.taken in
+      let t : TakesInput storages old m i said new =
+      subst (λ (q : Result Response NodeFault). IfOk q (λ s. TakesInput storages old m i s new)) is takes in
+      takes_restored m t.mind said i t.takes target some
 
   answered_tallied : (w : WorldState S) (node : ℕ) (query : Query) (told : ℕ × List ℕ) → IsTallied w
       → IsTallied (with_answer w node query told.0 told.1)
@@ -64,7 +105,9 @@ module _ {S : Type 0} where
   tally_kept : (storages : Ghosts (Script S)) → Preserved storages (λ w. IsTallied w)
   tally_kept storages = record {
     takes = λ w node i taken v h said is fits t.
-        said_tallied (with_node w node h.after) node said (same_lists (with_node w node h.after) w refl refl refl refl t);
+        said_tallied (with_node w node h.after) node said
+        (node_restoring h.before h.after i h.result said h.before.up is refl h.steps)
+        (same_lists (with_node w node h.after) w refl refl refl refl t);
     fails = λ w node i taken v h f is t. same_lists (with_node w node h.after) w refl refl refl refl t;
     submits = λ w s sound t. same_lists (record w { submitted = w.submitted ++ s ∷ [] }) w refl refl refl refl t;
     unwaits = λ w k t. same_lists (without_wait w k) w refl refl refl refl t;

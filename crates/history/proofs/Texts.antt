@@ -1,4 +1,5 @@
--- Whatever list explains a world begins with what each checkpoint is the text of, and with what each node stands for.
+-- Whatever list explains a world begins with what each checkpoint, and each part that was sent, is the text of, and with what each node
+-- stands for.
 use Rattle.std.proofs.Common.{◌≡◌, ℕ, ◌≤◌, List, length, take, Some, Contains, slice_get, inl, refl, sym, ap, ◌∙◌, subst}
 use Rattle.std.proofs.lemmas.Option.{slice_get_read}
 use Rattle.stable.specs.Records.{Records}
@@ -14,8 +15,8 @@ use Rattle.minds.specs.States.{NodeState}
 use Rattle.minds.proofs.Meanings.{as_many}
 use Rattle.history.specs.declared.lists.Learnt.{Learnt}
 use Rattle.history.specs.Explaining.{Explains}
-use Rattle.history.specs.Safety.{IsTextOfFirst, HasTexts, StandsForFirst, NodesStand, writes_of}
-use Rattle.history.specs.Telling.{WereLearnt, TellsText, Knows, Tells}
+use Rattle.history.specs.Safety.{IsTextOfFirst, HasTexts, HasParts, StandsForFirst, NodesStand, writes_of}
+use Rattle.history.specs.Telling.{WereLearnt, TellsText, TellsPiece, Knows, Tells}
 use Rattle.history.specs.Worlds.{WorldState}
 use Rattle.history.proofs.Explained.{IsBeginning, begins_with}
 use Rattle.history.proofs.OfTheRun.{node_of}
@@ -61,6 +62,11 @@ module _ {S : Type 0} (contents : Script S → Records) (w : WorldState S) (tell
       let here : slice_get w.nodes at ≡ Some of.0 = slice_get_read w.nodes (length w.nodes) at of.0 refl of.1.1 (sym of.1.2) in
       text_explained l w.learnt c.position c.text explains.entered
       (tells.texts at of.0 here c fits (inl (subst (λ (ws : List Write). Contains ws (key.Checkpoint, checkpoint_bytes c)) (sym of.2) put)))
+
+  pub parts_explained : HasParts l w.frames
+  parts_explained e p sent brings =
+      let part : TellsPiece w.learnt p = tells.parts e p sent brings in
+      record { text = part.text; first = text_explained l w.learnt p.position part.text explains.entered part.told; is = part.is }
 
   pub nodes_explained : NodesStand l w
   nodes_explained i m e =

@@ -1,7 +1,8 @@
 -- What is promised of progress: a round by hand that nothing disturbs decides, or tells the promise that was in its way, or
 -- ends as a member goes down.
-use Rattle.std.specs.Prelude.{◌≡◌, ℕ, ◌<◌, ◌≤◌, ◌⊎◌, ◌^◌, List, [], ◌∷◌, ◌++◌, Some, IsSome, Contains}
+use Rattle.std.specs.Prelude.{◌≡◌, ℕ, ◌<◌, ◌≤◌, ◌⊎◌, ◌^◌, List, [], ◌∷◌, ◌++◌, Some, None, IsSome, Contains, slice_get}
 use Rattle.stable.specs.Script.{Script}
+use Rattle.stable.specs.declared.scripted.Failing.TheVariants.{Read}
 use Rattle.stable.specs.declared.stable.Stable.{Ghosts}
 use Rattle.synod.specs.Ballots.{rank, rank_of}
 use Rattle.synod.specs.declared.ballot.Ballot.{Ballot}
@@ -9,6 +10,7 @@ use Rattle.synod.specs.declared.slot.TheConstants.{SLOTS}
 use Rattle.minds.specs.declared.fault.NodeFault.{NodeFault}
 use Rattle.minds.specs.declared.fault.NodeFault.TheVariants as fault
 use Rattle.minds.specs.Minds.{Mind, position, promised, learnt_in, IsNextBallot}
+use Rattle.minds.specs.States.{NodeState}
 use Rattle.events.specs.declared.event.Event.{Event}
 use Rattle.events.specs.declared.event.Event.TheVariants as event
 use Rattle.history.specs.declared.lists.Outcome.{Outcome}
@@ -18,7 +20,7 @@ use Rattle.history.specs.declared.round_end.RoundEnd.TheVariants.{Stopped, TooLo
 use Rattle.history.specs.Fired.{AreHonestInside}
 use Rattle.history.specs.Reaching.{IsAllowed, AreHonest}
 use Rattle.history.specs.Rounds.{CanMeet}
-use Rattle.history.specs.Worlds.{WorldState, Steps, with_outcome}
+use Rattle.history.specs.Worlds.{WorldState, Steps, with_node, with_outcome}
 pub use Rattle.history.specs.Worlds.{mind_in, mind_at}
 
 -- ---- before the round
@@ -126,3 +128,11 @@ PromisesNeverFall {S} storages = (old : WorldState S) (events : List Event) (new
     → StepsAll storages old events new
     → (before after : Mind) → mind_at old node ≡ Some before → mind_at new node ≡ Some after
     → rank_of (promised before) ≤ rank_of (promised after)
+
+-- a restart of a node whose next reading is armed to fail ends with that failure and the node down, and in no other way
+abbrev pub ArmedReadsFire : {S : Type 0} → Ghosts (Script S) → Type 0
+ArmedReadsFire {S} storages = (old : WorldState S) (node : ℕ) (new : WorldState S) (before : NodeState (Script S))
+    → Steps storages old (event.Restart node) new
+    → slice_get old.nodes node ≡ Some before → before.storage.armed ≡ Some Read
+    → (after : NodeState (Script S)) × (after.up ≡ None)
+    × (new ≡ with_outcome (with_node old node after) (outcome.Stopped node fault.Device))

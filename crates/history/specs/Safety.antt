@@ -13,7 +13,10 @@ use Rattle.acceptor.specs.Spelling.{ballot_bytes}
 use Rattle.sessions.specs.Snapshots.{IsSnapshot}
 use Rattle.sessions.specs.Standing.{StandsFor}
 use Rattle.sessions.specs.declared.command.Command.{Command}
+use Rattle.wire.specs.Parts.{Piece, piece}
 use Rattle.wire.specs.RecordForms.{Checkpointed, checkpoint_bytes}
+use Rattle.wire.specs.declared.frames.envelope.Envelope.{Envelope}
+use Rattle.wire.specs.declared.frames.message.Message.TheVariants.{SnapPart}
 use Rattle.acceptor.specs.Forms.{CheckpointFits}
 use Rattle.minds.specs.Minds.{Mind, position}
 use Rattle.history.specs.Explaining.{Explains, IsExplained, LearntInLog}
@@ -52,6 +55,16 @@ abbrev pub HasTexts : List Command → List (List Write) → Type 0
 HasTexts l nodes = (writes : List Write) (c : Checkpointed) → Contains nodes writes → CheckpointFits c
     → Contains writes (key.Checkpoint, checkpoint_bytes c) → IsTextOfFirst l c.position c.text
 
+-- the part is one of such a text
+pub record IsPieceOfFirst (l : List Command) (p : Piece) : Type 0 where
+  pub text : List ℕ
+  pub first : IsTextOfFirst l p.position text
+  pub is : p ≡ piece p.position text p.number
+
+-- so it is of each part that any node sent
+abbrev pub HasParts : List Command → List Envelope → Type 0
+HasParts l frames = (e : Envelope) (p : Piece) → Contains frames e → e.message ≡ SnapPart p → IsPieceOfFirst l p
+
 -- each node that is up stands for the list's first entries, as many as its position says, and these are there
 pub record StandsForFirst (l : List Command) (m : Mind) : Type 0 where
   pub there : position m ≤ length l
@@ -69,6 +82,7 @@ pub record IsSafe {S : Type 0} (w : WorldState S) : Type 0 where
   pub valid : BringValid w.submitted
   -- whatever list explains the world
   pub texts : (l : List Command) → Explains l w.submitted w.learnt w.replies w.answers → HasTexts l (writes_of w.nodes)
+  pub parts : (l : List Command) → Explains l w.submitted w.learnt w.replies w.answers → HasParts l w.frames
   pub nodes : (l : List Command) → Explains l w.submitted w.learnt w.replies w.answers → NodesStand l w
 
 -- ---- what is kept from call to call

@@ -4,13 +4,14 @@ use Rattle.stable.specs.Script.{Script}
 use Rattle.stable.specs.declared.stable.Stable.{Ghosts}
 use Rattle.events.specs.declared.event.Event.{Event}
 use Rattle.history.specs.declared.lists.Outcome.{Outcome}
-use Rattle.history.specs.declared.lists.Outcome.TheVariants.{Done, Answered, Lost, Refused, Stopped, Round}
+use Rattle.history.specs.declared.lists.Outcome.TheVariants.{Done, Restored, Answered, Lost, Refused, Stopped, Round}
 use Rattle.history.specs.Flushing.{IsStart}
 use Rattle.history.specs.Worlds.{WorldState, Steps}
 
 -- how many slots a node learnt
 abbrev pub learnt_told : Outcome → ℕ
 learnt_told (Done learnt replies) = learnt
+learnt_told (Restored node position replies) = 0
 learnt_told Answered = 0
 learnt_told Lost = 0
 learnt_told (Refused node f) = 0
@@ -20,6 +21,7 @@ learnt_told (Round node end) = 0
 -- how many requests that waited have their reply
 abbrev pub replies_told : Outcome → ℕ
 replies_told (Done learnt replies) = replies
+replies_told (Restored node position replies) = replies
 replies_told Answered = 0
 replies_told Lost = 0
 replies_told (Refused node f) = 0
@@ -29,6 +31,7 @@ replies_told (Round node end) = 0
 -- how many queries were answered
 abbrev pub answers_told : Outcome → ℕ
 answers_told (Done learnt replies) = 0
+answers_told (Restored node position replies) = 0
 answers_told Answered = 1
 answers_told Lost = 0
 answers_told (Refused node f) = 0

@@ -1,5 +1,5 @@
 -- What the lists of a world tell of one another: whatever a reply or an answer rests on was learnt by some node.
-use Rattle.std.specs.Prelude.{◌≡◌, ℕ, List, length, Some, Contains, slice_get}
+use Rattle.std.specs.Prelude.{◌≡◌, ◌⊎◌, ℕ, List, length, Some, IfSome, Contains, slice_get}
 use Rattle.stable.specs.Records.{Records}
 use Rattle.stable.specs.Script.{Script}
 use Rattle.stable.specs.declared.key.Key.TheVariants as key
@@ -7,8 +7,12 @@ use Rattle.sessions.specs.Meaning.{Answers}
 use Rattle.sessions.specs.Snapshots.{IsSnapshot}
 use Rattle.sessions.specs.declared.command.Command.{Command}
 use Rattle.wire.specs.RecordForms.{Checkpointed, checkpoint_bytes}
+use Rattle.wire.specs.Parts.{Piece, piece, parts_in}
+use Rattle.wire.specs.declared.frames.envelope.Envelope.{Envelope}
+use Rattle.wire.specs.declared.frames.message.Message.TheVariants.{SnapPart}
 use Rattle.acceptor.specs.Forms.{CheckpointFits}
 use Rattle.minds.specs.Composition.{IsMeaningOf, IsReplyOf}
+use Rattle.minds.specs.Fetching.{Fetching}
 use Rattle.minds.specs.Minds.{Mind, learnt_in}
 use Rattle.minds.specs.States.{NodeState}
 use Rattle.history.specs.declared.lists.Learnt.{Learnt}
@@ -54,6 +58,20 @@ abbrev pub TextsTold : {S : Type 0} → (Script S → Records) → List Learnt �
 TextsTold contents learnt s = (c : Checkpointed) → CheckpointFits c → TookEffect contents s (key.Checkpoint, checkpoint_bytes c)
     → TellsText learnt c.position c.text
 
+-- a part is one of such a text
+pub record TellsPiece (learnt : List Learnt) (p : Piece) : Type 0 where
+  pub text : List ℕ
+  pub told : TellsText learnt p.position text
+  pub is : p ≡ piece p.position text p.number
+
+-- each part that is held stands at its number, is of the text that is fetched, and is one of such a text
+pub record HoldsToldParts (learnt : List Learnt) (f : Fetching) : Type 0 where
+  pub places : (f.total ≡ 0) ⊎ (length f.held ≡ parts_in f.total)
+  pub of_checkpoint : (number : ℕ) (p : Piece) → slice_get f.held number ≡ Some (Some p) → p.position ≡ f.target
+  pub of_total : (number : ℕ) (p : Piece) → slice_get f.held number ≡ Some (Some p) → p.total ≡ f.total
+  pub in_place : (number : ℕ) (p : Piece) → slice_get f.held number ≡ Some (Some p) → p.number ≡ number
+  pub told : (number : ℕ) (p : Piece) → slice_get f.held number ≡ Some (Some p) → TellsPiece learnt p
+
 -- what a node that is up has learnt is listed, and it is the meaning of a list with which it began, of what some nodes learnt, and of
 -- what it has learnt behind it
 pub record Knows (learnt : List Learnt) (m : Mind) : Type 0 where
@@ -61,13 +79,17 @@ pub record Knows (learnt : List Learnt) (m : Mind) : Type 0 where
   pub begins : WereLearnt learnt base
   pub listed : (slot : ℕ) (c : Command) → learnt_in m slot ≡ Some c → WasLearnt learnt slot c
   pub meaning : IsMeaningOf base m
+  -- and so is what it fetches
+  pub fetches : IfSome m.fetching (HoldsToldParts learnt)
 
-pub record ListsTell {S : Type 0} (contents : Script S → Records) (nodes : List (NodeState (Script S))) (learnt : List Learnt)
-    (replies : List Replied) (answers : List Answered) : Type 0 where
+pub record ListsTell {S : Type 0} (contents : Script S → Records) (nodes : List (NodeState (Script S))) (frames : List Envelope)
+    (learnt : List Learnt) (replies : List Replied) (answers : List Answered) : Type 0 where
   pub replied : (p : Replied) → Contains replies p → TellsReply learnt p
   pub answered : (a : Answered) → Contains answers a → TellsAnswer learnt a
   pub knows : (i : ℕ) (n : NodeState (Script S)) (m : Mind) → slice_get nodes i ≡ Some n → n.up ≡ Some m → Knows learnt m
   pub texts : (i : ℕ) (n : NodeState (Script S)) → slice_get nodes i ≡ Some n → TextsTold contents learnt n.storage
+  -- each part that was sent
+  pub parts : (e : Envelope) (p : Piece) → Contains frames e → e.message ≡ SnapPart p → TellsPiece learnt p
 
 abbrev pub Tells : {S : Type 0} → (Script S → Records) → WorldState S → Type 0
-Tells contents w = ListsTell contents w.nodes w.learnt w.replies w.answers
+Tells contents w = ListsTell contents w.nodes w.frames w.learnt w.replies w.answers

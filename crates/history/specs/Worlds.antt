@@ -25,7 +25,7 @@ use Rattle.history.specs.declared.lists.Learnt.{Learnt}
 use Rattle.history.specs.declared.lists.Replied.{Replied}
 use Rattle.history.specs.declared.lists.Answered.{Answered}
 use Rattle.history.specs.declared.lists.Outcome.{Outcome}
-use Rattle.history.specs.declared.lists.Outcome.TheVariants.{Done, Lost, Refused, Stopped, Answered as AnsweredOutcome}
+use Rattle.history.specs.declared.lists.Outcome.TheVariants.{Done, Restored, Lost, Refused, Stopped, Answered as AnsweredOutcome}
 use Rattle.history.specs.Outputs.{replied_by}
 
 -- all nodes over their storages, and everything that happened
@@ -56,13 +56,18 @@ learnt_by node (Some e) = record { node = node; slot = e.slot; command = e.comma
 abbrev pub with_outcome : {S : Type 0} → WorldState S → Outcome → WorldState S
 with_outcome w outcome = record w { outcomes = w.outcomes ++ outcome ∷ [] }
 
+-- what came of a step that was made: a text was restored, or so many slots were learnt
+abbrev pub came_of : ℕ → Option ℕ → ℕ → ℕ → Outcome
+came_of node None learnt replies = Done learnt replies
+came_of node (Some position) learnt replies = Restored node position replies
+
 abbrev pub with_response : {S : Type 0} → WorldState S → ℕ → Response → WorldState S
 with_response w node said = record w {
   frames = w.frames ++ said.sends;
   waiting = w.waiting ++ replicate (length said.sends) true;
   learnt = w.learnt ++ learnt_by node said.learnt;
   replies = w.replies ++ replied_by node said.replies;
-  outcomes = w.outcomes ++ Done (length (learnt_by node said.learnt)) (length said.replies) ∷ [];
+  outcomes = w.outcomes ++ came_of node said.restored (length (learnt_by node said.learnt)) (length said.replies) ∷ [];
 }
 
 -- a refusal and a failure are told, and nothing else
@@ -85,8 +90,8 @@ pub record TakesAt {S : Type 0} (storages : Ghosts (Script S))
   pub after : NodeState (Script S)
   pub result : Result Response NodeFault
   pub steps : NodeSteps storages before input result after
-  -- it goes on being the meaning of what it has learnt
-  pub meaning : StaysMeaning before result after
+  -- it goes on being the meaning of what it has learnt, or restores a text
+  pub meaning : StaysMeaning before input result after
   pub taken_ : taken ≡ is_ok result
   pub leaves : new ≡ recorded (with_node old node after) node result
 

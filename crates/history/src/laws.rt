@@ -1,7 +1,7 @@
 //! What holds of all runs. Nothing runs.
 
 ghost use Rattle.std.specs.Prelude.{◌≡◌, Contains};
-ghost use Rattle.history.specs.Progress.{BallotsNeverFall, PromisesNeverFall};
+ghost use Rattle.history.specs.Progress.{ArmedReadsFire, BallotsNeverFall, PromisesNeverFall};
 ghost use Rattle.history.specs.Safety.{IsSafe};
 ghost use Rattle.history.specs.Tallies.{StepsTally};
 ghost use Rattle.history.specs.Worlds.{WorldState};
@@ -38,4 +38,9 @@ pub fn ballots_never_fall<S: Stable>()
 /// the way.
 pub fn promises_never_fall<S: Stable>()
     ensures { PromisesNeverFall (⟦<Scripted<S> as Stable>⟧) }
+{}
+
+/// No restart passes over an armed reading: the node is down after it, and the outcome is its device's.
+pub fn armed_reads_fire<S: Stable>()
+    ensures { ArmedReadsFire (⟦<Scripted<S> as Stable>⟧) }
 {}

@@ -12,7 +12,8 @@ mod round_end;
 pub use events::{Event, WorldFault};
 pub use explaining::{a_start_tells, steps_tell, tellings_are_explained};
 pub use laws::{
-    answers_are_one, ballots_never_fall, lists_are_as_told, promises_never_fall, replies_are_one,
+    answers_are_one, armed_reads_fire, ballots_never_fall, lists_are_as_told, promises_never_fall,
+    replies_are_one,
 };
 pub use lists::{Answered, Learnt, Outcome, Replied, Submission};
 pub use minds::{NodeFault, Text};

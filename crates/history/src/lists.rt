@@ -6,7 +6,7 @@ use minds::{NodeFault, Text};
 use sessions::Number;
 use store::{Op, Query};
 use synod::Slot;
-use wire::NodeId;
+use wire::{NodeId, Position};
 
 /// A request that a node took.
 #[derive(Drop)]
@@ -48,7 +48,16 @@ pub struct Answered {
 #[derive(Clone, Copy)]
 pub enum Outcome {
     /// The step was made: how many slots a node learnt by it, and how many requests that waited there have their reply.
-    Done { learnt: u32, replies: u32 },
+    Done {
+        learnt: u32,
+        replies: u32,
+    },
+    /// The text of the checkpoint at this position was restored at the node, and so many requests that waited there have their reply.
+    Restored {
+        node: NodeId,
+        position: Position,
+        replies: u32,
+    },
     /// A query was answered.
     Answered,
     /// A frame came to a node that is down, and was lost.

@@ -36,6 +36,11 @@ abbrev pub answer_line : Answered → List ℕ
 answer_line answered = codes "answer " ++ decimal answered.node ++ codes " "
     ++ decimal answered.position ++ codes " " ++ answered.text ++ codes "\n"
 
+-- a node that restored the text of the checkpoint at the position
+abbrev pub restore_line : ℕ → ℕ → List ℕ
+restore_line node position =
+    codes "restore " ++ decimal node ++ codes " " ++ decimal position ++ codes "\n"
+
 abbrev pub refuse_line : ℕ → NodeFault → List ℕ
 refuse_line node fault =
     codes "refuse " ++ decimal node ++ codes " " ++ decimal (node_code fault) ++ codes "\n"
@@ -77,6 +82,8 @@ first_lines line count entries = flat_map line (take count entries)
 abbrev pub lines_of_outcome : Outcome → Entries → List ℕ
 lines_of_outcome (outcome.Done learnt replies) entries =
     first_lines learn_line learnt entries.learnt ++ first_lines reply_line replies entries.replies
+lines_of_outcome (outcome.Restored node position replies) entries =
+    restore_line node position ++ first_lines reply_line replies entries.replies
 lines_of_outcome outcome.Answered entries = first_lines answer_line 1 entries.answers
 lines_of_outcome outcome.Lost entries = []
 lines_of_outcome (outcome.Refused node fault) entries = refuse_line node fault
@@ -89,6 +96,8 @@ entries_after (outcome.Done learnt replies) entries = record entries {
   learnt = drop learnt entries.learnt;
   replies = drop replies entries.replies;
 }
+entries_after (outcome.Restored node position replies) entries =
+    record entries { replies = drop replies entries.replies }
 entries_after outcome.Answered entries = record entries { answers = drop 1 entries.answers }
 entries_after outcome.Lost entries = entries
 entries_after (outcome.Refused node fault) entries = entries

@@ -1,12 +1,12 @@
 //! The lines of a transcript.
 
 ghost use Rattle.std.specs.Prelude.{◌≡◌, ◌++◌, OnOk, flat_map};
-ghost use Rattle.replay.specs.Transcripts.{answer_line, learn_line, refuse_line, reply_line, round_line, stop_line};
+ghost use Rattle.replay.specs.Transcripts.{answer_line, learn_line, refuse_line, reply_line, restore_line, round_line, stop_line};
 
 use super::entry_lines::{add_answer, add_learn, add_reply};
 use sessions::Command;
 use std::io::{self, Write};
-use wire::NodeId;
+use wire::{NodeId, Position};
 use world::{Answered, Learnt, NodeFault, Replied, RoundEnd};
 
 /// Adds the lines of what nodes learnt.
@@ -72,6 +72,15 @@ fn print_answer(text: &mut Vec<u8>, answered: &Answered) -> io::Result<()>
 {
     let node = answered.node.value();
     add_answer(text, node, answered.position, answered.text.as_bytes())
+}
+
+/// Adds the line of a text that was restored: `restore 2 1`.
+pub(crate) fn print_restore(text: &mut Vec<u8>, node: NodeId, position: Position) -> io::Result<()>
+    ensures { OnOk result (text.new.items ≡ text.old.items ++ restore_line node position) }
+{
+    let node = node.value();
+    let position = position.value();
+    writeln!(text, "restore {node} {position}")
 }
 
 /// Adds the line of a refusal: `refuse 0 41`.

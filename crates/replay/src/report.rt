@@ -4,7 +4,8 @@ ghost use Rattle.std.specs.Prelude.{◌≡◌, ◌++◌, drop, take, IfOk, OnOk}
 ghost use Rattle.replay.specs.Transcripts.{transcript_of, lines_of_outcome, entries_after};
 
 use super::print::{
-    print_answers, print_learnt, print_refusal, print_replies, print_round, print_stop,
+    print_answers, print_learnt, print_refusal, print_replies, print_restore, print_round,
+    print_stop,
 };
 use std::alloc::{AllocError, Global};
 use std::io;
@@ -75,6 +76,14 @@ impl<'a> Unprinted<'a> {
                     return Ok(());
                 }
                 print_learnt(text, take_first(&mut self.learnt, learnt))?;
+                print_replies(text, take_first(&mut self.replies, replies))
+            }
+            Outcome::Restored {
+                node,
+                position,
+                replies,
+            } => {
+                print_restore(text, node, position)?;
                 print_replies(text, take_first(&mut self.replies, replies))
             }
             Outcome::Answered => print_answers(text, take_first(&mut self.answers, 1)),

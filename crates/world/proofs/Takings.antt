@@ -23,7 +23,7 @@ module _ {S : Type 0} {st : Ghosts (Script S)} (nodes : List (Node (Script S))) 
     (steps : NodeSteps st (state_of n) input r (state_of m)) where
   -- what it answered is recorded
   pub takes_lent : (old new : WorldState S) (answer : Result Response NodeFault) → old.nodes ≡ map state_of nodes
-      → StaysMeaning (state_of n) r (state_of m) → r ≡ answer
+      → StaysMeaning (state_of n) input r (state_of m) → r ≡ answer
       → new ≡ recorded (record old { nodes = map state_of (slice_set nodes j m) }) i answer
       → TakesAt st old i input (is_ok answer) new
   takes_lent old new answer same meaning is told = record {
@@ -32,7 +32,7 @@ module _ {S : Type 0} {st : Ghosts (Script S)} (nodes : List (Node (Script S))) 
     after = state_of m;
     result = answer;
     steps = subst (λ a. NodeSteps st (state_of n) input a (state_of m)) is steps;
-    meaning = subst (λ a. StaysMeaning (state_of n) a (state_of m)) is meaning;
+    meaning = subst (λ a. StaysMeaning (state_of n) input a (state_of m)) is meaning;
     taken_ = refl;
     leaves = left_by new old nodes i m (λ w. recorded w i answer)
         (subst (λ k. new ≡ recorded (record old { nodes = map state_of (slice_set nodes k m) }) i answer) named told) same;

@@ -13,6 +13,7 @@ ghost use Rattle.minds.specs.Sending.{IsBetween};
 ghost use Rattle.history.specs.Fleets.{IsFleet};
 ghost use Rattle.wire.specs.FrameSpelling.{Fits};
 ghost use Rattle.history.specs.Outputs.{replied_at, replied_by};
+ghost use Rattle.history.specs.Worlds.{came_of};
 ghost use Rattle.history.specs.Waiting.{NoneWaits, NoneWaitsBelow, OneWaits, IsLowestWaiting};
 
 use super::flags::first_set;
@@ -27,7 +28,7 @@ use stable::{Failing, Scripted, Stable};
 use std::alloc::Global;
 use store::{Op, Query};
 use synod::{MOST_NODES, Slot};
-use wire::{Envelope, Frame, NodeId, Nodes};
+use wire::{Envelope, Frame, NodeId, Nodes, Position};
 
 /// All nodes of a run, over storages of one kind.
 #[derive(Drop)]
@@ -574,14 +575,17 @@ impl<S: Stable> Run<S> {
         ensures submitted { self.new.submitted ≡ self.old.submitted }
     {
         let Outputs {
+            restored,
             learnt,
             replies,
             mut sends,
         } = outputs;
-        let outcome = Outcome::Done {
-            learnt: u32::from(learnt.is_some()),
-            replies: replies.len() as u32,
-        };
+        let outcome = came_of(
+            node,
+            restored,
+            u32::from(learnt.is_some()),
+            replies.len() as u32,
+        );
         if let Some(LogEntry { slot, command }) = learnt {
             let command = shared(&mut self.known, slot, command);
             let _ = self.learnt.push(Learnt {
@@ -609,6 +613,20 @@ impl<S: Stable> Run<S> {
             Outcome::Refused(node, fault)
         };
         let _ = self.outcomes.push(outcome);
+    }
+}
+
+// What came of a step that was made.
+fn came_of(node: NodeId, restored: Option<Position>, learnt: u32, replies: u32) -> Outcome
+    ensures { result ≡ came_of node restored learnt replies }
+{
+    match restored {
+        Some(position) => Outcome::Restored {
+            node,
+            position,
+            replies,
+        },
+        None => Outcome::Done { learnt, replies },
     }
 }
 

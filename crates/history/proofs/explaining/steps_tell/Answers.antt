@@ -5,6 +5,6 @@ use Rattle.history.proofs.Tellings.{steps_tell}
 use Rattle.history.proofs.explaining.steps_tell.Goals as goal
 
 pub returns : goal.returns
-returns g c = λ old new event steps honest allowed told.
+returns g c = λ old new event steps honest allowed agree told.
     steps_tell (scripted_laws g.met.S.Stable.laws) (script_puts g.S.Stable g.met.S.Stable.laws) (λ s f. refl) old new event steps honest
-    allowed told
+    allowed agree told
