@@ -34,6 +34,7 @@ def fixed(mfpx, seed):
         ("why_selftest.py", None, ["--runs", "1000", "--seed", str(seed)]),
         ("storage_faults.py", mfpx, [mfpx]),
         ("refuse_memory.py", mfpx, [mfpx]),
+        ("transfers.py", mfpx, [mfpx, "--orders", "20", "--seed", str(seed)]),
         ("records_on_disk.py", mfpx, [mfpx, EXAMPLES, "8", str(seed)]),
         ("disk_full.py", mfpx, [mfpx]),
         ("kill_at_random.py", mfpx, [mfpx, "50", str(seed)]),

@@ -7,7 +7,8 @@
 SEEDS are folders. A file that begins with `nodes ` is a schedule to be changed, and one that begins with a brace a document;
 other files, and results that lie beside their inputs, are passed over. Kinds of runs, in turn:
 
-    drawn        a schedule that was drawn: 3, 5 or 7 nodes, all events and queries; frames that were never sent are put right
+    drawn        a schedule that was drawn: 3, 5 or 7 nodes, all events and queries, some with a node that missed what the others forgot;
+                 frames that were never sent are put right
     changed      a schedule of SEEDS or a drawn one, changed in its lines, words, numbers or bytes
     documents    a document of SEEDS or a drawn one, changed, for `check`
     words        words of the command line
@@ -140,7 +141,7 @@ class Drawing:
         self.numbers, self.frames, self.fresh = {}, 1, 10
         kinds = ("submit", "timeout", "deliver", "drop", "flush", "tick", "checkpoint", "trim", "fault", "restart", "query", "round")
         weights = [draw.random() ** 2 * most for most in (6, 1.2, 12, 1, 1, 1, 1, 1, 1, 1, 4, 1)]
-        lines = ["nodes %d" % nodes] + (self.beginning(nodes) if draw.random() < 0.6 else [])
+        lines = ["nodes %d" % nodes] + draw.choice((self.beginning, self.beginning, self.outage, lambda nodes: []))(nodes)
         lines += [self.line(draw.choices(kinds, weights)[0], nodes) for _ in range(count or draw.randrange(4, 90))]
         lines += ["restart %d" % draw.randrange(nodes)] * draw.randrange(2) + ["flush"] * draw.randrange(2)
         return lines + ["query %d %s" % (node, self.query()) for node in range(nodes) for _ in range(draw.randrange(3))]
@@ -150,6 +151,18 @@ class Drawing:
         count = self.draw.randrange(1, 6)
         self.frames = nodes * (2 + count * (1 + nodes))
         return ["submit 0 %d 1 put %s" % (client, self.document()) for client in range(count)] + ["timeout 0", "flush"]
+
+    def outage(self, nodes):
+        """One node misses what the others forget, and asks for it."""
+        draw, lost, count = self.draw, self.draw.randrange(nodes), self.draw.randrange(1, 5)
+        leader, others = (lost + 1) % nodes, [node for node in range(nodes) if node != lost]
+        lines = ["fault %d read" % lost, "restart %d" % lost]
+        lines += ["submit %d %d 1 put %s" % (leader, client, self.document()) for client in range(count)]
+        lines += ["timeout %d" % leader, "flush"]
+        for node in others:
+            lines += ["%s %d" % (word, node) for word in ("checkpoint", "trim", "restart") if draw.random() < 0.9]
+        self.frames = 2 * nodes - 1 + count * nodes * nodes + len(others)
+        return lines + ["restart %d" % lost, "tick %d" % lost] + ["flush"] * (draw.random() < 0.3)
 
     def long_log(self, count):
         """A schedule of this many slots and more: one leader goes on, and others begin anew and are told all of it."""

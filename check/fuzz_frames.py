@@ -23,6 +23,10 @@ import time
 
 SHORT, MAGIC, VERSION, KIND, FIELD, TRAILING, LONG = range(1, 8)
 LONGEST, SLOTS, MOST_ENTRIES, MOST_POINTS, LONGEST_ID = 60_000, 65_536, 4, 512, 64
+# A part of a snapshot text has so many bytes, but for the last one; and so many bytes has a text.
+PART, SHORTEST_TEXT, LONGEST_TEXT = 32_768, 4, 6_311_428
+# The kinds of each version.
+KINDS = {1: range(1, 8), 2: range(8, 11)}
 FURTHEST, LAST_INSTANT = 10_000_000_000, 253_402_300_799_999
 ID_BYTES = frozenset(b"ABCDEFGHIJKLMNOPQRSTUVWXYZabcdefghijklmnopqrstuvwxyz0123456789-_.")
 FRAMES_A_RUN = 300
@@ -51,12 +55,14 @@ class Reader:
     def read(self):
         self.hold(len(self.frame) <= LONGEST, LONG)
         self.hold(self.take(2) == 0x4D50, MAGIC)
-        self.hold(self.take(1) == 1, VERSION)
+        version = self.take(1)
+        self.hold(version in KINDS, VERSION)
         kind = self.take(1)
-        self.hold(1 <= kind <= 7, KIND)
+        self.hold(kind in KINDS[version], KIND)
         self.node()
         self.node()
-        (self.prepare, self.promise, self.nack, self.vote, self.vote, self.slot, self.decided)[kind - 1]()
+        (self.prepare, self.promise, self.nack, self.vote, self.vote, self.slot, self.decided, self.part_asked, self.part,
+         self.position)[kind - 1]()
         self.hold(self.at == len(self.frame), TRAILING)
 
     def node(self):
@@ -102,6 +108,28 @@ class Reader:
     def decided(self):
         self.slot()
         self.command()
+
+    def position(self):
+        self.hold(1 <= self.take(4) <= SLOTS)
+
+    def offset(self, total):
+        offset = self.take(4)
+        self.hold(offset % PART == 0 and offset < total)
+        return offset
+
+    def part_asked(self):
+        self.position()
+        self.offset(LONGEST_TEXT)
+
+    def part(self):
+        self.position()
+        total = self.take(4)
+        self.hold(SHORTEST_TEXT <= total <= LONGEST_TEXT)
+        left = total - self.offset(total)
+        count = self.take(2)
+        self.hold(count == min(PART, left))
+        self.hold(len(self.frame) - self.at >= count, SHORT)
+        self.at += count
 
     def command(self):
         kind = self.take(1)
@@ -205,20 +233,49 @@ class Drawing:
         most = self.draw.choice((2**64 - 1, 9))
         return self.ballot(most - 1) + self.ballot(most, most)
 
+    def position(self):
+        return self.number(4, SLOTS, 1)
+
+    def offset(self, total):
+        """A place below so many bytes at which a part begins."""
+        return PART * int.from_bytes(self.number(4, (total - 1) // PART), "big")
+
+    def part_asked(self):
+        return self.position() + self.offset(LONGEST_TEXT).to_bytes(4, "big")
+
+    def part(self):
+        """A part of a text that is short, or as long as some parts and a bit, or any; most are last parts, with few bytes."""
+        draw = self.draw
+        some = PART * draw.randint(1, 192) + draw.choice((0, 1, 9, PART - 1))
+        total = draw.choice((draw.randint(SHORTEST_TEXT, 99), draw.randint(SHORTEST_TEXT, 99), some, int.from_bytes(self.total(), "big")))
+        total = min(total, LONGEST_TEXT)
+        offset = self.offset(total) if draw.random() < 0.1 else (total - 1) // PART * PART
+        count = min(PART, total - offset)
+        if count > 999 and draw.random() < 0.8:
+            total, count = offset + 99, 99
+        head = self.position() + total.to_bytes(4, "big") + offset.to_bytes(4, "big") + count.to_bytes(2, "big")
+        return head + draw.randbytes(count)
+
+    def total(self):
+        return self.number(4, LONGEST_TEXT, SHORTEST_TEXT)
+
     def frame(self):
-        draw, kind = self.draw, self.draw.randint(1, 7)
+        draw, kind = self.draw, self.draw.randint(1, 10)
+        version = next(version for version, kinds in KINDS.items() if kind in kinds)
         vote = lambda: self.ballot() + self.slot() + self.command()
         bodies = {1: lambda: self.ballot() + self.slot(), 2: self.promise, 3: self.nack, 4: vote, 5: vote, 6: self.slot,
-                  7: lambda: self.slot() + self.command()}
-        return b"MP\1" + bytes([kind, draw.randrange(self.nodes), draw.randrange(self.nodes)]) + bodies[kind]()
+                  7: lambda: self.slot() + self.command(), 8: self.part_asked, 9: self.part, 10: self.position}
+        return b"MP" + bytes([version, kind, draw.randrange(self.nodes), draw.randrange(self.nodes)]) + bodies[kind]()
 
     def changed(self, frame, other):
         """The frame after a change."""
-        draw, at, way = self.draw, self.draw.randrange(len(frame) + 1), self.draw.randrange(8)
+        draw, way = self.draw, self.draw.randrange(8)
+        # The bytes of a part are many, and any will do.
+        at = draw.randrange(len(frame) + 1 if draw.random() < 0.5 else min(len(frame), 40) + 1)
         if way == 0:
             return frame[:at] + bytes([draw.randrange(256)]) + frame[at + 1:]
         if way == 1:
-            return frame[:at] + bytes([draw.choice((0, 1, 3, 5, 7, 0x7F, 0x80, 0xFF))]) + frame[at + 1:]
+            return frame[:at] + bytes([draw.choice((0, 1, 2, 3, 5, 7, 8, 10, 11, 0x7F, 0x80, 0xFF))]) + frame[at + 1:]
         if way == 2:
             return frame[:at]
         if way == 3:

@@ -9,8 +9,8 @@ things are looked for:
 1. A reading: which line of the schedule printed which line of the transcript. Only a query prints an answer, a node that
    is down prints nothing but `refuse NODE 41`, a slot is learnt once in a node's life, replies follow the slot that they
    rest on, a submission is refused where 64 others wait, a restart begins at the position of the last checkpoint that was
-   written, and so on. What a frame does is not known: any delivery may print what any frame could, and any trim may find
-   no vote to take out. All readings are kept.
+   written, a node that is behind is restored at a position at which another one wrote a checkpoint, and so on. What a frame does
+   is not known: any delivery may print what any frame could, and any trim may find no vote to take out. All readings are kept.
 2. A list: each learnt slot has the one command that all nodes learnt there, a no-op or a request that was submitted and
    accepted by then, with the operation of one of its submissions; each reply and each answer at a position is, byte for
    byte, that of a plain database (`reference_db.py`) that executed so many entries of the list, each request once. All lists are
@@ -56,7 +56,7 @@ class Undecided(Exception):
 
 
 class Told(NamedTuple):
-    """A line: its first word, its node, and its words. Of `learn` and `answer` the number is the slot or the position."""
+    """A line: its first word, its node, and its words. Of `learn`, `answer` and `restore` the number is the slot or the position."""
     kind: str
     node: int
     number: int = -1
@@ -76,7 +76,7 @@ def told_line(text):
         return Told(kind, natural(node), natural(rest[0]), rest[1])
     if kind == "reply" and len(rest) == 2:
         return Told(kind, natural(node), natural(rest[1]), rest[0])
-    if kind in ("refuse", "stop") and len(rest) == 1:
+    if kind in ("refuse", "stop", "restore") and len(rest) == 1:
         return Told(kind, natural(node), natural(rest[0]))
     if kind == "round" and rest:
         return Told(kind, natural(node), text=" ".join(rest))
@@ -136,7 +136,8 @@ class Reading(NamedTuple):
     late: int           # of these, the nodes at which it is written all the same, as bits
     unread: int         # nodes whose records can't be read at the next restart, as bits
     floors: tuple       # of each node, the position of its checkpoint
-    learnt: tuple       # of each node, the slots that its checkpoint stands for or that it has learnt in this life, as bits
+    written: tuple      # of each node, the positions of all checkpoints that it has written, as bits
+    learnt: tuple       # of each node, the slots that a snapshot stands for or that it has learnt in this life, as bits
     waiting: tuple      # of each node, the requests that wait there
     accepted: int       # chain of the submissions that were accepted, by their lines of the schedule
     answered: int       # chain of answers: line, and the query's line of the schedule
@@ -202,7 +203,8 @@ class Reader:
 
     def beginnings(self):
         """All nodes are up, or, where memory may be refused, some are not."""
-        empty = (0,) * self.nodes, (0,) * self.nodes, (frozenset(),) * self.nodes
+        none = (0,) * self.nodes
+        empty = none, none, none, (frozenset(),) * self.nodes
         downs = range(2 ** self.nodes) if self.memory else (0,)
         return {Reading(0, down, 0, 0, 0, *empty, 0, 0, 0) for down in downs}
 
@@ -211,6 +213,8 @@ class Reader:
         for i, line in enumerate(self.told, 1):
             if line.node >= self.nodes:
                 raise Unexplained(i, "there is no such node")
+            if line.kind == "restore" and not 0 < line.number <= MOST_SLOTS:
+                raise Unexplained(i, "no checkpoint stands there")
             if line.kind == "learn":
                 if line.number >= MOST_SLOTS:
                     raise Unexplained(i, "the log has no such slot")
@@ -266,6 +270,19 @@ class Reader:
         self.latest[reading.line] = max(event.line, self.latest.get(reading.line, 0))
         behind = reading._replace(line=reading.line + 1, learnt=changed(reading.learnt, line.node, after))
         return self.replies(behind, line.node, range(prefix(before), prefix(after)))
+
+    def restored(self, reading):
+        """The reading behind `restore` and the replies to what the node had learnt from there on, if they come next."""
+        line = self.next(reading)
+        if not line or line.kind != "restore" or reading.down >> line.node & 1:
+            return []
+        before = reading.learnt[line.node]
+        have_it = any(reading.written[other] >> line.number & 1 for other in range(self.nodes) if other != line.node)
+        if not have_it or line.number <= prefix(before):
+            return []
+        after = before | (1 << line.number) - 1
+        behind = reading._replace(line=reading.line + 1, learnt=changed(reading.learnt, line.node, after))
+        return self.replies(behind, line.node, range(line.number, prefix(after)))
 
     def replies(self, reading, node, places):
         """The reading behind the replies to requests that waited and stand at these places: all of them, in order."""
@@ -342,7 +359,8 @@ class Reader:
         node, position = event.node, prefix(reading.learnt[event.node])
         if position <= reading.floors[node]:
             return self.refused(reading, node, 49)
-        written = reading._replace(floors=changed(reading.floors, node, position))
+        written = reading._replace(floors=changed(reading.floors, node, position),
+                                   written=changed(reading.written, node, reading.written[node] | 1 << position))
         armed, line = reading.armed >> node & 1, self.next(reading)
         is_late = reading.late >> node & 1 and line and line.number == 46
         return ([] if armed else [written]) + self.stopped(written if is_late else reading, [node])
@@ -361,8 +379,9 @@ class Reader:
         return told
 
     def deliver(self, reading, event):
-        """Nothing, or one slot that is learnt with what rests on it, or a stop."""
-        return [reading] + self.learnt(reading, event) + self.stopped(reading, range(self.nodes))
+        """Nothing, or one slot that is learnt or a restore with what rests on it, or a stop. In a round by hand nobody is restored."""
+        restored = [] if event.kind == "round" else self.restored(reading)
+        return [reading] + self.learnt(reading, event) + restored + self.stopped(reading, range(self.nodes))
 
     def flush(self, reading, event):
         return self.delivered({reading}, event)

@@ -5,14 +5,14 @@
 
 Each FOLDER has right runs: NAME.schedule with NAME.transcript, or NAME with NAME.stdout and NAME.status 0. Of each run of at
 most N lines of transcript (200) each line is changed in turn: a slot, a command, a reply's request or code, an answer's
-position or text, a code of a refusal or a stop, the end of a round, a node; the line is left out, told twice, or moved
-behind the next one. At most --changes of these are tried for a line (all), drawn from the seed.
+position or text, the position of a restore, a code of a refusal or a stop, the end of a round, a node; the line is left out,
+told twice, or moved behind the next one. At most --changes of these are tried for a line (all), drawn from the seed.
 
 A changed run may be right all the same. It then has to have one of these reasons, which are counted:
 
     another list       a slot has another command than before, of which nothing else tells; or one more or less is told
     another operation  the list has a request with another of the operations that were submitted under its name
-    another node       the nodes that learnt a slot are others, and nothing rests on who did
+    another node       the nodes that learnt a slot or were restored are others, and nothing rests on who
     another order      the lines are the same ones, in an order that other deliveries have
     another wait       a reply is left out, and it is open whether the request came to the node before its slot was learnt there
     another end        a round by hand ended with another ballot, or with another slot, which an earlier delivery may have taught
@@ -73,7 +73,7 @@ def other_lines(line, requests, nodes):
     """The same line with one entry changed."""
     told = one_log.told_line(line)
     others = [told._replace(node=node) for node in range(nodes) if node != told.node]
-    if told.kind in ("learn", "answer"):
+    if told.kind in ("learn", "answer", "restore"):
         others += [told._replace(number=number) for number in (told.number + 1, told.number - 1, 65536) if number >= 0]
     if told.kind == "learn":
         others += [told._replace(text=text) for text in ["noop", "255:18446744073709551615"] + requests if text != told.text]
@@ -134,7 +134,7 @@ def judged(schedule, lines, changed):
         return "another wait"
     if kinds <= {"reply", "answer"}:
         return "another operation" if other.operations != explanation(schedule, lines).operations else None
-    reasons = {"learn": "another node", "round": "another end", "stop": "another put", "refuse": "another put"}
+    reasons = {"learn": "another node", "restore": "another node", "round": "another end", "stop": "another put", "refuse": "another put"}
     return reasons[kinds.pop()] if len(kinds) == 1 else None
 
 

@@ -4,7 +4,7 @@
     check/refuse_memory.py [PROGRAM [NAME..]]
 
 PROGRAM is crates/mfpx/out/mfpx where none is given. The NAMEs are of examples, or paths of files `.schedule` and `.json`; without any
-six short examples are run. `all` is every example; those of thousands of lines take hours.
+seven short examples are run. `all` is every example; those of thousands of lines take hours.
 
 The first run refuses the first request, the second the second, and so on until a run meets no refusal. A run ends well in
 one of these ways:
@@ -36,7 +36,8 @@ import one_log
 
 HERE = os.path.dirname(os.path.abspath(__file__))
 EXAMPLES = os.path.join(HERE, "..", "examples")
-NAMES = ("first_run", "leaders_in_turn", "requests_after_a_restart", "gap_filled_by_a_no_op", "round_too_low", "bus-7")
+NAMES = ("first_run", "leaders_in_turn", "requests_after_a_restart", "gap_filled_by_a_no_op", "round_too_low", "snapshot_in_one_part",
+         "bus-7")
 SHORT = 200
 # What comes before a line, each in its turn.
 OUT = (("checkpoint M", "trim M"), ("checkpoint M", "trim M", "restart M"), ("fault M old", "checkpoint M", "restart M"),
@@ -206,7 +207,7 @@ class Job:
 
     def judged_stop(self, told):
         """The same of a transcript in which one node has to tell the refusal, and the rest has to follow from it."""
-        at = [i for i, line in enumerate(told) if line.endswith(" 47")]
+        at = [i for i, line in enumerate(told) if line.startswith(("stop ", "refuse ")) and line.endswith(" 47")]
         if len(at) != 1 or shared(told, self.right) < at[0] or not is_explained(self.lines, told, answers(self.right)):
             return None
         return "stopped" if told[at[0]].startswith("stop ") else "refused"

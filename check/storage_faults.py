@@ -3,7 +3,7 @@
 
     check/storage_faults.py [PROGRAM [FILE..]]
 
-PROGRAM is crates/mfpx/out/mfpx where none is given; the FILEs are schedules, without any six of the examples.
+PROGRAM is crates/mfpx/out/mfpx where none is given; the FILEs are schedules, without any seven of the examples.
 
 For each node M, and before each line but the first, `checkpoint M` and `trim M`, as they are and with each of them failing in each
 way; and without them `fault M old`, then `fault M new`, then `fault M read` with `restart M` behind it. Behind the last line each node
@@ -24,7 +24,8 @@ from refuse_memory import afterwards, nodes_of
 
 HERE = os.path.dirname(os.path.abspath(__file__))
 DATA = os.path.join(HERE, "..", "examples")
-NAMES = ("leaders_in_turn", "gap_filled_by_a_no_op", "round_too_low", "two_leaders", "log_of_five_slots", "outage_led_by_hand")
+NAMES = ("leaders_in_turn", "gap_filled_by_a_no_op", "round_too_low", "two_leaders", "log_of_five_slots", "outage_led_by_hand",
+         "snapshot_in_one_part")
 NO_FRAME = re.compile(r"mfpx: line ([0-9]+) fault 51\n")
 
 

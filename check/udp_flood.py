@@ -4,8 +4,8 @@
     check/udp_flood.py [MFPX [RUNS]]     MFPX is crates/mfpx/out/mfpx where none is given
 
 A client submits 4,000 requests to one leader, 64 at a time. While the program runs, its sockets of 127.0.0.1 are found in /proc and
-sent noise, cut frames and frames of the protocol that nobody sent: a Decided with a no-op for a slot. Datagrams may be lost then, as
-the system's buffers overflow. So lines may be missing, and requests are refused (44) while too many wait. What is printed has to be
+sent noise, cut frames and frames of the protocol that nobody sent: a Decided with a no-op for a slot; a floor, and the snapshot of an
+empty database there. Datagrams may be lost then, as the system's buffers overflow. So lines may be missing, and requests are refused (44) while too many wait. What is printed has to be
 right all the same: no two nodes learn different commands for a slot and none learns one twice; only what was submitted is learnt, or
 a no-op; and each reply is that of the commands learnt up to it, each request once (21, as there is no such feature; 31 and 32 by the
 client's numbers).
@@ -40,12 +40,14 @@ def sockets_of(pid):
 
 
 def datagrams(draw):
-    """Noise; a cut Prepare; a Decided from node 1 with a no-op for a slot."""
-    slot = draw.randrange(REQUESTS)
+    """Noise; a cut Prepare; a Decided from node 1 with a no-op for a slot; that it is behind, and a snapshot in one part."""
+    slot, position = draw.randrange(REQUESTS), (REQUESTS + 1).to_bytes(4, "big")
     return (
         draw.randbytes(draw.randrange(64)),
         bytes.fromhex("4D500101000100"),
         bytes.fromhex("4D5001070100") + slot.to_bytes(4, "big") + b"\0",
+        bytes.fromhex("4D50020A0100") + position,
+        bytes.fromhex("4D5002090100") + position + bytes.fromhex("00000004 00000000 0004 00000000"),
     )
 
 

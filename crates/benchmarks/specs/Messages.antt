@@ -67,6 +67,9 @@ last_slot (message.Accept v) = v.slot
 last_slot (message.Accepted v) = v.slot
 last_slot (message.Ask slot) = slot
 last_slot (message.Decided slot command) = slot
+last_slot (message.SnapAsk position number) = position
+last_slot (message.SnapPart p) = p.position
+last_slot (message.Behind floor) = floor
 
 pub record IsSlotNumber (sent : Sent) (number : ℕ) : Type 0 where
   pub envelope : Envelope

@@ -71,6 +71,9 @@ fn last_slot(message: &Message) -> u32
         Message::Accepted(vote) => vote.slot.value(),
         Message::Ask { slot } => slot.value(),
         Message::Decided { slot, .. } => slot.value(),
+        Message::SnapAsk { position, .. } => position.value(),
+        Message::SnapPart(part) => part.position().value(),
+        Message::Behind { floor } => floor.value(),
     }
 }
 

@@ -1,6 +1,6 @@
-//! Tests of all libraries, over what these make public.
+//! Tests of libraries, over what these make public. Those of whole runs are in `run_trials`.
 //!
-//! A crate with tests is proved twice, and each test program is linked by itself, so all tests are in one crate.
+//! A crate with tests is proved twice, and each test program is linked by itself, so all tests are in these two crates.
 #![tactic(auto)]
 
 #[cfg(test)]
@@ -9,7 +9,5 @@ mod data;
 mod memory;
 #[cfg(test)]
 mod nodes;
-#[cfg(test)]
-mod runs;
 #[cfg(test)]
 mod storages;

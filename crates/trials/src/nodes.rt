@@ -13,6 +13,7 @@ mod losses;
 mod news;
 mod promises;
 mod runs;
+mod snapshots;
 mod telling;
 
 use fleet::Fleet;

@@ -11,14 +11,16 @@
 //! - `count 0`: how many features there are; `look 0`: whether it is up, its position, and the keys of the puts that took effect.
 
 use super::letters::{envelope, node_id, number, numbers, removal, small};
-use super::telling::{tell_fault, tell_learnt, tell_replies, tell_sends, tell_writes};
+use super::telling::{
+    tell_fault, tell_learnt, tell_replies, tell_restored, tell_sends, tell_writes,
+};
 use node::{Input, Node, NodeFault, Outputs};
 use stable::{Failing, MemStable, Scripted};
 use std::alloc::{AllocError, Global};
 use std::fmt::Write;
 use std::test::Fail;
 use store::{Op, Query};
-use wire::{Envelope, Frame, Id, Instant, Interp, Nodes, Point, Seq};
+use wire::{Envelope, Frame, Id, Instant, Interp, Message, Nodes, Point, Seq};
 
 // No table sends more frames.
 const MOST_FLUSHED: usize = 300;
@@ -103,7 +105,7 @@ impl Fleet {
                 self.submit(alloc, text, small(to), small(client), value, removal()?)
             }
             (Some(_), &[to, client, value, instants]) => {
-                let ride = ride(alloc, instants)?;
+                let ride = ride(alloc, b"bus-7", instants)?;
                 self.submit(alloc, text, small(to), small(client), value, ride)
             }
             _ => self.flush(alloc, text),
@@ -237,6 +239,25 @@ impl Fleet {
         Ok(())
     }
 
+    /// A node is handed a message: what it tells.
+    pub fn hand(
+        &mut self,
+        alloc: Global,
+        from: u8,
+        to: u8,
+        message: Message,
+    ) -> Result<String, Fail> {
+        let (from, receiver) = (node_id(from)?, node_id(to)?);
+        let envelope = Envelope {
+            from,
+            to: receiver,
+            message,
+        };
+        let mut text = String::new(alloc);
+        self.give(alloc, &mut text, to, Input::Message(envelope))?;
+        Ok(text)
+    }
+
     /// The node of this number.
     pub fn member(&mut self, to: u8) -> Result<&mut Member, Fail> {
         let member = self.members.get_mut(usize::from(to)).ok_or("member")?;
@@ -266,8 +287,11 @@ fn tell_outputs(text: &mut String, node: u8, outputs: Outputs) -> Result<Vec<Fra
     Ok(sends)
 }
 
-/// Tells what a node learns and replies.
+/// Tells at which position a node is restored, what it learns, and what it replies.
 fn tell_done(text: &mut String, node: u8, outputs: &Outputs) -> Result<(), AllocError> {
+    if let Some(position) = outputs.restored {
+        tell_restored(text, node, position)?;
+    }
     if let Some(entry) = &outputs.learnt {
         tell_learnt(text, node, entry)?;
     }
@@ -334,9 +358,9 @@ fn tell_seen(text: &mut String, of: u8, member: &Member) -> Result<(), AllocErro
     tell_writes(text, member.writes())
 }
 
-/// The operation that puts `bus-7` at so many instants, a millisecond apart.
-fn ride(alloc: Global, instants: u64) -> Result<Op, Fail> {
-    let id = Id::new(b"bus-7").ok_or("id")?;
+/// The operation that puts a feature at so many instants, a millisecond apart.
+pub fn ride(alloc: Global, name: &[u8], instants: u64) -> Result<Op, Fail> {
+    let id = Id::new(name).ok_or("id")?;
     let mut points = Vec::new(alloc);
     for ms in 0..instants.min(1000) as u16 {
         let t = Instant::new(i64::from(ms)).ok_or("instant")?;

@@ -1,13 +1,16 @@
 //! Messages that are written by hand, and not by a node.
 //!
-//! They are spelled as `telling` tells them, but for a no-op, which is `0:0`.
+//! They are spelled as `telling` tells them, but for a no-op, which is `0:0`. The bytes of a part are zeros: four of them are the text of a
+//! machine that has executed nothing, and more are no machine's.
 
 use sessions::{Command, Number, Request};
 use std::alloc::Global;
 use std::test::Fail;
 use store::Op;
 use synod::{Ballot, Slot, Vote};
-use wire::{Entries, Entry, Envelope, Held, Id, Message, Nack, NodeId, Promise};
+use wire::{
+    Entries, Entry, Envelope, Held, Id, Message, Nack, NodeId, Part, PartNumber, Position, Promise,
+};
 
 /// The numbers of a text, whatever stands between them.
 pub fn numbers(alloc: Global, text: &str) -> Result<Vec<u64>, Fail> {
@@ -53,6 +56,18 @@ pub fn ballot(round: u64, node: u64) -> Result<Ballot, Fail> {
 pub fn slot(value: u64) -> Result<Slot, Fail> {
     let slot = Slot::new(value.min(65_536) as u32).ok_or("slot")?;
     Ok(slot)
+}
+
+/// The position of this number.
+pub fn position(value: u64) -> Result<Position, Fail> {
+    let position = Position::new(value.min(65_537) as u32).ok_or("position")?;
+    Ok(position)
+}
+
+/// The number of a part.
+pub fn part_number(value: u64) -> Result<PartNumber, Fail> {
+    let number = PartNumber::new(small(value)).ok_or("part's number")?;
+    Ok(number)
 }
 
 /// The removal of a client under a number, or for the number 0 the no-op.
@@ -133,6 +148,36 @@ fn decided(alloc: Global, numbers: &[u64]) -> Result<Message, Fail> {
     })
 }
 
+fn snap_ask(numbers: &[u64]) -> Result<Message, Fail> {
+    let &[at, part] = numbers else {
+        return Err("a question for a part".into());
+    };
+    Ok(Message::SnapAsk {
+        position: position(at)?,
+        number: part_number(part)?,
+    })
+}
+
+/// A part of so many zeros.
+fn snap_part(alloc: Global, numbers: &[u64]) -> Result<Message, Fail> {
+    let &[at, total, part] = numbers else {
+        return Err("a part".into());
+    };
+    let mut zeros = Vec::new(alloc);
+    zeros.resize(total.min(100_000) as usize, 0)?;
+    let part = Part::of(alloc, position(at)?, zeros.as_slice(), part_number(part)?)?;
+    Ok(Message::SnapPart(part.ok_or("no such part")?))
+}
+
+fn behind(numbers: &[u64]) -> Result<Message, Fail> {
+    let &[floor] = numbers else {
+        return Err("a floor".into());
+    };
+    Ok(Message::Behind {
+        floor: position(floor)?,
+    })
+}
+
 fn message(alloc: Global, word: &str, numbers: &[u64]) -> Result<Message, Fail> {
     match word {
         "prepare" => prepare(numbers),
@@ -142,6 +187,9 @@ fn message(alloc: Global, word: &str, numbers: &[u64]) -> Result<Message, Fail> 
         "accepted" => Ok(Message::Accepted(vote(alloc, numbers)?)),
         "ask" => ask(numbers),
         "decided" => decided(alloc, numbers),
+        "snapask" => snap_ask(numbers),
+        "snappart" => snap_part(alloc, numbers),
+        "behind" => behind(numbers),
         _ => Err("a message".into()),
     }
 }

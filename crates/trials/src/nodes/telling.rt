@@ -6,7 +6,7 @@ use stable::{Key, Put};
 use std::alloc::{AllocError, Global};
 use std::fmt::Write;
 use synod::{Ballot, Slot, Vote};
-use wire::{Frame, Held, Message, Promise};
+use wire::{Frame, Held, Message, Position, Promise};
 
 /// Another thing is to be told.
 pub fn part(text: &mut String) -> Result<(), AllocError> {
@@ -21,6 +21,13 @@ pub fn tell_learnt(text: &mut String, node: u8, entry: &LogEntry) -> Result<(), 
     part(text)?;
     write!(text, "learn {node}")?;
     tell_command(text, " ", entry.slot, entry.command.command())
+}
+
+/// A node was restored: what it holds now is that of the first so many entries.
+pub fn tell_restored(text: &mut String, node: u8, position: Position) -> Result<(), AllocError> {
+    let position = position.value();
+    part(text)?;
+    write!(text, "restore {node} {position}")
 }
 
 /// The replies to requests that waited.
@@ -118,6 +125,21 @@ fn tell_message(text: &mut String, message: &Message) -> Result<(), AllocError> 
         }
         Message::Decided { slot, command } => {
             tell_command(text, "decided ", *slot, command.command())
+        }
+        Message::SnapAsk { position, number } => {
+            let position = position.value();
+            let number = number.value();
+            write!(text, "snapask {position} {number}")
+        }
+        Message::SnapPart(part) => {
+            let position = part.position().value();
+            let total = part.total();
+            let number = part.number().value();
+            write!(text, "snappart {position} {total} {number}")
+        }
+        Message::Behind { floor } => {
+            let floor = floor.value();
+            write!(text, "behind {floor}")
         }
     }
 }
