@@ -6,7 +6,7 @@ ghost use Rattle.sqlite.specs.Held.{state};
 ghost use Rattle.sqlite_wal.specs.Reads.{AreClean};
 ghost use Rattle.sqlstable.specs.Files.{AreThoseHeld, HoldRowsAlone};
 ghost use Rattle.sqlstable.specs.States.{IsUsable};
-ghost use Rattle.sqlstable.specs.Storage.{HasCleanStore, IsSqlHonest, rows_of};
+ghost use Rattle.sqlstable.specs.Storage.{HasCleanStore, IsSqlHonest, IsUnfailed, rows_of};
 
 use crate::fault::or_fault;
 use crate::storage::SqlStable;
@@ -31,6 +31,7 @@ impl<D: Disk + Drop> SqlStable<FileStore<D>> {
         ensures usable { IfOk result (λ s. HasCleanStore over_files s → IsSqlHonest over_files s) }
         ensures found { IfOk result (λ s. IsSqlHonest over_files s
             → AreThoseHeld (image_of D.Disk files) (rows_of over_files s)) }
+        ensures unfailed { IfOk result (IsUnfailed over_files) }
         ensures not_damaged { ¬ IsErrOf result StableFault.Damaged }
     {
         let connection = or_fault(Connection::open_files(alloc, files, options))?;
@@ -58,6 +59,7 @@ impl<D: Disk + Drop> SqlStable<FileStore<D>> {
     ) -> Result<SqlStable<FileStore<D>>, StableFault>
         ensures same { IfOk result (λ again. IsSqlHonest over_files again
             → rows_of over_files again ≡ rows_of over_files self) }
+        ensures unfailed { IfOk result (IsUnfailed over_files) }
         ensures not_damaged { ¬ IsErrOf result StableFault.Damaged }
     {
         let files = self.close_files()?;

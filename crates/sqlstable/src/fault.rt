@@ -24,6 +24,7 @@ pub fn fault_of(error: &Error) -> StableFault
 /// What a call on a database gave, or the fault that its error is. What it left besides the error is dropped.
 pub fn or_fault<T, R: Drop>(outcome: Result<T, (Error, R)>) -> Result<T, StableFault>
     ensures given { IfOk result (λ value. outcome ≡ Ok value) }
+    ensures ok { (value : T) → outcome ≡ Ok value → result ≡ Ok value }
     ensures memory { (rest : R) → outcome ≡ Err (Error.SqliteFailure ErrorCode.OutOfMemory, rest)
         → IsErrOf result StableFault.Memory }
     ensures device { (error : Error) → (rest : R) → error ≢ Error.SqliteFailure ErrorCode.OutOfMemory
