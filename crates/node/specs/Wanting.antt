@@ -1,7 +1,13 @@
--- When memory may be wanting for a checkpoint and for a trim.
-use Rattle.std.specs.Prelude.{⊤}
+-- When memory may be wanting: for a checkpoint and for a trim, for questions, and for what carries a snapshot.
+use Rattle.std.specs.Prelude.{◌≡◌, ◌≢◌, ⊤, ℕ, [], true}
 use Rattle.acceptor.specs.Accepting.{HasVoteBelow}
-use Rattle.minds.specs.Minds.{Mind}
+use Rattle.learner.specs.Learning.{learnt_at}
+use Rattle.wire.specs.declared.frames.message.Message.{Message}
+use Rattle.wire.specs.declared.frames.message.Message.TheVariants.{Nack, Ask, SnapPart, Behind}
+use Rattle.minds.specs.Fetching.{wants}
+use Rattle.minds.specs.Minds.{Mind, position}
+use Rattle.minds.specs.Sending.{decided_sends}
+use Rattle.minds.specs.Taking.{is_ahead}
 use Rattle.minds.specs.declared.input.Input.{Input}
 use Rattle.minds.specs.declared.input.Input.TheVariants as input
 
@@ -14,10 +20,19 @@ IsForRecords input.Tick = ⊥
 IsForRecords input.Checkpoint = ⊤
 IsForRecords input.Trim = ⊤
 
--- something may be wanted for the input: for a trim only where a vote stands below the floor
+-- something may be wanted for the message from a node: for a question only where it is answered, for a floor only where it is further
+-- than what is there, for a part only where it counts, and for a refusal never
+abbrev pub MayWantOn : Mind → ℕ → Message → Type 0
+MayWantOn m from (Nack n) = ⊥
+MayWantOn m from (Ask slot) = decided_sends m.id from slot m.accepting.floor (learnt_at m.learning slot) ≢ []
+MayWantOn m from (SnapPart p) = wants m.fetching (position m) p ≡ true
+MayWantOn m from (Behind floor) = is_ahead m floor ≡ true
+MayWantOn m from other = ⊤
+
+-- .. and for the input: for a trim only where a vote stands below the floor
 abbrev pub MayWant : Mind → Input → Type 0
 MayWant m (input.Submit client number op) = ⊤
-MayWant m (input.Message e) = ⊤
+MayWant m (input.Message e) = MayWantOn m e.from e.message
 MayWant m input.Timeout = ⊤
 MayWant m input.Tick = ⊤
 MayWant m input.Checkpoint = ⊤

@@ -29,7 +29,7 @@ impl<S: Stable> Node<S> {
     ghost use Rattle.minds.specs.Minds.{is_past, position};
     ghost use Rattle.minds.specs.Nodes.{NodeSteps, NodeAnswers, StaysMeaning, AnswersMeaning};
     ghost use Rattle.node.specs.Seen.{state_of};
-    ghost use Rattle.node.specs.Wanting.{IsForRecords, MayWant};
+    ghost use Rattle.node.specs.Wanting.{IsForRecords, MayWant, MayWantOn};
     ghost use Rattle.minds.specs.Outputs.{IsFew, silence};
     ghost use Rattle.minds.specs.declared.input.Input.TheVariants as input;
 
@@ -117,7 +117,8 @@ impl<S: Stable> Node<S> {
         ensures meaning { StaysMeaning (state_of self.old) input result (state_of self.new) }
         ensures few { IfOk result IsFew }
 
-        // After a checkpoint's or a trim's write nothing is wanted, and a trim of nothing is done.
+        // After a checkpoint's or a trim's write nothing is wanted, a trim of nothing is done, and nothing is wanted for a message that
+        // is passed over.
         ensures unwritten { IsErrOf result NodeFault.Memory → IsForRecords input
             → S.reads (state_of self.old).storage (state_of self.new).storage }
         ensures wanted { IfSome (state_of self.old).up (λ m. IfErr result (λ _. MayWant m input)) }
@@ -137,6 +138,10 @@ impl<S: Stable> Node<S> {
         ensures steps { NodeSteps S.Stable (state_of self.old) (input.Message envelope.now) result (state_of self.new) }
         ensures meaning { StaysMeaning (state_of self.old) (input.Message envelope.now) result (state_of self.new) }
         ensures few { IfOk result IsFew }
+
+        // For what is passed over nothing is wanted.
+        ensures wanted { IfSome (state_of self.old).up (λ m. IfErr result (λ _.
+            MayWantOn m envelope.now.from envelope.now.message)) }
     {
         let Some(roles) = &mut self.roles else {
             return Err(NodeFault::Down);

@@ -1,6 +1,6 @@
 //! What a node holds while it is up.
 
-ghost use Rattle.std.specs.Prelude.{◌≡◌, ◌≤◌, ◌⊎◌, ◌++◌, List, [], Some, IfOk, OnOk, IfErr, IfSome, IsErrOf, IsSome, None, true, false};
+ghost use Rattle.std.specs.Prelude.{◌≡◌, ◌≢◌, ◌≤◌, ◌⊎◌, ◌++◌, List, [], Some, IfOk, OnOk, OnErr, IfErr, IfSome, IsErrOf, IsSome, None, true, false};
 ghost use Rattle.store.specs.Answers.{IsAnswer};
 ghost use Rattle.sessions.specs.declared.command.Command.{Command};
 ghost use Rattle.byteorder.specs.Endian.{big_bytes};
@@ -72,7 +72,7 @@ impl Roles {
     ghost use Rattle.minds.specs.Inputs.{concerns};
     ghost use Rattle.minds.specs.Minds.{Mind, IsSmall, position, asked, waits, refuses, refuses_submit, refuses_timeout, refuses_checkpoint, Ignores};
     ghost use Rattle.node.specs.Roles.{mind_of};
-    ghost use Rattle.node.specs.Wanting.{IsForRecords, MayWant};
+    ghost use Rattle.node.specs.Wanting.{IsForRecords, MayWant, MayWantOn};
     ghost use Rattle.minds.specs.Nodes.{HasMade, HasFailedToMake};
     ghost use Rattle.minds.specs.Outputs.{sent, silence};
     ghost use Rattle.minds.specs.Sending.{to_one, ask_sends, decided_sends};
@@ -345,6 +345,7 @@ impl Roles {
             → HasFailedToMake S.Stable storage.old storage.new (Writes (mind_of self.old) (input.Message envelope.now)) }
         ensures memory { IsErrOf result NodeFault.Memory → S.reads storage.old storage.new
             ⊎ HasMade S.Stable storage.old storage.new (Writes (mind_of self.old) (input.Message envelope.now)) }
+        ensures wanted { IfErr result (λ _. MayWantOn (mind_of self.old) envelope.now.from envelope.now.message) }
     {
         if !concerns(self.id, self.nodes, envelope) {
             return Ok(Outputs::silence(alloc));
@@ -370,6 +371,7 @@ impl Roles {
             → HasFailedToMake S.Stable storage.old storage.new (WritesOnMessage (mind_of self.old) message.now) }
         ensures memory { IsErrOf result NodeFault.Memory → S.reads storage.old storage.new
             ⊎ HasMade S.Stable storage.old storage.new (WritesOnMessage (mind_of self.old) message.now) }
+        ensures wanted { IfErr result (λ _. MayWantOn (mind_of self.old) from message.now) }
     {
         match message {
             Message::Prepare { ballot, first } => {
@@ -516,6 +518,8 @@ impl Roles {
         ensures takes { IfOk result (λ said.
             TakesMessage (mind_of self.old) from (message.Ask slot) (mind_of self.new) said) }
         ensures err { IfErr result (λ fault. fault ≡ NodeFault.Memory) }
+        ensures wanted { OnErr result (decided_sends (mind_of self.old).id from slot (mind_of self.old).accepting.floor
+            (learnt_at (mind_of self.old).learning slot) ≢ []) }
     {
         let mut sends = self.take_room(alloc);
         self.tell_decided(alloc, &mut sends, from, slot)?;
@@ -530,9 +534,11 @@ impl Roles {
         to: NodeId,
         slot: Slot,
     ) -> Result<(), AllocError>
-        ensures { OnOk result (sends.new.items ≡ sends.old.items
+        ensures told { OnOk result (sends.new.items ≡ sends.old.items
             ++ decided_sends (mind_of self.now).id to slot (mind_of self.now).accepting.floor
             (learnt_at (mind_of self.now).learning slot)) }
+        ensures wanted { OnErr result (decided_sends (mind_of self.now).id to slot (mind_of self.now).accepting.floor
+            (learnt_at (mind_of self.now).learning slot) ≢ []) }
     {
         if let Some(command) = self.learner.get(slot) {
             return send_decided(alloc, sends, self.id, to, slot, command);

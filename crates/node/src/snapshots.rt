@@ -1,10 +1,10 @@
 //! A node that fetches the text of a checkpoint from others, and one that serves its own.
 
-ghost use Rattle.std.specs.Prelude.{◌≡◌, ◌<◌, ◌++◌, ℕ, not, Some, None, IfOk, OnOk, IfErr};
+ghost use Rattle.std.specs.Prelude.{◌≡◌, ◌<◌, ◌++◌, ℕ, not, true, Some, None, IfOk, OnOk, OnErr, IfErr};
 ghost use Rattle.minds.specs.Fetching.{still_fetched, is_above_target, wants};
 ghost use Rattle.minds.specs.Minds.{Mind, position};
 ghost use Rattle.minds.specs.Sending.{to_one, part_sends, snapshot_sends};
-ghost use Rattle.minds.specs.Taking.{TakesMessage, Restores, RestoresText, asks_again};
+ghost use Rattle.minds.specs.Taking.{TakesMessage, Restores, RestoresText, asks_again, is_ahead};
 ghost use Rattle.minds.specs.Outputs.{sent};
 ghost use Rattle.node.specs.Fetching.{fetching_of};
 ghost use Rattle.node.specs.Roles.{mind_of};
@@ -26,6 +26,7 @@ impl Roles {
         ensures takes { (from : ℕ) → IfOk result (λ said.
             TakesMessage (mind_of self.old) from (message.Behind floor) (mind_of self.new) said) }
         ensures err { IfErr result (λ fault. fault ≡ NodeFault.Memory) }
+        ensures wanted { OnErr result (is_ahead (mind_of self.old) floor ≡ true) }
     {
         if floor.value() <= self.position() || self.fetches_to(floor) {
             return Ok(Outputs::silence(alloc));
@@ -132,6 +133,7 @@ impl Roles {
         ensures takes { IfOk result (λ said.
             TakesMessage (mind_of self.old) from (message.SnapPart part.now) (mind_of self.new) said) }
         ensures err { IfErr result (λ fault. fault ≡ NodeFault.Memory) }
+        ensures wanted { OnErr result (wants (mind_of self.old).fetching (position (mind_of self.old)) part.now ≡ true) }
     {
         if !self.wants(part) {
             return Ok(Outputs::silence(alloc));

@@ -1,6 +1,8 @@
-use Rattle.std.proofs.Common.{inl, inr, ◌≡◌, Some, None, option_map, ap}
+use Rattle.std.proofs.Common.{inl, inr, ◌≡◌, Option, Some, None, IfSome, IfErr, option_map, ap, sym, subst}
 use Rattle.std.proofs.lemmas.Result.{IfOk-weaker, IfErr-weaker}
+use Rattle.minds.specs.Minds.{Mind}
 use Rattle.node.specs.Seen.{state_of}
+use Rattle.node.specs.Wanting.{MayWantOn}
 use Rattle.node.specs.Roles.{mind_of}
 use Rattle.minds.specs.declared.input.Input.TheVariants as input
 use Rattle.minds.proofs.Fewness.{said_few}
@@ -37,10 +39,17 @@ returns g c =
             c.receive-result.ensures.takes;
       };
       few = said_few (input.Message c.args.envelope.now) m n r c.see_small.ensures c.receive-result.ensures.takes;
+      wanted = subst (λ (o : Option Mind). IfSome o (λ m. IfErr r (λ _. MayWantOn m c.args.envelope.now.from c.args.envelope.now.message)))
+          (sym up) c.receive-result.ensures.wanted;
     }
 
 -- it is down
 pub returns-in_default : goal.returns-in_default
 returns-in_default g c =
     let down : (state_of c.args.self.now).up ≡ None = ap (λ o. option_map mind_of o) c.in_default.is in
-    record { steps = steps_down _ _ _ down; meaning = stays_down _ _ down; few = tt }
+    record {
+      steps = steps_down _ _ _ down;
+      meaning = stays_down _ _ down;
+      few = tt;
+      wanted = subst (λ (o : Option Mind). IfSome o (λ m. MayWantOn m c.args.envelope.now.from c.args.envelope.now.message)) (sym down) tt;
+    }

@@ -1,8 +1,13 @@
-use Rattle.std.proofs.Common.{◌≡◌, ◌∙◌, inl, inr, refl, sym, ap}
-use Rattle.std.proofs.lemmas.Result.{IfOk-weaker, err_from_is_err_and}
+use Rattle.std.proofs.Common.{◌≡◌, ◌∙◌, Result, Ok, Err, OnErr, IfErr, inl, inr, refl, sym, ap}
+use Rattle.std.proofs.lemmas.Result.{IfOk-weaker, IfErr-weaker, err_from_is_err_and}
 use Rattle.wire.specs.declared.frames.message.Message.TheVariants.{Promise, Accept, Decided}
 use Rattle.minds.proofs.FaultLemmas.{memory_not_device, no_fault, memory_of_two, memory_alone, on_ok, made_none}
 use Rattle.node.proofs.roles.Roles.hear.Goals as goal
+
+-- what holds of each error
+on_err : {T E : Type 0} (r : Result T E) (P : Type 0) → OnErr r P → IfErr r (λ _. P)
+on_err (Ok x) P h = tt
+on_err (Err e) P h = h
 
 -- a prepare: the acceptor's write is the one to be made
 pub returns-in-Prepare : goal.returns-in-Prepare
@@ -15,6 +20,7 @@ returns-in-Prepare g c = rw c.in-Prepare.is (record {
     | inl reads ↦ inl reads
     | inr made ↦ inr (record { write = _; made = refl; leaves = made })
   ];
+  wanted = IfErr-weaker c.on_prepare.result _ _ (λ _ _. tt) c.on_prepare.ensures.err;
 })
 
 -- an accept, of which a copy was made
@@ -32,6 +38,7 @@ returns-in_ok-clone-in-Accept g c =
         | inl reads ↦ inl reads
         | inr w ↦ inr (record { write = w.0; made = w.1; leaves = w.2 })
       ];
+      wanted = IfErr-weaker c.on_accept.result _ _ (λ _ _. tt) c.on_accept.ensures.err;
     })
 
 -- a copy of what came couldn't be made
@@ -44,6 +51,7 @@ returns-in_err-clone-in-Promise g c =
       err = inr refl;
       device = λ is. absurd (memory_not_device is);
       memory = λ _. inl (g.met.S.Stable.laws.reads_none _);
+      wanted = rw c.in-Promise.is tt;
     })
 
 pub returns-in_err-clone-in-Accept : goal.returns-in_err-clone-in-Accept
@@ -55,6 +63,7 @@ returns-in_err-clone-in-Accept g c =
       err = inr refl;
       device = λ is. absurd (memory_not_device is);
       memory = λ _. inl (g.met.S.Stable.laws.reads_none _);
+      wanted = rw c.in-Accept.is tt;
     })
 
 pub returns-in_err-share-in-Decided : goal.returns-in_err-share-in-Decided
@@ -66,6 +75,7 @@ returns-in_err-share-in-Decided g c =
       err = inr refl;
       device = λ is. absurd (memory_not_device is);
       memory = λ _. inl (g.met.S.Stable.laws.reads_none _);
+      wanted = rw c.in-Decided.is tt;
     })
 
 -- the other messages are none on which something is written
@@ -76,6 +86,7 @@ returns-in-Nack g c = rw c.in-Nack.is (record {
   err = tt;
   device = λ is. absurd (no_fault _ _ is);
   memory = λ is. absurd (no_fault _ _ is);
+  wanted = tt;
 })
 
 pub returns-in-Ask : goal.returns-in-Ask
@@ -85,6 +96,7 @@ returns-in-Ask g c = rw c.in-Ask.is (record {
   err = memory_of_two c.on_ask.result c.on_ask.ensures.err;
   device = λ is. absurd (memory_alone c.on_ask.result c.on_ask.ensures.err is);
   memory = λ _. inl (g.met.S.Stable.laws.reads_none _);
+  wanted = on_err c.on_ask.result _ c.on_ask.ensures.wanted;
 })
 
 pub returns-in-Accepted : goal.returns-in-Accepted
@@ -94,6 +106,7 @@ returns-in-Accepted g c = rw c.in-Accepted.is (record {
   err = memory_of_two c.on_accepted.result c.on_accepted.ensures.err;
   device = λ is. absurd (memory_alone c.on_accepted.result c.on_accepted.ensures.err is);
   memory = λ _. inl (g.met.S.Stable.laws.reads_none _);
+  wanted = IfErr-weaker c.on_accepted.result _ _ (λ _ _. tt) c.on_accepted.ensures.err;
 })
 
 pub returns-in_ok-clone-in-Promise : goal.returns-in_ok-clone-in-Promise
@@ -104,6 +117,7 @@ returns-in_ok-clone-in-Promise g c =
       err = memory_of_two c.on_promise.result c.on_promise.ensures.err;
       device = λ is. absurd (memory_alone c.on_promise.result c.on_promise.ensures.err is);
       memory = λ _. inl (g.met.S.Stable.laws.reads_none _);
+      wanted = IfErr-weaker c.on_promise.result _ _ (λ _ _. tt) c.on_promise.ensures.err;
     })
 
 pub returns-in_ok-share-in-Decided : goal.returns-in_ok-share-in-Decided
@@ -114,6 +128,7 @@ returns-in_ok-share-in-Decided g c =
       err = memory_of_two c.on_decided.result c.on_decided.ensures.err;
       device = λ is. absurd (memory_alone c.on_decided.result c.on_decided.ensures.err is);
       memory = λ _. inl (g.met.S.Stable.laws.reads_none _);
+      wanted = IfErr-weaker c.on_decided.result _ _ (λ _ _. tt) c.on_decided.ensures.err;
     })
 
 pub returns-in-SnapAsk : goal.returns-in-SnapAsk
@@ -123,6 +138,7 @@ returns-in-SnapAsk g c = rw c.in-SnapAsk.is (record {
   err = memory_of_two c.on_snap_ask.result c.on_snap_ask.ensures.err;
   device = λ is. absurd (memory_alone c.on_snap_ask.result c.on_snap_ask.ensures.err is);
   memory = λ _. inl (g.met.S.Stable.laws.reads_none _);
+  wanted = IfErr-weaker c.on_snap_ask.result _ _ (λ _ _. tt) c.on_snap_ask.ensures.err;
 })
 
 pub returns-in-SnapPart : goal.returns-in-SnapPart
@@ -132,6 +148,7 @@ returns-in-SnapPart g c = rw c.in-SnapPart.is (record {
   err = memory_of_two c.on_part.result c.on_part.ensures.err;
   device = λ is. absurd (memory_alone c.on_part.result c.on_part.ensures.err is);
   memory = λ _. inl (g.met.S.Stable.laws.reads_none _);
+  wanted = on_err c.on_part.result _ c.on_part.ensures.wanted;
 })
 
 pub returns-in-Behind : goal.returns-in-Behind
@@ -141,4 +158,5 @@ returns-in-Behind g c = rw c.in-Behind.is (record {
   err = memory_of_two c.on_behind.result c.on_behind.ensures.err;
   device = λ is. absurd (memory_alone c.on_behind.result c.on_behind.ensures.err is);
   memory = λ _. inl (g.met.S.Stable.laws.reads_none _);
+  wanted = on_err c.on_behind.result _ c.on_behind.ensures.wanted;
 })

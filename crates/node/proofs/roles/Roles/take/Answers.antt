@@ -29,7 +29,7 @@ returns-in-Message g c = rw c.in-Message.is (record {
   device = c.receive.ensures.device;
   memory = c.receive.ensures.memory;
   unwritten = λ _ alone. absurd alone;
-  wanted = IfErr-weaker c.receive.result _ _ (λ _ _. tt) c.receive.ensures.err;
+  wanted = c.receive.ensures.wanted;
 })
 
 pub returns-in-Timeout : goal.returns-in-Timeout
