@@ -20,12 +20,12 @@ pub fn a_start_tells<S: Stable>()
         → AreHonest ⟦<Scripted<S> as Stable>⟧.IsHonest w.nodes → Tells ⟦<Scripted<S> as Stable>⟧.contents w }
 {}
 
-/// Each step of a world of a run that leaves the storages honest keeps what the lists of the world tell of one another. That no two nodes
-/// learnt different commands for one slot makes the parts of a text one, from whichever nodes they come.
+/// Each step of a world of a run that leaves the storages honest keeps what the lists of the world tell of one another. In such a world no
+/// two nodes learnt different commands for one slot, so the parts of a text make one text, from whichever nodes they come.
 pub fn steps_tell<S: Stable>()
     ensures { (old new : WorldState S) (event : Event)
         → Steps (⟦<Scripted<S> as Stable>⟧) old event new → AreHonest ⟦<Scripted<S> as Stable>⟧.IsHonest new.nodes
-        → IsAllowed ⟦<Scripted<S> as Stable>⟧.contents old.nodes old.frames old.learnt old.submitted → LearntAgree old.learnt
+        → IsAllowed ⟦<Scripted<S> as Stable>⟧.contents old.nodes old.frames old.learnt old.submitted
         → Tells ⟦<Scripted<S> as Stable>⟧.contents old → Tells ⟦<Scripted<S> as Stable>⟧.contents new }
 {}
 
