@@ -1,8 +1,8 @@
 #!/usr/bin/env python3
 """Times operations and queries of a database of 256 features, each of 64 or of 1,024 points: calls a second.
 
-    bench/db_queries.py [PROGRAM]         PROGRAM is crates/benchmarks/out/benchmarks; where none is given, `rt run` in
-                                     crates/benchmarks proves and builds it first
+    bench/db_queries.py [PROGRAM]         PROGRAM is crates/conformance/out/conformance; where none is given, `rt run` in
+                                     crates/conformance proves and builds it first
 
 `store_put` makes an operation that puts a known feature anew, and carries it out; `store_append` appends a point (at
 1,024 points the feature is full, which is told), and every 256th round puts another feature anew; `store_remove` removes

@@ -1,8 +1,8 @@
 #!/usr/bin/env python3
 """Times frames, spelled and read, and counts the requests for memory that one of each kind takes.
 
-    bench/frames.py [PROGRAM]        PROGRAM is crates/benchmarks/out/benchmarks; where none is given, `rt run` in
-                                     crates/benchmarks proves and builds it first
+    bench/frames.py [PROGRAM]        PROGRAM is crates/conformance/out/conformance; where none is given, `rt run` in
+                                     crates/conformance proves and builds it first
 
 A promise tells four votes, each for a put; a put has 512 instants. The requests for memory of 1,000 frames are taken from
 those of 2,000, so that what the program takes besides doesn't count. It needs gcc, for a malloc that it preloads.

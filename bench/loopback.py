@@ -1,11 +1,11 @@
 #!/usr/bin/env python3
 """Times frames that three nodes are delivered: flushed in the world, through queues in memory, and through sockets.
 
-    bench/loopback.py [BENCHMARKS [MFPX]]    the two programs; where none is given, `rt run` in crates/benchmarks proves
+    bench/loopback.py [BENCHMARKS [MFPX]]    the two programs; where none is given, `rt run` in crates/conformance proves
                                              and builds the first, and the second is crates/mfpx/out/mfpx
 
 A client submits requests, 64 at a time, as many as may wait, and all frames are delivered then: 18 for the campaign and its no-op, and
-12 for each request. `flushed` and `pumped` are words of `benchmarks`, in frames a second of processor time; the two differ by the cost of
+12 for each request. `flushed` and `pumped` are words of `conformance`, in frames a second of processor time; the two differ by the cost of
 the index, the queues and the 100 idle passes of a pump. Through sockets the same is a schedule that `mfpx loopback` runs, in frames a
 second of processor time and of the clock, beside `mfpx replay`.
 """

@@ -1,8 +1,8 @@
 #!/usr/bin/env python3
 """Times the questions of one moving point at 2, 64 and 1,024 points: calls a second.
 
-    bench/point_queries.py [PROGRAM]        PROGRAM is crates/benchmarks/out/benchmarks; where none is given, `rt run` in
-                                     crates/benchmarks proves and builds it first
+    bench/point_queries.py [PROGRAM]        PROGRAM is crates/conformance/out/conformance; where none is given, `rt run` in
+                                     crates/conformance proves and builds it first
 """
 
 import timing

@@ -1,8 +1,8 @@
 #!/usr/bin/env python3
 """Times the roles of a node, which hold little or much by then: calls a second.
 
-    bench/roles.py [PROGRAM]         PROGRAM is crates/benchmarks/out/benchmarks; where none is given, `rt run` in
-                                     crates/benchmarks proves and builds it first
+    bench/roles.py [PROGRAM]         PROGRAM is crates/conformance/out/conformance; where none is given, `rt run` in
+                                     crates/conformance proves and builds it first
 
 `tellings` tells a learner of three nodes that has learnt so many slots: every other time of a slot that it has still to
 learn, by the node that told of it before, and else of one that it has learnt, the third node's vote that comes late.

@@ -1,8 +1,8 @@
 #!/usr/bin/env python3
 """Times the snapshot text of a machine, and trims of the votes in a storage in memory: milliseconds.
 
-    bench/snapshots.py [PROGRAM]     PROGRAM is crates/benchmarks/out/benchmarks; where none is given, `rt run` in
-                                     crates/benchmarks proves and builds it first
+    bench/snapshots.py [PROGRAM]     PROGRAM is crates/conformance/out/conformance; where none is given, `rt run` in
+                                     crates/conformance proves and builds it first
 
 The text is the greatest that a machine has: 256 features with names of 64 bytes and 1,024 points each, and 256 clients. It
 is copied, written, and read into a machine; and once the text of that machine is written and compared with it. The figures

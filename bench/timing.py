@@ -1,6 +1,6 @@
 """What the scripts of this folder share: a program built once, and calls a second of processor time.
 
-A word of `benchmarks` is run with ever more rounds until it takes a tenth of a second, and then three times. The best of
+A word of `conformance` is run with ever more rounds until it takes a tenth of a second, and then three times. The best of
 the three counts, less what the process takes for no round at all. It is the processor's time, so that other work on the
 machine changes little.
 """
@@ -14,14 +14,14 @@ TRIES = 3
 
 
 def program():
-    """The program that the first word of the command line names, or crates/benchmarks, proved and built."""
+    """The program that the first word of the command line names, or crates/conformance, proved and built."""
     if len(sys.argv) > 1:
         return sys.argv[1]
-    folder = os.path.join(os.path.dirname(os.path.abspath(__file__)), "..", "crates", "benchmarks")
+    folder = os.path.join(os.path.dirname(os.path.abspath(__file__)), "..", "crates", "conformance")
     done = subprocess.run(["rt", "run", "--", "datetimes", "1"], cwd=folder, stdout=subprocess.DEVNULL)
     if done.returncode != 0:
         sys.exit("rt run failed in %s" % folder)
-    return os.path.join(folder, "out", "benchmarks")
+    return os.path.join(folder, "out", "conformance")
 
 
 def seconds(path, words, rounds):

@@ -1,9 +1,9 @@
 #!/usr/bin/env python3
 """Runs a bit of each check of this folder, and ends with one line.
 
-    check/all.py [--minutes N] [--seed N] [--mfpx PROGRAM] [--benchmarks PROGRAM]
+    check/all.py [--minutes N] [--seed N] [--mfpx PROGRAM] [--conformance PROGRAM]
 
-The programs are crates/mfpx/out/mfpx and crates/benchmarks/out/benchmarks where none are given; `rt run` in their folders proves and
+The programs are crates/mfpx/out/mfpx and crates/conformance/out/conformance where none are given; `rt run` in their folders proves and
 builds them, `tools/unproved.py` builds them without proofs. Checks of a fixed length come first, one line each; the two fuzzers share
 what is left of the N minutes (5). Files are made in memory where /dev/shm is there. Without a seed the clock gives one, which is printed.
 A check that fails is named in the last line, its output is printed above, and the script ends with 1. A check whose program isn't there
@@ -42,11 +42,11 @@ def fixed(mfpx, seed):
     )
 
 
-def fuzzers(mfpx, benchmarks, seed, seconds):
+def fuzzers(mfpx, conformance, seed, seconds):
     """The checks that go on for so many seconds together."""
     return (
         ("fuzz.py", mfpx, [mfpx, EXAMPLES, "--seconds", str(seconds * 2 // 3), "--seed", str(seed)]),
-        ("fuzz_frames.py", benchmarks, [benchmarks, "--seconds", str(seconds // 3), "--seed", str(seed)]),
+        ("fuzz_frames.py", conformance, [conformance, "--seconds", str(seconds // 3), "--seed", str(seed)]),
     )
 
 
@@ -71,14 +71,14 @@ def main():
     parser.add_argument("--minutes", type=float, default=5, metavar="N")
     parser.add_argument("--seed", type=int, default=int(time.time()), metavar="N")
     parser.add_argument("--mfpx", default=program("mfpx"), metavar="PROGRAM")
-    parser.add_argument("--benchmarks", default=program("benchmarks"), metavar="PROGRAM")
+    parser.add_argument("--conformance", default=program("conformance"), metavar="PROGRAM")
     asked = parser.parse_args()
     begun, ends = time.monotonic(), {}
     print("seed %d" % asked.seed, flush=True)
     for check in fixed(asked.mfpx, asked.seed):
         ends[check[0]] = is_right(*check)
     left = max(2 * LEAST, int(asked.minutes * 60 - (time.monotonic() - begun)))
-    for check in fuzzers(asked.mfpx, asked.benchmarks, asked.seed, left):
+    for check in fuzzers(asked.mfpx, asked.conformance, asked.seed, left):
         ends[check[0]] = is_right(*check)
     failed, absent = ([name for name, end in ends.items() if end is wanted] for wanted in (False, None))
     says = "FAILED: %s" % " ".join(failed) if failed else "%d checks right" % (len(ends) - len(absent))

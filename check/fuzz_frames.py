@@ -3,7 +3,7 @@
 
     check/fuzz_frames.py [PROGRAM] [--seconds N] [--runs N] [--seed N]
 
-PROGRAM is crates/benchmarks/out/benchmarks where none is given.
+PROGRAM is crates/conformance/out/conformance where none is given.
 
 Frames of all kinds are drawn among 3, 5 or 7 nodes, and most of them are changed: a byte that is another one, bytes that are left out,
 told again or cut off, a number within them that is at an end of its range, a part of another frame. The program is handed some
@@ -329,7 +329,7 @@ def judged(program, frames, counts):
 def main():
     here = os.path.dirname(os.path.abspath(__file__))
     words = argparse.ArgumentParser()
-    words.add_argument("program", nargs="?", default=os.path.join(here, "..", "crates", "benchmarks", "out", "benchmarks"))
+    words.add_argument("program", nargs="?", default=os.path.join(here, "..", "crates", "conformance", "out", "conformance"))
     words.add_argument("--seconds", type=float, default=60)
     words.add_argument("--runs", type=int)
     words.add_argument("--seed", type=int, default=1)

@@ -1,10 +1,10 @@
 #!/usr/bin/env python3
 """Runs every worked example on which the program was built once more, each under the name of what it shows.
 
-    check/rows.py [--mfpx PROGRAM] [--benchmarks PROGRAM] [--tests PROGRAM] [--run_tests PROGRAM] [--list]
+    check/rows.py [--mfpx PROGRAM] [--conformance PROGRAM] [--tests PROGRAM] [--run_tests PROGRAM] [--list]
 
-The programs are crates/mfpx/out/mfpx, crates/benchmarks/out/benchmarks, crates/trials/out/trials_tests and
-crates/run_trials/out/run_trials_tests where none are given.
+The programs are crates/mfpx/out/mfpx, crates/conformance/out/conformance, crates/tests/out/tests_tests and
+crates/run_tests/out/run_tests_tests where none are given.
 
 What has to come stands here, as it was worked out by hand before there was a program; of the three longest it stands in `examples`. A row
 is a schedule and its transcript, or its fault; queries over some features and their answers; a document; frames; a run over files or
@@ -66,8 +66,8 @@ def unsure(how):
 class Programs:
     """The programs, and what they come to."""
 
-    def __init__(self, mfpx, benchmarks, tests, run_tests):
-        self.mfpx, self.benchmarks, self.tests, self.run_tests = mfpx, benchmarks, tests, run_tests
+    def __init__(self, mfpx, conformance, tests, run_tests):
+        self.mfpx, self.conformance, self.tests, self.run_tests = mfpx, conformance, tests, run_tests
 
     def run(self, words, text=b""):
         done = subprocess.run([self.mfpx, *words], input=text, capture_output=True, timeout=120)
@@ -130,9 +130,9 @@ def frames(nodes, *pairs):
     """Frames in pairs with what is told of them, which is the frame itself where nothing is."""
     def judge(it):
         text = "".join("frame %d %s\n" % (nodes, frame.replace(" ", "").lower()) for frame in pairs[::2])
-        done = subprocess.run([it.benchmarks], input=text, capture_output=True, text=True, timeout=60)
+        done = subprocess.run([it.conformance], input=text, capture_output=True, text=True, timeout=60)
         return done.stdout.splitlines(), [told or frame.replace(" ", "").lower() for frame, told in zip(pairs[::2], pairs[1::2])]
-    return "benchmarks", judge
+    return "conformance", judge
 
 
 def through_sockets(lines, told):
@@ -225,9 +225,9 @@ def frames_sent(lines, count):
 
 PROGRAMS = {
     "mfpx": "mfpx/out/mfpx",
-    "benchmarks": "benchmarks/out/benchmarks",
-    "tests": "trials/out/trials_tests",
-    "run_tests": "run_trials/out/run_trials_tests",
+    "conformance": "conformance/out/conformance",
+    "tests": "tests/out/tests_tests",
+    "run_tests": "run_tests/out/run_tests_tests",
 }
 
 ROWS = {

@@ -3,8 +3,8 @@
 
     check/single_calls.py TESTS [NAME..]
 
-TESTS is crates/trials/out/trials_tests, which `rt test` builds there; `tools/unproved.py crates/trials TESTS --test` builds one without
-proofs. The NAMEs are of functions in crates/trials/src/memory.rt; without any, all of them are run.
+TESTS is crates/tests/out/tests_tests, which `rt test` builds there; `tools/unproved.py crates/tests TESTS --test` builds one without
+proofs. The NAMEs are of functions in crates/tests/src/memory.rt; without any, all of them are run.
 
 Such a test makes one call. Where that is refused memory, what was there has to stand, and the same call again has to have the
 answer that it has undisturbed. The first run of a test refuses the first request, the second the second, and so on until a run

@@ -3,7 +3,7 @@
 
     check/trimmed_file.py TESTS
 
-TESTS is crates/trials/out/trials_tests, which `rt test` builds there; `tools/unproved.py crates/trials TESTS --test` builds one without
+TESTS is crates/tests/out/tests_tests, which `rt test` builds there; `tools/unproved.py crates/tests TESTS --test` builds one without
 proofs. The test `a_file_is_trimmed` puts records into a file through SQL, trims it below slot 700 and closes it. It runs in a folder of its own, where
 SQLite, as Python has it, reads what it left. The keys are those of docs/FORMATS.md.
 """

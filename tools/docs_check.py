@@ -84,7 +84,7 @@ def words_of_tree():
 def counts_of_tree():
     """How many crates, examples and mutants there are."""
     paths = tracked()
-    examples = [os.path.basename(path) for path in paths if path.startswith("crates/benchmarks/data/")]
+    examples = [os.path.basename(path) for path in paths if path.startswith("crates/conformance/data/")]
     schedules, documents = (sum(name.endswith(suffix) for name in examples) for suffix in (".schedule", ".json"))
     mutants = sum("/must-fail/" in path for path in paths)
     listed = [line for line in content("crates.txt").splitlines() if re.match(r"[a-z]", line)]

@@ -22,15 +22,15 @@ from typing import NamedTuple
 CRATES = os.path.join(os.path.dirname(os.path.dirname(os.path.abspath(__file__))), "crates")
 LISTS = (
     ("**1. The headline over the lists alone** (`IsExplained`, `HasChosen`, `BringValid`)",
-     ["history.Explaining.IsExplained", "history.Voting.HasChosen", "history.Submissions.BringValid"]),
-    ("**2. Then `IsSafe`, over the protocol**", ["history.Safety.IsSafe"]),
+     ["world_model.Explaining.IsExplained", "world_model.Voting.HasChosen", "world_model.Submissions.BringValid"]),
+    ("**2. Then `IsSafe`, over the protocol**", ["world_model.Safety.IsSafe"]),
     ("**3. Then a transcript** (`IsReplay`)", ["replay.Runs.IsReplay"]),
 )
 # What the files of each list are about, by their crates or their modules; a file is of the first subject that names it.
 SUBJECTS = (
     {
-        "majorities; who wrote a vote; what is chosen": "synod.Majorities stable.Script history.Voting",
-        "what explains a run": "history.Explaining history.Submissions",
+        "majorities; who wrote a vote; what is chosen": "synod.Majorities stable.Script world_model.Voting",
+        "what explains a run": "world_model.Explaining world_model.Submissions",
         "the meaning of a list of commands": "sessions",
         "operations and replies": "store.Operations store.Replies store.Features timeindex",
         "answers": "store.Answers",
@@ -43,7 +43,7 @@ SUBJECTS = (
         "ballots, messages, records, the past": "synod.Ballots synod.Messages synod.Records synod.History",
         "chosen; what a node knows; actions; runs": "synod.Chosen synod.Volatile synod.Acts synod.Runs",
         "the three safety properties": "synod.Invariant",
-        "safe": "history.Safety",
+        "safe": "world_model.Safety",
         "checkpoints: their records, texts and databases": "sessions store timeindex wire.RecordForms acceptor.Forms",
         "what a node and a world are": "",
     },
@@ -53,8 +53,8 @@ SUBJECTS = (
         "frames and records": "wire fields stable synod acceptor.Forms acceptor.Spelling",
         "the roles' rules": "acceptor learner proposer",
         "sessions": "sessions",
-        "one input of a node": "minds",
-        "one event of a world; flushes; rounds; safe": "history",
+        "one input of a node": "node_model",
+        "one event of a world; flushes; rounds; safe": "world_model",
         "lines to transcript": "replay",
         "other": "",
     },

@@ -9,9 +9,9 @@ use Rattle.synod.specs.declared.ballot.Ballot.{Ballot}
 use Rattle.synod.specs.declared.vote.Vote.{Vote}
 use Rattle.sessions.specs.declared.command.Command.{Command}
 use Rattle.wire.specs.Promises.{AreTold}
-use Rattle.byslot.specs.Values.{value_at, IsEmptyFrom, IsFirstFrom}
-use Rattle.byslot.specs.declared.byslot.BySlot.{BySlot}
-use Rattle.byslot.proofs.ValueLemmas.{tells}
+use Rattle.slot_table.specs.Values.{value_at, IsEmptyFrom, IsFirstFrom}
+use Rattle.slot_table.specs.declared.slot_table.SlotTable.{SlotTable}
+use Rattle.slot_table.proofs.ValueLemmas.{tells}
 use Rattle.acceptor.specs.Casts.{vote_at}
 use Rattle.acceptor.specs.Ranges.{IsPromiseFrom, StandsFrom}
 use Rattle.acceptor.specs.declared.cast.Cast.{Cast}
@@ -75,7 +75,7 @@ abbrev pub end_of : Option ℕ → ℕ
 end_of None = 65536
 end_of (Some next) = next
 
-module _ (votes : BySlot Cast) (first : ℕ) where
+module _ (votes : SlotTable Cast) (first : ℕ) where
   abbrev pub held : ℕ → Option (Vote Command)
   held s = option_map (vote_at s) (value_at votes s)
 

@@ -1,6 +1,6 @@
 -- The votes that are held, by slot.
 use Rattle.std.specs.Prelude.{◌≡◌, ℕ, ◌<◌, ◌≤◌, Option, Some, IsSome, option_map}
-use Rattle.byslot.specs.Values.{value_at}
+use Rattle.slot_table.specs.Values.{value_at}
 use Rattle.synod.specs.Ballots.{rank, rank_of}
 use Rattle.synod.specs.declared.ballot.Ballot.{Ballot}
 use Rattle.synod.specs.declared.vote.Vote.{Vote}

@@ -9,8 +9,8 @@ ghost use Rattle.acceptor.specs.Spelling.{vote_bytes};
 ghost use Rattle.stable.specs.Records.{Sets};
 
 use super::cast::Cast;
-use byslot::BySlot;
 use sessions::Command;
+use slot_table::SlotTable;
 use stable::{Key, Stable, StableFault};
 use std::alloc::{AllocError, Global};
 use synod::{Ballot, Slot, Vote};
@@ -19,7 +19,7 @@ use wire::{Entries, Entry, Held, MOST_ENTRIES, Promise, vote_record};
 /// What was voted for at each slot.
 #[derive(Drop)]
 pub(super) struct Votes {
-    by_slot: BySlot<Cast>,
+    by_slot: SlotTable<Cast>,
 }
 
 impl Votes {
@@ -28,7 +28,7 @@ impl Votes {
         ensures { (s : ℕ) → vote_held result s ≡ None }
     {
         Votes {
-            by_slot: BySlot::new(alloc),
+            by_slot: SlotTable::new(alloc),
         }
     }
 

@@ -11,10 +11,10 @@ use Rattle.wire.specs.declared.frames.envelope.Envelope.{Envelope}
 use Rattle.events.specs.declared.event.Event.{Event}
 use Rattle.events.specs.declared.fault.WorldFault.{WorldFault}
 use Rattle.events.specs.declared.fault.WorldFault.TheVariants as fault
-use Rattle.history.specs.declared.round_end.RoundEnd.{RoundEnd}
-use Rattle.history.specs.Rounds.{RoundEnds, IsPartOfRound}
-use Rattle.history.specs.Worlds.{WorldState, Steps}
-use Rattle.history.proofs.FramesGrow.{BeginWith, step_grows, round_grows}
+use Rattle.world_model.specs.declared.round_end.RoundEnd.{RoundEnd}
+use Rattle.world_model.specs.Rounds.{RoundEnds, IsPartOfRound}
+use Rattle.world_model.specs.Worlds.{WorldState, Steps}
+use Rattle.world_model.proofs.FramesGrow.{BeginWith, step_grows, round_grows}
 use Rattle.cluster.specs.Clusters.{HasPassed, sending}
 use Rattle.cluster.specs.Passages.{Passage, Sent}
 use Rattle.cluster.specs.declared.transport.Transport.{Ghosts as Transports}

@@ -18,11 +18,11 @@ use Rattle.stable.specs.declared.stable.Stable.{Ghosts}
 use Rattle.events.specs.declared.event.Event.{Event}
 use Rattle.events.specs.declared.fault.WorldFault.{WorldFault}
 use Rattle.events.specs.declared.fault.WorldFault.TheVariants as fault
-use Rattle.history.specs.declared.round_end.RoundEnd.{RoundEnd}
-use Rattle.history.specs.Rounds.{RoundEnds, IsPartOfRound}
-use Rattle.history.specs.Worlds.{WorldState, Steps}
-use Rattle.history.proofs.FramesGrow.{BeginWith, step_grows, round_grows}
-use Rattle.history.proofs.Handing.{within_more}
+use Rattle.world_model.specs.declared.round_end.RoundEnd.{RoundEnd}
+use Rattle.world_model.specs.Rounds.{RoundEnds, IsPartOfRound}
+use Rattle.world_model.specs.Worlds.{WorldState, Steps}
+use Rattle.world_model.proofs.FramesGrow.{BeginWith, step_grows, round_grows}
+use Rattle.world_model.proofs.Handing.{within_more}
 use Rattle.cluster.specs.Indexes.{Indexes, IsFirst, NoneBelow, number_of, spellings}
 use Rattle.cluster.specs.Lowest.{GoesAs, IsLowest, IsStranger}
 

@@ -7,7 +7,7 @@ use Rattle.stable.specs.Script.{Script}
 use Rattle.stable.specs.declared.stable.Stable.{Ghosts}
 use Rattle.events.specs.declared.fault.WorldFault.{WorldFault}
 use Rattle.events.specs.declared.fault.WorldFault.TheVariants as fault
-use Rattle.history.specs.Worlds.{WorldState, DeliversFrame}
+use Rattle.world_model.specs.Worlds.{WorldState, DeliversFrame}
 use Rattle.cluster.specs.Clusters.{HasPassed, Pumped, sending, sendings}
 use Rattle.cluster.specs.Lowest.{IsLowest, IsStranger}
 use Rattle.cluster.specs.Passages.{Passage, Polled}

@@ -1,7 +1,7 @@
 -- What a cluster is seen as.
 use Rattle.stable.specs.declared.memory.MemStable.{MemStable}
 use Rattle.world.specs.Seen.{world_of}
-use Rattle.history.specs.Worlds.{WorldState}
+use Rattle.world_model.specs.Worlds.{WorldState}
 use Rattle.cluster.specs.Clusters.{ClusterState, Pumped}
 use Rattle.cluster.specs.declared.cluster.Cluster.{Cluster}
 

@@ -2,7 +2,7 @@
 use Rattle.std.specs.Prelude.{◌≡◌, ℕ, List, ◌++◌, length, map, drop}
 use Rattle.wire.specs.FrameSpelling.{spelling}
 use Rattle.wire.specs.declared.frames.envelope.Envelope.{Envelope}
-use Rattle.history.specs.Worlds.{WorldState}
+use Rattle.world_model.specs.Worlds.{WorldState}
 use Rattle.cluster.specs.Passages.{Passage, Sent}
 use Rattle.cluster.specs.declared.transport.Transport.{Ghosts as Transports}
 

@@ -4,11 +4,11 @@ ghost use Rattle.std.specs.Prelude.{◌≡◌, ◌<◌, ◌≤◌, ◌↔◌, �
 ghost use Rattle.std.specs.Prelude.{IsErrOf, vec_capacity};
 ghost use Rattle.std.specs.Prelude.{OnErr, OnOk, Option, Some, ℕ, option_map};
 ghost use Rattle.wire.specs.declared.frames.envelope.TheConstants.{LONGEST_FRAME};
-ghost use Rattle.history.specs.Events.{NamesNoFrame, NamesNoNode};
-ghost use Rattle.history.specs.Progress.{PromisesProgress};
-ghost use Rattle.history.specs.Rounds.{IsPartOfRound, NamesNoMember, RoundEnds};
-ghost use Rattle.history.specs.Staying.{IsSafeOver};
-ghost use Rattle.history.specs.Worlds.{Steps};
+ghost use Rattle.world_model.specs.Events.{NamesNoFrame, NamesNoNode};
+ghost use Rattle.world_model.specs.Progress.{PromisesProgress};
+ghost use Rattle.world_model.specs.Rounds.{IsPartOfRound, NamesNoMember, RoundEnds};
+ghost use Rattle.world_model.specs.Staying.{IsSafeOver};
+ghost use Rattle.world_model.specs.Worlds.{Steps};
 ghost use Rattle.cluster.specs.Clusters.{HasPassed, sending, sendings};
 ghost use Rattle.cluster.specs.Passages.{Passage, Polled};
 ghost use Rattle.cluster.specs.Pumps.{BreaksOff, IsPass, OnlyDelivers, Polls, Pumps, poll_passed};

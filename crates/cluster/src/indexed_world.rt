@@ -1,12 +1,12 @@
 //! A world whose frames are found by their bytes.
 
 ghost use Rattle.std.specs.Prelude.{◌≡◌, ◌+◌, ◌<◌, ◌↔◌, ◌⊎◌, length, IfErr, IfOk, IsErrOf, MatchOption, OnErr, OnOk, Some, slice_get};
-ghost use Rattle.history.specs.Events.{NamesNoFrame, NamesNoNode};
-ghost use Rattle.history.specs.Progress.{PromisesProgress};
-ghost use Rattle.history.specs.Rounds.{IsPartOfRound, NamesNoMember, RoundEnds};
+ghost use Rattle.world_model.specs.Events.{NamesNoFrame, NamesNoNode};
+ghost use Rattle.world_model.specs.Progress.{PromisesProgress};
+ghost use Rattle.world_model.specs.Rounds.{IsPartOfRound, NamesNoMember, RoundEnds};
 ghost use Rattle.world.specs.Seen.{world_of};
-ghost use Rattle.history.specs.Staying.{IsSafeOver};
-ghost use Rattle.history.specs.Worlds.{Steps};
+ghost use Rattle.world_model.specs.Staying.{IsSafeOver};
+ghost use Rattle.world_model.specs.Worlds.{Steps};
 ghost use Rattle.cluster.specs.Indexes.{Indexes, number_of, spellings};
 ghost use Rattle.cluster.specs.Lowest.{IsLowest, IsStranger};
 

@@ -1,6 +1,6 @@
 //! What may happen in a world, and why a world refuses it.
 //!
-//! These are types alone: a parser of schedules needs nothing else. The crate `history` defines what an event does.
+//! These are types alone: a parser of schedules needs nothing else. The crate `world_model` defines what an event does.
 #![tactic(auto)]
 
 mod event;

@@ -8,8 +8,8 @@ ghost use Rattle.mfjson.specs.Document.{IsCanonical, IsDocumentOf, IsDocumentOfN
 ghost use Rattle.mfjson.specs.Texts.{Continues, Lists, IsWrittenAfter, position_text};
 
 use crate::{Feature, datetime_text};
-use backward::{LONGEST_WHOLE, write_byte, write_text, write_whole};
 use std::alloc::{AllocError, Global};
+use textbuf::{LONGEST_WHOLE, write_byte, write_text, write_whole};
 use tpoint::{Instant, Point};
 
 /// The bytes that a position takes at most: brackets, two numbers, and a comma between them and before all.

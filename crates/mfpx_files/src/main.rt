@@ -9,11 +9,11 @@
 //! | `mfpx check FILE` | reads a document, and prints its canonical form |
 //! | `mfpx` | as `mfpx replay -`; `-` in the place of FILE is standard input |
 //!
-//! All of it is `console::program`, whose `command` lists the exit statuses, over the files of the system.
+//! All of it is `cli::program`, whose `command` lists the exit statuses, over the files of the system.
 #![tactic(auto)]
 
-use console::program;
-use files::{Files, System};
+use cli::program;
+use record_files::{Files, System};
 use std::process::ExitCode;
 
 fn main(rt: HostRuntime) -> ExitCode {

@@ -1,6 +1,6 @@
 -- What a node fetches, as it is held in memory.
 use Rattle.node.specs.declared.fetching.Fetching.{Fetching}
-use Rattle.minds.specs.Fetching as minds
+use Rattle.node_model.specs.Fetching as model
 
-abbrev pub fetching_of : Fetching → minds.Fetching
+abbrev pub fetching_of : Fetching → model.Fetching
 fetching_of f = record { target = f.target; total = f.total; held = f.held.items }

@@ -3,7 +3,7 @@ use Rattle.acceptor.specs.State.{accepting_of}
 use Rattle.learner.specs.State.{learning_of}
 use Rattle.node.specs.declared.roles.Roles.{Roles}
 use Rattle.std.specs.Prelude.{option_map}
-use Rattle.minds.specs.Minds.{Mind}
+use Rattle.node_model.specs.Minds.{Mind}
 use Rattle.node.specs.Fetching.{fetching_of}
 
 abbrev pub mind_of : Roles → Mind

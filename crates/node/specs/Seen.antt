@@ -1,6 +1,6 @@
 -- What a node is seen as: its number, its storage, and what its roles hold.
 use Rattle.std.specs.Prelude.{option_map}
-use Rattle.minds.specs.States.{NodeState}
+use Rattle.node_model.specs.States.{NodeState}
 use Rattle.node.specs.declared.node.Node.{Node}
 use Rattle.node.specs.Roles.{mind_of}
 

@@ -4,12 +4,12 @@ use Rattle.acceptor.specs.Accepting.{HasVoteBelow}
 use Rattle.learner.specs.Learning.{learnt_at}
 use Rattle.wire.specs.declared.frames.message.Message.{Message}
 use Rattle.wire.specs.declared.frames.message.Message.TheVariants.{Nack, Ask, SnapPart, Behind}
-use Rattle.minds.specs.Fetching.{wants}
-use Rattle.minds.specs.Minds.{Mind, position}
-use Rattle.minds.specs.Sending.{decided_sends}
-use Rattle.minds.specs.Taking.{is_ahead}
-use Rattle.minds.specs.declared.input.Input.{Input}
-use Rattle.minds.specs.declared.input.Input.TheVariants as input
+use Rattle.node_model.specs.Fetching.{wants}
+use Rattle.node_model.specs.Minds.{Mind, position}
+use Rattle.node_model.specs.Sending.{decided_sends}
+use Rattle.node_model.specs.Taking.{is_ahead}
+use Rattle.node_model.specs.declared.input.Input.{Input}
+use Rattle.node_model.specs.declared.input.Input.TheVariants as input
 
 -- all that the input asks for is a write: a checkpoint or a trim
 abbrev pub IsForRecords : Input → Type 0

@@ -1,7 +1,7 @@
 //! What a node fetches that missed what the others have forgotten: the text of a checkpoint, part by part.
 
 ghost use Rattle.std.specs.Prelude.{◌≡◌, ◌≤◌, None, true, IfOk, OnOk, length, replicate};
-ghost use Rattle.minds.specs.Fetching.{nothing_of, is_wanted, is_held, with_part, first_missing, missing};
+ghost use Rattle.node_model.specs.Fetching.{nothing_of, is_wanted, is_held, with_part, first_missing, missing};
 ghost use Rattle.node.specs.Places.{IsInPlaces};
 ghost use Rattle.wire.specs.Parts.{parts_in, joined};
 

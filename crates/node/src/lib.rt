@@ -1,7 +1,7 @@
 //! One node: its records, and its roles while it is up.
 //!
 //! One input is one step. A node that is up takes it, refuses it without a change, or stops on it. At most one write is made,
-//! before anything is sent that rests on it. The crate `minds` defines the effect of each input.
+//! before anything is sent that rests on it. The crate `node_model` defines the effect of each input.
 #![tactic(auto)]
 
 mod fetching;
@@ -10,6 +10,6 @@ mod roles;
 mod sends;
 mod snapshots;
 
-pub use minds::{Executed, Input, LogEntry, MOST_SENDS, NodeFault, Outputs, Text};
 pub use node::Node;
+pub use node_model::{Executed, Input, LogEntry, MOST_SENDS, NodeFault, Outputs, Text};
 pub use proposer::MOST_WAITING;

@@ -4,7 +4,7 @@ ghost use Rattle.std.specs.Prelude.{◌≡◌, ◌⊎◌, ◌↔◌, List, Ok, I
 ghost use Rattle.std.specs.Prelude.{None, MatchOption};
 
 use super::roles::Roles;
-use minds::{Input, NodeFault, Outputs, Text};
+use node_model::{Input, NodeFault, Outputs, Text};
 use stable::{Failing, Put, Scripted, Stable};
 use std::alloc::Global;
 use store::Query;
@@ -21,17 +21,17 @@ pub struct Node<S> {
 
 impl<S: Stable> Node<S> {
     ghost use Rattle.sessions.specs.declared.command.Command.{Command};
-    ghost use Rattle.minds.specs.Composition.{IsMeaningOf};
-    ghost use Rattle.minds.specs.Faults.{is_stop_fault};
+    ghost use Rattle.node_model.specs.Composition.{IsMeaningOf};
+    ghost use Rattle.node_model.specs.Faults.{is_stop_fault};
     ghost use Rattle.learner.specs.Prefixes.{IsPrefix};
     ghost use Rattle.acceptor.specs.Loading.{IsMachineOf};
-    ghost use Rattle.minds.specs.Loading.{IsBaseOf, IsLoaded, IsFresh, IsDamaged, IsMember, Restarts};
-    ghost use Rattle.minds.specs.Minds.{is_past, position};
-    ghost use Rattle.minds.specs.Nodes.{NodeSteps, NodeAnswers, StaysMeaning, AnswersMeaning};
+    ghost use Rattle.node_model.specs.Loading.{IsBaseOf, IsLoaded, IsFresh, IsDamaged, IsMember, Restarts};
+    ghost use Rattle.node_model.specs.Minds.{is_past, position};
+    ghost use Rattle.node_model.specs.Nodes.{NodeSteps, NodeAnswers, StaysMeaning, AnswersMeaning};
     ghost use Rattle.node.specs.Seen.{state_of};
     ghost use Rattle.node.specs.Wanting.{IsForRecords, MayWant, MayWantOn};
-    ghost use Rattle.minds.specs.Outputs.{IsFew, silence};
-    ghost use Rattle.minds.specs.declared.input.Input.TheVariants as input;
+    ghost use Rattle.node_model.specs.Outputs.{IsFew, silence};
+    ghost use Rattle.node_model.specs.declared.input.Input.TheVariants as input;
 
     /// A node over these records, which it loads. It begins down where they can't be loaded.
     pub fn start(alloc: Global, storage: S, id: NodeId, nodes: Nodes) -> Node<S>

@@ -11,15 +11,15 @@ ghost use Rattle.learner.specs.Learning.{learnt_at};
 ghost use Rattle.learner.specs.Prefixes.{IsPrefix};
 ghost use Rattle.proposer.specs.Proposing.{next_round};
 ghost use Rattle.wire.specs.declared.frames.message.Message.TheVariants as message;
-ghost use Rattle.minds.specs.declared.input.Input.TheVariants as input;
-ghost use Rattle.minds.specs.Composition.{IsMeaningOf, StandsForMore, RepliesToMore, AddsReplies};
-ghost use Rattle.minds.specs.Executing.{executed, with_command};
+ghost use Rattle.node_model.specs.declared.input.Input.TheVariants as input;
+ghost use Rattle.node_model.specs.Composition.{IsMeaningOf, StandsForMore, RepliesToMore, AddsReplies};
+ghost use Rattle.node_model.specs.Executing.{executed, with_command};
 
 use super::fetching::Fetching;
 use super::sends::{send_answer, send_ask, send_decided, send_each, send_outgoing};
 use acceptor::Acceptor;
 use learner::{Learned, Learner};
-use minds::{Executed, Input, LogEntry, NodeFault, Outputs, concerns};
+use node_model::{Executed, Input, LogEntry, NodeFault, Outputs, concerns};
 use proposer::Proposer;
 use sessions::{Command, Machine, Number, Request};
 use stable::{Stable, StableFault};
@@ -67,17 +67,17 @@ impl Drop for Roles {
 }
 
 impl Roles {
-    ghost use Rattle.minds.specs.Loading.{IsBaseOf, IsLoaded, IsFresh, IsDamaged, IsMindOf};
+    ghost use Rattle.node_model.specs.Loading.{IsBaseOf, IsLoaded, IsFresh, IsDamaged, IsMindOf};
     ghost use Rattle.acceptor.specs.Loading.{IsMachineOf};
-    ghost use Rattle.minds.specs.Inputs.{concerns};
-    ghost use Rattle.minds.specs.Minds.{Mind, IsSmall, position, asked, waits, refuses, refuses_submit, refuses_timeout, refuses_checkpoint, Ignores};
+    ghost use Rattle.node_model.specs.Inputs.{concerns};
+    ghost use Rattle.node_model.specs.Minds.{Mind, IsSmall, position, asked, waits, refuses, refuses_submit, refuses_timeout, refuses_checkpoint, Ignores};
     ghost use Rattle.node.specs.Roles.{mind_of};
     ghost use Rattle.node.specs.Wanting.{IsForRecords, MayWant, MayWantOn};
-    ghost use Rattle.minds.specs.Nodes.{HasMade, HasFailedToMake};
-    ghost use Rattle.minds.specs.Outputs.{sent, silence};
-    ghost use Rattle.minds.specs.Sending.{to_one, ask_sends, decided_sends};
-    ghost use Rattle.minds.specs.Taking.{Writes, WritesOnMessage, Takes, TakesMessage, Learns, with_proposer, proposer_sends, proposed};
-    ghost use Rattle.minds.specs.Taking.{executing_of, with_executing, learnt_from};
+    ghost use Rattle.node_model.specs.Nodes.{HasMade, HasFailedToMake};
+    ghost use Rattle.node_model.specs.Outputs.{sent, silence};
+    ghost use Rattle.node_model.specs.Sending.{to_one, ask_sends, decided_sends};
+    ghost use Rattle.node_model.specs.Taking.{Writes, WritesOnMessage, Takes, TakesMessage, Learns, with_proposer, proposer_sends, proposed};
+    ghost use Rattle.node_model.specs.Taking.{executing_of, with_executing, learnt_from};
 
     /// What the records leave of a node.
     pub fn load<S: Stable>(

@@ -3,7 +3,7 @@
 ghost use Rattle.std.specs.Prelude.{◌≡◌, ◌++◌, ◌==◌, ◌<◌, IfOk, OnOk, filter, not};
 ghost use Rattle.wire.specs.NodeSets.{has_node};
 ghost use Rattle.wire.specs.declared.frames.message.Message.TheVariants as message;
-ghost use Rattle.minds.specs.Sending.{to_one, to_all, to_others, envelopes_of, envelopes, answer_sends, ask_sends, ask_others};
+ghost use Rattle.node_model.specs.Sending.{to_one, to_all, to_others, envelopes_of, envelopes, answer_sends, ask_sends, ask_others};
 
 use acceptor::Answer;
 use proposer::{Outgoing, Recipients};

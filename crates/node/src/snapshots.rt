@@ -1,11 +1,11 @@
 //! A node that fetches the text of a checkpoint from others, and one that serves its own.
 
 ghost use Rattle.std.specs.Prelude.{◌≡◌, ◌<◌, ◌++◌, ℕ, not, true, Some, None, IfOk, OnOk, OnErr, IfErr};
-ghost use Rattle.minds.specs.Fetching.{still_fetched, is_above_target, wants};
-ghost use Rattle.minds.specs.Minds.{Mind, position};
-ghost use Rattle.minds.specs.Sending.{to_one, part_sends, snapshot_sends};
-ghost use Rattle.minds.specs.Taking.{TakesMessage, Restores, RestoresText, asks_again, is_ahead};
-ghost use Rattle.minds.specs.Outputs.{sent};
+ghost use Rattle.node_model.specs.Fetching.{still_fetched, is_above_target, wants};
+ghost use Rattle.node_model.specs.Minds.{Mind, position};
+ghost use Rattle.node_model.specs.Sending.{to_one, part_sends, snapshot_sends};
+ghost use Rattle.node_model.specs.Taking.{TakesMessage, Restores, RestoresText, asks_again, is_ahead};
+ghost use Rattle.node_model.specs.Outputs.{sent};
 ghost use Rattle.node.specs.Fetching.{fetching_of};
 ghost use Rattle.node.specs.Roles.{mind_of};
 ghost use Rattle.wire.specs.Parts.{piece_of};
@@ -14,7 +14,7 @@ ghost use Rattle.wire.specs.declared.frames.message.Message.TheVariants as messa
 use super::fetching::Fetching;
 use super::roles::Roles;
 use super::sends::{send, send_ask, send_asks, send_to_the_others};
-use minds::{NodeFault, Outputs};
+use node_model::{NodeFault, Outputs};
 use sessions::{Machine, SnapFault};
 use std::alloc::{AllocError, Global};
 use wire::{Frame, Message, NodeId, Part, PartNumber, Position};

@@ -9,18 +9,18 @@ use Rattle.stable.specs.declared.stable.Stable.{Ghosts}
 use Rattle.sessions.specs.Asked.{Asked}
 use Rattle.store.specs.declared.query.Query.{Query as Question}
 use Rattle.wire.specs.declared.frames.envelope.Envelope.{Envelope}
-use Rattle.history.specs.Flushing.{Delivers, none, more}
-use Rattle.history.specs.Events.{NamesNoNode}
-use Rattle.minds.specs.Outputs.{Response}
-use Rattle.history.specs.Rounds.{DeliversTo, nothing, elsewhere, there, Phase, ComesThrough, begins, asks, answers, votes, hears, GoesDown}
-use Rattle.history.specs.Rounds.{at_once, on_the_way, EndsIn, RoundEnds, NamesNoMember}
-use Rattle.history.specs.declared.round_end.RoundEnd.{RoundEnd}
-use Rattle.history.specs.declared.round_end.RoundEnd.TheVariants.{NotAQuorum, Down, Behind, Refused, Stopped, TooLow, Decided}
-use Rattle.history.specs.Worlds.{WorldState, Steps, TakesAt, ReceivesAt, DeliversFrame, recorded, answered, with_submission}
+use Rattle.world_model.specs.Flushing.{Delivers, none, more}
+use Rattle.world_model.specs.Events.{NamesNoNode}
+use Rattle.node_model.specs.Outputs.{Response}
+use Rattle.world_model.specs.Rounds.{DeliversTo, nothing, elsewhere, there, Phase, ComesThrough, begins, asks, answers, votes, hears, GoesDown}
+use Rattle.world_model.specs.Rounds.{at_once, on_the_way, EndsIn, RoundEnds, NamesNoMember}
+use Rattle.world_model.specs.declared.round_end.RoundEnd.{RoundEnd}
+use Rattle.world_model.specs.declared.round_end.RoundEnd.TheVariants.{NotAQuorum, Down, Behind, Refused, Stopped, TooLow, Decided}
+use Rattle.world_model.specs.Worlds.{WorldState, Steps, TakesAt, ReceivesAt, DeliversFrame, recorded, answered, with_submission}
 use Rattle.events.specs.declared.event.Event.{Event}
 use Rattle.events.specs.declared.event.Event.TheVariants.{Submit, Deliver, Drop, Timeout, Tick, Checkpoint, Trim, Restart, Fault, Query}
-use Rattle.minds.specs.declared.fault.NodeFault.{NodeFault}
-use Rattle.minds.specs.declared.input.Input.{Input}
+use Rattle.node_model.specs.declared.fault.NodeFault.{NodeFault}
+use Rattle.node_model.specs.declared.input.Input.{Input}
 use Rattle.schedule.specs.Lines.{NumberedText}
 use Rattle.replay.specs.LineByLine.{at_a_line, at_the_last}
 use Rattle.replay.specs.Runs.{IsDone, IsRefused, Leads, RunEnds, ReplayEnds, not_read, not_begun, not_run}

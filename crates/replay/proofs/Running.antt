@@ -4,17 +4,17 @@ use Rattle.std.proofs.Common.{IfErr, IsErrOf}
 use Rattle.stable.specs.Script.{Script}
 use Rattle.stable.specs.Storages.{scripted}
 use Rattle.stable.specs.declared.stable.Stable.{Ghosts}
-use Rattle.history.specs.Flushing.{Delivers, DeliversSome, IsStart}
+use Rattle.world_model.specs.Flushing.{Delivers, DeliversSome, IsStart}
 use Rattle.events.specs.declared.fault.WorldFault.{WorldFault}
 use Rattle.events.specs.declared.fault.WorldFault.TheVariants as world_fault
 use Rattle.world.specs.declared.log.TheConstants.{MOST_DELIVERIES}
-use Rattle.history.specs.declared.round_end.RoundEnd.{RoundEnd}
-use Rattle.history.specs.Rounds.{IsPartOfRound, NamesNoMember, RoundEnds}
-use Rattle.history.specs.Waiting.{OneWaits}
+use Rattle.world_model.specs.declared.round_end.RoundEnd.{RoundEnd}
+use Rattle.world_model.specs.Rounds.{IsPartOfRound, NamesNoMember, RoundEnds}
+use Rattle.world_model.specs.Waiting.{OneWaits}
 use Rattle.world.specs.Seen.{world_of}
-use Rattle.history.specs.Starting.{AreOver, OneIsUsed}
-use Rattle.history.specs.Staying.{StaysSafe}
-use Rattle.history.specs.Worlds.{WorldState}
+use Rattle.world_model.specs.Starting.{AreOver, OneIsUsed}
+use Rattle.world_model.specs.Staying.{StaysSafe}
+use Rattle.world_model.specs.Worlds.{WorldState}
 use Rattle.replay.specs.Causes.{cause_of}
 use Rattle.schedule.specs.declared.action.Action.TheVariants.{Flush, Round}
 use Rattle.replay.proofs.LineByLine.{ends_at_a_line, ends_at_the_last}

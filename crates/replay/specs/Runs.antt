@@ -3,15 +3,15 @@ use Rattle.std.specs.Prelude.{◌≡◌, ℕ, ◌≤◌, List, length}
 use Rattle.stable.specs.Script.{Script}
 use Rattle.stable.specs.Storages.{scripted}
 use Rattle.stable.specs.declared.stable.Stable.{Ghosts}
-use Rattle.history.specs.Flushing.{Delivers, DeliversSome, IsStart}
-use Rattle.history.specs.Events.{NamesNoFrame, NamesNoNode}
-use Rattle.history.specs.Rounds.{NamesNoMember, RoundEnds, IsPartOfRound}
-use Rattle.history.specs.Waiting.{NoneWaits, OneWaits}
-use Rattle.history.specs.Starting.{AreOver, OneIsUsed}
-use Rattle.history.specs.Staying.{IsSafeOver, StaysSafe}
-use Rattle.history.specs.Worlds.{WorldState, Steps}
+use Rattle.world_model.specs.Flushing.{Delivers, DeliversSome, IsStart}
+use Rattle.world_model.specs.Events.{NamesNoFrame, NamesNoNode}
+use Rattle.world_model.specs.Rounds.{NamesNoMember, RoundEnds, IsPartOfRound}
+use Rattle.world_model.specs.Waiting.{NoneWaits, OneWaits}
+use Rattle.world_model.specs.Starting.{AreOver, OneIsUsed}
+use Rattle.world_model.specs.Staying.{IsSafeOver, StaysSafe}
+use Rattle.world_model.specs.Worlds.{WorldState, Steps}
 use Rattle.events.specs.declared.event.Event.{Event}
-use Rattle.history.specs.declared.round_end.RoundEnd.{RoundEnd}
+use Rattle.world_model.specs.declared.round_end.RoundEnd.{RoundEnd}
 use Rattle.world.specs.declared.log.TheConstants.{MOST_DELIVERIES}
 use Rattle.replay.specs.Causes.{fault_of}
 use Rattle.replay.specs.LineByLine.{AllDone, EndsWithout, LineStops, StopsAtOne}

@@ -3,15 +3,15 @@ use Rattle.std.specs.Prelude.{ℕ, List, [], ◌∷◌, ◌++◌, codes, decimal
 use Rattle.sessions.specs.Outcomes.{outcome_code}
 use Rattle.sessions.specs.declared.command.Command.{Command}
 use Rattle.sessions.specs.declared.command.Command.TheVariants.{NoOp, Request}
-use Rattle.minds.specs.Faults.{node_code}
-use Rattle.minds.specs.declared.fault.NodeFault.{NodeFault}
-use Rattle.history.specs.declared.lists.Learnt.{Learnt}
-use Rattle.history.specs.declared.lists.Replied.{Replied}
-use Rattle.history.specs.declared.lists.Answered.{Answered}
-use Rattle.history.specs.declared.lists.Outcome.{Outcome}
-use Rattle.history.specs.declared.lists.Outcome.TheVariants as outcome
-use Rattle.history.specs.declared.round_end.RoundEnd.{RoundEnd}
-use Rattle.history.specs.declared.round_end.RoundEnd.TheVariants.{NotAQuorum, Down, Behind, Refused, Stopped, TooLow, Decided}
+use Rattle.node_model.specs.Faults.{node_code}
+use Rattle.node_model.specs.declared.fault.NodeFault.{NodeFault}
+use Rattle.world_model.specs.declared.lists.Learnt.{Learnt}
+use Rattle.world_model.specs.declared.lists.Replied.{Replied}
+use Rattle.world_model.specs.declared.lists.Answered.{Answered}
+use Rattle.world_model.specs.declared.lists.Outcome.{Outcome}
+use Rattle.world_model.specs.declared.lists.Outcome.TheVariants as outcome
+use Rattle.world_model.specs.declared.round_end.RoundEnd.{RoundEnd}
+use Rattle.world_model.specs.declared.round_end.RoundEnd.TheVariants.{NotAQuorum, Down, Behind, Refused, Stopped, TooLow, Decided}
 use Rattle.synod.specs.declared.ballot.Ballot.{Ballot}
 
 -- a request by its client and number, as 7:1

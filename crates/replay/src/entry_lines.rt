@@ -5,9 +5,9 @@ ghost use Rattle.std.specs.Prelude.{◌≡◌, ◌++◌, ◌+◌, ◌≤◌, OnO
 ghost use Rattle.replay.specs.Transcripts.{request_text};
 ghost use Rattle.replay.specs.declared.entry_lines.TheConstants.{LONGEST_ASKED};
 
-use backward::{LONGEST_WHOLE, write_byte, write_text};
 use itoa::write_digits;
 use std::io;
+use textbuf::{LONGEST_WHOLE, write_byte, write_text};
 
 /// A line has at most this many bytes.
 const LONGEST_LINE: usize = 96;

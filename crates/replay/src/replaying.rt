@@ -1,10 +1,10 @@
 //! A run of a schedule.
 
 ghost use Rattle.std.specs.Prelude.{◌≡◌, ◌≢◌, IfErr, IfOk, MatchResult, OnErr, vec_len};
-ghost use Rattle.history.specs.Flushing.{IsStart};
+ghost use Rattle.world_model.specs.Flushing.{IsStart};
 ghost use Rattle.world.specs.Seen.{world_of};
-ghost use Rattle.history.specs.Starting.{AreOver};
-ghost use Rattle.history.specs.Staying.{StaysSafe};
+ghost use Rattle.world_model.specs.Starting.{AreOver};
+ghost use Rattle.world_model.specs.Staying.{StaysSafe};
 ghost use Rattle.replay.specs.Causes.{cause_of};
 ghost use Rattle.replay.specs.Runs.{EndsAt, EndsOver, IsDone, IsRefused, IsReplay, IsRunOver, IsStopped, Leads, ReplayEnds, RunFails};
 ghost use Rattle.replay.specs.Runs.{RunsTo, told_of};

@@ -10,9 +10,9 @@ use Rattle.std.proofs.lemmas.Bool.{eq-eqb}
 use Rattle.std.proofs.lemmas.Bool.Decides.{eqb_tells}
 use Rattle.std.proofs.lemmas.List.Elements.{Contains-push, Contains-push_cases, Contains-append_left}
 use Rattle.synod.specs.Records.{put}
-use Rattle.byslot.specs.Values.{place_or, value_at, without_below, IsEmptyFrom, IsFirstFrom}
-use Rattle.byslot.specs.declared.byslot.BySlot.{BySlot}
-use Rattle.byslot.proofs.ValueLemmas.{less, tells, written_of, unwritten_of}
+use Rattle.slot_table.specs.Values.{place_or, value_at, without_below, IsEmptyFrom, IsFirstFrom}
+use Rattle.slot_table.specs.declared.slot_table.SlotTable.{SlotTable}
+use Rattle.slot_table.proofs.ValueLemmas.{less, tells, written_of, unwritten_of}
 use Rattle.stable.specs.Listing.{ListsTo}
 use Rattle.stable.specs.Memory.{stored}
 use Rattle.stable.specs.Records.{Records, rank, slot_in, key_cmp, IsAscending, no_records, with_record, without_votes_below}
@@ -22,7 +22,7 @@ use Rattle.stable.specs.declared.memory.MemStable.{MemStable}
 use Rattle.stable.proofs.KeyLemmas.{same_rank}
 
 -- ---- what is held
-pub none_stored : (votes : BySlot (Vec ℕ Global)) → value_at votes ≡ (λ _. None)
+pub none_stored : (votes : SlotTable (Vec ℕ Global)) → value_at votes ≡ (λ _. None)
     → stored (record { fixed = None ∷ None ∷ None ∷ []; votes = votes }) ≡ no_records
 none_stored votes none = λ k q. at q k
   where
@@ -33,7 +33,7 @@ none_stored votes none = λ k q. at q k
     at (Vote s) = ap (λ (f : ℕ → Option (Vec ℕ Global)). option_map (λ v. v.items) (f s)) none
 
 -- nothing has changed of the votes
-pub same_stored : (a : MemStable) (votes : BySlot (Vec ℕ Global)) → value_at votes ≡ value_at a.votes
+pub same_stored : (a : MemStable) (votes : SlotTable (Vec ℕ Global)) → value_at votes ≡ value_at a.votes
     → stored (record { fixed = a.fixed; votes = votes }) ≡ stored a
 same_stored a votes same = λ k q. at q k
   where
@@ -54,7 +54,7 @@ some_not_none (Some x) h e = absurd cc
 some_not_none None h e = absurd cc
 
 -- a vote was put
-pub vote_stored : (a : MemStable) (votes : BySlot (Vec ℕ Global)) (slot : ℕ) (copy : Vec ℕ Global) (key : Key) (bytes : List ℕ)
+pub vote_stored : (a : MemStable) (votes : SlotTable (Vec ℕ Global)) (slot : ℕ) (copy : Vec ℕ Global) (key : Key) (bytes : List ℕ)
     → key ≡ Vote slot → copy.items ≡ bytes → value_at votes ≡ put (value_at a.votes) slot (Some copy)
     → stored (record { fixed = a.fixed; votes = votes }) ≡ with_record (stored a) key bytes
 vote_stored a votes slot copy key bytes is copied changed = λ k q. (at q ∙ ap (λ (j : Key). with_record (stored a) j bytes q) (sym is)) k
@@ -106,7 +106,7 @@ fixed_stored a fixed key copy no_vote three set = λ k q. (at q) k
     at (Vote s) = rw (apart (s + 3) (rank key) (λ e. omega (arith, e, low))) refl
 
 -- votes below a slot are gone
-pub votes_trimmed : (a : MemStable) (votes : BySlot (Vec ℕ Global)) (below : ℕ) → value_at votes ≡ without_below (value_at a.votes) below
+pub votes_trimmed : (a : MemStable) (votes : SlotTable (Vec ℕ Global)) (below : ℕ) → value_at votes ≡ without_below (value_at a.votes) below
     → stored (record { fixed = a.fixed; votes = votes }) ≡ without_votes_below (stored a) below
 votes_trimmed a votes below changed = λ k q. (at q) k
   where

@@ -10,12 +10,12 @@ ghost use Rattle.store.specs.Indexed.{IsKept};
 
 use crate::held::Held;
 use crate::line::{LONGEST_FIX, write_fix, write_place};
-use backward::write_text;
 use itoa::Buffer;
 use mfjson::Feature;
 use predicates::{Tri, ever};
 use restrict::{Cut, cut};
 use std::alloc::{AllocError, Global};
+use textbuf::write_text;
 use timeindex::TimeIndex;
 use tpoint::{Frac, Id, Instant, Period, Rect};
 

@@ -5,8 +5,8 @@ ghost use Rattle.tpoint.specs.FracText.{frac_text};
 ghost use Rattle.store.specs.Answers.{fix_text, value_text};
 ghost use Rattle.std.specs.Prelude.{Some};
 
-use backward::{LONGEST_WHOLE, LONGEST_WIDE, write_byte, write_text, write_whole, write_wide};
 use itoa::write_digits;
+use textbuf::{LONGEST_WHOLE, LONGEST_WIDE, write_byte, write_text, write_whole, write_wide};
 use tpoint::{Frac, Instant};
 
 /// The bytes that a fraction takes at most: two numbers, and a slash between them.

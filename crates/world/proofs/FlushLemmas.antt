@@ -3,9 +3,9 @@ use Rattle.std.proofs.Common.{◌≡◌, ℕ, ◌+◌, ◌<◌, ◌≤◌, List,
 use Rattle.std.proofs.lemmas.Option.{MatchOption-at_some, slice_get_within}
 use Rattle.stable.specs.Script.{Script}
 use Rattle.stable.specs.declared.stable.Stable.{Ghosts}
-use Rattle.history.specs.Flushing.{Delivers, none, more}
-use Rattle.history.specs.Waiting.{IsLowestWaiting, NoneWaits}
-use Rattle.history.specs.Worlds.{WorldState, DeliversFrame}
+use Rattle.world_model.specs.Flushing.{Delivers, none, more}
+use Rattle.world_model.specs.Waiting.{IsLowestWaiting, NoneWaits}
+use Rattle.world_model.specs.Worlds.{WorldState, DeliversFrame}
 
 module _ {S : Type 0} (storages : Ghosts (Script S)) where
   -- the same world, and the same number

@@ -5,16 +5,16 @@ use Rattle.std.proofs.lemmas.List.{length-map}
 use Rattle.stable.specs.Script.{Script}
 use Rattle.stable.specs.declared.stable.Stable.{Ghosts}
 use Rattle.wire.specs.declared.frames.envelope.Envelope.{Envelope}
-use Rattle.minds.specs.declared.fault.NodeFault.{NodeFault}
-use Rattle.minds.specs.declared.input.Input.{Input}
-use Rattle.minds.specs.Loading.{IsMember}
-use Rattle.minds.specs.Nodes.{NodeState, NodeSteps}
-use Rattle.minds.specs.Outputs.{Response}
+use Rattle.node_model.specs.declared.fault.NodeFault.{NodeFault}
+use Rattle.node_model.specs.declared.input.Input.{Input}
+use Rattle.node_model.specs.Loading.{IsMember}
+use Rattle.node_model.specs.Nodes.{NodeState, NodeSteps}
+use Rattle.node_model.specs.Outputs.{Response}
 use Rattle.node.specs.declared.node.Node.{Node}
 use Rattle.node.specs.Seen.{state_of}
-use Rattle.history.specs.Fleets.{IsFleet}
-use Rattle.history.proofs.FleetLemmas.{NodeLeaves, node_leaves}
-use Rattle.history.proofs.FleetSteps.{fleet_with}
+use Rattle.world_model.specs.Fleets.{IsFleet}
+use Rattle.world_model.proofs.FleetLemmas.{NodeLeaves, node_leaves}
+use Rattle.world_model.proofs.FleetSteps.{fleet_with}
 use Rattle.world.proofs.WorldLemmas.{lent_at, shown_set}
 
 module _ {S : Type 0} where

@@ -8,12 +8,12 @@ use Rattle.stable.specs.Script.{Script}
 use Rattle.stable.specs.declared.stable.Stable.{Ghosts}
 use Rattle.wire.specs.declared.frames.envelope.Envelope.{Envelope}
 use Rattle.node.specs.declared.node.Node.{Node}
-use Rattle.minds.specs.Loading.{IsMember}
-use Rattle.minds.specs.Sending.{IsBetween}
-use Rattle.history.specs.Fleets.{IsFleet}
-use Rattle.history.specs.Flushing.{IsStarted, HaveStarted}
-use Rattle.history.specs.Starting.{AreOver, WasRead}
-use Rattle.minds.specs.Nodes.{NodeState}
+use Rattle.node_model.specs.Loading.{IsMember}
+use Rattle.node_model.specs.Sending.{IsBetween}
+use Rattle.world_model.specs.Fleets.{IsFleet}
+use Rattle.world_model.specs.Flushing.{IsStarted, HaveStarted}
+use Rattle.world_model.specs.Starting.{AreOver, WasRead}
+use Rattle.node_model.specs.Nodes.{NodeState}
 use Rattle.node.specs.Seen.{state_of}
 
 -- what stands in a list with one element more at its end: that one, or what stood there

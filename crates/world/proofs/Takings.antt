@@ -5,15 +5,15 @@ use Rattle.std.proofs.Math.ListN.{get_or}
 use Rattle.stable.specs.Script.{Script}
 use Rattle.stable.specs.declared.stable.Stable.{Ghosts}
 use Rattle.wire.specs.declared.frames.envelope.Envelope.{Envelope}
-use Rattle.minds.specs.declared.fault.NodeFault.{NodeFault}
-use Rattle.minds.specs.declared.input.Input.{Input}
+use Rattle.node_model.specs.declared.fault.NodeFault.{NodeFault}
+use Rattle.node_model.specs.declared.input.Input.{Input}
 use Rattle.node.specs.declared.node.Node.{Node}
-use Rattle.minds.specs.Nodes.{NodeSteps, StaysMeaning}
+use Rattle.node_model.specs.Nodes.{NodeSteps, StaysMeaning}
 use Rattle.node.specs.Seen.{state_of}
-use Rattle.minds.specs.Outputs.{Response}
-use Rattle.minds.specs.Sending.{IsBetween}
-use Rattle.history.specs.Fleets.{IsFleet}
-use Rattle.history.specs.Worlds.{WorldState, TakesAt, recorded}
+use Rattle.node_model.specs.Outputs.{Response}
+use Rattle.node_model.specs.Sending.{IsBetween}
+use Rattle.world_model.specs.Fleets.{IsFleet}
+use Rattle.world_model.specs.Worlds.{WorldState, TakesAt, recorded}
 use Rattle.world.proofs.Lent.{lent_fleet, stepped}
 use Rattle.world.proofs.WorldLemmas.{lent_at, left_by}
 

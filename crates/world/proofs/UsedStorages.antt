@@ -7,7 +7,7 @@ use Rattle.stable.specs.Records.{Records, no_records}
 use Rattle.stable.specs.declared.key.Key.{Key}
 use Rattle.stable.specs.declared.memory.MemStable.{MemStable}
 use Rattle.stable.specs.declared.stable.Stable.{Ghosts}
-use Rattle.history.specs.Starting.{IsUsed, OneIsUsed, told, failed}
+use Rattle.world_model.specs.Starting.{IsUsed, OneIsUsed, told, failed}
 use Rattle.events.specs.declared.fault.WorldFault.{WorldFault}
 use Rattle.events.specs.declared.fault.WorldFault.TheVariants as fault
 

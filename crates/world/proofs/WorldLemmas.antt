@@ -7,10 +7,10 @@ use Rattle.std.proofs.Math.ListN.{get_or}
 use Rattle.stable.specs.Script.{Script}
 use Rattle.stable.specs.declared.stable.Stable.{Ghosts}
 use Rattle.node.specs.declared.node.Node.{Node}
-use Rattle.minds.specs.Nodes.{NodeState}
+use Rattle.node_model.specs.Nodes.{NodeState}
 use Rattle.node.specs.Seen.{state_of}
-use Rattle.minds.specs.Outputs.{silence}
-use Rattle.history.specs.Worlds.{WorldState, DeliversFrame, with_node, with_response, quiet}
+use Rattle.node_model.specs.Outputs.{silence}
+use Rattle.world_model.specs.Worlds.{WorldState, DeliversFrame, with_node, with_response, quiet}
 
 -- the node at a place, as it shows
 pub shown_at : {S : Type 0} (nodes : List (Node (Script S))) (i : ℕ) (n : Node (Script S)) → slice_get nodes i ≡ Some n

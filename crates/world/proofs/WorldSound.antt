@@ -12,21 +12,21 @@ use Rattle.events.specs.declared.fault.WorldFault.{WorldFault}
 use Rattle.events.specs.declared.fault.WorldFault.TheVariants as fault
 use Rattle.world.specs.declared.log.TheConstants.{MOST_DELIVERIES}
 use Rattle.world.specs.declared.run.Run.{Run}
-use Rattle.history.specs.Fired.{HasFewFaults}
-use Rattle.history.specs.Fleets.{IsFleet}
-use Rattle.history.specs.Progress.{MakesProgress, PromisesProgress}
-use Rattle.history.specs.Flushing.{IsStart, Delivers, DeliversSome}
-use Rattle.history.specs.Reaching.{AreHonest}
-use Rattle.history.specs.Safety.{IsSafe, IsSoundIfHonest, contents_inside, honest_inside}
-use Rattle.history.specs.Staying.{StaysSafe}
-use Rattle.history.specs.Worlds.{WorldState, Steps}
+use Rattle.world_model.specs.Fired.{HasFewFaults}
+use Rattle.world_model.specs.Fleets.{IsFleet}
+use Rattle.world_model.specs.Progress.{MakesProgress, PromisesProgress}
+use Rattle.world_model.specs.Flushing.{IsStart, Delivers, DeliversSome}
+use Rattle.world_model.specs.Reaching.{AreHonest}
+use Rattle.world_model.specs.Safety.{IsSafe, IsSoundIfHonest, contents_inside, honest_inside}
+use Rattle.world_model.specs.Staying.{StaysSafe}
+use Rattle.world_model.specs.Worlds.{WorldState, Steps}
 use Rattle.world.specs.Runs.{run_of}
-use Rattle.history.proofs.FiredLemmas.{honest_outside}
-use Rattle.history.proofs.ListedPuts.{script_puts}
-use Rattle.history.specs.Rounds.{RoundEnds, IsPartOfRound}
-use Rattle.history.specs.declared.round_end.RoundEnd.{RoundEnd}
-use Rattle.history.proofs.RoundsProgress.{makes_progress}
-use Rattle.history.proofs.SoundSteps.{start_sound, safe_if_honest, step_sound, delivers_sound, round_sound}
+use Rattle.world_model.proofs.FiredLemmas.{honest_outside}
+use Rattle.world_model.proofs.ListedPuts.{script_puts}
+use Rattle.world_model.specs.Rounds.{RoundEnds, IsPartOfRound}
+use Rattle.world_model.specs.declared.round_end.RoundEnd.{RoundEnd}
+use Rattle.world_model.proofs.RoundsProgress.{makes_progress}
+use Rattle.world_model.proofs.SoundSteps.{start_sound, safe_if_honest, step_sound, delivers_sound, round_sound}
 
 abbrev failed : WorldFault → Result ℕ WorldFault
 failed f = Err f

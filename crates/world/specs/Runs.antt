@@ -1,9 +1,9 @@
 -- What a run holds is a world, and the room that it keeps for a step.
 use Rattle.std.specs.Prelude.{◌+◌, ◌≤◌, map, vec_len, vec_capacity}
 use Rattle.node.specs.Seen.{state_of}
-use Rattle.minds.specs.declared.outputs.TheConstants.{MOST_SENDS}
+use Rattle.node_model.specs.declared.outputs.TheConstants.{MOST_SENDS}
 use Rattle.proposer.specs.declared.waiting.TheConstants.{MOST_WAITING}
-use Rattle.history.specs.Worlds.{WorldState}
+use Rattle.world_model.specs.Worlds.{WorldState}
 use Rattle.world.specs.declared.run.Run.{Run}
 
 abbrev pub run_of : {S : Type 0} → Run S → WorldState S

@@ -1,7 +1,7 @@
 -- What a world is seen as: its run.
 use Rattle.stable.specs.declared.stable.Stable.{Ghosts}
 use Rattle.world.specs.declared.world.World.{World}
-use Rattle.history.specs.Worlds.{WorldState}
+use Rattle.world_model.specs.Worlds.{WorldState}
 use Rattle.world.specs.Runs.{run_of}
 
 abbrev pub world_of : {S : Type 0} {storage : Ghosts S} → World S storage → WorldState S

@@ -1,7 +1,7 @@
 //! Lists of flags.
 
 ghost use Rattle.std.specs.Prelude.{◌≡◌, ◌≤◌, ◌<◌, length, slice_get, Some, true};
-ghost use Rattle.history.specs.Waiting.{NoneWaitsBelow};
+ghost use Rattle.world_model.specs.Waiting.{NoneWaitsBelow};
 
 /// The first place from `from` on whose flag is set, where none below `from` is; the length where none is set.
 pub fn first_set(flags: &[bool], from: usize) -> usize

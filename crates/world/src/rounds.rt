@@ -2,24 +2,24 @@
 
 ghost use Rattle.std.specs.Prelude.{◌≡◌, ◌≢◌, ◌≤◌, ◌<◌, ◌↔◌, ◌⊎◌, ℕ, All, AllPairs, Any, Contains, length, drop, vec_len, true, IfErr};
 ghost use Rattle.std.specs.Prelude.{IfOk, IfSome, Ok, Err, IsErrOf, IsTrue, MatchBool, MatchOption, OnErr, OnOk};
-ghost use Rattle.minds.specs.Faults.{is_stop_fault};
-ghost use Rattle.history.specs.Rounds.{IsGreatestTold, IsQuorum, NoneRefuses, greater, refusal_in};
-ghost use Rattle.history.specs.declared.round_end.RoundEnd.TheVariants as end;
+ghost use Rattle.node_model.specs.Faults.{is_stop_fault};
+ghost use Rattle.world_model.specs.Rounds.{IsGreatestTold, IsQuorum, NoneRefuses, greater, refusal_in};
+ghost use Rattle.world_model.specs.declared.round_end.RoundEnd.TheVariants as end;
 
 use super::run::Run;
-use history::{RoundEnd, WorldFault};
 use node::NodeFault;
 use stable::{Scripted, Stable};
 use std::alloc::Global;
 use synod::{Ballot, Slot};
 use wire::{Envelope, Frame, Message, NodeId};
+use world_model::{RoundEnd, WorldFault};
 
 impl<S: Stable> Run<S> {
     ghost use Rattle.world.specs.Runs.{run_of};
-    ghost use Rattle.history.specs.Rounds.{NamesNoMember, IsLowestDown, IsBehind, IsLowestBehind, CanMeet, IsAt};
-    ghost use Rattle.history.specs.Rounds.{DeliversTo, DeliversPart, GoesDownOn, EndsIn};
-    ghost use Rattle.history.specs.Rounds.{MeetingEnds, IsInterrupted, RoundEnds, IsPartOfRound, is_up};
-    ghost use Rattle.history.specs.Rounds.{GoesOn, GoesToItsEnd, BreaksOff, begun, answered, heard};
+    ghost use Rattle.world_model.specs.Rounds.{NamesNoMember, IsLowestDown, IsBehind, IsLowestBehind, CanMeet, IsAt};
+    ghost use Rattle.world_model.specs.Rounds.{DeliversTo, DeliversPart, GoesDownOn, EndsIn};
+    ghost use Rattle.world_model.specs.Rounds.{MeetingEnds, IsInterrupted, RoundEnds, IsPartOfRound, is_up};
+    ghost use Rattle.world_model.specs.Rounds.{GoesOn, GoesToItsEnd, BreaksOff, begun, answered, heard};
 
     /// A round of a node with these members, by hand, and how it ended.
     pub fn round(

@@ -4,31 +4,31 @@ ghost use Rattle.std.specs.Prelude.{◌≡◌, ◌≤◌, ◌<◌, ◌+◌, ◌+
 ghost use Rattle.std.specs.Prelude.{OnOk, OnErr, IsOk, IsErrOf, ◌⊎◌, Bool, IfOk, IfErr, IsTrue, is_ok, MatchBool};
 ghost use Rattle.std.specs.Prelude.{MatchOption, All, map};
 ghost use Rattle.store.specs.Operations.{IsSound};
-ghost use Rattle.minds.specs.Faults.{is_stop_fault};
+ghost use Rattle.node_model.specs.Faults.{is_stop_fault};
 ghost use Rattle.node.specs.Seen.{state_of};
-ghost use Rattle.minds.specs.declared.input.Input.TheVariants as input;
-ghost use Rattle.history.specs.declared.lists.Outcome.TheVariants as outcome;
-ghost use Rattle.minds.specs.Outputs.{IsFew};
-ghost use Rattle.minds.specs.Sending.{IsBetween};
-ghost use Rattle.history.specs.Fleets.{IsFleet};
+ghost use Rattle.node_model.specs.declared.input.Input.TheVariants as input;
+ghost use Rattle.world_model.specs.declared.lists.Outcome.TheVariants as outcome;
+ghost use Rattle.node_model.specs.Outputs.{IsFew};
+ghost use Rattle.node_model.specs.Sending.{IsBetween};
+ghost use Rattle.world_model.specs.Fleets.{IsFleet};
 ghost use Rattle.wire.specs.FrameSpelling.{Fits};
-ghost use Rattle.history.specs.Outputs.{replied_at, replied_by};
-ghost use Rattle.history.specs.Worlds.{came_of};
-ghost use Rattle.history.specs.Waiting.{NoneWaits, NoneWaitsBelow, OneWaits, IsLowestWaiting};
+ghost use Rattle.world_model.specs.Outputs.{replied_at, replied_by};
+ghost use Rattle.world_model.specs.Worlds.{came_of};
+ghost use Rattle.world_model.specs.Waiting.{NoneWaits, NoneWaitsBelow, OneWaits, IsLowestWaiting};
 
 use super::flags::first_set;
 use super::log::MOST_DELIVERIES;
 use super::start::start_nodes;
-use byslot::BySlot;
-use history::{Answered, Event, Learnt, Outcome, Replied, RoundEnd, Submission, WorldFault};
 use learner::Held;
 use node::{Executed, Input, LogEntry, MOST_SENDS, MOST_WAITING, Node, NodeFault, Outputs, Text};
 use sessions::Number;
+use slot_table::SlotTable;
 use stable::{Failing, Scripted, Stable};
 use std::alloc::Global;
 use store::{Op, Query};
 use synod::{MOST_NODES, Slot};
 use wire::{Envelope, Frame, NodeId, Nodes, Position};
+use world_model::{Answered, Event, Learnt, Outcome, Replied, RoundEnd, Submission, WorldFault};
 
 /// All nodes of a run, over storages of one kind.
 #[derive(Drop)]
@@ -41,7 +41,7 @@ pub struct Run<S> {
     lowest: usize,
     pub(super) learnt: Vec<Learnt>,
     // Of each slot a command that was learnt there, to be shared by all who learn it. No clause speaks of it.
-    known: BySlot<Held>,
+    known: SlotTable<Held>,
     pub(super) replies: Vec<Replied>,
     pub(super) answers: Vec<Answered>,
     pub(super) outcomes: Vec<Outcome>,
@@ -53,8 +53,8 @@ pub struct Run<S> {
 
 impl<S: Stable + Drop> Run<S> {
     ghost use Rattle.world.specs.Runs.{run_of};
-    ghost use Rattle.history.specs.Flushing.{IsStart};
-    ghost use Rattle.history.specs.Starting.{AreOver, OneIsUsed};
+    ghost use Rattle.world_model.specs.Flushing.{IsStart};
+    ghost use Rattle.world_model.specs.Starting.{AreOver, OneIsUsed};
 
     /// A world of so many nodes, each over its own of these storages, which hold no record yet.
     pub fn with(alloc: Global, count: Nodes, stores: Vec<S>) -> Result<Run<S>, WorldFault>
@@ -74,7 +74,7 @@ impl<S: Stable + Drop> Run<S> {
             waiting: Vec::new(alloc),
             lowest: 0,
             learnt: Vec::new(alloc),
-            known: BySlot::new(alloc),
+            known: SlotTable::new(alloc),
             replies: Vec::new(alloc),
             answers: Vec::new(alloc),
             outcomes: Vec::new(alloc),
@@ -83,13 +83,13 @@ impl<S: Stable + Drop> Run<S> {
 }
 
 impl<S: Stable> Run<S> {
-    ghost use Rattle.history.specs.Worlds.{with_response, with_outcome, outcome_of, TakesAt, SubmitsAt, ArmsAt, AsksAt, ReceivesAt};
+    ghost use Rattle.world_model.specs.Worlds.{with_response, with_outcome, outcome_of, TakesAt, SubmitsAt, ArmsAt, AsksAt, ReceivesAt};
     ghost use Rattle.world.specs.Runs.{run_of};
-    ghost use Rattle.history.specs.Worlds.{DeliversFrame, RestartsAt, Steps, with_answer, quiet, without_wait};
+    ghost use Rattle.world_model.specs.Worlds.{DeliversFrame, RestartsAt, Steps, with_answer, quiet, without_wait};
     ghost use Rattle.world.specs.Runs.{HasRoom};
-    ghost use Rattle.history.specs.Events.{NamesNoFrame, NamesNoNode};
-    ghost use Rattle.history.specs.Flushing.{Delivers, DeliversSome};
-    ghost use Rattle.history.specs.Rounds.{is_up, IsBehind, IsAt, RefusesToBegin, FailsToBegin};
+    ghost use Rattle.world_model.specs.Events.{NamesNoFrame, NamesNoNode};
+    ghost use Rattle.world_model.specs.Flushing.{Delivers, DeliversSome};
+    ghost use Rattle.world_model.specs.Rounds.{is_up, IsBehind, IsAt, RefusesToBegin, FailsToBegin};
 
     /// Every frame that was sent.
     pub fn frames(&self) -> &[Frame]
@@ -632,7 +632,7 @@ fn came_of(node: NodeId, restored: Option<Position>, learnt: u32, replies: u32) 
 
 // The command, as it lies already where another node has learnt it at the slot: who learns it later, again after each restart,
 // shares it then. Where memory is wanting it stays apart.
-fn shared(known: &mut BySlot<Held>, slot: Slot, command: Held) -> Held
+fn shared(known: &mut SlotTable<Held>, slot: Slot, command: Held) -> Held
     ensures { result ≡ command }
 {
     match known.get(slot) {

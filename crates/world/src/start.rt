@@ -4,15 +4,15 @@ ghost use Rattle.std.specs.Prelude.{◌≡◌, ◌≤◌, ◌⊎◌, All, IfErr,
 ghost use Rattle.node.specs.Seen.{state_of};
 ghost use Rattle.stable.specs.Memory.{stored};
 ghost use Rattle.stable.specs.Records.{no_records};
-ghost use Rattle.history.specs.Flushing.{IsStarted, HaveStarted};
-ghost use Rattle.history.specs.Starting.{AreOver, IsUsed, OneIsUsed, WasRead};
+ghost use Rattle.world_model.specs.Flushing.{IsStarted, HaveStarted};
+ghost use Rattle.world_model.specs.Starting.{AreOver, IsUsed, OneIsUsed, WasRead};
 
-use history::WorldFault;
 use node::Node;
 use stable::{MemStable, Scripted, Stable, StableFault};
 use std::alloc::{AllocError, Global};
 use synod::MOST_NODES;
 use wire::{NodeId, Nodes};
+use world_model::WorldFault;
 
 /// Empty records in memory, for so many nodes.
 pub fn fresh_stores(alloc: Global, count: Nodes) -> Result<Vec<MemStable>, AllocError>

@@ -1,19 +1,19 @@
 //! The world: all nodes of a run, everything that happened in it, and what is promised of that.
 
 ghost use Rattle.std.specs.Prelude.{◌≡◌, ◌≤◌, ◌↔◌, ◌⊎◌, length, slice_get, vec_len, IsNone, OnOk, OnErr, IfOk, IfErr, IfSome, IsErrOf};
-ghost use Rattle.history.specs.Waiting.{NoneWaits, OneWaits};
+ghost use Rattle.world_model.specs.Waiting.{NoneWaits, OneWaits};
 ghost use Rattle.world.specs.Runs.{run_of};
-ghost use Rattle.history.specs.Safety.{IsSoundIfHonest, contents_inside, honest_inside};
-ghost use Rattle.history.specs.Fired.{HasFewFaults};
+ghost use Rattle.world_model.specs.Safety.{IsSoundIfHonest, contents_inside, honest_inside};
+ghost use Rattle.world_model.specs.Fired.{HasFewFaults};
 
 use super::log::MOST_DELIVERIES;
 use super::run::Run;
 use super::start::fresh_stores;
-use history::{Answered, Event, Learnt, Outcome, Replied, RoundEnd, Submission, WorldFault};
 use stable::{MemStable, Put, Scripted, Stable};
 use std::alloc::Global;
 use synod::MOST_NODES;
 use wire::{Frame, NodeId, Nodes};
+use world_model::{Answered, Event, Learnt, Outcome, Replied, RoundEnd, Submission, WorldFault};
 
 /// All nodes of a run, over storages of one kind.
 ///
@@ -39,8 +39,8 @@ impl<S: Stable + Drop> Drop for World<S> {
 
 impl World<MemStable> {
     ghost use Rattle.world.specs.Seen.{world_of};
-    ghost use Rattle.history.specs.Flushing.{IsStart};
-    ghost use Rattle.history.specs.Staying.{IsSafeOver};
+    ghost use Rattle.world_model.specs.Flushing.{IsStart};
+    ghost use Rattle.world_model.specs.Staying.{IsSafeOver};
 
     /// A world of so many nodes over empty records in memory. A node whose own start is refused memory begins down. `Memory` is its
     /// only fault.
@@ -56,9 +56,9 @@ impl World<MemStable> {
 
 impl<S: Stable + Drop> World<S> {
     ghost use Rattle.world.specs.Seen.{world_of};
-    ghost use Rattle.history.specs.Flushing.{IsStart};
-    ghost use Rattle.history.specs.Starting.{AreOver, OneIsUsed};
-    ghost use Rattle.history.specs.Staying.{StaysSafe};
+    ghost use Rattle.world_model.specs.Flushing.{IsStart};
+    ghost use Rattle.world_model.specs.Starting.{AreOver, OneIsUsed};
+    ghost use Rattle.world_model.specs.Staying.{StaysSafe};
 
     /// A world of so many nodes, each over its own of these storages, in their order. A node whose own start fails begins down.
     ///
@@ -83,12 +83,12 @@ impl<S: Stable + Drop> World<S> {
 
 impl<S: Stable> World<S> {
     ghost use Rattle.world.specs.Seen.{world_of};
-    ghost use Rattle.history.specs.Worlds.{Steps};
-    ghost use Rattle.history.specs.Events.{NamesNoFrame, NamesNoNode};
-    ghost use Rattle.history.specs.Flushing.{Delivers, DeliversSome};
-    ghost use Rattle.history.specs.Progress.{PromisesProgress};
-    ghost use Rattle.history.specs.Rounds.{NamesNoMember, RoundEnds, IsPartOfRound};
-    ghost use Rattle.history.specs.Staying.{StaysSafe};
+    ghost use Rattle.world_model.specs.Worlds.{Steps};
+    ghost use Rattle.world_model.specs.Events.{NamesNoFrame, NamesNoNode};
+    ghost use Rattle.world_model.specs.Flushing.{Delivers, DeliversSome};
+    ghost use Rattle.world_model.specs.Progress.{PromisesProgress};
+    ghost use Rattle.world_model.specs.Rounds.{NamesNoMember, RoundEnds, IsPartOfRound};
+    ghost use Rattle.world_model.specs.Staying.{StaysSafe};
 
     /// How many nodes there are.
     pub fn count(&self) -> u8

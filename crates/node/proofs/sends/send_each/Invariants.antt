@@ -1,5 +1,5 @@
 use Rattle.std.proofs.Common.{◌≡◌, ◌++◌}
-use Rattle.minds.specs.Sending.{envelopes}
+use Rattle.node_model.specs.Sending.{envelopes}
 use Rattle.node.proofs.sends.send_each.Given as goal
 
 -- what is still to be sent leads to what the whole leads to

@@ -1,6 +1,6 @@
 use Rattle.std.proofs.Common.{◌≡◌, ◌++◌, ◌+◌, ℕ, subst, rules}
-use Rattle.minds.specs.Sending.{to_one, to_all}
-use Rattle.minds.proofs.SendLemmas.{sent_to_next}
+use Rattle.node_model.specs.Sending.{to_one, to_all}
+use Rattle.node_model.proofs.SendLemmas.{sent_to_next}
 use Rattle.node.proofs.sends.send_to_all.Goals as goal
 
 -- one node more

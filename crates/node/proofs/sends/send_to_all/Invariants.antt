@@ -1,5 +1,5 @@
 use Rattle.std.proofs.Common.{◌≡◌, ◌++◌}
-use Rattle.minds.specs.Sending.{to_all}
+use Rattle.node_model.specs.Sending.{to_all}
 use Rattle.node.proofs.sends.send_to_all.Given as goal
 
 abbrev pub invariant-loop-value : goal.invariant-loop-value

@@ -1,7 +1,7 @@
 use Rattle.std.proofs.Common.{◌≡◌, ◌++◌, true, false, rules}
 use Rattle.wire.specs.NodeSets.{has_node}
-use Rattle.minds.specs.Sending.{to_one}
-use Rattle.minds.proofs.SendLemmas.{passed_over, sent_too}
+use Rattle.node_model.specs.Sending.{to_one}
+use Rattle.node_model.proofs.SendLemmas.{passed_over, sent_too}
 use Rattle.node.proofs.sends.send_to_others.Goals as goal
 use Rattle.node.proofs.sends.send_to_others.Goals.{then-not-contains+in_ok-to_node+in_ok-push, else-not-contains}
 

@@ -1,6 +1,6 @@
 use Rattle.std.proofs.Common.{◌≡◌, ◌++◌, filter, not}
 use Rattle.wire.specs.NodeSets.{has_node}
-use Rattle.minds.specs.Sending.{to_all}
+use Rattle.node_model.specs.Sending.{to_all}
 use Rattle.node.proofs.sends.send_to_others.Given as goal
 
 abbrev pub invariant-loop-value : goal.invariant-loop-value

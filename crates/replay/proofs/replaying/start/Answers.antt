@@ -1,6 +1,6 @@
 use Rattle.std.proofs.Common.{ℕ, subst}
 use Rattle.stable.specs.Storages.{scripted}
-use Rattle.history.specs.Flushing.{IsStart}
+use Rattle.world_model.specs.Flushing.{IsStart}
 use Rattle.world.specs.Seen.{world_of}
 use Rattle.replay.proofs.Running.{begins_none}
 use Rattle.replay.proofs.replaying.start.Goals as goal

@@ -1,5 +1,5 @@
 use Rattle.std.proofs.Common.{◌-◌, ◌≤◌, length}
-use Rattle.history.specs.Waiting.{NoneWaitsBelow}
+use Rattle.world_model.specs.Waiting.{NoneWaitsBelow}
 use Rattle.world.proofs.flags.first_set.Given as goal
 
 abbrev pub invariant-loop-index : goal.invariant-loop-index

@@ -1,6 +1,6 @@
 use Rattle.std.proofs.Common.{sym, ap, subst, ◌∙◌, MatchOption}
-use Rattle.history.proofs.RoundMembers.{told_first}
-use Rattle.history.specs.Rounds.{refusal_in, NoneRefuses, IsGreatestTold}
+use Rattle.world_model.proofs.RoundMembers.{told_first}
+use Rattle.world_model.specs.Rounds.{refusal_in, NoneRefuses, IsGreatestTold}
 use Rattle.world.proofs.rounds.+greatest_told.Goals as goal
 
 pub returns-in_ok-envelope-in-len1-up-clause-greatest : goal.returns-in_ok-envelope-in-len1-up-clause-greatest

@@ -1,5 +1,5 @@
 use Rattle.std.proofs.Common.{◌≡◌, ◌≤◌, ◌+◌, ◌++◌, length, vec_len, vec_capacity}
-use Rattle.history.specs.Outputs.{replied_by}
+use Rattle.world_model.specs.Outputs.{replied_by}
 use Rattle.world.proofs.run.add_replies.Given as goal
 
 -- what is still to be replied leads to what the whole leads to, and there is room for it

@@ -1,5 +1,5 @@
 use Rattle.std.proofs.Common.{inl, rules, vec_len}
-use Rattle.history.specs.Starting.{failed, told}
+use Rattle.world_model.specs.Starting.{failed, told}
 use Rattle.world.proofs.UsedStorages.{keys_used}
 use Rattle.world.proofs.start.see_empty.Goals as goal
 

@@ -4,8 +4,8 @@ use Rattle.std.proofs.lemmas.Result.{err_from_is_err_and}
 use Rattle.std.specs.Vec.Iter.{into_iter_items}
 use Rattle.stable.specs.Storages.{scripted}
 use Rattle.node.specs.Seen.{state_of}
-use Rattle.history.specs.Flushing.{IsStarted, HaveStarted}
-use Rattle.history.specs.Starting.{AreOver}
+use Rattle.world_model.specs.Flushing.{IsStarted, HaveStarted}
+use Rattle.world_model.specs.Starting.{AreOver}
 use Rattle.world.proofs.StartLemmas.{all_taken, whole_taken, none_started, none_over, one_more_started, one_over_more}
 use Rattle.world.proofs.UsedStorages.{one_of_all}
 use Rattle.world.proofs.start.start_nodes.Goals as goal

@@ -1,8 +1,8 @@
 use Rattle.std.proofs.Common.{◌≡◌, ◌++◌, length, map}
 use Rattle.std.specs.Vec.Iter.{into_iter_items, into_iter_len}
 use Rattle.stable.specs.Storages.{scripted}
-use Rattle.history.specs.Flushing.{HaveStarted}
-use Rattle.history.specs.Starting.{AreOver}
+use Rattle.world_model.specs.Flushing.{HaveStarted}
+use Rattle.world_model.specs.Starting.{AreOver}
 use Rattle.node.specs.Seen.{state_of}
 use Rattle.world.proofs.start.start_nodes.Given as goal
 

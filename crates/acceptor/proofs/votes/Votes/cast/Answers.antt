@@ -1,6 +1,6 @@
 use Rattle.std.proofs.Common.{ℕ, Option, rules, ◌∙◌, ap, option_map, refl}
-use Rattle.byslot.proofs.ValueLemmas.{where_refused}
-use Rattle.byslot.specs.Values.{value_at}
+use Rattle.slot_table.proofs.ValueLemmas.{where_refused}
+use Rattle.slot_table.specs.Values.{value_at}
 use Rattle.stable.proofs.FaultLemmas.{no_fault}
 use Rattle.acceptor.specs.Casts.{vote_at, cast_at}
 use Rattle.acceptor.specs.declared.cast.Cast.{Cast}

@@ -1,5 +1,5 @@
 use Rattle.std.proofs.Common.{ℕ, Option, ap, ◌∙◌, refl, option_map}
-use Rattle.byslot.proofs.ValueLemmas.{where_refused}
+use Rattle.slot_table.proofs.ValueLemmas.{where_refused}
 use Rattle.acceptor.specs.Casts.{vote_at, cast_at}
 use Rattle.acceptor.specs.declared.cast.Cast.{Cast}
 use Rattle.acceptor.proofs.VoteLemmas.{votes-put}

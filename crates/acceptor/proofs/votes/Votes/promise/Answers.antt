@@ -1,6 +1,6 @@
 use Rattle.std.proofs.Common.{rules, ℕ, List, ◌≡◌, ◌+◌, ◌<◌, ◌++◌, ◌∷◌, [], None, MatchOption, length, sym, subst}
-use Rattle.byslot.proofs.ValueLemmas.{where_refused}
-use Rattle.byslot.specs.Values.{value_at, IsEmptyFrom}
+use Rattle.slot_table.proofs.ValueLemmas.{where_refused}
+use Rattle.slot_table.specs.Values.{value_at, IsEmptyFrom}
 use Rattle.synod.specs.declared.ballot.Ballot.{Ballot}
 use Rattle.synod.specs.declared.vote.Vote.{Vote}
 use Rattle.sessions.specs.declared.command.Command.{Command}

@@ -3,7 +3,7 @@ use Rattle.std.proofs.lemmas.Result.{err_from_is_err_and}
 use Rattle.stable.specs.Memory.{in_memory}
 use Rattle.stable.specs.Storages.{scripted}
 use Rattle.world.specs.Seen.{world_of}
-use Rattle.history.specs.Worlds.{DeliversFrame}
+use Rattle.world_model.specs.Worlds.{DeliversFrame}
 use Rattle.cluster.specs.Clusters.{HasPassed, sendings}
 use Rattle.cluster.specs.ClusterViews.{pumped_of, world_in}
 use Rattle.cluster.specs.Lowest.{IsLowest, IsStranger}

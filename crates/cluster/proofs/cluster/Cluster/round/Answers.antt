@@ -2,8 +2,8 @@ use Rattle.std.proofs.Common.{◌≤◌, length, IfOk, IsErrOf, sym, ap, subst, 
 use Rattle.stable.specs.Memory.{in_memory}
 use Rattle.stable.specs.Storages.{scripted}
 use Rattle.events.specs.declared.fault.WorldFault.TheVariants as fault
-use Rattle.history.specs.Rounds.{RoundEnds, IsPartOfRound}
-use Rattle.history.specs.Progress.{PromisesProgress}
+use Rattle.world_model.specs.Rounds.{RoundEnds, IsPartOfRound}
+use Rattle.world_model.specs.Progress.{PromisesProgress}
 use Rattle.world.specs.Seen.{world_of}
 use Rattle.cluster.proofs.Clustering.{round_frames}
 use Rattle.cluster.proofs.cluster.Cluster.round.Goals as goal

@@ -1,8 +1,8 @@
 use Rattle.std.proofs.Common.{rules, ◌≡◌, true}
-use Rattle.minds.specs.Minds.{is_past}
+use Rattle.node_model.specs.Minds.{is_past}
 use Rattle.node.specs.Seen.{state_of}
 use Rattle.node.specs.Roles.{mind_of}
-use Rattle.minds.proofs.PastVotes.{steps_past, stays_past}
+use Rattle.node_model.proofs.PastVotes.{steps_past, stays_past}
 use Rattle.node.proofs.node.Node.is_past.Goals as goal
 
 pub returns-in-Some-voted_slot-clause-silent : goal.returns-in-Some-voted_slot-clause-silent

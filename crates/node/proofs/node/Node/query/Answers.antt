@@ -1,7 +1,7 @@
 use Rattle.std.proofs.Common.{List, ℕ, sym, subst, rules}
 use Rattle.sessions.specs.Standing.{AnswersAll}
 use Rattle.node.specs.Roles.{mind_of}
-use Rattle.minds.proofs.Meanings.{meaning_answers}
+use Rattle.node_model.proofs.Meanings.{meaning_answers}
 use Rattle.node.proofs.node.Node.query.Goals as goal
 
 -- what the machine answers for each list that it stands for

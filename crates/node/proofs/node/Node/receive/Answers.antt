@@ -1,14 +1,14 @@
 use Rattle.std.proofs.Common.{inl, inr, ◌≡◌, Option, Some, None, IfSome, IfErr, option_map, ap, sym, subst}
 use Rattle.std.proofs.lemmas.Result.{IfOk-weaker, IfErr-weaker}
-use Rattle.minds.specs.Minds.{Mind}
+use Rattle.node_model.specs.Minds.{Mind}
 use Rattle.node.specs.Seen.{state_of}
 use Rattle.node.specs.Wanting.{MayWantOn}
 use Rattle.node.specs.Roles.{mind_of}
-use Rattle.minds.specs.declared.input.Input.TheVariants as input
-use Rattle.minds.proofs.Fewness.{said_few}
-use Rattle.minds.proofs.Meanings.{meaning_stays}
-use Rattle.minds.proofs.Restoring.{meaning_restored}
-use Rattle.minds.proofs.StepLemmas.{steps_up, steps_down, stays_down}
+use Rattle.node_model.specs.declared.input.Input.TheVariants as input
+use Rattle.node_model.proofs.Fewness.{said_few}
+use Rattle.node_model.proofs.Meanings.{meaning_stays}
+use Rattle.node_model.proofs.Restoring.{meaning_restored}
+use Rattle.node_model.proofs.StepLemmas.{steps_up, steps_down, stays_down}
 use Rattle.node.proofs.node.Node.receive.Goals as goal
 
 -- it took the message

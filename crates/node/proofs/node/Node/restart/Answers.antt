@@ -1,8 +1,8 @@
 use Rattle.std.proofs.Common.{◌≡◌, Some, refl, ap, rules, subst}
 use Rattle.std.proofs.lemmas.Option.{same_Some}
-use Rattle.minds.specs.Loading.{IsFresh, IsMindOf}
-use Rattle.minds.specs.Minds.{Mind}
-use Rattle.minds.proofs.Learnt.{loaded_means}
+use Rattle.node_model.specs.Loading.{IsFresh, IsMindOf}
+use Rattle.node_model.specs.Minds.{Mind}
+use Rattle.node_model.proofs.Learnt.{loaded_means}
 use Rattle.node.specs.Roles.{mind_of}
 use Rattle.node.proofs.node.Node.restart.Goals as goal
 

@@ -1,7 +1,7 @@
 use Rattle.std.proofs.Common.{refl, subst}
 use Rattle.std.proofs.lemmas.Option.{same_Some}
-use Rattle.minds.specs.Loading.{IsMindOf}
-use Rattle.minds.specs.Minds.{Mind}
+use Rattle.node_model.specs.Loading.{IsMindOf}
+use Rattle.node_model.specs.Minds.{Mind}
 use Rattle.node.proofs.node.Node.start.Goals as goal
 
 pub returns-in-Ok-clause-member : goal.returns-in-Ok-clause-member

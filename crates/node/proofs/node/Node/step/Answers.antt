@@ -1,13 +1,13 @@
 use Rattle.std.proofs.Common.{◌≡◌, Option, Some, None, option_map, IfSome, IfErr, ap, sym, subst}
-use Rattle.minds.specs.Minds.{Mind}
+use Rattle.node_model.specs.Minds.{Mind}
 use Rattle.node.specs.Wanting.{MayWant}
 use Rattle.std.proofs.lemmas.Result.{IfOk-weaker, IfErr-weaker}
 use Rattle.node.specs.Seen.{state_of}
 use Rattle.node.specs.Roles.{mind_of}
-use Rattle.minds.proofs.Fewness.{said_few}
-use Rattle.minds.proofs.Meanings.{meaning_stays}
-use Rattle.minds.proofs.Restoring.{meaning_restored}
-use Rattle.minds.proofs.StepLemmas.{steps_up, steps_down, stays_down}
+use Rattle.node_model.proofs.Fewness.{said_few}
+use Rattle.node_model.proofs.Meanings.{meaning_stays}
+use Rattle.node_model.proofs.Restoring.{meaning_restored}
+use Rattle.node_model.proofs.StepLemmas.{steps_up, steps_down, stays_down}
 use Rattle.node.proofs.node.Node.step.Goals as goal
 
 -- it took the input

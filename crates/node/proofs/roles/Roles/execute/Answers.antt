@@ -1,13 +1,13 @@
 use Rattle.std.proofs.Common.{rules, ◌≡◌, ℕ, Option, [], List, arith, ap, sym, subst, ◌∙◌, refl}
 use Rattle.sessions.specs.declared.command.Command.{Command}
-use Rattle.minds.specs.declared.outputs.Executed.{Executed}
-use Rattle.minds.specs.Composition.{StandsForMore, RepliesToMore, AddsReplies}
-use Rattle.minds.specs.Executing.{executed, with_command}
-use Rattle.minds.specs.Minds.{Mind}
+use Rattle.node_model.specs.declared.outputs.Executed.{Executed}
+use Rattle.node_model.specs.Composition.{StandsForMore, RepliesToMore, AddsReplies}
+use Rattle.node_model.specs.Executing.{executed, with_command}
+use Rattle.node_model.specs.Minds.{Mind}
 use Rattle.node.specs.Roles.{mind_of}
-use Rattle.minds.specs.Taking.{executing_of, learnt_from}
-use Rattle.minds.proofs.Executions.{rest_done, stands_done, replies_done, all_done, none_left, only_done, learnt_there, stands_begun}
-use Rattle.minds.proofs.Executions.{replies_begun}
+use Rattle.node_model.specs.Taking.{executing_of, learnt_from}
+use Rattle.node_model.proofs.Executions.{rest_done, stands_done, replies_done, all_done, none_left, only_done, learnt_there, stands_begun}
+use Rattle.node_model.proofs.Executions.{replies_begun}
 use Rattle.node.proofs.roles.Roles.execute.Goals as goal
 
 -- nothing is done yet

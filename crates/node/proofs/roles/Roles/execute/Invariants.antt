@@ -1,8 +1,8 @@
 use Rattle.std.proofs.Common.{◌≡◌, ◌-◌, ◌≤◌, []}
-use Rattle.minds.specs.Composition.{StandsForMore, RepliesToMore}
-use Rattle.minds.specs.Executing.{executed, commands}
+use Rattle.node_model.specs.Composition.{StandsForMore, RepliesToMore}
+use Rattle.node_model.specs.Executing.{executed, commands}
 use Rattle.node.specs.Roles.{mind_of}
-use Rattle.minds.specs.Taking.{executing_of, with_executing, learnt_from}
+use Rattle.node_model.specs.Taking.{executing_of, with_executing, learnt_from}
 use Rattle.node.proofs.roles.Roles.execute.Given as goal
 
 -- what is still to be executed leads to what the whole leads to, and what is done so far is what the slots so far have

@@ -1,5 +1,5 @@
 use Rattle.std.proofs.Common.{rules}
-use Rattle.minds.proofs.Replying.{stands_for_unlearnt, stands_for_learnt, adds_reply}
+use Rattle.node_model.proofs.Replying.{stands_for_unlearnt, stands_for_learnt, adds_reply}
 use Rattle.node.proofs.roles.Roles.execute_at.Goals as goal
 
 -- nothing is learnt at the slot

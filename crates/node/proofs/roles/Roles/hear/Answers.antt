@@ -1,7 +1,7 @@
 use Rattle.std.proofs.Common.{◌≡◌, ◌∙◌, Result, Ok, Err, OnErr, IfErr, inl, inr, refl, sym, ap}
 use Rattle.std.proofs.lemmas.Result.{IfOk-weaker, IfErr-weaker, err_from_is_err_and}
 use Rattle.wire.specs.declared.frames.message.Message.TheVariants.{Promise, Accept, Decided}
-use Rattle.minds.proofs.FaultLemmas.{memory_not_device, no_fault, memory_of_two, memory_alone, on_ok, made_none}
+use Rattle.node_model.proofs.FaultLemmas.{memory_not_device, no_fault, memory_of_two, memory_alone, on_ok, made_none}
 use Rattle.node.proofs.roles.Roles.hear.Goals as goal
 
 -- what holds of each error

@@ -5,9 +5,9 @@ use Rattle.acceptor.specs.Forms.{IsOfItsForm, AreOfTheirForm, HasDamagedRecord}
 use Rattle.wire.specs.RecordForms.{IsRoundRecord}
 use Rattle.synod.specs.declared.slot.TheConstants.{SLOTS}
 use Rattle.learner.specs.Learning.{Learning, unlearnt_from}
-use Rattle.minds.specs.Loading.{LoadsRound}
+use Rattle.node_model.specs.Loading.{LoadsRound}
 use Rattle.proposer.specs.Proposing.{Proposing, loaded}
-use Rattle.minds.proofs.Learnt.{fresh_begins, loaded_means}
+use Rattle.node_model.proofs.Learnt.{fresh_begins, loaded_means}
 use Rattle.node.proofs.roles.Roles.load.Goals as goal
 
 round_loaded : (found : Option (List ℕ)) (id nodes : ℕ) (p : Proposing)

@@ -2,9 +2,9 @@ use Rattle.std.proofs.Common.{Option, Some, IsSome, refl, sym, subst}
 use Rattle.learner.specs.Learning.{Learning, HearsVote}
 use Rattle.learner.specs.State.{learning_of}
 use Rattle.learner.specs.declared.learned.Learned.{Learned}
-use Rattle.minds.specs.Minds.{Mind}
+use Rattle.node_model.specs.Minds.{Mind}
 use Rattle.node.specs.Roles.{mind_of}
-use Rattle.minds.proofs.News.{vote_news}
+use Rattle.node_model.proofs.News.{vote_news}
 use Rattle.node.proofs.roles.Roles.on_accepted.Goals as goal
 
 pub go_on-requires-clause-learnt : goal.go_on-requires-clause-learnt

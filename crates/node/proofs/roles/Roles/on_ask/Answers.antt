@@ -2,10 +2,10 @@ use Rattle.std.proofs.Common.{◌≡◌, ◌≢◌, ◌++◌, List, [], ap, ◌�
 use Rattle.std.proofs.lemmas.Result.{err_from_is_err_and}
 use Rattle.learner.specs.Learning.{learnt_at}
 use Rattle.wire.specs.declared.frames.envelope.Envelope.{Envelope}
-use Rattle.minds.specs.Minds.{Mind}
-use Rattle.minds.specs.Outputs.{sent}
+use Rattle.node_model.specs.Minds.{Mind}
+use Rattle.node_model.specs.Outputs.{sent}
 use Rattle.node.specs.Roles.{mind_of}
-use Rattle.minds.specs.Sending.{decided_sends}
+use Rattle.node_model.specs.Sending.{decided_sends}
 use Rattle.node.proofs.roles.Roles.on_ask.Goals as goal
 
 -- the room that was taken changes nothing of what is known

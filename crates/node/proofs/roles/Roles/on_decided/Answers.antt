@@ -3,11 +3,11 @@ use Rattle.learner.specs.Learning.{Learning, prefix, HearsDecided}
 use Rattle.learner.specs.State.{learning_of}
 use Rattle.learner.specs.declared.learned.Learned.{Learned}
 use Rattle.wire.specs.declared.frames.envelope.Envelope.{Envelope}
-use Rattle.minds.specs.Minds.{Mind}
-use Rattle.minds.specs.Outputs.{Response}
+use Rattle.node_model.specs.Minds.{Mind}
+use Rattle.node_model.specs.Outputs.{Response}
 use Rattle.node.specs.Roles.{mind_of}
-use Rattle.minds.specs.Sending.{ask_sends}
-use Rattle.minds.proofs.News.{decided_news, asks_last}
+use Rattle.node_model.specs.Sending.{ask_sends}
+use Rattle.node_model.proofs.News.{decided_news, asks_last}
 use Rattle.node.proofs.roles.Roles.on_decided.Goals as goal
 
 pub go_on-requires-clause-learnt : goal.go_on-requires-clause-learnt

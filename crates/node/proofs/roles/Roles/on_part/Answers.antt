@@ -1,9 +1,9 @@
 use Rattle.std.proofs.Common.{◌≡◌, ℕ, List, Some, None, true, option_map, ap, subst, rules}
 use Rattle.wire.specs.Parts.{joined}
-use Rattle.minds.specs.Fetching.{Fetching, wants, missing}
-use Rattle.minds.specs.Minds.{Mind, position}
-use Rattle.minds.specs.Taking.{RestoresText}
-use Rattle.minds.specs.Taking.TakesPart.{keeps, completes}
+use Rattle.node_model.specs.Fetching.{Fetching, wants, missing}
+use Rattle.node_model.specs.Minds.{Mind, position}
+use Rattle.node_model.specs.Taking.{RestoresText}
+use Rattle.node_model.specs.Taking.TakesPart.{keeps, completes}
 use Rattle.node.specs.Fetching.{fetching_of}
 use Rattle.node.specs.Roles.{mind_of}
 use Rattle.node.proofs.roles.Roles.on_part.Goals as goal

@@ -1,9 +1,9 @@
 use Rattle.std.proofs.Common.{◌≡◌, ◌++◌, List, ap, ◌∙◌, subst}
 use Rattle.wire.specs.declared.frames.envelope.Envelope.{Envelope}
-use Rattle.minds.specs.Minds.{Mind}
-use Rattle.minds.specs.Outputs.{sent}
+use Rattle.node_model.specs.Minds.{Mind}
+use Rattle.node_model.specs.Outputs.{sent}
 use Rattle.node.specs.Roles.{mind_of}
-use Rattle.minds.specs.Sending.{snapshot_sends}
+use Rattle.node_model.specs.Sending.{snapshot_sends}
 use Rattle.node.proofs.roles.Roles.on_snap_ask.Goals as goal
 
 -- the room that was taken changes nothing of what is known

@@ -1,4 +1,4 @@
-use Rattle.minds.specs.Taking.RestoresText.{restores}
+use Rattle.node_model.specs.Taking.RestoresText.{restores}
 use Rattle.node.proofs.roles.Roles.restore.Goals as goal
 
 -- the text is that of the machine from which it goes on

@@ -8,15 +8,15 @@ use Rattle.store.specs.declared.op.Op.{Op}
 use Rattle.store.specs.declared.op.Op.TheVariants.{Put, Append, Remove}
 use Rattle.synod.specs.declared.slot.TheConstants.{SLOTS}
 use Rattle.proposer.specs.declared.waiting.TheConstants.{MOST_WAITING}
-use Rattle.minds.specs.declared.fault.NodeFault.TheVariants.{LogFull, TooLong}
+use Rattle.node_model.specs.declared.fault.NodeFault.TheVariants.{LogFull, TooLong}
 use Rattle.proposer.specs.Proposing.{Proposing}
 use Rattle.proposer.specs.Requests.{is_of}
 use Rattle.wire.specs.declared.frames.envelope.Envelope.{Envelope}
-use Rattle.minds.specs.Inputs.{is_short}
-use Rattle.minds.specs.Minds.{Mind, asked, position, waits, refuses_submit}
-use Rattle.minds.specs.Outputs.{Response, sent, silence}
-use Rattle.minds.specs.Taking.{with_proposer, with_request, after_submit, proposed, proposer_sends}
-use Rattle.minds.proofs.FaultLemmas.{no_fault}
+use Rattle.node_model.specs.Inputs.{is_short}
+use Rattle.node_model.specs.Minds.{Mind, asked, position, waits, refuses_submit}
+use Rattle.node_model.specs.Outputs.{Response, sent, silence}
+use Rattle.node_model.specs.Taking.{with_proposer, with_request, after_submit, proposed, proposer_sends}
+use Rattle.node_model.proofs.FaultLemmas.{no_fault}
 use Rattle.node.specs.Roles.{mind_of}
 use Rattle.node.proofs.roles.Roles.submit.Goals as goal
 

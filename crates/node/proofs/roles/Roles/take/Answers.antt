@@ -1,8 +1,8 @@
 use Rattle.std.proofs.Common.{inl, inr, refl}
 use Rattle.std.proofs.lemmas.Result.{IfErr-weaker}
-use Rattle.minds.specs.declared.input.Input.TheVariants as input
+use Rattle.node_model.specs.declared.input.Input.TheVariants as input
 use Rattle.node.specs.Roles.{mind_of}
-use Rattle.minds.proofs.FaultLemmas.{memory_alone, memory_or_refused, on_ok, made_none, storage_too}
+use Rattle.node_model.proofs.FaultLemmas.{memory_alone, memory_or_refused, on_ok, made_none, storage_too}
 use Rattle.node.proofs.roles.Roles.take.Goals as goal
 
 pub returns-in-Submit : goal.returns-in-Submit

@@ -1,8 +1,8 @@
 use Rattle.std.proofs.Common.{◌≡◌, refl, rules, ap, ◌∙◌, vec_len}
 use Rattle.node.specs.Seen.{state_of}
-use Rattle.history.specs.Worlds.{quiet, with_node}
+use Rattle.world_model.specs.Worlds.{quiet, with_node}
 use Rattle.world.specs.Runs.{run_of}
-use Rattle.history.proofs.FleetSteps.{armed_member}
+use Rattle.world_model.proofs.FleetSteps.{armed_member}
 use Rattle.world.proofs.Lent.{lent_fleet}
 use Rattle.world.proofs.WorldLemmas.{lent_at, left_by}
 use Rattle.world.proofs.run.Run.arm_node.Goals as goal

@@ -1,11 +1,11 @@
 use Rattle.std.proofs.Common.{◌≡◌, refl, rules, Ok, Err, vec_len}
 use Rattle.stable.specs.Storages.{scripted}
-use Rattle.minds.specs.Nodes.{NodeSteps}
+use Rattle.node_model.specs.Nodes.{NodeSteps}
 use Rattle.node.specs.Seen.{state_of}
-use Rattle.minds.specs.declared.input.Input.TheVariants as input
-use Rattle.history.specs.Worlds.{with_node, with_outcome, outcome_of}
+use Rattle.node_model.specs.declared.input.Input.TheVariants as input
+use Rattle.world_model.specs.Worlds.{with_node, with_outcome, outcome_of}
 use Rattle.world.specs.Runs.{run_of}
-use Rattle.history.proofs.RoundBeginnings.{fails_to_begin, refuses_to_begin}
+use Rattle.world_model.proofs.RoundBeginnings.{fails_to_begin, refuses_to_begin}
 use Rattle.world.proofs.Takings.{takes_lent, lent_keeps_fleet, lent_sends_between}
 use Rattle.world.proofs.WorldLemmas.{lent_at, left_by}
 use Rattle.world.proofs.run.Run.begin.Goals as goal

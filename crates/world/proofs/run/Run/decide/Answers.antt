@@ -1,10 +1,10 @@
 use Rattle.std.proofs.Common.{refl, rules, length, vec_len}
 use Rattle.std.proofs.lemmas.Option.{MatchOption-at_some}
 use Rattle.stable.specs.Storages.{scripted}
-use Rattle.history.specs.Rounds.{BreaksOff}
-use Rattle.history.specs.Rounds as rounds
+use Rattle.world_model.specs.Rounds.{BreaksOff}
+use Rattle.world_model.specs.Rounds as rounds
 use Rattle.world.specs.Runs.{run_of}
-use Rattle.history.proofs.RoundLemmas.{on_err, at_none, down_by, broken_by, decides_by, decides_in_part}
+use Rattle.world_model.proofs.RoundLemmas.{on_err, at_none, down_by, broken_by, decides_by, decides_in_part}
 use Rattle.world.proofs.run.Run.decide.Goals as goal
 
 -- the accepts: memory is wanting

@@ -2,7 +2,7 @@ use Rattle.std.proofs.Common.{inl, inr, refl, ◌≡◌, rules, ap, ◌∙◌, s
 use Rattle.std.proofs.lemmas.Option.{slice_get_read}
 use Rattle.std.proofs.lemmas.Result.{err_from_is_err_and}
 use Rattle.wire.specs.FrameSpelling.{Fits}
-use Rattle.history.specs.Worlds.{without_wait}
+use Rattle.world_model.specs.Worlds.{without_wait}
 use Rattle.world.specs.Runs.{run_of}
 use Rattle.world.proofs.Missing.{missing, frame_there, not_missing}
 use Rattle.world.proofs.WorldLemmas.{delivers_same}

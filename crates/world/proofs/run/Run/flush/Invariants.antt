@@ -1,5 +1,5 @@
 use Rattle.stable.specs.Storages.{scripted}
-use Rattle.history.specs.Flushing.{Delivers}
+use Rattle.world_model.specs.Flushing.{Delivers}
 use Rattle.world.specs.Runs.{run_of}
 use Rattle.world.proofs.run.Run.flush.Given as goal
 

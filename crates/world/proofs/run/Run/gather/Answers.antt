@@ -3,10 +3,10 @@ use Rattle.std.proofs.lemmas.Option.{MatchOption-at_some}
 use Rattle.std.proofs.lemmas.Result.{err_from_is_err_and}
 use Rattle.stable.specs.Storages.{scripted}
 use Rattle.wire.specs.declared.frames.envelope.Envelope.{Envelope}
-use Rattle.history.specs.Rounds.{BreaksOff, ComesThrough, NoneRefuses, IsGreatestTold}
-use Rattle.history.specs.Rounds as rounds
+use Rattle.world_model.specs.Rounds.{BreaksOff, ComesThrough, NoneRefuses, IsGreatestTold}
+use Rattle.world_model.specs.Rounds as rounds
 use Rattle.world.specs.Runs.{run_of}
-use Rattle.history.proofs.RoundLemmas.{at_none, sliced, moved, asked_by, answered_by, down_by, broken_by}
+use Rattle.world_model.proofs.RoundLemmas.{at_none, sliced, moved, asked_by, answered_by, down_by, broken_by}
 use Rattle.world.proofs.run.Run.gather.Goals as goal
 
 -- as many frames are lent as there are

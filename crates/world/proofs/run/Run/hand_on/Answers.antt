@@ -4,9 +4,9 @@ use Rattle.std.proofs.lemmas.Option.{slice_get_read}
 use Rattle.std.proofs.lemmas.Result.{err_from_is_err_and}
 use Rattle.stable.specs.Storages.{scripted}
 use Rattle.wire.specs.declared.frames.envelope.Envelope.{Envelope}
-use Rattle.history.specs.Rounds.{DeliversTo, nothing}
+use Rattle.world_model.specs.Rounds.{DeliversTo, nothing}
 use Rattle.world.specs.Runs.{run_of}
-use Rattle.history.proofs.RoundLemmas.{passed_by, came, delivered_frames}
+use Rattle.world_model.proofs.RoundLemmas.{passed_by, came, delivered_frames}
 use Rattle.world.proofs.Missing.{only_memory}
 use Rattle.world.proofs.run.Run.hand_on.Goals.{then-is_among+in_ok-deliver+else-not-is_up, else-is_among}
 use Rattle.world.proofs.run.Run.hand_on.Goals as goal

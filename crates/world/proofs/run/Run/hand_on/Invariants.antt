@@ -1,6 +1,6 @@
 use Rattle.std.proofs.Common.{◌≤◌, length}
 use Rattle.stable.specs.Storages.{scripted}
-use Rattle.history.specs.Rounds.{DeliversTo}
+use Rattle.world_model.specs.Rounds.{DeliversTo}
 use Rattle.world.specs.Runs.{run_of}
 use Rattle.world.proofs.run.Run.hand_on.Given as goal
 

@@ -1,5 +1,5 @@
 use Rattle.std.proofs.Common.{refl, rules, true, false, Ok, Err, vec_len}
-use Rattle.minds.specs.declared.input.Input.TheVariants as input
+use Rattle.node_model.specs.declared.input.Input.TheVariants as input
 use Rattle.world.specs.Runs.{run_of}
 use Rattle.world.proofs.Takings.{takes_lent, lent_keeps_fleet, lent_sends_between}
 use Rattle.world.proofs.run.Run.hear.Goals as goal

@@ -3,14 +3,14 @@ use Rattle.std.proofs.lemmas.Option.{MatchOption-at_some}
 use Rattle.std.proofs.lemmas.Result.{IfErr-at_err, IfOk-at_ok, err_from_is_err_and}
 use Rattle.stable.specs.Storages.{scripted}
 use Rattle.wire.specs.declared.frames.envelope.Envelope.{Envelope}
-use Rattle.minds.specs.declared.input.Input.TheVariants.{Timeout}
-use Rattle.history.specs.Worlds.{WorldState}
-use Rattle.history.specs.Rounds.{GoesOn, GoesToItsEnd}
-use Rattle.history.specs.Rounds as rounds
-use Rattle.history.specs.declared.round_end.RoundEnd.TheVariants.{Stopped}
+use Rattle.node_model.specs.declared.input.Input.TheVariants.{Timeout}
+use Rattle.world_model.specs.Worlds.{WorldState}
+use Rattle.world_model.specs.Rounds.{GoesOn, GoesToItsEnd}
+use Rattle.world_model.specs.Rounds as rounds
+use Rattle.world_model.specs.declared.round_end.RoundEnd.TheVariants.{Stopped}
 use Rattle.world.specs.Runs.{run_of}
-use Rattle.history.proofs.RoundLemmas.{at_none, begun_by, taken_frames}
-use Rattle.history.proofs.RoundBeginnings.{without}
+use Rattle.world_model.proofs.RoundLemmas.{at_none, begun_by, taken_frames}
+use Rattle.world_model.proofs.RoundBeginnings.{without}
 use Rattle.world.proofs.run.Run.hold.Goals as goal
 
 -- as many frames show as the world has that is the same

@@ -2,7 +2,7 @@ use Rattle.std.proofs.Common.{◌≡◌, ◌<◌, None, length, map, slice_get, 
 use Rattle.std.proofs.lemmas.Grind.{elements}
 use Rattle.node.specs.Seen.{state_of}
 use Rattle.world.specs.Runs.{run_of}
-use Rattle.history.proofs.RoundBeginnings.{behind_where, behind_nobody}
+use Rattle.world_model.proofs.RoundBeginnings.{behind_where, behind_nobody}
 use Rattle.world.proofs.WorldLemmas.{lent_at}
 use Rattle.world.proofs.run.Run.is_behind.Goals as goal
 

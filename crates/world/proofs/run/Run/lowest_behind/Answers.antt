@@ -2,9 +2,9 @@ use Rattle.std.proofs.Common.{ℕ, ◌<◌, vec_len, rules, arith}
 use Rattle.std.proofs.lemmas.List.{length-map}
 use Rattle.std.proofs.lemmas.List.Elements.{All-contains}
 use Rattle.node.specs.Seen.{state_of}
-use Rattle.history.specs.Rounds.{IsBehind}
+use Rattle.world_model.specs.Rounds.{IsBehind}
 use Rattle.world.specs.Runs.{run_of}
-use Rattle.history.proofs.RoundMembers.{next_member}
+use Rattle.world_model.proofs.RoundMembers.{next_member}
 use Rattle.world.proofs.run.Run.lowest_behind.Goals.{in-Some+else-is_among, else-is_among-via-then-is_among+else-is_behind}
 use Rattle.world.proofs.run.Run.lowest_behind.Goals.{else-is_among-via-else-is_among, in_default}
 use Rattle.world.proofs.run.Run.lowest_behind.Goals as goal

@@ -1,5 +1,5 @@
 use Rattle.std.proofs.Common.{ℕ, ◌<◌, Contains}
-use Rattle.history.specs.Rounds.{IsBehind}
+use Rattle.world_model.specs.Rounds.{IsBehind}
 use Rattle.world.specs.Runs.{run_of}
 use Rattle.world.proofs.run.Run.lowest_behind.Given as goal
 

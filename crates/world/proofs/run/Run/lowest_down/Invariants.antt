@@ -1,5 +1,5 @@
 use Rattle.std.proofs.Common.{◌≡◌, ℕ, ◌<◌, true, Contains}
-use Rattle.history.specs.Rounds.{is_up}
+use Rattle.world_model.specs.Rounds.{is_up}
 use Rattle.world.specs.Runs.{run_of}
 use Rattle.world.proofs.run.Run.lowest_down.Given as goal
 

@@ -1,9 +1,9 @@
 use Rattle.std.proofs.Common.{refl, rules, subst}
 use Rattle.stable.specs.Storages.{scripted}
-use Rattle.history.specs.Rounds.{IsQuorum, CanMeet}
+use Rattle.world_model.specs.Rounds.{IsQuorum, CanMeet}
 use Rattle.world.specs.Runs.{run_of}
-use Rattle.history.proofs.RoundLemmas.{at_none, meeting_ends, meeting_breaks}
-use Rattle.history.proofs.RoundMembers.{can_meet}
+use Rattle.world_model.proofs.RoundLemmas.{at_none, meeting_ends, meeting_breaks}
+use Rattle.world_model.proofs.RoundMembers.{can_meet}
 use Rattle.world.proofs.run.Run.meet.Goals as goal
 
 pub returns-clause-ends : goal.returns-clause-ends

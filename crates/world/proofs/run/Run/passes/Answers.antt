@@ -4,9 +4,9 @@ use Rattle.std.proofs.lemmas.List.Elements.{All-get_or}
 use Rattle.std.proofs.lemmas.List.{length-map}
 use Rattle.std.proofs.lemmas.Grind.{elements}
 use Rattle.node.specs.Seen.{state_of}
-use Rattle.minds.specs.Outputs.{silence}
-use Rattle.minds.specs.Sending.{IsBetween}
-use Rattle.history.specs.Worlds.{without_wait, quiet}
+use Rattle.node_model.specs.Outputs.{silence}
+use Rattle.node_model.specs.Sending.{IsBetween}
+use Rattle.world_model.specs.Worlds.{without_wait, quiet}
 use Rattle.world.specs.Runs.{run_of}
 use Rattle.world.proofs.WorldLemmas.{lent_at, nothing_comes}
 use Rattle.world.proofs.run.Run.passes.Goals as goal

@@ -1,5 +1,5 @@
 use Rattle.std.proofs.Common.{sym, subst}
-use Rattle.history.specs.Fleets.{IsFleet}
+use Rattle.world_model.specs.Fleets.{IsFleet}
 use Rattle.world.proofs.run.Run.record.Goals as goal
 
 -- the node shows what it showed before it had its room back

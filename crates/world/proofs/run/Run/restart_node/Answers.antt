@@ -1,9 +1,9 @@
 use Rattle.std.proofs.Common.{◌≡◌, refl, rules, subst, vec_len, None, Result, Ok, Err, OnOk}
-use Rattle.minds.specs.declared.fault.NodeFault.{NodeFault}
+use Rattle.node_model.specs.declared.fault.NodeFault.{NodeFault}
 use Rattle.node.specs.Seen.{state_of}
-use Rattle.history.specs.Worlds.{with_outcome, restart_outcome}
+use Rattle.world_model.specs.Worlds.{with_outcome, restart_outcome}
 use Rattle.world.specs.Runs.{run_of}
-use Rattle.history.proofs.FleetLemmas.{restart_leaves}
+use Rattle.world_model.proofs.FleetLemmas.{restart_leaves}
 use Rattle.world.proofs.Lent.{lent_fleet}
 use Rattle.world.proofs.WorldLemmas.{lent_at, left_by}
 use Rattle.world.proofs.run.Run.restart_node.Goals as goal

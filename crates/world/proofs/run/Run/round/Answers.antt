@@ -1,7 +1,7 @@
 use Rattle.std.proofs.Common.{subst, sym, arith}
 use Rattle.std.proofs.lemmas.Grind.{common_steps}
 use Rattle.stable.specs.Storages.{scripted}
-use Rattle.history.specs.Rounds.{IsPartOfRound, untold}
+use Rattle.world_model.specs.Rounds.{IsPartOfRound, untold}
 use Rattle.world.specs.Runs.{run_of}
 use Rattle.world.proofs.run.Run.round.Goals as goal
 

@@ -2,8 +2,8 @@ use Rattle.std.proofs.Common.{◌≡◌, ◌++◌, ◌∷◌, [], inl, inr, ℕ,
 use Rattle.std.proofs.lemmas.Result.{err_from_is_err_and}
 use Rattle.world.proofs.Missing.{counted, missing, node_there, not_missing}
 use Rattle.sessions.specs.Asked.{Asked}
-use Rattle.history.specs.declared.lists.Submission.{Submission}
-use Rattle.history.specs.Worlds.{WorldState, submission_of, with_submission}
+use Rattle.world_model.specs.declared.lists.Submission.{Submission}
+use Rattle.world_model.specs.Worlds.{WorldState, submission_of, with_submission}
 use Rattle.world.specs.Runs.{run_of}
 use Rattle.world.proofs.run.Run.submit.Goals as goal
 

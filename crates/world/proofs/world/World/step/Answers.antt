@@ -1,6 +1,6 @@
 use Rattle.std.proofs.Common.{rules}
 use Rattle.world.specs.Runs.{run_of}
-use Rattle.history.proofs.FiredLemmas.{step_keeps_few}
+use Rattle.world_model.proofs.FiredLemmas.{step_keeps_few}
 use Rattle.world.proofs.WorldSound.{step_kept, stays_safe}
 use Rattle.world.proofs.world.World.step.Goals as goal
 

@@ -1,9 +1,0 @@
-use Rattle.std.specs.Prelude.{◌≡◌}
-use Rattle.learner.specs.Learning.{unlearnt}
-use Rattle.learner.specs.State.{learning_of}
-use Rattle.benchmarks.specs.Learners.{Tells}
-use Rattle.benchmarks.specs.Steps.{Reached}
-use Rattle.benchmarks.proofs.learners.learner_of.Given as goal
-
-abbrev pub invariant-loop-telling : goal.invariant-loop-telling
-invariant-loop-telling l = Reached (λ s. s ≡ unlearnt 3) Tells l.telling (learning_of l.learner)

@@ -1,6 +1,0 @@
-use Rattle.benchmarks.specs.Indexes.{entries_of, IsOverlapNumber}
-use Rattle.benchmarks.specs.Sums.{SumsTo}
-use Rattle.benchmarks.proofs.parts.overlapping_total.Given as goal
-
-abbrev pub invariant-loop-round : goal.invariant-loop-round
-invariant-loop-round l = SumsTo (IsOverlapNumber (entries_of l.entries) l.entries) l.round l.total

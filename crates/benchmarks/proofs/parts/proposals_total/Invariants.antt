@@ -1,6 +1,0 @@
-use Rattle.benchmarks.specs.Leaders.{leading_of, IsLeader, IsProposing}
-use Rattle.benchmarks.proofs.Stepping.{Counted}
-use Rattle.benchmarks.proofs.parts.proposals_total.Given as goal
-
-abbrev pub invariant-loop-round : goal.invariant-loop-round
-invariant-loop-round l = Counted (IsLeader l.waiting) (IsProposing l.waiting) l.round l.total (leading_of l.leader)

@@ -1,9 +1,0 @@
-use Rattle.benchmarks.specs.Rounds.{Answers}
-use Rattle.benchmarks.specs.declared.task.SceneWork.TheVariants.{Check}
-use Rattle.benchmarks.proofs.Adding.{sum_of_more}
-use Rattle.benchmarks.proofs.rounds.check_total.Goals as goal
-
-pub loop-round-preserved : goal.loop-round-preserved
-loop-round-preserved c =
-    sum_of_more (Answers Check c.args.scene.now) c.loop-round.round c.loop-round.total c.in_ok-number.number c.loop-round.invariant
-    c.in_ok-number.ensures

@@ -1,7 +1,0 @@
-use Rattle.benchmarks.specs.Rounds.{Answers}
-use Rattle.benchmarks.specs.declared.task.SceneWork.TheVariants.{Check}
-use Rattle.benchmarks.specs.Sums.{SumsTo}
-use Rattle.benchmarks.proofs.rounds.check_total.Given as goal
-
-abbrev pub invariant-loop-round : goal.invariant-loop-round
-invariant-loop-round l = SumsTo (Answers Check l.scene) l.round l.total

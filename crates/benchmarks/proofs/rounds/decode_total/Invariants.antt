@@ -1,7 +1,0 @@
-use Rattle.benchmarks.specs.Rounds.{Answers}
-use Rattle.benchmarks.specs.declared.task.SceneWork.TheVariants.{Decode}
-use Rattle.benchmarks.specs.Sums.{SumsTo}
-use Rattle.benchmarks.proofs.rounds.decode_total.Given as goal
-
-abbrev pub invariant-loop-round : goal.invariant-loop-round
-invariant-loop-round l = SumsTo (Answers (Decode l.sent) l.scene) l.round l.total

@@ -1,5 +1,0 @@
-use Rattle.benchmarks.specs.Scenes.{AreFixes}
-use Rattle.benchmarks.proofs.scene.fixes.Given as goal
-
-abbrev pub invariant-loop-k : goal.invariant-loop-k
-invariant-loop-k l = AreFixes l.k l.points.items

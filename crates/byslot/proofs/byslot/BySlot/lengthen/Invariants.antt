@@ -1,8 +1,0 @@
-use Rattle.std.proofs.Common.{◌≡◌, ◌≤◌, ◌+◌, length}
-use Rattle.byslot.specs.Values.{value_at}
-use Rattle.byslot.proofs.byslot.BySlot.lengthen.Given as goal
-
-abbrev pub invariant-loop-next : goal.invariant-loop-next
-invariant-loop-next g l =
-    (value_at l.self ≡ value_at l.initial.self) × (length l.self.row.items + l.end ≤ length l.initial.self.row.items + l.next)
-    × (l.next ≤ l.end + 64)

@@ -1,0 +1,4 @@
+pub mod Failures
+pub mod Loops
+pub mod Streams
+pub mod Works

@@ -1,0 +1,125 @@
+-- What a work makes of bytes, and how one ends that makes nothing.
+use Rattle.std.specs.Prelude.{◌≡◌, ◌≢◌, ℕ, List, [], ◌∷◌, ◌++◌}
+use Rattle.mfjson.specs.Document.{IsCanonical, IsDocumentOf}
+use Rattle.mfjson.specs.Faults.{IsFaultOf, code_of, index_of}
+use Rattle.mfjson.specs.declared.fault.MfFault.{MfFault}
+use Rattle.mfjson.specs.declared.fault.MfFault.TheVariants as document
+use Rattle.mfjson.specs.declared.feature.Feature.{Feature}
+use Rattle.stable.specs.Memory.{in_memory}
+use Rattle.stable.specs.Script.{Script}
+use Rattle.stable.specs.Storages.{scripted}
+use Rattle.stable.specs.declared.memory.MemStable.{MemStable}
+use Rattle.stable.specs.declared.stable.Stable.{Ghosts}
+use Rattle.replay.specs.Causes.{cause_code, fault_of}
+use Rattle.replay.specs.Runs.{EndsOver, ReplayEnds}
+use Rattle.schedule.specs.Schedules.{IsRefusal, IsScheduleOf, Plan}
+use Rattle.schedule.specs.declared.fault.ParseFault.{ParseFault}
+use Rattle.replay.specs.declared.replay_fault.ReplayCause.TheVariants as cause
+use Rattle.replay.specs.declared.replay_fault.ReplayFault.{ReplayFault}
+use Rattle.world_model.specs.Flushing.{IsStart}
+use Rattle.cluster.specs.Clusters.{ClusterState}
+use Rattle.cluster.specs.declared.transport.Transport.{Ghosts as Transports}
+use Rattle.commands.specs.Loops.{RunFails, RunsTo}
+use Rattle.commands.specs.declared.failure.Failure.{Failure}
+use Rattle.commands.specs.declared.failure.Failure.TheVariants as failure
+use Rattle.commands.specs.declared.failure.FaultyDocument.{FaultyDocument}
+use Rattle.commands.specs.declared.failure.FaultyLine.{FaultyLine}
+
+-- ---- a check
+-- the bytes are a document of a feature, and the text is that feature's canonical document and a line feed
+pub record IsChecked (bytes text : List ℕ) : Type 0 where
+  pub feature : Feature
+  pub is_document : IsDocumentOf bytes feature
+  pub canonical : List ℕ
+  pub is_canonical : IsCanonical canonical feature
+  pub line : text ≡ canonical ++ 10 ∷ []
+
+-- the bytes have this fault, and not for want of memory
+pub record IsNoDocument (bytes : List ℕ) (at : FaultyDocument) : Type 0 where
+  pub fault : MfFault
+  pub is_fault : IsFaultOf bytes fault
+  pub cause : fault ≢ document.Memory
+  pub told : at ≡ record { fault = code_of fault; index = index_of fault }
+
+-- a check ends so on these bytes, and makes nothing of them
+abbrev pub CheckStops : List ℕ → Failure → Type 0
+CheckStops bytes (failure.Document at) = IsNoDocument bytes at
+CheckStops bytes other = ⊥
+
+-- over storages of which it is known what their calls may do
+module _ {S : Type 0} (storages : Ghosts (Script S)) where
+  -- ---- a replay
+  -- the replay of the bytes ends at this line, with this number, and not for want of memory
+  pub record EndsAtLine (bytes : List ℕ) (at : FaultyLine) : Type 0 where
+    pub fault : ReplayFault
+    pub ends : ReplayEnds storages bytes fault
+    pub cause : fault.cause ≢ cause.Memory
+    pub told : at ≡ record { line = fault.line; fault = cause_code fault.cause }
+
+  -- it ends so, and makes nothing of them
+  abbrev pub ReplayStops : List ℕ → Failure → Type 0
+  ReplayStops bytes (failure.Schedule at) = EndsAtLine bytes at
+  ReplayStops bytes other = ⊥
+
+-- ---- a replay in two parts
+-- the replay of the bytes ended as they were read, at this line, with this number, and not for want of memory
+pub record IsUnreadAt (bytes : List ℕ) (at : FaultyLine) : Type 0 where
+  pub refusal : ParseFault
+  pub refused : IsRefusal bytes refusal
+  pub cause : (fault_of refusal).cause ≢ cause.Memory
+  pub told : at ≡ record { line = (fault_of refusal).line; fault = cause_code (fault_of refusal).cause }
+
+abbrev pub IsUnread : List ℕ → Failure → Type 0
+IsUnread bytes (failure.Schedule at) = IsUnreadAt bytes at
+IsUnread bytes other = ⊥
+
+-- over storages that are handed over, which are known by what their own calls may do
+module _ {S : Type 0} (storages : Ghosts S) (stores : List S) (plan : Plan) where
+  -- the run ends at this line, with this number
+  pub record StopsAtLine (at : FaultyLine) : Type 0 where
+    pub fault : ReplayFault
+    pub ends : EndsOver storages stores plan fault
+    pub begun : fault.cause ≢ cause.NotEmpty
+    pub cause : fault.cause ≢ cause.Memory
+    pub told : at ≡ record { line = fault.line; fault = cause_code fault.cause }
+
+  -- a storage holds a record already
+  pub record StopsAtOnce : Type 0 where
+    pub fault : ReplayFault
+    pub ends : EndsOver storages stores plan fault
+    pub used : fault.cause ≡ cause.NotEmpty
+
+  abbrev pub StopsOver : Failure → Type 0
+  StopsOver (failure.Schedule at) = StopsAtLine at
+  StopsOver failure.NotEmpty = StopsAtOnce
+  StopsOver other = ⊥
+
+-- ---- a run through a transport
+-- a fresh world of so many nodes, with records in memory, whose frames go through this transport, and no stranger yet
+pub record IsJoined {T : Type 0} (nodes : ℕ) (transport : T) (c : ClusterState MemStable T) : Type 0 where
+  pub starts : IsStart (scripted in_memory) nodes c.pumped.world
+  pub no_strangers : c.pumped.strangers ≡ 0
+  pub through : c.transport ≡ transport
+
+-- one that is handed over, which is known by what its calls may do
+module _ {T : Type 0} (transports : Transports T) (transport : T) (plan : Plan) where
+  -- the text is what the lines lead a fresh cluster to tell
+  pub record IsLoopedOver (text : List ℕ) : Type 0 where
+    pub start : ClusterState MemStable T
+    pub joined : IsJoined plan.nodes transport start
+    pub end : ClusterState MemStable T
+    pub runs : RunsTo transports plan start text end
+
+  -- the run ends at this line, with this number, and not for want of memory
+  pub record LoopStopsAtLine (at : FaultyLine) : Type 0 where
+    pub start : ClusterState MemStable T
+    pub joined : IsJoined plan.nodes transport start
+    pub fault : ReplayFault
+    pub end : ClusterState MemStable T
+    pub fails : RunFails transports plan start fault end
+    pub cause : fault.cause ≢ cause.Memory
+    pub told : at ≡ record { line = fault.line; fault = cause_code fault.cause }
+
+  abbrev pub LoopStopsOver : Failure → Type 0
+  LoopStopsOver (failure.Schedule at) = LoopStopsAtLine at
+  LoopStopsOver other = ⊥

@@ -1,0 +1,190 @@
+//! Timed loops over queries, documents, commands, frames and the parts of a node; vectors from outside; and every example.
+//!
+//! `conformance WORK SIZE ROUNDS` does one work so many times, on a moving point of so many points or a part of a node with so
+//! many entries, and prints the sum of the answers, which is the same on every machine. It reads no clock: the scripts in
+//! `bench/` do. Without arguments it does so for each line of the input. The expected sums in `stdout` come from the definitions,
+//! by other programs. A line `frame NODES FRAME` or `vote RECORD`, in hexadecimal, is decoded and encoded again; `document TEXT`
+//! is answered with the canonical document; each with its fault where it has one. A line `examples` runs every example of the
+//! folder.
+//!
+//! `task` parses the words, `scene` makes a moving point and what is asked of it. `numbers`, `queries`, `operations`,
+//! `documents`, `execution` and `messages` turn answers into numbers, and `rounds` adds these up. `learners`, `acceptors`,
+//! `leader` and `indexes` do so for the parts of a node, with `requests`, and `parts` adds these up. `texts` has the snapshot text
+//! of a machine, and `logs` the votes in a storage in memory.
+#![tactic(auto)]
+
+mod acceptors;
+mod carrying;
+mod documents;
+mod examples;
+mod execution;
+mod fault;
+mod fleet;
+mod indexes;
+mod leader;
+mod learners;
+mod logs;
+mod messages;
+mod numbers;
+mod operations;
+mod outcome;
+mod outside;
+mod parts;
+mod queries;
+mod requests;
+mod rounds;
+mod scene;
+mod task;
+mod texts;
+
+ghost use Rattle.std.specs.Prelude.{◌≡◌, ◌≢◌, IfOk, map, string_bytes};
+ghost use Rattle.std.specs.IoError.{error_kind};
+ghost use Rattle.std.specs.Process.{exit_status};
+ghost use Rattle.conformance.specs.Faults.{status_of};
+ghost use Rattle.conformance.specs.Rounds.{IsSumOf};
+ghost use Rattle.conformance.specs.Tasks.{Asks};
+
+use crate::examples::run_examples;
+use crate::fault::Fault;
+use crate::logs::log_total;
+use crate::outside::{document_again, frame_again, vote_again};
+use crate::parts::part_total;
+use crate::rounds::scene_total;
+use crate::scene::Scene;
+use crate::task::{Task, Work, task_of};
+use crate::texts::text_total;
+use std::alloc::Global;
+use std::env;
+use std::fmt::Display;
+use std::io::{self, ErrorKind, Read};
+use std::process::ExitCode;
+
+fn main(rt: HostRuntime) -> ExitCode {
+    match answered(&rt) {
+        Ok(()) => ExitCode::SUCCESS,
+        Err(fault) => told(&rt, fault),
+    }
+}
+
+/// Prints the sum of the task that the words after the program's name ask for, or where there are none, what each line of the
+/// input comes to.
+fn answered(rt: &HostRuntime) -> Result<(), Fault> {
+    let words = own_words(rt)?;
+    if words.is_empty() {
+        return answer_lines(rt);
+    }
+    let sum = sum_of(rt, words.as_slice())?;
+    print(rt, Ok(sum))
+}
+
+/// The words after the program's name.
+fn own_words(rt: &HostRuntime) -> Result<Vec<String>, Fault> {
+    let all = match env::args(rt) {
+        Ok(all) => all,
+        Err(error) => return Err(words_fault(&error)),
+    };
+    let mut words = Vec::new(rt.alloc());
+    for word in all.skip(1) {
+        words.push(word)?;
+    }
+    Ok(words)
+}
+
+/// Prints for each line of the input the sum of the task that its words ask for, or what is read again, or why there is none.
+fn answer_lines(rt: &HostRuntime) -> Result<(), Fault> {
+    let mut lines = String::new(rt.alloc());
+    if rt.stdin().read_to_string(&mut lines).is_err() {
+        return Err(Fault::Device);
+    }
+    for line in lines.lines() {
+        answer_line(rt, line)?;
+    }
+    Ok(())
+}
+
+/// Prints what a line comes to. One example that comes to something else ends the run.
+fn answer_line(rt: &HostRuntime, line: &str) -> Result<(), Fault> {
+    if line == "examples" {
+        return run_examples(rt);
+    }
+    match again(rt.alloc(), line) {
+        Some(told) => print(rt, told),
+        None => print(rt, answer(rt, line)),
+    }
+}
+
+/// What a line comes to that has a frame, a vote or a document; None where it has none.
+fn again(alloc: Global, line: &str) -> Option<Result<String, Fault>> {
+    let (kind, behind) = line.split_once(' ').unwrap_or((line, ""));
+    match kind {
+        "frame" => Some(frame_again(alloc, behind)),
+        "vote" => Some(vote_again(alloc, behind)),
+        "document" => Some(document_again(alloc, behind)),
+        _ => None,
+    }
+}
+
+/// Prints what a line of the input comes to, or why it comes to nothing.
+fn print<T: Display + Drop>(rt: &HostRuntime, told: Result<T, Fault>) -> Result<(), Fault> {
+    let printed = match told {
+        Ok(answer) => println!(rt; "{answer}"),
+        Err(fault) => println!(rt; "{fault}"),
+    };
+    match printed {
+        Ok(()) => Ok(()),
+        Err(_) => Err(Fault::Device),
+    }
+}
+
+/// The sum of the task that the words of the line ask for, which lie apart by blanks.
+fn answer(rt: &HostRuntime, line: &str) -> Result<u64, Fault> {
+    let mut words = Vec::new(rt.alloc());
+    for word in line.split(' ') {
+        words.push(String::from_str(rt.alloc(), word)?)?;
+    }
+    sum_of(rt, words.as_slice())
+}
+
+/// The sum of the task that the words ask for.
+fn sum_of(rt: &HostRuntime, words: &[String]) -> Result<u64, Fault>
+    ensures { IfOk result (λ n. (task : Task) × Asks (map string_bytes words.now) task × IsSumOf task n) }
+{
+    match task_of(words) {
+        Some(task) => sum(rt, task),
+        None => Err(Fault::Usage),
+    }
+}
+
+/// What words that can't be had are to the program: those that are no text ask for nothing.
+fn words_fault(error: &io::Error) -> Fault
+    ensures memory { error_kind error.now ≡ ErrorKind.OutOfMemory → result ≡ Fault.Memory }
+    ensures usage { error_kind error.now ≢ ErrorKind.OutOfMemory → result ≡ Fault.Usage }
+{
+    match error.kind() {
+        ErrorKind::OutOfMemory => Fault::Memory,
+        _ => Fault::Usage,
+    }
+}
+
+/// The sum of what the task's rounds answer.
+fn sum(rt: &HostRuntime, task: Task) -> Result<u64, Fault>
+    ensures { IfOk result (IsSumOf task) }
+{
+    match task.work {
+        Work::Scene(work) => {
+            let scene = Scene::new(rt.alloc(), task.size)?;
+            scene_total(rt.alloc(), work, &scene, task.rounds)
+        }
+        Work::Part(work) => part_total(rt.alloc(), work, task.size, task.rounds),
+        Work::Text(work) => text_total(rt.alloc(), work, task.size, task.rounds),
+        Work::Log(work) => log_total(rt.alloc(), work, task.size, task.rounds),
+    }
+}
+
+/// Says why nothing is done, and the status that tells it.
+fn told(rt: &HostRuntime, fault: Fault) -> ExitCode
+    ensures { exit_status result ≡ status_of fault }
+{
+    let _ = eprintln!(rt; "conformance: {fault}");
+    ExitCode::from(fault.status())
+}

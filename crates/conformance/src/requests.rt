@@ -1,0 +1,45 @@
+//! The requests that parts of a node deal with.
+
+ghost use Rattle.std.specs.Prelude.{◌≡◌, ◌≤◌, ◌<◌, IfOk};
+ghost use Rattle.synod.specs.declared.slot.TheConstants.{SLOTS};
+ghost use Rattle.conformance.specs.Requests.{request_of, vote_at};
+
+use crate::fault::Fault;
+use crate::fleet::name;
+use crate::messages::first_ballot;
+use crate::scene::{START, instant};
+use sessions::{Command, Number, Request};
+use std::alloc::Global;
+use store::Op;
+use synod::{Slot, Vote};
+use tpoint::Point;
+use wire::Held;
+
+/// The client of all requests.
+pub const CLIENT: u8 = 7;
+
+/// The client's request of a number: it adds a point.
+pub fn request(number: u64) -> Result<Request, Fault>
+    requires { 1 ≤ number }
+    ensures { IfOk result (λ request. request ≡ request_of number) }
+{
+    let point = Point {
+        t: instant(START),
+        x: 0,
+        y: 0,
+    };
+    let op = Op::append(name(0), point).unwrap();
+    Ok(Request::new(CLIENT, Number::new(number).unwrap(), op)?)
+}
+
+/// The vote at a slot, under the first ballot, for a request of its own.
+pub fn vote(alloc: Global, slot: u32) -> Result<Vote<Held>, Fault>
+    requires { slot < SLOTS }
+    ensures { IfOk result (λ vote. vote ≡ vote_at slot) }
+{
+    Ok(Vote {
+        slot: Slot::new(slot).unwrap(),
+        ballot: first_ballot(),
+        command: Held::new(alloc, Command::Request(request(u64::from(slot) + 1)?))?,
+    })
+}

@@ -1,5 +1,0 @@
-use Rattle.history.proofs.ArmedReads.{armed_reads_fire}
-use Rattle.history.proofs.laws.armed_reads_fire.Goals as goal
-
-pub returns : goal.returns
-returns g c = armed_reads_fire g.S.Stable

@@ -1,5 +1,0 @@
-use Rattle.history.proofs.OneReply.{replies_one}
-use Rattle.history.proofs.laws.replies_are_one.Goals as goal
-
-pub returns : goal.returns
-returns g c = replies_one

@@ -1,9 +1,0 @@
--- What a world lists, to the protocol.
-use Rattle.synod.specs.History as history
-use Rattle.sessions.specs.declared.command.Command.{Command}
-use Rattle.history.specs.declared.lists.Learnt.{Learnt}
-pub use Rattle.minds.specs.Protocol.{fleet, frame_of}
-pub use Rattle.history.specs.Submissions.{asked_of, command_of}
-
-abbrev pub learnt_as : Learnt → history.Lesson Command
-learnt_as l = record { node = l.node; slot = l.slot; command = l.command }

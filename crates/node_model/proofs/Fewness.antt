@@ -1,0 +1,380 @@
+-- What a node says on one input is not much.
+use Rattle.std.proofs.Common.{◌≡◌, ◌||◌, ℕ, zero, suc, ◌+◌, ◌-◌, ◌*◌, ◌<◌, ◌≤◌, nat_lt, nat_le, min, Bool, true, false, cond, not, List, []}
+use Rattle.std.proofs.Common.{◌∷◌, length, filter, map, Option, Some, None, Result, Ok, Err, IfOk, IfSome, refl, sym, ap, ◌∙◌, subst}
+use Rattle.std.proofs.Common.{◌==◌, if◌then◌else◌, arith, is_some, ◌⊎◌, inl, inr}
+use Rattle.std.specs.List.{list_any}
+use Rattle.std.proofs.Math.Nat.{min-le_left}
+use Rattle.std.proofs.lemmas.Bool.{cond_both}
+use Rattle.std.proofs.lemmas.Bool.Decides.{eqb_tells}
+use Rattle.std.proofs.lemmas.List.{length-append, length-map}
+use Rattle.std.proofs.lemmas.List.Elements.{filter-append}
+use Rattle.std.proofs.lemmas.List.Sums.{length-filter, count_by-le-length}
+use Rattle.synod.specs.declared.ballot.Ballot.{Ballot}
+use Rattle.synod.specs.declared.slot.TheConstants.{SLOTS}
+use Rattle.sessions.specs.Asked.{Asked}
+use Rattle.sessions.specs.Machines.{MachineState}
+use Rattle.sessions.specs.declared.command.Command.{Command}
+use Rattle.sessions.specs.declared.command.Command.TheVariants.{NoOp, Request}
+use Rattle.acceptor.specs.Accepting.{Accepting, accept_answer}
+use Rattle.acceptor.specs.declared.answer.Answer.{Answer}
+use Rattle.acceptor.specs.declared.answer.Answer.TheVariants as answer
+use Rattle.learner.specs.Learning.{Learning, prefix, learnt_at}
+use Rattle.learner.specs.declared.learned.Learned.{Learned}
+use Rattle.proposer.specs.Campaigning.{Campaigning, Filling, is_at, stepped, proposing, going_on, filled, window_filled, accept, choice}
+use Rattle.proposer.specs.Campaigning.{closed_below}
+use Rattle.proposer.specs.Proposing.{Proposing, gathers, gathers_on, leads, proposes, sends_again, with_promised}
+use Rattle.proposer.specs.Requests.{is_of, without}
+use Rattle.proposer.specs.declared.outgoing.Outgoing.{Outgoing}
+use Rattle.proposer.specs.declared.outgoing.Recipients.{Recipients}
+use Rattle.proposer.specs.declared.outgoing.Recipients.TheVariants.{All, Others}
+use Rattle.proposer.specs.declared.window.TheConstants.{MOST_OPEN}
+use Rattle.wire.specs.NodeSets.{has_node, no_nodes, with_node}
+use Rattle.wire.specs.Parts.{Piece, piece_of}
+use Rattle.wire.specs.declared.frames.envelope.Envelope.{Envelope}
+use Rattle.wire.specs.declared.frames.message.Message.{Message}
+use Rattle.wire.specs.declared.frames.message.Message.TheVariants.{Prepare, Promise, Nack, Accept, Accepted, Ask, Decided, SnapAsk, SnapPart, Behind}
+use Rattle.node_model.specs.declared.fault.NodeFault.{NodeFault}
+use Rattle.node_model.specs.declared.input.Input.{Input}
+use Rattle.node_model.specs.declared.input.Input.TheVariants as input
+use Rattle.node_model.specs.Executing.{Executing, executing, executed, reply_at}
+use Rattle.node_model.specs.Fetching.{Fetching, next_part}
+use Rattle.node_model.specs.Inputs.{concerns}
+use Rattle.node_model.specs.Minds.{Mind, IsSmall, position, asked, waits}
+use Rattle.node_model.specs.Outputs.{Response, IsFew}
+use Rattle.node_model.specs.Sending.{to_one, to_all, to_recipients, envelopes_of, envelopes, answer_sends, decided_sends, ask_sends}
+use Rattle.node_model.specs.Taking.{Takes, TakesEnvelope, TakesMessage, Hears, begins_to_lead, after_counting, with_request, after_submit}
+use Rattle.node_model.specs.Sending.{to_others, part_sends, snapshot_sends}
+use Rattle.node_model.specs.Taking.{executing_of, execution, after_news, after_promise, news, proposer_of, executed_to_the_end, learnt_from}
+use Rattle.node_model.specs.Taking.{execution_from, HearsOfFloor, TakesPart, RestoresText, Restores, is_ahead, asks_for, asks_again}
+use Rattle.node_model.specs.Taking.TakesPart.{passes as part_passes, keeps, completes}
+use Rattle.node_model.specs.Taking.RestoresText.{restores, gives_up}
+
+-- ---- messages to nodes
+to_all-length : (from n : ℕ) (m : Message) → length (to_all from n m) ≡ n
+to_all-length from zero m = refl
+to_all-length from (suc n) m =
+    let both : length (to_all from (suc n) m) ≡ length (to_all from n m) + 1 = length-append (to_all from n m) (to_one from n m) in
+    omega (arith, both, to_all-length from n m)
+
+filter_few : {A : Type 0} (p : A → Bool) (xs : List A) → length (filter p xs) ≤ length xs
+filter_few p xs =
+    let count = length-filter p xs in
+    let few = count_by-le-length p xs in
+    omega (arith, count, few)
+
+some_few : (r : Recipients) (es : List Envelope) → length (to_recipients r es) ≤ length es
+some_few All es = omega arith
+some_few (Others set) es = filter_few (λ (e : Envelope). not (has_node set e.to)) es
+
+outgoing_few : (from n : ℕ) (o : Outgoing) → n ≤ 7 → length (envelopes_of from n o) ≤ 7
+outgoing_few from n o few =
+    let some = some_few o.to (to_all from n o.message) in
+    omega (arith, few, some, to_all-length from n o.message)
+
+envelopes_few : (from n : ℕ) (os : List Outgoing) → n ≤ 7 → length (envelopes from n os) ≤ 7 * length os
+envelopes_few from n [] few = omega arith
+envelopes_few from n (o ∷ os) few =
+    let both : length (envelopes from n (o ∷ os)) ≡ length (envelopes_of from n o) + length (envelopes from n os) =
+    length-append (envelopes_of from n o) (envelopes from n os) in
+    let first = outgoing_few from n o few in
+    let rest = envelopes_few from n os few in
+    omega (arith, both, first, rest)
+
+answers_few : (from n to : ℕ) (a : Answer) → n ≤ 7 → length (answer_sends from n to a) ≤ 7
+answers_few from n to (answer.Promise p) few = omega arith
+answers_few from n to (answer.Accepted v) few = omega (arith, few, to_all-length from n (Accepted v))
+answers_few from n to (answer.Nack v) few = omega arith
+answers_few from n to (answer.Behind floor) few = omega arith
+
+-- a message to one node where a test holds
+one_few : (b : Bool) (from to : ℕ) (m : Message) → length (if b then to_one from to m else []) ≤ 1
+one_few b from to m =
+    cond_both b (to_one from to m) [] (λ (es : List Envelope). length es ≤ 1) (λ _. omega arith) (λ _. omega arith)
+
+tells_few : (from to slot floor : ℕ) (o : Option Command) → length (decided_sends from to slot floor o) ≤ 1
+tells_few from to slot floor None = one_few (nat_lt slot floor) from to (Behind floor)
+tells_few from to slot floor (Some c) = omega arith
+
+asks_few : (from to slot : ℕ) → length (ask_sends from to slot) ≤ 1
+asks_few from to slot = one_few (nat_lt slot SLOTS) from to (Ask slot)
+
+part_few : (from to : ℕ) (o : Option Piece) → length (part_sends from to o) ≤ 1
+part_few from to None = omega arith
+part_few from to (Some p) = omega arith
+
+snapshot_few : (a : Accepting) (from to target number : ℕ) → length (snapshot_sends a from to target number) ≤ 1
+snapshot_few a from to target number =
+    cond_both (a.floor == target) (part_sends from to (piece_of target a.text number))
+    (if nat_lt target a.floor then to_one from to (Behind a.floor) else []) (λ (es : List Envelope). length es ≤ 1)
+    (λ _. part_few from to (piece_of target a.text number)) (λ _. one_few (nat_lt target a.floor) from to (Behind a.floor))
+
+-- ---- messages to all nodes but one
+itself : (id : ℕ) → id < 7 → has_node (with_node no_nodes id) id ≡ true
+itself zero few = refl
+itself (suc zero) few = refl
+itself (suc (suc zero)) few = refl
+itself (suc (suc (suc zero))) few = refl
+itself (suc (suc (suc (suc zero)))) few = refl
+itself (suc (suc (suc (suc (suc zero))))) few = refl
+itself (suc (suc (suc (suc (suc (suc zero)))))) few = refl
+itself (suc (suc (suc (suc (suc (suc (suc n))))))) few = absurd (omega (arith, few))
+
+same_or_less : (n id : ℕ) → id < suc n → (n ≡ id) ⊎ (id < n)
+same_or_less n id there = grind (arith)
+
+below : (n id : ℕ) → id < suc n → (n ≡ id → ⊥) → id < n
+below n id there other = elim (same_or_less n id there) [ inl same ↦ absurd (other same) | inr less ↦ less ]
+
+six_or_seven : (n : ℕ) → n ≤ 7 → (n ≤ 6) ⊎ (n ≡ 7)
+six_or_seven n few = grind (arith)
+
+module _ (set : List Bool) (id from : ℕ) (m : Message) (in_set : has_node set id ≡ true) where
+  abbrev passes : Envelope → Bool
+  passes e = not (has_node set e.to)
+
+  last_fails : (n : ℕ) → n ≡ id → filter passes (to_one from n m) ≡ []
+  last_fails n e =
+      ap (λ (i : ℕ). filter passes (to_one from i m)) e
+      ∙ ap (λ (b : Bool). cond (not b) (to_one from id m) []) in_set
+
+  one_fewer : (n : ℕ) → id < n → length (filter passes (to_all from n m)) + 1 ≤ n
+  one_fewer zero there = absurd (omega (arith, there))
+  one_fewer (suc n) there =
+      let parts : length (filter passes (to_all from (suc n) m))
+      ≡ length (filter passes (to_all from n m)) + length (filter passes (to_one from n m)) =
+      ap length (filter-append passes (to_all from n m) (to_one from n m))
+      ∙ length-append (filter passes (to_all from n m)) (filter passes (to_one from n m)) in
+      elim (eqb_tells n id) [
+        | inl same ↦ (let none : length (filter passes (to_one from n m)) ≡ 0 = ap length (last_fails n same.1) in
+            let before = filter_few passes (to_all from n m) in
+            omega (arith, parts, none, before, to_all-length from n m))
+        | inr other ↦ (let one = filter_few passes (to_one from n m) in
+            let before = one_fewer n (below n id there other.1) in
+            omega (arith, parts, one, before))
+      ]
+
+others_few : (id n : ℕ) (m : Message) → id < 7 → n ≤ 7 → length (to_others id n m) ≤ 6
+others_few id n m number few = elim (six_or_seven n few) [
+  | inl six ↦ (let some = some_few (Others (with_node no_nodes id)) (to_all id n m) in omega (arith, six, some, to_all-length id n m))
+  | inr seven ↦ (let some = one_fewer (with_node no_nodes id) id id m (itself id number) n (omega (arith, number, seven)) in
+      omega (arith, few, some))
+]
+
+again_asks_few : (id n slot : ℕ) (o : Option Fetching) → id < 7 → n ≤ 7 → length (asks_for id n slot o) ≤ 6
+again_asks_few id n slot None number few =
+    cond_both (nat_lt slot SLOTS) (to_others id n (Ask slot)) [] (λ (es : List Envelope). length es ≤ 6)
+    (λ _. others_few id n (Ask slot) number few) (λ _. omega arith)
+again_asks_few id n slot (Some f) number few = others_few id n (SnapAsk f.target (next_part f)) number few
+
+-- ---- a proposer
+-- a slot of the window is gone through, and a message at most is sent
+abbrev OneMore : Filling → Option Filling → Type 0
+OneMore f o = IfSome o (λ (g : Filling). length g.sent ≤ length f.sent + 1)
+
+proposing_few : (b : Ballot) (slot : ℕ) (f : Filling) (o : Option Command) → OneMore f (proposing b slot f o)
+proposing_few b slot f None = tt
+proposing_few b slot f (Some c) =
+    let both = length-append f.sent (accept b (record { slot = slot; command = c }) ∷ []) in omega (arith, both)
+
+stepped_few : (k : Campaigning) (waiting : List Asked) (learnt_to : ℕ) (learnt : Bool) (slot : ℕ) (f : Filling)
+    → OneMore f (stepped k waiting learnt_to learnt slot f)
+stepped_few k waiting learnt_to learnt slot f =
+    cond_both (learnt || list_any (is_at slot) f.proposals) _ _ (OneMore f) (λ _. omega arith)
+    (λ _. cond_both (nat_le MOST_OPEN (length f.proposals)) _ _ (OneMore f) (λ _. tt)
+    (λ _. proposing_few k.ballot slot f (choice k waiting learnt_to slot f.proposals)))
+
+going_few : (o : Option Filling) (f : Filling) (rest : Filling → Filling) (n : ℕ) → OneMore f o
+    → ((g : Filling) → length (rest g).sent ≤ length g.sent + n) → length (going_on o f rest).sent ≤ length f.sent + suc n
+going_few None f rest n one more = omega arith
+going_few (Some g) f rest n one more = let after = more g in omega (arith, one, after)
+
+filled_few : (k : Campaigning) (waiting : List Asked) (learnt_to : ℕ) (learnt : ℕ → Option Command) (n slot : ℕ) (f : Filling)
+    → length (filled k waiting learnt_to learnt n slot f).sent ≤ length f.sent + n
+filled_few k waiting learnt_to learnt zero slot f = omega arith
+filled_few k waiting learnt_to learnt (suc n) slot f =
+    going_few (stepped k waiting learnt_to (is_some (learnt slot)) slot f) f
+    (λ (g : Filling). filled k waiting learnt_to learnt n (slot + 1) g) n
+    (stepped_few k waiting learnt_to (is_some (learnt slot)) slot f)
+    (λ (g : Filling). filled_few k waiting learnt_to learnt n (slot + 1) g)
+
+window_few : (k : Campaigning) (waiting : List Asked) (learnt_to : ℕ) (l : Learning)
+    → length (window_filled k waiting learnt_to l).sent ≤ 8
+window_few k waiting learnt_to l =
+    let n : ℕ = min (prefix l + 8) (k.end + 1) - prefix l in
+    let limit = min-le_left (prefix l + 8) (k.end + 1) in
+    let most = filled_few k waiting learnt_to (learnt_at l) n (prefix l) (record { proposals = k.proposals; sent = [] }) in
+    omega (arith, limit, most)
+
+-- at most eight messages
+abbrev Eight : Proposing × List Outgoing → Type 0
+Eight x = length x.1 ≤ 8
+
+gathers_few : (p : Proposing) (k : Option Campaigning) (slot : ℕ) → Eight (gathers_on p k slot)
+gathers_few p None slot = omega arith
+gathers_few p (Some k) slot =
+    cond_both (gathers p.waiting slot) _ _ Eight (λ _. omega arith) (λ _. omega arith)
+
+leads_few : (p : Proposing) (k : Campaigning) (l : Learning) → Eight (leads p k l)
+leads_few p k l = cond_both (nat_lt k.end (prefix l)) _ _ Eight (λ _. gathers_few p (Some k) (prefix l))
+    (λ _. window_few (closed_below (prefix l) k) p.waiting p.learnt_to l)
+
+proposes_few : (p : Proposing) (k : Option Campaigning) (l : Learning) → Eight (proposes p k l)
+proposes_few p None l = omega arith
+proposes_few p (Some k) l = cond_both k.leading _ _ Eight (λ _. leads_few p k l) (λ _. omega arith)
+
+counting_few : (p q : Proposing) (l : Learning) → Eight (after_counting p q l)
+counting_few p q l = cond_both (begins_to_lead p q) _ _ Eight (λ _. proposes_few q q.campaign l) (λ _. omega arith)
+
+submit_few : (m : Mind) (r : Asked) → Eight (after_submit m r)
+submit_few m r =
+    let p : Proposing = with_request m.proposing r in
+    cond_both (waits m r.client r.number) _ _ Eight (λ _. omega arith) (λ _. proposes_few p p.campaign m.learning)
+
+again_few : (o : Option Campaigning) → IfSome o (λ (k : Campaigning). length k.proposals ≤ 8) → length (sends_again o) ≤ 8
+again_few None few = omega arith
+again_few (Some k) few =
+    cond_both k.leading (map (accept k.ballot) k.proposals)
+    (record { to = Others k.promised; message = Prepare k.ballot k.first } ∷ [])
+    (λ (os : List Outgoing). length os ≤ 8)
+    (λ _. let same = length-map k.proposals (accept k.ballot) in omega (arith, same, few))
+    (λ _. omega arith)
+
+-- ---- each reply takes away a request that waited
+taken : {A : Type 0} (x : A) (b t : Bool) (r : Asked) (rs rest : List Asked) → length (cond t (x ∷ []) []) + length rest ≤ length rs
+    → length (cond (b || t) (x ∷ []) []) + length (cond b rs (r ∷ rest)) ≤ length (r ∷ rs)
+taken x true t r rs rest h = omega arith
+taken x false t r rs rest h = omega (arith, h)
+
+taken_away : {A : Type 0} (x : A) (client number : ℕ) (rs : List Asked)
+    → length (cond (list_any (is_of client number) rs) (x ∷ []) []) + length (without client number rs) ≤ length rs
+taken_away x client number [] = omega arith
+taken_away x client number (r ∷ rs) =
+    taken x (is_of client number r) (list_any (is_of client number) rs) r rs (without client number rs) (taken_away x client number rs)
+
+executing_few : (e : Executing) (slot : ℕ) (c : Command)
+    → length (executing e slot c).replies + length (executing e slot c).waiting ≤ length e.replies + length e.waiting
+executing_few e slot NoOp = omega arith
+executing_few e slot (Request r) =
+    let both = length-append e.replies (reply_at e slot r) in
+    let away : length (reply_at e slot r) + length (without r.client r.number e.waiting) ≤ length e.waiting =
+    taken_away _ r.client r.number e.waiting in
+    omega (arith, both, away)
+
+executed_few : (e : Executing) (slot : ℕ) (cs : List Command)
+    → length (executed e slot cs).replies + length (executed e slot cs).waiting ≤ length e.replies + length e.waiting
+executed_few e slot [] = omega arith
+executed_few e slot (c ∷ cs) =
+    let one = executing_few e slot c in
+    let more = executed_few (executing e slot c) (suc slot) cs in
+    omega (arith, one, more)
+
+execution_few : (m : Mind) (l : Learning) → length (execution m l).replies ≤ length m.proposing.waiting
+execution_few m l =
+    let all = executed_few (executing_of m []) (position m) (news m l) in omega (arith, all)
+
+-- a node that has restored a text replies to no more requests than waited
+restored_few : (m : Mind) (target : ℕ) → length (execution_from m target).replies ≤ length m.proposing.waiting
+restored_few m target =
+    let all = executed_few (executing_of m []) target (learnt_from m target) in omega (arith, all)
+
+-- ---- each input
+module _ (old new : Mind) (said : Response) (small : IsSmall old) where
+  few_sends : (r : Response) → said ≡ r → r.replies ≡ [] → length r.sends ≤ 62 → IsFew said
+  few_sends r e none few = subst IsFew (sym e) (record {
+    sends = few;
+    replies = (let n : length r.replies ≡ 0 = ap length none in omega (arith, n));
+  })
+
+  abbrev sends_of : List Outgoing → List Envelope
+  sends_of os = envelopes old.id old.nodes os
+
+  few_outgoing : (os : List Outgoing) → length os ≤ 8 → length (sends_of os) ≤ 56
+  few_outgoing os few = let all = envelopes_few old.id old.nodes os small.of_all in omega (arith, few, all)
+
+  hears_few : (c : Command) (o : Option Learned) (l : Learning) (last : List Envelope) → length last ≤ 1
+      → Hears old c o l last new said → IsFew said
+  hears_few c None l last few k = few_sends _ k.1 refl (omega arith)
+  hears_few c (Some learned) l last few k =
+      let p : Proposing = proposer_of old learned.slot (execution old l) in
+      let x : Proposing × List Outgoing = after_news old learned.slot l in
+      let both = length-append (sends_of x.1) last in
+      let proposals = few_outgoing x.1 (proposes_few p p.campaign l) in
+      let replies_ = execution_few old l in
+      subst IsFew (sym k.says) (record {
+        sends = omega (arith, both, proposals, few);
+        replies = omega (arith, replies_, small.waiting);
+      })
+
+  floor_few : (floor : ℕ) (b : Bool) → HearsOfFloor old floor b new said → IsFew said
+  floor_few floor false k = few_sends _ k.1 refl (omega arith)
+  floor_few floor true k =
+      few_sends _ k.1 refl (let n = others_few old.id old.nodes (SnapAsk floor 0) small.number small.of_all in omega (arith, n))
+
+  restores_few : (from target : ℕ) (machine : MachineState) → Restores old from target machine new said → IsFew said
+  restores_few from target machine k =
+      let p : Proposing = (executed_to_the_end k.m target).proposing in
+      let x : Proposing × List Outgoing = proposes p p.campaign k.m.learning in
+      let both = length-append (sends_of x.1) (ask_sends old.id from (position k.m)) in
+      let proposals = few_outgoing x.1 (proposes_few p p.campaign k.m.learning) in
+      let asks = asks_few old.id from (position k.m) in
+      let replies_ = restored_few k.m target in
+      let waited : length k.m.proposing.waiting ≡ length old.proposing.waiting = ap (λ (m : Mind). length m.proposing.waiting) k.begins in
+      subst IsFew (sym k.says) (record {
+        sends = omega (arith, both, proposals, asks);
+        replies = omega (arith, replies_, waited, small.waiting);
+      })
+
+  text_few : (from target : ℕ) (text : List ℕ) → RestoresText old from target text new said → IsFew said
+  text_few from target text (restores machine has k) = restores_few from target machine k
+  text_few from target text (gives_up none leaves e) = few_sends _ e refl (omega arith)
+
+  part_taken_few : (from : ℕ) (p : Piece) → TakesPart old from p new said → IsFew said
+  part_taken_few from p (part_passes unwanted leaves e) = few_sends _ e refl (omega arith)
+  part_taken_few from p (keeps f counts number is leaves e) = few_sends _ e refl (omega arith)
+  part_taken_few from p (completes f counts none k) = text_few from f.target _ k
+
+  message_few : (from : ℕ) (message : Message) → TakesMessage old from message new said → IsFew said
+  message_few from (Prepare ballot first) (a, answers_, leaves, e) =
+      few_sends _ e refl (let n = answers_few old.id old.nodes from a small.of_all in omega (arith, n))
+  message_few from (Promise p) k =
+      few_sends _ k.1 refl
+      (let n = few_outgoing (after_promise old from p).1
+      (counting_few old.proposing (with_promised old.proposing from p) old.learning) in
+      omega (arith, n))
+  message_few from (Nack n) k = few_sends _ k.1 refl (omega arith)
+  message_few from (Accept v) k =
+      few_sends _ k.1 refl (let n = answers_few old.id old.nodes from (accept_answer old.accepting v) small.of_all in omega (arith, n))
+  message_few from (Accepted v) (o, l, heard, k) = hears_few v.command o l [] (omega arith) k
+  message_few from (Ask slot) k =
+      few_sends _ k.1 refl (let n = tells_few old.id from slot old.accepting.floor (learnt_at old.learning slot) in omega (arith, n))
+  message_few from (Decided slot c) (o, l, heard, k) = hears_few c o l _ (asks_few old.id from (prefix l)) k
+  message_few from (SnapAsk target number) k =
+      few_sends _ k.1 refl (let n = snapshot_few old.accepting old.id from target number in omega (arith, n))
+  message_few from (SnapPart p) k = part_taken_few from p k
+  message_few from (Behind floor) k = floor_few floor (is_ahead old floor) k
+
+  envelope_few : (e : Envelope) (b : Bool) → TakesEnvelope old e b new said → IsFew said
+  envelope_few e false k = few_sends _ k.1 refl (omega arith)
+  envelope_few e true k = message_few e.from e.message k
+
+  pub takes_few : (i : Input) → Takes old i new said → IsFew said
+  takes_few (input.Submit client number op) k =
+      few_sends _ k.1 refl
+      (let n = few_outgoing (after_submit old (asked client number op)).1 (submit_few old (asked client number op)) in omega (arith, n))
+  takes_few (input.Message e) k = envelope_few e (concerns old.id old.nodes e) k
+  takes_few input.Timeout (prepare_, starts, leaves, e) =
+      few_sends _ e refl (let n = outgoing_few old.id old.nodes prepare_ small.of_all in omega (arith, n))
+  takes_few input.Tick k =
+      few_sends _ k.1 refl
+      (let both = length-append (sends_of (sends_again old.proposing.campaign)) (asks_again old) in
+      let again = few_outgoing (sends_again old.proposing.campaign) (again_few old.proposing.campaign small.proposals) in
+      let others = again_asks_few old.id old.nodes (position old) old.fetching small.number small.of_all in
+      omega (arith, both, again, others))
+  -- nothing is said
+  takes_few other k = few_sends _ k.1 refl (omega arith)
+
+-- what a node says that took an input
+pub said_few : (i : Input) (old new : Mind) (r : Result Response NodeFault) → IsSmall old
+    → IfOk r (λ said. Takes old i new said) → IfOk r IsFew
+said_few i old new (Ok said) small k = takes_few old new said small i k
+said_few i old new (Err f) small k = tt

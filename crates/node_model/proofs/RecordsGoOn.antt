@@ -1,0 +1,255 @@
+-- Records go on saying what a node holds.
+use Rattle.std.proofs.Common.{◌≡◌, ◌≤◌, ℕ, ◌^◌, List, [], Option, Some, None, Bool, true, false, nat_le}
+use Rattle.std.proofs.Common.{refl, sym, ap, ◌∙◌, subst, arith}
+use Rattle.std.proofs.lemmas.Bool.{cond_both, leb-false}
+use Rattle.std.proofs.lemmas.Option.{none-some, same_Some}
+use Rattle.byteorder.specs.Endian.{big_bytes}
+use Rattle.stable.specs.Records.{Records, Change, Sets, Trims, changed}
+use Rattle.stable.specs.declared.key.Key.TheVariants as key
+use Rattle.acceptor.specs.Accepting.{Accepting, Write, records_after, after_prepare, after_checkpoint, IsTrimWrite, after_trim}
+use Rattle.acceptor.proofs.FloorLemmas.{checkpoint_kept, trim_kept, prepare_covered, accept_covered, checkpoint_covered, trim_covered}
+use Rattle.acceptor.proofs.RecordLemmas.{prepare_kept, accept_kept, RecordsSay-round, prepare_leaves_round, accept_leaves_round}
+use Rattle.acceptor.proofs.VerdictLemmas.{floor_prepared, floor_accepted}
+use Rattle.acceptor.proofs.VoteLemmas.{other_key, promise_is_no_vote, cast_above}
+use Rattle.learner.specs.Learning.{Learning}
+use Rattle.learner.specs.declared.learned.Learned.{Learned}
+use Rattle.proposer.specs.Proposing.{Proposing, next_round, with_promised}
+use Rattle.proposer.specs.declared.outgoing.Outgoing.{Outgoing}
+use Rattle.sessions.specs.Asked.{Asked}
+use Rattle.sessions.specs.Machines.{MachineState}
+use Rattle.sessions.specs.Snapshots.{snapshot_bytes}
+use Rattle.sessions.specs.declared.command.Command.{Command}
+use Rattle.wire.specs.FrameSpelling.{MessageFits}
+use Rattle.wire.specs.Parts.{Piece}
+use Rattle.wire.specs.RecordForms.{IsRoundRecord}
+use Rattle.wire.specs.declared.frames.envelope.Envelope.{Envelope}
+use Rattle.wire.specs.declared.frames.message.Message.{Message}
+use Rattle.wire.specs.declared.frames.message.Message.TheVariants.{Prepare, Promise, Accept, Accepted, Decided, SnapPart, Behind}
+use Rattle.node_model.specs.declared.fault.NodeFault.TheVariants as fault
+use Rattle.node_model.specs.declared.input.Input.{Input}
+use Rattle.node_model.specs.declared.input.Input.TheVariants as input
+use Rattle.node_model.specs.Inputs.{concerns}
+use Rattle.node_model.specs.Minds.{Mind, position, is_full, refuses, asked, waits}
+use Rattle.node_model.specs.Outputs.{Response}
+use Rattle.node_model.specs.Protocol.{InputFits, accepting_on, accepting_if, accepting_after, round_after, RecordsHold, SaysRound}
+use Rattle.node_model.specs.Taking.{Writes, WritesOnEnvelope, WritesOnMessage, WritesCheckpoint, Takes, TakesMessage, TakesEnvelope, Hears}
+use Rattle.node_model.specs.Taking.{proposed, after_promise, after_submit, with_request, proposer_of, execution}
+use Rattle.node_model.specs.Taking.{HearsOfFloor, TakesPart, RestoresText, Restores, executed_to_the_end, is_ahead}
+use Rattle.node_model.specs.Taking.TakesPart.{passes, keeps, completes}
+use Rattle.node_model.specs.Taking.RestoresText.{restores, gives_up}
+use Rattle.node_model.proofs.Campaigns.{proposes_keeps, counting_keeps}
+
+-- ---- what the records say once the write is made
+no_write : (records : Records) (w : Write) (a : Accepting) (round : ℕ) → w ≡ None → RecordsHold records a round
+    → RecordsHold (records_after records w) a round
+no_write records w a round e both = subst (λ (x : Write). RecordsHold (records_after records x) a round) (sym e) both
+
+message_holds : (m : Mind) (message : Message) (records : Records) (w : Write) → WritesOnMessage m message w → MessageFits 7 message
+    → RecordsHold records m.accepting m.proposing.round → RecordsHold (records_after records w) (accepting_on m message) m.proposing.round
+message_holds m (Prepare ballot first) records w e fits both =
+    subst (λ (x : Write). RecordsHold (records_after records x) (after_prepare m.accepting ballot first) m.proposing.round) (sym e)
+    (record {
+      acceptor = prepare_kept records m.accepting ballot first fits.0 both.acceptor;
+      covered = prepare_covered m.accepting ballot first both.covered;
+      proposer = subst (λ (o : Option (List ℕ)). SaysRound o m.proposing.round)
+          (sym (prepare_leaves_round records m.accepting ballot first)) both.proposer;
+    })
+message_holds m (Accept v) records w is fits both = record {
+  acceptor = accept_kept records m.accepting v w (record { ballot = fits.ballot; command = fits.command }) is both.acceptor;
+  covered = accept_covered m.accepting v both.covered;
+  proposer = subst (λ (o : Option (List ℕ)). SaysRound o m.proposing.round)
+      (sym (accept_leaves_round records m.accepting v w is)) both.proposer;
+}
+message_holds m other records w e fits both = no_write records w m.accepting m.proposing.round e both
+
+envelope_holds : (m : Mind) (e : Envelope) (b : Bool) (records : Records) (w : Write) → WritesOnEnvelope m e b w → MessageFits 7 e.message
+    → RecordsHold records m.accepting m.proposing.round → RecordsHold (records_after records w) (accepting_if m e b) m.proposing.round
+envelope_holds m e false records w none fits both = no_write records w m.accepting m.proposing.round none both
+envelope_holds m e true records w writes fits both = message_holds m e.message records w writes fits both
+
+-- a round that is begun has its eight bytes
+round_left : (m : Mind) (full used : Bool) → is_full m ≡ full → nat_le (2 ^ 64) (next_round m.proposing) ≡ used
+    → refuses m input.Timeout ≡ None → used ≡ false
+round_left m true used e f none = (let bad : Some fault.LogFull ≡ None = rw e at none in absurd cc)
+round_left m false true e f none = (let bad : Some fault.RoundsUsedUp ≡ None = rw f at (rw e at none) in absurd cc)
+round_left m false false e f none = refl
+
+drawn : (m : Mind) → refuses m input.Timeout ≡ None → IsRoundRecord (big_bytes 8 (next_round m.proposing)) (next_round m.proposing)
+drawn m none =
+    let left = round_left m (is_full m) (nat_le (2 ^ 64) (next_round m.proposing)) refl refl none in
+    record { begun = omega arith; fits = leb-false (2 ^ 64) (next_round m.proposing) left; spelled = refl }
+
+-- a checkpoint's record is of its form
+checkpoint_holds : (m : Mind) (records : Records) (w : Write) → WritesCheckpoint m w
+    → RecordsHold records m.accepting m.proposing.round
+    → RecordsHold (records_after records w) (after_checkpoint m.accepting (position m) (snapshot_bytes m.machine)) m.proposing.round
+checkpoint_holds m records w writes both =
+    subst (λ (x : Write). RecordsHold (records_after records x) (after_checkpoint m.accepting (position m) (snapshot_bytes m.machine)) m.proposing.round)
+    (sym writes.is) (record {
+      acceptor = checkpoint_kept records m.accepting (position m) (snapshot_bytes m.machine) (omega (arith, writes.above)) writes.in_log
+          (m.machine, writes.fits, refl) both.acceptor;
+      covered = checkpoint_covered records m.accepting (position m) (snapshot_bytes m.machine) both.acceptor;
+      proposer = both.proposer;
+    })
+
+-- only votes are taken out
+trim_leaves_round : (records : Records) (a : Accepting) (w : Write) → IsTrimWrite a w → records_after records w key.Round ≡ records key.Round
+trim_leaves_round records a None is = refl
+trim_leaves_round records a (Some change) is = ap (λ (c : Change). changed records c key.Round) is.1
+
+trim_holds : (m : Mind) (records : Records) (w : Write) → IsTrimWrite m.accepting w → RecordsHold records m.accepting m.proposing.round
+    → RecordsHold (records_after records w) (after_trim m.accepting) m.proposing.round
+trim_holds m records w is both = record {
+  acceptor = trim_kept records m.accepting w both.covered is both.acceptor;
+  covered = trim_covered m.accepting;
+  proposer = subst (λ (o : Option (List ℕ)). SaysRound o m.proposing.round) (sym (trim_leaves_round records m.accepting w is)) both.proposer;
+}
+
+pub written_holds : (m : Mind) (i : Input) (records : Records) (w : Write) → refuses m i ≡ None → Writes m i w → InputFits i
+    → RecordsHold records m.accepting m.proposing.round → RecordsHold (records_after records w) (accepting_after m i) (round_after m i)
+written_holds m (input.Submit client number op) records w none e fits both = no_write records w m.accepting m.proposing.round e both
+written_holds m (input.Message e) records w none writes fits both = envelope_holds m e (concerns m.id m.nodes e) records w writes fits both
+written_holds m input.Timeout records w none e fits both =
+    subst (λ (x : Write). RecordsHold (records_after records x) m.accepting (next_round m.proposing)) (sym e) (record {
+      acceptor = RecordsSay-round records m.accepting (big_bytes 8 (next_round m.proposing)) both.acceptor;
+      covered = both.covered;
+      proposer = drawn m none;
+    })
+written_holds m input.Tick records w none e fits both = no_write records w m.accepting m.proposing.round e both
+written_holds m input.Checkpoint records w none writes fits both = checkpoint_holds m records w writes both
+written_holds m input.Trim records w none is fits both = trim_holds m records w is both
+
+-- ---- the floor
+-- no message changes it
+floor_on : (m : Mind) (message : Message) → (accepting_on m message).floor ≡ m.accepting.floor
+floor_on m (Prepare ballot first) = floor_prepared m.accepting ballot first
+floor_on m (Accept v) = floor_accepted m.accepting v
+floor_on m other = refl
+
+pub floor_if : (m : Mind) (e : Envelope) (b : Bool) → (accepting_if m e b).floor ≡ m.accepting.floor
+floor_if m e false = refl
+floor_if m e true = floor_on m e.message
+
+-- a vote is written at a slot from the floor on
+vote_above_on : (m : Mind) (message : Message) (w : Write) → WritesOnMessage m message w → (slot : ℕ) (bytes : List ℕ)
+    → w ≡ Some (Sets (key.Vote slot) bytes) → m.accepting.floor ≤ slot
+vote_above_on m (Prepare ballot first) w writes slot bytes e =
+    absurd (promise_is_no_vote m.accepting ballot first slot bytes (sym writes ∙ e))
+vote_above_on m (Accept v) w is slot bytes e = cast_above m.accepting v w is slot bytes e
+vote_above_on m other w none slot bytes e = absurd (none-some (Sets (key.Vote slot) bytes) (sym none ∙ e))
+
+vote_above_if : (m : Mind) (e : Envelope) (b : Bool) (w : Write) → WritesOnEnvelope m e b w → (slot : ℕ) (bytes : List ℕ)
+    → w ≡ Some (Sets (key.Vote slot) bytes) → m.accepting.floor ≤ slot
+vote_above_if m e false w none slot bytes is = absurd (none-some (Sets (key.Vote slot) bytes) (sym none ∙ is))
+vote_above_if m e true w writes slot bytes is = vote_above_on m e.message w writes slot bytes is
+
+-- a trim writes none
+trim_is_no_vote : (a : Accepting) (w : Write) → IsTrimWrite a w → (slot : ℕ) (bytes : List ℕ) → w ≡ Some (Sets (key.Vote slot) bytes) → ⊥
+trim_is_no_vote a None is slot bytes e = none-some (Sets (key.Vote slot) bytes) e
+trim_is_no_vote a (Some change) is slot bytes e = (let bad : Trims a.floor ≡ Sets (key.Vote slot) bytes = sym is.1 ∙ same_Some _ _ e in absurd cc)
+
+pub vote_above : (m : Mind) (i : Input) (w : Write) → Writes m i w → (slot : ℕ) (bytes : List ℕ) → w ≡ Some (Sets (key.Vote slot) bytes)
+    → m.accepting.floor ≤ slot
+vote_above m (input.Submit client number op) w none slot bytes e = absurd (none-some (Sets (key.Vote slot) bytes) (sym none ∙ e))
+vote_above m (input.Message e) w writes slot bytes is = vote_above_if m e (concerns m.id m.nodes e) w writes slot bytes is
+vote_above m input.Timeout w round slot bytes e =
+    absurd (other_key key.Round slot (big_bytes 8 (next_round m.proposing)) bytes (λ same. omega (arith, same)) (sym round ∙ e))
+vote_above m input.Tick w none slot bytes e = absurd (none-some (Sets (key.Vote slot) bytes) (sym none ∙ e))
+vote_above m input.Checkpoint w writes slot bytes e =
+    absurd (other_key key.Checkpoint slot _ bytes (λ same. omega (arith, same)) (sym writes.is ∙ e))
+vote_above m input.Trim w is slot bytes e = absurd (trim_is_no_vote m.accepting w is slot bytes e)
+
+-- ---- that is what the node holds then
+-- a proposer proposes under the round that it has
+proposed_round : (p : Proposing) (l : Learning) → (proposed p l).0.round ≡ p.round
+proposed_round p l = ap (λ (q : Proposing). q.round) (proposes_keeps p p.campaign l)
+
+promised_round : (m : Mind) (from : ℕ) (p : _) → (after_promise m from p).0.round ≡ m.proposing.round
+promised_round m from p =
+    ap (λ (q : Proposing). q.round) (counting_keeps m.proposing (with_promised m.proposing from p) m.learning)
+
+submitted_round : (m : Mind) (r : Asked) → (after_submit m r).0.round ≡ m.proposing.round
+submitted_round m r =
+    let then : Proposing = with_request m.proposing r in
+    cond_both (waits m r.client r.number) (m.proposing, []) (proposed then m.learning)
+    (λ (q : Proposing × List Outgoing). q.0.round ≡ m.proposing.round) (λ _. refl) (λ _. proposed_round then m.learning)
+
+-- the acceptor and the round are these
+pub record HoldsRecords (new : Mind) (a : Accepting) (round : ℕ) : Type 0 where
+  pub accepting_ : new.accepting ≡ a
+  pub round_ : new.proposing.round ≡ round
+
+-- it is as this mind
+held_as : (new m : Mind) → new ≡ m → HoldsRecords new m.accepting m.proposing.round
+held_as new m e = record { accepting_ = ap (λ (n : Mind). n.accepting) e; round_ = ap (λ (n : Mind). n.proposing.round) e }
+
+-- and this mind has that round
+with_its_round : (new : Mind) (a : Accepting) (p q : ℕ) → HoldsRecords new a p → p ≡ q → HoldsRecords new a q
+with_its_round new a p q h e = record { accepting_ = h.accepting_; round_ = h.round_ ∙ e }
+
+held_after_news : (m : Mind) (c : Command) (learned : Option Learned) (l : Learning) (asks : List Envelope) (new : Mind) (said : Response)
+    → Hears m c learned l asks new said → HoldsRecords new m.accepting m.proposing.round
+held_after_news m c None l asks new said h = held_as new (record m { learning = l }) h.0
+held_after_news m c (Some n) l asks new said h =
+    let then : Proposing = proposer_of m n.slot (execution m l) in
+    with_its_round new m.accepting _ _ (held_as new _ h.leaves) (proposed_round then l)
+
+held_after_floor : (m : Mind) (floor : ℕ) (b : Bool) (new : Mind) (said : Response) → HearsOfFloor m floor b new said
+    → HoldsRecords new m.accepting m.proposing.round
+held_after_floor m floor false new said h = held_as new m h.0
+held_after_floor m floor true new said h = held_as new _ h.0
+
+held_restored : (m : Mind) (from target : ℕ) (machine : MachineState) (new : Mind) (said : Response)
+    → Restores m from target machine new said → HoldsRecords new m.accepting m.proposing.round
+held_restored m from target machine new said h =
+    let then : Proposing = (executed_to_the_end h.m target).proposing in
+    record {
+      accepting_ = ap (λ (n : Mind). n.accepting) h.leaves ∙ ap (λ (n : Mind). n.accepting) h.begins;
+      round_ = ap (λ (n : Mind). n.proposing.round) h.leaves ∙ proposed_round then h.m.learning
+          ∙ ap (λ (n : Mind). n.proposing.round) h.begins;
+    }
+
+held_after_text : (m : Mind) (from target : ℕ) (text : List ℕ) (new : Mind) (said : Response) → RestoresText m from target text new said
+    → HoldsRecords new m.accepting m.proposing.round
+held_after_text m from target text new said (restores machine has h) = held_restored m from target machine new said h
+held_after_text m from target text new said (gives_up none leaves says) = held_as new _ leaves
+
+held_after_part : (m : Mind) (from : ℕ) (p : Piece) (new : Mind) (said : Response) → TakesPart m from p new said
+    → HoldsRecords new m.accepting m.proposing.round
+held_after_part m from p new said (passes unwanted leaves says) = held_as new m leaves
+held_after_part m from p new said (keeps f counts number is leaves says) = held_as new _ leaves
+held_after_part m from p new said (completes f counts none h) = held_after_text m from f.target _ new said h
+
+held_after_message : (m : Mind) (from : ℕ) (message : Message) (new : Mind) (said : Response) → TakesMessage m from message new said
+    → HoldsRecords new (accepting_on m message) m.proposing.round
+held_after_message m from (Prepare ballot first) new said h = held_as new _ h.2
+held_after_message m from (Promise p) new said h = with_its_round new m.accepting _ _ (held_as new _ h.0) (promised_round m from p)
+held_after_message m from (Accepted v) new said h = held_after_news m v.command h.0 h.1 [] new said h.3
+held_after_message m from (Decided slot command) new said h = held_after_news m command h.0 h.1 _ new said h.3
+held_after_message m from (SnapPart p) new said h = held_after_part m from p new said h
+held_after_message m from (Behind floor) new said h = held_after_floor m floor (is_ahead m floor) new said h
+held_after_message m from other new said h = held_as new _ h.0
+
+held_after_envelope : (m : Mind) (e : Envelope) (b : Bool) (new : Mind) (said : Response) → TakesEnvelope m e b new said
+    → HoldsRecords new (accepting_if m e b) m.proposing.round
+held_after_envelope m e false new said h = held_as new m h.0
+held_after_envelope m e true new said h = held_after_message m e.from e.message new said h
+
+held_after : (m : Mind) (i : Input) (new : Mind) (said : Response) → Takes m i new said
+    → HoldsRecords new (accepting_after m i) (round_after m i)
+held_after m (input.Submit client number op) new said h =
+    with_its_round new m.accepting _ _ (held_as new _ h.0) (submitted_round m (asked client number op))
+held_after m (input.Message e) new said h = held_after_envelope m e (concerns m.id m.nodes e) new said h
+held_after m input.Timeout new said h =
+    with_its_round new m.accepting _ _ (held_as new (record m { proposing = new.proposing }) h.2)
+    (ap (λ (p : Proposing). p.round) h.1.leaves)
+held_after m other new said h = held_as new _ h.0
+
+pub taken_holds : (m : Mind) (i : Input) (new : Mind) (said : Response) (records : Records) (w : Write) → refuses m i ≡ None
+    → Takes m i new said → Writes m i w → InputFits i → RecordsHold records m.accepting m.proposing.round
+    → RecordsHold (records_after records w) new.accepting new.proposing.round
+taken_holds m i new said records w none takes writes fits both =
+    let held = held_after m i new said takes in
+    subst (λ (a : Accepting). RecordsHold (records_after records w) a new.proposing.round) (sym held.accepting_)
+    (subst (λ (n : ℕ). RecordsHold (records_after records w) (accepting_after m i) n) (sym held.round_)
+    (written_holds m i records w none writes fits both))

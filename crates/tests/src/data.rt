@@ -1,0 +1,13 @@
+//! Tests of the data's crates: of `textbuf`, `tpoint` and `mfjson`; and of the bytes in which nodes have them, the frames and records
+//! of `wire`.
+//!
+//! Values, cuts, rectangles, periods and replies that were worked out by hand are schedules of `examples`; documents, frames and votes are
+//! lines of `conformance`' input. These cost no proof.
+
+mod documents;
+mod frames;
+mod lines;
+mod records;
+mod snapshots;
+mod tour;
+mod values;

@@ -1,0 +1,5 @@
+use Rattle.world_model.proofs.ArmedReads.{armed_reads_fire}
+use Rattle.world_model.proofs.laws.armed_reads_fire.Goals as goal
+
+pub returns : goal.returns
+returns g c = armed_reads_fire g.S.Stable

@@ -1,0 +1,20 @@
+//! All nodes of a run as one state machine: what a world remembers, what each event does to it, and what holds of every run.
+//!
+//! `specs/Worlds.antt` defines a world and its steps, `specs/Rounds.antt` a manual round, `specs/Safety.antt` what is promised.
+//! No code runs here: the crate `world` has the code, and its calls keep what is defined here.
+#![tactic(auto)]
+
+mod explaining;
+mod laws;
+mod lists;
+mod round_end;
+
+pub use events::{Event, WorldFault};
+pub use explaining::{a_start_tells, steps_tell, tellings_are_explained};
+pub use laws::{
+    answers_are_one, armed_reads_fire, ballots_never_fall, lists_are_as_told, promises_never_fall,
+    replies_are_one,
+};
+pub use lists::{Answered, Learnt, Outcome, Replied, Submission};
+pub use node_model::{NodeFault, Text};
+pub use round_end::RoundEnd;

@@ -1,0 +1,71 @@
+//! What a world remembers of its run.
+
+use super::round_end::RoundEnd;
+use learner::Held;
+use node_model::{NodeFault, Text};
+use sessions::Number;
+use store::{Op, Query};
+use synod::Slot;
+use wire::{NodeId, Position};
+
+/// A request that a node took.
+#[derive(Drop)]
+pub struct Submission {
+    pub node: NodeId,
+    pub client: u8,
+    pub number: Number,
+    pub op: Op,
+}
+
+/// What a node learnt.
+#[derive(Drop)]
+pub struct Learnt {
+    pub node: NodeId,
+    pub slot: Slot,
+    pub command: Held,
+}
+
+/// A reply to a request that waited at a node. Its position is one more than the slot at which it was executed.
+#[derive(Clone, Copy)]
+pub struct Replied {
+    pub node: NodeId,
+    pub client: u8,
+    pub number: Number,
+    pub reply: sessions::Outcome,
+    pub position: u32,
+}
+
+/// A node's answer to a query: the text, and the position of which it speaks.
+#[derive(Drop)]
+pub struct Answered {
+    pub node: NodeId,
+    pub position: u32,
+    pub query: Query,
+    pub text: Text,
+}
+
+/// What came of a step. What was learnt, replied and answered stands in the world's lists, in the order of the steps.
+#[derive(Clone, Copy)]
+pub enum Outcome {
+    /// The step was made: how many slots a node learnt by it, and how many requests that waited there have their reply.
+    Done {
+        learnt: u32,
+        replies: u32,
+    },
+    /// The text of the checkpoint at this position was restored at the node, and so many requests that waited there have their reply.
+    Restored {
+        node: NodeId,
+        position: Position,
+        replies: u32,
+    },
+    /// A query was answered.
+    Answered,
+    /// A frame came to a node that is down, and was lost.
+    Lost,
+    /// The node refused, and is as it was.
+    Refused(NodeId, NodeFault),
+    /// The node went down.
+    Stopped(NodeId, NodeFault),
+    /// A round of the node by hand is over. Its steps have their outcomes before it.
+    Round(NodeId, RoundEnd),
+}
