@@ -34,16 +34,110 @@ JOINED = [new for new in set(CRATES.values()) if list(CRATES.values()).count(new
 # Those whose old name is no other word, so that each is the crate.
 PLAIN = ("byslot", "run_trials", "commandline")
 
-# Files of a crate: the crate as it is called now, the old module, the new one.
+# Files of a crate: the crate as it is called now, the old module, the new one; of sources and of definitions.
 FILES = [
     ("slot_table", "byslot", "slot_table"),
     ("record_files", "files", "record_folder"),
     ("record_files", "node_file", "record_file"),
+    ("node", "roles", "replica"),
+    ("node", "Roles", "Replica"),
+    ("node_model", "Minds", "Replicas"),
+    ("world", "run", "inner"),
+    ("world", "Runs", "Inner"),
+    ("world_model", "Fleets", "Memberships"),
+    ("wire", "held", "shared_command"),
+    ("store", "held", "stored_feature"),
+    ("timeindex", "kept", "entry"),
+    ("sessions", "outcome", "session_reply"),
+    ("sessions", "Outcomes", "SessionReplies"),
+    ("commands", "tracked", "checked_stream"),
+    ("acceptor", "cast", "accepted_value"),
+    ("acceptor", "Casts", "AcceptedValues"),
+    ("schedule", "unread", "pending_line"),
+    ("schedule", "Unread", "PendingLines"),
+    ("tests", "fleet", "test_nodes"),
 ]
 
+NODES = "node node_model world world_model"
+FLEETS = "acceptor learner proposer synod " + NODES
+
 # Words within crates: the crates as they are called now (all, where there are none), the old word, the new one.
+# In a comment or a document only a word in backticks is changed, and one that no sentence has.
 NAMES = [
     ("", "BySlot", "SlotTable"),
+    (NODES, "Mind", "ReplicaState"),
+    ("node", "Roles", "Replica"),
+    ("node", "roles", "replica"),
+    ("world", "Run", "Inner"),
+    ("world", "run", "inner"),
+    ("world", "run_of", "inner_of"),
+    (FLEETS, "IsFleet", "IsMembership"),
+    (FLEETS, "Fleet", "Membership"),
+    (FLEETS, "FleetSteps", "MembershipSteps"),
+    (FLEETS, "FleetLemmas", "MembershipLemmas"),
+    ("tests", "Fleet", "TestNodes"),
+    ("tests", "fleet", "nodes_under_test"),
+    ("wire acceptor conformance learner node node_model proposer tests world", "Held", "SharedCommand"),
+    ("store", "Held", "StoredFeature"),
+    ("timeindex", r"(?<!List\.)Kept", "Entry"),
+    ("sessions node_model", "Outcome", "SessionReply"),
+    ("world world_model replay", "Outcome", "StepOutcome"),
+    ("world world_model replay", r"(?<!proofs\.)Learnt", "LearntEntry"),
+    (NODES + " tests", "Executed", "ReplyOut"),
+    (NODES + " tests", "LogEntry", "LearntCommand"),
+    (NODES + " tests", "Text", "AnswerText"),
+    ("", "Tracked", "CheckedStream"),
+    ("record_files mfpx mfpx_files run_tests tests", r"(?<!specs\.)Files", "RecordFolder"),
+    ("", "NodeFile", "RecordFile"),
+    ("", "is_left_open", "has_unmerged_log"),
+    ("cli commands record_files run_tests tests", "(?<!SqlStable::)settle", "merge_logs"),
+    ("acceptor", "Cast", "AcceptedValue"),
+    ("schedule", "Unread", "PendingLine"),
+    ("schedule", "Rounding", "PendingRound"),
+    ("schedule", "completed", "finish_line"),
+    ("", "tellings_are_explained", "one_log_explains"),
+    ("", "steps_tell", "steps_keep_lists"),
+    ("", "a_start_tells", "start_keeps_lists"),
+    ("world_model", "ListsTell", "ListsAreBacked"),
+    (NODES, "is_past", "is_stale_vote"),
+    (NODES, "concerns", "is_for_this_run"),
+    (NODES, "see_small", "recall_bounds"),
+    (NODES, "see_valid", "recall_valid"),
+    (NODES, "reuse", "recycle"),
+    ("node", "take_room", "take_send_buffer"),
+    ("node", "go_on", "execute_and_propose"),
+    ("node", "tell_decided", "answer_ask"),
+    ("node", "hear", "dispatch"),
+    ("world", "hear", "deliver_up"),
+    ("world", "give_back", "recycle_sends"),
+    ("", "room_given_back_stops_the_node", "recycled_buffer_stops_the_node"),
+    ("", "message_looked_at_and_left", "received_message_ignored"),
+    ("", "value_that_stood_kept_back", "replaced_value_not_returned"),
+    ("", "low_told_before_all_answers", "too_low_before_all_answers"),
+    ("", "stream_failed_from_the_start", "fresh_writer_counts_as_failed"),
+]
+
+# Parts of words, likewise.
+PARTS = [
+    (NODES, r"Mind(?=s\b|Of\b|Stands\b)", "Replica"),
+    (NODES, r"mind(?=s?(_|\b))", "replica"),
+    (FLEETS, r"fleet(?=s?(_|\b))", "membership"),
+]
+
+# A function whose name has other meanings too: its crate, its path there, the new name, the crates of its callers, and how these name it.
+FUNCTIONS = [
+    ("node_model", "outputs.Outputs.sent", "of_frames", "node node_model", r"(?<=\bOutputs::)sent|(?<=\bc\.)sent(?=\.)"),
+    ("node_model", "outputs.Outputs.silence", "none", "node node_model", r"(?<=\bOutputs::)silence|(?<=\bc\.)silence(?=\.)"),
+    ("world", "inner.Inner.passes", "skip_stale_vote", "world", r"(?<=\bself\.)passes(?=\()|(?<=\bc\.)passes(?=\.)|(?<=if-)passes|(?<=-then-)passes"),
+    ("world", "inner.Inner.receive", "deliver_to", "world", r"(?<=\bself\.)receive(?=\()|(?<=at c\.)receive(?=\.ensures;)"),
+    ("world", "inner.Inner.sent", "find_frame", "world", r"(?<=\bself\.)sent(?=\()"),
+    ("acceptor", "votes.Votes.cast", "record_vote", "acceptor", r"(?<=\bself\.votes\.)cast(?=\()|(?<=in_ok-)cast|(?<=in_err-)cast"),
+]
+
+# Words of definitions that several files define: the file, the old word, the new one. Who uses it from there says the new one.
+WORDS = [
+    ("world_model.specs.Telling", "Tells", "WorldIsBacked"),
+    ("world_model.specs.Telling", "Knows", "ReplicaIsBacked"),
 ]
 
 TEXTS = (".rt", ".antt", ".edit", ".md", ".py", ".txt", ".c", ".1", ".toml")
@@ -98,23 +192,96 @@ def crate_of(path):
 
 
 def names_for(path):
-    """The words within crates that this file may use."""
+    """The words within crates that this file may use, each with whether prose has it too."""
     crate = crate_of(path)
     for crates, old, new in NAMES:
-        if not crates or not crate or crate in crates.split():
-            yield re.compile(r"\b%s\b" % old), new
+        if not crates or crate in crates.split() or (not crate and not old.islower()):
+            is_plain = bool(re.search(r"_|[a-z][A-Z]", old))
+            if crate or not crates or is_plain:
+                yield re.compile(r"\b%s\b" % old), new, is_plain
+    for crates, old, new in PARTS:
+        if crate in crates.split():
+            yield re.compile(old), new, True
+    for home, place, new, crates, call in FUNCTIONS:
+        before, old = place.rsplit(".", 1)
+        yield re.compile(r"(?<=\bRattle\.%s\.proofs\.%s\.)%s\b" % (home, before.replace(".", r"\."), old)), new, False
+        if crate in crates.split():
+            yield re.compile(call), new, False
+        if path == "crates/%s/src/%s.rt" % (home, before.split(".")[0]) and "/src/" in path:
+            yield re.compile(r"(?<=\bfn )%s(?=[<(])" % old), new, False
 
 
 def file_patterns(path):
     """The names of files that this file may use: of each crate by their paths, and of its own by the forms of Rust."""
     for crate, old, new in FILES:
-        yield re.compile(r"(?<=\bRattle\.%s\.)((?:[\w-]+\.)*?)%s(?=\.|$)" % (crate, old), re.MULTILINE), r"\g<1>" + new
+        place = r"(?:specs|proofs)\." if old[0].isupper() else r"(?:specs\.declared|proofs)\."
+        yield re.compile(r"(?<=\bRattle\.%s\.)(%s)%s(?=\.|$)" % (crate, place, old), re.MULTILINE), r"\g<1>" + new
         yield re.compile(r"(?<=\b%s/src/)%s(?=\.rt)" % (crate, old)), new
         if crate_of(path) == crate:
-            yield re.compile(r"(?<=\bmod )%s\b(?=;)" % old), new
+            yield re.compile(r"(?<=\bmod )%s\b(?=;|$)" % old, re.MULTILINE), new
             yield re.compile(r"(?<=\buse )%s(?=::)" % old), new
-            yield re.compile(r"(?<=\bcrate::)%s(?=::)" % old), new
+            yield re.compile(r"(\b(?:crate|super)::(?:nodes::)?)%s(?=::)" % old), r"\g<1>" + new
             yield re.compile(r"(?<=^file: src/)%s(?=\.rt$)" % old, re.MULTILINE), new
+
+
+def in_parts(path, text, change):
+    """The text with a change made to its code, and within backticks of its comments; a document is all comment."""
+    mark = {".rt": "//", ".antt": "--"}.get(os.path.splitext(path)[1])
+    if path.endswith(".edit"):
+        return change(text, False)
+    lines = []
+    for line in text.split("\n"):
+        at = len(line)
+        if mark:
+            found = re.search(r"(?<![:\"-])%s" % mark, line)
+            at = found.start() if found else at
+        else:
+            at = 0
+        lines.append(change(line[:at], False) + re.sub(r"`[^`]*`|[^`]+|`", lambda m: change(m[0], not m[0].startswith("`")), line[at:]))
+    return "\n".join(lines)
+
+
+def imports(text, module):
+    """The places of a text where it names words of a module, with the words."""
+    return [(m.start(1), m.end(1), m[1]) for m in re.finditer(r"\bRattle\.%s\.\{([^}]*)\}" % module.replace(".", r"\."), text)]
+
+
+def with_words(path, text):
+    """The words that several files define, each by the module from which this file has it."""
+    for module, old, new in WORDS:
+        sources = [module] + HANDED.get((module, old), [])
+        word = r"(?<![\w.])%s\b(?!')" % old
+        home = "crates/%s.antt" % module.replace(".", "/")
+        if path == home:
+            text = in_parts(path, text, lambda part, is_prose: part if is_prose else re.sub(word, new, part))
+            continue
+        has = False
+        for source in sources:
+            for begin, end, words in reversed(imports(text, source)):
+                if re.search(word, words):
+                    has = has or not re.search(word + r" as ", words)
+                    text = text[:begin] + re.sub(word, new, words) + text[end:]
+        if has:
+            if re.search(r"^\s*(pub )?(ghost )?use .*\{([^}]*[ {,])?%s[,}]" % old, text, re.MULTILINE):
+                print("by hand, as it has two words %s: %s" % (old, path))
+            text = in_parts(path, text, lambda part, is_prose: part if is_prose else re.sub(word, new, part))
+    return text
+
+
+HANDED = {}
+
+
+def find_handed(paths):
+    """Which modules hand on words of others."""
+    for path in paths:
+        if path.endswith(".antt") and "/specs/" in path or "/proofs/" in path:
+            with open(path, encoding="utf-8") as file:
+                text = file.read()
+            own = path[len("crates/"):-len(".antt")].replace("/", ".")
+            for module, old, _ in WORDS:
+                for m in re.finditer(r"pub use Rattle\.%s\.\{([^}]*)\}" % module.replace(".", r"\."), text):
+                    if re.search(r"\b%s\b" % old, m[1]):
+                        HANDED.setdefault((module, old), []).append(own)
 
 
 def renamed_text(path, text, patterns):
@@ -122,8 +289,17 @@ def renamed_text(path, text, patterns):
         text = "\n".join(dependency_line(line) for line in text.split("\n"))
     for pattern, new in patterns:
         text = pattern.sub(new, text)
-    for pattern, new in (*file_patterns(path), *names_for(path)):
+    for pattern, new in file_patterns(path):
         text = pattern.sub(new, text)
+    names = list(names_for(renamed_path(path)))
+
+    def change(part, is_prose):
+        for pattern, new, is_plain in names:
+            if is_plain or not is_prose:
+                part = pattern.sub(new, part)
+        return part
+
+    text = with_words(renamed_path(path), in_parts(path, text, change))
     if crate_of(path) in JOINED:
         text = re.sub(r"(?<![\w:])%s::" % crate_of(path), "crate::", text)
     return text
@@ -136,11 +312,19 @@ def renamed_path(path):
         for at in range(2, len(parts)):
             stem, dot, ending = parts[at].partition(".")
             for crate, old, new in FILES:
-                if parts[1] == crate and stem == old and at == 3:
+                if parts[1] == crate and stem == old and (at == 3 or parts[2] == "src"):
                     stem = new
             parts[at] = stem + dot + ending
-            for pattern, new in names_for(path):
-                parts[at] = pattern.sub(new, parts[at])
+            if parts[2] in ("proofs", "must-fail"):
+                for crates, old, new in NAMES:
+                    if not crates or parts[1] in crates.split():
+                        parts[at] = re.sub(r"\b%s\b" % old, new, parts[at])
+                for crates, old, new in PARTS:
+                    if parts[1] in crates.split():
+                        parts[at] = re.sub(old, new, parts[at])
+        for home, place, new, _, _ in FUNCTIONS:
+            if parts[1:3] == [home, "proofs"] and parts[3:-1] == place.split("."):
+                parts[-2] = new
     return "/".join(parts)
 
 
@@ -148,6 +332,7 @@ def main():
     is_list = sys.argv[1:] == ["--list"]
     patterns = list(crate_patterns())
     here = os.path.relpath(os.path.abspath(__file__), os.getcwd())
+    find_handed(tracked())
     for path in tracked():
         if path == here:
             continue

@@ -10,7 +10,7 @@ use Rattle.synod.specs.Records as synod_records
 use Rattle.synod.specs.Records.{TellsVotes, with_promise, with_vote, with_floor}
 use Rattle.synod.specs.Records.{put as put_one}
 use Rattle.synod.specs.Acts as act
-use Rattle.synod.specs.Acts.{Fleet, Input, Local, Brings, Does}
+use Rattle.synod.specs.Acts.{Membership, Input, Local, Brings, Does}
 use Rattle.synod.proofs.Doing.{does_nothing, does_one, does_then, confirms_to_first}
 use Rattle.synod.proofs.Puts.{put_same}
 use Rattle.sessions.specs.declared.command.Command.{Command}
@@ -29,7 +29,7 @@ put_alike : (f g : ℕ → Option (Vote Command)) (i : ℕ) (x : Option (Vote Co
     → put_one f i x s ≡ put g i x s
 put_alike f g i x s same = elim (eqb_tells s i) [ inl e ↦ rw e.0 refl | inr ne ↦ rw ne.0 same ]
 
-module _ (f : Fleet Command) (i : ℕ) (input : Input Command) (x : Local Command) (a : Accepting) (round : ℕ)
+module _ (f : Membership Command) (i : ℕ) (input : Input Command) (x : Local Command) (a : Accepting) (round : ℕ)
     (stands : RecordsStand a round x.records) where
   same_records : MayWrite f i input x a round
   same_records = record { after = x.records; does = does_nothing f i input x; stands = stands }

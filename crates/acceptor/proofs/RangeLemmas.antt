@@ -12,9 +12,9 @@ use Rattle.wire.specs.Promises.{AreTold}
 use Rattle.slot_table.specs.Values.{value_at, IsEmptyFrom, IsFirstFrom}
 use Rattle.slot_table.specs.declared.slot_table.SlotTable.{SlotTable}
 use Rattle.slot_table.proofs.ValueLemmas.{tells}
-use Rattle.acceptor.specs.Casts.{vote_at}
+use Rattle.acceptor.specs.AcceptedValues.{vote_at}
 use Rattle.acceptor.specs.Ranges.{IsPromiseFrom, StandsFrom}
-use Rattle.acceptor.specs.declared.cast.Cast.{Cast}
+use Rattle.acceptor.specs.declared.accepted_value.AcceptedValue.{AcceptedValue}
 
 -- ---- lists
 in_cons : {X : Type 0} (x z : X) (xs : List X) → Contains (x ∷ xs) z → (x ≡ z) ⊎ Contains xs z
@@ -75,7 +75,7 @@ abbrev pub end_of : Option ℕ → ℕ
 end_of None = 65536
 end_of (Some next) = next
 
-module _ (votes : SlotTable Cast) (first : ℕ) where
+module _ (votes : SlotTable AcceptedValue) (first : ℕ) where
   abbrev pub held : ℕ → Option (Vote Command)
   held s = option_map (vote_at s) (value_at votes s)
 
@@ -92,7 +92,7 @@ module _ (votes : SlotTable Cast) (first : ℕ) where
   }
 
   -- the first vote that is found joins those that were told
-  pub one_told : (next slot : ℕ) (cast : Cast) (told : List (Vote Command)) → IsToldTo held first next told
+  pub one_told : (next slot : ℕ) (cast : AcceptedValue) (told : List (Vote Command)) → IsToldTo held first next told
       → IsFirstFrom (value_at votes) next slot cast → length told < 4 → IsToldTo held first (slot + 1) (told ++ vote_at slot cast ∷ [])
   one_told next slot cast told is found room =
       let from = is.from in
@@ -158,7 +158,7 @@ module _ (votes : SlotTable Cast) (first : ℕ) where
       subst (λ m. IsToldTo held first m told) (omega (arith, value, is)) listed
 
   -- a vote that is found stands at the first slot, or at a later one
-  pub found_from : (next slot : ℕ) (cast : Cast) (told : List (Vote Command)) → IsToldTo held first next told
+  pub found_from : (next slot : ℕ) (cast : AcceptedValue) (told : List (Vote Command)) → IsToldTo held first next told
       → IsFirstFrom (value_at votes) next slot cast → StandsFrom held first
   found_from next slot cast told is found = record {
     slot = slot;
@@ -172,7 +172,7 @@ module _ (votes : SlotTable Cast) (first : ℕ) where
   some_told next (v ∷ told) is four =
       let low = is.ascend.0 in let below = (is.stand v (in_head v told)).1 in omega arith
 
-  pub has_one_before : (o : Option ℕ) (next slot : ℕ) (cast : Cast) (told : List (Vote Command)) → IsToldTo held first next told
+  pub has_one_before : (o : Option ℕ) (next slot : ℕ) (cast : AcceptedValue) (told : List (Vote Command)) → IsToldTo held first next told
       → IsFirstFrom (value_at votes) next slot cast → length told ≡ 4 → MatchOption o (slot ≡ 0) (λ s. s + 1 ≡ slot) → IsSome o
   has_one_before None next slot cast told is found four none =
       let some = some_told next told is four in let behind = found.from in absurd (omega (arith, none))
@@ -183,7 +183,7 @@ module _ (votes : SlotTable Cast) (first : ℕ) where
   IsUpTo b = (s : ℕ) (w : Vote Command) → held s ≡ Some w → rank w.ballot ≤ rank b
 
   -- the promise that has no room for the next vote
-  pub full_promise : (b : Ballot) (next slot last : ℕ) (cast : Cast) (told : List (Vote Command)) → IsToldTo held first next told
+  pub full_promise : (b : Ballot) (next slot last : ℕ) (cast : AcceptedValue) (told : List (Vote Command)) → IsToldTo held first next told
       → IsFirstFrom (value_at votes) next slot cast → length told ≡ 4 → last + 1 ≡ slot → slot < 65536 → IsUpTo b
       → IsPromiseFrom held b first (record { ballot = b; first = first; last = last; entries = told })
   full_promise b next slot last cast told is found four at lt up =

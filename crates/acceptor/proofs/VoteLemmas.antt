@@ -8,13 +8,13 @@ use Rattle.synod.specs.Ballots.{rank, rank_of}
 use Rattle.synod.specs.declared.ballot.Ballot.{Ballot}
 use Rattle.synod.specs.declared.vote.Vote.{Vote}
 use Rattle.sessions.specs.declared.command.Command.{Command}
-use Rattle.acceptor.specs.declared.cast.Cast.{Cast}
+use Rattle.acceptor.specs.declared.accepted_value.AcceptedValue.{AcceptedValue}
 use Rattle.stable.specs.Records.{Sets, Trims, rank as place}
 use Rattle.stable.specs.declared.key.Key.{Key}
 use Rattle.stable.specs.declared.key.Key.TheVariants as key
 use Rattle.acceptor.specs.Accepting.{Accepting, Write, put, Taken, verdict, prepare_write, IsAcceptWrite}
 use Rattle.acceptor.specs.Spelling.{ballot_bytes, vote_bytes}
-use Rattle.acceptor.specs.Casts.{vote_at}
+use Rattle.acceptor.specs.AcceptedValues.{vote_at}
 use Rattle.acceptor.proofs.VerdictLemmas.{judged, refused, behind, taken}
 
 some_not_none : {X : Type 0} (o : Option X) → IsSome o → o ≡ None → ⊥
@@ -33,18 +33,18 @@ put_there f g slot x e =
     subst IsSome (sym (ap (λ h. h slot) e ∙ here)) refl
 
 -- a vote that was cast under this ballot for this command
-pub same_vote : (cast : Cast) (v : Vote Command) → cast.ballot ≡ v.ballot → cast.command ≡ v.command → vote_at v.slot cast ≡ v
+pub same_vote : (cast : AcceptedValue) (v : Vote Command) → cast.ballot ≡ v.ballot → cast.command ≡ v.command → vote_at v.slot cast ≡ v
 same_vote cast v b d = rw (b, d) refl
 
 -- the command of a vote that the map tells
-pub command_told : (cast : Cast) (v : Vote Command) (found : Option Cast) → found ≡ Some cast → option_map (vote_at v.slot) found ≡ Some v
+pub command_told : (cast : AcceptedValue) (v : Vote Command) (found : Option AcceptedValue) → found ≡ Some cast → option_map (vote_at v.slot) found ≡ Some v
     → cast.command ≡ v.command
 command_told cast v found is e =
     let told : Some (vote_at v.slot cast) ≡ Some v = sym (ap (option_map (vote_at v.slot)) is) ∙ e in
     cc
 
 -- a cast that is put in the map is a vote that is put among the votes
-pub votes-put : (f : ℕ → Option Cast) (cast : Cast) (v : Vote Command) → vote_at v.slot cast ≡ v → (s : ℕ)
+pub votes-put : (f : ℕ → Option AcceptedValue) (cast : AcceptedValue) (v : Vote Command) → vote_at v.slot cast ≡ v → (s : ℕ)
     → option_map (vote_at s) (put f v.slot (Some cast) s) ≡ put (λ (i : ℕ). option_map (vote_at i) (f i)) v.slot (Some v) s
 votes-put f cast v e s =
     elim (eqb_tells s v.slot) [
@@ -118,7 +118,7 @@ cast_above a v w is slot bytes e =
 
 -- ---- votes below a slot
 -- where casts are taken out, so are votes
-pub votes-below : (f : ℕ → Option Cast) (below s : ℕ) → option_map (vote_at s) (if nat_lt s below then None else f s)
+pub votes-below : (f : ℕ → Option AcceptedValue) (below s : ℕ) → option_map (vote_at s) (if nat_lt s below then None else f s)
     ≡ (if nat_lt s below then None else option_map (vote_at s) (f s))
 votes-below f below s =
     elim (cases_Bool (nat_lt s below)) [

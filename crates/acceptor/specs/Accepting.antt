@@ -33,7 +33,7 @@ use Rattle.acceptor.specs.declared.answer.Answer.{Answer}
 use Rattle.acceptor.specs.declared.answer.Answer.TheVariants as answers
 use Rattle.acceptor.specs.declared.answer.Answer.TheVariants.{Promise, Accepted, Nack}
 use Rattle.acceptor.specs.Forms.{BallotFits, CheckpointFits, VoteFits}
-use Rattle.acceptor.specs.Casts.{HasAnyBelow}
+use Rattle.acceptor.specs.AcceptedValues.{HasAnyBelow}
 use Rattle.acceptor.specs.Ranges.{IsPromiseFrom}
 use Rattle.acceptor.specs.Spelling.{ballot_bytes, vote_bytes}
 

@@ -14,7 +14,7 @@ pub use Rattle.wire.specs.Spelling.{CommandFits}
 use Rattle.wire.specs.RecordForms.{Checkpointed, checkpoint_bytes}
 use Rattle.acceptor.specs.Spelling.{ballot_bytes, vote_bytes}
 
--- the ballot may stand in a record, which serves the largest fleet
+-- the ballot may stand in a record, which serves the largest membership
 abbrev pub BallotFits : Ballot → Type 0
 BallotFits b = wire.BallotFits 7 b
 

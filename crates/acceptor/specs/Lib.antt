@@ -1,5 +1,5 @@
 pub mod Accepting
-pub mod Casts
+pub mod AcceptedValues
 pub mod Forms
 pub mod Loading
 pub mod Protocol

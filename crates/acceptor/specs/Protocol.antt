@@ -4,7 +4,7 @@ use Rattle.synod.specs.Ballots.{rank_of}
 use Rattle.synod.specs.Messages as synod
 use Rattle.synod.specs.Messages.{Frame, Plain, to_first}
 use Rattle.synod.specs.Records as synod_records
-use Rattle.synod.specs.Acts.{Fleet, Input, Local, Does}
+use Rattle.synod.specs.Acts.{Membership, Input, Local, Does}
 use Rattle.sessions.specs.declared.command.Command.{Command}
 use Rattle.acceptor.specs.declared.answer.Answer.{Answer}
 use Rattle.acceptor.specs.declared.answer.Answer.TheVariants.{Promise, Accepted, Nack, Behind}
@@ -29,14 +29,14 @@ answer_frames i nodes to (Behind floor) = record { sender = i; receiver = to; me
 
 -- from x the node may come to records that stand for this, and nothing else changes: the case of a node that
 -- goes down once the write is made
-pub record MayWrite (f : Fleet Command) (i : ℕ) (input : Input Command) (x : Local Command) (a : Accepting)
+pub record MayWrite (f : Membership Command) (i : ℕ) (input : Input Command) (x : Local Command) (a : Accepting)
     (round : ℕ) : Type 0 where
   pub after : synod_records.Records Command
   pub does : Does f i input x (record x { records = after })
   pub stands : RecordsStand a round after
 
 -- from x the node may come to such records and send these frames, and nothing else changes
-pub record MayAnswer (f : Fleet Command) (i : ℕ) (input : Input Command) (x : Local Command) (a : Accepting)
+pub record MayAnswer (f : Membership Command) (i : ℕ) (input : Input Command) (x : Local Command) (a : Accepting)
     (round : ℕ) (frames : List (Frame Command)) : Type 0 where
   pub after : synod_records.Records Command
   pub does : Does f i input x (record x { records = after; sent = x.sent ++ frames })

@@ -1,7 +1,7 @@
 -- What an acceptor in memory holds.
 use Rattle.acceptor.specs.declared.acceptor.Acceptor.{Acceptor}
 use Rattle.acceptor.specs.Accepting.{Accepting}
-pub use Rattle.acceptor.specs.Casts.{vote_at, vote_held}
+pub use Rattle.acceptor.specs.AcceptedValues.{vote_at, vote_held}
 
 -- what an acceptor holds
 abbrev pub accepting_of : Acceptor → Accepting

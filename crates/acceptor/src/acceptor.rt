@@ -9,7 +9,7 @@ ghost use Rattle.acceptor.specs.Accepting.{Write, RecordsSay, refusing, Taken, v
 ghost use Rattle.acceptor.specs.Accepting.{AnswersPrepare, prepare_write, after_prepare};
 ghost use Rattle.acceptor.specs.Accepting.{accept_answer, after_accept, IsAcceptWrite, IsNewVote};
 ghost use Rattle.acceptor.specs.Accepting.{HasWritten, HasFailed, checkpoint_change, after_checkpoint, HasVoteBelow, IsTrimWrite, after_trim};
-ghost use Rattle.acceptor.specs.Casts.{AreUpTo, vote_at};
+ghost use Rattle.acceptor.specs.AcceptedValues.{AreUpTo, vote_at};
 ghost use Rattle.acceptor.specs.Forms.{BallotFits, CheckpointFits, VoteFits, IsOfItsForm, AreOfTheirForm, HasDamagedRecord};
 ghost use Rattle.acceptor.specs.Loading.{raised, with_seen, BeginsWith, IsMachineOf, checkpoint_found};
 ghost use Rattle.acceptor.specs.Ranges.{StandsFrom};
@@ -18,15 +18,15 @@ ghost use Rattle.sessions.specs.Snapshots.{StandsForEach, snapshot_bytes};
 ghost use Rattle.synod.specs.declared.slot.TheConstants.{SLOTS};
 ghost use Rattle.wire.specs.RecordForms.{checkpoint_bytes};
 
+use super::accepted_value::AcceptedValue;
 use super::answer::Answer;
-use super::cast::Cast;
 use super::records::{Found, checkpointed, promised, voted, write_checkpoint, write_promise};
 use super::votes::Votes;
 use sessions::{Command, Machine};
 use stable::{Key, Stable, StableFault};
 use std::alloc::{AllocError, Global};
 use synod::{Ballot, Slot, Vote};
-use wire::{Held, Nack, Position};
+use wire::{Nack, Position, SharedCommand};
 
 /// What one node has promised, and what it has voted for at each slot.
 ///
@@ -221,7 +221,7 @@ impl Acceptor {
     }
 
     /// Takes in what the record of a slot says.
-    fn take_vote(&mut self, slot: Slot, found: Option<Cast>) -> Result<(), AllocError>
+    fn take_vote(&mut self, slot: Slot, found: Option<AcceptedValue>) -> Result<(), AllocError>
         requires { IfSome found (λ cast. VoteFits (vote_at slot cast)) }
         ensures told { OnOk result ((seen : Records) → seen (key.Vote slot) ≡ None
             → RecordsSay seen (accepting_of self.old)
@@ -303,7 +303,7 @@ impl Acceptor {
         &mut self,
         alloc: Global,
         storage: &mut S,
-        vote: Vote<Held>,
+        vote: Vote<SharedCommand>,
     ) -> Result<Answer, StableFault>
         ensures answer { IfOk result (λ a. a ≡ accept_answer (accepting_of self.old) vote) }
         ensures state { OnOk result
@@ -326,7 +326,7 @@ impl Acceptor {
             return Ok(answer);
         }
         if !self.votes.has(&vote) {
-            self.votes.cast(alloc, storage, &vote)?;
+            self.votes.record_vote(alloc, storage, &vote)?;
         }
         self.promise = Some(vote.ballot);
         Ok(Answer::Accepted(vote))

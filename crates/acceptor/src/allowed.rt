@@ -7,7 +7,7 @@ ghost use Rattle.synod.specs.Ballots.{rank_of};
 ghost use Rattle.synod.specs.declared.ballot.Ballot.{Ballot};
 ghost use Rattle.synod.specs.declared.vote.Vote.{Vote};
 ghost use Rattle.synod.specs.Messages.{Accept};
-ghost use Rattle.synod.specs.Acts.{Fleet, Input, Local, Brings};
+ghost use Rattle.synod.specs.Acts.{Membership, Input, Local, Brings};
 ghost use Rattle.sessions.specs.declared.command.Command.{Command};
 ghost use Rattle.stable.specs.Records.{Records};
 ghost use Rattle.acceptor.specs.declared.answer.Answer.{Answer};
@@ -18,10 +18,10 @@ ghost use Rattle.acceptor.specs.Protocol.{RecordsStand, MayWrite, MayAnswer, ans
 
 /// A prepare's write is allowed, and so is its answer after that write.
 pub fn prepare_is_allowed()
-    ensures write { (f : Fleet Command) (i : ℕ) (input : Input Command) (x : Local Command) (a : Accepting)
+    ensures write { (f : Membership Command) (i : ℕ) (input : Input Command) (x : Local Command) (a : Accepting)
         (round first : ℕ) (b : Ballot) → RecordsStand a round x.records
         → MayWrite f i input x (after_prepare a b first) round }
-    ensures answer { (f : Fleet Command) (i : ℕ) (input : Input Command) (x : Local Command) (a : Accepting)
+    ensures answer { (f : Membership Command) (i : ℕ) (input : Input Command) (x : Local Command) (a : Accepting)
         (round nodes to first : ℕ) (b : Ballot) (answer : Answer) → RecordsStand a round x.records
         → AnswersPrepare a b first answer → MayAnswer f i input x (after_prepare a b first) round
         (answer_frames i nodes to answer) }
@@ -29,17 +29,17 @@ pub fn prepare_is_allowed()
 
 /// The write of an accept that has come is allowed, and so is its answer after that write.
 pub fn accept_is_allowed()
-    ensures write { (f : Fleet Command) (i : ℕ) (input : Input Command) (x : Local Command) (a : Accepting)
+    ensures write { (f : Membership Command) (i : ℕ) (input : Input Command) (x : Local Command) (a : Accepting)
         (round : ℕ) (v : Vote Command) → Brings input (Accept v) → RecordsStand a round x.records
         → MayWrite f i input x (after_accept a v) round }
-    ensures answer { (f : Fleet Command) (i : ℕ) (input : Input Command) (x : Local Command) (a : Accepting)
+    ensures answer { (f : Membership Command) (i : ℕ) (input : Input Command) (x : Local Command) (a : Accepting)
         (round nodes to : ℕ) (v : Vote Command) → Brings input (Accept v) → RecordsStand a round x.records
         → MayAnswer f i input x (after_accept a v) round (answer_frames i nodes to (accept_answer a v)) }
 {}
 
 /// A checkpoint's write is allowed at a position that is not below the floor. A trim changes nothing that the protocol's records say.
 pub fn checkpoint_is_allowed()
-    ensures write { (f : Fleet Command) (i : ℕ) (input : Input Command) (x : Local Command) (a : Accepting)
+    ensures write { (f : Membership Command) (i : ℕ) (input : Input Command) (x : Local Command) (a : Accepting)
         (round position : ℕ) (text : List ℕ) → a.floor ≤ position → RecordsStand a round x.records
         → MayWrite f i input x (after_checkpoint a position text) round }
     ensures trim { (a : Accepting) (round : ℕ) (r : synod_records.Records Command) → RecordsStand a round r

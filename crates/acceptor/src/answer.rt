@@ -2,7 +2,7 @@
 
 use sessions::Command;
 use synod::Vote;
-use wire::{Held, Nack, Position, Promise};
+use wire::{Nack, Position, Promise, SharedCommand};
 
 /// An acceptor's answer to a prepare or an accept.
 #[derive(Drop)]
@@ -10,7 +10,7 @@ pub enum Answer {
     /// The ballot is promised.
     Promise(Promise),
     /// The vote is cast.
-    Accepted(Vote<Held>),
+    Accepted(Vote<SharedCommand>),
     /// A greater ballot is promised.
     Nack(Nack),
     /// The slot is below this floor, from which on the acceptor speaks.

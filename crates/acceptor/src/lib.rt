@@ -4,10 +4,10 @@
 //! speaks; a trim takes out the votes below it, and no promise goes with them. `specs/Accepting.antt` has the rules.
 #![tactic(auto)]
 
+mod accepted_value;
 mod acceptor;
 mod allowed;
 mod answer;
-mod cast;
 mod kept;
 mod records;
 mod votes;

@@ -4,13 +4,13 @@ ghost use Rattle.std.specs.Prelude.{◌≡◌, ◌≤◌, None, IfSome, IfOk, On
 ghost use Rattle.sessions.specs.Snapshots.{StandsForEach, snapshot_bytes};
 ghost use Rattle.synod.specs.declared.slot.TheConstants.{SLOTS};
 ghost use Rattle.wire.specs.RecordForms.{checkpoint_bytes};
-ghost use Rattle.acceptor.specs.Casts.{vote_at};
+ghost use Rattle.acceptor.specs.AcceptedValues.{vote_at};
 ghost use Rattle.acceptor.specs.Forms.{BallotFits, CheckpointFits, VoteFits, IsOfItsForm, HasDamagedRecord};
 ghost use Rattle.acceptor.specs.Loading.{checkpoint_found};
 ghost use Rattle.acceptor.specs.Spelling.{ballot_bytes, vote_bytes};
 ghost use Rattle.stable.specs.Records.{Sets};
 
-use super::cast::Cast;
+use super::accepted_value::AcceptedValue;
 use sessions::{Machine, SnapFault};
 use stable::{Key, Stable, StableFault};
 use std::alloc::Global;
@@ -141,7 +141,7 @@ pub(super) fn voted<S: Stable>(
     alloc: Global,
     storage: &mut S,
     slot: Slot,
-) -> Result<Option<Cast>, StableFault>
+) -> Result<Option<AcceptedValue>, StableFault>
     ensures told { S.IsHonest storage.new → IfOk result (λ found.
         S.contents storage.old (Key.Vote slot)
         ≡ option_map vote_bytes (option_map (vote_at slot) found)) }
@@ -163,7 +163,7 @@ pub(super) fn voted<S: Stable>(
     match vote_of_record(alloc, &bytes)? {
         Some(choice) => {
             let (ballot, command) = choice;
-            Ok(Some(Cast { ballot, command }))
+            Ok(Some(AcceptedValue { ballot, command }))
         }
         None => Err(StableFault::Damaged),
     }

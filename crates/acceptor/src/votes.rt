@@ -3,23 +3,23 @@
 ghost use Rattle.std.specs.Prelude.{◌≡◌, ◌↔◌, IsTrue, IsSome, IfOk, OnOk, OnErr, IsErrOf, Some, None, ℕ, nat_lt, if◌then◌else◌};
 ghost use Rattle.acceptor.specs.Accepting.{put};
 ghost use Rattle.acceptor.specs.Ranges.{IsPromiseFrom, StandsFrom};
-ghost use Rattle.acceptor.specs.Casts.{AreUpTo, HasAnyBelow, vote_at, cast_at, vote_held};
+ghost use Rattle.acceptor.specs.AcceptedValues.{AreUpTo, HasAnyBelow, vote_at, cast_at, vote_held};
 ghost use Rattle.acceptor.specs.Forms.{VoteFits};
 ghost use Rattle.acceptor.specs.Spelling.{vote_bytes};
 ghost use Rattle.stable.specs.Records.{Sets};
 
-use super::cast::Cast;
+use super::accepted_value::AcceptedValue;
 use sessions::Command;
 use slot_table::SlotTable;
 use stable::{Key, Stable, StableFault};
 use std::alloc::{AllocError, Global};
 use synod::{Ballot, Slot, Vote};
-use wire::{Entries, Entry, Held, MOST_ENTRIES, Promise, vote_record};
+use wire::{Entries, Entry, MOST_ENTRIES, Promise, SharedCommand, vote_record};
 
 /// What was voted for at each slot.
 #[derive(Drop)]
 pub(super) struct Votes {
-    by_slot: SlotTable<Cast>,
+    by_slot: SlotTable<AcceptedValue>,
 }
 
 impl Votes {
@@ -33,7 +33,7 @@ impl Votes {
     }
 
     /// Whether the vote at its slot is this vote already.
-    pub(super) fn has(&self, vote: &Vote<Held>) -> bool
+    pub(super) fn has(&self, vote: &Vote<SharedCommand>) -> bool
         ensures { IsTrue result ↔ (vote_held self.now vote.now.slot ≡ Some vote.now) }
     {
         match self.by_slot.get(vote.slot) {
@@ -66,7 +66,7 @@ impl Votes {
             entries.push(Entry::new(Vote {
                 slot,
                 ballot: cast.ballot,
-                command: Held::copy_of(alloc, &cast.command)?,
+                command: SharedCommand::copy_of(alloc, &cast.command)?,
             }))?;
             from = Slot::new(slot.value() + 1);
         }
@@ -91,7 +91,7 @@ impl Votes {
     }
 
     /// Takes in what was found at a slot.
-    pub(super) fn insert(&mut self, slot: Slot, cast: Cast) -> Result<(), AllocError>
+    pub(super) fn insert(&mut self, slot: Slot, cast: AcceptedValue) -> Result<(), AllocError>
         ensures votes { OnOk result ((s : ℕ) → vote_held self.new s
             ≡ put (vote_held self.old) slot (Some (vote_at slot cast)) s) }
         ensures unchanged { OnErr result ((s : ℕ) → vote_held self.new s ≡ vote_held self.old s) }
@@ -101,11 +101,11 @@ impl Votes {
     }
 
     /// Casts a vote: it is written, and held.
-    pub(super) fn cast<S: Stable>(
+    pub(super) fn record_vote<S: Stable>(
         &mut self,
         alloc: Global,
         storage: &mut S,
-        vote: &Vote<Held>,
+        vote: &Vote<SharedCommand>,
     ) -> Result<(), StableFault>
         ensures written { OnOk result
             (S.changes storage.old (Sets (Key.Vote vote.now.slot) (vote_bytes vote.now)) storage.new) }
@@ -122,7 +122,7 @@ impl Votes {
         ensures not_damaged { ¬ IsErrOf result StableFault.Damaged }
     {
         let bytes = vote_record(alloc, vote.ballot, vote.command.command())?;
-        let cast = Cast {
+        let cast = AcceptedValue {
             ballot: vote.ballot,
             command: vote.command.command().clone()?,
         };
@@ -138,7 +138,7 @@ impl Votes {
     }
 
     /// Makes the slot hold what it held before a vote was put there.
-    fn put_back(&mut self, slot: Slot, before: Option<Cast>)
+    fn put_back(&mut self, slot: Slot, before: Option<AcceptedValue>)
         requires { IsSome before → IsSome (cast_at self.old slot) }
         ensures { (s : ℕ) → cast_at self.new s ≡ put (cast_at self.old) slot before s }
     {

@@ -5,14 +5,14 @@ ghost use Rattle.std.specs.Process.{exit_status};
 
 use crate::run::command;
 use crate::words::own_words;
-use commands::{Archive, Tracked};
+use commands::{Archive, CheckedStream};
 use std::process::ExitCode;
 
 /// Runs the program on the process's own words and streams, with this archive for its files.
 pub fn program<A: Archive>(rt: &HostRuntime, archive: &mut A) -> ExitCode {
-    let mut input = Tracked::new(rt.stdin());
-    let mut out = Tracked::new(rt.stdout());
-    let mut err = Tracked::new(rt.stderr());
+    let mut input = CheckedStream::new(rt.stdin());
+    let mut out = CheckedStream::new(rt.stdout());
+    let mut err = CheckedStream::new(rt.stderr());
     let status = match own_words(rt) {
         Ok(words) => command(rt, words, &mut input, &mut out, &mut err, archive),
         Err(failure) => {

@@ -15,7 +15,8 @@ use crate::failures::words_failure;
 use args::{Source, Work, job_of};
 use cluster::Transport;
 use commands::{
-    Archive, Failure, Tracked, checked, device_failure, looped_over, made_over, planned, transcript,
+    Archive, CheckedStream, Failure, checked, device_failure, looped_over, made_over, planned,
+    transcript,
 };
 use schedule::Schedule;
 use stable::{MemStable, Scripted, Stable};
@@ -43,9 +44,9 @@ use wire::Nodes;
 pub fn command<R: Read, O: Write, E: Write, A: Archive>(
     rt: &HostRuntime,
     words: Vec<String>,
-    input: &mut Tracked<R>,
-    out: &mut Tracked<O>,
-    err: &mut Tracked<E>,
+    input: &mut CheckedStream<R>,
+    out: &mut CheckedStream<O>,
+    err: &mut CheckedStream<E>,
     archive: &mut A,
 ) -> u8
     ensures statuses { result ≤ 3 }
@@ -89,7 +90,7 @@ pub fn command<R: Read, O: Write, E: Write, A: Archive>(
 }
 
 /// Tells why nothing was printed, and answers the exit status of a run that ends so.
-fn told<E: Write>(err: &mut Tracked<E>, failure: Failure) -> u8
+fn told<E: Write>(err: &mut CheckedStream<E>, failure: Failure) -> u8
     ensures status { result ≡ status_of failure }
     ensures line { Tells E.contents err.old err.new (line_text failure) }
 {
@@ -101,8 +102,8 @@ fn told<E: Write>(err: &mut Tracked<E>, failure: Failure) -> u8
 fn run<R: Read, O: Write, A: Archive>(
     rt: &HostRuntime,
     words: &[String],
-    input: &mut Tracked<R>,
-    out: &mut Tracked<O>,
+    input: &mut CheckedStream<R>,
+    out: &mut CheckedStream<O>,
     archive: &mut A,
 ) -> Result<(), Failure>
     ensures done { OnOk result ((text : List ℕ)
@@ -180,10 +181,10 @@ fn kept<A: Archive>(
 {
     let schedule = planned(rt.alloc(), bytes)?;
     let count = schedule.nodes();
-    let was_left_open = archive.is_left_open(rt, folder, count)?;
+    let was_left_open = archive.has_unmerged_log(rt, folder, count)?;
     match made_in(rt, archive, folder, schedule) {
         Ok(text) => {
-            archive.settle(rt, folder, count);
+            archive.merge_logs(rt, folder, count);
             Ok(text)
         }
         Err(failure) => {
@@ -206,7 +207,7 @@ fn settle_after<A: Archive>(
     ensures { IsSettledAfter A.Archive was_left_open failure folder.now count archive.old archive.new }
 {
     if !was_left_open || matches!(failure, Failure::Schedule(_)) {
-        archive.settle(rt, folder, count);
+        archive.merge_logs(rt, folder, count);
     }
 }
 
@@ -258,7 +259,7 @@ fn bound(rt: &HostRuntime, count: Nodes) -> Result<Sockets, Failure>
 fn content<R: Read, A: Archive>(
     rt: &HostRuntime,
     source: &Source,
-    input: &mut Tracked<R>,
+    input: &mut CheckedStream<R>,
     archive: &mut A,
 ) -> Result<Vec<u8>, Failure>
     ensures gives { IfOk result (λ bytes. Gives A.Archive source.now (R.remaining input.old.inner) archive.old bytes.items archive.new) }

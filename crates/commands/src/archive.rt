@@ -59,7 +59,7 @@ pub trait Archive {
         ensures err { IfErr result (λ failure. (failure ≡ Failure.Device) ⊎ (failure ≡ Failure.Memory)) };
 
     /// Whether a run has left some of these records open, as a crash does.
-    fn is_left_open(
+    fn has_unmerged_log(
         &mut self,
         rt: &HostRuntime,
         folder: &str,
@@ -69,6 +69,6 @@ pub trait Archive {
         ensures failed { OnErr result (look_fails self.old folder.now count self.new) };
 
     /// Closes in order what a run has left open, as far as that can be done: what can't be closed stays as it is, and nobody is told.
-    fn settle(&mut self, rt: &HostRuntime, folder: &str, count: Nodes)
+    fn merge_logs(&mut self, rt: &HostRuntime, folder: &str, count: Nodes)
         ensures { settles self.old folder.now count self.new };
 }

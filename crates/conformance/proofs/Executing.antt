@@ -3,7 +3,7 @@ use Rattle.std.proofs.Common.{◌≡◌, ℕ, zero, suc, ◌+◌, [], ◌∷◌,
 use Rattle.std.proofs.lemmas.List.{length_push}
 use Rattle.sessions.specs.Machines.{MachineState}
 use Rattle.sessions.specs.Meaning.{RepliesAt}
-use Rattle.sessions.specs.Outcomes.{outcome_code}
+use Rattle.sessions.specs.SessionReplies.{outcome_code}
 use Rattle.sessions.specs.Standing.{StandsFor}
 use Rattle.conformance.specs.Commands.{commands, command_at, request_at, TellsOneMore, IsOutcomeNumber}
 use Rattle.conformance.specs.declared.scene.Scene.{Scene}

@@ -18,7 +18,7 @@ use sessions::{Command, Number};
 use stable::MemStable;
 use std::alloc::Global;
 use synod::Slot;
-use wire::{Entries, Held, NodeId, Nodes, Promise};
+use wire::{Entries, NodeId, Nodes, Promise, SharedCommand};
 
 /// After so many rounds another leader begins, so that the log is never full.
 pub const LAP: u32 = 1024;
@@ -82,7 +82,7 @@ impl Leader {
         let sends = self.proposer.propose(alloc, &self.learner)?;
         let slot = Slot::new(place).unwrap();
         let number = 1 + u64::from(place);
-        let chosen = Held::new(alloc, Command::Request(request(number)?))?;
+        let chosen = SharedCommand::new(alloc, Command::Request(request(number)?))?;
         let _ = self.learner.on_decided(alloc, slot, chosen)?;
         self.proposer.on_learned(slot);
         let waited = self.proposer.executed(CLIENT, Number::new(number).unwrap());

@@ -15,8 +15,8 @@ use sessions::{Command, MOST_PUT_POINTS, Number, Request};
 use std::alloc::{AllocError, Global};
 use store::Op;
 use wire::{
-    Ballot, Entries, Entry, Envelope, Held, MOST_ENTRIES, Message, NodeId, Nodes, Promise, Slot,
-    Vote, decode, encode,
+    Ballot, Entries, Entry, Envelope, MOST_ENTRIES, Message, NodeId, Nodes, Promise, SharedCommand,
+    Slot, Vote, decode, encode,
 };
 
 /// The envelope that is spelled, or whose frame is read. A sequence that it puts has as many instants as a request may
@@ -113,14 +113,14 @@ fn entries(alloc: Global, scene: &Scene) -> Result<Entries, Fault>
 }
 
 /// A vote under the first ballot for a request.
-fn vote(alloc: Global, slot: Slot, op: Op) -> Result<Vote<Held>, Fault>
+fn vote(alloc: Global, slot: Slot, op: Op) -> Result<Vote<SharedCommand>, Fault>
     ensures { IfOk result (λ vote. vote ≡ vote_of slot op) }
 {
     let request = Request::new(7, Number::new(1).unwrap(), op)?;
     Ok(Vote {
         slot,
         ballot: first_ballot(),
-        command: Held::new(alloc, Command::Request(request))?,
+        command: SharedCommand::new(alloc, Command::Request(request))?,
     })
 }
 

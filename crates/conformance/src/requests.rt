@@ -13,7 +13,7 @@ use std::alloc::Global;
 use store::Op;
 use synod::{Slot, Vote};
 use tpoint::Point;
-use wire::Held;
+use wire::SharedCommand;
 
 /// The client of all requests.
 pub const CLIENT: u8 = 7;
@@ -33,13 +33,13 @@ pub fn request(number: u64) -> Result<Request, Fault>
 }
 
 /// The vote at a slot, under the first ballot, for a request of its own.
-pub fn vote(alloc: Global, slot: u32) -> Result<Vote<Held>, Fault>
+pub fn vote(alloc: Global, slot: u32) -> Result<Vote<SharedCommand>, Fault>
     requires { slot < SLOTS }
     ensures { IfOk result (λ vote. vote ≡ vote_at slot) }
 {
     Ok(Vote {
         slot: Slot::new(slot).unwrap(),
         ballot: first_ballot(),
-        command: Held::new(alloc, Command::Request(request(u64::from(slot) + 1)?))?,
+        command: SharedCommand::new(alloc, Command::Request(request(u64::from(slot) + 1)?))?,
     })
 }

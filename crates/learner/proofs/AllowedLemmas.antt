@@ -8,7 +8,7 @@ use Rattle.synod.specs.Messages.{Accepted, Decided}
 use Rattle.synod.specs.Volatile.{Volatile}
 use Rattle.synod.specs.Records.{put}
 use Rattle.synod.specs.Acts as act
-use Rattle.synod.specs.Acts.{Fleet, Input, Local, Does, Came, Brings, acted, thinks}
+use Rattle.synod.specs.Acts.{Membership, Input, Local, Does, Came, Brings, acted, thinks}
 use Rattle.synod.specs.declared.ballot.Ballot.{Ballot}
 use Rattle.synod.specs.declared.vote.Vote.{Vote}
 use Rattle.synod.proofs.Doing.{does_nothing, does_one, does_then}
@@ -28,13 +28,13 @@ at_slot f slot x P there else_ s = elim (eqb_tells s slot) [
 ]
 
 -- the same, of another result that is this
-along : {f : Fleet Command} {i : ℕ} {input : Input Command} {x : Local Command} {c : Command}
+along : {f : Membership Command} {i : ℕ} {input : Input Command} {x : Local Command} {c : Command}
     {learned other : Option Learned} {new state : Learning}
     → learned ≡ other → new ≡ state → MayLearn f i input x c learned new → MayLearn f i input x c other state
 along {f} {i} {input} {x} {c} {learned} {other} {new} {state} e k may =
     subst (λ l. MayLearn f i input x c other l) k (subst (λ o. MayLearn f i input x c o new) e may)
 
-module _ (f : Fleet Command) (i : ℕ) (x : Local Command) (old : Learning) (stands : LearnerStands old x.mind) where
+module _ (f : Membership Command) (i : ℕ) (x : Local Command) (old : Learning) (stands : LearnerStands old x.mind) where
   -- nothing joins the history
   none_learnt : (input : Input Command) (m : Volatile Command) → Does f i input x (thinks x m)
       → Does f i input x (record x { mind = m; learnt = x.learnt ++ [] })

@@ -5,7 +5,7 @@
 ghost use Rattle.std.specs.Prelude.{◌≡◌, ◌<◌, ◌≤◌, ℕ, Option};
 ghost use Rattle.synod.specs.declared.vote.Vote.{Vote};
 ghost use Rattle.synod.specs.Messages.{Accepted, Decided};
-ghost use Rattle.synod.specs.Acts.{Fleet, Input, Local, Came, Brings};
+ghost use Rattle.synod.specs.Acts.{Membership, Input, Local, Came, Brings};
 ghost use Rattle.sessions.specs.declared.command.Command.{Command};
 ghost use Rattle.learner.specs.declared.learned.Learned.{Learned};
 ghost use Rattle.learner.specs.Learning.{Learning, prefix, skipped, HearsVote, HearsDecided};
@@ -15,14 +15,14 @@ ghost use Rattle.learner.specs.Protocol.{LearnerStands, MayLearn};
 
 /// What a learner makes of the news of a vote that has come is allowed.
 pub fn vote_is_allowed()
-    ensures { (f : Fleet Command) (i from : ℕ) (x : Local Command) (old new : Learning) (v : Vote Command)
+    ensures { (f : Membership Command) (i from : ℕ) (x : Local Command) (old new : Learning) (v : Vote Command)
         (learned : Option Learned) → f.nodes ≡ old.nodes → LearnerStands old x.mind
         → HearsVote old from v learned new → MayLearn f i (Came from (Accepted v)) x v.command learned new }
 {}
 
 /// What a learner makes of a decided slot that it is told of is allowed.
 pub fn decided_is_allowed()
-    ensures { (f : Fleet Command) (i : ℕ) (input : Input Command) (x : Local Command) (old new : Learning) (s : ℕ)
+    ensures { (f : Membership Command) (i : ℕ) (input : Input Command) (x : Local Command) (old new : Learning) (s : ℕ)
         (c : Command) (learned : Option Learned) → Brings input (Decided s c) → LearnerStands old x.mind
         → HearsDecided old s c learned new → MayLearn f i input x c learned new }
 {}

@@ -12,7 +12,7 @@ use super::slots::Slots;
 use sessions::Command;
 use std::alloc::{AllocError, Global};
 use synod::{SLOTS, Slot, Vote};
-use wire::{Held, NodeId, Nodes};
+use wire::{NodeId, Nodes, SharedCommand};
 
 /// What is known of each slot. Slots are learnt nearly in turn: what is learnt from the first one on is found by its place.
 #[derive(Drop)]
@@ -20,7 +20,7 @@ pub(super) struct Known {
     // The slot at which the row begins.
     from: u32,
     // What is learnt at that slot, at the next and so on.
-    settled: Vec<Held>,
+    settled: Vec<SharedCommand>,
     // What is known of the others.
     others: Slots,
 }
@@ -39,7 +39,7 @@ impl Known {
     }
 
     /// The command of a slot that is learnt.
-    pub(super) fn learnt(&self, slot: Slot) -> Option<&Held>
+    pub(super) fn learnt(&self, slot: Slot) -> Option<&SharedCommand>
         ensures { option_copied result ≡ known_learnt self.now slot }
     {
         match self.settled_at(slot) {
@@ -59,7 +59,7 @@ impl Known {
     }
 
     /// The command of a slot of the row.
-    fn settled_at(&self, slot: Slot) -> Option<&Held>
+    fn settled_at(&self, slot: Slot) -> Option<&SharedCommand>
         ensures { option_copied result ≡ row_from self.now.from self.now.settled.items slot }
     {
         if slot.value() < self.from {
@@ -119,7 +119,7 @@ impl Known {
         alloc: Global,
         nodes: Nodes,
         from: NodeId,
-        vote: &Vote<Held>,
+        vote: &Vote<SharedCommand>,
     ) -> Result<bool, AllocError>
         ensures hears { IfOk result (λ learns.
             SlotHears nodes (known_learnt self.old) (known_heard self.old) from vote.now
@@ -138,7 +138,7 @@ impl Known {
     }
 
     /// The slot is learnt, and what was told of it goes. Where it is the next of the row it joins it, unless memory is wanting.
-    pub(super) fn learn(&mut self, slot: Slot, command: Held) -> Result<(), AllocError>
+    pub(super) fn learn(&mut self, slot: Slot, command: SharedCommand) -> Result<(), AllocError>
         requires { known_learnt self.old slot ≡ None }
         ensures learnt { OnOk result
             (known_learnt self.new ≡ put (known_learnt self.old) slot (Some command)) }

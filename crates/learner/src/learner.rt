@@ -10,7 +10,7 @@ use super::learned::Learned;
 use sessions::Command;
 use std::alloc::{AllocError, Global};
 use synod::{SLOTS, Slot, Vote};
-use wire::{Held, NodeId, Nodes};
+use wire::{NodeId, Nodes, SharedCommand};
 
 /// A node's learner. What it has learnt is gone after a restart.
 ///
@@ -75,7 +75,7 @@ impl Learner {
     }
 
     /// The same, as it is held.
-    pub fn held(&self, slot: Slot) -> Option<&Held>
+    pub fn held(&self, slot: Slot) -> Option<&SharedCommand>
         ensures { option_copied result ≡ learnt_at (learning_of self.now) slot }
     {
         self.slots.learnt(slot)
@@ -112,7 +112,7 @@ impl Learner {
         &mut self,
         alloc: Global,
         from: NodeId,
-        vote: &Vote<Held>,
+        vote: &Vote<SharedCommand>,
     ) -> Result<Option<Learned>, AllocError>
         ensures hears { IfOk result (λ learned.
             HearsVote (learning_of self.old) from vote.now learned (learning_of self.new)) }
@@ -142,7 +142,7 @@ impl Learner {
         &mut self,
         alloc: Global,
         slot: Slot,
-        command: Held,
+        command: SharedCommand,
     ) -> Result<Option<Learned>, AllocError>
         ensures hears { IfOk result (λ learned.
             HearsDecided (learning_of self.old) slot command learned (learning_of self.new)) }

@@ -8,19 +8,19 @@ use super::tallies::Tallies;
 use sessions::Command;
 use std::alloc::{AllocError, Global};
 use synod::Ballot;
-use wire::{Held, NodeId, Nodes};
+use wire::{NodeId, Nodes, SharedCommand};
 
 /// What is known of a slot.
 #[derive(Drop)]
 pub(super) enum Place {
     /// It isn't learnt, and this was told of it.
     Told(Tallies),
-    Learnt(Held),
+    Learnt(SharedCommand),
 }
 
 impl Place {
     /// The command, where it is learnt.
-    pub(super) fn learnt(&self) -> Option<&Held>
+    pub(super) fn learnt(&self) -> Option<&SharedCommand>
         ensures { option_copied result ≡ place_learnt (Some self.now) }
     {
         match self {
@@ -36,7 +36,7 @@ impl Place {
         nodes: Nodes,
         from: NodeId,
         ballot: Ballot,
-        command: &Held,
+        command: &SharedCommand,
     ) -> Result<bool, AllocError>
         ensures hears { IfOk result (λ learns.
             PlaceHears nodes (Some self.old) from ballot command.now learns (Some self.new)) }

@@ -12,7 +12,7 @@ use sessions::Command;
 use std::alloc::{AllocError, Global};
 use std::collections::BTreeMap;
 use synod::{Slot, Vote};
-use wire::{Held, NodeId, Nodes};
+use wire::{NodeId, Nodes, SharedCommand};
 
 /// What is known of each slot of which something was told.
 #[derive(Drop)]
@@ -32,7 +32,7 @@ impl Slots {
     }
 
     /// The command of a slot that is learnt.
-    pub(super) fn learnt(&self, slot: Slot) -> Option<&Held>
+    pub(super) fn learnt(&self, slot: Slot) -> Option<&SharedCommand>
         ensures { option_copied result ≡ learnt_of self.now slot }
     {
         match self.by_slot.get(&slot) {
@@ -42,7 +42,7 @@ impl Slots {
     }
 
     /// What is learnt at a slot is handed out, and nothing is known of the slot then.
-    pub(super) fn take(&mut self, slot: Slot) -> Option<Held>
+    pub(super) fn take(&mut self, slot: Slot) -> Option<SharedCommand>
         ensures is { result ≡ learnt_of self.old slot }
         ensures learnt { learnt_of self.new ≡ put (learnt_of self.old) slot None }
         ensures heard { heard_of self.new ≡ heard_of self.old }
@@ -70,7 +70,7 @@ impl Slots {
         alloc: Global,
         nodes: Nodes,
         from: NodeId,
-        vote: &Vote<Held>,
+        vote: &Vote<SharedCommand>,
     ) -> Result<bool, AllocError>
         ensures hears { IfOk result (λ learns.
             SlotHears nodes (learnt_of self.old) (heard_of self.old) from vote.now
@@ -90,7 +90,7 @@ impl Slots {
     }
 
     /// The slot is learnt, and what was told of it goes.
-    pub(super) fn learn(&mut self, slot: Slot, command: Held) -> Result<(), AllocError>
+    pub(super) fn learn(&mut self, slot: Slot, command: SharedCommand) -> Result<(), AllocError>
         ensures learnt { OnOk result
             (learnt_of self.new ≡ put (learnt_of self.old) slot (Some command)) }
         ensures heard { OnOk result

@@ -10,7 +10,7 @@ use sessions::Command;
 use std::alloc::{AllocError, Global};
 use std::mem;
 use synod::Ballot;
-use wire::{Held, NodeId, NodeSet, Nodes};
+use wire::{NodeId, NodeSet, Nodes, SharedCommand};
 
 /// What was told of a slot that isn't learnt: under each ballot, who told of a vote for which command.
 #[derive(Drop)]
@@ -48,8 +48,8 @@ impl Tallies {
         nodes: Nodes,
         from: NodeId,
         ballot: Ballot,
-        command: &Held,
-    ) -> Result<Option<Held>, AllocError>
+        command: &SharedCommand,
+    ) -> Result<Option<SharedCommand>, AllocError>
         requires { told_in self.old.tallies.items ballot from ≡ None }
         ensures decided { IfOk result (λ decided. IfSome decided (λ c. (c ≡ command.now)
             × IsDecided nodes (told_in self.old.tallies.items) ballot from command.now)) }
@@ -90,14 +90,14 @@ impl Tallies {
     }
 
     /// Where it stands who told of the command under the ballot.
-    fn position(&self, ballot: Ballot, command: &Held) -> Option<usize>
+    fn position(&self, ballot: Ballot, command: &SharedCommand) -> Option<usize>
         ensures { IsPlace self.now.tallies.items ballot command.now result }
     {
         self.tallies.iter().position(|tally| tally.ballot == ballot && tally.command == *command)
     }
 
     /// The command of a tally is handed out, and nothing is kept.
-    fn take(&mut self, alloc: Global, place: usize) -> Held
+    fn take(&mut self, alloc: Global, place: usize) -> SharedCommand
         requires { place < length self.old.tallies.items }
         ensures { IfSome (slice_get self.old.tallies.items place) (λ tally. result ≡ tally.command) }
     {

@@ -13,9 +13,9 @@
 #![tactic(auto)]
 
 use cli::program;
-use record_files::{Files, System};
+use record_files::{RecordFolder, System};
 use std::process::ExitCode;
 
 fn main(rt: HostRuntime) -> ExitCode {
-    program(&rt, &mut Files::new(System))
+    program(&rt, &mut RecordFolder::new(System))
 }

@@ -1,5 +1,5 @@
 pub mod Fetching
 pub mod Places
-pub mod Roles
+pub mod Replica
 pub mod Seen
 pub mod Wanting

@@ -5,7 +5,7 @@ use Rattle.learner.specs.Learning.{learnt_at}
 use Rattle.wire.specs.declared.frames.message.Message.{Message}
 use Rattle.wire.specs.declared.frames.message.Message.TheVariants.{Nack, Ask, SnapPart, Behind}
 use Rattle.node_model.specs.Fetching.{wants}
-use Rattle.node_model.specs.Minds.{Mind, position}
+use Rattle.node_model.specs.Replicas.{ReplicaState, position}
 use Rattle.node_model.specs.Sending.{decided_sends}
 use Rattle.node_model.specs.Taking.{is_ahead}
 use Rattle.node_model.specs.declared.input.Input.{Input}
@@ -22,7 +22,7 @@ IsForRecords input.Trim = ⊤
 
 -- something may be wanted for the message from a node: for a question only where it is answered, for a floor only where it is further
 -- than what is there, for a part only where it counts, and for a refusal never
-abbrev pub MayWantOn : Mind → ℕ → Message → Type 0
+abbrev pub MayWantOn : ReplicaState → ℕ → Message → Type 0
 MayWantOn m from (Nack n) = ⊥
 MayWantOn m from (Ask slot) = decided_sends m.id from slot m.accepting.floor (learnt_at m.learning slot) ≢ []
 MayWantOn m from (SnapPart p) = wants m.fetching (position m) p ≡ true
@@ -30,7 +30,7 @@ MayWantOn m from (Behind floor) = is_ahead m floor ≡ true
 MayWantOn m from other = ⊤
 
 -- .. and for the input: for a trim only where a vote stands below the floor
-abbrev pub MayWant : Mind → Input → Type 0
+abbrev pub MayWant : ReplicaState → Input → Type 0
 MayWant m (input.Submit client number op) = ⊤
 MayWant m (input.Message e) = MayWantOn m e.from e.message
 MayWant m input.Timeout = ⊤

@@ -6,10 +6,10 @@
 
 mod fetching;
 mod node;
-mod roles;
+mod replica;
 mod sends;
 mod snapshots;
 
 pub use node::Node;
-pub use node_model::{Executed, Input, LogEntry, MOST_SENDS, NodeFault, Outputs, Text};
+pub use node_model::{AnswerText, Input, LearntCommand, MOST_SENDS, NodeFault, Outputs, ReplyOut};
 pub use proposer::MOST_WAITING;

@@ -3,8 +3,8 @@
 ghost use Rattle.std.specs.Prelude.{◌≡◌, ◌⊎◌, ◌↔◌, List, Ok, IfErr, IfOk, IfSome, IsErrOf, OnOk, IsTrue, true, false, IsSome};
 ghost use Rattle.std.specs.Prelude.{None, MatchOption};
 
-use super::roles::Roles;
-use node_model::{Input, NodeFault, Outputs, Text};
+use super::replica::Replica;
+use node_model::{AnswerText, Input, NodeFault, Outputs};
 use stable::{Failing, Put, Scripted, Stable};
 use std::alloc::Global;
 use store::Query;
@@ -16,7 +16,7 @@ pub struct Node<S> {
     id: NodeId,
     nodes: Nodes,
     storage: S,
-    roles: Option<Roles>,
+    replica: Option<Replica>,
 }
 
 impl<S: Stable> Node<S> {
@@ -26,7 +26,7 @@ impl<S: Stable> Node<S> {
     ghost use Rattle.learner.specs.Prefixes.{IsPrefix};
     ghost use Rattle.acceptor.specs.Loading.{IsMachineOf};
     ghost use Rattle.node_model.specs.Loading.{IsBaseOf, IsLoaded, IsFresh, IsDamaged, IsMember, Restarts};
-    ghost use Rattle.node_model.specs.Minds.{is_past, position};
+    ghost use Rattle.node_model.specs.Replicas.{is_stale_vote, position};
     ghost use Rattle.node_model.specs.Nodes.{NodeSteps, NodeAnswers, StaysMeaning, AnswersMeaning};
     ghost use Rattle.node.specs.Seen.{state_of};
     ghost use Rattle.node.specs.Wanting.{IsForRecords, MayWant, MayWantOn};
@@ -51,18 +51,18 @@ impl<S: Stable> Node<S> {
             ⊎ S.read_fails storage (state_of result).storage }
     {
         let mut storage = storage;
-        match Roles::load(alloc, &mut storage, id, nodes) {
-            Ok(roles) => Node {
+        match Replica::load(alloc, &mut storage, id, nodes) {
+            Ok(replica) => Node {
                 id,
                 nodes,
                 storage,
-                roles: Some(roles),
+                replica: Some(replica),
             },
             Err(_fault) => Node {
                 id,
                 nodes,
                 storage,
-                roles: None,
+                replica: None,
             },
         }
     }
@@ -77,8 +77,8 @@ impl<S: Stable> Node<S> {
         ensures settled { OnOk result (S.IsSettled (state_of self.new).storage) }
     {
         self.stop();
-        let roles = Roles::load(alloc, &mut self.storage, self.id, self.nodes)?;
-        self.roles = Some(roles);
+        let replica = Replica::load(alloc, &mut self.storage, self.id, self.nodes)?;
+        self.replica = Some(replica);
         Ok(())
     }
 
@@ -86,7 +86,7 @@ impl<S: Stable> Node<S> {
     pub fn is_up(&self) -> bool
         ensures { IsTrue result ↔ IsSome (state_of self.now).up }
     {
-        self.roles.is_some()
+        self.replica.is_some()
     }
 
     /// The first slot that it hasn't learnt; 0 while it is down.
@@ -94,8 +94,8 @@ impl<S: Stable> Node<S> {
         ensures value { MatchOption (state_of self.now).up (result ≡ 0) (λ m. result ≡ position m) }
         ensures first { IfSome (state_of self.now).up (λ m. IsPrefix m.learning.learnt m.learning.first (position m)) }
     {
-        match &self.roles {
-            Some(roles) => roles.position(),
+        match &self.replica {
+            Some(replica) => replica.position(),
             None => 0,
         }
     }
@@ -104,8 +104,8 @@ impl<S: Stable> Node<S> {
     pub fn floor(&self) -> u32
         ensures { MatchOption (state_of self.now).up (result ≡ 0) (λ m. result ≡ m.accepting.floor) }
     {
-        match &self.roles {
-            Some(roles) => roles.floor(),
+        match &self.replica {
+            Some(replica) => replica.floor(),
             None => 0,
         }
     }
@@ -123,11 +123,11 @@ impl<S: Stable> Node<S> {
             → S.reads (state_of self.old).storage (state_of self.new).storage }
         ensures wanted { IfSome (state_of self.old).up (λ m. IfErr result (λ _. MayWant m input)) }
     {
-        let Some(roles) = &mut self.roles else {
+        let Some(replica) = &mut self.replica else {
             return Err(NodeFault::Down);
         };
-        roles.see_small();
-        let result = roles.take(alloc, &mut self.storage, input);
+        replica.recall_bounds();
+        let result = replica.take(alloc, &mut self.storage, input);
         self.stop_after(&result);
         result
     }
@@ -143,11 +143,11 @@ impl<S: Stable> Node<S> {
         ensures wanted { IfSome (state_of self.old).up (λ m. IfErr result (λ _.
             MayWantOn m envelope.now.from envelope.now.message)) }
     {
-        let Some(roles) = &mut self.roles else {
+        let Some(replica) = &mut self.replica else {
             return Err(NodeFault::Down);
         };
-        roles.see_small();
-        let result = roles.receive(alloc, &mut self.storage, envelope);
+        replica.recall_bounds();
+        let result = replica.receive(alloc, &mut self.storage, envelope);
         self.stop_after(&result);
         result
     }
@@ -170,28 +170,28 @@ impl<S: Stable> Node<S> {
 
     /// Whether it is up and the frame tells of a vote for a slot below its position. Nothing comes of such a frame, so it need not
     /// even be opened.
-    pub fn is_past(&self, frame: &Frame) -> bool
-        ensures value { MatchOption (state_of self.now).up (result ≡ false) (λ m. result ≡ is_past m frame.now.message) }
+    pub fn is_stale_vote(&self, frame: &Frame) -> bool
+        ensures value { MatchOption (state_of self.now).up (result ≡ false) (λ m. result ≡ is_stale_vote m frame.now.message) }
         ensures silent { IsTrue result
             → NodeSteps S.Stable (state_of self.now) (input.Message frame.now) (Ok silence) (state_of self.now) }
         ensures meaning { IsTrue result
             → StaysMeaning (state_of self.now) (input.Message frame.now) (Ok silence) (state_of self.now) }
     {
-        let Some(roles) = &self.roles else {
+        let Some(replica) = &self.replica else {
             return false;
         };
         match frame.voted_slot() {
-            Some(slot) => slot.value() < roles.position(),
+            Some(slot) => slot.value() < replica.position(),
             None => false,
         }
     }
 
     /// The room of a list of what was sent serves for what is sent next. Nothing else changes.
-    pub fn reuse(&mut self, sends: Vec<Frame>)
+    pub fn recycle(&mut self, sends: Vec<Frame>)
         ensures { state_of self.new ≡ state_of self.old }
     {
-        if let Some(roles) = &mut self.roles {
-            roles.reuse(sends);
+        if let Some(replica) = &mut self.replica {
+            replica.recycle(sends);
         }
     }
 
@@ -199,19 +199,19 @@ impl<S: Stable> Node<S> {
     pub fn stop(&mut self)
         ensures { state_of self.new ≡ record (state_of self.old) { up = None } }
     {
-        self.roles = None;
+        self.replica = None;
     }
 
     /// Answers a query: its position, and the text. The node is as it was.
-    pub fn query(&self, alloc: Global, query: &Query) -> Result<(u32, Text), NodeFault>
+    pub fn query(&self, alloc: Global, query: &Query) -> Result<(u32, AnswerText), NodeFault>
         ensures answers { NodeAnswers (state_of self.now) query.now result }
         ensures meaning { AnswersMeaning (state_of self.now) query.now result }
     {
-        let Some(roles) = &self.roles else {
+        let Some(replica) = &self.replica else {
             return Err(NodeFault::Down);
         };
-        let text = roles.answer(alloc, query)?;
-        Ok((roles.position(), Text::new(text)))
+        let text = replica.answer(alloc, query)?;
+        Ok((replica.position(), AnswerText::new(text)))
     }
 }
 

@@ -2,48 +2,48 @@
 
 ghost use Rattle.std.specs.Prelude.{◌≡◌, ◌<◌, ◌++◌, ℕ, not, true, Some, None, IfOk, OnOk, OnErr, IfErr};
 ghost use Rattle.node_model.specs.Fetching.{still_fetched, is_above_target, wants};
-ghost use Rattle.node_model.specs.Minds.{Mind, position};
+ghost use Rattle.node_model.specs.Replicas.{ReplicaState, position};
 ghost use Rattle.node_model.specs.Sending.{to_one, part_sends, snapshot_sends};
 ghost use Rattle.node_model.specs.Taking.{TakesMessage, Restores, RestoresText, asks_again, is_ahead};
 ghost use Rattle.node_model.specs.Outputs.{sent};
 ghost use Rattle.node.specs.Fetching.{fetching_of};
-ghost use Rattle.node.specs.Roles.{mind_of};
+ghost use Rattle.node.specs.Replica.{replica_of};
 ghost use Rattle.wire.specs.Parts.{piece_of};
 ghost use Rattle.wire.specs.declared.frames.message.Message.TheVariants as message;
 
 use super::fetching::Fetching;
-use super::roles::Roles;
+use super::replica::Replica;
 use super::sends::{send, send_ask, send_asks, send_to_the_others};
 use node_model::{NodeFault, Outputs};
 use sessions::{Machine, SnapFault};
 use std::alloc::{AllocError, Global};
 use wire::{Frame, Message, NodeId, Part, PartNumber, Position};
 
-impl Roles {
+impl Replica {
     /// A node tells that it may not speak of slots below its floor any more. Where that is further than this node has come, it
     /// fetches the text of a checkpoint there.
     pub(super) fn on_behind(&mut self, alloc: Global, floor: Position) -> Result<Outputs, NodeFault>
         ensures takes { (from : ℕ) → IfOk result (λ said.
-            TakesMessage (mind_of self.old) from (message.Behind floor) (mind_of self.new) said) }
+            TakesMessage (replica_of self.old) from (message.Behind floor) (replica_of self.new) said) }
         ensures err { IfErr result (λ fault. fault ≡ NodeFault.Memory) }
-        ensures wanted { OnErr result (is_ahead (mind_of self.old) floor ≡ true) }
+        ensures wanted { OnErr result (is_ahead (replica_of self.old) floor ≡ true) }
     {
         if floor.value() <= self.position() || self.fetches_to(floor) {
-            return Ok(Outputs::silence(alloc));
+            return Ok(Outputs::none(alloc));
         }
         let first = Message::SnapAsk {
             position: floor,
             number: PartNumber::first(),
         };
-        let mut sends = self.take_room(alloc);
+        let mut sends = self.take_send_buffer(alloc);
         send_to_the_others(alloc, &mut sends, self.id, self.nodes, &first)?;
         self.fetch(Fetching::new(alloc, floor));
-        Ok(Outputs::sent(alloc, sends))
+        Ok(Outputs::of_frames(alloc, sends))
     }
 
     // Whether it fetches the text of a checkpoint there, or further on.
     fn fetches_to(&self, floor: Position) -> bool
-        ensures { result ≡ not (is_above_target (mind_of self.now).fetching floor) }
+        ensures { result ≡ not (is_above_target (replica_of self.now).fetching floor) }
     {
         match &self.fetching {
             Some(fetching) => floor.value() <= fetching.target().value(),
@@ -60,12 +60,12 @@ impl Roles {
         number: PartNumber,
     ) -> Result<Outputs, NodeFault>
         ensures takes { IfOk result (λ said.
-            TakesMessage (mind_of self.old) from (message.SnapAsk position number) (mind_of self.new) said) }
+            TakesMessage (replica_of self.old) from (message.SnapAsk position number) (replica_of self.new) said) }
         ensures err { IfErr result (λ fault. fault ≡ NodeFault.Memory) }
     {
-        let mut sends = self.take_room(alloc);
+        let mut sends = self.take_send_buffer(alloc);
         self.tell_snapshot(alloc, &mut sends, from, position, number)?;
-        Ok(Outputs::sent(alloc, sends))
+        Ok(Outputs::of_frames(alloc, sends))
     }
 
     // A part of the checkpoint at the position, to the node that asks, or else, where this node's is further on, where that ends.
@@ -78,7 +78,7 @@ impl Roles {
         number: PartNumber,
     ) -> Result<(), AllocError>
         ensures { OnOk result (sends.new.items ≡ sends.old.items
-            ++ snapshot_sends (mind_of self.now).accepting (mind_of self.now).id to position number) }
+            ++ snapshot_sends (replica_of self.now).accepting (replica_of self.now).id to position number) }
     {
         let floor = self.floor();
         if floor == position.value() {
@@ -100,7 +100,7 @@ impl Roles {
         number: PartNumber,
     ) -> Result<(), AllocError>
         ensures { OnOk result (sends.new.items ≡ sends.old.items
-            ++ part_sends (mind_of self.now).id to (piece_of position (mind_of self.now).accepting.text number)) }
+            ++ part_sends (replica_of self.now).id to (piece_of position (replica_of self.now).accepting.text number)) }
     {
         match Part::of(alloc, position, self.acceptor.text(), number)? {
             Some(part) => send(alloc, sends, self.id, to, &Message::SnapPart(part)),
@@ -115,9 +115,9 @@ impl Roles {
         sends: &mut Vec<Frame>,
         to: NodeId,
     ) -> Result<(), AllocError>
-        requires { 0 < (mind_of self.now).accepting.floor }
+        requires { 0 < (replica_of self.now).accepting.floor }
         ensures { OnOk result (sends.new.items ≡ sends.old.items
-            ++ to_one (mind_of self.now).id to (message.Behind (mind_of self.now).accepting.floor)) }
+            ++ to_one (replica_of self.now).id to (message.Behind (replica_of self.now).accepting.floor)) }
     {
         let floor = Position::new(self.floor()).unwrap();
         send(alloc, sends, self.id, to, &Message::Behind { floor })
@@ -131,15 +131,15 @@ impl Roles {
         part: &Part,
     ) -> Result<Outputs, NodeFault>
         ensures takes { IfOk result (λ said.
-            TakesMessage (mind_of self.old) from (message.SnapPart part.now) (mind_of self.new) said) }
+            TakesMessage (replica_of self.old) from (message.SnapPart part.now) (replica_of self.new) said) }
         ensures err { IfErr result (λ fault. fault ≡ NodeFault.Memory) }
-        ensures wanted { OnErr result (wants (mind_of self.old).fetching (position (mind_of self.old)) part.now ≡ true) }
+        ensures wanted { OnErr result (wants (replica_of self.old).fetching (position (replica_of self.old)) part.now ≡ true) }
     {
         if !self.wants(part) {
-            return Ok(Outputs::silence(alloc));
+            return Ok(Outputs::none(alloc));
         }
         let Some(mut fetching) = self.fetching.take() else {
-            return Ok(Outputs::silence(alloc));
+            return Ok(Outputs::none(alloc));
         };
         fetching.hold(alloc, part)?;
         match fetching.missing() {
@@ -153,7 +153,7 @@ impl Roles {
 
     // Whether the part is of the text that is fetched, and isn't held yet.
     fn wants(&self, part: &Part) -> bool
-        ensures { result ≡ wants (mind_of self.now).fetching (position (mind_of self.now)) part.now }
+        ensures { result ≡ wants (replica_of self.now).fetching (position (replica_of self.now)) part.now }
     {
         match &self.fetching {
             Some(fetching) => {
@@ -172,24 +172,24 @@ impl Roles {
         fetching: Fetching,
         number: PartNumber,
     ) -> Result<Outputs, AllocError>
-        ensures goes_on { OnOk result (mind_of self.new
-            ≡ record (mind_of self.old) { fetching = Some (fetching_of fetching) }) }
-        ensures asks { IfOk result (λ said. said ≡ sent (to_one (mind_of self.old).id to
+        ensures goes_on { OnOk result (replica_of self.new
+            ≡ record (replica_of self.old) { fetching = Some (fetching_of fetching) }) }
+        ensures asks { IfOk result (λ said. said ≡ sent (to_one (replica_of self.old).id to
             (message.SnapAsk (fetching_of fetching).target number))) }
     {
-        let mut sends = self.take_room(alloc);
+        let mut sends = self.take_send_buffer(alloc);
         let next = Message::SnapAsk {
             position: fetching.target(),
             number,
         };
         send(alloc, &mut sends, self.id, to, &next)?;
         self.fetch(fetching);
-        Ok(Outputs::sent(alloc, sends))
+        Ok(Outputs::of_frames(alloc, sends))
     }
 
     // It fetches this from now on.
     fn fetch(&mut self, fetching: Fetching)
-        ensures { mind_of self.new ≡ record (mind_of self.old) { fetching = Some (fetching_of fetching) } }
+        ensures { replica_of self.new ≡ record (replica_of self.old) { fetching = Some (fetching_of fetching) } }
     {
         self.fetching = Some(fetching);
     }
@@ -202,14 +202,14 @@ impl Roles {
         target: Position,
         text: &[u8],
     ) -> Result<Outputs, NodeFault>
-        requires { position (mind_of self.old) < target }
-        ensures restores { IfOk result (λ said. (before : Mind) → mind_of self.old ≡ record before { fetching = None }
-            → RestoresText before from target text.now (mind_of self.new) said) }
+        requires { position (replica_of self.old) < target }
+        ensures restores { IfOk result (λ said. (before : ReplicaState) → replica_of self.old ≡ record before { fetching = None }
+            → RestoresText before from target text.now (replica_of self.new) said) }
         ensures err { IfErr result (λ fault. fault ≡ NodeFault.Memory) }
     {
         match Machine::restore(alloc, text) {
             Ok(machine) => Ok(self.go_on_from(alloc, from, target, machine)?),
-            Err(SnapFault::Damaged) => Ok(Outputs::silence(alloc)),
+            Err(SnapFault::Damaged) => Ok(Outputs::none(alloc)),
             Err(SnapFault::Memory) => Err(NodeFault::Memory),
         }
     }
@@ -223,9 +223,9 @@ impl Roles {
         target: Position,
         machine: Machine,
     ) -> Result<Outputs, AllocError>
-        requires { position (mind_of self.old) < target }
-        ensures { IfOk result (λ said. (before : Mind) → mind_of self.old ≡ record before { fetching = None }
-            → Restores before from target machine (mind_of self.new) said) }
+        requires { position (replica_of self.old) < target }
+        ensures { IfOk result (λ said. (before : ReplicaState) → replica_of self.old ≡ record before { fetching = None }
+            → Restores before from target machine (replica_of self.new) said) }
     {
         self.learner.skip_to(target.value());
         self.proposer.skip_to(target.value());
@@ -243,8 +243,8 @@ impl Roles {
 
     /// What is fetched is given up where the node has come as far.
     pub(super) fn give_up_reached(&mut self)
-        ensures { mind_of self.new ≡ record (mind_of self.old) {
-          fetching = still_fetched (position (mind_of self.old)) (mind_of self.old).fetching;
+        ensures { replica_of self.new ≡ record (replica_of self.old) {
+          fetching = still_fetched (position (replica_of self.old)) (replica_of self.old).fetching;
         } }
     {
         let position = self.position();
@@ -257,7 +257,7 @@ impl Roles {
 
     /// The others are asked for what is learnt at the position, or for the lowest part that is missing of what is fetched.
     pub(super) fn ask_again(&self, alloc: Global, sends: &mut Vec<Frame>) -> Result<(), AllocError>
-        ensures { OnOk result (sends.new.items ≡ sends.old.items ++ asks_again (mind_of self.now)) }
+        ensures { OnOk result (sends.new.items ≡ sends.old.items ++ asks_again (replica_of self.now)) }
     {
         let Some(fetching) = &self.fetching else {
             return send_asks(alloc, sends, self.id, self.nodes, self.position());

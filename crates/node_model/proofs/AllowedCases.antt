@@ -28,9 +28,9 @@ use Rattle.wire.specs.declared.frames.envelope.Envelope.{Envelope}
 use Rattle.wire.specs.declared.frames.message.Message.TheVariants.{Prepare, Promise, Nack, Accept, Ask, SnapAsk, Behind}
 use Rattle.node_model.specs.declared.input.Input.TheVariants as input
 use Rattle.node_model.specs.Fetching.{Fetching, nothing_of}
-use Rattle.node_model.specs.Minds.{Mind, position, asked, waits}
+use Rattle.node_model.specs.Replicas.{ReplicaState, position, asked, waits}
 use Rattle.node_model.specs.Outputs.{Response, sent, silence}
-use Rattle.node_model.specs.Protocol.{fleet, message_of, frame_of, MindStands, MayComeTo}
+use Rattle.node_model.specs.Protocol.{membership, message_of, frame_of, ReplicaStands, MayComeTo}
 use Rattle.node_model.specs.Sending.{envelopes, answer_sends, decided_sends, snapshot_sends, to_others}
 use Rattle.node_model.specs.Taking.{Takes, TakesMessage, proposer_sends, proposed, begins_to_lead, after_promise, with_request, after_submit}
 use Rattle.node_model.specs.Taking.{HearsOfFloor, is_ahead, asks_again}
@@ -40,14 +40,14 @@ use Rattle.node_model.proofs.AllowedGoing.{MayGo, proposer_changed, stays, goes_
 use Rattle.node_model.proofs.AllowedGoing.{goes_writing, checkpoint_written, trim_written, goes_sending, goes_to}
 
 -- ---- a proposer proposes
-pub goes_proposing : (nodes i : ℕ) (in' : act.Input Command) (x : Local Command) (m : Mind) → 1 ≤ nodes → MindStands m x
+pub goes_proposing : (nodes i : ℕ) (in' : act.Input Command) (x : Local Command) (m : ReplicaState) → 1 ≤ nodes → ReplicaStands m x
     → MayGo nodes i in' x (record m { proposing = (proposed m.proposing m.learning).0 })
     (frames_of_all i nodes (proposed m.proposing m.learning).1)
 goes_proposing nodes i in' x m some_node s =
     goes_sending nodes i in' x m (proposed m.proposing m.learning).0 (frames_of_all i nodes (proposed m.proposing m.learning).1) s
-    (propose_lem (fleet nodes) i in' x m.proposing m.learning nodes refl some_node s.position_ s.learner s.proposer)
+    (propose_lem (membership nodes) i in' x m.proposing m.learning nodes refl some_node s.position_ s.learner s.proposer)
 
-module _ (old new : Mind) (said : Response) (x : Local Command) (stands : MindStands old x) where
+module _ (old new : ReplicaState) (said : Response) (x : Local Command) (stands : ReplicaStands old x) where
   abbrev May : act.Input Command → Type 0
   May in' = MayComeTo old.nodes old.id in' [] x new said
 
@@ -64,7 +64,7 @@ module _ (old new : Mind) (said : Response) (x : Local Command) (stands : MindSt
       (answered_frames old.id old.nodes from answer)
       (goes_answering old.nodes old.id in' x old (after_prepare old.accepting ballot first) _ stands
       (floor_prepared old.accepting ballot first)
-      (prepare_answers (fleet old.nodes) old.id in' x old.accepting old.proposing.round stands.records
+      (prepare_answers (membership old.nodes) old.id in' x old.accepting old.proposing.round stands.records
       old.nodes from first ballot answer answers))
 
   pub accept_case : (from : ℕ) (v : Vote Command) → TakesMessage old from (Accept v) new said → May (act.Came from (message_of (Accept v)))
@@ -73,7 +73,7 @@ module _ (old new : Mind) (said : Response) (x : Local Command) (stands : MindSt
       goes_to old.nodes old.id in' x _ new said (answer_sends old.id old.nodes from (accept_answer old.accepting v)) _ leaves says
       (answered_frames old.id old.nodes from (accept_answer old.accepting v))
       (goes_answering old.nodes old.id in' x old (after_accept old.accepting v) _ stands (floor_accepted old.accepting v)
-      (accept_answers (fleet old.nodes) old.id in' x old.accepting old.proposing.round stands.records old.nodes from v refl))
+      (accept_answers (membership old.nodes) old.id in' x old.accepting old.proposing.round stands.records old.nodes from v refl))
 
   -- ---- the learner is asked
   pub ask_case : (from slot : ℕ) → TakesMessage old from (Ask slot) new said → May (act.Came from (message_of (Ask slot)))
@@ -82,7 +82,7 @@ module _ (old new : Mind) (said : Response) (x : Local Command) (stands : MindSt
       let floor : ℕ = old.accepting.floor in
       goes_to old.nodes old.id in' x old new said (decided_sends old.id from slot floor (learnt_at old.learning slot)) _ leaves says refl
       (goes_saying old.nodes old.id in' x old _ stands
-      (tells_decided (fleet old.nodes) old.id in' x from slot floor (learnt_at old.learning slot) (stands.learner.learnt slot)))
+      (tells_decided (membership old.nodes) old.id in' x from slot floor (learnt_at old.learning slot) (stands.learner.learnt slot)))
 
   -- ---- what safety says nothing of
   -- it sends such messages, and what it fetches may change
@@ -92,7 +92,7 @@ module _ (old new : Mind) (said : Response) (x : Local Command) (stands : MindSt
       goes_to old.nodes old.id in' x (record old { fetching = f }) new said sends (map frame_of sends) leaves says refl
       (goes_fetching old.nodes old.id in' x old f (map frame_of sends)
       (goes_saying old.nodes old.id in' x old (map frame_of sends) stands
-      (says_sends (fleet old.nodes) old.id in' x sends plain)))
+      (says_sends (membership old.nodes) old.id in' x sends plain)))
 
   pub snap_ask_case : (in' : act.Input Command) (from target number : ℕ) → TakesMessage old from (SnapAsk target number) new said → May in'
   snap_ask_case in' from target number (leaves, says) =
@@ -114,13 +114,13 @@ module _ (old new : Mind) (said : Response) (x : Local Command) (stands : MindSt
       let in' : act.Input Command = act.Came from (message_of (Nack n)) in
       goes_to old.nodes old.id in' x _ new said [] [] leaves says refl
       (goes_holding old.nodes old.id in' x old (after_nack old.proposing n) stands
-      (nack_lem (fleet old.nodes) old.id in' x old.proposing n stands.proposer))
+      (nack_lem (membership old.nodes) old.id in' x old.proposing n stands.proposer))
 
   pub timeout_case : old.proposing.id ≡ old.id → Takes old input.Timeout new said → May act.Nothing
   timeout_case own (prepare, starts, leaves, says) =
       goes_to old.nodes old.id act.Nothing x _ new said _ _ leaves says (outgoing_frames old.id old.nodes prepare)
       (goes_sending old.nodes old.id act.Nothing x old new.proposing (frames_of old.id old.nodes prepare) stands
-      (timeout_lem (fleet old.nodes) old.id act.Nothing x old.proposing new.proposing (position old) old.nodes prepare own stands.position_
+      (timeout_lem (membership old.nodes) old.id act.Nothing x old.proposing new.proposing (position old) old.nodes prepare own stands.position_
       stands.proposer starts))
 
   pub tick_case : Takes old input.Tick new said → May act.Nothing
@@ -128,11 +128,11 @@ module _ (old new : Mind) (said : Response) (x : Local Command) (stands : MindSt
       let again : List Outgoing = sends_again old.proposing.campaign in
       let first : MayGo old.nodes old.id act.Nothing x old (frames_of_all old.id old.nodes again) =
       goes_sending old.nodes old.id act.Nothing x old old.proposing (frames_of_all old.id old.nodes again) stands
-      (tick_lem (fleet old.nodes) old.id act.Nothing x old.proposing stands.proposer old.nodes) in
+      (tick_lem (membership old.nodes) old.id act.Nothing x old.proposing stands.proposer old.nodes) in
       let asks = asks_again old in
       let next : MayGo old.nodes old.id act.Nothing first.after old (map frame_of asks) =
       goes_saying old.nodes old.id act.Nothing first.after old (map frame_of asks) first.stands
-      (says_sends (fleet old.nodes) old.id act.Nothing first.after asks
+      (says_sends (membership old.nodes) old.id act.Nothing first.after asks
       (asks_plain old.id old.nodes (position old) old.fetching)) in
       goes_to old.nodes old.id act.Nothing x old new said (envelopes old.id old.nodes again ++ asks) _ leaves says
       (map-append frame_of (envelopes old.id old.nodes again) asks
@@ -141,7 +141,7 @@ module _ (old new : Mind) (said : Response) (x : Local Command) (stands : MindSt
 
   -- ---- its acceptor writes, and nothing is said
   writes_case : (a : Accepting) → new ≡ record old { accepting = a } → said ≡ silence → a.floor ≤ position old
-      → MayWrite (fleet old.nodes) old.id act.Nothing x a old.proposing.round → May act.Nothing
+      → MayWrite (membership old.nodes) old.id act.Nothing x a old.proposing.round → May act.Nothing
   writes_case a leaves says low h =
       goes_to old.nodes old.id act.Nothing x _ new said [] [] leaves says refl
       (goes_writing old.nodes old.id act.Nothing x old a stands low h)
@@ -165,7 +165,7 @@ module _ (old new : Mind) (said : Response) (x : Local Command) (stands : MindSt
         let then : Proposing = with_promised old.proposing from p in
         let first : MayGo old.nodes old.id in' x (record old { proposing = then }) [] =
         goes_holding old.nodes old.id in' x old then stands
-        (promise_lem (fleet old.nodes) old.id from x old.proposing p of_all a_node stands.proposer) in
+        (promise_lem (membership old.nodes) old.id from x old.proposing p of_all a_node stands.proposer) in
         let both : Proposes in' x (after_promise old from p) =
         cond_both (begins_to_lead old.proposing then) (proposed then old.learning) (then, []) (Proposes in' x)
         (λ _. goes_then old.nodes old.id in' x (record old { proposing = then }) _ [] _ first
@@ -179,9 +179,9 @@ module _ (old new : Mind) (said : Response) (x : Local Command) (stands : MindSt
     submit_case client number op (leaves, says) =
         let r : Asked = asked client number op in
         let y : Local Command = submitting x r in
-        let again = submit_again_lem (fleet old.nodes) old.id act.Nothing x old.proposing r stands.proposer in
-        let last = submit_last_lem (fleet old.nodes) old.id act.Nothing x old.proposing r stands.proposer in
-        let more : Mind = record old { proposing = with_request old.proposing r } in
+        let again = submit_again_lem (membership old.nodes) old.id act.Nothing x old.proposing r stands.proposer in
+        let last = submit_last_lem (membership old.nodes) old.id act.Nothing x old.proposing r stands.proposer in
+        let more : ReplicaState = record old { proposing = with_request old.proposing r } in
         let both : Proposes act.Nothing y (after_submit old r) =
         cond_both (waits old r.client r.number) (old.proposing, []) (proposed (with_request old.proposing r) old.learning)
         (Proposes act.Nothing y)
@@ -189,11 +189,11 @@ module _ (old new : Mind) (said : Response) (x : Local Command) (stands : MindSt
         (proposer_changed old x old.proposing y stands again.stands refl refl refl refl refl refl))
         (λ _. goes_proposing old.nodes old.id act.Nothing y more some_node
         (proposer_changed old x (with_request old.proposing r) y stands last.stands refl refl refl refl refl refl)) in
-        subst (λ (n : Mind). MayComeTo old.nodes old.id act.Nothing (Request r ∷ []) x n said) (sym leaves)
+        subst (λ (n : ReplicaState). MayComeTo old.nodes old.id act.Nothing (Request r ∷ []) x n said) (sym leaves)
         (subst (MayComeTo old.nodes old.id act.Nothing (Request r ∷ []) x (record old { proposing = (after_submit old r).0 }))
         (sym says) (record {
           after = both.after;
-          does = does_then (fleet old.nodes) old.id act.Nothing again.does both.does;
+          does = does_then (membership old.nodes) old.id act.Nothing again.does both.does;
           stands = both.stands;
           sent = both.sent_ ∙ ap (λ l. x.sent ++ l) (sym (proposer_frames old.id old.nodes (after_submit old r).1));
           learnt = both.learnt ∙ sym (append-nil x.learnt);

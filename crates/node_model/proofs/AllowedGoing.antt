@@ -14,25 +14,25 @@ use Rattle.proposer.specs.Proposing.{Proposing}
 use Rattle.proposer.specs.Protocol.{ProposerStands, MayHold, MaySend}
 use Rattle.wire.specs.declared.frames.envelope.Envelope.{Envelope}
 use Rattle.node_model.specs.Fetching.{Fetching}
-use Rattle.node_model.specs.Minds.{Mind, position}
+use Rattle.node_model.specs.Replicas.{ReplicaState, position}
 use Rattle.node_model.specs.Outputs.{Response, sent}
-use Rattle.node_model.specs.Protocol.{fleet, frame_of, MindStands, MayComeTo}
+use Rattle.node_model.specs.Protocol.{membership, frame_of, ReplicaStands, MayComeTo}
 
--- node i may come from x to what stands for the new mind, and sends these frames alone on the way
-pub record MayGo (nodes i : ℕ) (input : act.Input Command) (x : Local Command) (new : Mind) (frames : List (Frame Command)) : Type 0 where
+-- node i may come from x to what stands for the new replica, and sends these frames alone on the way
+pub record MayGo (nodes i : ℕ) (input : act.Input Command) (x : Local Command) (new : ReplicaState) (frames : List (Frame Command)) : Type 0 where
   pub after : Local Command
-  pub does : Does (fleet nodes) i input x after
-  pub stands : MindStands new after
+  pub does : Does (membership nodes) i input x after
+  pub stands : ReplicaStands new after
   pub sent_ : after.sent ≡ x.sent ++ frames
   pub learnt : after.learnt ≡ x.learnt
   pub submitted : after.submitted ≡ x.submitted
 
 -- ---- what still stands
 -- another proposer stands, and what it shares with the acceptor and the learner is as it was
-pub proposer_changed : (m : Mind) (x : Local Command) (p : Proposing) (y : Local Command) → MindStands m x → ProposerStands p y
+pub proposer_changed : (m : ReplicaState) (x : Local Command) (p : Proposing) (y : Local Command) → ReplicaStands m x → ProposerStands p y
     → y.records.promise ≡ x.records.promise → y.records.vote ≡ x.records.vote → y.records.floor ≡ x.records.floor
-    → y.mind.learnt ≡ x.mind.learnt → y.mind.heard ≡ x.mind.heard → y.mind.position ≡ x.mind.position
-    → MindStands (record m { proposing = p }) y
+    → y.replica.learnt ≡ x.replica.learnt → y.replica.heard ≡ x.replica.heard → y.replica.position ≡ x.replica.position
+    → ReplicaStands (record m { proposing = p }) y
 proposer_changed m x p y s h promise vote floor learnt heard at = record {
   records = record {
     promise = promise ∙ s.records.promise;
@@ -50,23 +50,23 @@ proposer_changed m x p y s h promise vote floor learnt heard at = record {
 }
 
 -- the machine is nothing to the protocol
-pub machine_changed : (m : Mind) (x : Local Command) (machine : MachineState) → MindStands m x
-    → MindStands (record m { machine = machine }) x
+pub machine_changed : (m : ReplicaState) (x : Local Command) (machine : MachineState) → ReplicaStands m x
+    → ReplicaStands (record m { machine = machine }) x
 machine_changed m x machine s =
     record { records = s.records; learner = s.learner; proposer = s.proposer; position_ = s.position_; level = s.level }
 
 -- nor is what is fetched
-pub fetching_changed : (m : Mind) (x : Local Command) (f : Option Fetching) → MindStands m x → MindStands (record m { fetching = f }) x
+pub fetching_changed : (m : ReplicaState) (x : Local Command) (f : Option Fetching) → ReplicaStands m x → ReplicaStands (record m { fetching = f }) x
 fetching_changed m x f s =
     record { records = s.records; learner = s.learner; proposer = s.proposer; position_ = s.position_; level = s.level }
 
 module _ (nodes i : ℕ) (input : act.Input Command) where
   -- ---- ways
   -- it stays where it is
-  pub stays : (x : Local Command) (m : Mind) → MindStands m x → MayGo nodes i input x m []
+  pub stays : (x : Local Command) (m : ReplicaState) → ReplicaStands m x → MayGo nodes i input x m []
   stays x m s = record {
     after = x;
-    does = does_nothing (fleet nodes) i input x;
+    does = does_nothing (membership nodes) i input x;
     stands = s;
     sent_ = sym (append-nil x.sent);
     learnt = refl;
@@ -74,11 +74,11 @@ module _ (nodes i : ℕ) (input : act.Input Command) where
   }
 
   -- it goes on
-  pub goes_then : (x : Local Command) (mid new : Mind) (first next : List (Frame Command)) (g : MayGo nodes i input x mid first)
+  pub goes_then : (x : Local Command) (mid new : ReplicaState) (first next : List (Frame Command)) (g : MayGo nodes i input x mid first)
       → MayGo nodes i input g.after new next → MayGo nodes i input x new (first ++ next)
   goes_then x mid new first next g h = record {
     after = h.after;
-    does = does_then (fleet nodes) i input g.does h.does;
+    does = does_then (membership nodes) i input g.does h.does;
     stands = h.stands;
     sent_ = h.sent_ ∙ ap (λ l. l ++ next) g.sent_ ∙ append_assoc x.sent first next;
     learnt = h.learnt ∙ g.learnt;
@@ -86,8 +86,8 @@ module _ (nodes i : ℕ) (input : act.Input Command) where
   }
 
   -- it sends what it may, and stays what it is
-  pub goes_saying : (x : Local Command) (m : Mind) (frames : List (Frame Command)) → MindStands m x
-      → Does (fleet nodes) i input x (sending x frames) → MayGo nodes i input x m frames
+  pub goes_saying : (x : Local Command) (m : ReplicaState) (frames : List (Frame Command)) → ReplicaStands m x
+      → Does (membership nodes) i input x (sending x frames) → MayGo nodes i input x m frames
   goes_saying x m frames s does = record {
     after = sending x frames;
     does = does;
@@ -100,7 +100,7 @@ module _ (nodes i : ℕ) (input : act.Input Command) where
   }
 
   -- it comes to fetch something else
-  pub goes_fetching : (x : Local Command) (m : Mind) (f : Option Fetching) (frames : List (Frame Command))
+  pub goes_fetching : (x : Local Command) (m : ReplicaState) (f : Option Fetching) (frames : List (Frame Command))
       → MayGo nodes i input x m frames → MayGo nodes i input x (record m { fetching = f }) frames
   goes_fetching x m f frames g = record {
     after = g.after;
@@ -112,8 +112,8 @@ module _ (nodes i : ℕ) (input : act.Input Command) where
   }
 
   -- its acceptor answers, and has the floor that it had
-  pub goes_answering : (x : Local Command) (m : Mind) (a : Accepting) (frames : List (Frame Command)) → MindStands m x
-      → a.floor ≡ m.accepting.floor → MayAnswer (fleet nodes) i input x a m.proposing.round frames
+  pub goes_answering : (x : Local Command) (m : ReplicaState) (a : Accepting) (frames : List (Frame Command)) → ReplicaStands m x
+      → a.floor ≡ m.accepting.floor → MayAnswer (membership nodes) i input x a m.proposing.round frames
       → MayGo nodes i input x (record m { accepting = a }) frames
   goes_answering x m a frames s same h = record {
     after = record x { records = h.after; sent = x.sent ++ frames };
@@ -131,8 +131,8 @@ module _ (nodes i : ℕ) (input : act.Input Command) where
   }
 
   -- its acceptor writes and nothing is said, and its floor is no further than the position
-  pub goes_writing : (x : Local Command) (m : Mind) (a : Accepting) → MindStands m x → a.floor ≤ position m
-      → MayWrite (fleet nodes) i input x a m.proposing.round → MayGo nodes i input x (record m { accepting = a }) []
+  pub goes_writing : (x : Local Command) (m : ReplicaState) (a : Accepting) → ReplicaStands m x → a.floor ≤ position m
+      → MayWrite (membership nodes) i input x a m.proposing.round → MayGo nodes i input x (record m { accepting = a }) []
   goes_writing x m a s low h = record {
     after = record x { records = h.after };
     does = h.does;
@@ -149,39 +149,39 @@ module _ (nodes i : ℕ) (input : act.Input Command) where
   }
 
   -- it may write a checkpoint
-  pub checkpoint_written : (x : Local Command) (m : Mind) → MindStands m x
-      → MayWrite (fleet nodes) i input x (after_checkpoint m.accepting (position m) (snapshot_bytes m.machine)) m.proposing.round
+  pub checkpoint_written : (x : Local Command) (m : ReplicaState) → ReplicaStands m x
+      → MayWrite (membership nodes) i input x (after_checkpoint m.accepting (position m) (snapshot_bytes m.machine)) m.proposing.round
   checkpoint_written x m s =
-      checkpoint_writes (fleet nodes) i input x m.accepting m.proposing.round s.records (position m) (snapshot_bytes m.machine) s.level
+      checkpoint_writes (membership nodes) i input x m.accepting m.proposing.round s.records (position m) (snapshot_bytes m.machine) s.level
 
   -- and trim its votes, which is nothing to the protocol
-  pub trim_written : (x : Local Command) (m : Mind) → MindStands m x
-      → MayWrite (fleet nodes) i input x (after_trim m.accepting) m.proposing.round
+  pub trim_written : (x : Local Command) (m : ReplicaState) → ReplicaStands m x
+      → MayWrite (membership nodes) i input x (after_trim m.accepting) m.proposing.round
   trim_written x m s = record {
     after = x.records;
-    does = does_nothing (fleet nodes) i input x;
+    does = does_nothing (membership nodes) i input x;
     stands = trim_stands m.accepting m.proposing.round x.records s.records;
   }
 
   -- its proposer comes to another campaign
-  pub goes_holding : (x : Local Command) (m : Mind) (p : Proposing) → MindStands m x → MayHold (fleet nodes) i input x p
+  pub goes_holding : (x : Local Command) (m : ReplicaState) (p : Proposing) → ReplicaStands m x → MayHold (membership nodes) i input x p
       → MayGo nodes i input x (record m { proposing = p }) []
   goes_holding x m p s h = record {
-    after = record x { mind = record x.mind { campaign = h.campaign } };
+    after = record x { replica = record x.replica { campaign = h.campaign } };
     does = h.does;
-    stands = proposer_changed m x p (record x { mind = record x.mind { campaign = h.campaign } }) s h.stands refl refl refl refl refl refl;
+    stands = proposer_changed m x p (record x { replica = record x.replica { campaign = h.campaign } }) s h.stands refl refl refl refl refl refl;
     sent_ = sym (append-nil x.sent);
     learnt = refl;
     submitted = refl;
   }
 
   -- and sends
-  pub goes_sending : (x : Local Command) (m : Mind) (p : Proposing) (frames : List (Frame Command)) → MindStands m x
-      → MaySend (fleet nodes) i input x p frames → MayGo nodes i input x (record m { proposing = p }) frames
+  pub goes_sending : (x : Local Command) (m : ReplicaState) (p : Proposing) (frames : List (Frame Command)) → ReplicaStands m x
+      → MaySend (membership nodes) i input x p frames → MayGo nodes i input x (record m { proposing = p }) frames
   goes_sending x m p frames s h =
       let y : Local Command = record x {
         records = h.records;
-        mind = record x.mind { campaign = h.campaign };
+        replica = record x.replica { campaign = h.campaign };
         sent = x.sent ++ frames;
       } in
       record {
@@ -195,11 +195,11 @@ module _ (nodes i : ℕ) (input : act.Input Command) where
 
   -- ---- what it comes to
   -- so it may come to what it says then
-  pub goes_to : (x : Local Command) (m new : Mind) (said : Response) (sends : List Envelope) (frames : List (Frame Command))
+  pub goes_to : (x : Local Command) (m new : ReplicaState) (said : Response) (sends : List Envelope) (frames : List (Frame Command))
       → new ≡ m → said ≡ sent sends → map frame_of sends ≡ frames → MayGo nodes i input x m frames
       → MayComeTo nodes i input [] x new said
   goes_to x m new said sends frames leaves says same g =
-      subst (λ (n : Mind). MayComeTo nodes i input [] x n said) (sym leaves)
+      subst (λ (n : ReplicaState). MayComeTo nodes i input [] x n said) (sym leaves)
       (subst (MayComeTo nodes i input [] x m) (sym says) (record {
         after = g.after;
         does = g.does;

@@ -5,7 +5,7 @@ use Rattle.std.proofs.lemmas.List.{map-append}
 use Rattle.synod.specs.declared.vote.Vote.{Vote}
 use Rattle.synod.specs.Records.{put}
 use Rattle.synod.specs.Acts as act
-use Rattle.synod.specs.Acts.{Fleet, Local, Does}
+use Rattle.synod.specs.Acts.{Membership, Local, Does}
 use Rattle.synod.proofs.Doing.{does_nothing, does_then}
 use Rattle.synod.proofs.Puts.{put_same}
 use Rattle.sessions.specs.Asked.{Asked}
@@ -26,9 +26,9 @@ use Rattle.wire.specs.declared.frames.envelope.Envelope.{Envelope}
 use Rattle.wire.specs.declared.frames.message.Message.TheVariants.{Accepted, Decided}
 use Rattle.node_model.specs.Executing.{Executing, executing, executed}
 use Rattle.node_model.specs.Fetching.{still_fetched}
-use Rattle.node_model.specs.Minds.{Mind, position}
+use Rattle.node_model.specs.Replicas.{ReplicaState, position}
 use Rattle.node_model.specs.Outputs.{Response, silence}
-use Rattle.node_model.specs.Protocol.{fleet, message_of, frame_of, MindStands, MayComeTo}
+use Rattle.node_model.specs.Protocol.{membership, message_of, frame_of, ReplicaStands, MayComeTo}
 use Rattle.node_model.specs.Sending.{ask_sends}
 use Rattle.node_model.specs.Taking.{TakesMessage, Hears, Learns, executing_of, execution, news, proposer_of, after_news, proposer_sends}
 use Rattle.node_model.proofs.AllowedSends.{ArePlainFrom, proposer_frames, ask_plain, says_sends}
@@ -36,13 +36,13 @@ use Rattle.node_model.proofs.AllowedGoing.{MayGo, machine_changed, fetching_chan
 use Rattle.node_model.proofs.AllowedCases.{goes_proposing}
 
 -- ---- what is executed waits no more
-module _ (f : Fleet Command) (i : ℕ) (in' : act.Input Command) (p : Proposing) where
+module _ (f : Membership Command) (i : ℕ) (in' : act.Input Command) (p : Proposing) where
   -- with these requests that wait
   abbrev waiting_at : List Asked → Proposing
   waiting_at rs = record p { waiting = rs }
 
   pub holds_then : (x : Local Command) (q : Proposing) (first : MayHold f i in' x q) (r : Proposing)
-      → MayHold f i in' (record x { mind = record x.mind { campaign = first.campaign } }) r → MayHold f i in' x r
+      → MayHold f i in' (record x { replica = record x.replica { campaign = first.campaign } }) r → MayHold f i in' x r
   holds_then x q first r next = record {
     campaign = next.campaign;
     does = does_then f i in' first.does next.does;
@@ -51,39 +51,39 @@ module _ (f : Fleet Command) (i : ℕ) (in' : act.Input Command) (p : Proposing)
 
   pub execution_holds : (cs : List Command) (e : Executing) (slot : ℕ) (x : Local Command) → ProposerStands (waiting_at e.waiting) x
       → MayHold f i in' x (waiting_at (executed e slot cs).waiting)
-  execution_holds [] e slot x h = record { campaign = x.mind.campaign; does = does_nothing f i in' x; stands = h }
+  execution_holds [] e slot x h = record { campaign = x.replica.campaign; does = does_nothing f i in' x; stands = h }
   execution_holds (NoOp ∷ cs) e slot x h = execution_holds cs (executing e slot NoOp) (suc slot) x h
   execution_holds (Request r ∷ cs) e slot x h =
       let first = execution_lem f i in' x (waiting_at e.waiting) r.client r.number h in
       holds_then x _ first (waiting_at (executed (executing e slot (Request r)) (suc slot) cs).waiting)
       (execution_holds cs (executing e slot (Request r)) (suc slot)
-      (record x { mind = record x.mind { campaign = first.campaign } }) first.stands)
+      (record x { replica = record x.replica { campaign = first.campaign } }) first.stands)
 
 -- ---- the learner has heard some news
 -- node i may come to where the learner stands so, and the log is executed as far as it has learnt
-pub record HasHeard (nodes i : ℕ) (in' : act.Input Command) (x : Local Command) (old : Mind) (l : Learning) (c : Command)
+pub record HasHeard (nodes i : ℕ) (in' : act.Input Command) (x : Local Command) (old : ReplicaState) (l : Learning) (c : Command)
     (learned : Option Learned) : Type 0 where
   pub after : Local Command
-  pub does : Does (fleet nodes) i in' x after
-  pub stands : MindStands (record old { learning = l }) after
+  pub does : Does (membership nodes) i in' x after
+  pub stands : ReplicaStands (record old { learning = l }) after
   pub sent : after.sent ≡ x.sent
   pub learnt : after.learnt ≡ x.learnt ++ learnt_by i c learned
   pub submitted : after.submitted ≡ x.submitted
 
-heard_lem : (nodes i : ℕ) (in' : act.Input Command) (x : Local Command) (old : Mind) (l : Learning) (c : Command) (learned : Option Learned)
-    → MindStands old x → position old ≤ prefix l → MayLearn (fleet nodes) i in' x c learned l → HasHeard nodes i in' x old l c learned
+heard_lem : (nodes i : ℕ) (in' : act.Input Command) (x : Local Command) (old : ReplicaState) (l : Learning) (c : Command) (learned : Option Learned)
+    → ReplicaStands old x → position old ≤ prefix l → MayLearn (membership nodes) i in' x c learned l → HasHeard nodes i in' x old l c learned
 heard_lem nodes i in' x old l c learned s grows h =
     let y : Local Command = record x {
-      mind = record x.mind { learnt = h.learnt; heard = h.heard };
+      replica = record x.replica { learnt = h.learnt; heard = h.heard };
       learnt = x.learnt ++ learnt_by i c learned;
     } in
     let proposer : ProposerStands old.proposing y =
     record { round = s.proposer.round; campaign = s.proposer.campaign; waiting = s.proposer.waiting } in
-    let up : y.mind.position ≤ prefix l = subst (λ (n : ℕ). n ≤ prefix l) (sym s.position_) grows in
-    let next = advance_lem (fleet nodes) i in' y old.proposing (prefix l) up proposer in
+    let up : y.replica.position ≤ prefix l = subst (λ (n : ℕ). n ≤ prefix l) (sym s.position_) grows in
+    let next = advance_lem (membership nodes) i in' y old.proposing (prefix l) up proposer in
     record {
-      after = record y { mind = record y.mind { position = prefix l } };
-      does = does_then (fleet nodes) i in' h.does next.does;
+      after = record y { replica = record y.replica { position = prefix l } };
+      does = does_then (membership nodes) i in' h.does next.does;
       stands = record {
         records = s.records;
         learner = record { learnt = h.stands.learnt; heard = h.stands.heard };
@@ -113,9 +113,9 @@ decided_there old l slot c n (learns_decided open' is same) =
     ap (λ (k : Learning). k.learnt n.slot) same ∙ ap (λ (s : ℕ). put old.learnt slot (Some c) s) at ∙ put_same old.learnt slot (Some c)
 
 -- ---- and the node goes on from there
-module _ (old : Mind) (some_node : 1 ≤ old.nodes) (in' : act.Input Command) (x : Local Command) (l : Learning) (c : Command)
-    (asks : List Envelope) (plain : ArePlainFrom old.id asks) (new : Mind) (said : Response) where
-  abbrev with_news : Mind
+module _ (old : ReplicaState) (some_node : 1 ≤ old.nodes) (in' : act.Input Command) (x : Local Command) (l : Learning) (c : Command)
+    (asks : List Envelope) (plain : ArePlainFrom old.id asks) (new : ReplicaState) (said : Response) where
+  abbrev with_news : ReplicaState
   with_news = record old { learning = l }
 
   -- the slot's proposal is closed, what was executed waits no more, the proposer proposes, and questions are asked
@@ -124,16 +124,16 @@ module _ (old : Mind) (some_node : 1 ≤ old.nodes) (in' : act.Input Command) (x
       MayGo old.nodes old.id in' y (record with_news { proposing = (after_news old slot l).0 })
       (frames_of_all old.id old.nodes (after_news old slot l).1 ++ map frame_of asks)
 
-  goes_on : (y : Local Command) (slot : ℕ) → MindStands with_news y → l.learnt slot ≡ Some c → Goes y slot
+  goes_on : (y : Local Command) (slot : ℕ) → ReplicaStands with_news y → l.learnt slot ≡ Some c → Goes y slot
   goes_on y slot s there =
       let closed : Proposing = after_learned old.proposing slot in
       let first : MayGo old.nodes old.id in' y (record with_news { proposing = closed }) [] =
       goes_holding old.nodes old.id in' y with_news closed s
-      (learned_lem (fleet old.nodes) old.id in' y old.proposing slot (inr (c, s.learner.learnt slot ∙ there)) s.proposer) in
+      (learned_lem (membership old.nodes) old.id in' y old.proposing slot (inr (c, s.learner.learnt slot ∙ there)) s.proposer) in
       let then : Proposing = proposer_of old slot (execution old l) in
       let next : MayGo old.nodes old.id in' first.after (record with_news { proposing = then }) [] =
       goes_holding old.nodes old.id in' first.after (record with_news { proposing = closed }) then first.stands
-      (execution_holds (fleet old.nodes) old.id in' closed (news old l) (executing_of old []) (position old) first.after
+      (execution_holds (membership old.nodes) old.id in' closed (news old l) (executing_of old []) (position old) first.after
       first.stands.proposer) in
       let proposing : MayGo old.nodes old.id in' next.after (record with_news { proposing = (after_news old slot l).0 })
       (frames_of_all old.id old.nodes (after_news old slot l).1) =
@@ -141,7 +141,7 @@ module _ (old : Mind) (some_node : 1 ≤ old.nodes) (in' : act.Input Command) (x
       let asking : MayGo old.nodes old.id in' proposing.after (record with_news { proposing = (after_news old slot l).0 })
       (map frame_of asks) =
       goes_saying old.nodes old.id in' proposing.after _ (map frame_of asks) proposing.stands
-      (says_sends (fleet old.nodes) old.id in' proposing.after asks plain) in
+      (says_sends (membership old.nodes) old.id in' proposing.after asks plain) in
       goes_then old.nodes old.id in' y _ _ [] _ first
       (goes_then old.nodes old.id in' first.after _ _ [] _ next
       (goes_then old.nodes old.id in' next.after _ _ _ _ proposing asking))
@@ -155,7 +155,7 @@ module _ (old : Mind) (some_node : 1 ≤ old.nodes) (in' : act.Input Command) (x
       let same : map frame_of (proposer_sends old (after_news old n.slot l) ++ asks) ≡ frames =
       map-append frame_of (proposer_sends old (after_news old n.slot l)) asks
       ∙ ap (λ fs. fs ++ map frame_of asks) (proposer_frames old.id old.nodes (after_news old n.slot l).1) in
-      subst (λ (m : Mind). MayComeTo old.nodes old.id in' [] x m said) (sym k.leaves)
+      subst (λ (m : ReplicaState). MayComeTo old.nodes old.id in' [] x m said) (sym k.leaves)
       (subst (MayComeTo old.nodes old.id in' [] x (record old {
         learning = l;
         proposing = (after_news old n.slot l).0;
@@ -163,7 +163,7 @@ module _ (old : Mind) (some_node : 1 ≤ old.nodes) (in' : act.Input Command) (x
         fetching = still_fetched (prefix l) old.fetching;
       })) (sym k.says) (record {
         after = g.after;
-        does = does_then (fleet old.nodes) old.id in' h.does g.does;
+        does = does_then (membership old.nodes) old.id in' h.does g.does;
         stands = fetching_changed _ g.after (still_fetched (prefix l) old.fetching)
             (machine_changed (record with_news { proposing = (after_news old n.slot l).0 }) g.after (execution old l).machine g.stands);
         sent = g.sent_ ∙ ap (λ fs. fs ++ frames) h.sent ∙ ap (λ fs. x.sent ++ fs) (sym same);
@@ -175,7 +175,7 @@ module _ (old : Mind) (some_node : 1 ≤ old.nodes) (in' : act.Input Command) (x
   learns_none : HasHeard old.nodes old.id in' x old l c None → new ≡ with_news → said ≡ silence
       → MayComeTo old.nodes old.id in' [] x new said
   learns_none h leaves says =
-      subst (λ (m : Mind). MayComeTo old.nodes old.id in' [] x m said) (sym leaves)
+      subst (λ (m : ReplicaState). MayComeTo old.nodes old.id in' [] x m said) (sym leaves)
       (subst (MayComeTo old.nodes old.id in' [] x with_news) (sym says) (record {
         after = h.after;
         does = h.does;
@@ -192,14 +192,14 @@ module _ (old : Mind) (some_node : 1 ≤ old.nodes) (in' : act.Input Command) (x
   hears_lem (Some n) h there k = learns_lem n h (there n refl) k
 
 -- ---- each news
-module _ (old new : Mind) (said : Response) (x : Local Command) (stands : MindStands old x) (some_node : 1 ≤ old.nodes) where
+module _ (old new : ReplicaState) (said : Response) (x : Local Command) (stands : ReplicaStands old x) (some_node : 1 ≤ old.nodes) where
   pub vote_case : (from : ℕ) (v : Vote Command) → old.nodes ≡ old.learning.nodes → TakesMessage old from (Accepted v) new said
       → MayComeTo old.nodes old.id (act.Came from (message_of (Accepted v))) [] x new said
   vote_case from v of_all (learned, l, hears_, k) =
       let in' : act.Input Command = act.Came from (message_of (Accepted v)) in
       hears_lem old some_node in' x l v.command [] tt new said learned
       (heard_lem old.nodes old.id in' x old l v.command learned stands (vote_grows old.learning l from v learned hears_)
-      (allows_vote (fleet old.nodes) old.id x old.learning stands.learner from v of_all learned l hears_))
+      (allows_vote (membership old.nodes) old.id x old.learning stands.learner from v of_all learned l hears_))
       (λ n is. vote_there old.learning l from v n (subst (λ (o : Option Learned). HearsVote old.learning from v o l) is hears_)) k
 
   pub decided_case : (from slot : ℕ) (c : Command) → TakesMessage old from (Decided slot c) new said
@@ -208,5 +208,5 @@ module _ (old new : Mind) (said : Response) (x : Local Command) (stands : MindSt
       let in' : act.Input Command = act.Came from (message_of (Decided slot c)) in
       hears_lem old some_node in' x l c (ask_sends old.id from (prefix l)) (ask_plain old.id from (prefix l)) new said learned
       (heard_lem old.nodes old.id in' x old l c learned stands (decided_grows old.learning l slot c learned hears_)
-      (allows_decided (fleet old.nodes) old.id x old.learning stands.learner in' slot c refl learned l hears_))
+      (allows_decided (membership old.nodes) old.id x old.learning stands.learner in' slot c refl learned l hears_))
       (λ n is. decided_there old.learning l slot c n (subst (λ (o : Option Learned). HearsDecided old.learning slot c o l) is hears_)) k

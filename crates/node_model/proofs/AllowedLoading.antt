@@ -19,8 +19,8 @@ use Rattle.learner.specs.Protocol.{LearnerStands}
 use Rattle.proposer.specs.Proposing.{Proposing, loaded}
 use Rattle.proposer.specs.Protocol.{ProposerStands}
 use Rattle.node_model.specs.Loading.{IsLoaded, LoadsRound}
-use Rattle.node_model.specs.Minds.{Mind, position}
-use Rattle.node_model.specs.Protocol.{MindStands, RecordsHold, SaysRound}
+use Rattle.node_model.specs.Replicas.{ReplicaState, position}
+use Rattle.node_model.specs.Protocol.{ReplicaStands, RecordsHold, SaysRound}
 use Rattle.node_model.proofs.Learnt.{loaded_begins}
 
 -- ---- a record says one round
@@ -40,7 +40,7 @@ loads_round None id nodes p h =
     (none, h ∙ ap (loaded id nodes) (sym none))
 loads_round (Some bytes) id nodes p h = (h.0, h.1)
 
--- a mind that holds nothing but its position
+-- a replica that holds nothing but its position
 abbrev pub blank_at : ℕ → Volatile Command
 blank_at position = record blank { position = position }
 
@@ -50,7 +50,7 @@ unlearnt_stands nodes first position = record {
   heard = λ s a b c within told. (let bad : None ≡ Some c = told in absurd (cc));
 }
 
-idle_stands : (id nodes round position : ℕ) (x : Local Command) → x.records.round ≡ round → x.mind ≡ blank_at position
+idle_stands : (id nodes round position : ℕ) (x : Local Command) → x.records.round ≡ round → x.replica ≡ blank_at position
     → ProposerStands (loaded id nodes round) x
 idle_stands id nodes round position x same none = record {
   round = same;
@@ -66,7 +66,7 @@ covered_too records a b says_a says_b covered = λ s v low there.
     subst (λ (o : Option Ballot). rank v.ballot ≤ rank_of o) (one_sealed records a b says_a says_b)
     (covered s v (omega (arith, low, floor)) held)
 
-module _ (records : Records) (id nodes : ℕ) (m : Mind) (loads : IsLoaded records id nodes m) where
+module _ (records : Records) (id nodes : ℕ) (m : ReplicaState) (loads : IsLoaded records id nodes m) where
   round_loaded : SaysRound (records key.Round) m.proposing.round × (m.proposing ≡ loaded id nodes m.proposing.round)
   round_loaded = loads_round (records key.Round) id nodes m.proposing loads.proposing
 
@@ -79,7 +79,7 @@ module _ (records : Records) (id nodes : ℕ) (m : Mind) (loads : IsLoaded recor
   }
 
   module _ (a : Accepting) (round : ℕ) (x : Local Command) (holds : RecordsHold records a round) (stands : RecordsStand a round x.records)
-      (none : x.mind ≡ blank_at (position m)) where
+      (none : x.replica ≡ blank_at (position m)) where
     floors_one : a.floor ≡ m.accepting.floor
     floors_one = one_floor records a m.accepting holds.acceptor loads.accepting
 
@@ -94,7 +94,7 @@ module _ (records : Records) (id nodes : ℕ) (m : Mind) (loads : IsLoaded recor
     }
 
     -- what it holds stands
-    pub loaded_stands : MindStands m x
+    pub loaded_stands : ReplicaStands m x
     loaded_stands = record {
       records = records_stand;
       learner = subst (LearnerStands m.learning) (sym none)

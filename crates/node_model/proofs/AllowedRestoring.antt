@@ -16,9 +16,9 @@ use Rattle.proposer.proofs.AllowedClosing.{skipped_lem}
 use Rattle.proposer.proofs.AllowedMoves.{advance_lem}
 use Rattle.wire.specs.Parts.{Piece}
 use Rattle.wire.specs.declared.frames.message.Message.TheVariants.{SnapAsk}
-use Rattle.node_model.specs.Minds.{Mind, position}
+use Rattle.node_model.specs.Replicas.{ReplicaState, position}
 use Rattle.node_model.specs.Outputs.{Response}
-use Rattle.node_model.specs.Protocol.{fleet, frame_of, MindStands, MayComeTo}
+use Rattle.node_model.specs.Protocol.{membership, frame_of, ReplicaStands, MayComeTo}
 use Rattle.node_model.specs.Sending.{to_one, ask_sends}
 use Rattle.node_model.specs.Taking.{TakesPart, RestoresText, Restores, restored, executing_of, execution_from, executed_to_the_end, learnt_from}
 use Rattle.node_model.specs.Taking.{proposed, proposer_sends, with_proposer}
@@ -52,32 +52,32 @@ skipped_from l target above =
     subst (λ (k : Learning). target ≤ prefix k) (sym (skipped_is l target above)) (from_the_first (record l { first = target }))
 
 -- ---- the machine of a text takes the place of the node's
-module _ (old : Mind) (some_node : 1 ≤ old.nodes) (in' : act.Input Command) (x : Local Command) (stands : MindStands old x)
+module _ (old : ReplicaState) (some_node : 1 ≤ old.nodes) (in' : act.Input Command) (x : Local Command) (stands : ReplicaStands old x)
     (from target : ℕ) (machine : MachineState) (ahead : position old < target) where
   abbrev l : Learning
   l = skipped old.learning target
 
-  abbrev m : Mind
+  abbrev m : ReplicaState
   m = restored old target machine
 
-  abbrev then : Mind
+  abbrev then : ReplicaState
   then = executed_to_the_end m target
 
-  abbrev left : Mind
+  abbrev left : ReplicaState
   left = with_proposer then (proposed then.proposing l)
 
   -- the position rises
   skips : MayGo old.nodes old.id in' x (record old { learning = l }) []
   skips =
       let grows : position old ≤ prefix l = skipped_grows old.learning target in
-      let up : x.mind.position ≤ prefix l = omega (arith, grows, stands.position_) in
-      let next = advance_lem (fleet old.nodes) old.id in' x old.proposing (prefix l) up stands.proposer in
+      let up : x.replica.position ≤ prefix l = omega (arith, grows, stands.position_) in
+      let next = advance_lem (membership old.nodes) old.id in' x old.proposing (prefix l) up stands.proposer in
       record {
-        after = record x { mind = record x.mind { position = prefix l } };
+        after = record x { replica = record x.replica { position = prefix l } };
         does = next.does;
         stands = record {
           records = stands.records;
-          learner = subst (λ (k : Learning). LearnerStands k (record x.mind { position = prefix l }))
+          learner = subst (λ (k : Learning). LearnerStands k (record x.replica { position = prefix l }))
               (sym (skipped_is old.learning target ahead)) (record { learnt = stands.learner.learnt; heard = stands.learner.heard });
           proposer = next.stands;
           position_ = refl;
@@ -92,17 +92,17 @@ module _ (old : Mind) (some_node : 1 ≤ old.nodes) (in' : act.Input Command) (x
   goes_on : MayGo old.nodes old.id in' x left
       (frames_of_all old.id old.nodes (proposed then.proposing l).1 ++ map frame_of (ask_sends old.id from (prefix l)))
   goes_on =
-      let skipping : Mind = record old { learning = l } in
-      let reached : target ≤ skips.after.mind.position =
+      let skipping : ReplicaState = record old { learning = l } in
+      let reached : target ≤ skips.after.replica.position =
       subst (λ (n : ℕ). target ≤ n) (sym skips.stands.position_) (skipped_from old.learning target ahead) in
       let closed : MayGo old.nodes old.id in' skips.after (record skipping { proposing = m.proposing }) [] =
       goes_holding old.nodes old.id in' skips.after skipping m.proposing skips.stands
-      (skipped_lem (fleet old.nodes) old.id in' skips.after old.proposing target reached skips.stands.proposer) in
+      (skipped_lem (membership old.nodes) old.id in' skips.after old.proposing target reached skips.stands.proposer) in
       let ended : MayGo old.nodes old.id in' closed.after (record skipping { proposing = then.proposing }) [] =
       goes_holding old.nodes old.id in' closed.after (record skipping { proposing = m.proposing }) then.proposing closed.stands
-      (execution_holds (fleet old.nodes) old.id in' m.proposing (learnt_from m target) (executing_of m []) target closed.after
+      (execution_holds (membership old.nodes) old.id in' m.proposing (learnt_from m target) (executing_of m []) target closed.after
       closed.stands.proposer) in
-      let here : MindStands then ended.after = record {
+      let here : ReplicaStands then ended.after = record {
         records = ended.stands.records;
         learner = ended.stands.learner;
         proposer = ended.stands.proposer;
@@ -114,14 +114,14 @@ module _ (old : Mind) (some_node : 1 ≤ old.nodes) (in' : act.Input Command) (x
       let asks = ask_sends old.id from (prefix l) in
       let asking : MayGo old.nodes old.id in' proposing.after left (map frame_of asks) =
       goes_saying old.nodes old.id in' proposing.after left (map frame_of asks) proposing.stands
-      (says_sends (fleet old.nodes) old.id in' proposing.after asks (ask_plain old.id from (prefix l))) in
+      (says_sends (membership old.nodes) old.id in' proposing.after asks (ask_plain old.id from (prefix l))) in
       goes_then old.nodes old.id in' x _ _ [] _ skips
       (goes_then old.nodes old.id in' skips.after _ _ [] _ closed
       (goes_then old.nodes old.id in' closed.after _ _ [] _ ended
       (goes_then old.nodes old.id in' ended.after _ _ _ _ proposing asking)))
 
   -- what it says of it
-  abbrev says_of : Mind → Response
+  abbrev says_of : ReplicaState → Response
   says_of n = record {
     restored = Some target;
     learnt = None;
@@ -144,16 +144,16 @@ module _ (old : Mind) (some_node : 1 ≤ old.nodes) (in' : act.Input Command) (x
         submitted = goes_on.submitted ∙ sym (append-nil x.submitted);
       }
 
-  restores_lem : (new : Mind) (said : Response) → Restores old from target machine new said → MayComeTo old.nodes old.id in' [] x new said
+  restores_lem : (new : ReplicaState) (said : Response) → Restores old from target machine new said → MayComeTo old.nodes old.id in' [] x new said
   restores_lem new said k =
       let leaves : new ≡ left = k.leaves
-      ∙ ap (λ (n : Mind). with_proposer (executed_to_the_end n target) (proposed (executed_to_the_end n target).proposing n.learning)) k.begins in
+      ∙ ap (λ (n : ReplicaState). with_proposer (executed_to_the_end n target) (proposed (executed_to_the_end n target).proposing n.learning)) k.begins in
       let says : said ≡ says_of m = k.says ∙ ap says_of k.begins in
-      subst (λ (n : Mind). MayComeTo old.nodes old.id in' [] x n said) (sym leaves)
+      subst (λ (n : ReplicaState). MayComeTo old.nodes old.id in' [] x n said) (sym leaves)
       (subst (MayComeTo old.nodes old.id in' [] x left) (sym says) comes_to)
 
 -- ---- a part has come
-module _ (old new : Mind) (said : Response) (x : Local Command) (stands : MindStands old x) (some_node : 1 ≤ old.nodes)
+module _ (old new : ReplicaState) (said : Response) (x : Local Command) (stands : ReplicaStands old x) (some_node : 1 ≤ old.nodes)
     (in' : act.Input Command) where
   text_case : (from target : ℕ) (text : List ℕ) → position old < target → RestoresText old from target text new said
       → MayComeTo old.nodes old.id in' [] x new said

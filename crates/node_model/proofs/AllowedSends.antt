@@ -7,7 +7,7 @@ use Rattle.std.proofs.lemmas.List.{map-append}
 use Rattle.synod.specs.Messages as synod
 use Rattle.synod.specs.Messages.{Frame, to_first}
 use Rattle.synod.specs.Acts as act
-use Rattle.synod.specs.Acts.{Fleet, Local, Input, Does}
+use Rattle.synod.specs.Acts.{Membership, Local, Input, Does}
 use Rattle.synod.specs.declared.slot.TheConstants.{SLOTS}
 use Rattle.synod.proofs.Doing.{sending, does_nothing, does_one, does_then}
 use Rattle.sessions.specs.declared.command.Command.{Command}
@@ -150,7 +150,7 @@ frame_is_plain i e p =
     ap (λ (m : synod.Message Command). record { sender = i; receiver = e.to; message = m }) (sym p.plain)
     ∙ ap (λ (a : ℕ). record { sender = a; receiver = e.to; message = message_of e.message }) (sym p.sender)
 
-module _ (f : Fleet Command) (i : ℕ) (input : Input Command) where
+module _ (f : Membership Command) (i : ℕ) (input : Input Command) where
   pub says_sends : (x : Local Command) (es : List Envelope) → ArePlainFrom i es → Does f i input x (sending x (map frame_of es))
   says_sends x [] p = subst (Does f i input x) (sym (sending_nothing x)) (does_nothing f i input x)
   says_sends x (e ∷ es) p =
@@ -161,7 +161,7 @@ module _ (f : Fleet Command) (i : ℕ) (input : Input Command) where
       (does_then f i input one (says_sends (sending x (frame_of e ∷ [])) es p.1))
 
   -- what is learnt may be told, and where the floor is
-  pub tells_decided : (x : Local Command) (to slot floor : ℕ) (o : Option Command) → x.mind.learnt slot ≡ o
+  pub tells_decided : (x : Local Command) (to slot floor : ℕ) (o : Option Command) → x.replica.learnt slot ≡ o
       → Does f i input x (sending x (map frame_of (decided_sends i to slot floor o)))
   tells_decided x to slot floor None here = says_sends x (decided_sends i to slot floor None) (behind_plain i to slot floor)
   tells_decided x to slot floor (Some c) here = does_one f i input x (act.Reports to slot c) here

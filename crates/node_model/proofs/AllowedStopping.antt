@@ -15,14 +15,14 @@ use Rattle.wire.specs.declared.frames.message.Message.{Message}
 use Rattle.wire.specs.declared.frames.message.Message.TheVariants.{Prepare, Accept}
 use Rattle.node_model.specs.declared.input.Input.{Input}
 use Rattle.node_model.specs.declared.input.Input.TheVariants as input
-use Rattle.node_model.specs.Inputs.{concerns}
-use Rattle.node_model.specs.Loading.{IsMindOf}
-use Rattle.node_model.specs.Minds.{Mind}
-use Rattle.node_model.specs.Protocol.{fleet, coming, input_of, message_of, MindStands, MayStop}
+use Rattle.node_model.specs.Inputs.{is_for_this_run}
+use Rattle.node_model.specs.Loading.{IsReplicaOf}
+use Rattle.node_model.specs.Replicas.{ReplicaState}
+use Rattle.node_model.specs.Protocol.{membership, coming, input_of, message_of, ReplicaStands, MayStop}
 use Rattle.node_model.specs.Protocol.{accepting_on, accepting_if, accepting_after, round_after}
 use Rattle.node_model.proofs.AllowedGoing.{checkpoint_written, trim_written}
 
-module _ (m : Mind) (x : Local Command) (stands : MindStands m x) where
+module _ (m : ReplicaState) (x : Local Command) (stands : ReplicaStands m x) where
   abbrev May : act.Input Command → Accepting → ℕ → Type 0
   May in' a round = MayStop m.nodes m.id in' x a round
 
@@ -30,16 +30,16 @@ module _ (m : Mind) (x : Local Command) (stands : MindStands m x) where
   pub stops_at_once : (in' : act.Input Command) → May in' m.accepting m.proposing.round
   stops_at_once in' = record {
     records = x.records;
-    does = (stop_lem (fleet m.nodes) m.id in' x m.proposing stands.proposer).does;
+    does = (stop_lem (membership m.nodes) m.id in' x m.proposing stands.proposer).does;
     stands = stands.records;
   }
 
   -- the acceptor's write was made
-  stops_written : (in' : act.Input Command) (a : Accepting) → MayWrite (fleet m.nodes) m.id in' x a m.proposing.round
+  stops_written : (in' : act.Input Command) (a : Accepting) → MayWrite (membership m.nodes) m.id in' x a m.proposing.round
       → May in' a m.proposing.round
   stops_written in' a w = record {
     records = w.after;
-    does = does_then (fleet m.nodes) m.id in' w.does (does_one (fleet m.nodes) m.id in' (record x { records = w.after }) act.Forgets tt);
+    does = does_then (membership m.nodes) m.id in' w.does (does_one (membership m.nodes) m.id in' (record x { records = w.after }) act.Forgets tt);
     stands = w.stands;
   }
 
@@ -47,7 +47,7 @@ module _ (m : Mind) (x : Local Command) (stands : MindStands m x) where
   stops_begun : m.proposing.id ≡ m.id → m.id < 7 → May act.Nothing m.accepting (next_round m.proposing)
   stops_begun own a_node = record {
     records = with_round x.records (next_round m.proposing);
-    does = (stop_written_lem (fleet m.nodes) m.id act.Nothing x m.proposing own (omega (arith, own, a_node)) stands.proposer).does;
+    does = (stop_written_lem (membership m.nodes) m.id act.Nothing x m.proposing own (omega (arith, own, a_node)) stands.proposer).does;
     stands = record {
       promise = stands.records.promise;
       vote = stands.records.vote;
@@ -59,10 +59,10 @@ module _ (m : Mind) (x : Local Command) (stands : MindStands m x) where
   message_stops : (from : ℕ) (message : Message) → May (act.Came from (message_of message)) (accepting_on m message) m.proposing.round
   message_stops from (Prepare ballot first) =
       let in' : act.Input Command = act.Came from (message_of (Prepare ballot first)) in
-      stops_written in' _ (prepare_writes (fleet m.nodes) m.id in' x m.accepting m.proposing.round stands.records ballot first)
+      stops_written in' _ (prepare_writes (membership m.nodes) m.id in' x m.accepting m.proposing.round stands.records ballot first)
   message_stops from (Accept v) =
       let in' : act.Input Command = act.Came from (message_of (Accept v)) in
-      stops_written in' _ (accept_writes (fleet m.nodes) m.id in' x m.accepting m.proposing.round stands.records v refl)
+      stops_written in' _ (accept_writes (membership m.nodes) m.id in' x m.accepting m.proposing.round stands.records v refl)
   message_stops from other = stops_at_once _
 
   envelope_stops : (e : Envelope) (b : Bool) → May (coming e b) (accepting_if m e b) m.proposing.round
@@ -71,20 +71,20 @@ module _ (m : Mind) (x : Local Command) (stands : MindStands m x) where
 
   stops : (i : Input) → m.proposing.id ≡ m.id → m.id < 7 → May (input_of m.id m.nodes i) (accepting_after m i) (round_after m i)
   stops (input.Submit client number op) own a_node = stops_at_once act.Nothing
-  stops (input.Message e) own a_node = envelope_stops e (concerns m.id m.nodes e)
+  stops (input.Message e) own a_node = envelope_stops e (is_for_this_run m.id m.nodes e)
   stops input.Timeout own a_node = stops_begun own a_node
   stops input.Tick own a_node = stops_at_once act.Nothing
   stops input.Checkpoint own a_node = stops_written act.Nothing _ (checkpoint_written m.nodes m.id act.Nothing x m stands)
   stops input.Trim own a_node = stops_written act.Nothing _ (trim_written m.nodes m.id act.Nothing x m stands)
 
 -- the number of the node and that of all nodes are its own
-pub unwritten_allowed : (nodes id : ℕ) (m : Mind) (in' : act.Input Command) (x : Local Command) → IsMindOf id nodes m → MindStands m x
+pub unwritten_allowed : (nodes id : ℕ) (m : ReplicaState) (in' : act.Input Command) (x : Local Command) → IsReplicaOf id nodes m → ReplicaStands m x
     → MayStop nodes id in' x m.accepting m.proposing.round
 unwritten_allowed nodes id m in' x own stands =
     subst (λ (n : ℕ). MayStop n id in' x m.accepting m.proposing.round) own.of_all
     (subst (λ (i : ℕ). MayStop m.nodes i in' x m.accepting m.proposing.round) own.number (stops_at_once m x stands in'))
 
-pub written_allowed : (nodes id : ℕ) (m : Mind) (i : Input) (x : Local Command) → id < 7 → IsMindOf id nodes m → MindStands m x
+pub written_allowed : (nodes id : ℕ) (m : ReplicaState) (i : Input) (x : Local Command) → id < 7 → IsReplicaOf id nodes m → ReplicaStands m x
     → MayStop nodes id (input_of id nodes i) x (accepting_after m i) (round_after m i)
 written_allowed nodes id m i x a_node own stands =
     subst (λ (n : ℕ). MayStop n id (input_of id n i) x (accepting_after m i) (round_after m i)) own.of_all

@@ -24,9 +24,9 @@ use Rattle.wire.specs.declared.frames.message.Message.TheVariants.{Prepare, Prom
 use Rattle.node_model.specs.declared.fault.NodeFault.{NodeFault}
 use Rattle.node_model.specs.declared.input.Input.{Input}
 use Rattle.node_model.specs.declared.input.Input.TheVariants as input
-use Rattle.node_model.specs.Inputs.{names_run, concerns}
+use Rattle.node_model.specs.Inputs.{names_run, is_for_this_run}
 use Rattle.node_model.specs.Loading.{IsMember}
-use Rattle.node_model.specs.Minds.{Mind, position}
+use Rattle.node_model.specs.Replicas.{ReplicaState, position}
 use Rattle.node_model.specs.Nodes.{NodeState, NodeSteps, TakesInput}
 use Rattle.node_model.specs.Outputs.{Response}
 use Rattle.node_model.specs.Sending.{IsBetween, to_one, to_all, to_recipients, envelopes_of, envelopes, answer_sends, decided_sends, ask_sends}
@@ -38,7 +38,7 @@ use Rattle.node_model.specs.Taking.TakesPart.{passes, keeps, completes}
 use Rattle.node_model.specs.Taking.RestoresText.{restores, gives_up}
 
 -- an envelope that concerns a node comes from one of the run
-pub from_the_run : (id nodes : ℕ) (e : Envelope) → concerns id nodes e ≡ true → e.from < nodes
+pub from_the_run : (id nodes : ℕ) (e : Envelope) → is_for_this_run id nodes e ≡ true → e.from < nodes
 from_the_run id nodes e h =
     let of_run : (nat_lt e.from nodes && names_run nodes e.message) ≡ true =
     (and_parts (e.to == id) (nat_lt e.from nodes && names_run nodes e.message) h).1 in
@@ -116,7 +116,7 @@ module _ (nodes id : ℕ) (there : id < nodes) where
   both = All-append (IsBetween nodes)
 
 -- ---- each input
-module _ (old new : Mind) (said : Response) (there : old.id < old.nodes) where
+module _ (old new : ReplicaState) (said : Response) (there : old.id < old.nodes) where
   abbrev Sends : List Envelope → Type 0
   Sends es = All (IsBetween old.nodes) es
 
@@ -159,13 +159,13 @@ module _ (old new : Mind) (said : Response) (there : old.id < old.nodes) where
   message_sends from (SnapPart p) sender k = part_taken_sends from p sender k
   message_sends from (Behind floor) sender k = floor_sends floor (is_ahead old floor) k
 
-  envelope_sends : (e : Envelope) (b : Bool) → concerns old.id old.nodes e ≡ b → TakesEnvelope old e b new said → Sends said.sends
+  envelope_sends : (e : Envelope) (b : Bool) → is_for_this_run old.id old.nodes e ≡ b → TakesEnvelope old e b new said → Sends said.sends
   envelope_sends e false is k = says _ k.1 (none old.nodes old.id there)
   envelope_sends e true is k = message_sends e.from e.message (from_the_run old.id old.nodes e is) k
 
   pub takes_sends : (i : Input) → Takes old i new said → Sends said.sends
   takes_sends (input.Submit client number op) k = says _ k.1 (all_outgoing old.nodes old.id there _)
-  takes_sends (input.Message e) k = envelope_sends e (concerns old.id old.nodes e) refl k
+  takes_sends (input.Message e) k = envelope_sends e (is_for_this_run old.id old.nodes e) refl k
   takes_sends input.Timeout (prepare, starts, leaves, e) = says _ e (outgoing old.nodes old.id there prepare)
   takes_sends input.Tick k =
       says _ k.1 (both old.nodes old.id there _ _ (all_outgoing old.nodes old.id there _)
@@ -179,17 +179,17 @@ module _ {S : Type 0} (storages : Ghosts S) (id nodes : ℕ) (old new : NodeStat
   abbrev Said : Result Response NodeFault → Type 0
   Said r = IfOk r (λ said. All (IsBetween nodes) said.sends)
 
-  mind_between : (m : Mind) (said : Response) → old.up ≡ Some m → TakesInput storages old m i said new
+  replica_between : (m : ReplicaState) (said : Response) → old.up ≡ Some m → TakesInput storages old m i said new
       → All (IsBetween nodes) said.sends
-  mind_between m said up k =
+  replica_between m said up k =
       let own = is.up m up in
       subst (λ (n : ℕ). All (IsBetween n) said.sends) own.of_all
-      (takes_sends m k.mind said (omega (arith, there, own.number, own.of_all)) i k.takes)
+      (takes_sends m k.replica said (omega (arith, there, own.number, own.of_all)) i k.takes)
 
-  either_between : (o : Option Mind) (r : Result Response NodeFault) → old.up ≡ o → NodeSteps storages old i r new → Said r
+  either_between : (o : Option ReplicaState) (r : Result Response NodeFault) → old.up ≡ o → NodeSteps storages old i r new → Said r
   either_between None r e k = subst Said (sym (k.down e).0) tt
-  either_between (Some m) (Ok said) e k = mind_between m said e
-      (subst (λ (o : Option Mind). IfSome o (λ (n : Mind). TakesInput storages old n i said new)) e k.taken)
+  either_between (Some m) (Ok said) e k = replica_between m said e
+      (subst (λ (o : Option ReplicaState). IfSome o (λ (n : ReplicaState). TakesInput storages old n i said new)) e k.taken)
   either_between (Some m) (Err f) e k = tt
 
   pub steps_between : (r : Result Response NodeFault) → NodeSteps storages old i r new → Said r

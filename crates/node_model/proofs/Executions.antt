@@ -4,10 +4,10 @@ use Rattle.std.proofs.Common.{◌∙◌, subst, arith, rules}
 use Rattle.sessions.specs.Machines.{MachineState}
 use Rattle.sessions.specs.declared.command.Command.{Command}
 use Rattle.learner.specs.Prefixes.{IsPrefix}
-use Rattle.node_model.specs.declared.outputs.Executed.{Executed}
+use Rattle.node_model.specs.declared.outputs.ReplyOut.{ReplyOut}
 use Rattle.node_model.specs.Composition.{StandsForMore, RepliesToMore, AddsReplies}
 use Rattle.node_model.specs.Executing.{Executing, executed, commands, with_command}
-use Rattle.node_model.specs.Minds.{Mind, position}
+use Rattle.node_model.specs.Replicas.{ReplicaState, position}
 use Rattle.node_model.specs.Taking.{executing_of, with_executing, learnt_from}
 use Rattle.node_model.proofs.Commands.{commands_push, commands_length}
 use Rattle.node_model.proofs.Replying.{stands_for_none, stands_for_both, replies_to_both}
@@ -26,16 +26,16 @@ commands_from learnt slot p h =
     ap (λ (n : ℕ). commands learnt slot n) (let e : p - slot ≡ suc (p - suc slot) = omega (arith, h) in e)
 
 -- nothing is done yet
-pub stands_begun : (m : Mind) (from : ℕ) → StandsForMore m.machine m.machine (commands m.learning.learnt from (from - from))
+pub stands_begun : (m : ReplicaState) (from : ℕ) → StandsForMore m.machine m.machine (commands m.learning.learnt from (from - from))
 unfolding commands
 stands_begun m from =
     let none : from - from ≡ 0 = omega arith in
     subst (λ (n : ℕ). StandsForMore m.machine m.machine (commands m.learning.learnt from n)) (sym none) (stands_for_none m.machine)
 
-pub replies_begun : (m : Mind) (from : ℕ) → RepliesToMore m.machine from (commands m.learning.learnt from (from - from)) []
+pub replies_begun : (m : ReplicaState) (from : ℕ) → RepliesToMore m.machine from (commands m.learning.learnt from (from - from)) []
 replies_begun m from = record { replies_ = λ l s at e there. absurd (search (rules, there)) }
 
-module _ (m : Mind) (from : ℕ) (is : IsPrefix m.learning.learnt m.learning.first (position m)) (kept : m.learning.first ≤ from) where
+module _ (m : ReplicaState) (from : ℕ) (is : IsPrefix m.learning.learnt m.learning.first (position m)) (kept : m.learning.first ≤ from) where
   abbrev learnt : ℕ → Option Command
   learnt = m.learning.learnt
 
@@ -57,7 +57,7 @@ module _ (m : Mind) (from : ℕ) (is : IsPrefix m.learning.learnt m.learning.fir
   stands_done number old mid new above h k =
       rw (commands_push learnt from number above) (stands_for_both old mid new _ _ h k)
 
-  pub replies_done : (number : ℕ) (old mid : MachineState) (before after : List Executed) → from ≤ number → number < position m
+  pub replies_done : (number : ℕ) (old mid : MachineState) (before after : List ReplyOut) → from ≤ number → number < position m
       → StandsForMore old mid (commands learnt from (number - from))
       → RepliesToMore old from (commands learnt from (number - from)) before
       → AddsReplies mid number (with_command (learnt number) []) before after
@@ -81,10 +81,10 @@ module _ (m : Mind) (from : ℕ) (is : IsPrefix m.learning.learnt m.learning.fir
       ap (λ (n : ℕ). executed e number (commands learnt number n)) (let x : position m - number ≡ 0 = omega (arith, past) in x)
 
   -- a slot is done
-  pub only_done : (cur next : Mind) → cur ≡ with_executing m (executing_of cur []) → next ≡ with_executing cur (executing_of next [])
+  pub only_done : (cur next : ReplicaState) → cur ≡ with_executing m (executing_of cur []) → next ≡ with_executing cur (executing_of next [])
       → next ≡ with_executing m (executing_of next [])
-  only_done cur next only then = then ∙ ap (λ (x : Mind). with_executing x (executing_of next [])) only
+  only_done cur next only then = then ∙ ap (λ (x : ReplicaState). with_executing x (executing_of next [])) only
 
-  pub learnt_there : (cur : Mind) (slot number : ℕ) → slot ≡ number → cur ≡ with_executing m (executing_of cur [])
+  pub learnt_there : (cur : ReplicaState) (slot number : ℕ) → slot ≡ number → cur ≡ with_executing m (executing_of cur [])
       → cur.learning.learnt slot ≡ learnt number
-  learnt_there cur slot number at only = ap (λ (x : Mind). x.learning.learnt slot) only ∙ ap learnt at
+  learnt_there cur slot number at only = ap (λ (x : ReplicaState). x.learning.learnt slot) only ∙ ap learnt at

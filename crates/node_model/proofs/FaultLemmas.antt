@@ -6,7 +6,7 @@ use Rattle.acceptor.specs.Accepting.{Write}
 use Rattle.node_model.specs.declared.fault.NodeFault.{NodeFault}
 use Rattle.node_model.specs.declared.fault.NodeFault.TheVariants.{Device, Memory}
 use Rattle.node_model.specs.declared.input.Input.{Input}
-use Rattle.node_model.specs.Minds.{Mind, refuses}
+use Rattle.node_model.specs.Replicas.{ReplicaState, refuses}
 use Rattle.node_model.specs.Nodes.{HasMade}
 use Rattle.node_model.proofs.RefusalLemmas.{refusal_goes_on}
 
@@ -34,7 +34,7 @@ module _ {T : Type 0} (r : Result T NodeFault) (alone : IfErr r (λ f. f ≡ Mem
   memory_alone is = device_not_memory (IfErr-at_err (λ f. f ≡ Memory) is alone)
 
 -- nor is the device's among what an input is refused with
-pub memory_or_refused : {T : Type 0} (r : Result T NodeFault) (m : Mind) (i : Input)
+pub memory_or_refused : {T : Type 0} (r : Result T NodeFault) (m : ReplicaState) (i : Input)
     → IfErr r (λ f. (f ≡ Memory) ⊎ (refuses m i ≡ Some f)) → ¬ IsErrOf r Device
 memory_or_refused r m i faults is = elim (IfErr-at_err (λ f. (f ≡ Memory) ⊎ (refuses m i ≡ Some f)) is faults) [
   | inl memory ↦ device_not_memory memory

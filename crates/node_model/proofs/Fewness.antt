@@ -38,8 +38,8 @@ use Rattle.node_model.specs.declared.input.Input.{Input}
 use Rattle.node_model.specs.declared.input.Input.TheVariants as input
 use Rattle.node_model.specs.Executing.{Executing, executing, executed, reply_at}
 use Rattle.node_model.specs.Fetching.{Fetching, next_part}
-use Rattle.node_model.specs.Inputs.{concerns}
-use Rattle.node_model.specs.Minds.{Mind, IsSmall, position, asked, waits}
+use Rattle.node_model.specs.Inputs.{is_for_this_run}
+use Rattle.node_model.specs.Replicas.{ReplicaState, IsSmall, position, asked, waits}
 use Rattle.node_model.specs.Outputs.{Response, IsFew}
 use Rattle.node_model.specs.Sending.{to_one, to_all, to_recipients, envelopes_of, envelopes, answer_sends, decided_sends, ask_sends}
 use Rattle.node_model.specs.Taking.{Takes, TakesEnvelope, TakesMessage, Hears, begins_to_lead, after_counting, with_request, after_submit}
@@ -225,7 +225,7 @@ proposes_few p (Some k) l = cond_both k.leading _ _ Eight (λ _. leads_few p k l
 counting_few : (p q : Proposing) (l : Learning) → Eight (after_counting p q l)
 counting_few p q l = cond_both (begins_to_lead p q) _ _ Eight (λ _. proposes_few q q.campaign l) (λ _. omega arith)
 
-submit_few : (m : Mind) (r : Asked) → Eight (after_submit m r)
+submit_few : (m : ReplicaState) (r : Asked) → Eight (after_submit m r)
 submit_few m r =
     let p : Proposing = with_request m.proposing r in
     cond_both (waits m r.client r.number) _ _ Eight (λ _. omega arith) (λ _. proposes_few p p.campaign m.learning)
@@ -268,17 +268,17 @@ executed_few e slot (c ∷ cs) =
     let more = executed_few (executing e slot c) (suc slot) cs in
     omega (arith, one, more)
 
-execution_few : (m : Mind) (l : Learning) → length (execution m l).replies ≤ length m.proposing.waiting
+execution_few : (m : ReplicaState) (l : Learning) → length (execution m l).replies ≤ length m.proposing.waiting
 execution_few m l =
     let all = executed_few (executing_of m []) (position m) (news m l) in omega (arith, all)
 
 -- a node that has restored a text replies to no more requests than waited
-restored_few : (m : Mind) (target : ℕ) → length (execution_from m target).replies ≤ length m.proposing.waiting
+restored_few : (m : ReplicaState) (target : ℕ) → length (execution_from m target).replies ≤ length m.proposing.waiting
 restored_few m target =
     let all = executed_few (executing_of m []) target (learnt_from m target) in omega (arith, all)
 
 -- ---- each input
-module _ (old new : Mind) (said : Response) (small : IsSmall old) where
+module _ (old new : ReplicaState) (said : Response) (small : IsSmall old) where
   few_sends : (r : Response) → said ≡ r → r.replies ≡ [] → length r.sends ≤ 62 → IsFew said
   few_sends r e none few = subst IsFew (sym e) (record {
     sends = few;
@@ -318,7 +318,7 @@ module _ (old new : Mind) (said : Response) (small : IsSmall old) where
       let proposals = few_outgoing x.1 (proposes_few p p.campaign k.m.learning) in
       let asks = asks_few old.id from (position k.m) in
       let replies_ = restored_few k.m target in
-      let waited : length k.m.proposing.waiting ≡ length old.proposing.waiting = ap (λ (m : Mind). length m.proposing.waiting) k.begins in
+      let waited : length k.m.proposing.waiting ≡ length old.proposing.waiting = ap (λ (m : ReplicaState). length m.proposing.waiting) k.begins in
       subst IsFew (sym k.says) (record {
         sends = omega (arith, both, proposals, asks);
         replies = omega (arith, replies_, waited, small.waiting);
@@ -361,7 +361,7 @@ module _ (old new : Mind) (said : Response) (small : IsSmall old) where
   takes_few (input.Submit client number op) k =
       few_sends _ k.1 refl
       (let n = few_outgoing (after_submit old (asked client number op)).1 (submit_few old (asked client number op)) in omega (arith, n))
-  takes_few (input.Message e) k = envelope_few e (concerns old.id old.nodes e) k
+  takes_few (input.Message e) k = envelope_few e (is_for_this_run old.id old.nodes e) k
   takes_few input.Timeout (prepare_, starts, leaves, e) =
       few_sends _ e refl (let n = outgoing_few old.id old.nodes prepare_ small.of_all in omega (arith, n))
   takes_few input.Tick k =
@@ -374,7 +374,7 @@ module _ (old new : Mind) (said : Response) (small : IsSmall old) where
   takes_few other k = few_sends _ k.1 refl (omega arith)
 
 -- what a node says that took an input
-pub said_few : (i : Input) (old new : Mind) (r : Result Response NodeFault) → IsSmall old
+pub said_few : (i : Input) (old new : ReplicaState) (r : Result Response NodeFault) → IsSmall old
     → IfOk r (λ said. Takes old i new said) → IfOk r IsFew
 said_few i old new (Ok said) small k = takes_few old new said small i k
 said_few i old new (Err f) small k = tt

@@ -11,9 +11,9 @@ use Rattle.wire.specs.declared.frames.message.Message.TheVariants.{Prepare, Acce
 use Rattle.node_model.specs.declared.input.Input.{Input}
 use Rattle.node_model.specs.declared.input.Input.TheVariants as input
 use Rattle.node_model.specs.Fetching.{Fetching, wants, is_wanted, is_as_long, is_held, text_with}
-use Rattle.node_model.specs.Inputs.{role_of, concerns}
+use Rattle.node_model.specs.Inputs.{role_of, is_for_this_run}
 use Rattle.node_model.specs.Inputs.Role.{Learner, Fetcher}
-use Rattle.node_model.specs.Minds.{Mind, position}
+use Rattle.node_model.specs.Replicas.{ReplicaState, position}
 use Rattle.node_model.specs.Nodes.{fetched_text}
 use Rattle.node_model.specs.Outputs.{Response, sent}
 use Rattle.node_model.specs.Taking.{Takes, TakesEnvelope, TakesMessage, HearsOfVote, HearsOfDecided, HearsOfFloor, TakesPart, RestoresText}
@@ -22,7 +22,7 @@ use Rattle.node_model.specs.Taking.TakesPart.{passes, keeps, completes}
 use Rattle.node_model.specs.Taking.RestoresText.{restores, gives_up}
 
 -- the learner and the machine stay, nothing is told as learnt or restored, and nobody is replied to
-pub record LearnsNothing (old new : Mind) (said : Response) : Type 0 where
+pub record LearnsNothing (old new : ReplicaState) (said : Response) : Type 0 where
   pub learner : new.learning ≡ old.learning
   pub machine : new.machine ≡ old.machine
   pub restored : said.restored ≡ None
@@ -30,7 +30,7 @@ pub record LearnsNothing (old new : Mind) (said : Response) : Type 0 where
   pub replies : said.replies ≡ []
 
 -- the last part of a text has come that reaches further than the position, and this is the text's machine, which is restored
-pub record HearsText (old : Mind) (i : Input) (new : Mind) (said : Response) : Type 0 where
+pub record HearsText (old : ReplicaState) (i : Input) (new : ReplicaState) (said : Response) : Type 0 where
   pub from : ℕ
   pub to : ℕ
   pub part : Piece
@@ -41,7 +41,7 @@ pub record HearsText (old : Mind) (i : Input) (new : Mind) (said : Response) : T
   pub whole : Restores old from part.position machine new said
 
 -- what the learner hears
-pub data Hearing (old : Mind) (i : Input) (new : Mind) (said : Response) : Type 0 where
+pub data Hearing (old : ReplicaState) (i : Input) (new : ReplicaState) (said : Response) : Type 0 where
   of_vote : (from to : ℕ) (v : Vote Command) → i ≡ input.Message (record { from = from; to = to; message = Accepted v })
       → HearsOfVote old from v new said → Hearing old i new said
   of_decision : (from to slot : ℕ) (c : Command)
@@ -50,13 +50,13 @@ pub data Hearing (old : Mind) (i : Input) (new : Mind) (said : Response) : Type 
   of_text : HearsText old i new said → Hearing old i new said
   of_nothing : LearnsNothing old new said → Hearing old i new said
 
-module _ (old new : Mind) (said : Response) where
-  -- it says no more than what it sends, and comes to a mind of the same learner and machine
-  so : (then : Mind) (sends : List Envelope) → new ≡ then → said ≡ sent sends → then.learning ≡ old.learning
+module _ (old new : ReplicaState) (said : Response) where
+  -- it says no more than what it sends, and comes to a replica of the same learner and machine
+  so : (then : ReplicaState) (sends : List Envelope) → new ≡ then → said ≡ sent sends → then.learning ≡ old.learning
       → then.machine ≡ old.machine → LearnsNothing old new said
   so then sends leaves says learner machine = record {
-    learner = ap (λ (m : Mind). m.learning) leaves ∙ learner;
-    machine = ap (λ (m : Mind). m.machine) leaves ∙ machine;
+    learner = ap (λ (m : ReplicaState). m.learning) leaves ∙ learner;
+    machine = ap (λ (m : ReplicaState). m.machine) leaves ∙ machine;
     restored = ap (λ (r : Response). r.restored) says;
     learnt = ap (λ (r : Response). r.learnt) says;
     replies = ap (λ (r : Response). r.replies) says;
@@ -129,6 +129,6 @@ module _ (old new : Mind) (said : Response) where
   envelope_heard e true k = message_heard e.from e.to e.message k
 
   pub heard_of : (i : Input) → Takes old i new said → Hearing old i new said
-  heard_of (input.Message e) k = envelope_heard e (concerns old.id old.nodes e) k
+  heard_of (input.Message e) k = envelope_heard e (is_for_this_run old.id old.nodes e) k
   heard_of input.Timeout k = of_nothing (so _ _ k.2 k.3 refl refl)
   heard_of other k = of_nothing (so _ _ k.0 k.1 refl refl)

@@ -14,7 +14,7 @@ use Rattle.learner.specs.declared.learned.Learned.{Learned}
 use Rattle.learner.proofs.PrefixLemmas.{vote_grows, decided_grows, skipped_grows}
 use Rattle.wire.specs.declared.frames.envelope.Envelope.{Envelope}
 use Rattle.node_model.specs.declared.input.Input.{Input}
-use Rattle.node_model.specs.Minds.{Mind}
+use Rattle.node_model.specs.Replicas.{ReplicaState}
 use Rattle.node_model.specs.Outputs.{Response}
 use Rattle.node_model.specs.Taking.{Takes, Hears, Restores}
 use Rattle.node_model.proofs.Hearings.{Hearing, heard_of}
@@ -85,17 +85,17 @@ skipped_is l target above =
 
 -- ---- a node
 -- one that has restored the machine of a text
-pub restored_learner : (old new : Mind) (said : Response) (from target : ℕ) (machine : MachineState)
+pub restored_learner : (old new : ReplicaState) (said : Response) (from target : ℕ) (machine : MachineState)
     → Restores old from target machine new said → new.learning ≡ skipped old.learning target
 restored_learner old new said from target machine k =
-    ap (λ (m : Mind). m.learning) k.leaves ∙ ap (λ (m : Mind). m.learning) k.begins
+    ap (λ (m : ReplicaState). m.learning) k.leaves ∙ ap (λ (m : ReplicaState). m.learning) k.begins
 
-module _ (old new : Mind) (said : Response) where
+module _ (old new : ReplicaState) (said : Response) where
   -- its learner is the one that has heard the news
   pub heard_learner : (c : Command) (learned : Option Learned) (l : Learning) (asks : List Envelope)
       → Hears old c learned l asks new said → new.learning ≡ l
-  heard_learner c None l asks h = ap (λ (m : Mind). m.learning) h.0
-  heard_learner c (Some learned) l asks h = ap (λ (m : Mind). m.learning) h.leaves
+  heard_learner c None l asks h = ap (λ (m : ReplicaState). m.learning) h.0
+  heard_learner c (Some learned) l asks h = ap (λ (m : ReplicaState). m.learning) h.leaves
 
   hearing_keeps : (i : Input) → Hearing old i new said → KeepsLearnt old.learning new.learning
   hearing_keeps i (of_vote from to v is (learned, l, heard, k)) =

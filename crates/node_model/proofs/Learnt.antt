@@ -21,11 +21,11 @@ use Rattle.learner.proofs.PrefixLemmas.{unlearnt_prefix}
 use Rattle.wire.specs.RecordForms.{Checkpointed, checkpoint_bytes}
 use Rattle.wire.specs.declared.frames.envelope.Envelope.{Envelope}
 use Rattle.node_model.specs.declared.input.Input.{Input}
-use Rattle.node_model.specs.declared.outputs.LogEntry.{LogEntry}
+use Rattle.node_model.specs.declared.outputs.LearntCommand.{LearntCommand}
 use Rattle.node_model.specs.Composition.{IsMeaningOf, executed_from}
 use Rattle.node_model.specs.Executing.{commands, with_command}
 use Rattle.node_model.specs.Loading.{IsBaseOf, IsFresh, IsLoaded}
-use Rattle.node_model.specs.Minds.{Mind, learnt_in, position}
+use Rattle.node_model.specs.Replicas.{ReplicaState, learnt_in, position}
 use Rattle.node_model.specs.Outputs.{Response}
 use Rattle.node_model.specs.Taking.{Takes, Hears, Learns}
 use Rattle.node_model.proofs.Hearings.{Hearing, heard_of}
@@ -34,15 +34,15 @@ use Rattle.node_model.proofs.Keeping.{restored_learner, skipped_is}
 use Rattle.node_model.proofs.Meanings.{learnt_below, meaning_begun}
 
 -- ---- what a node newly learns it tells
-pub record Tells (old new : Mind) (said : Response) : Type 0 where
+pub record Tells (old new : ReplicaState) (said : Response) : Type 0 where
   pub told : (slot : ℕ) (c : Command) → learnt_in new slot ≡ Some c
       → (learnt_in old slot ≡ Some c) ⊎ (said.learnt ≡ Some (record { slot = slot; command = c }))
-  pub news : (e : LogEntry) → said.learnt ≡ Some e → (learnt_in new e.slot ≡ Some e.command) × (learnt_in old e.slot ≡ None)
+  pub news : (e : LearntCommand) → said.learnt ≡ Some e → (learnt_in new e.slot ≡ Some e.command) × (learnt_in old e.slot ≡ None)
 
-abbrev entry : ℕ → Command → LogEntry
+abbrev entry : ℕ → Command → LearntCommand
 entry slot c = record { slot = slot; command = c }
 
-module _ (old new : Mind) (said : Response) where
+module _ (old new : ReplicaState) (said : Response) where
   -- nothing is learnt
   tells_nothing : new.learning.learnt ≡ old.learning.learnt → said.learnt ≡ None → Tells old new said
   tells_nothing same none = record {
@@ -56,7 +56,7 @@ module _ (old new : Mind) (said : Response) where
         → Learns old slot c l asks new said → Tells old new said
     learns_tells slot vacant same k =
         let learnt : new.learning.learnt ≡ put old.learning.learnt slot (Some c) =
-        ap (λ (m : Mind). m.learning.learnt) k.leaves ∙ ap (λ (x : Learning). x.learnt) same in
+        ap (λ (m : ReplicaState). m.learning.learnt) k.leaves ∙ ap (λ (x : Learning). x.learnt) same in
         let says : said.learnt ≡ Some (entry slot c) = ap (λ (r : Response). r.learnt) k.says in
         let there : new.learning.learnt slot ≡ Some c =
         ap (λ (f : ℕ → Option Command). f slot) learnt ∙ put_same old.learning.learnt slot (Some c) in
@@ -68,7 +68,7 @@ module _ (old new : Mind) (said : Response) where
               ∙ ap (λ (x : Command). Some (entry s x)) (same_Some c d e)))
               (λ other e. inl e)
               (ap (λ (f : ℕ → Option Command). f s) (sym learnt) ∙ here);
-          news = λ e told. subst (λ (x : LogEntry). (learnt_in new x.slot ≡ Some x.command) × (learnt_in old x.slot ≡ None))
+          news = λ e told. subst (λ (x : LearntCommand). (learnt_in new x.slot ≡ Some x.command) × (learnt_in old x.slot ≡ None))
               (same_Some (entry slot c) e (sym says ∙ told)) (there, vacant);
         }
 
@@ -82,7 +82,7 @@ module _ (old new : Mind) (said : Response) where
     hears_nothing : (o : Option Learned) → o ≡ None → l.learnt ≡ old.learning.learnt → Hears old c o l asks new said
         → Tells old new said
     hears_nothing None e same k =
-        tells_nothing (ap (λ (m : Mind). m.learning.learnt) k.0 ∙ same) (ap (λ (r : Response). r.learnt) k.1)
+        tells_nothing (ap (λ (m : ReplicaState). m.learning.learnt) k.0 ∙ same) (ap (λ (r : Response). r.learnt) k.1)
     hears_nothing (Some learned) e same k = absurd (cc)
 
   vote_tells : (from : ℕ) (v : Vote Command) (o : Option Learned) (l : Learning) → HearsVote old.learning from v o l
@@ -163,7 +163,7 @@ learnt_there learnt slot (suc n) (suc i) c all h =
     ap learnt at ∙ learnt_there learnt (suc slot) n i c (λ s from to. all s (omega (arith, from)) (omega (arith, to)))
     (sym (get_next (learnt slot) (commands learnt (suc slot) n) i (all slot (omega arith) (omega arith))) ∙ h)
 
-pub learnt_behind : (base : List Command) (m : Mind) → IsMeaningOf base m → (slot : ℕ) (c : Command) → length base ≤ slot
+pub learnt_behind : (base : List Command) (m : ReplicaState) → IsMeaningOf base m → (slot : ℕ) (c : Command) → length base ≤ slot
     → slice_get (executed_from base m) slot ≡ Some c → learnt_in m slot ≡ Some c
 learnt_behind base m h slot c above there =
     let first : ℕ = m.learning.first in
@@ -174,11 +174,11 @@ learnt_behind base m h slot c above there =
     (sym (get_behind base (commands m.learning.learnt first n) slot above) ∙ there)
 
 -- one that has just begun has learnt nothing
-pub fresh_has_learnt_nothing : (id nodes : ℕ) (m : Mind) → IsFresh id nodes m → (slot : ℕ) → learnt_in m slot ≡ None
+pub fresh_has_learnt_nothing : (id nodes : ℕ) (m : ReplicaState) → IsFresh id nodes m → (slot : ℕ) → learnt_in m slot ≡ None
 fresh_has_learnt_nothing id nodes m h slot = ap (λ (l : Learning). l.learnt slot) h.learning
 
 -- so its position is the first slot that it keeps
-pub fresh_begins : (id nodes : ℕ) (m : Mind) → IsFresh id nodes m → position m ≡ m.learning.first
+pub fresh_begins : (id nodes : ℕ) (m : ReplicaState) → IsFresh id nodes m → position m ≡ m.learning.first
 fresh_begins id nodes m h = ap prefix h.learning ∙ sym (unlearnt_prefix nodes m.learning.first h.first_in_log)
 
 -- the floor that records say is a slot of the log, or its end
@@ -191,7 +191,7 @@ floor_in_log records a says =
     let low = checkpoint_in_log says.checkpointed says.checkpoint_fits in omega (arith, low, says.floor)
 
 -- one that has loaded its records begins at its acceptor's floor
-pub loaded_begins : (records : Records) (id nodes : ℕ) (m : Mind) → IsLoaded records id nodes m → position m ≡ m.accepting.floor
+pub loaded_begins : (records : Records) (id nodes : ℕ) (m : ReplicaState) → IsLoaded records id nodes m → position m ≡ m.accepting.floor
 loaded_begins records id nodes m h =
     ap prefix h.learning ∙ sym (unlearnt_prefix nodes m.accepting.floor (floor_in_log records m.accepting h.accepting))
 
@@ -213,7 +213,7 @@ base_reaches records a base says is = (
 )
 
 -- one that has loaded its records is the meaning of each list with which it may begin
-pub loaded_means : (records : Records) (id nodes : ℕ) (m : Mind) (base : List Command) → IsLoaded records id nodes m
+pub loaded_means : (records : Records) (id nodes : ℕ) (m : ReplicaState) (base : List Command) → IsLoaded records id nodes m
     → IsBaseOf records base → IsMeaningOf base m
 loaded_means records id nodes m base h is =
     let reaches = base_reaches records m.accepting base h.accepting is in

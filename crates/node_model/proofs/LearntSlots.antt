@@ -8,8 +8,8 @@ use Rattle.learner.specs.declared.learned.Learned.{Learned}
 use Rattle.wire.specs.FrameSpelling.{MessageFits}
 use Rattle.wire.specs.declared.frames.message.Message.TheVariants.{Accepted, Decided}
 use Rattle.node_model.specs.declared.input.Input.{Input}
-use Rattle.node_model.specs.declared.outputs.LogEntry.{LogEntry}
-use Rattle.node_model.specs.Minds.{Mind}
+use Rattle.node_model.specs.declared.outputs.LearntCommand.{LearntCommand}
+use Rattle.node_model.specs.Replicas.{ReplicaState}
 use Rattle.node_model.specs.Outputs.{Response}
 use Rattle.node_model.specs.Protocol.{InputFits}
 use Rattle.node_model.specs.Taking.{Takes, Hears}
@@ -17,10 +17,10 @@ use Rattle.node_model.proofs.Hearings.{Hearing, heard_of}
 use Rattle.node_model.proofs.Hearings.Hearing.{of_vote, of_decision, of_text, of_nothing}
 use Rattle.node_model.proofs.News.{vote_news, decided_news}
 
-module _ (old new : Mind) (said : Response) where
+module _ (old new : ReplicaState) (said : Response) where
   -- what the node says that it newly learnt is at a slot of the log
   abbrev IsInLog : Type 0
-  IsInLog = (e : LogEntry) → said.learnt ≡ Some e → e.slot < SLOTS
+  IsInLog = (e : LearntCommand) → said.learnt ≡ Some e → e.slot < SLOTS
 
   says_none : said.learnt ≡ None → IsInLog
   says_none none = λ e says. absurd (let clash : None ≡ Some e = sym none ∙ says in cc)
@@ -29,9 +29,9 @@ module _ (old new : Mind) (said : Response) where
       → Hears old c o l asks new said → IsInLog
   heard c None l asks within k = says_none (ap (λ (x : Response). x.learnt) k.1)
   heard c (Some learned) l asks within k = λ e says.
-      let told : LogEntry = record { slot = learned.slot; command = c } in
+      let told : LearntCommand = record { slot = learned.slot; command = c } in
       let is : told ≡ e = same_Some told e (sym (ap (λ (x : Response). x.learnt) k.says) ∙ says) in
-      subst (λ (x : LogEntry). x.slot < SLOTS) is (within learned refl)
+      subst (λ (x : LearntCommand). x.slot < SLOTS) is (within learned refl)
 
   hearing_in_log : (i : Input) → InputFits i → Hearing old i new said → IsInLog
   hearing_in_log i fits (of_vote from to v is (o, l, news, k)) =

@@ -20,7 +20,7 @@ use Rattle.node_model.specs.declared.fault.NodeFault.{NodeFault}
 use Rattle.node_model.specs.declared.input.Input.{Input}
 use Rattle.node_model.specs.Composition.{IsMeaningOf, executed_from, GoesOnFrom}
 use Rattle.node_model.specs.Executing.{commands}
-use Rattle.node_model.specs.Minds.{Mind, position}
+use Rattle.node_model.specs.Replicas.{ReplicaState, position}
 use Rattle.node_model.specs.Outputs.{Response}
 use Rattle.node_model.specs.Taking.{Takes, HearsOfVote, HearsOfDecided, Hears, Learns, news}
 use Rattle.node_model.proofs.Commands.{commands_append, commands_same, commands_length, commands_none}
@@ -30,7 +30,7 @@ use Rattle.node_model.proofs.Keeping.{KeepsLearnt, vote_keeps, decided_keeps, vo
 
 -- ---- nothing is learnt
 -- where neither what is learnt nor the machine changes, and there is no reply
-pub goes_on_same : (base : List Command) (old new : Mind) (said : Response) → IsMeaningOf base old
+pub goes_on_same : (base : List Command) (old new : ReplicaState) (said : Response) → IsMeaningOf base old
     → new.learning ≡ old.learning → new.machine ≡ old.machine → said.replies ≡ [] → GoesOnFrom base old new said
 goes_on_same base old new said h learning machine none = record {
   meaning = record {
@@ -53,7 +53,7 @@ unfolding prefix
 same_prefix a b learnt first = rw learnt (rw first refl)
 
 -- ---- as many commands as the position
-module _ (base : List Command) (m : Mind) (h : IsMeaningOf base m) where
+module _ (base : List Command) (m : ReplicaState) (h : IsMeaningOf base m) where
   pub meaning_prefix : IsPrefix m.learning.learnt m.learning.first (position m)
   meaning_prefix = prefix_is m.learning h.in_log
 
@@ -70,7 +70,7 @@ module _ (base : List Command) (m : Mind) (h : IsMeaningOf base m) where
       omega (arith, there, both, h.begun, meaning_prefix.learnt_to.from)
 
 -- ---- what is learnt by now is what was learnt, and the news
-module _ (base : List Command) (old : Mind) (l : Learning) (h : IsMeaningOf base old) (keeps : KeepsLearnt old.learning l)
+module _ (base : List Command) (old : ReplicaState) (l : Learning) (h : IsMeaningOf base old) (keeps : KeepsLearnt old.learning l)
     (first : l.first ≡ old.learning.first) where
   abbrev before : ℕ
   before = position old
@@ -97,10 +97,10 @@ module _ (base : List Command) (old : Mind) (l : Learning) (h : IsMeaningOf base
       ∙ ap (λ (i : ℕ). old_commands ++ commands l.learnt i (prefix l - before)) at in
       ap (λ (cs : List Command). base ++ cs) all ∙ sym (append_assoc base old_commands (news old l))
 
-  pub goes_on_learning : (slot : ℕ) (c : Command) (asks : List Envelope) (new : Mind) (said : Response)
+  pub goes_on_learning : (slot : ℕ) (c : Command) (asks : List Envelope) (new : ReplicaState) (said : Response)
       → Learns old slot c l asks new said → GoesOnFrom base old new said
   goes_on_learning slot c asks new said k =
-      let learning : new.learning ≡ l = ap (λ (m : Mind). m.learning) k.leaves in
+      let learning : new.learning ≡ l = ap (λ (m : ReplicaState). m.learning) k.leaves in
       let whole : executed_from base new ≡ executed_from base old ++ news old l =
       ap (λ (x : Learning). base ++ commands x.learnt x.first (prefix x - x.first)) learning ∙ grown in
       record {
@@ -115,12 +115,12 @@ module _ (base : List Command) (old : Mind) (l : Learning) (h : IsMeaningOf base
       }
 
   -- nothing is newly learnt, so the position stays
-  pub goes_on_hearing : (learned : Option Learned) (c : Command) (asks : List Envelope) (new : Mind) (said : Response)
+  pub goes_on_hearing : (learned : Option Learned) (c : Command) (asks : List Envelope) (new : ReplicaState) (said : Response)
       → (learned ≡ None → l.learnt ≡ old.learning.learnt) → Hears old c learned l asks new said → GoesOnFrom base old new said
   goes_on_hearing (Some learned) c asks new said same k = goes_on_learning learned.slot c asks new said k
   goes_on_hearing None c asks new said same k =
-      let learning : new.learning ≡ l = ap (λ (m : Mind). m.learning) k.0 in
-      let machine : new.machine ≡ old.machine = ap (λ (m : Mind). m.machine) k.0 in
+      let learning : new.learning ≡ l = ap (λ (m : ReplicaState). m.learning) k.0 in
+      let machine : new.machine ≡ old.machine = ap (λ (m : ReplicaState). m.machine) k.0 in
       let learnt : l.learnt ≡ old.learning.learnt = same refl in
       let at : prefix l ≡ prefix old.learning = same_prefix l old.learning learnt first in
       let whole : executed_from base new ≡ executed_from base old =
@@ -141,7 +141,7 @@ module _ (base : List Command) (old : Mind) (l : Learning) (h : IsMeaningOf base
       }
 
 -- ---- each input
-module _ (base : List Command) (old new : Mind) (said : Response) (h : IsMeaningOf base old) where
+module _ (base : List Command) (old new : ReplicaState) (said : Response) (h : IsMeaningOf base old) where
   vote_goes_on : (from : ℕ) (v : Vote Command) → HearsOfVote old from v new said → GoesOnFrom base old new said
   vote_goes_on from v (learned, l, hears_, k) =
       goes_on_hearing base old l h (vote_keeps old.learning l from v learned hears_) (vote_first old.learning l from v learned hears_)
@@ -175,7 +175,7 @@ module _ (base : List Command) (old new : Mind) (said : Response) (h : IsMeaning
 
 -- ---- a node
 -- one that has just begun with a list, and has learnt nothing
-pub meaning_begun : (base : List Command) (m : Mind) (nodes first : ℕ) → m.learning ≡ unlearnt_from nodes first → length base ≡ first
+pub meaning_begun : (base : List Command) (m : ReplicaState) (nodes first : ℕ) → m.learning ≡ unlearnt_from nodes first → length base ≡ first
     → first ≤ SLOTS → StandsFor m.machine base → IsMeaningOf base m
 meaning_begun base m nodes first e many within h =
     let none : commands m.learning.learnt m.learning.first (position m - m.learning.first) ≡ [] =
@@ -189,16 +189,16 @@ meaning_begun base m nodes first e many within h =
     }
 
 -- one that was up, and took an input or not
-pub meaning_stays : (base : List Command) (input : Input) (o p : Option Mind) (m n : Mind) (r : Result Response NodeFault) (Same : Type 0)
+pub meaning_stays : (base : List Command) (input : Input) (o p : Option ReplicaState) (m n : ReplicaState) (r : Result Response NodeFault) (Same : Type 0)
     → o ≡ Some m → OnOk r Same → (Same → p ≡ Some n) → IfOk r (λ said. Takes m input n said)
-    → IfSome o (λ (a : Mind). IsMeaningOf base a → IfOk r (λ said.
-    said.restored ≡ None → IfSome p (λ (b : Mind). GoesOnFrom base a b said)))
+    → IfSome o (λ (a : ReplicaState). IsMeaningOf base a → IfOk r (λ said.
+    said.restored ≡ None → IfSome p (λ (b : ReplicaState). GoesOnFrom base a b said)))
 meaning_stays base input o p m n (Ok said) Same up same still takes =
     rw up (λ h. λ none. rw (still same) (goes_on base m n said h input takes none))
 meaning_stays base input o p m n (Err f) Same up same still takes = rw up (λ h. tt)
 
 -- its answer is that of each list of which it is the meaning
-pub meaning_answers : (base : List Command) (o : Option Mind) (m : Mind) (query : Query) (text : List ℕ) → o ≡ Some m
+pub meaning_answers : (base : List Command) (o : Option ReplicaState) (m : ReplicaState) (query : Query) (text : List ℕ) → o ≡ Some m
     → AnswersAll m.machine query text
-    → IfSome o (λ (a : Mind). IsMeaningOf base a → Answers (executed_from base a) query text)
+    → IfSome o (λ (a : ReplicaState). IsMeaningOf base a → Answers (executed_from base a) query text)
 meaning_answers base o m query text up h = rw up (λ is. h.answers (executed_from base m) is.stands)

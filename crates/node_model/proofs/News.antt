@@ -10,7 +10,7 @@ use Rattle.learner.specs.Learning.HearsDecided.{ignores_decided, learns_decided}
 use Rattle.learner.specs.declared.learned.Learned.{Learned}
 use Rattle.wire.specs.declared.frames.envelope.Envelope.{Envelope}
 use Rattle.node_model.specs.Composition.{RepliesToMore}
-use Rattle.node_model.specs.Minds.{Mind, position}
+use Rattle.node_model.specs.Replicas.{ReplicaState, position}
 use Rattle.node_model.specs.Outputs.{Response}
 use Rattle.node_model.specs.Taking.{Learns, execution, news, after_news, proposer_sends}
 
@@ -53,7 +53,7 @@ decided_news old new slot c o learned (learns_decided opened some same) e =
     is_news old new slot c learned (same_learned _ learned (sym some ∙ e)) same
 
 -- what a node says
-abbrev response : Mind → ℕ → Command → Learning → List Envelope → Response
+abbrev response : ReplicaState → ℕ → Command → Learning → List Envelope → Response
 response old slot c l sends = record {
   restored = None;
   learnt = Some (record { slot = slot; command = c });
@@ -62,7 +62,7 @@ response old slot c l sends = record {
 }
 
 -- what is sent last joins what a node sends
-pub asks_last : (old : Mind) (slot : ℕ) (c : Command) (l : Learning) (asks : List Envelope) (new : Mind) (said : Response)
+pub asks_last : (old : ReplicaState) (slot : ℕ) (c : Command) (l : Learning) (asks : List Envelope) (new : ReplicaState) (said : Response)
     (more : Response) → Learns old slot c l [] new said
     → more ≡ record said { sends = said.sends ++ asks } → Learns old slot c l asks new more
 asks_last old slot c l asks new said more k e = record {

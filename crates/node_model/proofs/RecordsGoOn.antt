@@ -28,8 +28,8 @@ use Rattle.wire.specs.declared.frames.message.Message.TheVariants.{Prepare, Prom
 use Rattle.node_model.specs.declared.fault.NodeFault.TheVariants as fault
 use Rattle.node_model.specs.declared.input.Input.{Input}
 use Rattle.node_model.specs.declared.input.Input.TheVariants as input
-use Rattle.node_model.specs.Inputs.{concerns}
-use Rattle.node_model.specs.Minds.{Mind, position, is_full, refuses, asked, waits}
+use Rattle.node_model.specs.Inputs.{is_for_this_run}
+use Rattle.node_model.specs.Replicas.{ReplicaState, position, is_full, refuses, asked, waits}
 use Rattle.node_model.specs.Outputs.{Response}
 use Rattle.node_model.specs.Protocol.{InputFits, accepting_on, accepting_if, accepting_after, round_after, RecordsHold, SaysRound}
 use Rattle.node_model.specs.Taking.{Writes, WritesOnEnvelope, WritesOnMessage, WritesCheckpoint, Takes, TakesMessage, TakesEnvelope, Hears}
@@ -44,7 +44,7 @@ no_write : (records : Records) (w : Write) (a : Accepting) (round : ℕ) → w �
     → RecordsHold (records_after records w) a round
 no_write records w a round e both = subst (λ (x : Write). RecordsHold (records_after records x) a round) (sym e) both
 
-message_holds : (m : Mind) (message : Message) (records : Records) (w : Write) → WritesOnMessage m message w → MessageFits 7 message
+message_holds : (m : ReplicaState) (message : Message) (records : Records) (w : Write) → WritesOnMessage m message w → MessageFits 7 message
     → RecordsHold records m.accepting m.proposing.round → RecordsHold (records_after records w) (accepting_on m message) m.proposing.round
 message_holds m (Prepare ballot first) records w e fits both =
     subst (λ (x : Write). RecordsHold (records_after records x) (after_prepare m.accepting ballot first) m.proposing.round) (sym e)
@@ -62,25 +62,25 @@ message_holds m (Accept v) records w is fits both = record {
 }
 message_holds m other records w e fits both = no_write records w m.accepting m.proposing.round e both
 
-envelope_holds : (m : Mind) (e : Envelope) (b : Bool) (records : Records) (w : Write) → WritesOnEnvelope m e b w → MessageFits 7 e.message
+envelope_holds : (m : ReplicaState) (e : Envelope) (b : Bool) (records : Records) (w : Write) → WritesOnEnvelope m e b w → MessageFits 7 e.message
     → RecordsHold records m.accepting m.proposing.round → RecordsHold (records_after records w) (accepting_if m e b) m.proposing.round
 envelope_holds m e false records w none fits both = no_write records w m.accepting m.proposing.round none both
 envelope_holds m e true records w writes fits both = message_holds m e.message records w writes fits both
 
 -- a round that is begun has its eight bytes
-round_left : (m : Mind) (full used : Bool) → is_full m ≡ full → nat_le (2 ^ 64) (next_round m.proposing) ≡ used
+round_left : (m : ReplicaState) (full used : Bool) → is_full m ≡ full → nat_le (2 ^ 64) (next_round m.proposing) ≡ used
     → refuses m input.Timeout ≡ None → used ≡ false
 round_left m true used e f none = (let bad : Some fault.LogFull ≡ None = rw e at none in absurd cc)
 round_left m false true e f none = (let bad : Some fault.RoundsUsedUp ≡ None = rw f at (rw e at none) in absurd cc)
 round_left m false false e f none = refl
 
-drawn : (m : Mind) → refuses m input.Timeout ≡ None → IsRoundRecord (big_bytes 8 (next_round m.proposing)) (next_round m.proposing)
+drawn : (m : ReplicaState) → refuses m input.Timeout ≡ None → IsRoundRecord (big_bytes 8 (next_round m.proposing)) (next_round m.proposing)
 drawn m none =
     let left = round_left m (is_full m) (nat_le (2 ^ 64) (next_round m.proposing)) refl refl none in
     record { begun = omega arith; fits = leb-false (2 ^ 64) (next_round m.proposing) left; spelled = refl }
 
 -- a checkpoint's record is of its form
-checkpoint_holds : (m : Mind) (records : Records) (w : Write) → WritesCheckpoint m w
+checkpoint_holds : (m : ReplicaState) (records : Records) (w : Write) → WritesCheckpoint m w
     → RecordsHold records m.accepting m.proposing.round
     → RecordsHold (records_after records w) (after_checkpoint m.accepting (position m) (snapshot_bytes m.machine)) m.proposing.round
 checkpoint_holds m records w writes both =
@@ -97,7 +97,7 @@ trim_leaves_round : (records : Records) (a : Accepting) (w : Write) → IsTrimWr
 trim_leaves_round records a None is = refl
 trim_leaves_round records a (Some change) is = ap (λ (c : Change). changed records c key.Round) is.1
 
-trim_holds : (m : Mind) (records : Records) (w : Write) → IsTrimWrite m.accepting w → RecordsHold records m.accepting m.proposing.round
+trim_holds : (m : ReplicaState) (records : Records) (w : Write) → IsTrimWrite m.accepting w → RecordsHold records m.accepting m.proposing.round
     → RecordsHold (records_after records w) (after_trim m.accepting) m.proposing.round
 trim_holds m records w is both = record {
   acceptor = trim_kept records m.accepting w both.covered is both.acceptor;
@@ -105,10 +105,10 @@ trim_holds m records w is both = record {
   proposer = subst (λ (o : Option (List ℕ)). SaysRound o m.proposing.round) (sym (trim_leaves_round records m.accepting w is)) both.proposer;
 }
 
-pub written_holds : (m : Mind) (i : Input) (records : Records) (w : Write) → refuses m i ≡ None → Writes m i w → InputFits i
+pub written_holds : (m : ReplicaState) (i : Input) (records : Records) (w : Write) → refuses m i ≡ None → Writes m i w → InputFits i
     → RecordsHold records m.accepting m.proposing.round → RecordsHold (records_after records w) (accepting_after m i) (round_after m i)
 written_holds m (input.Submit client number op) records w none e fits both = no_write records w m.accepting m.proposing.round e both
-written_holds m (input.Message e) records w none writes fits both = envelope_holds m e (concerns m.id m.nodes e) records w writes fits both
+written_holds m (input.Message e) records w none writes fits both = envelope_holds m e (is_for_this_run m.id m.nodes e) records w writes fits both
 written_holds m input.Timeout records w none e fits both =
     subst (λ (x : Write). RecordsHold (records_after records x) m.accepting (next_round m.proposing)) (sym e) (record {
       acceptor = RecordsSay-round records m.accepting (big_bytes 8 (next_round m.proposing)) both.acceptor;
@@ -121,24 +121,24 @@ written_holds m input.Trim records w none is fits both = trim_holds m records w 
 
 -- ---- the floor
 -- no message changes it
-floor_on : (m : Mind) (message : Message) → (accepting_on m message).floor ≡ m.accepting.floor
+floor_on : (m : ReplicaState) (message : Message) → (accepting_on m message).floor ≡ m.accepting.floor
 floor_on m (Prepare ballot first) = floor_prepared m.accepting ballot first
 floor_on m (Accept v) = floor_accepted m.accepting v
 floor_on m other = refl
 
-pub floor_if : (m : Mind) (e : Envelope) (b : Bool) → (accepting_if m e b).floor ≡ m.accepting.floor
+pub floor_if : (m : ReplicaState) (e : Envelope) (b : Bool) → (accepting_if m e b).floor ≡ m.accepting.floor
 floor_if m e false = refl
 floor_if m e true = floor_on m e.message
 
 -- a vote is written at a slot from the floor on
-vote_above_on : (m : Mind) (message : Message) (w : Write) → WritesOnMessage m message w → (slot : ℕ) (bytes : List ℕ)
+vote_above_on : (m : ReplicaState) (message : Message) (w : Write) → WritesOnMessage m message w → (slot : ℕ) (bytes : List ℕ)
     → w ≡ Some (Sets (key.Vote slot) bytes) → m.accepting.floor ≤ slot
 vote_above_on m (Prepare ballot first) w writes slot bytes e =
     absurd (promise_is_no_vote m.accepting ballot first slot bytes (sym writes ∙ e))
 vote_above_on m (Accept v) w is slot bytes e = cast_above m.accepting v w is slot bytes e
 vote_above_on m other w none slot bytes e = absurd (none-some (Sets (key.Vote slot) bytes) (sym none ∙ e))
 
-vote_above_if : (m : Mind) (e : Envelope) (b : Bool) (w : Write) → WritesOnEnvelope m e b w → (slot : ℕ) (bytes : List ℕ)
+vote_above_if : (m : ReplicaState) (e : Envelope) (b : Bool) (w : Write) → WritesOnEnvelope m e b w → (slot : ℕ) (bytes : List ℕ)
     → w ≡ Some (Sets (key.Vote slot) bytes) → m.accepting.floor ≤ slot
 vote_above_if m e false w none slot bytes is = absurd (none-some (Sets (key.Vote slot) bytes) (sym none ∙ is))
 vote_above_if m e true w writes slot bytes is = vote_above_on m e.message w writes slot bytes is
@@ -148,10 +148,10 @@ trim_is_no_vote : (a : Accepting) (w : Write) → IsTrimWrite a w → (slot : �
 trim_is_no_vote a None is slot bytes e = none-some (Sets (key.Vote slot) bytes) e
 trim_is_no_vote a (Some change) is slot bytes e = (let bad : Trims a.floor ≡ Sets (key.Vote slot) bytes = sym is.1 ∙ same_Some _ _ e in absurd cc)
 
-pub vote_above : (m : Mind) (i : Input) (w : Write) → Writes m i w → (slot : ℕ) (bytes : List ℕ) → w ≡ Some (Sets (key.Vote slot) bytes)
+pub vote_above : (m : ReplicaState) (i : Input) (w : Write) → Writes m i w → (slot : ℕ) (bytes : List ℕ) → w ≡ Some (Sets (key.Vote slot) bytes)
     → m.accepting.floor ≤ slot
 vote_above m (input.Submit client number op) w none slot bytes e = absurd (none-some (Sets (key.Vote slot) bytes) (sym none ∙ e))
-vote_above m (input.Message e) w writes slot bytes is = vote_above_if m e (concerns m.id m.nodes e) w writes slot bytes is
+vote_above m (input.Message e) w writes slot bytes is = vote_above_if m e (is_for_this_run m.id m.nodes e) w writes slot bytes is
 vote_above m input.Timeout w round slot bytes e =
     absurd (other_key key.Round slot (big_bytes 8 (next_round m.proposing)) bytes (λ same. omega (arith, same)) (sym round ∙ e))
 vote_above m input.Tick w none slot bytes e = absurd (none-some (Sets (key.Vote slot) bytes) (sym none ∙ e))
@@ -164,63 +164,63 @@ vote_above m input.Trim w is slot bytes e = absurd (trim_is_no_vote m.accepting 
 proposed_round : (p : Proposing) (l : Learning) → (proposed p l).0.round ≡ p.round
 proposed_round p l = ap (λ (q : Proposing). q.round) (proposes_keeps p p.campaign l)
 
-promised_round : (m : Mind) (from : ℕ) (p : _) → (after_promise m from p).0.round ≡ m.proposing.round
+promised_round : (m : ReplicaState) (from : ℕ) (p : _) → (after_promise m from p).0.round ≡ m.proposing.round
 promised_round m from p =
     ap (λ (q : Proposing). q.round) (counting_keeps m.proposing (with_promised m.proposing from p) m.learning)
 
-submitted_round : (m : Mind) (r : Asked) → (after_submit m r).0.round ≡ m.proposing.round
+submitted_round : (m : ReplicaState) (r : Asked) → (after_submit m r).0.round ≡ m.proposing.round
 submitted_round m r =
     let then : Proposing = with_request m.proposing r in
     cond_both (waits m r.client r.number) (m.proposing, []) (proposed then m.learning)
     (λ (q : Proposing × List Outgoing). q.0.round ≡ m.proposing.round) (λ _. refl) (λ _. proposed_round then m.learning)
 
 -- the acceptor and the round are these
-pub record HoldsRecords (new : Mind) (a : Accepting) (round : ℕ) : Type 0 where
+pub record HoldsRecords (new : ReplicaState) (a : Accepting) (round : ℕ) : Type 0 where
   pub accepting_ : new.accepting ≡ a
   pub round_ : new.proposing.round ≡ round
 
--- it is as this mind
-held_as : (new m : Mind) → new ≡ m → HoldsRecords new m.accepting m.proposing.round
-held_as new m e = record { accepting_ = ap (λ (n : Mind). n.accepting) e; round_ = ap (λ (n : Mind). n.proposing.round) e }
+-- it is as this replica
+held_as : (new m : ReplicaState) → new ≡ m → HoldsRecords new m.accepting m.proposing.round
+held_as new m e = record { accepting_ = ap (λ (n : ReplicaState). n.accepting) e; round_ = ap (λ (n : ReplicaState). n.proposing.round) e }
 
--- and this mind has that round
-with_its_round : (new : Mind) (a : Accepting) (p q : ℕ) → HoldsRecords new a p → p ≡ q → HoldsRecords new a q
+-- and this replica has that round
+with_its_round : (new : ReplicaState) (a : Accepting) (p q : ℕ) → HoldsRecords new a p → p ≡ q → HoldsRecords new a q
 with_its_round new a p q h e = record { accepting_ = h.accepting_; round_ = h.round_ ∙ e }
 
-held_after_news : (m : Mind) (c : Command) (learned : Option Learned) (l : Learning) (asks : List Envelope) (new : Mind) (said : Response)
+held_after_news : (m : ReplicaState) (c : Command) (learned : Option Learned) (l : Learning) (asks : List Envelope) (new : ReplicaState) (said : Response)
     → Hears m c learned l asks new said → HoldsRecords new m.accepting m.proposing.round
 held_after_news m c None l asks new said h = held_as new (record m { learning = l }) h.0
 held_after_news m c (Some n) l asks new said h =
     let then : Proposing = proposer_of m n.slot (execution m l) in
     with_its_round new m.accepting _ _ (held_as new _ h.leaves) (proposed_round then l)
 
-held_after_floor : (m : Mind) (floor : ℕ) (b : Bool) (new : Mind) (said : Response) → HearsOfFloor m floor b new said
+held_after_floor : (m : ReplicaState) (floor : ℕ) (b : Bool) (new : ReplicaState) (said : Response) → HearsOfFloor m floor b new said
     → HoldsRecords new m.accepting m.proposing.round
 held_after_floor m floor false new said h = held_as new m h.0
 held_after_floor m floor true new said h = held_as new _ h.0
 
-held_restored : (m : Mind) (from target : ℕ) (machine : MachineState) (new : Mind) (said : Response)
+held_restored : (m : ReplicaState) (from target : ℕ) (machine : MachineState) (new : ReplicaState) (said : Response)
     → Restores m from target machine new said → HoldsRecords new m.accepting m.proposing.round
 held_restored m from target machine new said h =
     let then : Proposing = (executed_to_the_end h.m target).proposing in
     record {
-      accepting_ = ap (λ (n : Mind). n.accepting) h.leaves ∙ ap (λ (n : Mind). n.accepting) h.begins;
-      round_ = ap (λ (n : Mind). n.proposing.round) h.leaves ∙ proposed_round then h.m.learning
-          ∙ ap (λ (n : Mind). n.proposing.round) h.begins;
+      accepting_ = ap (λ (n : ReplicaState). n.accepting) h.leaves ∙ ap (λ (n : ReplicaState). n.accepting) h.begins;
+      round_ = ap (λ (n : ReplicaState). n.proposing.round) h.leaves ∙ proposed_round then h.m.learning
+          ∙ ap (λ (n : ReplicaState). n.proposing.round) h.begins;
     }
 
-held_after_text : (m : Mind) (from target : ℕ) (text : List ℕ) (new : Mind) (said : Response) → RestoresText m from target text new said
+held_after_text : (m : ReplicaState) (from target : ℕ) (text : List ℕ) (new : ReplicaState) (said : Response) → RestoresText m from target text new said
     → HoldsRecords new m.accepting m.proposing.round
 held_after_text m from target text new said (restores machine has h) = held_restored m from target machine new said h
 held_after_text m from target text new said (gives_up none leaves says) = held_as new _ leaves
 
-held_after_part : (m : Mind) (from : ℕ) (p : Piece) (new : Mind) (said : Response) → TakesPart m from p new said
+held_after_part : (m : ReplicaState) (from : ℕ) (p : Piece) (new : ReplicaState) (said : Response) → TakesPart m from p new said
     → HoldsRecords new m.accepting m.proposing.round
 held_after_part m from p new said (passes unwanted leaves says) = held_as new m leaves
 held_after_part m from p new said (keeps f counts number is leaves says) = held_as new _ leaves
 held_after_part m from p new said (completes f counts none h) = held_after_text m from f.target _ new said h
 
-held_after_message : (m : Mind) (from : ℕ) (message : Message) (new : Mind) (said : Response) → TakesMessage m from message new said
+held_after_message : (m : ReplicaState) (from : ℕ) (message : Message) (new : ReplicaState) (said : Response) → TakesMessage m from message new said
     → HoldsRecords new (accepting_on m message) m.proposing.round
 held_after_message m from (Prepare ballot first) new said h = held_as new _ h.2
 held_after_message m from (Promise p) new said h = with_its_round new m.accepting _ _ (held_as new _ h.0) (promised_round m from p)
@@ -230,22 +230,22 @@ held_after_message m from (SnapPart p) new said h = held_after_part m from p new
 held_after_message m from (Behind floor) new said h = held_after_floor m floor (is_ahead m floor) new said h
 held_after_message m from other new said h = held_as new _ h.0
 
-held_after_envelope : (m : Mind) (e : Envelope) (b : Bool) (new : Mind) (said : Response) → TakesEnvelope m e b new said
+held_after_envelope : (m : ReplicaState) (e : Envelope) (b : Bool) (new : ReplicaState) (said : Response) → TakesEnvelope m e b new said
     → HoldsRecords new (accepting_if m e b) m.proposing.round
 held_after_envelope m e false new said h = held_as new m h.0
 held_after_envelope m e true new said h = held_after_message m e.from e.message new said h
 
-held_after : (m : Mind) (i : Input) (new : Mind) (said : Response) → Takes m i new said
+held_after : (m : ReplicaState) (i : Input) (new : ReplicaState) (said : Response) → Takes m i new said
     → HoldsRecords new (accepting_after m i) (round_after m i)
 held_after m (input.Submit client number op) new said h =
     with_its_round new m.accepting _ _ (held_as new _ h.0) (submitted_round m (asked client number op))
-held_after m (input.Message e) new said h = held_after_envelope m e (concerns m.id m.nodes e) new said h
+held_after m (input.Message e) new said h = held_after_envelope m e (is_for_this_run m.id m.nodes e) new said h
 held_after m input.Timeout new said h =
     with_its_round new m.accepting _ _ (held_as new (record m { proposing = new.proposing }) h.2)
     (ap (λ (p : Proposing). p.round) h.1.leaves)
 held_after m other new said h = held_as new _ h.0
 
-pub taken_holds : (m : Mind) (i : Input) (new : Mind) (said : Response) (records : Records) (w : Write) → refuses m i ≡ None
+pub taken_holds : (m : ReplicaState) (i : Input) (new : ReplicaState) (said : Response) (records : Records) (w : Write) → refuses m i ≡ None
     → Takes m i new said → Writes m i w → InputFits i → RecordsHold records m.accepting m.proposing.round
     → RecordsHold (records_after records w) new.accepting new.proposing.round
 taken_holds m i new said records w none takes writes fits both =

@@ -10,7 +10,7 @@ use Rattle.node_model.specs.declared.input.Input.{Input}
 use Rattle.node_model.specs.declared.input.Input.TheVariants as input
 use Rattle.node_model.specs.Faults.{is_stop_fault}
 use Rattle.node_model.specs.Inputs.{is_short}
-use Rattle.node_model.specs.Minds.{Mind, position, is_full, waits, asked, refuses, refuses_submit, refuses_timeout, refuses_checkpoint}
+use Rattle.node_model.specs.Replicas.{ReplicaState, position, is_full, waits, asked, refuses, refuses_submit, refuses_timeout, refuses_checkpoint}
 
 -- a fault, if there is one, leaves the node up
 abbrev GoesOn : Option NodeFault → Type 0
@@ -26,7 +26,7 @@ goes_on_with g up f e = subst (λ (h : NodeFault). is_stop_fault h ≡ false) (l
 tested : (b : Bool) (g : NodeFault) (o : Option NodeFault) → is_stop_fault g ≡ false → GoesOn o → GoesOn (if b then Some g else o)
 tested b g o up rest = cond_both b (Some g) o GoesOn (λ _. goes_on_with g up) (λ _. rest)
 
-submit_goes_on : (m : Mind) (r : Asked) → GoesOn (refuses_submit m r)
+submit_goes_on : (m : ReplicaState) (r : Asked) → GoesOn (refuses_submit m r)
 submit_goes_on m r =
     let full = nat_le MOST_WAITING (length m.proposing.waiting) in
     let queue : Option NodeFault = if full then Some fault.QueueFull else None in
@@ -36,16 +36,16 @@ submit_goes_on m r =
     (cond_both (waits m r.client r.number) None queue GoesOn (λ _. goes_on_without)
     (λ _. tested full fault.QueueFull None refl goes_on_without)))
 
-timeout_goes_on : (m : Mind) → GoesOn (refuses_timeout m)
+timeout_goes_on : (m : ReplicaState) → GoesOn (refuses_timeout m)
 timeout_goes_on m =
     let used = nat_le (2 ^ 64) (next_round m.proposing) in
     tested (is_full m) fault.LogFull (if used then Some fault.RoundsUsedUp else None) refl
     (tested used fault.RoundsUsedUp None refl goes_on_without)
 
-checkpoint_goes_on : (m : Mind) → GoesOn (refuses_checkpoint m)
+checkpoint_goes_on : (m : ReplicaState) → GoesOn (refuses_checkpoint m)
 checkpoint_goes_on m = tested (nat_le (position m) m.accepting.floor) fault.NothingNew None refl goes_on_without
 
-pub refusal_goes_on : (m : Mind) (i : Input) (f : NodeFault) → refuses m i ≡ Some f → is_stop_fault f ≡ false
+pub refusal_goes_on : (m : ReplicaState) (i : Input) (f : NodeFault) → refuses m i ≡ Some f → is_stop_fault f ≡ false
 refusal_goes_on m (input.Submit client number op) = submit_goes_on m (asked client number op)
 refusal_goes_on m input.Timeout = timeout_goes_on m
 refusal_goes_on m input.Checkpoint = checkpoint_goes_on m

@@ -6,16 +6,16 @@ use Rattle.std.proofs.lemmas.List.{length-append}
 use Rattle.sessions.specs.Asked.{Asked}
 use Rattle.sessions.specs.Machines.{MachineState}
 use Rattle.sessions.specs.Meaning.{RepliesAt}
-use Rattle.sessions.specs.Outcomes.{outcome_code}
+use Rattle.sessions.specs.SessionReplies.{outcome_code}
 use Rattle.sessions.specs.Standing.{StandsForOneMore, RepliesOneMore}
 use Rattle.sessions.specs.declared.command.Command.{Command}
 use Rattle.sessions.specs.declared.command.Command.TheVariants.{Request}
-use Rattle.sessions.specs.declared.outcome.Outcome.{Outcome}
+use Rattle.sessions.specs.declared.session_reply.SessionReply.{SessionReply}
 use Rattle.sessions.proofs.Longer.{get-push_last}
 use Rattle.std.proofs.lemmas.List.Elements.{Contains-push_cases}
 use Rattle.node_model.specs.Executing.{with_command}
 use Rattle.node_model.specs.Composition.{StandsForMore, IsReplyOf, RepliesToMore, AddsReplies}
-use Rattle.node_model.specs.declared.outputs.Executed.{Executed}
+use Rattle.node_model.specs.declared.outputs.ReplyOut.{ReplyOut}
 
 -- ---- what stands in a list stands in a longer one
 get_left : {A : Type 0} (xs ys : List A) (k : ℕ) (x : A) → slice_get xs k ≡ Some x → slice_get (xs ++ ys) k ≡ Some x
@@ -33,7 +33,7 @@ take_all [] = refl
 take_all (x ∷ xs) = ap (λ (l : List _). x ∷ l) (take_all xs)
 
 -- a reply of a list is that of a longer one
-pub reply_of_longer : (l more : List Command) (e : Executed) → IsReplyOf l e → IsReplyOf (l ++ more) e
+pub reply_of_longer : (l more : List Command) (e : ReplyOut) → IsReplyOf l e → IsReplyOf (l ++ more) e
 reply_of_longer l more e r =
     let within : r.place < length l = slice_get_within l r.place (Request r.request) r.there in
     let same : take (suc r.place) (l ++ more) ≡ take (suc r.place) l =
@@ -50,7 +50,7 @@ reply_of_longer l more e r =
 
 -- ---- one command more
 -- the reply to a request that is executed behind a list
-pub reply_behind : (l : List Command) (r : Asked) (o : Outcome) (e : Executed)
+pub reply_behind : (l : List Command) (r : Asked) (o : SessionReply) (e : ReplyOut)
     → RepliesAt (l ++ Request r ∷ []) (length l) r (outcome_code o)
     → e.client ≡ r.client → e.number ≡ r.number → e.reply ≡ o → e.position ≡ suc (length l)
     → IsReplyOf (l ++ Request r ∷ []) e
@@ -83,7 +83,7 @@ stands_for_both old mid new cs ds h k = record {
 }
 
 -- the replies to some commands, and then to those behind them
-pub replies_to_both : (old mid : MachineState) (slot : ℕ) (cs ds : List Command) (before after : List Executed)
+pub replies_to_both : (old mid : MachineState) (slot : ℕ) (cs ds : List Command) (before after : List ReplyOut)
     → StandsForMore old mid cs → RepliesToMore old slot cs before → AddsReplies mid (slot + length cs) ds before after
     → RepliesToMore old slot (cs ++ ds) after
 replies_to_both old mid slot cs ds before after h earlier later = record {
@@ -107,8 +107,8 @@ pub stands_for_learnt : (old new : MachineState) (o : Option Command) (c : Comma
 stands_for_learnt old new o c e h = rw e (stands_for_one old new c h)
 
 -- a request is, and has its reply
-pub adds_reply : (m : MachineState) (slot : ℕ) (o : Option Command) (c : Command) (r : Asked) (told : Outcome) (e : Executed)
-    (old : List Executed) → o ≡ Some c → c ≡ Request r → RepliesOneMore m c told
+pub adds_reply : (m : MachineState) (slot : ℕ) (o : Option Command) (c : Command) (r : Asked) (told : SessionReply) (e : ReplyOut)
+    (old : List ReplyOut) → o ≡ Some c → c ≡ Request r → RepliesOneMore m c told
     → e.client ≡ r.client → e.number ≡ r.number → e.reply ≡ told → e.position ≡ slot + 1
     → AddsReplies m slot (with_command o []) old (old ++ e ∷ [])
 adds_reply m slot o c r told e old there is h client number reply position = rw there (rw is (record {

@@ -16,7 +16,7 @@ use Rattle.node_model.specs.declared.fault.NodeFault.{NodeFault}
 use Rattle.node_model.specs.declared.input.Input.{Input}
 use Rattle.node_model.specs.Composition.{RestoresFrom, executed_from}
 use Rattle.node_model.specs.Executing.{commands}
-use Rattle.node_model.specs.Minds.{Mind, position}
+use Rattle.node_model.specs.Replicas.{ReplicaState, position}
 use Rattle.node_model.specs.Nodes.{fetched_text}
 use Rattle.node_model.specs.Outputs.{Response}
 use Rattle.node_model.specs.Taking.{Takes, Hears, Restores, IsMachineOfText, learnt_from}
@@ -29,13 +29,13 @@ pub stands_for_text : (text : List ℕ) (machine : MachineState) (base : List Co
     → StandsFor machine base
 stands_for_text text machine base of has = stands_for machine base text has of.fits of.is
 
-module _ (base : List Command) (old new : Mind) (said : Response) where
+module _ (base : List Command) (old new : ReplicaState) (said : Response) where
   pub restores_meaning : (from target : ℕ) (machine : MachineState) → position old < target → length base ≡ target
       → StandsFor machine base → Restores old from target machine new said → RestoresFrom base old new said
   restores_meaning from target machine ahead many stands k =
       let l : Learning = skipped old.learning target in
       let learning : new.learning ≡ l = restored_learner old new said from target machine k in
-      let there : k.m.learning ≡ l = ap (λ (m : Mind). m.learning) k.begins in
+      let there : k.m.learning ≡ l = ap (λ (m : ReplicaState). m.learning) k.begins in
       let first : l.first ≡ target = skipped_first old.learning target ahead in
       let whole : executed_from base new ≡ base ++ learnt_from k.m target =
       ap (λ (x : Learning). base ++ commands x.learnt x.first (prefix x - x.first)) learning
@@ -78,18 +78,18 @@ module _ (base : List Command) (old new : Mind) (said : Response) where
   takes_restores i target k is many has = hearing_restores i target (heard_of old new said i k) is many has
 
 -- ---- a node that was up, and took an input or not
-with_target : (base : List Command) (i : Input) (m n : Mind) (said : Response) (p : Option Mind) (o : Option ℕ) → said.restored ≡ o
+with_target : (base : List Command) (i : Input) (m n : ReplicaState) (said : Response) (p : Option ReplicaState) (o : Option ℕ) → said.restored ≡ o
     → p ≡ Some n → Takes m i n said
     → IfSome o (λ target. length base ≡ target → IsSnapshot base (fetched_text m i)
-    → IfSome p (λ (b : Mind). RestoresFrom base m b said))
+    → IfSome p (λ (b : ReplicaState). RestoresFrom base m b said))
 with_target base i m n said p None is here takes = tt
 with_target base i m n said p (Some target) is here takes =
     λ many has. rw here (takes_restores base m n said i target takes is many has)
 
-pub meaning_restored : (base : List Command) (i : Input) (o p : Option Mind) (m n : Mind) (r : Result Response NodeFault) (Same : Type 0)
+pub meaning_restored : (base : List Command) (i : Input) (o p : Option ReplicaState) (m n : ReplicaState) (r : Result Response NodeFault) (Same : Type 0)
     → o ≡ Some m → OnOk r Same → (Same → p ≡ Some n) → IfOk r (λ said. Takes m i n said)
-    → IfSome o (λ (a : Mind). IfOk r (λ said. IfSome said.restored (λ target. length base ≡ target
-    → IsSnapshot base (fetched_text a i) → IfSome p (λ (b : Mind). RestoresFrom base a b said))))
+    → IfSome o (λ (a : ReplicaState). IfOk r (λ said. IfSome said.restored (λ target. length base ≡ target
+    → IsSnapshot base (fetched_text a i) → IfSome p (λ (b : ReplicaState). RestoresFrom base a b said))))
 meaning_restored base i o p m n (Ok said) Same up same still takes =
     rw up (with_target base i m n said p said.restored refl (still same) takes)
 meaning_restored base i o p m n (Err f) Same up same still takes = rw up tt

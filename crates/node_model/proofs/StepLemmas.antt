@@ -7,7 +7,7 @@ use Rattle.node_model.specs.declared.fault.NodeFault.{NodeFault}
 use Rattle.node_model.specs.declared.fault.NodeFault.TheVariants.{Device, Memory, Down}
 use Rattle.node_model.specs.declared.input.Input.{Input}
 use Rattle.node_model.specs.Faults.{is_stop_fault}
-use Rattle.node_model.specs.Minds.{Mind, refuses, Ignores}
+use Rattle.node_model.specs.Replicas.{ReplicaState, refuses, Ignores}
 use Rattle.node_model.specs.Nodes.{NodeSteps, StaysMeaning, HasMade, HasFailedToMake, StopsOnInput, RefusesInput, StorageStops}
 use Rattle.node_model.specs.Outputs.{Response, silence}
 use Rattle.node_model.specs.States.{NodeState}
@@ -29,12 +29,12 @@ pub stays_down : {S : Type 0} (node : NodeState S) (i : Input) → node.up ≡ N
 stays_down node i down = record { goes_on = λ base. rw down tt; restores = λ base. rw down tt }
 
 -- a fault stops the node, or the input is refused
-abbrev Refused : {S : Type 0} → Ghosts S → NodeState S → Mind → Input → NodeFault → NodeState S → Type 0
+abbrev Refused : {S : Type 0} → Ghosts S → NodeState S → ReplicaState → Input → NodeFault → NodeState S → Type 0
 Refused storages before m i f after =
     MatchBool (is_stop_fault f) (StopsOnInput storages before m i f after) (RefusesInput before m i f after)
 
 -- what its roles have made of an input
-pub record RolesTake {S : Type 0} (storages : Ghosts S) (old now : S) (m n : Mind) (i : Input) (r : Result Response NodeFault) : Type 0
+pub record RolesTake {S : Type 0} (storages : Ghosts S) (old now : S) (m n : ReplicaState) (i : Input) (r : Result Response NodeFault) : Type 0
   where
     pub takes : IfOk r (λ said. Takes m i n said)
     pub written : OnOk r (HasMade storages old now (Writes m i))
@@ -44,7 +44,7 @@ pub record RolesTake {S : Type 0} (storages : Ghosts S) (old now : S) (m n : Min
     pub device : IsErrOf r Device → HasFailedToMake storages old now (Writes m i)
     pub memory : IsErrOf r Memory → storages.reads old now ⊎ HasMade storages old now (Writes m i)
 
-module _ {S : Type 0} (storages : Ghosts S) (before : NodeState S) (now : S) (m n : Mind) (i : Input) where
+module _ {S : Type 0} (storages : Ghosts S) (before : NodeState S) (now : S) (m n : ReplicaState) (i : Input) where
   abbrev up_before : NodeState S
   up_before = record before { up = Some m }
 
@@ -52,7 +52,7 @@ module _ {S : Type 0} (storages : Ghosts S) (before : NodeState S) (now : S) (m 
   between = record before { storage = now; up = Some n }
 
   same_between : n ≡ m → now ≡ before.storage → between ≡ up_before
-  same_between mind storage = λ j. record { id = before.id; nodes = before.nodes; storage = storage j; up = Some (mind j) }
+  same_between replica storage = λ j. record { id = before.id; nodes = before.nodes; storage = storage j; up = Some (replica j) }
 
   stopped : (f : NodeFault) (after : NodeState S) → is_stop_fault f ≡ true → StorageStops storages before.storage m i f now
       → after ≡ record between { up = None } → Refused storages up_before m i f after
@@ -64,7 +64,7 @@ module _ {S : Type 0} (storages : Ghosts S) (before : NodeState S) (now : S) (m 
       → IfErr r (λ f. is_stop_fault f ≡ true → after ≡ record between { up = None }) → NodeSteps storages up_before i r after
   taken_up (Ok said) after h same goes_on stops = rw same (record {
     down = λ down. absurd (cc);
-    taken = record { mind = n; takes = h.takes; made = h.written; leaves = refl };
+    taken = record { replica = n; takes = h.takes; made = h.written; leaves = refl };
     refused = tt;
     ignored = λ is. let w = h.ignored is in (w.0, same_between w.1 w.2);
     refuses_ = IfSome_then (refuses m i) h.refused (λ _ w. w.0);

@@ -6,16 +6,16 @@ use Rattle.sessions.specs.Machines.{MachineState, after_command, reply_to_comman
 use Rattle.sessions.specs.declared.command.Command.{Command}
 use Rattle.sessions.specs.declared.command.Command.TheVariants.{NoOp, Request}
 use Rattle.proposer.specs.Requests.{is_of, without}
-use Rattle.node_model.specs.declared.outputs.Executed.{Executed}
+use Rattle.node_model.specs.declared.outputs.ReplyOut.{ReplyOut}
 
 -- the machine, the requests that wait at the node, and the replies to those that did
 pub record Executing : Type 0 where
   pub machine : MachineState
   pub waiting : List Asked
-  pub replies : List Executed
+  pub replies : List ReplyOut
 
 -- the reply to a request, where it waits; its position is one more than its slot
-abbrev pub reply_at : Executing → ℕ → Asked → List Executed
+abbrev pub reply_at : Executing → ℕ → Asked → List ReplyOut
 reply_at e slot r =
     if list_any (is_of r.client r.number) e.waiting then record {
       client = r.client;

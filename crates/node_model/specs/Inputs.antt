@@ -61,5 +61,5 @@ names_run nodes (SnapPart p) = true
 names_run nodes (Behind floor) = true
 
 -- the envelope is addressed to the node, and every node that it names is of the run; any other is ignored
-abbrev pub concerns : ℕ → ℕ → Envelope → Bool
-concerns id nodes e = e.to == id && (nat_lt e.from nodes && names_run nodes e.message)
+abbrev pub is_for_this_run : ℕ → ℕ → Envelope → Bool
+is_for_this_run id nodes e = e.to == id && (nat_lt e.from nodes && names_run nodes e.message)

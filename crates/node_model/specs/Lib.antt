@@ -4,7 +4,7 @@ pub mod Faults
 pub mod Fetching
 pub mod Inputs
 pub mod Loading
-pub mod Minds
+pub mod Replicas
 pub mod Nodes
 pub mod Outputs
 pub mod Protocol

@@ -12,20 +12,20 @@ use Rattle.synod.specs.declared.slot.TheConstants.{SLOTS}
 use Rattle.learner.specs.Learning.{unlearnt_from}
 use Rattle.proposer.specs.Proposing.{Proposing, loaded}
 use Rattle.wire.specs.RecordForms.{IsRoundRecord}
-use Rattle.node_model.specs.Minds.{Mind}
+use Rattle.node_model.specs.Replicas.{ReplicaState}
 use Rattle.node_model.specs.States.{NodeState}
 use Rattle.node_model.specs.declared.fault.NodeFault.{NodeFault}
 use Rattle.node_model.specs.declared.fault.NodeFault.TheVariants as fault
 
 -- what a node holds is that of this node, of so many
-pub record IsMindOf (id nodes : ℕ) (m : Mind) : Type 0 where
+pub record IsReplicaOf (id nodes : ℕ) (m : ReplicaState) : Type 0 where
   pub number : m.id ≡ id
   pub of_all : m.nodes ≡ nodes
   pub learning : m.learning.nodes ≡ nodes
   pub proposing : (m.proposing.id ≡ id) × (m.proposing.nodes ≡ nodes)
 
 -- nothing is learnt, nothing waits, no campaign is on its way, and nothing is fetched
-pub record IsFresh (id nodes : ℕ) (m : Mind) : Type 0 where
+pub record IsFresh (id nodes : ℕ) (m : ReplicaState) : Type 0 where
   pub learning : m.learning ≡ unlearnt_from nodes m.learning.first
   pub first_in_log : m.learning.first ≤ SLOTS
   pub proposing : m.proposing ≡ loaded id nodes m.proposing.round
@@ -37,7 +37,7 @@ LoadsRound None id nodes p = p ≡ loaded id nodes 0
 LoadsRound (Some bytes) id nodes p = IsRoundRecord bytes p.round × (p ≡ loaded id nodes p.round)
 
 -- the records say what it has promised and voted for, its round, and with which commands it begins; the rest is as at the start
-pub record IsLoaded (records : Records) (id nodes : ℕ) (m : Mind) : Type 0 where
+pub record IsLoaded (records : Records) (id nodes : ℕ) (m : ReplicaState) : Type 0 where
   pub number : m.id ≡ id
   pub of_all : m.nodes ≡ nodes
   pub accepting : RecordsSay records m.accepting
@@ -59,7 +59,7 @@ IsDamaged storages s =
 pub record Restarts {S : Type 0} (storages : Ghosts S)
     (old : NodeState S) (result : Result (Unit {0}) NodeFault) (new : NodeState S) : Type 0 where
   pub leaves : new ≡ record old { storage = new.storage; up = new.up }
-  pub own : ForSome new.up (IsMindOf old.id old.nodes)
+  pub own : ForSome new.up (IsReplicaOf old.id old.nodes)
   -- whatever the storage is: what was not in the records is gone
   pub fresh : ForSome new.up (IsFresh old.id old.nodes)
   pub up : OnOk result (IsSome new.up × storages.looks old.storage new.storage)
@@ -77,4 +77,4 @@ pub record Restarts {S : Type 0} (storages : Ghosts S)
 pub record IsMember {S : Type 0} (id nodes : ℕ) (n : NodeState S) : Type 0 where
   pub number : n.id ≡ id
   pub of_all : n.nodes ≡ nodes
-  pub up : ForSome n.up (IsMindOf id nodes)
+  pub up : ForSome n.up (IsReplicaOf id nodes)

@@ -14,7 +14,7 @@ use Rattle.node_model.specs.declared.input.Input.TheVariants as input
 use Rattle.node_model.specs.Composition.{IsMeaningOf, GoesOnFrom, RestoresFrom, executed_from}
 use Rattle.node_model.specs.Faults.{is_stop_fault}
 use Rattle.node_model.specs.Fetching.{text_with}
-use Rattle.node_model.specs.Minds.{Mind, position, refuses, Ignores}
+use Rattle.node_model.specs.Replicas.{ReplicaState, position, refuses, Ignores}
 use Rattle.node_model.specs.Outputs.{Response, silence}
 use Rattle.node_model.specs.Taking.{Writes, Takes}
 pub use Rattle.node_model.specs.States.{NodeState}
@@ -35,21 +35,21 @@ pub record HasFailedToMake {S : Type 0} (storages : Ghosts S) (old new : S) (Wri
 -- ---- an input comes to a node that is up
 -- it is taken, and the one write that it makes is made
 pub record TakesInput {S : Type 0} (storages : Ghosts S)
-    (old : NodeState S) (m : Mind) (input : Input) (said : Response) (new : NodeState S) : Type 0 where
-  pub mind : Mind
-  pub takes : Takes m input mind said
+    (old : NodeState S) (m : ReplicaState) (input : Input) (said : Response) (new : NodeState S) : Type 0 where
+  pub replica : ReplicaState
+  pub takes : Takes m input replica said
   pub made : HasMade storages old.storage new.storage (Writes m input)
-  pub leaves : new ≡ record old { storage = new.storage; up = Some mind }
+  pub leaves : new ≡ record old { storage = new.storage; up = Some replica }
 
 -- it is refused, and nothing changes
-pub record RefusesInput {S : Type 0} (old : NodeState S) (m : Mind) (input : Input) (f : NodeFault)
+pub record RefusesInput {S : Type 0} (old : NodeState S) (m : ReplicaState) (input : Input) (f : NodeFault)
     (new : NodeState S) : Type 0 where
   pub refused : refuses m input ≡ Some f
   pub leaves : new ≡ old
 
 -- what is left of the storage where the node goes down: the device failed on the write that the input
 -- makes, or memory was wanting, and the write was made or not
-abbrev pub StorageStops : {S : Type 0} → Ghosts S → S → Mind → Input → NodeFault → S → Type 0
+abbrev pub StorageStops : {S : Type 0} → Ghosts S → S → ReplicaState → Input → NodeFault → S → Type 0
 StorageStops storages old m input fault.Device new = HasFailedToMake storages old new (Writes m input)
 StorageStops storages old m input fault.Memory new =
     storages.reads old new ⊎ HasMade storages old new (Writes m input)
@@ -63,7 +63,7 @@ StorageStops storages old m input fault.Damaged new = ⊥
 
 -- the node goes down
 pub record StopsOnInput {S : Type 0} (storages : Ghosts S)
-    (old : NodeState S) (m : Mind) (input : Input) (f : NodeFault) (new : NodeState S) : Type 0 where
+    (old : NodeState S) (m : ReplicaState) (input : Input) (f : NodeFault) (new : NodeState S) : Type 0 where
   pub storage : StorageStops storages old.storage m input f new.storage
   pub leaves : new ≡ record old { storage = new.storage; up = None }
 
@@ -90,7 +90,7 @@ pub record NodeAnswers {S : Type 0} (node : NodeState S) (query : Query) (result
 
 -- ---- composition
 -- the text that the parts make that a node has once the input has brought its own
-abbrev pub fetched_text : Mind → Input → List ℕ
+abbrev pub fetched_text : ReplicaState → Input → List ℕ
 fetched_text m (input.Message e) = text_with m.fetching e.message
 fetched_text m other = []
 

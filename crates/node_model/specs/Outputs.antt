@@ -2,8 +2,8 @@
 use Rattle.std.specs.Prelude.{◌≤◌, ℕ, List, [], length, Option, None}
 use Rattle.proposer.specs.declared.waiting.TheConstants.{MOST_WAITING}
 use Rattle.wire.specs.declared.frames.envelope.Envelope.{Envelope}
-use Rattle.node_model.specs.declared.outputs.Executed.{Executed}
-use Rattle.node_model.specs.declared.outputs.LogEntry.{LogEntry}
+use Rattle.node_model.specs.declared.outputs.ReplyOut.{ReplyOut}
+use Rattle.node_model.specs.declared.outputs.LearntCommand.{LearntCommand}
 use Rattle.node_model.specs.declared.outputs.TheConstants.{MOST_SENDS}
 
 -- what a node says, in this order
@@ -11,9 +11,9 @@ pub record Response : Type 0 where
   -- the position of the checkpoint whose text it restored
   pub restored : Option ℕ
   -- the slot that was newly learnt, and what it holds
-  pub learnt : Option LogEntry
+  pub learnt : Option LearntCommand
   -- the replies to requests that waited, in the order in which they were executed
-  pub replies : List Executed
+  pub replies : List ReplyOut
   pub sends : List Envelope
 
 -- messages alone

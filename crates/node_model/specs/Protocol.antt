@@ -1,7 +1,7 @@
 -- What a node's inputs and states are to the protocol.
 use Rattle.std.specs.Prelude.{◌≡◌, ◌≤◌, ℕ, zero, List, [], ◌∷◌, ◌++◌, map, Bool, true, false, Option, Some, None, ⊤}
 use Rattle.synod.specs.Acts as acts
-use Rattle.synod.specs.Acts.{Fleet, Local, Does}
+use Rattle.synod.specs.Acts.{Membership, Local, Does}
 use Rattle.synod.specs.History as history
 use Rattle.synod.specs.Records as synod_records
 use Rattle.sessions.specs.Snapshots.{snapshot_bytes}
@@ -22,14 +22,14 @@ use Rattle.wire.specs.declared.frames.message.Message.TheVariants.{Prepare, Acce
 pub use Rattle.wire.specs.Protocol.{message_of, frame_of}
 use Rattle.node_model.specs.declared.input.Input.{Input}
 use Rattle.node_model.specs.declared.input.Input.TheVariants as input
-use Rattle.node_model.specs.declared.outputs.LogEntry.{LogEntry}
-use Rattle.node_model.specs.Inputs.{concerns}
-use Rattle.node_model.specs.Minds.{Mind, position, asked}
+use Rattle.node_model.specs.declared.outputs.LearntCommand.{LearntCommand}
+use Rattle.node_model.specs.Inputs.{is_for_this_run}
+use Rattle.node_model.specs.Replicas.{ReplicaState, position, asked}
 use Rattle.node_model.specs.Outputs.{Response}
 
 -- so many nodes; a no-op does nothing
-abbrev pub fleet : ℕ → Fleet Command
-fleet nodes = record { nodes = nodes; noop = NoOp }
+abbrev pub membership : ℕ → Membership Command
+membership nodes = record { nodes = nodes; noop = NoOp }
 
 -- ---- inputs
 -- an envelope comes to the node where it concerns it
@@ -40,7 +40,7 @@ coming e true = acts.Came e.from (message_of e.message)
 -- what an input is to node `id` of so many
 abbrev pub input_of : ℕ → ℕ → Input → acts.Input Command
 input_of id nodes (input.Submit client number op) = acts.Nothing
-input_of id nodes (input.Message e) = coming e (concerns id nodes e)
+input_of id nodes (input.Message e) = coming e (is_for_this_run id nodes e)
 input_of id nodes input.Timeout = acts.Nothing
 input_of id nodes input.Tick = acts.Nothing
 input_of id nodes input.Checkpoint = acts.Nothing
@@ -56,34 +56,34 @@ submissions input.Checkpoint = []
 submissions input.Trim = []
 
 -- what node `id` learnt
-abbrev pub learnings : ℕ → Option LogEntry → List (history.Lesson Command)
+abbrev pub learnings : ℕ → Option LearntCommand → List (history.Lesson Command)
 learnings id None = []
 learnings id (Some e) = record { node = id; slot = e.slot; command = e.command } ∷ []
 
 -- ---- what a node holds
--- the protocol's records and mind say what each role of the node holds, and how far the node has executed; its acceptor's floor
+-- the protocol's records and replica say what each role of the node holds, and how far the node has executed; its acceptor's floor
 -- is no further
-pub record MindStands (m : Mind) (x : Local Command) : Type 0 where
+pub record ReplicaStands (m : ReplicaState) (x : Local Command) : Type 0 where
   pub records : RecordsStand m.accepting m.proposing.round x.records
-  pub learner : LearnerStands m.learning x.mind
+  pub learner : LearnerStands m.learning x.replica
   pub proposer : ProposerStands m.proposing x
-  pub position_ : x.mind.position ≡ position m
+  pub position_ : x.replica.position ≡ position m
   pub level : m.accepting.floor ≤ position m
 
 -- ---- what a node does
--- from x node `id` may come to what stands for the new mind, by acts that are allowed on this input, and submit these commands
+-- from x node `id` may come to what stands for the new replica, by acts that are allowed on this input, and submit these commands
 -- and say this on the way
 pub record MayComeTo (nodes id : ℕ) (input : acts.Input Command) (submits : List Command) (x : Local Command)
-    (new : Mind) (said : Response) : Type 0 where
+    (new : ReplicaState) (said : Response) : Type 0 where
   pub after : Local Command
-  pub does : Does (fleet nodes) id input x after
-  pub stands : MindStands new after
+  pub does : Does (membership nodes) id input x after
+  pub stands : ReplicaStands new after
   pub sent : after.sent ≡ x.sent ++ map frame_of said.sends
   pub learnt : after.learnt ≡ x.learnt ++ learnings id said.learnt
   pub submitted : after.submitted ≡ x.submitted ++ submits
 
 -- from x node `id` of so many may make this of an input
-abbrev pub MayTake : ℕ → ℕ → Input → Local Command → Mind → Response → Type 0
+abbrev pub MayTake : ℕ → ℕ → Input → Local Command → ReplicaState → Response → Type 0
 MayTake nodes id input x new said = MayComeTo nodes id (input_of id nodes input) (submissions input) x new said
 
 -- ---- what is written
@@ -97,25 +97,25 @@ InputFits input.Checkpoint = ⊤
 InputFits input.Trim = ⊤
 
 -- what the acceptor holds once the write of a message, and of an input, is made
-abbrev pub accepting_on : Mind → Message → Accepting
+abbrev pub accepting_on : ReplicaState → Message → Accepting
 accepting_on m (Prepare ballot first) = after_prepare m.accepting ballot first
 accepting_on m (Accept v) = after_accept m.accepting v
 accepting_on m other = m.accepting
 
-abbrev pub accepting_if : Mind → Envelope → Bool → Accepting
+abbrev pub accepting_if : ReplicaState → Envelope → Bool → Accepting
 accepting_if m e false = m.accepting
 accepting_if m e true = accepting_on m e.message
 
-abbrev pub accepting_after : Mind → Input → Accepting
+abbrev pub accepting_after : ReplicaState → Input → Accepting
 accepting_after m (input.Submit client number op) = m.accepting
-accepting_after m (input.Message e) = accepting_if m e (concerns m.id m.nodes e)
+accepting_after m (input.Message e) = accepting_if m e (is_for_this_run m.id m.nodes e)
 accepting_after m input.Timeout = m.accepting
 accepting_after m input.Tick = m.accepting
 accepting_after m input.Checkpoint = after_checkpoint m.accepting (position m) (snapshot_bytes m.machine)
 accepting_after m input.Trim = after_trim m.accepting
 
 -- the round that the proposer has begun last, once the write of an input is made
-abbrev pub round_after : Mind → Input → ℕ
+abbrev pub round_after : ReplicaState → Input → ℕ
 round_after m (input.Submit client number op) = m.proposing.round
 round_after m (input.Message e) = m.proposing.round
 round_after m input.Timeout = next_round m.proposing
@@ -143,11 +143,11 @@ pub record RecordsAgree (records : Records) (r : synod_records.Records Command) 
   pub stands : RecordsStand accepting round r
 
 -- a node that is up holds what its records say
-abbrev pub HoldsRecords : Mind → Records → Type 0
+abbrev pub HoldsRecords : ReplicaState → Records → Type 0
 HoldsRecords m records = RecordsHold records m.accepting m.proposing.round
 
--- from x node `id` may go down: its records stand for this then, and nothing is left of its mind
+-- from x node `id` may go down: its records stand for this then, and nothing is left of its replica
 pub record MayStop (nodes id : ℕ) (input : acts.Input Command) (x : Local Command) (a : Accepting) (round : ℕ) : Type 0 where
   pub records : synod_records.Records Command
-  pub does : Does (fleet nodes) id input x (stopping x records)
+  pub does : Does (membership nodes) id input x (stopping x records)
   pub stands : RecordsStand a round records

@@ -24,37 +24,37 @@ use Rattle.wire.specs.declared.frames.message.Message.{Message}
 use Rattle.wire.specs.declared.frames.message.Message.TheVariants.{Prepare, Promise, Nack, Accept, Accepted, Ask, Decided, SnapAsk, SnapPart, Behind}
 use Rattle.node_model.specs.declared.input.Input.{Input}
 use Rattle.node_model.specs.declared.input.Input.TheVariants as input
-use Rattle.node_model.specs.declared.outputs.Executed.{Executed}
+use Rattle.node_model.specs.declared.outputs.ReplyOut.{ReplyOut}
 use Rattle.node_model.specs.Composition.{StandsForMore, RepliesToMore}
 use Rattle.node_model.specs.Executing.{Executing, executed, commands}
 use Rattle.node_model.specs.Fetching.{Fetching, nothing_of, is_above_target, still_fetched, wants, with_part, missing, next_part}
-use Rattle.node_model.specs.Inputs.{concerns}
-use Rattle.node_model.specs.Minds.{Mind, position, asked, waits}
+use Rattle.node_model.specs.Inputs.{is_for_this_run}
+use Rattle.node_model.specs.Replicas.{ReplicaState, position, asked, waits}
 use Rattle.node_model.specs.Outputs.{Response, sent, silence}
 use Rattle.node_model.specs.Sending.{envelopes_of, envelopes, answer_sends, decided_sends, ask_sends, ask_others}
 use Rattle.node_model.specs.Sending.{to_one, to_others, snapshot_sends}
 
 -- ---- the one write that an input makes, if it makes one
 -- on a message only an acceptor writes
-abbrev pub WritesOnMessage : Mind → Message → Write → Type 0
+abbrev pub WritesOnMessage : ReplicaState → Message → Write → Type 0
 WritesOnMessage m (Prepare ballot first) write = write ≡ prepare_write m.accepting ballot first
 WritesOnMessage m (Accept v) write = IsAcceptWrite m.accepting v write
 WritesOnMessage m other write = write ≡ None
 
-abbrev pub WritesOnEnvelope : Mind → Envelope → Bool → Write → Type 0
+abbrev pub WritesOnEnvelope : ReplicaState → Envelope → Bool → Write → Type 0
 WritesOnEnvelope m e false write = write ≡ None
 WritesOnEnvelope m e true write = WritesOnMessage m e.message write
 
 -- a checkpoint is written: the snapshot text of what is executed, at a position above the floor
-pub record WritesCheckpoint (m : Mind) (write : Write) : Type 0 where
+pub record WritesCheckpoint (m : ReplicaState) (write : Write) : Type 0 where
   pub above : m.accepting.floor < position m
   pub in_log : position m ≤ SLOTS
   pub fits : MachineFits m.machine
   pub is : write ≡ Some (checkpoint_change m.accepting (position m) (snapshot_bytes m.machine))
 
-abbrev pub Writes : Mind → Input → Write → Type 0
+abbrev pub Writes : ReplicaState → Input → Write → Type 0
 Writes m (input.Submit client number op) write = write ≡ None
-Writes m (input.Message e) write = WritesOnEnvelope m e (concerns m.id m.nodes e) write
+Writes m (input.Message e) write = WritesOnEnvelope m e (is_for_this_run m.id m.nodes e) write
 Writes m input.Timeout write = write ≡ Some (Sets key.Round (big_bytes 8 (next_round m.proposing)))
 Writes m input.Tick write = write ≡ None
 Writes m input.Checkpoint write = WritesCheckpoint m write
@@ -62,10 +62,10 @@ Writes m input.Trim write = IsTrimWrite m.accepting write
 
 -- ---- a proposer's part
 -- what a node holds and says where its proposer comes to this, and sends this
-abbrev pub with_proposer : Mind → Proposing × List Outgoing → Mind
+abbrev pub with_proposer : ReplicaState → Proposing × List Outgoing → ReplicaState
 with_proposer m p = record m { proposing = p.0 }
 
-abbrev pub proposer_sends : Mind → Proposing × List Outgoing → List Envelope
+abbrev pub proposer_sends : ReplicaState → Proposing × List Outgoing → List Envelope
 proposer_sends m p = envelopes m.id m.nodes p.1
 
 -- the proposer proposes what it may
@@ -80,45 +80,45 @@ begins_to_lead old new = not (is_led old.campaign) && is_led new.campaign
 abbrev pub after_counting : Proposing → Proposing → Learning → Proposing × List Outgoing
 after_counting old new l = if begins_to_lead old new then proposed new l else (new, [])
 
-abbrev pub after_promise : Mind → ℕ → Promised → Proposing × List Outgoing
+abbrev pub after_promise : ReplicaState → ℕ → Promised → Proposing × List Outgoing
 after_promise m from p = after_counting m.proposing (with_promised m.proposing from p) m.learning
 
 -- a request waits from now on, and the proposer proposes
 abbrev pub with_request : Proposing → Asked → Proposing
 with_request p r = record p { waiting = p.waiting ++ r ∷ [] }
 
-abbrev pub after_submit : Mind → Asked → Proposing × List Outgoing
+abbrev pub after_submit : ReplicaState → Asked → Proposing × List Outgoing
 after_submit m r = if waits m r.client r.number then (m.proposing, []) else proposed (with_request m.proposing r) m.learning
 
 -- ---- a command is newly learnt
 -- the machine and the requests that wait, where these replies are there
-abbrev pub executing_of : Mind → List Executed → Executing
+abbrev pub executing_of : ReplicaState → List ReplyOut → Executing
 executing_of m replies = record { machine = m.machine; waiting = m.proposing.waiting; replies = replies }
 
-abbrev pub with_executing : Mind → Executing → Mind
+abbrev pub with_executing : ReplicaState → Executing → ReplicaState
 with_executing m e = record m { machine = e.machine; proposing = record m.proposing { waiting = e.waiting } }
 
 -- what is learnt, from a slot to the position
-abbrev pub learnt_from : Mind → ℕ → List Command
+abbrev pub learnt_from : ReplicaState → ℕ → List Command
 learnt_from m slot = commands m.learning.learnt slot (position m - slot)
 
 -- what is learnt by now is executed, from the position before on
-abbrev pub news : Mind → Learning → List Command
+abbrev pub news : ReplicaState → Learning → List Command
 news m l = commands l.learnt (position m) (prefix l - position m)
 
-abbrev pub execution : Mind → Learning → Executing
+abbrev pub execution : ReplicaState → Learning → Executing
 execution m l = executed (executing_of m []) (position m) (news m l)
 
 -- no proposal for the slot is open any more, and no request that was executed waits
-abbrev pub proposer_of : Mind → ℕ → Executing → Proposing
+abbrev pub proposer_of : ReplicaState → ℕ → Executing → Proposing
 proposer_of m slot e = record (after_learned m.proposing slot) { waiting = e.waiting }
 
 -- the proposer proposes then
-abbrev pub after_news : Mind → ℕ → Learning → Proposing × List Outgoing
+abbrev pub after_news : ReplicaState → ℕ → Learning → Proposing × List Outgoing
 after_news m slot l = proposed (proposer_of m slot (execution m l)) l
 
 -- what a node makes of it: `asks` is what it sends last
-pub record Learns (old : Mind) (slot : ℕ) (c : Command) (l : Learning) (asks : List Envelope) (new : Mind) (said : Response) : Type 0
+pub record Learns (old : ReplicaState) (slot : ℕ) (c : Command) (l : Learning) (asks : List Envelope) (new : ReplicaState) (said : Response) : Type 0
   where
     pub leaves : new ≡ record old {
       learning = l;
@@ -137,41 +137,41 @@ pub record Learns (old : Mind) (slot : ℕ) (c : Command) (l : Learning) (asks :
     pub replies : RepliesToMore old.machine (position old) (news old l) said.replies
 
 -- a learner has heard some news, by which a slot is newly learnt or none is
-abbrev pub Hears : Mind → Command → Option Learned → Learning → List Envelope → Mind → Response → Type 0
+abbrev pub Hears : ReplicaState → Command → Option Learned → Learning → List Envelope → ReplicaState → Response → Type 0
 Hears old c None l asks new said = (new ≡ record old { learning = l }) × (said ≡ silence)
 Hears old c (Some learned) l asks new said = Learns old learned.slot c l asks new said
 
 -- a node that has learnt a slot from another asks that one for the next, last
-abbrev pub HearsOfDecided : Mind → ℕ → ℕ → Command → Mind → Response → Type 0
+abbrev pub HearsOfDecided : ReplicaState → ℕ → ℕ → Command → ReplicaState → Response → Type 0
 HearsOfDecided old from slot c new said =
     (learned : Option Learned) × (l : Learning) × HearsDecided old.learning slot c learned l
     × Hears old c learned l (ask_sends old.id from (prefix l)) new said
 
-abbrev pub HearsOfVote : Mind → ℕ → Vote Command → Mind → Response → Type 0
+abbrev pub HearsOfVote : ReplicaState → ℕ → Vote Command → ReplicaState → Response → Type 0
 HearsOfVote old from v new said =
     (learned : Option Learned) × (l : Learning) × HearsVote old.learning from v learned l
     × Hears old v.command learned l [] new said
 
 -- ---- a snapshot is fetched
 -- a node is told of a floor above its position and above what it fetches: it asks every other node for the first part of that text
-abbrev pub is_ahead : Mind → ℕ → Bool
+abbrev pub is_ahead : ReplicaState → ℕ → Bool
 is_ahead m floor = nat_lt (position m) floor && is_above_target m.fetching floor
 
-abbrev pub HearsOfFloor : Mind → ℕ → Bool → Mind → Response → Type 0
+abbrev pub HearsOfFloor : ReplicaState → ℕ → Bool → ReplicaState → Response → Type 0
 HearsOfFloor old floor false new said = (new ≡ old) × (said ≡ silence)
 HearsOfFloor old floor true new said =
     (new ≡ record old { fetching = Some (nothing_of floor) })
     × (said ≡ sent (to_others old.id old.nodes (SnapAsk floor 0)))
 
 -- a part counts, and this is fetched with it
-pub record Counts (m : Mind) (p : Piece) (f : Fetching) : Type 0 where
+pub record Counts (m : ReplicaState) (p : Piece) (f : Fetching) : Type 0 where
   pub before : Fetching
   pub fetching_ : m.fetching ≡ Some before
   pub wanted : wants m.fetching (position m) p ≡ true
   pub is : f ≡ with_part before p
 
 -- the machine of a restored text takes the place of the node's: what it has learnt below the target is passed over
-abbrev pub restored : Mind → ℕ → MachineState → Mind
+abbrev pub restored : ReplicaState → ℕ → MachineState → ReplicaState
 restored m target machine = record m {
   learning = skipped m.learning target;
   proposing = skipped_to m.proposing target;
@@ -180,16 +180,16 @@ restored m target machine = record m {
 }
 
 -- what is learnt from a slot on is executed
-abbrev pub execution_from : Mind → ℕ → Executing
+abbrev pub execution_from : ReplicaState → ℕ → Executing
 execution_from m slot = executed (executing_of m []) slot (learnt_from m slot)
 
-abbrev pub executed_to_the_end : Mind → ℕ → Mind
+abbrev pub executed_to_the_end : ReplicaState → ℕ → ReplicaState
 executed_to_the_end m slot = with_executing m (execution_from m slot)
 
 -- what a node makes of the machine of a whole text: `m` is what it holds then
-pub record Restores (old : Mind) (from target : ℕ) (machine : MachineState) (new : Mind) (said : Response) : Type 0 where
+pub record Restores (old : ReplicaState) (from target : ℕ) (machine : MachineState) (new : ReplicaState) (said : Response) : Type 0 where
   pub in_log : target ≤ SLOTS
-  pub m : Mind
+  pub m : ReplicaState
   pub begins : m ≡ restored old target machine
   pub leaves : new ≡ with_proposer (executed_to_the_end m target) (proposed (executed_to_the_end m target).proposing m.learning)
   pub says : said ≡ record {
@@ -208,14 +208,14 @@ pub record IsMachineOfText (text : List ℕ) (machine : MachineState) : Type 0 w
   pub is : snapshot_bytes machine ≡ text
 
 -- a whole text is there, which is a machine's, or none's and then given up
-pub data RestoresText (old : Mind) (from target : ℕ) (text : List ℕ) (new : Mind) (said : Response) : Type 0 where
+pub data RestoresText (old : ReplicaState) (from target : ℕ) (text : List ℕ) (new : ReplicaState) (said : Response) : Type 0 where
   restores : (machine : MachineState) → IsMachineOfText text machine → Restores old from target machine new said
       → RestoresText old from target text new said
   gives_up : ((machine : MachineState) → ¬ IsMachineOfText text machine) → new ≡ record old { fetching = None } → said ≡ silence
       → RestoresText old from target text new said
 
 -- a part has come from a node
-pub data TakesPart (old : Mind) (from : ℕ) (p : Piece) (new : Mind) (said : Response) : Type 0 where
+pub data TakesPart (old : ReplicaState) (from : ℕ) (p : Piece) (new : ReplicaState) (said : Response) : Type 0 where
   -- it doesn't count
   passes : wants old.fetching (position old) p ≡ false → new ≡ old → said ≡ silence → TakesPart old from p new said
   -- it counts, and the lowest part that is missing is asked for next
@@ -226,7 +226,7 @@ pub data TakesPart (old : Mind) (from : ℕ) (p : Piece) (new : Mind) (said : Re
       → TakesPart old from p new said
 
 -- ---- what an input makes of a node, and what the node says
-abbrev pub TakesMessage : Mind → ℕ → Message → Mind → Response → Type 0
+abbrev pub TakesMessage : ReplicaState → ℕ → Message → ReplicaState → Response → Type 0
 TakesMessage old from (Prepare ballot first) new said =
     (answer : Answer) × AnswersPrepare old.accepting ballot first answer
     × (new ≡ record old { accepting = after_prepare old.accepting ballot first })
@@ -248,7 +248,7 @@ TakesMessage old from (SnapPart p) new said = TakesPart old from p new said
 TakesMessage old from (Behind floor) new said = HearsOfFloor old floor (is_ahead old floor) new said
 
 -- an envelope that doesn't concern the node is ignored
-abbrev pub TakesEnvelope : Mind → Envelope → Bool → Mind → Response → Type 0
+abbrev pub TakesEnvelope : ReplicaState → Envelope → Bool → ReplicaState → Response → Type 0
 TakesEnvelope old e false new said = (new ≡ old) × (said ≡ silence)
 TakesEnvelope old e true new said = TakesMessage old e.from e.message new said
 
@@ -257,20 +257,20 @@ abbrev pub asks_for : ℕ → ℕ → ℕ → Option Fetching → List Envelope
 asks_for id nodes position None = ask_others id nodes position
 asks_for id nodes position (Some f) = to_others id nodes (SnapAsk f.target (next_part f))
 
-abbrev pub asks_again : Mind → List Envelope
+abbrev pub asks_again : ReplicaState → List Envelope
 asks_again m = asks_for m.id m.nodes (position m) m.fetching
 
 -- a campaign begins, and its prepares are sent
-abbrev pub TakesTimeout : Mind → Mind → Response → Type 0
+abbrev pub TakesTimeout : ReplicaState → ReplicaState → Response → Type 0
 TakesTimeout old new said =
     (prepare : Outgoing) × StartsCampaign old.proposing (position old) new.proposing prepare
     × (new ≡ record old { proposing = new.proposing }) × (said ≡ sent (envelopes_of old.id old.nodes prepare))
 
-abbrev pub Takes : Mind → Input → Mind → Response → Type 0
+abbrev pub Takes : ReplicaState → Input → ReplicaState → Response → Type 0
 Takes old (input.Submit client number op) new said =
     (new ≡ with_proposer old (after_submit old (asked client number op)))
     × (said ≡ sent (proposer_sends old (after_submit old (asked client number op))))
-Takes old (input.Message e) new said = TakesEnvelope old e (concerns old.id old.nodes e) new said
+Takes old (input.Message e) new said = TakesEnvelope old e (is_for_this_run old.id old.nodes e) new said
 Takes old input.Timeout new said = TakesTimeout old new said
 Takes old input.Tick new said =
     (new ≡ old)

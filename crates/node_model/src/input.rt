@@ -2,7 +2,7 @@
 
 ghost use Rattle.std.specs.Prelude.{◌≡◌};
 ghost use Rattle.std.specs.List.{list_all};
-ghost use Rattle.node_model.specs.Inputs.{concerns, names_run, is_of_run, is_vote_of_run};
+ghost use Rattle.node_model.specs.Inputs.{is_for_this_run, names_run, is_of_run, is_vote_of_run};
 
 use sessions::{Command, Number};
 use store::Op;
@@ -28,8 +28,8 @@ pub enum Input {
 
 /// Whether an envelope concerns a node of a run of so many: it is addressed to the node, and names no node that the run
 /// doesn't have.
-pub fn concerns(id: NodeId, nodes: Nodes, envelope: &Envelope) -> bool
-    ensures { result ≡ concerns id nodes envelope.now }
+pub fn is_for_this_run(id: NodeId, nodes: Nodes, envelope: &Envelope) -> bool
+    ensures { result ≡ is_for_this_run id nodes envelope.now }
 {
     let of_run = envelope.from.value() < nodes.count();
     let names_run = names_run(nodes, &envelope.message);

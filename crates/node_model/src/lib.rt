@@ -13,6 +13,6 @@ mod outputs;
 
 pub use allowed::{loading_is_allowed, records_go_on, refusals_go_on, steps_are_allowed};
 pub use fault::NodeFault;
-pub use input::{Input, concerns};
+pub use input::{Input, is_for_this_run};
 pub use laws::{learnt_is_told, meanings_are_of_learnt_slots, members_stay};
-pub use outputs::{Executed, LogEntry, MOST_SENDS, Outputs, Text};
+pub use outputs::{AnswerText, LearntCommand, MOST_SENDS, Outputs, ReplyOut};

@@ -3,7 +3,7 @@
 ghost use Rattle.std.specs.Prelude.{◌≡◌};
 ghost use Rattle.node_model.specs.Outputs.{sent, silence};
 
-use learner::Held;
+use learner::SharedCommand;
 use sessions::Number;
 use std::alloc::Global;
 use std::marker::Model;
@@ -15,27 +15,27 @@ pub const MOST_SENDS: usize = 62;
 
 /// A slot that the node newly learnt, and what it holds.
 #[derive(Drop)]
-pub struct LogEntry {
+pub struct LearntCommand {
     pub slot: Slot,
-    pub command: Held,
+    pub command: SharedCommand,
 }
 
 /// A request that waited at the node was executed, and has this reply. Its position is one more than its slot.
 #[derive(Clone, Copy)]
-pub struct Executed {
+pub struct ReplyOut {
     pub client: u8,
     pub number: Number,
-    pub reply: sessions::Outcome,
+    pub reply: sessions::SessionReply,
     pub position: u32,
 }
 
 /// The text of an answer.
 #[derive(Drop)]
-pub struct Text {
+pub struct AnswerText {
     bytes: Vec<u8>,
 }
 
-impl Model for Text {
+impl Model for AnswerText {
     ghost use Rattle.std.specs.Prelude.{List, ℕ};
 
     ghost Value = { List ℕ };
@@ -43,12 +43,12 @@ impl Model for Text {
     ghost view = { λ t. t.bytes.items };
 }
 
-impl Text {
+impl AnswerText {
     /// The text of these bytes.
-    pub fn new(bytes: Vec<u8>) -> Text
+    pub fn new(bytes: Vec<u8>) -> AnswerText
         ensures { result ≡ bytes.items }
     {
-        Text { bytes }
+        AnswerText { bytes }
     }
 
     /// Its bytes.
@@ -65,9 +65,9 @@ pub struct Outputs {
     /// The position of the checkpoint whose text was restored. Then nothing was learnt.
     pub restored: Option<Position>,
     /// What was newly learnt.
-    pub learnt: Option<LogEntry>,
+    pub learnt: Option<LearntCommand>,
     /// The replies to requests that waited, in the order of their positions.
-    pub replies: Vec<Executed>,
+    pub replies: Vec<ReplyOut>,
     /// What is sent.
     pub sends: Vec<Frame>,
 }
@@ -87,7 +87,7 @@ impl Model for Outputs {
 
 impl Outputs {
     /// Messages alone.
-    pub fn sent(alloc: Global, sends: Vec<Frame>) -> Outputs
+    pub fn of_frames(alloc: Global, sends: Vec<Frame>) -> Outputs
         ensures { result ≡ sent sends.items }
     {
         Outputs {
@@ -99,9 +99,9 @@ impl Outputs {
     }
 
     /// Nothing comes of it.
-    pub fn silence(alloc: Global) -> Outputs
+    pub fn none(alloc: Global) -> Outputs
         ensures { result ≡ silence }
     {
-        Outputs::sent(alloc, Vec::new(alloc))
+        Outputs::of_frames(alloc, Vec::new(alloc))
     }
 }

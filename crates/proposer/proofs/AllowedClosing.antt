@@ -6,7 +6,7 @@ use Rattle.std.proofs.lemmas.Bool.Decides.{eqb_tells, nat_tests}
 use Rattle.synod.specs.Volatile as synod_volatile
 use Rattle.synod.specs.Volatile.{IsSettled}
 use Rattle.synod.specs.Acts as act
-use Rattle.synod.specs.Acts.{Fleet, Input, Local, Does, MayClose, campaigns}
+use Rattle.synod.specs.Acts.{Membership, Input, Local, Does, MayClose, campaigns}
 use Rattle.synod.proofs.Doing.{does_nothing, does_one}
 use Rattle.sessions.specs.declared.command.Command.{Command}
 use Rattle.proposer.specs.Campaigning.{Campaigning}
@@ -41,7 +41,7 @@ module _ (stays : ℕ → Bool) (k : Campaigning) (q : synod_volatile.Campaign C
         (proposed_left stays k.proposals s);
   }
 
-  pub closes : (f : Fleet Command) (i : ℕ) (input : Input Command) (x : Local Command) → x.mind.campaign ≡ Some q
+  pub closes : (f : Membership Command) (i : ℕ) (input : Input Command) (x : Local Command) → x.mind.campaign ≡ Some q
       → ((s : ℕ) → stays s ≡ false → IsSettled x.mind.position x.mind.learnt s)
       → Does f i input x (campaigns x (closing stays k q))
   closes f i input x here settled =
@@ -54,7 +54,7 @@ is_other slot s e = elim (eqb_tells s slot) [
   | inr apart ↦ (let clash : true ≡ false = sym (ap not apart.0) ∙ e in absurd (cc))
 ]
 
-module _ (f : Fleet Command) (i : ℕ) (input : Input Command) (x : Local Command) (p : Proposing) (slot : ℕ)
+module _ (f : Membership Command) (i : ℕ) (input : Input Command) (x : Local Command) (p : Proposing) (slot : ℕ)
     (settled : IsSettled x.mind.position x.mind.learnt slot) (stands : ProposerStands p x) where
   abbrev other : ℕ → Bool
   other s = not (s == slot)
@@ -84,7 +84,7 @@ module _ (f : Fleet Command) (i : ℕ) (input : Input Command) (x : Local Comman
 is_below : (position s : ℕ) → leb position s ≡ false → s < position
 is_below position s e = grind (arith, nat_tests)
 
-module _ (f : Fleet Command) (i : ℕ) (input : Input Command) (x : Local Command) (p : Proposing) (position : ℕ)
+module _ (f : Membership Command) (i : ℕ) (input : Input Command) (x : Local Command) (p : Proposing) (position : ℕ)
     (reached : position ≤ x.mind.position) (stands : ProposerStands p x) where
   skipped_cases : (o : Option Campaigning) → CampaignsStand o x.mind.campaign
       → MayHold f i input x (record p { campaign = closed_to position o })

@@ -9,7 +9,7 @@ use Rattle.synod.specs.Messages.{Frame, to_first}
 use Rattle.synod.specs.Records.{put}
 use Rattle.synod.specs.Volatile as synod_volatile
 use Rattle.synod.specs.Volatile.{proposal}
-use Rattle.synod.specs.Acts.{Fleet, Input, Local, Does, IsChoice, MayPropose, campaigns}
+use Rattle.synod.specs.Acts.{Membership, Input, Local, Does, IsChoice, MayPropose, campaigns}
 use Rattle.synod.proofs.Doing.{sending, does_nothing, does_then, proposes_to_first}
 use Rattle.sessions.specs.Asked.{Asked}
 use Rattle.sessions.specs.declared.command.Command.{Command}
@@ -36,7 +36,7 @@ frames_both i nodes (o ∷ os) more =
     append_assoc (frames_of i nodes o) (frames_of_all i nodes os) (frames_of_all i nodes more)
     ∙ ap (λ l. frames_of i nodes o ++ l) (frames_both i nodes os more)
 
-module _ (f : Fleet Command) (i : ℕ) (input : Input Command) (nodes : ℕ) (some_node : 1 ≤ nodes) (noop : f.noop ≡ NoOp) (k : Campaigning)
+module _ (f : Membership Command) (i : ℕ) (input : Input Command) (nodes : ℕ) (some_node : 1 ≤ nodes) (noop : f.noop ≡ NoOp) (k : Campaigning)
     (leads : k.leading ≡ true) (waiting : List Asked) (learnt_to : ℕ) (learnt : ℕ → Option Command) (position : ℕ) where
   -- the mind holds what a leader goes by
   pub record Knows (x : Local Command) : Type 0 where

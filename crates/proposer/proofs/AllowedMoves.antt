@@ -8,7 +8,7 @@ use Rattle.synod.specs.Messages.{Plain, to_first}
 use Rattle.synod.specs.Records.{with_round}
 use Rattle.synod.specs.Volatile as synod_volatile
 use Rattle.synod.specs.Acts as act
-use Rattle.synod.specs.Acts.{Fleet, Input, Local, Does, acted}
+use Rattle.synod.specs.Acts.{Membership, Input, Local, Does, acted}
 use Rattle.synod.proofs.Doing.{does_nothing, does_one, does_then, says_to_first}
 use Rattle.sessions.specs.Asked.{Asked}
 use Rattle.sessions.specs.declared.command.Command.{Command}
@@ -56,7 +56,7 @@ begun_stands b position = record {
 above_round : (r round refused b : ℕ) → r ≡ round → b ≡ max round refused + 1 → r < b
 above_round r round refused b e f = omega arith
 
-module _ (f : Fleet Command) (i : ℕ) (input : Input Command) (x : Local Command) where
+module _ (f : Membership Command) (i : ℕ) (input : Input Command) (x : Local Command) where
   timeout_sends : (old new : Proposing) (nodes : ℕ) (sent : Outgoing) → old.id ≡ i → ProposerStands old x
       → StartsCampaign old x.mind.position new sent → MaySend f i input x new (frames_of i nodes sent)
   timeout_sends old new nodes sent own stands s =

@@ -11,7 +11,7 @@ use Rattle.synod.specs.Messages as synod
 use Rattle.synod.specs.Records.{put}
 use Rattle.synod.specs.Volatile as synod_volatile
 use Rattle.synod.specs.Acts as act
-use Rattle.synod.specs.Acts.{Fleet, Input, Local, Does, acted}
+use Rattle.synod.specs.Acts.{Membership, Input, Local, Does, acted}
 use Rattle.synod.proofs.Doing.{does_nothing, does_one, does_then}
 use Rattle.synod.proofs.Puts.{put_cases}
 use Rattle.sessions.specs.declared.command.Command.{Command}
@@ -49,7 +49,7 @@ counted_parts k from p e =
       first = eqb-true p.first k.first two.1;
     }
 
-module _ (f : Fleet Command) (i from : ℕ) (x : Local Command) (p : Proposing) (promise : Promised) (of_all : f.nodes ≡ p.nodes)
+module _ (f : Membership Command) (i from : ℕ) (x : Local Command) (p : Proposing) (promise : Promised) (of_all : f.nodes ≡ p.nodes)
     (a_node : from < 7) (stands : ProposerStands p x) where
   abbrev in' : Input Command
   in' = act.Came from (synod.Promise promise.ballot promise.first promise.last promise.entries)

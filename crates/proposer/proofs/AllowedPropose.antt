@@ -6,7 +6,7 @@ use Rattle.synod.specs.declared.ballot.Ballot.{Ballot}
 use Rattle.synod.specs.Messages.{Frame, Plain, to_first}
 use Rattle.synod.specs.Volatile as synod_volatile
 use Rattle.synod.specs.Acts as act
-use Rattle.synod.specs.Acts.{Fleet, Input, Local, Does, acted, campaigns}
+use Rattle.synod.specs.Acts.{Membership, Input, Local, Does, acted, campaigns}
 use Rattle.synod.proofs.Doing.{sending, does_nothing, does_one, does_then, says_to_first}
 use Rattle.sessions.specs.declared.command.Command.{Command}
 use Rattle.sessions.specs.declared.command.Command.TheVariants.{NoOp}
@@ -25,7 +25,7 @@ use Rattle.proposer.proofs.AllowedFilling.{fill_lem}
 window_within : (position end' : ℕ) → position ≤ end' → position + (window_limit position end' - position) ≤ end' + 1
 window_within position end' l = omega (arith, l)
 
-module _ (f : Fleet Command) (i : ℕ) (input : Input Command) (x : Local Command) (p : Proposing) (l : Learning) (nodes : ℕ)
+module _ (f : Membership Command) (i : ℕ) (input : Input Command) (x : Local Command) (p : Proposing) (l : Learning) (nodes : ℕ)
     (noop : f.noop ≡ NoOp) (some_node : 1 ≤ nodes) (at : x.mind.position ≡ prefix l) (learner : LearnerStands l x.mind)
     (stands : ProposerStands p x) where
   abbrev May : Proposing × List Outgoing → Type 0

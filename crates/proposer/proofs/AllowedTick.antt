@@ -8,7 +8,7 @@ use Rattle.synod.specs.Messages as synod
 use Rattle.synod.specs.Messages.{Frame, to_first}
 use Rattle.synod.specs.Volatile as synod_volatile
 use Rattle.synod.specs.Acts as act
-use Rattle.synod.specs.Acts.{Fleet, Input, Local, Does, acted}
+use Rattle.synod.specs.Acts.{Membership, Input, Local, Does, acted}
 use Rattle.synod.proofs.Doing.{sending, does_nothing, does_one, does_then, repeats_to_first}
 use Rattle.sessions.specs.Asked.{Asked}
 use Rattle.sessions.specs.declared.command.Command.{Command}
@@ -58,7 +58,7 @@ some_plain : (i : ℕ) (test : Frame Command → Bool) (gs : List (Frame Command
 some_plain i test [] h = tt
 some_plain i test (g ∷ gs) h = kept_plain i (test g) g gs (filter test gs) h (some_plain i test gs h.1)
 
-module _ (f : Fleet Command) (i : ℕ) (input : Input Command) where
+module _ (f : Membership Command) (i : ℕ) (input : Input Command) where
   -- plain frames may be sent
   says : (x : Local Command) (gs : List (Frame Command)) → ArePlain i gs → Does f i input x (sending x gs)
   says x [] h = subst (Does f i input x) (sym (sending_nothing x)) (does_nothing f i input x)

@@ -6,7 +6,7 @@ use Rattle.std.proofs.lemmas.Bool.{ltb-true, ltb-false, eqb-true, eqb-false}
 use Rattle.synod.specs.Ballots.{rank}
 use Rattle.synod.specs.declared.vote.Vote.{Vote}
 use Rattle.synod.specs.Volatile.{Volatile, IsHighest, IsUntold}
-use Rattle.synod.specs.Acts.{Fleet, IsFree, IsChoice}
+use Rattle.synod.specs.Acts.{Membership, IsFree, IsChoice}
 use Rattle.sessions.specs.Asked.{Asked}
 use Rattle.sessions.specs.declared.command.Command.{Command}
 use Rattle.sessions.specs.declared.command.Command.TheVariants.{NoOp, Request}
@@ -85,7 +85,7 @@ found_among : (test : Asked → Bool) (xs : List Asked) (r : Asked) → find tes
 found_among test [] r e = absurd (cc)
 found_among test (x ∷ xs) r e = found_flag (test x) x r xs (find test xs) (found_among test xs r) e
 
-module _ (f : Fleet Command) (m : Volatile Command) (waiting : List Asked) (noop : f.noop ≡ NoOp)
+module _ (f : Membership Command) (m : Volatile Command) (waiting : List Asked) (noop : f.noop ≡ NoOp)
     (stand : (r : Asked) → Contains waiting r → Contains m.waiting (Request r)) where
   noop_is_free : (c : Command) → NoOp ≡ c → IsFree f m c
   noop_is_free c e = inl (sym e ∙ sym noop)

@@ -4,7 +4,7 @@ use Rattle.std.specs.Prelude.{filter, length}
 use Rattle.synod.specs.Messages.{Frame, to_first}
 use Rattle.synod.specs.Volatile.{Campaign, blank}
 use Rattle.synod.specs.Records as synod
-use Rattle.synod.specs.Acts.{Fleet, Input, Local, Does}
+use Rattle.synod.specs.Acts.{Membership, Input, Local, Does}
 use Rattle.sessions.specs.Asked.{Asked}
 use Rattle.sessions.specs.declared.command.Command.{Command}
 use Rattle.sessions.specs.declared.command.Command.TheVariants.{Request}
@@ -36,7 +36,7 @@ pub record CampaignStands (k : Campaigning) (q : Campaign Command) : Type 0 wher
   pub told : q.told ≡ k.told
   pub leading : q.leading ≡ k.leading
   pub proposals : (s : ℕ) → q.proposals s ≡ proposed_at k.proposals s
-  -- the set has a flag for each node that a fleet may have, and each slot one proposal at most
+  -- the set has a flag for each node that a membership may have, and each slot one proposal at most
   pub flags : length k.promised ≡ 7
   pub apart : AreApart k.proposals
 
@@ -64,14 +64,14 @@ frames_of_all i nodes [] = []
 frames_of_all i nodes (o ∷ os) = frames_of i nodes o ++ frames_of_all i nodes os
 
 -- from x the node may come to another campaign of which the proposer's state stands, and nothing else changes
-pub record MayHold (f : Fleet Command) (i : ℕ) (input : Input Command) (x : Local Command) (p : Proposing) : Type 0 where
+pub record MayHold (f : Membership Command) (i : ℕ) (input : Input Command) (x : Local Command) (p : Proposing) : Type 0 where
   pub campaign : Option (Campaign Command)
   pub does : Does f i input x (record x { mind = record x.mind { campaign = campaign } })
   pub stands : ProposerStands p (record x { mind = record x.mind { campaign = campaign } })
 
 -- from x the node may come to records of another round and to another campaign, of which the proposer's state stands, and
 -- have sent these frames, and nothing else changes: of the records the promise, the votes and the floor stay
-pub record MaySend (f : Fleet Command) (i : ℕ) (input : Input Command) (x : Local Command) (p : Proposing)
+pub record MaySend (f : Membership Command) (i : ℕ) (input : Input Command) (x : Local Command) (p : Proposing)
     (frames : List (Frame Command)) : Type 0 where
   pub campaign : Option (Campaign Command)
   pub records : synod.Records Command
@@ -88,7 +88,7 @@ pub record MaySend (f : Fleet Command) (i : ℕ) (input : Input Command) (x : Lo
   })
 
 -- from x the node may come to y, and there the proposer's state stands
-pub record MayCome (f : Fleet Command) (i : ℕ) (input : Input Command) (x : Local Command) (p : Proposing) (y : Local Command) : Type 0
+pub record MayCome (f : Membership Command) (i : ℕ) (input : Input Command) (x : Local Command) (p : Proposing) (y : Local Command) : Type 0
   where
     pub does : Does f i input x y
     pub stands : ProposerStands p y

@@ -17,7 +17,7 @@ use sessions::Command;
 use std::alloc::{AllocError, Global};
 use std::marker::Model;
 use synod::{Ballot, SLOTS, Slot, Vote};
-use wire::{Entries, Held, Message, NodeId, NodeSet, Nodes, Promise};
+use wire::{Entries, Message, NodeId, NodeSet, Nodes, Promise, SharedCommand};
 
 /// A campaign gathers promises for the slots from its first on, and leads once a majority has promised.
 #[derive(Drop)]
@@ -29,7 +29,7 @@ pub struct Campaign {
     // The promises that were counted tell of the slots up to here.
     end: Slot,
     // The votes that they tell of these slots: at most four of each promise.
-    told: Vec<Vote<Held>>,
+    told: Vec<Vote<SharedCommand>>,
     leading: bool,
     window: Window,
 }
@@ -155,7 +155,7 @@ impl Campaign {
         waiting: &Waiting,
         learnt_to: u32,
         slot: Slot,
-    ) -> Result<Option<Held>, AllocError>
+    ) -> Result<Option<SharedCommand>, AllocError>
         ensures chosen { IfOk result (λ c. c ≡ choice self.now waiting.now learnt_to slot self.now.proposals) }
         ensures there { OnErr result (IsSome (choice self.now waiting.now learnt_to slot self.now.proposals)) }
     {
@@ -272,7 +272,7 @@ impl Campaign {
             sends.push(accept(
                 self.ballot,
                 proposal.slot,
-                Held::new(alloc, proposal.command.clone()?)?,
+                SharedCommand::new(alloc, proposal.command.clone()?)?,
             ))?;
         }
         Ok(sends)
@@ -280,7 +280,7 @@ impl Campaign {
 }
 
 /// Takes in the votes that a promise tells of the slots up to one.
-fn hear(told: &mut Vec<Vote<Held>>, end: Slot, entries: Entries) -> Result<(), AllocError>
+fn hear(told: &mut Vec<Vote<SharedCommand>>, end: Slot, entries: Entries) -> Result<(), AllocError>
     ensures heard { OnOk result (told.new.items ≡ told.old.items ++ up_to end entries.items) }
     ensures kept { OnErr result (up_to end entries.items ≢ []) }
 {
@@ -301,7 +301,7 @@ fn is_most(set: &NodeSet, nodes: Nodes) -> bool
 }
 
 /// What asks for votes for a command at a slot.
-fn accept(ballot: Ballot, slot: Slot, command: Held) -> Outgoing
+fn accept(ballot: Ballot, slot: Slot, command: SharedCommand) -> Outgoing
     ensures { result ≡ accept ballot (record { slot = slot; command = command }) }
 {
     Outgoing {

@@ -9,10 +9,10 @@ use super::window::Window;
 use sessions::Command;
 use std::alloc::{AllocError, Global};
 use synod::{Slot, Vote};
-use wire::Held;
+use wire::SharedCommand;
 
 /// Of the votes told at the slot, the one of the highest ballot.
-pub(super) fn highest(told: &[Vote<Held>], slot: Slot) -> Option<&Vote<Held>>
+pub(super) fn highest(told: &[Vote<SharedCommand>], slot: Slot) -> Option<&Vote<SharedCommand>>
     ensures { option_copied result ≡ told_at told.now slot }
 {
     match told {
@@ -31,7 +31,7 @@ pub(super) fn highest(told: &[Vote<Held>], slot: Slot) -> Option<&Vote<Held>>
 }
 
 /// Whether a vote is told at a greater slot.
-pub(super) fn is_told_after(told: &[Vote<Held>], slot: Slot) -> bool
+pub(super) fn is_told_after(told: &[Vote<SharedCommand>], slot: Slot) -> bool
     ensures { result ≡ is_told_after told.now slot }
 {
     told.iter().any(|vote| slot < vote.slot)
@@ -45,18 +45,18 @@ pub(super) fn free_choice(
     waiting: &Waiting,
     window: &Window,
     is_first: bool,
-) -> Result<Option<Held>, AllocError>
+) -> Result<Option<SharedCommand>, AllocError>
     ensures chosen { IfOk result (λ c. c ≡ free_choice is_gap waiting.now window.now is_first) }
     ensures there { OnErr result (IsSome (free_choice is_gap waiting.now window.now is_first)) }
 {
     if is_gap {
-        return Ok(Some(Held::new(alloc, Command::NoOp)?));
+        return Ok(Some(SharedCommand::new(alloc, Command::NoOp)?));
     }
     if let Some(request) = waiting.first_free(window) {
-        return Ok(Some(Held::new(alloc, Command::Request(request.clone()?))?));
+        return Ok(Some(SharedCommand::new(alloc, Command::Request(request.clone()?))?));
     }
     if is_first {
-        return Ok(Some(Held::new(alloc, Command::NoOp)?));
+        return Ok(Some(SharedCommand::new(alloc, Command::NoOp)?));
     }
     Ok(None)
 }

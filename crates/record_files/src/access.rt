@@ -4,7 +4,7 @@ ghost use Rattle.std.specs.Prelude.{◌≡◌, ◌⊎◌, ⊤, ℕ, List, IfErr,
 ghost use Rattle.commands.specs.declared.failure.Failure.{Failure};
 ghost use Rattle.stable.specs.declared.fault.StableFault.{StableFault};
 
-use crate::record_file::NodeFile;
+use crate::record_file::RecordFile;
 use commands::{Failure, device_failure};
 use stable::{Stable, StableFault};
 use std::fs;
@@ -46,7 +46,7 @@ pub trait FileAccess {
 pub struct System;
 
 impl FileAccess for System {
-    type Records = NodeFile;
+    type Records = RecordFile;
 
     fn read(&mut self, rt: &HostRuntime, path: &str) -> Result<Vec<u8>, Failure> {
         match fs::read(rt, path) {
@@ -55,7 +55,7 @@ impl FileAccess for System {
         }
     }
 
-    fn open(&mut self, rt: &HostRuntime, path: &str) -> Result<NodeFile, StableFault> {
-        NodeFile::open(rt, path)
+    fn open(&mut self, rt: &HostRuntime, path: &str) -> Result<RecordFile, StableFault> {
+        RecordFile::open(rt, path)
     }
 }

@@ -14,32 +14,32 @@ use std::alloc::Global;
 /// One node's records, in a table of a file's database.
 ///
 /// It is the table, and means what that means: but whoever holds it needs to prove nothing of a database.
-pub struct NodeFile {
+pub struct RecordFile {
     table: SqlStable<FileStore<File>>,
 }
 
-impl NodeFile {
+impl RecordFile {
     /// The records in a file, which is made where there is none. Its log lies beside it under the same name with `-wal`.
     ///
     /// `Device` where the file can't be used, where it is in use, and where it holds anything but the table of records.
-    pub fn open(rt: &HostRuntime, path: &str) -> Result<NodeFile, StableFault>
+    pub fn open(rt: &HostRuntime, path: &str) -> Result<RecordFile, StableFault>
         ensures usable { IfOk result (λ n. HasCleanStore over_files n.table → IsSqlHonest over_files n.table) }
         ensures unfailed { IfOk result (λ n. IsUnfailed over_files n.table) }
         ensures not_damaged { ¬ IsErrOf result StableFault.Damaged }
     {
         let table = SqlStable::open(rt, path)?;
-        Ok(NodeFile { table })
+        Ok(RecordFile { table })
     }
 }
 
-impl Drop for NodeFile {
+impl Drop for RecordFile {
     fn drop(self) {
-        let NodeFile { table } = self;
+        let RecordFile { table } = self;
         leave(table);
     }
 }
 
-impl Stable for NodeFile {
+impl Stable for RecordFile {
     ghost use Rattle.record_files.specs.Laws.{seen_laws};
     ghost use Rattle.sqlstable.specs.Laws.{table_laws};
 

@@ -17,20 +17,20 @@ use wire::Nodes;
 ///
 /// No name is special: a folder may be called `file:d` or `:memory:`.
 #[derive(Clone, Copy, Debug)]
-pub struct Files<A> {
+pub struct RecordFolder<A> {
     access: A,
 }
 
-impl<A: FileAccess> Files<A> {
+impl<A: FileAccess> RecordFolder<A> {
     /// Files that are read and opened so.
-    pub fn new(access: A) -> Files<A>
+    pub fn new(access: A) -> RecordFolder<A>
         ensures { result.access ≡ access }
     {
-        Files { access }
+        RecordFolder { access }
     }
 }
 
-impl<A: FileAccess> Archive for Files<A> {
+impl<A: FileAccess> Archive for RecordFolder<A> {
     ghost use Rattle.record_files.specs.Opening.{AreOpened, MayFail};
 
     type Records = A::Records;
@@ -65,7 +65,7 @@ impl<A: FileAccess> Archive for Files<A> {
     }
 
     /// A file that was not closed in order has a log beside it. Nothing can be looked at under an empty name.
-    fn is_left_open(
+    fn has_unmerged_log(
         &mut self,
         rt: &HostRuntime,
         folder: &str,
@@ -86,7 +86,7 @@ impl<A: FileAccess> Archive for Files<A> {
     /// Brings the logs that a run has left into the files beside which they lie, so that each file alone has its node's
     /// records. It stops at the first file that can't be used, as the opening did: that keeps its log, and the next opening
     /// finds both.
-    fn settle(&mut self, rt: &HostRuntime, folder: &str, count: Nodes) {
+    fn merge_logs(&mut self, rt: &HostRuntime, folder: &str, count: Nodes) {
         if folder.is_empty() {
             return;
         }

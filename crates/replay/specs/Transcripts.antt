@@ -1,15 +1,15 @@
 -- What is told of a run: the line of each outcome.
 use Rattle.std.specs.Prelude.{ℕ, List, [], ◌∷◌, ◌++◌, codes, decimal, drop, flat_map, take}
-use Rattle.sessions.specs.Outcomes.{outcome_code}
+use Rattle.sessions.specs.SessionReplies.{outcome_code}
 use Rattle.sessions.specs.declared.command.Command.{Command}
 use Rattle.sessions.specs.declared.command.Command.TheVariants.{NoOp, Request}
 use Rattle.node_model.specs.Faults.{node_code}
 use Rattle.node_model.specs.declared.fault.NodeFault.{NodeFault}
-use Rattle.world_model.specs.declared.lists.Learnt.{Learnt}
+use Rattle.world_model.specs.declared.lists.LearntEntry.{LearntEntry}
 use Rattle.world_model.specs.declared.lists.Replied.{Replied}
 use Rattle.world_model.specs.declared.lists.Answered.{Answered}
-use Rattle.world_model.specs.declared.lists.Outcome.{Outcome}
-use Rattle.world_model.specs.declared.lists.Outcome.TheVariants as outcome
+use Rattle.world_model.specs.declared.lists.StepOutcome.{StepOutcome}
+use Rattle.world_model.specs.declared.lists.StepOutcome.TheVariants as outcome
 use Rattle.world_model.specs.declared.round_end.RoundEnd.{RoundEnd}
 use Rattle.world_model.specs.declared.round_end.RoundEnd.TheVariants.{NotAQuorum, Down, Behind, Refused, Stopped, TooLow, Decided}
 use Rattle.synod.specs.declared.ballot.Ballot.{Ballot}
@@ -23,7 +23,7 @@ command_text NoOp = codes "noop"
 command_text (Request asked) = request_text asked.client asked.number
 
 -- ---- each line, ended by a line feed
-abbrev pub learn_line : Learnt → List ℕ
+abbrev pub learn_line : LearntEntry → List ℕ
 learn_line learnt = codes "learn " ++ decimal learnt.node ++ codes " " ++ decimal learnt.slot
     ++ codes " " ++ command_text learnt.command ++ codes "\n"
 
@@ -70,7 +70,7 @@ round_line node end =
 -- ---- a run is told outcome by outcome
 -- what was learnt, replied and answered, each in the order of the steps
 pub record Entries : Type 0 where
-  pub learnt : List Learnt
+  pub learnt : List LearntEntry
   pub replies : List Replied
   pub answers : List Answered
 
@@ -79,7 +79,7 @@ abbrev pub first_lines : {T : Type 0} → (T → List ℕ) → ℕ → List T �
 first_lines line count entries = flat_map line (take count entries)
 
 -- the lines of an outcome that brought the first of these entries
-abbrev pub lines_of_outcome : Outcome → Entries → List ℕ
+abbrev pub lines_of_outcome : StepOutcome → Entries → List ℕ
 lines_of_outcome (outcome.Done learnt replies) entries =
     first_lines learn_line learnt entries.learnt ++ first_lines reply_line replies entries.replies
 lines_of_outcome (outcome.Restored node position replies) entries =
@@ -91,7 +91,7 @@ lines_of_outcome (outcome.Stopped node fault) entries = stop_line node fault
 lines_of_outcome (outcome.Round node end) entries = round_line node end
 
 -- the entries that later outcomes brought
-abbrev pub entries_after : Outcome → Entries → Entries
+abbrev pub entries_after : StepOutcome → Entries → Entries
 entries_after (outcome.Done learnt replies) entries = record entries {
   learnt = drop learnt entries.learnt;
   replies = drop replies entries.replies;
@@ -105,7 +105,7 @@ entries_after (outcome.Stopped node fault) entries = entries
 entries_after (outcome.Round node end) entries = entries
 
 -- the transcript of these outcomes, which brought these entries
-abbrev pub transcript_of : List Outcome → Entries → List ℕ
+abbrev pub transcript_of : List StepOutcome → Entries → List ℕ
 transcript_of [] entries = []
 transcript_of (first ∷ later) entries =
     lines_of_outcome first entries ++ transcript_of later (entries_after first entries)

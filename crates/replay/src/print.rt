@@ -7,10 +7,10 @@ use super::entry_lines::{add_answer, add_learn, add_reply};
 use sessions::Command;
 use std::io::{self, Write};
 use wire::{NodeId, Position};
-use world::{Answered, Learnt, NodeFault, Replied, RoundEnd};
+use world::{Answered, LearntEntry, NodeFault, Replied, RoundEnd};
 
 /// Adds the lines of what nodes learnt.
-pub(crate) fn print_learnt(text: &mut Vec<u8>, entries: &[Learnt]) -> io::Result<()>
+pub(crate) fn print_learnt(text: &mut Vec<u8>, entries: &[LearntEntry]) -> io::Result<()>
     ensures { OnOk result (text.new.items ≡ text.old.items ++ flat_map learn_line entries.now) }
 {
     for learnt in entries {
@@ -40,7 +40,7 @@ pub(crate) fn print_answers(text: &mut Vec<u8>, answers: &[Answered]) -> io::Res
 }
 
 /// Adds the line of what a node learnt: `learn 0 0 7:1`, or `learn 0 0 noop`.
-fn print_entry(text: &mut Vec<u8>, learnt: &Learnt) -> io::Result<()>
+fn print_entry(text: &mut Vec<u8>, learnt: &LearntEntry) -> io::Result<()>
     ensures { OnOk result (text.new.items ≡ text.old.items ++ learn_line learnt.now) }
 {
     let node = learnt.node.value();

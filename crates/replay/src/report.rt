@@ -10,7 +10,7 @@ use super::print::{
 use std::alloc::{AllocError, Global};
 use std::io;
 use std::marker::Model;
-use world::{Answered, Learnt, Outcome, Replied};
+use world::{Answered, LearntEntry, Replied, StepOutcome};
 
 /// The transcript of a run: the lines of its outcomes, in order, each ended by a line feed.
 ///
@@ -19,8 +19,8 @@ use world::{Answered, Learnt, Outcome, Replied};
 /// passed over.
 pub fn transcript(
     alloc: Global,
-    outcomes: &[Outcome],
-    learnt: &[Learnt],
+    outcomes: &[StepOutcome],
+    learnt: &[LearntEntry],
     replies: &[Replied],
     answers: &[Answered],
 ) -> Result<Vec<u8>, AllocError>
@@ -45,7 +45,7 @@ pub fn transcript(
 /// The entries of a run that have no line yet.
 #[derive(Drop)]
 struct Unprinted<'a> {
-    learnt: &'a [Learnt],
+    learnt: &'a [LearntEntry],
     replies: &'a [Replied],
     answers: &'a [Answered],
 }
@@ -64,13 +64,13 @@ impl<'a> Model for Unprinted<'a> {
 
 impl<'a> Unprinted<'a> {
     /// Adds the lines of the outcome, and takes the entries that it brought.
-    fn print(&mut self, text: &mut Vec<u8>, outcome: Outcome) -> io::Result<()>
+    fn print(&mut self, text: &mut Vec<u8>, outcome: StepOutcome) -> io::Result<()>
         ensures text { OnOk result
             (text.new.items ≡ text.old.items ++ lines_of_outcome outcome self.old) }
         ensures left { OnOk result (self.new ≡ entries_after outcome self.old) }
     {
         match outcome {
-            Outcome::Done { learnt, replies } => {
+            StepOutcome::Done { learnt, replies } => {
                 // Most steps tell nothing.
                 if learnt == 0 && replies == 0 {
                     return Ok(());
@@ -78,7 +78,7 @@ impl<'a> Unprinted<'a> {
                 print_learnt(text, take_first(&mut self.learnt, learnt))?;
                 print_replies(text, take_first(&mut self.replies, replies))
             }
-            Outcome::Restored {
+            StepOutcome::Restored {
                 node,
                 position,
                 replies,
@@ -86,11 +86,11 @@ impl<'a> Unprinted<'a> {
                 print_restore(text, node, position)?;
                 print_replies(text, take_first(&mut self.replies, replies))
             }
-            Outcome::Answered => print_answers(text, take_first(&mut self.answers, 1)),
-            Outcome::Lost => Ok(()),
-            Outcome::Refused(node, fault) => print_refusal(text, node, fault),
-            Outcome::Stopped(node, fault) => print_stop(text, node, fault),
-            Outcome::Round(node, end) => print_round(text, node, end),
+            StepOutcome::Answered => print_answers(text, take_first(&mut self.answers, 1)),
+            StepOutcome::Lost => Ok(()),
+            StepOutcome::Refused(node, fault) => print_refusal(text, node, fault),
+            StepOutcome::Stopped(node, fault) => print_stop(text, node, fault),
+            StepOutcome::Round(node, end) => print_round(text, node, end),
         }
     }
 }

@@ -17,8 +17,8 @@ use Rattle.schedule.specs.declared.action.Action.TheVariants.{Step}
 use Rattle.events.specs.declared.event.Event.TheVariants as event
 use Rattle.schedule.specs.Table.{line_of, submit_of, query_of, count, IsNode, NameEach, HasItsWords, HasItsCount, HasMisfit, HasUnknownWord}
 use Rattle.schedule.specs.Table.{IsCount, takes_more, Place, places, keyword_places, operation_places, question_places}
-use Rattle.schedule.specs.Unread.{WordsGive}
-use Rattle.schedule.specs.declared.unread.Unread.{Unread}
+use Rattle.schedule.specs.PendingLines.{WordsGive}
+use Rattle.schedule.specs.declared.pending_line.PendingLine.{PendingLine}
 use Rattle.schedule.specs.Words.{blank, words_of}
 use Rattle.schedule.specs.declared.keyword.Keyword.{Keyword}
 use Rattle.schedule.specs.declared.keyword.Keyword.TheVariants.{Nodes, Flush, Round}
@@ -211,7 +211,7 @@ submit_fault n operation words WordForm at = (
 submit_fault n operation words Document at = absurd at
 
 pub submit_result : (n : ℕ) (operation : Operation) (asking : AskerWords) (word : List ℕ) (all words : List (List ℕ))
-    (read : Result Unread ScheduleFault) → all ≡ asker_words asking ++ word ∷ words → word ≡ operation_text operation
+    (read : Result PendingLine ScheduleFault) → all ≡ asker_words asking ++ word ∷ words → word ≡ operation_text operation
     → MatchResult read (WordsGive n (submit_words asking operation words))
     (IsRowFault n (submit_of operation) (submit_words asking operation words))
     → MatchResult read (WordsGive n (codes "submit" ∷ all)) (IsWordsFault n (codes "submit" ∷ all))

@@ -16,7 +16,7 @@ use Rattle.schedule.specs.Spelling.{Spells, SpellsOp, SpellsRound, WordsSpell}
 use Rattle.schedule.specs.Table.{line_of, submit_of, HasFault, HasFirstFault, HasUnknownWord}
 use Rattle.schedule.specs.Table.{HasWrongDocument, IsPrintable, SayEach}
 use Rattle.schedule.specs.Table.{places}
-use Rattle.schedule.specs.Unread.{Becomes, Gives, IsNotRead, Puts, WordsGive}
+use Rattle.schedule.specs.PendingLines.{Becomes, Gives, IsNotRead, Puts, WordsGive}
 use Rattle.schedule.specs.Words.{blank, words_of}
 use Rattle.schedule.specs.declared.action.Action.{Action}
 use Rattle.schedule.specs.declared.fault.ParseFault.{ParseFault}
@@ -25,9 +25,9 @@ use Rattle.schedule.specs.declared.fault.ScheduleFault.{ScheduleFault}
 use Rattle.schedule.specs.declared.fault.ScheduleFault.TheVariants.{NotPrintable, UnknownWord, NodesLine, WordCount, WordForm, Document}
 use Rattle.schedule.specs.declared.keyword.Keyword.TheVariants as keyword
 use Rattle.schedule.specs.declared.keyword.Operation.TheVariants as operation
-use Rattle.schedule.specs.declared.unread.Unread.{Unread}
-use Rattle.schedule.specs.declared.unread.Unread.TheVariants as given
-use Rattle.schedule.specs.declared.unread.Putting.{Putting}
+use Rattle.schedule.specs.declared.pending_line.PendingLine.{PendingLine}
+use Rattle.schedule.specs.declared.pending_line.PendingLine.TheVariants as given
+use Rattle.schedule.specs.declared.pending_line.Putting.{Putting}
 use Rattle.schedule.proofs.Faults.{IsRowOf, document_lowest, from_two, from_three, lowest_unprintable}
 use Rattle.schedule.proofs.Faults.{prints_throughout, row_faultless}
 use Rattle.schedule.proofs.Faults.{row_words, submit_is_no_nodes, words_fault_lowest}
@@ -50,7 +50,7 @@ put_row_of n words p (s, behind) = rw s.words_are (record {
 })
 
 -- words that were read begin as a row
-given_known : (n : ℕ) (words : List (List ℕ)) (unread : Unread) → WordsGive n words unread → ¬ (HasUnknownWord words)
+given_known : (n : ℕ) (words : List (List ℕ)) (unread : PendingLine) → WordsGive n words unread → ¬ (HasUnknownWord words)
 given_known n words (given.Whole action) spells unknown =
     let is = row_of n words action spells in unknown is.row (row_words n words is)
 given_known n words (given.Put p) puts unknown =
@@ -98,7 +98,7 @@ no_document read fault feature refused other answered = elim answered [
 
 -- ---- what was read
 -- what the words are, their line is
-pub line_read : (n : ℕ) (text : List ℕ) (words : List (List ℕ)) (read : Result Unread ScheduleFault)
+pub line_read : (n : ℕ) (text : List ℕ) (words : List (List ℕ)) (read : Result PendingLine ScheduleFault)
     → All IsPrintable text → words ≡ words_of text
     → MatchResult read (WordsGive n words) (IsWordsFault n words)
     → MatchResult read (Gives n text) (IsLowest (HasFault n text))
@@ -108,7 +108,7 @@ line_read n text words (Err fault) prints same wrong =
     words_fault_lowest n text fault prints (subst (λ (ws : List (List ℕ)). IsWordsFault n ws fault) same wrong)
 
 -- with its document, or its members, a line is an action
-pub line_spells : (n : ℕ) (text : List ℕ) (unread : Unread) (action : Action) → Gives n text unread → Becomes n unread action
+pub line_spells : (n : ℕ) (text : List ℕ) (unread : PendingLine) (action : Action) → Gives n text unread → Becomes n unread action
     → Spells n text action
 line_spells n text (given.Whole whole) action gives same = rw same (record { prints = gives.prints; words = gives.words })
 line_spells n text (given.Put p) action gives (feature, is, same) =
@@ -130,7 +130,7 @@ line_spells n text (given.Round r) action gives (members, named, same) =
     rw same (record { prints = gives.prints; words = (_, leads.words_are, spells) })
 
 -- or it has a wrong one, or memory was wanting
-pub line_refused : (n : ℕ) (line : NumberedText) (unread : Unread) (fault : ParseFault) → Gives n line.text unread
+pub line_refused : (n : ℕ) (line : NumberedText) (unread : PendingLine) (fault : ParseFault) → Gives n line.text unread
     → IsNotRead n line.number unread fault → IsLineRefusal n line fault
 line_refused n line (given.Whole whole) fault gives not = absurd not
 line_refused n line (given.Put p) (Memory number) gives not = not
@@ -153,7 +153,7 @@ line_refused n line (given.Round r) (Line at) gives not =
     rw leads.words_are (members_fault n leads.node_word r.members.now not.2) in
     (not.0, subst (IsLowest (HasFault n line.text)) (sym not.1) (words_fault_lowest n line.text WordForm gives.prints wrong))
 
-pub line_result : (n : ℕ) (line : NumberedText) (unread : Unread) (read : Result Action ParseFault) → Gives n line.text unread
+pub line_result : (n : ℕ) (line : NumberedText) (unread : PendingLine) (read : Result Action ParseFault) → Gives n line.text unread
     → MatchResult read (Becomes n unread) (IsNotRead n line.number unread)
     → MatchResult read (Spells n line.text) (IsLineRefusal n line)
 line_result n line unread (Ok action) gives becomes = line_spells n line.text unread action gives becomes
@@ -161,7 +161,7 @@ line_result n line unread (Err fault) gives not = line_refused n line unread fau
 
 -- ---- first lines
 -- a first line that would do as a later one
-pub given_first : (n : ℕ) (text : List ℕ) (unread : Unread) → HasFirstFault text NodesLine → Gives n text unread
+pub given_first : (n : ℕ) (text : List ℕ) (unread : PendingLine) → HasFirstFault text NodesLine → Gives n text unread
     → IsLowest (HasFirstFault text) NodesLine
 given_first n text unread wrong gives = record {
   is_there = wrong;

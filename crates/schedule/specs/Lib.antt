@@ -11,6 +11,6 @@ pub mod Schedules
 pub mod Spelling
 pub mod Submissions
 pub mod Table
-pub mod Unread
+pub mod PendingLines
 pub mod WordLists
 pub mod Words

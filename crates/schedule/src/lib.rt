@@ -14,12 +14,12 @@ mod laws;
 mod lines;
 mod members;
 mod parse;
+mod pending_line;
 mod queries;
 mod reading;
 mod rows;
 mod schedule;
 mod submits;
-mod unread;
 mod words;
 
 pub use action::Action;

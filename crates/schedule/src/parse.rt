@@ -10,9 +10,9 @@ ghost use Rattle.schedule.specs.Spelling.{Spells};
 use super::action::Action;
 use super::fault::{LineFault, ParseFault, ScheduleFault};
 use super::lines::{Line, Lines};
+use super::pending_line::finish_line;
 use super::reading::{later_line, nodes_line};
 use super::schedule::{Schedule, ScheduleLine};
-use super::unread::completed;
 use events::Event;
 use std::alloc::Global;
 use store::Op;
@@ -75,7 +75,7 @@ fn action_of(alloc: Global, nodes: Nodes, line: Line) -> Result<Action, ParseFau
         (IsLineRefusal nodes (entry_of line.entry)) }
 {
     match later_line(nodes, line.text) {
-        Ok(unread) => completed(alloc, nodes, line.number, unread),
+        Ok(unread) => finish_line(alloc, nodes, line.number, unread),
         Err(fault) => Err(ParseFault::Line(LineFault {
             line: line.number,
             fault,

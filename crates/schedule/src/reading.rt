@@ -5,15 +5,15 @@ ghost use Rattle.schedule.specs.Codes.{IsLowest};
 ghost use Rattle.schedule.specs.Keywords.{text_of};
 ghost use Rattle.schedule.specs.Rows.{IsWordsFault, in_first_line};
 ghost use Rattle.schedule.specs.Table.{HasFault, HasFirstFault, IsNodesLine, IsPrintable, IsNotPrintable};
-ghost use Rattle.schedule.specs.Unread.{Gives, WordsGive};
+ghost use Rattle.schedule.specs.PendingLines.{Gives, WordsGive};
 
 use super::action::Action;
 use super::fault::ScheduleFault;
 use super::keyword::{Keyword, keyword_of};
+use super::pending_line::PendingLine;
 use super::queries::query_row;
 use super::rows::{fault_row, frame_row, node_row, round_row};
 use super::submits::submit_row;
-use super::unread::Unread;
 use super::words::Words;
 use events::Event;
 use wire::Nodes;
@@ -67,7 +67,7 @@ fn smallest_run() -> Nodes
 }
 
 /// What a later line spells, its document unread.
-pub(crate) fn later_line<'a>(nodes: Nodes, text: &'a [u8]) -> Result<Unread<'a>, ScheduleFault>
+pub(crate) fn later_line<'a>(nodes: Nodes, text: &'a [u8]) -> Result<PendingLine<'a>, ScheduleFault>
     ensures { MatchResult result (Gives nodes text.now) (IsLowest (HasFault nodes text.now)) }
 {
     if !prints(text) {
@@ -98,7 +98,7 @@ fn lie_between(text: &[u8], low: u8, high: u8) -> bool
 }
 
 /// What the words of a line spell.
-fn any_row<'a>(nodes: Nodes, mut words: Words<'a>) -> Result<Unread<'a>, ScheduleFault>
+fn any_row<'a>(nodes: Nodes, mut words: Words<'a>) -> Result<PendingLine<'a>, ScheduleFault>
     ensures { MatchResult result (WordsGive nodes words.entry) (IsWordsFault nodes words.entry) }
 {
     let first = words.needed()?;
@@ -106,37 +106,41 @@ fn any_row<'a>(nodes: Nodes, mut words: Words<'a>) -> Result<Unread<'a>, Schedul
         return submit_row(nodes, words);
     }
     if first == b"query".as_slice() {
-        return Ok(Unread::Whole(Action::Step(query_row(nodes, words)?)));
+        return Ok(PendingLine::Whole(Action::Step(query_row(nodes, words)?)));
     }
     let keyword = keyword_of(first).ok_or(ScheduleFault::UnknownWord)?;
     row(nodes, keyword, words)
 }
 
 /// What a line is that begins with the keyword and goes on with the words.
-fn row<'a>(nodes: Nodes, keyword: Keyword, words: Words<'a>) -> Result<Unread<'a>, ScheduleFault>
+fn row<'a>(
+    nodes: Nodes,
+    keyword: Keyword,
+    words: Words<'a>,
+) -> Result<PendingLine<'a>, ScheduleFault>
     ensures { MatchResult result (WordsGive nodes (text_of keyword ∷ words.entry))
         (IsWordsFault nodes (text_of keyword ∷ words.entry)) }
 {
     match keyword {
         Keyword::Nodes => Err(ScheduleFault::NodesLine),
-        Keyword::Deliver => Ok(Unread::Whole(Action::Step(Event::Deliver(frame_row(words)?)))),
-        Keyword::Drop => Ok(Unread::Whole(Action::Step(Event::Drop(frame_row(words)?)))),
+        Keyword::Deliver => Ok(PendingLine::Whole(Action::Step(Event::Deliver(frame_row(words)?)))),
+        Keyword::Drop => Ok(PendingLine::Whole(Action::Step(Event::Drop(frame_row(words)?)))),
         Keyword::Flush => {
             words.end()?;
-            Ok(Unread::Whole(Action::Flush))
+            Ok(PendingLine::Whole(Action::Flush))
         }
-        Keyword::Timeout => Ok(Unread::Whole(Action::Step(Event::Timeout(node_row(
+        Keyword::Timeout => Ok(PendingLine::Whole(Action::Step(Event::Timeout(node_row(
             nodes, words,
         )?)))),
-        Keyword::Tick => Ok(Unread::Whole(Action::Step(Event::Tick(node_row(nodes, words)?)))),
-        Keyword::Checkpoint => Ok(Unread::Whole(Action::Step(Event::Checkpoint(node_row(
+        Keyword::Tick => Ok(PendingLine::Whole(Action::Step(Event::Tick(node_row(nodes, words)?)))),
+        Keyword::Checkpoint => Ok(PendingLine::Whole(Action::Step(Event::Checkpoint(node_row(
             nodes, words,
         )?)))),
-        Keyword::Trim => Ok(Unread::Whole(Action::Step(Event::Trim(node_row(nodes, words)?)))),
-        Keyword::Restart => Ok(Unread::Whole(Action::Step(Event::Restart(node_row(
+        Keyword::Trim => Ok(PendingLine::Whole(Action::Step(Event::Trim(node_row(nodes, words)?)))),
+        Keyword::Restart => Ok(PendingLine::Whole(Action::Step(Event::Restart(node_row(
             nodes, words,
         )?)))),
-        Keyword::Fault => Ok(Unread::Whole(Action::Step(fault_row(nodes, words)?))),
+        Keyword::Fault => Ok(PendingLine::Whole(Action::Step(fault_row(nodes, words)?))),
         Keyword::Round => round_row(nodes, words),
     }
 }

@@ -5,13 +5,13 @@ ghost use Rattle.schedule.specs.Keywords.{text_of};
 ghost use Rattle.schedule.specs.Rows.{IsFaultAt, IsWordsFault};
 ghost use Rattle.schedule.specs.Spelling.{IsOneWord, WordsSpell};
 ghost use Rattle.schedule.specs.Table.{IsNode, IsFrameNumber, keyword_places};
-ghost use Rattle.schedule.specs.Unread.{WordsGive};
+ghost use Rattle.schedule.specs.PendingLines.{WordsGive};
 ghost use Rattle.schedule.specs.declared.action.Action.TheVariants.{Step};
 
 use super::fault::ScheduleFault;
 use super::forms::{decimal, failing, node};
 use super::keyword::Keyword;
-use super::unread::{Rounding, Unread};
+use super::pending_line::{PendingLine, PendingRound};
 use super::words::Words;
 use events::Event;
 use wire::{NodeId, Nodes};
@@ -49,14 +49,17 @@ pub(crate) fn fault_row(nodes: Nodes, words: Words) -> Result<Event, ScheduleFau
 }
 
 /// After `round`: a node, and its members, which are all that is left.
-pub(crate) fn round_row<'a>(nodes: Nodes, mut words: Words<'a>) -> Result<Unread<'a>, ScheduleFault>
+pub(crate) fn round_row<'a>(
+    nodes: Nodes,
+    mut words: Words<'a>,
+) -> Result<PendingLine<'a>, ScheduleFault>
     ensures { MatchResult result (WordsGive nodes (text_of Keyword.Round ∷ words.entry))
         (IsWordsFault nodes (text_of Keyword.Round ∷ words.entry)) }
 {
     let target = words.needed()?;
     let members = words.rest()?;
     match node(nodes, target) {
-        Some(node) => Ok(Unread::Round(Rounding { node, members })),
+        Some(node) => Ok(PendingLine::Round(PendingRound { node, members })),
         None => Err(ScheduleFault::WordForm),
     }
 }

@@ -5,13 +5,13 @@ ghost use Rattle.schedule.specs.Rows.{IsFaultAt, IsRowFault, IsWordsFault};
 ghost use Rattle.schedule.specs.Spelling.{SpellsOp};
 ghost use Rattle.schedule.specs.Submissions.{Names, asker_places, asker_words, submit_words};
 ghost use Rattle.schedule.specs.Table.{HasMisfit, operation_places, submit_of};
-ghost use Rattle.schedule.specs.Unread.{WordsGive};
+ghost use Rattle.schedule.specs.PendingLines.{WordsGive};
 
 use super::action::Action;
 use super::fault::ScheduleFault;
 use super::forms::{client, coordinate, id, instant, node, request_number};
 use super::keyword::{Operation, operation_of};
-use super::unread::{Putting, Unread};
+use super::pending_line::{PendingLine, Putting};
 use super::words::Words;
 use events::Event;
 use sessions::Number;
@@ -39,7 +39,7 @@ struct Asker {
 pub(crate) fn submit_row<'a>(
     nodes: Nodes,
     mut words: Words<'a>,
-) -> Result<Unread<'a>, ScheduleFault>
+) -> Result<PendingLine<'a>, ScheduleFault>
     ensures { MatchResult result (WordsGive nodes (codes "submit" ∷ words.entry))
         (IsWordsFault nodes (codes "submit" ∷ words.entry)) }
 {
@@ -75,7 +75,7 @@ fn put_row<'a>(
     nodes: Nodes,
     asking: AskerWords,
     words: Words<'a>,
-) -> Result<Unread<'a>, ScheduleFault>
+) -> Result<PendingLine<'a>, ScheduleFault>
     ensures { MatchResult result (WordsGive nodes (submit_words asking.entry Operation.Put words.entry))
         (IsRowFault nodes (submit_of Operation.Put) (submit_words asking.entry Operation.Put words.entry)) }
 {
@@ -83,7 +83,7 @@ fn put_row<'a>(
     let Some(asker) = asker_of(nodes, asking) else {
         return Err(ScheduleFault::WordForm);
     };
-    Ok(Unread::Put(Putting {
+    Ok(PendingLine::Put(Putting {
         node: asker.node,
         client: asker.client,
         number: asker.number,
@@ -96,7 +96,7 @@ fn append_row<'a>(
     nodes: Nodes,
     asking: AskerWords,
     words: Words,
-) -> Result<Unread<'a>, ScheduleFault>
+) -> Result<PendingLine<'a>, ScheduleFault>
     ensures { MatchResult result (WordsGive nodes (submit_words asking.entry Operation.Append words.entry))
         (IsRowFault nodes (submit_of Operation.Append) (submit_words asking.entry Operation.Append words.entry)) }
 {
@@ -112,7 +112,7 @@ fn remove_row<'a>(
     nodes: Nodes,
     asking: AskerWords,
     words: Words,
-) -> Result<Unread<'a>, ScheduleFault>
+) -> Result<PendingLine<'a>, ScheduleFault>
     ensures { MatchResult result (WordsGive nodes (submit_words asking.entry Operation.Remove words.entry))
         (IsRowFault nodes (submit_of Operation.Remove) (submit_words asking.entry Operation.Remove words.entry)) }
 {
@@ -184,11 +184,11 @@ fn asker_of(nodes: Nodes, words: AskerWords) -> Option<Asker>
 }
 
 /// What the client asks for, submitted.
-fn submitted<'a>(asker: Asker, op: Op) -> Unread<'a>
-    ensures { result ≡ Unread.Whole (Action.Step
+fn submitted<'a>(asker: Asker, op: Op) -> PendingLine<'a>
+    ensures { result ≡ PendingLine.Whole (Action.Step
         (Event.Submit asker.node asker.client asker.number op)) }
 {
-    Unread::Whole(Action::Step(Event::Submit {
+    PendingLine::Whole(Action::Step(Event::Submit {
         node: asker.node,
         client: asker.client,
         number: asker.number,

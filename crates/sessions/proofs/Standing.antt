@@ -9,12 +9,12 @@ use Rattle.store.specs.Replies.{reply_code}
 use Rattle.sessions.specs.Asked.{Asked}
 use Rattle.sessions.specs.Machines.{MachineState, is_next, told_of, counted, after_request, reply_to_request}
 use Rattle.sessions.specs.Meaning.{Database, HasCounted, IsRequestAt, Execution, IsReply, RepliesAt, IsLastOf}
-use Rattle.sessions.specs.Outcomes.{outcome_code}
+use Rattle.sessions.specs.SessionReplies.{outcome_code}
 use Rattle.sessions.specs.Sessions.{session_of, with_session}
 use Rattle.sessions.specs.Standing.{IsKeptOf, StandsFor}
 use Rattle.sessions.specs.declared.command.Command.{Command}
 use Rattle.sessions.specs.declared.command.Command.TheVariants.{NoOp, Request}
-use Rattle.sessions.specs.declared.outcome.Outcome.TheVariants.{Applied, Past, Gap}
+use Rattle.sessions.specs.declared.session_reply.SessionReply.TheVariants.{Applied, Past, Gap}
 use Rattle.sessions.specs.declared.session.Session.{Session}
 use Rattle.sessions.proofs.Counting.{same_number, counted_or_not}
 use Rattle.sessions.proofs.Turns.{each_lesser, the_one, turn_of}

@@ -1,7 +1,7 @@
 pub mod Asked
 pub mod Same
 pub mod Meaning
-pub mod Outcomes
+pub mod SessionReplies
 pub mod Sessions
 pub mod Machines
 pub mod Standing

@@ -9,8 +9,8 @@ use Rattle.sessions.specs.Asked.{Asked}
 use Rattle.sessions.specs.Sessions.{session_of, with_session}
 use Rattle.sessions.specs.declared.command.Command.{Command}
 use Rattle.sessions.specs.declared.command.Command.TheVariants.{NoOp, Request}
-use Rattle.sessions.specs.declared.outcome.Outcome.{Outcome}
-use Rattle.sessions.specs.declared.outcome.Outcome.TheVariants.{Applied, Past, Gap}
+use Rattle.sessions.specs.declared.session_reply.SessionReply.{SessionReply}
+use Rattle.sessions.specs.declared.session_reply.SessionReply.TheVariants.{Applied, Past, Gap}
 use Rattle.sessions.specs.declared.session.Session.{Session}
 use Rattle.sessions.specs.declared.session.TheConstants.{CLIENTS}
 
@@ -35,7 +35,7 @@ abbrev pub is_next : Option Session → ℕ → Bool
 is_next session number = number == last_number session + 1
 
 -- what is told of a number that isn't the next: that it lies ahead, that it has gone by, or the reply that is kept
-abbrev pub told_of : Option Session → ℕ → Outcome
+abbrev pub told_of : Option Session → ℕ → SessionReply
 told_of None number = Gap
 told_of (Some session) number =
     if nat_lt session.number number then Gap else (if nat_lt number session.number then Past else Applied session.reply)
@@ -54,7 +54,7 @@ counted m r = record {
 abbrev pub after_request : MachineState → Asked → MachineState
 after_request m r = if counts_next m r then counted m r else m
 
-abbrev pub reply_to_request : MachineState → Asked → Outcome
+abbrev pub reply_to_request : MachineState → Asked → SessionReply
 reply_to_request m r =
     if counts_next m r then Applied (reply m.features r.op) else told_of (session_of m.sessions r.client) r.number
 
@@ -62,7 +62,7 @@ abbrev pub after_command : MachineState → Command → MachineState
 after_command m NoOp = m
 after_command m (Request r) = after_request m r
 
-abbrev pub reply_to_command : MachineState → Command → Outcome
+abbrev pub reply_to_command : MachineState → Command → SessionReply
 reply_to_command m NoOp = Applied Done
 reply_to_command m (Request r) = reply_to_request m r
 

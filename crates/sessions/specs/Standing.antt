@@ -4,11 +4,11 @@ use Rattle.store.specs.declared.query.Query.{Query}
 use Rattle.store.specs.declared.reply.Reply.{Reply}
 use Rattle.sessions.specs.Machines.{MachineState}
 use Rattle.sessions.specs.Meaning.{Execution, HasCounted, IsLastOf, LastCounted, RepliesAt, Answers}
-use Rattle.sessions.specs.Outcomes.{outcome_code}
+use Rattle.sessions.specs.SessionReplies.{outcome_code}
 use Rattle.sessions.specs.Sessions.{session_of}
 use Rattle.sessions.specs.declared.command.Command.{Command}
 use Rattle.sessions.specs.declared.command.Command.TheVariants.{NoOp, Request}
-use Rattle.sessions.specs.declared.outcome.Outcome.{Outcome}
+use Rattle.sessions.specs.declared.session_reply.SessionReply.{SessionReply}
 use Rattle.sessions.specs.declared.session.Session.{Session}
 
 -- what is kept of a client is its last number that has counted, with the reply to it; nothing, where none has counted
@@ -28,11 +28,11 @@ pub record StandsForOneMore (old new : MachineState) (c : Command) : Type 0 wher
   pub stands : (l : List Command) → StandsFor old l → StandsFor new (l ++ c ∷ [])
 
 -- for each list that the machine stands for, the outcome tells the reply to the command, at the place behind the list
-abbrev pub IsToldAt : List Command → Command → Outcome → Type 0
+abbrev pub IsToldAt : List Command → Command → SessionReply → Type 0
 IsToldAt l NoOp told = outcome_code told ≡ 0
 IsToldAt l (Request r) told = RepliesAt (l ++ Request r ∷ []) (length l) r (outcome_code told)
 
-pub record RepliesOneMore (m : MachineState) (c : Command) (told : Outcome) : Type 0 where
+pub record RepliesOneMore (m : MachineState) (c : Command) (told : SessionReply) : Type 0 where
   pub replies : (l : List Command) → StandsFor m l → IsToldAt l c told
 
 -- for each list that the machine stands for, the reply is there exactly where the number is the client's last that has

@@ -16,7 +16,7 @@ pub enum SnapFault {
 
 impl SnapFault {
     ghost use Rattle.std.specs.Prelude.{◌≡◌};
-    ghost use Rattle.sessions.specs.Outcomes.{snap_code};
+    ghost use Rattle.sessions.specs.SessionReplies.{snap_code};
 
     /// The number under which it is told.
     pub fn code(self) -> u8

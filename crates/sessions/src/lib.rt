@@ -14,10 +14,10 @@ mod fault;
 mod laws;
 mod machine;
 mod number;
-mod outcome;
 mod request;
 mod restoring;
 mod session;
+mod session_reply;
 mod snapshot;
 
 pub use command::Command;
@@ -29,6 +29,6 @@ pub use laws::{
 };
 pub use machine::Machine;
 pub use number::Number;
-pub use outcome::Outcome;
 pub use request::{MOST_PUT_POINTS, Request, TooLong};
+pub use session_reply::SessionReply;
 pub use snapshot::LONGEST_SNAPSHOT;

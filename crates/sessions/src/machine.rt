@@ -12,10 +12,10 @@ ghost use Rattle.sessions.specs.Standing.{StandsFor, StandsForOneMore, RepliesOn
 use crate::command::Command;
 use crate::fault::SnapFault;
 use crate::number::Number;
-use crate::outcome::Outcome;
 use crate::request::Request;
 use crate::restoring::read_snapshot;
 use crate::session::{Session, Sessions};
+use crate::session_reply::SessionReply;
 use crate::snapshot::{LONGEST_SNAPSHOT, snapshot_text};
 use std::alloc::{AllocError, Global};
 use std::cmp::Ordering;
@@ -67,7 +67,7 @@ impl Machine {
 
     /// Executes a command, and tells the reply to it. A no-op changes nothing, and is told as done. Where a growth was
     /// refused the machine is as it was. Nothing grows for a no-op, nor for a request that doesn't count.
-    pub fn execute(&mut self, command: &Command) -> Result<Outcome, AllocError>
+    pub fn execute(&mut self, command: &Command) -> Result<SessionReply, AllocError>
         ensures reply { IfOk result (λ told. told ≡ reply_to_command self.old command.now) }
         ensures effect { OnOk result (self.new ≡ after_command self.old command.now) }
         ensures err { OnErr result (self.new ≡ self.old) }
@@ -81,7 +81,7 @@ impl Machine {
         // Read, so that callers know what a machine is.
         let _db = &self.db;
         match command {
-            Command::NoOp => Ok(Outcome::Applied(Reply::Done)),
+            Command::NoOp => Ok(SessionReply::Applied(Reply::Done)),
             Command::Request(request) => self.execute_request(request),
         }
     }
@@ -128,7 +128,7 @@ impl Machine {
         Ok(Machine { db, sessions })
     }
 
-    fn execute_request(&mut self, request: &Request) -> Result<Outcome, AllocError>
+    fn execute_request(&mut self, request: &Request) -> Result<SessionReply, AllocError>
         ensures reply { IfOk result (λ told. told ≡ reply_to_request self.old request.now) }
         ensures effect { OnOk result (self.new ≡ after_request self.old request.now) }
         ensures err { OnErr result (self.new ≡ self.old) }
@@ -144,7 +144,7 @@ impl Machine {
         }
         let reply = self.db.apply(request.op())?;
         self.sessions.keep(client, Session { number, reply });
-        Ok(Outcome::Applied(reply))
+        Ok(SessionReply::Applied(reply))
     }
 }
 
@@ -160,16 +160,16 @@ fn is_next(session: Option<Session>, number: Number) -> bool
 }
 
 /// What is told of a number that is not the client's next.
-fn told_of(session: Option<Session>, number: Number) -> Outcome
+fn told_of(session: Option<Session>, number: Number) -> SessionReply
     ensures { result ≡ told_of session number }
 {
     let Some(session) = session else {
-        return Outcome::Gap;
+        return SessionReply::Gap;
     };
     match number.cmp(&session.number) {
-        Ordering::Greater => Outcome::Gap,
-        Ordering::Equal => Outcome::Applied(session.reply),
-        Ordering::Less => Outcome::Past,
+        Ordering::Greater => SessionReply::Gap,
+        Ordering::Equal => SessionReply::Applied(session.reply),
+        Ordering::Less => SessionReply::Past,
     }
 }
 

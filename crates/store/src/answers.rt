@@ -8,8 +8,8 @@ ghost use Rattle.store.specs.Answers.{OfKnown, SaysValue, SaysCut, SaysDocument,
 ghost use Rattle.store.specs.Answers.{AreIdsOf, value_text, fix_text, mark_text, part_text, id_text, tri_text};
 ghost use Rattle.store.specs.Indexed.{IsKept};
 
-use crate::held::Held;
 use crate::line::{LONGEST_FIX, write_fix, write_place};
+use crate::stored_feature::StoredFeature;
 use itoa::Buffer;
 use mfjson::Feature;
 use predicates::{Tri, ever};
@@ -86,7 +86,7 @@ pub(crate) fn tri_answer(
 /// Which features are ever in a rectangle.
 pub(crate) fn within_text(
     alloc: Global,
-    features: &[Held],
+    features: &[StoredFeature],
     index: &TimeIndex,
     period: &Period,
     area: &Rect,
@@ -201,7 +201,7 @@ fn push_fix(
 /// asked of which the index tells that they are there in the period.
 fn ids_within(
     alloc: Global,
-    features: &[Held],
+    features: &[StoredFeature],
     index: &TimeIndex,
     period: &Period,
     area: &Rect,

@@ -8,10 +8,10 @@ ghost use Rattle.store.specs.Operations.{reply, effect, TakesNoMemory};
 ghost use Rattle.store.specs.Places.{IsAt, IsGap};
 
 use crate::answers::{at_text, count_text, cut_text, document_text, tri_answer, within_text};
-use crate::held::Held;
 use crate::op::{Addition, Op};
 use crate::query::Query;
 use crate::reply::Reply;
+use crate::stored_feature::StoredFeature;
 use mfjson::Feature;
 use predicates::{always, ever};
 use std::alloc::{AllocError, Global};
@@ -27,7 +27,7 @@ pub const MOST_FEATURES: usize = 256;
 /// They are kept in the byte order of their ids, so one is found by a binary search, and a text
 /// that lists them needs no sorting. An index tells which of them are there in a period.
 pub struct Db {
-    features: Vec<Held>,
+    features: Vec<StoredFeature>,
     /// From when to when each feature is.
     index: TimeIndex,
 }
@@ -139,7 +139,7 @@ impl Db {
         // All that grows is grown before the features change.
         self.features.try_reserve(1)?;
         let span = seq.span();
-        let held = Held::holding(*self.features.allocator(), id, seq)?;
+        let held = StoredFeature::holding(*self.features.allocator(), id, seq)?;
         self.index
             .insert_at(self.features.len(), id, span.begin(), span.end())?;
         // It has its room, so nothing is refused.
@@ -191,7 +191,7 @@ impl Db {
     {
         // All that grows is grown before the features change.
         self.features.try_reserve(1)?;
-        let held = Held::new(*self.features.allocator(), *id, seq)?;
+        let held = StoredFeature::new(*self.features.allocator(), *id, seq)?;
         let span = seq.span();
         self.index.insert_at(at, *id, span.begin(), span.end())?;
         // It has its room, so nothing is refused.

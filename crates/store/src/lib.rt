@@ -9,12 +9,12 @@
 
 mod answers;
 mod db;
-mod held;
 mod laws;
 mod line;
 mod op;
 mod query;
 mod reply;
+mod stored_feature;
 
 pub use db::{Db, MOST_FEATURES};
 pub use laws::{an_answer_is_one, features_stay_a_database, features_stay_valid, limits};

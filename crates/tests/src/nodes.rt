@@ -5,7 +5,6 @@
 
 mod checkpoints;
 mod faults;
-mod fleet;
 mod foreign;
 mod letters;
 mod limits;
@@ -15,11 +14,12 @@ mod promises;
 mod runs;
 mod snapshots;
 mod telling;
+mod test_nodes;
 
-use fleet::Fleet;
 use std::alloc::Global;
 use std::process::Abort;
 use std::test::Fail;
+use test_nodes::TestNodes;
 
 /// Takes the steps of each text in order, by as many nodes as stand beside it: each tells what stands behind it.
 fn tables_hold(rt: &impl Abort, alloc: Global, tables: &[(u8, &str)]) -> Result<(), Fail> {
@@ -31,22 +31,32 @@ fn tables_hold(rt: &impl Abort, alloc: Global, tables: &[(u8, &str)]) -> Result<
 
 /// The same, of one text.
 fn rows_hold(rt: &impl Abort, alloc: Global, nodes: u8, rows: &str) -> Result<(), Fail> {
-    let mut fleet = Fleet::new(alloc, nodes)?;
-    rows_follow(rt, alloc, &mut fleet, rows)
+    let mut nodes_under_test = TestNodes::new(alloc, nodes)?;
+    rows_follow(rt, alloc, &mut nodes_under_test, rows)
 }
 
 /// The same, of a fleet that has begun.
-fn rows_follow(rt: &impl Abort, alloc: Global, fleet: &mut Fleet, rows: &str) -> Result<(), Fail> {
+fn rows_follow(
+    rt: &impl Abort,
+    alloc: Global,
+    nodes_under_test: &mut TestNodes,
+    rows: &str,
+) -> Result<(), Fail> {
     for row in rows.lines() {
-        row_follows(rt, alloc, fleet, row)?;
+        row_follows(rt, alloc, nodes_under_test, row)?;
     }
     Ok(())
 }
 
 /// The same, of one row.
-fn row_follows(rt: &impl Abort, alloc: Global, fleet: &mut Fleet, row: &str) -> Result<(), Fail> {
+fn row_follows(
+    rt: &impl Abort,
+    alloc: Global,
+    nodes_under_test: &mut TestNodes,
+    row: &str,
+) -> Result<(), Fail> {
     let (step, expected) = row.split_once(" > ").unwrap_or((row, ""));
-    let told = fleet.take(alloc, step)?;
+    let told = nodes_under_test.take(alloc, step)?;
     assert_eq!(rt; told.as_str(), expected, "at {step}");
     Ok(())
 }

@@ -5,7 +5,7 @@ ghost use Rattle.std.specs.List.{remove};
 ghost use Rattle.timeindex.specs.Ascending.{IsAt, IsGap};
 ghost use Rattle.timeindex.specs.Entries.{Entry, IsSet, overlaps, id_of, is_known, with_entry, without_entry, ids_overlapping};
 
-use crate::kept::Kept;
+use crate::entry::Entry;
 use std::alloc::{AllocError, Global};
 use std::marker::Model;
 use tpoint::{Id, Instant, Period};
@@ -16,7 +16,7 @@ use tpoint::{Id, Instant, Period};
 /// a part of them need no sorting.
 #[derive(Drop)]
 pub struct TimeIndex {
-    entries: Vec<Kept>,
+    entries: Vec<Entry>,
 }
 
 impl Model for TimeIndex {
@@ -71,7 +71,7 @@ impl TimeIndex {
         ensures err { OnErr result (self.new ≡ self.old) }
         ensures set { IsSet self.new }
     {
-        let entry = Kept::new(*self.entries.allocator(), id, first, last)?;
+        let entry = Entry::new(*self.entries.allocator(), id, first, last)?;
         self.entries.insert(place, entry)?;
         Ok(())
     }

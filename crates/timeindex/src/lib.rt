@@ -4,7 +4,7 @@
 //! the filter of a set.
 #![tactic(auto)]
 
+mod entry;
 mod index;
-mod kept;
 
 pub use index::TimeIndex;

@@ -5,9 +5,9 @@
 #![tactic(auto)]
 
 mod frames;
-mod held;
 mod node_set;
 mod nodes;
+mod shared_command;
 mod sizes;
 
 pub use frames::{
@@ -17,9 +17,9 @@ pub use frames::{
     no_frame_begins_another, parts_make_the_text, round_of_record, round_record, vote_of_record,
     vote_record,
 };
-pub use held::Held;
 pub use node_set::NodeSet;
 pub use nodes::{NodeId, Nodes};
+pub use shared_command::SharedCommand;
 pub use sizes::limits;
 
 // What the values above are made of.

@@ -10,7 +10,7 @@ use Rattle.wire.specs.declared.frames.envelope.Envelope.{Envelope}
 use Rattle.node.specs.declared.node.Node.{Node}
 use Rattle.node_model.specs.Loading.{IsMember}
 use Rattle.node_model.specs.Sending.{IsBetween}
-use Rattle.world_model.specs.Fleets.{IsFleet}
+use Rattle.world_model.specs.Memberships.{IsMembership}
 use Rattle.world_model.specs.Flushing.{IsStarted, HaveStarted}
 use Rattle.world_model.specs.Starting.{AreOver, WasRead}
 use Rattle.node_model.specs.Nodes.{NodeState}
@@ -63,20 +63,20 @@ module _ {S : Type 0} (storages : Ghosts (Script S)) where
       (sym (ap (map state_of) e ∙ map-append state_of nodes (n ∷ [])))
       (one_more first count (map state_of nodes) (state_of n) h started)
 
-  -- nodes that have started are a fleet, of which nothing was sent yet
-  fleet_of : (count : ℕ) (nodes : List (NodeState (Script S))) → HaveStarted storages count count nodes → length nodes ≤ 7
-      → IsFleet nodes []
-  fleet_of count nodes h few = record {
+  -- nodes that have started are a membership, of which nothing was sent yet
+  membership_of : (count : ℕ) (nodes : List (NodeState (Script S))) → HaveStarted storages count count nodes → length nodes ≤ 7
+      → IsMembership nodes []
+  membership_of count nodes h few = record {
     few = few;
     members = λ i n here. subst (λ k. IsMember i k n) (sym h.all) (h.each i n here).member;
     between = All-nil (IsBetween (length nodes));
   }
 
-  pub started_fleet : (count len : ℕ) (nodes : List (Node (Script S))) (frames : List Envelope) → len ≡ length nodes → len ≤ 7
-      → frames ≡ [] → HaveStarted storages count count (map state_of nodes) → IsFleet (map state_of nodes) frames
-  started_fleet count len nodes frames e few nothing h =
-      subst (λ (fs : List Envelope). IsFleet (map state_of nodes) fs) (sym nothing)
-      (fleet_of count (map state_of nodes) h (omega (arith, e, few, length-map nodes state_of)))
+  pub started_membership : (count len : ℕ) (nodes : List (Node (Script S))) (frames : List Envelope) → len ≡ length nodes → len ≤ 7
+      → frames ≡ [] → HaveStarted storages count count (map state_of nodes) → IsMembership (map state_of nodes) frames
+  started_membership count len nodes frames e few nothing h =
+      subst (λ (fs : List Envelope). IsMembership (map state_of nodes) fs) (sym nothing)
+      (membership_of count (map state_of nodes) h (omega (arith, e, few, length-map nodes state_of)))
 
 -- ---- each node is over its own storage
 module _ {S : Type 0} (storages : Ghosts S) where

@@ -12,9 +12,9 @@ use Rattle.node_model.specs.Nodes.{NodeSteps, StaysMeaning}
 use Rattle.node.specs.Seen.{state_of}
 use Rattle.node_model.specs.Outputs.{Response}
 use Rattle.node_model.specs.Sending.{IsBetween}
-use Rattle.world_model.specs.Fleets.{IsFleet}
+use Rattle.world_model.specs.Memberships.{IsMembership}
 use Rattle.world_model.specs.Worlds.{WorldState, TakesAt, recorded}
-use Rattle.world.proofs.Lent.{lent_fleet, stepped}
+use Rattle.world.proofs.Lent.{lent_membership, stepped}
 use Rattle.world.proofs.WorldLemmas.{lent_at, left_by}
 
 -- the node of number i of so many, which index j lends, was n and is m, and answered r
@@ -39,13 +39,13 @@ module _ {S : Type 0} {st : Ghosts (Script S)} (nodes : List (Node (Script S))) 
   }
 
   -- it keeps its name
-  pub lent_keeps_fleet : (frames : List Envelope) → IsFleet (map state_of nodes) frames →
-      IsFleet (map state_of (slice_set nodes j m)) frames
-  lent_keeps_fleet frames fleet = lent_fleet nodes frames len i j n m counted named there lent fleet
-      (λ _. (stepped nodes frames len i j n m input r counted named there lent fleet steps).member)
+  pub lent_keeps_membership : (frames : List Envelope) → IsMembership (map state_of nodes) frames →
+      IsMembership (map state_of (slice_set nodes j m)) frames
+  lent_keeps_membership frames membership = lent_membership nodes frames len i j n m counted named there lent membership
+      (λ _. (stepped nodes frames len i j n m input r counted named there lent membership steps).member)
 
   -- what it sends goes between nodes of the run
-  pub lent_sends_between : (frames : List Envelope) (said : Response) → IsFleet (map state_of nodes) frames → r ≡ Ok said
+  pub lent_sends_between : (frames : List Envelope) (said : Response) → IsMembership (map state_of nodes) frames → r ≡ Ok said
       → All (IsBetween len) said.sends
-  lent_sends_between frames said fleet is = subst (λ a. IfOk a (λ s. All (IsBetween len) s.sends)) is
-      (stepped nodes frames len i j n m input r counted named there lent fleet steps).between
+  lent_sends_between frames said membership is = subst (λ a. IfOk a (λ s. All (IsBetween len) s.sends)) is
+      (stepped nodes frames len i j n m input r counted named there lent membership steps).between

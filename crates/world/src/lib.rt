@@ -6,13 +6,13 @@
 //! reply and every answer at a position is that of one plain database that executed so many of its entries, each request once.
 //! This is an invariant of the type `World`, and the clause `safe` of its calls states it.
 //!
-//! The crate `world_model` defines worlds and events. Here `run` has the nodes and the lists, `rounds` the manual round.
+//! The crate `world_model` defines worlds and events. Here `inner` has the nodes and the lists, `rounds` the manual round.
 #![tactic(auto)]
 
 mod flags;
+mod inner;
 mod log;
 mod rounds;
-mod run;
 mod start;
 mod world;
 
@@ -20,5 +20,6 @@ pub use log::{MOST_DELIVERIES, limits};
 pub use start::fresh_stores;
 pub use world::World;
 pub use world_model::{
-    Answered, Event, Learnt, NodeFault, Outcome, Replied, RoundEnd, Submission, Text, WorldFault,
+    AnswerText, Answered, Event, LearntEntry, NodeFault, Replied, RoundEnd, StepOutcome,
+    Submission, WorldFault,
 };

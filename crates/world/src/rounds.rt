@@ -6,7 +6,7 @@ ghost use Rattle.node_model.specs.Faults.{is_stop_fault};
 ghost use Rattle.world_model.specs.Rounds.{IsGreatestTold, IsQuorum, NoneRefuses, greater, refusal_in};
 ghost use Rattle.world_model.specs.declared.round_end.RoundEnd.TheVariants as end;
 
-use super::run::Run;
+use super::inner::Inner;
 use node::NodeFault;
 use stable::{Scripted, Stable};
 use std::alloc::Global;
@@ -14,8 +14,8 @@ use synod::{Ballot, Slot};
 use wire::{Envelope, Frame, Message, NodeId};
 use world_model::{RoundEnd, WorldFault};
 
-impl<S: Stable> Run<S> {
-    ghost use Rattle.world.specs.Runs.{run_of};
+impl<S: Stable> Inner<S> {
+    ghost use Rattle.world.specs.Inner.{inner_of};
     ghost use Rattle.world_model.specs.Rounds.{NamesNoMember, IsLowestDown, IsBehind, IsLowestBehind, CanMeet, IsAt};
     ghost use Rattle.world_model.specs.Rounds.{DeliversTo, DeliversPart, GoesDownOn, EndsIn};
     ghost use Rattle.world_model.specs.Rounds.{MeetingEnds, IsInterrupted, RoundEnds, IsPartOfRound, is_up};
@@ -29,12 +29,12 @@ impl<S: Stable> Run<S> {
         members: &[NodeId],
     ) -> Result<RoundEnd, WorldFault>
         ensures ends { IfOk result (λ end. RoundEnds (⟦<Scripted<S> as Stable>⟧)
-            (run_of self.old) node members.now end (run_of self.new)) }
+            (inner_of self.old) node members.now end (inner_of self.new)) }
         ensures no_node { IsErrOf result WorldFault.NoSuchNode
-            ↔ NamesNoMember (length (run_of self.old).nodes) node members.now }
-        ensures unchanged { IsErrOf result WorldFault.NoSuchNode → run_of self.new ≡ run_of self.old }
+            ↔ NamesNoMember (length (inner_of self.old).nodes) node members.now }
+        ensures unchanged { IsErrOf result WorldFault.NoSuchNode → inner_of self.new ≡ inner_of self.old }
         ensures memory { IsErrOf result WorldFault.Memory → IsPartOfRound (⟦<Scripted<S> as Stable>⟧)
-            (run_of self.old) node members.now (run_of self.new) }
+            (inner_of self.old) node members.now (inner_of self.new) }
         ensures faults { IfErr result (λ f. (f ≡ WorldFault.NoSuchNode) ⊎ (f ≡ WorldFault.Memory)) }
     {
         self.find(node)?;
@@ -66,9 +66,9 @@ impl<S: Stable> Run<S> {
         requires there { node < vec_len self.old.nodes }
         requires members_there { All (λ m. m < vec_len self.old.nodes) members.now }
         ensures ends { IfOk result (λ end. EndsIn (⟦<Scripted<S> as Stable>⟧)
-            (run_of self.old) node members.now end (run_of self.new)) }
+            (inner_of self.old) node members.now end (inner_of self.new)) }
         ensures part { OnErr result (IsPartOfRound (⟦<Scripted<S> as Stable>⟧)
-            (run_of self.old) node members.now (run_of self.new)) }
+            (inner_of self.old) node members.now (inner_of self.new)) }
         ensures memory { IfErr result (λ f. f ≡ WorldFault.Memory) }
     {
         if !is_quorum(self.count(), node, members) {
@@ -89,8 +89,8 @@ impl<S: Stable> Run<S> {
     // The lowest member that is down.
     fn lowest_down(&self, members: &[NodeId]) -> Option<NodeId>
         requires there { All (λ m. m < vec_len self.now.nodes) members.now }
-        ensures { MatchOption result ((m : ℕ) → Contains members.now m → is_up (run_of self.now) m ≡ true)
-            (IsLowestDown (run_of self.now) members.now) }
+        ensures { MatchOption result ((m : ℕ) → Contains members.now m → is_up (inner_of self.now) m ≡ true)
+            (IsLowestDown (inner_of self.now) members.now) }
     {
         for number in 0..self.count() {
             if let Some(node) = NodeId::new(number) {
@@ -105,11 +105,11 @@ impl<S: Stable> Run<S> {
     // The lowest member that the node, which is up, is behind.
     fn lowest_behind(&self, node: NodeId, members: &[NodeId]) -> Option<NodeId>
         requires there { node < vec_len self.now.nodes }
-        requires up { is_up (run_of self.now) node ≡ true }
+        requires up { is_up (inner_of self.now) node ≡ true }
         requires members_there { All (λ m. m < vec_len self.now.nodes) members.now }
         ensures { MatchOption result
-            ((m : ℕ) → Contains members.now m → ¬ (IsBehind (run_of self.now) node m))
-            (IsLowestBehind (run_of self.now) node members.now) }
+            ((m : ℕ) → Contains members.now m → ¬ (IsBehind (inner_of self.now) node m))
+            (IsLowestBehind (inner_of self.now) node members.now) }
     {
         for number in 0..self.count() {
             if let Some(member) = NodeId::new(number) {
@@ -130,12 +130,12 @@ impl<S: Stable> Run<S> {
         slot: Slot,
     ) -> Result<RoundEnd, WorldFault>
         requires there { node < vec_len self.old.nodes }
-        requires up { is_up (run_of self.old) node ≡ true }
-        requires at { IsAt (run_of self.old) node slot }
+        requires up { is_up (inner_of self.old) node ≡ true }
+        requires at { IsAt (inner_of self.old) node slot }
         ensures ends { IfOk result (λ end. MeetingEnds (⟦<Scripted<S> as Stable>⟧)
-            (run_of self.old) node members.now end (run_of self.new)) }
+            (inner_of self.old) node members.now end (inner_of self.new)) }
         ensures part { OnErr result (IsInterrupted (⟦<Scripted<S> as Stable>⟧)
-            (run_of self.old) node members.now (run_of self.new)) }
+            (inner_of self.old) node members.now (inner_of self.new)) }
         ensures memory { IfErr result (λ f. f ≡ WorldFault.Memory) }
     {
         self.reserve()?;
@@ -164,12 +164,12 @@ impl<S: Stable> Run<S> {
     ) -> Result<Result<usize, RoundEnd>, WorldFault>
         requires sent { prepares ≤ vec_len self.old.frames }
         ensures goes_on { IfOk result (λ gathered. IfOk gathered (λ accepts. GoesOn (⟦<Scripted<S> as Stable>⟧)
-            node members.now begun prepares (run_of self.old) answered accepts (run_of self.new))) }
+            node members.now begun prepares (inner_of self.old) answered accepts (inner_of self.new))) }
         ensures ends { IfOk result (λ gathered. IfErr gathered (λ end. GoesToItsEnd (⟦<Scripted<S> as Stable>⟧)
-            node members.now begun prepares (run_of self.old) end (run_of self.new))) }
+            node members.now begun prepares (inner_of self.old) end (inner_of self.new))) }
         ensures accepts_sent { IfOk result (λ gathered. IfOk gathered (λ accepts. accepts ≤ vec_len self.new.frames)) }
         ensures part { OnErr result (BreaksOff (⟦<Scripted<S> as Stable>⟧)
-            node members.now begun prepares (run_of self.old) (run_of self.new)) }
+            node members.now begun prepares (inner_of self.old) (inner_of self.new)) }
         ensures memory { IfErr result (λ f. f ≡ WorldFault.Memory) }
     {
         let answers = self.frames().len();
@@ -198,11 +198,11 @@ impl<S: Stable> Run<S> {
         requires sent { accepts ≤ vec_len self.old.frames }
         ensures decides { IfOk result (λ stopped. MatchOption stopped
             ((last : ℕ) × GoesOn (⟦<Scripted<S> as Stable>⟧)
-            node members.now answered accepts (run_of self.old) heard last (run_of self.new))
+            node members.now answered accepts (inner_of self.old) heard last (inner_of self.new))
             (λ down. GoesToItsEnd (⟦<Scripted<S> as Stable>⟧)
-            node members.now answered accepts (run_of self.old) (end.Stopped down) (run_of self.new))) }
+            node members.now answered accepts (inner_of self.old) (end.Stopped down) (inner_of self.new))) }
         ensures part { OnErr result (BreaksOff (⟦<Scripted<S> as Stable>⟧)
-            node members.now answered accepts (run_of self.old) (run_of self.new)) }
+            node members.now answered accepts (inner_of self.old) (inner_of self.new)) }
         ensures memory { IfErr result (λ f. f ≡ WorldFault.Memory) }
     {
         let votes = self.frames().len();
@@ -223,10 +223,10 @@ impl<S: Stable> Run<S> {
         requires sent { first ≤ vec_len self.old.frames }
         ensures delivers { IfOk result (λ stopped. MatchOption stopped
             (DeliversTo (⟦<Scripted<S> as Stable>⟧) receivers.now
-            (run_of self.old) first (vec_len self.old.frames) (run_of self.new))
-            (λ m. GoesDownOn (⟦<Scripted<S> as Stable>⟧) receivers.now (run_of self.old) first m (run_of self.new))) }
+            (inner_of self.old) first (vec_len self.old.frames) (inner_of self.new))
+            (λ m. GoesDownOn (⟦<Scripted<S> as Stable>⟧) receivers.now (inner_of self.old) first m (inner_of self.new))) }
         ensures part { OnErr result (DeliversPart (⟦<Scripted<S> as Stable>⟧)
-            receivers.now (run_of self.old) first (run_of self.new)) }
+            receivers.now (inner_of self.old) first (inner_of self.new)) }
         ensures memory { IfErr result (λ f. f ≡ WorldFault.Memory) }
         ensures more { vec_len self.old.frames ≤ vec_len self.new.frames }
     {

@@ -2,18 +2,20 @@
 
 ghost use Rattle.std.specs.Prelude.{◌≡◌, ◌≤◌, ◌↔◌, ◌⊎◌, length, slice_get, vec_len, IsNone, OnOk, OnErr, IfOk, IfErr, IfSome, IsErrOf};
 ghost use Rattle.world_model.specs.Waiting.{NoneWaits, OneWaits};
-ghost use Rattle.world.specs.Runs.{run_of};
+ghost use Rattle.world.specs.Inner.{inner_of};
 ghost use Rattle.world_model.specs.Safety.{IsSoundIfHonest, contents_inside, honest_inside};
 ghost use Rattle.world_model.specs.Fired.{HasFewFaults};
 
+use super::inner::Inner;
 use super::log::MOST_DELIVERIES;
-use super::run::Run;
 use super::start::fresh_stores;
 use stable::{MemStable, Put, Scripted, Stable};
 use std::alloc::Global;
 use synod::MOST_NODES;
 use wire::{Frame, NodeId, Nodes};
-use world_model::{Answered, Event, Learnt, Outcome, Replied, RoundEnd, Submission, WorldFault};
+use world_model::{
+    Answered, Event, LearntEntry, Replied, RoundEnd, StepOutcome, Submission, WorldFault,
+};
 
 /// All nodes of a run, over storages of one kind.
 ///
@@ -24,16 +26,16 @@ use world_model::{Answered, Event, Learnt, Outcome, Replied, RoundEnd, Submissio
 ///
 /// Armed faults end nothing of this: at most one comes in a step, so they are counted as long as the steps are.
 pub struct World<S: Stable> {
-    run: Run<S>,
-    ghost sound: { ∥ IsSoundIfHonest (contents_inside S.contents) (honest_inside S.IsHonest) (run_of run) ∥₁ },
-    ghost few_faults: { HasFewFaults (run_of run) },
+    inner: Inner<S>,
+    ghost sound: { ∥ IsSoundIfHonest (contents_inside S.contents) (honest_inside S.IsHonest) (inner_of inner) ∥₁ },
+    ghost few_faults: { HasFewFaults (inner_of inner) },
 }
 
 // By hand, so that a crate that drops one proves nothing of what lies within.
 impl<S: Stable + Drop> Drop for World<S> {
     fn drop(self) {
-        let World { run } = self;
-        drop(run);
+        let World { inner } = self;
+        drop(inner);
     }
 }
 
@@ -76,8 +78,8 @@ impl<S: Stable + Drop> World<S> {
         // Whatever the storages are.
         ensures safe { IfOk result (λ w. StaysSafe (⟦<Scripted<S> as Stable>⟧) S.IsHonest (world_of w)) }
     {
-        let run = Run::with(alloc, count, stores)?;
-        Ok(World { run })
+        let inner = Inner::with(alloc, count, stores)?;
+        Ok(World { inner })
     }
 }
 
@@ -95,50 +97,50 @@ impl<S: Stable> World<S> {
         ensures count { result ≡ length (world_of self.now).nodes }
         ensures few { result ≤ MOST_NODES }
     {
-        self.run.count()
+        self.inner.count()
     }
 
     /// The requests that nodes took.
     pub fn submitted(&self) -> &[Submission]
         ensures { result.now ≡ (world_of self.now).submitted }
     {
-        self.run.submitted.as_slice()
+        self.inner.submitted.as_slice()
     }
 
     /// Every frame that was sent, as its bytes.
     pub fn frames(&self) -> &[Frame]
         ensures { result.now ≡ (world_of self.now).frames }
     {
-        self.run.frames()
+        self.inner.frames()
     }
 
     /// What nodes learnt.
-    pub fn learnt(&self) -> &[Learnt]
+    pub fn learnt(&self) -> &[LearntEntry]
         ensures { result.now ≡ (world_of self.now).learnt }
     {
-        self.run.learnt.as_slice()
+        self.inner.learnt.as_slice()
     }
 
     /// The replies to requests.
     pub fn replies(&self) -> &[Replied]
         ensures { result.now ≡ (world_of self.now).replies }
     {
-        self.run.replies.as_slice()
+        self.inner.replies.as_slice()
     }
 
     /// The answers to queries.
     pub fn answers(&self) -> &[Answered]
         ensures { result.now ≡ (world_of self.now).answers }
     {
-        self.run.answers.as_slice()
+        self.inner.answers.as_slice()
     }
 
     /// What came of each step. Whoever looks knows that all of it is safe.
-    pub fn outcomes(&self) -> &[Outcome]
+    pub fn outcomes(&self) -> &[StepOutcome]
         ensures outcomes { result.now ≡ (world_of self.now).outcomes }
         ensures safe { StaysSafe (⟦<Scripted<S> as Stable>⟧) S.IsHonest (world_of self.now) }
     {
-        self.run.outcomes.as_slice()
+        self.inner.outcomes.as_slice()
     }
 
     /// The puts that took effect at a node, the oldest first; None where the run has no such node.
@@ -147,7 +149,7 @@ impl<S: Stable> World<S> {
         ensures writes { IfSome result (λ puts. IfSome (slice_get (world_of self.now).nodes node) (λ n.
             puts.now ≡ n.storage.writes)) }
     {
-        let at = self.run.nodes.get(usize::from(node.value()))?;
+        let at = self.inner.nodes.get(usize::from(node.value()))?;
         Some(at.writes())
     }
 
@@ -167,7 +169,7 @@ impl<S: Stable> World<S> {
         // Whatever came of it.
         ensures safe { StaysSafe (⟦<Scripted<S> as Stable>⟧) S.IsHonest (world_of self.new) }
     {
-        self.run.step(alloc, event)
+        self.inner.step(alloc, event)
     }
 
     /// Delivers the lowest waiting frame until none waits: how many. `FlushLimit` where 10,000 were delivered and one still waits. What
@@ -189,7 +191,7 @@ impl<S: Stable> World<S> {
         // Whatever came of it.
         ensures safe { StaysSafe (⟦<Scripted<S> as Stable>⟧) S.IsHonest (world_of self.new) }
     {
-        self.run.flush(alloc)
+        self.inner.flush(alloc)
     }
 
     /// A round of a node by hand, among these members alone: its campaign begins, and what is sent in each phase comes to the members or
@@ -223,6 +225,6 @@ impl<S: Stable> World<S> {
         // Whatever came of it.
         ensures safe { StaysSafe (⟦<Scripted<S> as Stable>⟧) S.IsHonest (world_of self.new) }
     {
-        self.run.round(alloc, node, members)
+        self.inner.round(alloc, node, members)
     }
 }

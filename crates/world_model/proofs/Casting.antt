@@ -6,7 +6,7 @@ use Rattle.std.proofs.lemmas.List.Elements.{Contains-push_cases}
 use Rattle.synod.specs.Messages.{Accept}
 use Rattle.synod.specs.Records.{Write, VoteWrite, PromiseWrite, RoundWrite, CheckpointWrite}
 use Rattle.synod.specs.Acts as act
-use Rattle.synod.specs.Acts.{Fleet, Local, Input, Came, Nothing, Act, Brings, MayAct, MayDo, acted, done, Does}
+use Rattle.synod.specs.Acts.{Membership, Local, Input, Came, Nothing, Act, Brings, MayAct, MayDo, acted, done, Does}
 use Rattle.synod.specs.declared.vote.Vote.{Vote}
 use Rattle.synod.proofs.Puts.{put_same}
 use Rattle.synod.proofs.Running.{done_writes}
@@ -16,7 +16,7 @@ one_brought : {C : Type 0} (input : Input C) (u v : Vote C) → Brings input (Ac
 one_brought (Came sender message) u v e d = cc
 one_brought Nothing u v e d = absurd e
 
-module _ {C : Type 0} (f : Fleet C) (i : ℕ) (input : Input C) where
+module _ {C : Type 0} (f : Membership C) (i : ℕ) (input : Input C) where
   -- ---- the floor rises
   act_floor : (x : Local C) (a : Act C) → MayAct f i input x a → x.records.floor ≤ (acted i x a).records.floor
   act_floor x (act.Promises b) m = le_refl _

@@ -27,8 +27,8 @@ use Rattle.acceptor.specs.Spelling.{ballot_bytes}
 use Rattle.acceptor.proofs.VerdictLemmas.{judged, refused as is_refused, behind as is_behind, taken as is_taken}
 use Rattle.node_model.specs.declared.input.Input.{Input}
 use Rattle.node_model.specs.declared.input.Input.TheVariants as input
-use Rattle.node_model.specs.Inputs.{concerns}
-use Rattle.node_model.specs.Minds.{Mind, position, promised}
+use Rattle.node_model.specs.Inputs.{is_for_this_run}
+use Rattle.node_model.specs.Replicas.{ReplicaState, position, promised}
 use Rattle.node_model.specs.Taking.{WritesOnMessage, WritesOnEnvelope, WritesCheckpoint, Writes}
 use Rattle.world_model.proofs.ListedPuts.{put_by}
 
@@ -69,14 +69,14 @@ on_accept a v w h c e =
           other_put w (key.Vote v.slot) _ (omega arith) (h.cast (record { taken = same; fresh = λ stands. some (h.already stands) })) c e
     ]
 
-on_message : (m : Mind) (message : Message) (w : Write) → WritesOnMessage m message w → PutsNoCheckpoint w
+on_message : (m : ReplicaState) (message : Message) (w : Write) → WritesOnMessage m message w → PutsNoCheckpoint w
 on_message m (Prepare ballot first) w is =
     subst (λ (x : Write). PutsNoCheckpoint x) (sym is)
     (on_prepare ballot (verdict m.accepting ballot first) (ballots.rank ballot == rank_of m.accepting.promise))
 on_message m (Accept v) w is = on_accept m.accepting v w is
 on_message m other w is = nothing_is_no_checkpoint w is
 
-on_envelope : (m : Mind) (e : Envelope) (b : Bool) (w : Write) → WritesOnEnvelope m e b w → PutsNoCheckpoint w
+on_envelope : (m : ReplicaState) (e : Envelope) (b : Bool) (w : Write) → WritesOnEnvelope m e b w → PutsNoCheckpoint w
 on_envelope m e false w is = nothing_is_no_checkpoint w is
 on_envelope m e true w is = on_message m e.message w is
 
@@ -86,11 +86,11 @@ on_trim a (Some change) is c e = absurd (none-some c (ap (λ (x : Change). put_b
 
 -- ---- a checkpoint
 -- the checkpoint is that of the node at its position
-pub record IsCheckpointOfNode (m : Mind) (c : Checkpointed) : Type 0 where
+pub record IsCheckpointOfNode (m : ReplicaState) (c : Checkpointed) : Type 0 where
   pub machine : MachineFits m.machine
   pub is : c ≡ record { position = position m; promise = promised m; text = snapshot_bytes m.machine }
 
-checkpoint_written : (r : Records) (m : Mind) (w : Write) → RecordsSay r m.accepting → WritesCheckpoint m w → (c : Checkpointed)
+checkpoint_written : (r : Records) (m : ReplicaState) (w : Write) → RecordsSay r m.accepting → WritesCheckpoint m w → (c : Checkpointed)
     → CheckpointFits c → put_by w ≡ Some (key.Checkpoint, checkpoint_bytes c) → IsCheckpointOfNode m c
 checkpoint_written r m w says writes c fits e =
     let d : Checkpointed = record { position = position m; promise = promised m; text = snapshot_bytes m.machine } in
@@ -108,11 +108,11 @@ checkpoint_written r m w says writes c fits e =
     record { machine = writes.fits; is = one_checkpoint (checkpoint_bytes c) c d (record_of (checkpoint_bytes c) c fits refl) written }
 
 -- whatever checkpoint an input puts is that
-pub checkpoint_put : (r : Records) (m : Mind) (i : Input) (w : Write) → RecordsSay r m.accepting → Writes m i w → (c : Checkpointed)
+pub checkpoint_put : (r : Records) (m : ReplicaState) (i : Input) (w : Write) → RecordsSay r m.accepting → Writes m i w → (c : Checkpointed)
     → CheckpointFits c → put_by w ≡ Some (key.Checkpoint, checkpoint_bytes c) → IsCheckpointOfNode m c
 checkpoint_put r m (input.Submit client number op) w says writes c fits e = absurd (puts_none w writes (key.Checkpoint, checkpoint_bytes c) e)
 checkpoint_put r m (input.Message e) w says writes c fits put =
-    let high : 1 ≤ 0 = on_envelope m e (concerns m.id m.nodes e) w writes (key.Checkpoint, checkpoint_bytes c) put in
+    let high : 1 ≤ 0 = on_envelope m e (is_for_this_run m.id m.nodes e) w writes (key.Checkpoint, checkpoint_bytes c) put in
     absurd (omega (arith, high))
 checkpoint_put r m input.Timeout w says writes c fits e =
     let high : 1 ≤ 0 = other_put w key.Round _ (omega arith) writes (key.Checkpoint, checkpoint_bytes c) e in

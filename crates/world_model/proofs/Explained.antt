@@ -10,18 +10,18 @@ use Rattle.stable.specs.Script.{Script}
 use Rattle.synod.specs.declared.slot.TheConstants.{SLOTS}
 use Rattle.synod.proofs.Thinking.{none_in}
 use Rattle.sessions.specs.Meaning.{Answers}
-use Rattle.sessions.specs.Outcomes.{outcome_code}
+use Rattle.sessions.specs.SessionReplies.{outcome_code}
 use Rattle.sessions.specs.declared.command.Command.{Command}
 use Rattle.sessions.specs.declared.command.Command.TheVariants.{NoOp}
 use Rattle.node_model.specs.Composition.{IsReplyOf}
 use Rattle.world_model.specs.declared.lists.Submission.{Submission}
-use Rattle.world_model.specs.declared.lists.Learnt.{Learnt}
+use Rattle.world_model.specs.declared.lists.LearntEntry.{LearntEntry}
 use Rattle.world_model.specs.declared.lists.Replied.{Replied}
 use Rattle.world_model.specs.declared.lists.Answered.{Answered}
 use Rattle.world_model.specs.Explaining.{ExplainsReply, ExplainsAnswer, IsExplained, LearntAgree, LearntInLog, LearntGrounded}
 use Rattle.world_model.specs.Outputs.{executed_of}
 use Rattle.world_model.specs.Submissions.{IsGrounded}
-use Rattle.world_model.specs.Telling.{WasLearnt, WereLearnt, TellsReply, TellsAnswer, Tells}
+use Rattle.world_model.specs.Telling.{WasLearnt, WereLearnt, TellsReply, TellsAnswer, WorldIsBacked}
 use Rattle.world_model.specs.Worlds.{WorldState}
 use Rattle.world_model.proofs.Longer.{AgreeBelow, replies_over}
 
@@ -96,10 +96,10 @@ reply_of l log p begins r =
 
 -- ---- what was learnt at a slot
 -- some command, or none
-abbrev Looked : List Learnt → ℕ → Type 0
-Looked learnt slot = ((c : Command) × WasLearnt learnt slot c) ⊎ ((t : Learnt) → Contains learnt t → t.slot ≡ slot → ⊥)
+abbrev Looked : List LearntEntry → ℕ → Type 0
+Looked learnt slot = ((c : Command) × WasLearnt learnt slot c) ⊎ ((t : LearntEntry) → Contains learnt t → t.slot ≡ slot → ⊥)
 
-look_on : (t : Learnt) (learnt : List Learnt) (slot : ℕ) → (t.slot ≡ slot → ⊥) → Looked learnt slot → Looked (t ∷ learnt) slot
+look_on : (t : LearntEntry) (learnt : List LearntEntry) (slot : ℕ) → (t.slot ≡ slot → ⊥) → Looked learnt slot → Looked (t ∷ learnt) slot
 look_on t learnt slot other (inl (c, was)) = inl (
   c,
   record {
@@ -112,12 +112,12 @@ look_on t learnt slot other (inl (c, was)) = inl (
 look_on t learnt slot other (inr none) = inr (λ u there at. elim (Contains-append_cases (t ∷ []) learnt u there) [
   | inl first ↦ elim (Contains-push_cases [] t u first) [
     | inl nothing ↦ none_in u nothing
-    | inr same ↦ other (ap (λ (x : Learnt). x.slot) same ∙ at)
+    | inr same ↦ other (ap (λ (x : LearntEntry). x.slot) same ∙ at)
   ]
   | inr later ↦ none u later at
 ])
 
-look : (learnt : List Learnt) (slot : ℕ) → Looked learnt slot
+look : (learnt : List LearntEntry) (slot : ℕ) → Looked learnt slot
 look [] slot = inr (λ t there at. none_in t there)
 look (t ∷ learnt) slot = elim (cases_eq t.slot slot) [
   | inl at ↦ inl (
@@ -133,14 +133,14 @@ look (t ∷ learnt) slot = elim (cases_eq t.slot slot) [
 ]
 
 -- and a no-op where there is none
-abbrev command_of : {learnt : List Learnt} {slot : ℕ} → Looked learnt slot → Command
+abbrev command_of : {learnt : List LearntEntry} {slot : ℕ} → Looked learnt slot → Command
 command_of (inl some) = some.0
 command_of (inr none) = NoOp
 
 -- ---- the list
-module _ (submitted : List Submission) (learnt : List Learnt) (agree : LearntAgree learnt)
+module _ (submitted : List Submission) (learnt : List LearntEntry) (agree : LearntAgree learnt)
     (grounded : LearntGrounded submitted learnt) where
-  looked_agrees : (t : Learnt) → Contains learnt t → (k : Looked learnt t.slot) → command_of k ≡ t.command
+  looked_agrees : (t : LearntEntry) → Contains learnt t → (k : Looked learnt t.slot) → command_of k ≡ t.command
   looked_agrees t there (inl (c, was)) = sym was.holds ∙ agree was.entry t was.there there was.at
   looked_agrees t there (inr none) = absurd (none t there refl)
 
@@ -151,11 +151,11 @@ module _ (submitted : List Submission) (learnt : List Learnt) (agree : LearntAgr
   command_at : ℕ → Command
   command_at slot = command_of (look learnt slot)
 
-  module _ (n : ℕ) (in_log : (t : Learnt) → Contains learnt t → t.slot < n) where
+  module _ (n : ℕ) (in_log : (t : LearntEntry) → Contains learnt t → t.slot < n) where
     whole : List Command
     whole = table command_at n
 
-    learnt_there : (t : Learnt) → Contains learnt t → slice_get whole t.slot ≡ Some t.command
+    learnt_there : (t : LearntEntry) → Contains learnt t → slice_get whole t.slot ≡ Some t.command
     unfolding whole command_at
     learnt_there t there =
         table_has command_at n t.slot (in_log t there)
@@ -182,7 +182,7 @@ module _ (submitted : List Submission) (learnt : List Learnt) (agree : LearntAgr
     answer_there a t = answer_of whole t.log a (begins_so t.log t.known) t.position t.answers
 
 -- what is told is explained
-pub explained : {S : Type 0} (contents : Script S → Records) (w : WorldState S) → Tells contents w → LearntAgree w.learnt → LearntInLog w.learnt
+pub explained : {S : Type 0} (contents : Script S → Records) (w : WorldState S) → WorldIsBacked contents w → LearntAgree w.learnt → LearntInLog w.learnt
     → LearntGrounded w.submitted w.learnt → IsExplained w.submitted w.learnt w.replies w.answers
 explained contents w tells agree in_log grounded = record {
   log = whole w.submitted w.learnt agree grounded SLOTS in_log;

@@ -17,13 +17,13 @@ use Rattle.events.specs.declared.fault.WorldFault.{WorldFault}
 use Rattle.events.specs.declared.fault.WorldFault.TheVariants as world_fault
 use Rattle.node_model.specs.declared.input.Input.{Input}
 use Rattle.node_model.specs.declared.input.Input.TheVariants as input
-use Rattle.world_model.specs.declared.lists.Outcome.{Outcome}
+use Rattle.world_model.specs.declared.lists.StepOutcome.{StepOutcome}
 use Rattle.sessions.specs.Asked.{Asked}
 use Rattle.node_model.specs.Faults.{is_stop_fault}
 use Rattle.world_model.specs.Fired.{AreHonestInside, IsCounted, AreCounted, HasFewFaults}
 use Rattle.world_model.specs.Flushing.{IsStart, Delivers, DeliversSome}
 use Rattle.node_model.specs.Loading.{Restarts}
-use Rattle.node_model.specs.Minds.{Mind}
+use Rattle.node_model.specs.Replicas.{ReplicaState}
 use Rattle.node_model.specs.Nodes.{NodeState, NodeSteps, TakesInput, RefusesInput, StopsOnInput, StorageStops}
 use Rattle.node_model.specs.Outputs.{Response}
 use Rattle.world_model.specs.Reaching.{AreHonest}
@@ -32,7 +32,7 @@ use Rattle.world_model.specs.Worlds.{WorldState, TakesAt, Steps, recorded, with_
 use Rattle.world_model.specs.Worlds.{with_submission, answered, without_wait}
 use Rattle.world_model.specs.Rounds.{RoundEnds, IsPartOfRound}
 use Rattle.world_model.specs.declared.round_end.RoundEnd.{RoundEnd}
-use Rattle.world_model.proofs.FleetSteps.{set_at}
+use Rattle.world_model.proofs.MembershipSteps.{set_at}
 use Rattle.world_model.proofs.Preserved.{HoldsOf, step_holds, recorded_nodes}
 use Rattle.world_model.proofs.RoundLemmas.{call_keeps}
 
@@ -125,7 +125,7 @@ module _ {S : Type 0} where
   abbrev outcome_count : WorldState S → ℕ
   outcome_count w = length w.outcomes
 
-  one_outcome : (outcomes : List Outcome) (o : Outcome) (w : WorldState S) → w.outcomes ≡ outcomes ++ o ∷ []
+  one_outcome : (outcomes : List StepOutcome) (o : StepOutcome) (w : WorldState S) → w.outcomes ≡ outcomes ++ o ∷ []
       → outcome_count w ≡ length outcomes + 1
   one_outcome outcomes o w e = ap length e ∙ length-append outcomes (o ∷ [])
 
@@ -144,7 +144,7 @@ module _ {S : Type 0} where
   answered_same w node query (Err f) = (refl, length-append w.outcomes (_ ∷ []))
 
   -- an outcome more is told
-  pub told_few : (w : WorldState S) (o : Outcome) → HasFewFaults w → HasFewFaults (with_outcome w o)
+  pub told_few : (w : WorldState S) (o : StepOutcome) → HasFewFaults w → HasFewFaults (with_outcome w o)
   told_few w o few = kept w (with_outcome w o) (changed_none w (with_outcome w o) refl (length-append w.outcomes (o ∷ []))) few
 
 abbrev failed_with : NodeFault → Result (Unit {0}) NodeFault
@@ -163,7 +163,7 @@ module _ {S : Type 0} {storages : Ghosts (Script S)} (calls : CountsCalls storag
   same_node : (old new : NodeState (Script S)) → new ≡ old → CountsOn old.storage new.storage
   same_node old new e = inl (ap (λ (n : NodeState (Script S)). n.storage.fired) e)
 
-  stopped : (old new : NodeState (Script S)) (m : Mind) (i : Input) (f : NodeFault) → StorageStops storages old.storage m i f new.storage
+  stopped : (old new : NodeState (Script S)) (m : ReplicaState) (i : Input) (f : NodeFault) → StorageStops storages old.storage m i f new.storage
       → CountsOn old.storage new.storage
   stopped old new m i fault.Device h = failed old.storage new.storage h.write h.leaves
   stopped old new m i fault.Memory (inl h) = calls.reading old.storage new.storage h
@@ -176,32 +176,32 @@ module _ {S : Type 0} {storages : Ghosts (Script S)} (calls : CountsCalls storag
   stopped old new m i fault.NothingNew h = absurd h
   stopped old new m i fault.Damaged h = absurd h
 
-  refused : (old new : NodeState (Script S)) (m : Mind) (i : Input) (f : NodeFault) (b : Bool)
+  refused : (old new : NodeState (Script S)) (m : ReplicaState) (i : Input) (f : NodeFault) (b : Bool)
       → MatchBool b (StopsOnInput storages old m i f new) (RefusesInput old m i f new) → CountsOn old.storage new.storage
   refused old new m i f true h = stopped old new m i f h.storage
   refused old new m i f false h = same_node old new h.leaves
 
-  by_result : (old new : NodeState (Script S)) (m : Mind) (i : Input) (r : Result Response NodeFault)
+  by_result : (old new : NodeState (Script S)) (m : ReplicaState) (i : Input) (r : Result Response NodeFault)
       → IfOk r (λ said. TakesInput storages old m i said new)
       → IfErr r (λ f. MatchBool (is_stop_fault f) (StopsOnInput storages old m i f new) (RefusesInput old m i f new))
       → CountsOn old.storage new.storage
   by_result old new m i (Ok said) taken h = written old.storage new.storage taken.made.write taken.made.leaves
   by_result old new m i (Err f) taken h = refused old new m i f (is_stop_fault f) h
 
-  by_mind : (old new : NodeState (Script S)) (i : Input) (r : Result Response NodeFault) (o : Option Mind) → old.up ≡ o
+  by_replica : (old new : NodeState (Script S)) (i : Input) (r : Result Response NodeFault) (o : Option ReplicaState) → old.up ≡ o
       → NodeSteps storages old i r new → CountsOn old.storage new.storage
-  by_mind old new i r None up h = same_node old new (h.down up).1
-  by_mind old new i r (Some m) up h =
+  by_replica old new i r None up h = same_node old new (h.down up).1
+  by_replica old new i r (Some m) up h =
       by_result old new m i r
-      (subst (λ (o : Option Mind). IfSome o (λ n. IfOk r (λ said. TakesInput storages old n i said new))) up h.taken)
-      (subst (λ (o : Option Mind). IfSome o (λ n. IfErr r (λ f. MatchBool (is_stop_fault f)
+      (subst (λ (o : Option ReplicaState). IfSome o (λ n. IfOk r (λ said. TakesInput storages old n i said new))) up h.taken)
+      (subst (λ (o : Option ReplicaState). IfSome o (λ n. IfErr r (λ f. MatchBool (is_stop_fault f)
       (StopsOnInput storages old n i f new) (RefusesInput old n i f new)))) up h.refused)
 
   -- ---- the kinds of step
   takes_counts : (old : WorldState S) (node : ℕ) (i : Input) (taken : Bool) (new : WorldState S) → TakesAt storages old node i taken new
       → CountsStep old new
   takes_counts old node i taken new h =
-      changed_one old new node h.before h.after h.here (by_mind h.before h.after i h.result h.before.up refl h.steps)
+      changed_one old new node h.before h.after h.here (by_replica h.before h.after i h.result h.before.up refl h.steps)
       (ap (λ (w : WorldState S). w.nodes) h.leaves ∙ recorded_nodes (with_node old node h.after) node h.result)
       (ap outcome_count h.leaves ∙ recorded_more (with_node old node h.after) node h.result)
 

@@ -13,8 +13,8 @@ use Rattle.wire.specs.declared.frames.message.Message.{Message}
 use Rattle.wire.specs.declared.frames.message.Message.TheVariants.{Prepare, Accept}
 use Rattle.node_model.specs.declared.input.Input.{Input}
 use Rattle.node_model.specs.declared.input.Input.TheVariants as input
-use Rattle.node_model.specs.Inputs.{concerns}
-use Rattle.node_model.specs.Minds.{Mind, refuses}
+use Rattle.node_model.specs.Inputs.{is_for_this_run}
+use Rattle.node_model.specs.Replicas.{ReplicaState, refuses}
 use Rattle.node_model.specs.Outputs.{Response}
 use Rattle.node_model.specs.Protocol.{InputFits, HoldsRecords, accepting_on, accepting_if, accepting_after}
 use Rattle.node_model.specs.Taking.{Writes, Takes}
@@ -22,9 +22,9 @@ use Rattle.node_model.proofs.RecordsGoOn.{floor_if, written_holds, taken_holds}
 
 -- ---- the floor
 -- no input but a checkpoint changes it
-pub floor_left : (m : Mind) (i : Input) → (i ≡ input.Checkpoint) ⊎ ((accepting_after m i).floor ≡ m.accepting.floor)
+pub floor_left : (m : ReplicaState) (i : Input) → (i ≡ input.Checkpoint) ⊎ ((accepting_after m i).floor ≡ m.accepting.floor)
 floor_left m (input.Submit client number op) = inr refl
-floor_left m (input.Message e) = inr (floor_if m e (concerns m.id m.nodes e))
+floor_left m (input.Message e) = inr (floor_if m e (is_for_this_run m.id m.nodes e))
 floor_left m input.Timeout = inr refl
 floor_left m input.Tick = inr refl
 floor_left m input.Checkpoint = inl refl
@@ -47,26 +47,26 @@ promise_accepted a v =
       | taken is high from ↦ rw is high
     ]
 
-promise_on : (m : Mind) (message : Message) → rank_of m.accepting.promise ≤ rank_of (accepting_on m message).promise
+promise_on : (m : ReplicaState) (message : Message) → rank_of m.accepting.promise ≤ rank_of (accepting_on m message).promise
 promise_on m (Prepare ballot first) = promise_prepared m.accepting ballot first
 promise_on m (Accept v) = promise_accepted m.accepting v
 promise_on m other = le_refl _
 
-promise_if : (m : Mind) (e : Envelope) (b : Bool) → rank_of m.accepting.promise ≤ rank_of (accepting_if m e b).promise
+promise_if : (m : ReplicaState) (e : Envelope) (b : Bool) → rank_of m.accepting.promise ≤ rank_of (accepting_if m e b).promise
 promise_if m e false = le_refl _
 promise_if m e true = promise_on m e.message
 
 -- no input lowers it
-pub promise_after : (m : Mind) (i : Input) → rank_of m.accepting.promise ≤ rank_of (accepting_after m i).promise
+pub promise_after : (m : ReplicaState) (i : Input) → rank_of m.accepting.promise ≤ rank_of (accepting_after m i).promise
 promise_after m (input.Submit client number op) = le_refl _
-promise_after m (input.Message e) = promise_if m e (concerns m.id m.nodes e)
+promise_after m (input.Message e) = promise_if m e (is_for_this_run m.id m.nodes e)
 promise_after m input.Timeout = le_refl _
 promise_after m input.Tick = le_refl _
 promise_after m input.Checkpoint = le_refl _
 promise_after m input.Trim = le_refl _
 
 -- ---- where an input is taken, the records say both what is held then and what was to be held
-module _ (m : Mind) (i : Input) (new : Mind) (said : Response) (records : Records) (w : Write) (none : refuses m i ≡ None)
+module _ (m : ReplicaState) (i : Input) (new : ReplicaState) (said : Response) (records : Records) (w : Write) (none : refuses m i ≡ None)
     (takes : Takes m i new said) (writes : Writes m i w) (fits : InputFits i) (holds : HoldsRecords m records) where
   pub floor_then : new.accepting.floor ≡ (accepting_after m i).floor
   floor_then = one_floor (records_after records w) new.accepting (accepting_after m i)

@@ -6,7 +6,7 @@ use Rattle.wire.specs.declared.frames.envelope.Envelope.{Envelope}
 use Rattle.events.specs.declared.event.Event.{Event}
 use Rattle.events.specs.declared.fault.WorldFault.{WorldFault}
 use Rattle.events.specs.declared.fault.WorldFault.TheVariants as world_fault
-use Rattle.world_model.specs.declared.lists.Outcome.{Outcome}
+use Rattle.world_model.specs.declared.lists.StepOutcome.{StepOutcome}
 use Rattle.world_model.specs.declared.round_end.RoundEnd.{RoundEnd}
 use Rattle.world_model.specs.Rounds.{RoundEnds, IsPartOfRound}
 use Rattle.world_model.specs.Worlds.{WorldState, Steps, with_node, with_outcome, with_response, with_answer, without_wait}
@@ -49,7 +49,7 @@ module _ {S : Type 0} (storages : Ghosts (Script S)) (frames : List Envelope) wh
       → BeginWith frames new
   step_grows old e new h before = step_keeps (frames_kept storages frames) old e new h before
 
-  end_grows : (w : WorldState S) (o : Outcome) → BeginWith frames w → BeginWith frames (with_outcome w o)
+  end_grows : (w : WorldState S) (o : StepOutcome) → BeginWith frames w → BeginWith frames (with_outcome w o)
   end_grows w o h = same frames (with_outcome w o) w refl h
 
   -- a round, whatever comes of it

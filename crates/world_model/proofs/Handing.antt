@@ -10,8 +10,8 @@ use Rattle.stable.specs.Script.{Script}
 use Rattle.stable.specs.declared.stable.Stable.{Ghosts}
 use Rattle.wire.specs.declared.frames.envelope.Envelope.{Envelope}
 use Rattle.node_model.specs.Faults.{is_stop_fault}
-use Rattle.node_model.specs.Loading.{IsMindOf}
-use Rattle.node_model.specs.Minds.{Mind}
+use Rattle.node_model.specs.Loading.{IsReplicaOf}
+use Rattle.node_model.specs.Replicas.{ReplicaState}
 use Rattle.node_model.specs.Nodes.{NodeState, NodeSteps, TakesInput, StopsOnInput, RefusesInput}
 use Rattle.node_model.specs.Outputs.{Response}
 use Rattle.node_model.specs.Taking.{Takes}
@@ -19,7 +19,7 @@ use Rattle.node_model.specs.declared.fault.NodeFault.{NodeFault}
 use Rattle.node_model.specs.declared.input.Input.{Input}
 use Rattle.node_model.specs.declared.input.Input.TheVariants as input
 use Rattle.node_model.proofs.Members.{takes_own}
-use Rattle.world_model.specs.Progress.{mind_in, mind_at}
+use Rattle.world_model.specs.Progress.{replica_in, replica_at}
 use Rattle.world_model.specs.Rounds.{is_up, is_up_node, DeliversTo, nothing, elsewhere, there}
 use Rattle.world_model.specs.Worlds.{WorldState, TakesAt, ReceivesAt, DeliversFrame, with_node, with_response, without_wait, recorded}
 
@@ -77,13 +77,13 @@ same_or_not (suc m) (suc n) = elim (same_or_not m n) [
 
 -- ---- a node takes an input
 pub record TookAt {S : Type 0} (old : WorldState S) (node : ℕ) (i : Input) (new : WorldState S) : Type 0 where
-  pub mind : Mind
-  pub here : mind_at old node ≡ Some mind
-  pub mind_then : Mind
-  pub here_then : mind_at new node ≡ Some mind_then
+  pub replica : ReplicaState
+  pub here : replica_at old node ≡ Some replica
+  pub replica_then : ReplicaState
+  pub here_then : replica_at new node ≡ Some replica_then
   pub said : Response
-  pub takes : Takes mind i mind_then said
-  pub others : (j : ℕ) → j ≢ node → mind_at new j ≡ mind_at old j
+  pub takes : Takes replica i replica_then said
+  pub others : (j : ℕ) → j ≢ node → replica_at new j ≡ replica_at old j
   pub frames_ : new.frames ≡ old.frames ++ said.sends
 
 -- an envelope comes to its receiver
@@ -91,41 +91,41 @@ abbrev pub Took : {S : Type 0} → WorldState S → Envelope → WorldState S �
 Took old e new = TookAt old e.to (input.Message e) new
 
 module _ {S : Type 0} (storages : Ghosts (Script S)) (old : WorldState S) (node : ℕ) (i : Input) where
-  took_so : (before after : NodeState (Script S)) (m : Mind) (said : Response) (new : WorldState S) → slice_get old.nodes node ≡ Some before
+  took_so : (before after : NodeState (Script S)) (m : ReplicaState) (said : Response) (new : WorldState S) → slice_get old.nodes node ≡ Some before
       → before.up ≡ Some m → TakesInput storages before m i said after → new ≡ with_response (with_node old node after) node said
       → TookAt old node i new
   took_so before after m said new here up h leaves =
-      let up_then : after.up ≡ Some h.mind = ap (λ (n : NodeState (Script S)). n.up) h.leaves in
+      let up_then : after.up ≡ Some h.replica = ap (λ (n : NodeState (Script S)). n.up) h.leaves in
       record {
-        mind = m;
-        here = ap (λ (o : Option (NodeState (Script S))). mind_in o) here ∙ up;
-        mind_then = h.mind;
-        here_then = ap (λ (w : WorldState S). mind_at w node) leaves
-            ∙ (ap (λ (o : Option (NodeState (Script S))). mind_in o) (set_here old.nodes node before after here) ∙ up_then);
+        replica = m;
+        here = ap (λ (o : Option (NodeState (Script S))). replica_in o) here ∙ up;
+        replica_then = h.replica;
+        here_then = ap (λ (w : WorldState S). replica_at w node) leaves
+            ∙ (ap (λ (o : Option (NodeState (Script S))). replica_in o) (set_here old.nodes node before after here) ∙ up_then);
         said = said;
         takes = h.takes;
-        others = λ j other. ap (λ (w : WorldState S). mind_at w j) leaves
-            ∙ ap (λ (o : Option (NodeState (Script S))). mind_in o) (set_other old.nodes node j after other);
+        others = λ j other. ap (λ (w : WorldState S). replica_at w j) leaves
+            ∙ ap (λ (o : Option (NodeState (Script S))). replica_in o) (set_other old.nodes node j after other);
         frames_ = ap (λ (w : WorldState S). w.frames) leaves;
       }
 
   -- what a node that is up, and that takes the input, makes of it
-  pub took_of : (before after : NodeState (Script S)) (m : Mind) (said : Response) (new : WorldState S)
+  pub took_of : (before after : NodeState (Script S)) (m : ReplicaState) (said : Response) (new : WorldState S)
       → slice_get old.nodes node ≡ Some before
       → before.up ≡ Some m → NodeSteps storages before i (Ok said) after → new ≡ with_response (with_node old node after) node said
       → TookAt old node i new
   took_of before after m said new here up steps leaves =
       took_so before after m said new here up
-      (subst (λ (o : Option Mind). IfSome o (λ k. TakesInput storages before k i said after)) up steps.taken) leaves
+      (subst (λ (o : Option ReplicaState). IfSome o (λ k. TakesInput storages before k i said after)) up steps.taken) leaves
 
 -- ---- an envelope comes
 module _ {S : Type 0} (storages : Ghosts (Script S)) where
   -- who refuses or goes down on an envelope isn't up behind it
-  not_failed : (before after : NodeState (Script S)) (m : Mind) (e : Envelope) (f : NodeFault) (b : Bool) → is_some after.up ≡ true
+  not_failed : (before after : NodeState (Script S)) (m : ReplicaState) (e : Envelope) (f : NodeFault) (b : Bool) → is_some after.up ≡ true
       → MatchBool b (StopsOnInput storages before m (input.Message e) f after) (RefusesInput before m (input.Message e) f after) → ⊥
   not_failed before after m e f true up h =
       let down : after.up ≡ None = ap (λ (n : NodeState (Script S)). n.up) h.leaves in
-      let not : is_some after.up ≡ false = ap (λ (o : Option Mind). is_some o) down in
+      let not : is_some after.up ≡ false = ap (λ (o : Option ReplicaState). is_some o) down in
       absurd (cc)
   not_failed before after m e f false up h = let never : None ≡ Some f = h.refused in absurd (cc)
 
@@ -135,7 +135,7 @@ module _ {S : Type 0} (storages : Ghosts (Script S)) where
       sym (ap (λ (o : Option (NodeState (Script S))). is_up_node o) (ap (λ (ns : List (NodeState (Script S))). slice_get ns node) leaves
       ∙ set_here old.nodes node before after here)) ∙ up
 
-  took_result : (old : WorldState S) (e : Envelope) (before after : NodeState (Script S)) (m : Mind) (r : Result Response NodeFault)
+  took_result : (old : WorldState S) (e : Envelope) (before after : NodeState (Script S)) (m : ReplicaState) (r : Result Response NodeFault)
       (new : WorldState S) → slice_get old.nodes e.to ≡ Some before → before.up ≡ Some m
       → NodeSteps storages before (input.Message e) r after → new ≡ recorded (with_node old e.to after) e.to r → is_up new e.to ≡ true
       → Took old e new
@@ -143,10 +143,10 @@ module _ {S : Type 0} (storages : Ghosts (Script S)) where
       took_of storages old e.to (input.Message e) before after m said new here up steps leaves
   took_result old e before after m (Err f) new here up steps leaves stays = absurd (not_failed before after m e f (is_stop_fault f)
       (up_there old new e.to before after here (ap (λ (w : WorldState S). w.nodes) leaves) stays)
-      (subst (λ (o : Option Mind). IfSome o (λ k. MatchBool (is_stop_fault f) (StopsOnInput storages before k (input.Message e) f after)
+      (subst (λ (o : Option ReplicaState). IfSome o (λ k. MatchBool (is_stop_fault f) (StopsOnInput storages before k (input.Message e) f after)
       (RefusesInput before k (input.Message e) f after))) up steps.refused))
 
-  took_at : (old : WorldState S) (e : Envelope) (receiver : NodeState (Script S)) (m : Mind) (b : Bool) (new : WorldState S)
+  took_at : (old : WorldState S) (e : Envelope) (receiver : NodeState (Script S)) (m : ReplicaState) (b : Bool) (new : WorldState S)
       → slice_get old.nodes e.to ≡ Some receiver → receiver.up ≡ Some m → TakesAt storages old e.to (input.Message e) b new
       → is_up new e.to ≡ true → Took old e new
   took_at old e receiver m b new here up h stays =
@@ -154,22 +154,22 @@ module _ {S : Type 0} (storages : Ghosts (Script S)) where
       took_result old e h.before h.after m h.result new h.here (sym (ap (λ (n : NodeState (Script S)). n.up) same)
       ∙ up) h.steps h.leaves stays
 
-  took_up : (old : WorldState S) (e : Envelope) (new : WorldState S) (o : Option Mind) (h : ReceivesAt storages old e new)
+  took_up : (old : WorldState S) (e : Envelope) (new : WorldState S) (o : Option ReplicaState) (h : ReceivesAt storages old e new)
       → h.receiver.up ≡ o → is_up new e.to ≡ true → Took old e new
   took_up old e new None h up stays =
       let same : slice_get new.nodes e.to ≡ Some h.receiver = ap (λ (w : WorldState S). slice_get w.nodes e.to) (h.lost up) ∙ h.here in
       let down : is_up new e.to ≡ false =
-      ap (λ (o : Option (NodeState (Script S))). is_up_node o) same ∙ ap (λ (o : Option Mind). is_some o) up in
+      ap (λ (o : Option (NodeState (Script S))). is_up_node o) same ∙ ap (λ (o : Option ReplicaState). is_some o) up in
       absurd (cc)
   took_up old e new (Some m) h up stays =
-      let takes = h.taken (subst (λ (o : Option Mind). IsSome o) (sym up) refl) in
+      let takes = h.taken (subst (λ (o : Option ReplicaState). IsSome o) (sym up) refl) in
       took_at old e h.receiver m takes.0 new h.here up takes.1 stays
 
   took_quiet : (old : WorldState S) (k : ℕ) (e : Envelope) (new : WorldState S) → Took (without_wait old k) e new → Took old e new
   took_quiet old k e new h = record {
-    mind = h.mind;
+    replica = h.replica;
     here = h.here;
-    mind_then = h.mind_then;
+    replica_then = h.replica_then;
     here_then = h.here_then;
     said = h.said;
     takes = h.takes;
@@ -275,36 +275,36 @@ module _ {S : Type 0} (storages : Ghosts (Script S)) (receivers : List ℕ) (old
 -- ---- who is up stays up
 module _ {S : Type 0} where
   pub stays_up : (old : WorldState S) (node : ℕ) (i : Input) (new : WorldState S) → TookAt old node i new
-      → (j : ℕ) → IsSome (mind_at old j) → IsSome (mind_at new j)
+      → (j : ℕ) → IsSome (replica_at old j) → IsSome (replica_at new j)
   stays_up old node i new h j up = elim (same_or_not j node) [
-    | inl same ↦ subst (λ (k : ℕ). IsSome (mind_at new k)) (sym same) (subst (λ (o : Option Mind). IsSome o) (sym h.here_then) refl)
-    | inr other ↦ subst (λ (o : Option Mind). IsSome o) (sym (h.others j other)) up
+    | inl same ↦ subst (λ (k : ℕ). IsSome (replica_at new k)) (sym same) (subst (λ (o : Option ReplicaState). IsSome o) (sym h.here_then) refl)
+    | inr other ↦ subst (λ (o : Option ReplicaState). IsSome o) (sym (h.others j other)) up
   ]
 
   pub hands_up : (receivers : List ℕ) (es : List Envelope) (old new : WorldState S) → HandsOn receivers es old new
-      → (j : ℕ) → IsSome (mind_at old j) → IsSome (mind_at new j)
+      → (j : ℕ) → IsSome (replica_at old j) → IsSome (replica_at new j)
   hands_up receivers _ old new (ends w) j up = up
   hands_up receivers _ old new (skips e es w new_ not h) j up = hands_up receivers es old new h j up
   hands_up receivers _ old new (takes e es w mid new_ among took h) j up =
       hands_up receivers es mid new h j (stays_up old e.to (input.Message e) mid took j up)
 
 -- ---- who is one of the run stays so
-pub same_mind : (m n : Mind) → Some m ≡ Some n → m ≡ n
-same_mind m n e = let same : m ≡ n = cc in same
+pub same_replica : (m n : ReplicaState) → Some m ≡ Some n → m ≡ n
+same_replica m n e = let same : m ≡ n = cc in same
 
 module _ {S : Type 0} (nodes : ℕ) where
   -- whoever is up is the node of that number, of so many
   abbrev pub AreMembers : WorldState S → Type 0
-  AreMembers w = (j : ℕ) (m : Mind) → mind_at w j ≡ Some m → IsMindOf j nodes m
+  AreMembers w = (j : ℕ) (m : ReplicaState) → replica_at w j ≡ Some m → IsReplicaOf j nodes m
 
   pub stay_members : (old : WorldState S) (node : ℕ) (i : Input) (new : WorldState S) → TookAt old node i new → AreMembers old
       → AreMembers new
   stay_members old node i new took known j m here = elim (same_or_not j node) [
     | inl same ↦
-        let is : took.mind_then ≡ m =
-        same_mind took.mind_then m (sym took.here_then ∙ (ap (λ (k : ℕ). mind_at new k) (sym same) ∙ here)) in
-        subst (λ (k : ℕ). IsMindOf k nodes m) (sym same) (subst (λ (x : Mind). IsMindOf node nodes x) is
-        (takes_own node nodes took.mind (known node took.mind took.here) i took.mind_then took.said took.takes))
+        let is : took.replica_then ≡ m =
+        same_replica took.replica_then m (sym took.here_then ∙ (ap (λ (k : ℕ). replica_at new k) (sym same) ∙ here)) in
+        subst (λ (k : ℕ). IsReplicaOf k nodes m) (sym same) (subst (λ (x : ReplicaState). IsReplicaOf node nodes x) is
+        (takes_own node nodes took.replica (known node took.replica took.here) i took.replica_then took.said took.takes))
     | inr other ↦ known j m (sym (took.others j other) ∙ here)
   ]
 

@@ -15,9 +15,9 @@ use Rattle.learner.specs.Learning.HearsVote.{ignores, hears, learns}
 use Rattle.wire.specs.declared.frames.envelope.Envelope.{Envelope}
 use Rattle.wire.specs.declared.frames.message.Message.TheVariants.{Accepted}
 use Rattle.node_model.specs.declared.input.Input.TheVariants as input
-use Rattle.node_model.specs.Inputs.{role_of, concerns}
+use Rattle.node_model.specs.Inputs.{role_of, is_for_this_run}
 use Rattle.node_model.specs.Inputs.Role.{Learner, Fetcher}
-use Rattle.node_model.specs.Minds.{Mind}
+use Rattle.node_model.specs.Replicas.{ReplicaState}
 use Rattle.node_model.specs.Outputs.{Response}
 use Rattle.node_model.specs.Taking.{Takes, TakesEnvelope, TakesMessage}
 use Rattle.node_model.proofs.Hearings.{learns_nothing}
@@ -167,7 +167,7 @@ heard_all l slot ballot c members most pairs below h = elim h [
 
 -- ---- a node
 -- where the message tells of a vote, it has heard of the vote
-pub hears_of_vote : (old : Mind) (from : ℕ) (v : Vote Command) (new : Mind) (said : Response)
+pub hears_of_vote : (old : ReplicaState) (from : ℕ) (v : Vote Command) (new : ReplicaState) (said : Response)
     → TakesMessage old from (Accepted v) new said → (learned : Option Learned) × HearsVote old.learning from v learned new.learning
 hears_of_vote old from v new said (learned, l, heard, k) = (
   learned,
@@ -175,22 +175,22 @@ hears_of_vote old from v new said (learned, l, heard, k) = (
 )
 
 -- its learner is as it was, where the message is for another role, and brings no part of a text
-same_by_envelope : (old : Mind) (e : Envelope) (b : Bool) (new : Mind) (said : Response) → role_of e.message ≢ Learner
+same_by_envelope : (old : ReplicaState) (e : Envelope) (b : Bool) (new : ReplicaState) (said : Response) → role_of e.message ≢ Learner
     → role_of e.message ≢ Fetcher → TakesEnvelope old e b new said → new.learning ≡ old.learning
-same_by_envelope old e false new said other apart h = ap (λ (m : Mind). m.learning) h.0
+same_by_envelope old e false new said other apart h = ap (λ (m : ReplicaState). m.learning) h.0
 same_by_envelope old e true new said other apart h = (learns_nothing old new said e.from e.message other apart h).learner
 
-pub same_learner : (old : Mind) (e : Envelope) (new : Mind) (said : Response) → role_of e.message ≢ Learner
+pub same_learner : (old : ReplicaState) (e : Envelope) (new : ReplicaState) (said : Response) → role_of e.message ≢ Learner
     → role_of e.message ≢ Fetcher → Takes old (input.Message e) new said → new.learning ≡ old.learning
-same_learner old e new said other apart h = same_by_envelope old e (concerns old.id old.nodes e) new said other apart h
+same_learner old e new said other apart h = same_by_envelope old e (is_for_this_run old.id old.nodes e) new said other apart h
 
 -- ---- whatever message comes
 -- what is learnt stays learnt
-pub stays_learnt : (m : Mind) (e : Envelope) (new : Mind) (said : Response) (slot : ℕ) (c : Command) → Takes m (input.Message e) new said
+pub stays_learnt : (m : ReplicaState) (e : Envelope) (new : ReplicaState) (said : Response) (slot : ℕ) (c : Command) → Takes m (input.Message e) new said
     → m.learning.learnt slot ≡ Some c → new.learning.learnt slot ≡ Some c
 stays_learnt m e new said slot c takes = still_learnt m.learning new.learning slot c (takes_keeps m new said (input.Message e) takes)
 
 -- it has as many nodes
-pub same_number : (m : Mind) (e : Envelope) (new : Mind) (said : Response) → Takes m (input.Message e) new said
+pub same_number : (m : ReplicaState) (e : Envelope) (new : ReplicaState) (said : Response) → Takes m (input.Message e) new said
     → new.learning.nodes ≡ m.learning.nodes
 same_number m e new said takes = (takes_keeps m new said (input.Message e) takes).nodes_

@@ -25,14 +25,14 @@ use Rattle.node_model.specs.declared.input.Input.{Input}
 use Rattle.node_model.specs.declared.input.Input.TheVariants as input
 use Rattle.node_model.specs.Fetching.{Fetching, nothing_of, still_fetched, is_as_long, is_held, is_wanted, wants, places, with_part}
 use Rattle.node_model.specs.Fetching.{first_missing, missing, text_with}
-use Rattle.node_model.specs.Inputs.{concerns}
-use Rattle.node_model.specs.Minds.{Mind, position}
+use Rattle.node_model.specs.Inputs.{is_for_this_run}
+use Rattle.node_model.specs.Replicas.{ReplicaState, position}
 use Rattle.node_model.specs.Nodes.{fetched_text}
 use Rattle.node_model.specs.Outputs.{Response}
 use Rattle.node_model.specs.Taking.{Takes, TakesEnvelope, TakesMessage, Hears, HearsOfFloor, TakesPart, RestoresText, Counts, is_ahead}
 use Rattle.node_model.specs.Taking.TakesPart.{passes, keeps, completes}
 use Rattle.node_model.specs.Taking.RestoresText.{restores, gives_up}
-use Rattle.world_model.specs.declared.lists.Learnt.{Learnt}
+use Rattle.world_model.specs.declared.lists.LearntEntry.{LearntEntry}
 use Rattle.world_model.specs.Explaining.{LearntAgree}
 use Rattle.world_model.specs.Telling.{WasLearnt, WereLearnt, TellsText, TellsPiece, HoldsToldParts}
 
@@ -60,7 +60,7 @@ same_commands (x ∷ xs) (y ∷ ys) e h =
     ∙ ap (λ (zs : List Command). y ∷ zs) (same_commands xs ys (omega (arith, e)) (λ i c d p q. h (suc i) c d p q))
 
 -- ---- what was told stays so
-pub was_still : (learnt more : List Learnt) (slot : ℕ) (c : Command) → WasLearnt learnt slot c → WasLearnt (learnt ++ more) slot c
+pub was_still : (learnt more : List LearntEntry) (slot : ℕ) (c : Command) → WasLearnt learnt slot c → WasLearnt (learnt ++ more) slot c
 was_still learnt more slot c was = record {
   entry = was.entry;
   there = Contains-append_left learnt more was.entry was.there;
@@ -68,7 +68,7 @@ was_still learnt more slot c was = record {
   holds = was.holds;
 }
 
-pub text_still : (learnt more : List Learnt) (position : ℕ) (text : List ℕ) → TellsText learnt position text
+pub text_still : (learnt more : List LearntEntry) (position : ℕ) (text : List ℕ) → TellsText learnt position text
     → TellsText (learnt ++ more) position text
 text_still learnt more position text t = record {
   log = t.log;
@@ -77,10 +77,10 @@ text_still learnt more position text t = record {
   is = t.is;
 }
 
-pub piece_still : (learnt more : List Learnt) (p : Piece) → TellsPiece learnt p → TellsPiece (learnt ++ more) p
+pub piece_still : (learnt more : List LearntEntry) (p : Piece) → TellsPiece learnt p → TellsPiece (learnt ++ more) p
 piece_still learnt more p t = record { text = t.text; told = text_still learnt more p.position t.text t.told; is = t.is }
 
-held_still : (learnt more : List Learnt) (f : Fetching) → HoldsToldParts learnt f → HoldsToldParts (learnt ++ more) f
+held_still : (learnt more : List LearntEntry) (f : Fetching) → HoldsToldParts learnt f → HoldsToldParts (learnt ++ more) f
 held_still learnt more f h = record {
   places = h.places;
   of_checkpoint = h.of_checkpoint;
@@ -89,24 +89,24 @@ held_still learnt more f h = record {
   told = λ number p there. piece_still learnt more p (h.told number p there);
 }
 
-pub fetches_still : (learnt more : List Learnt) (o : Option Fetching) → IfSome o (HoldsToldParts learnt)
+pub fetches_still : (learnt more : List LearntEntry) (o : Option Fetching) → IfSome o (HoldsToldParts learnt)
     → IfSome o (HoldsToldParts (learnt ++ more))
 fetches_still learnt more None h = tt
 fetches_still learnt more (Some f) h = held_still learnt more f h
 
 -- ---- what an input makes of what a node fetches
 -- a part that comes by the input is of its form, and one of a text of what was learnt
-abbrev pub PartsCome : List Learnt → Input → Type 0
+abbrev pub PartsCome : List LearntEntry → Input → Type 0
 PartsCome learnt i = (e : Envelope) (p : Piece) → i ≡ input.Message e → e.message ≡ SnapPart p → IsPiece p × TellsPiece learnt p
 
 -- a part comes by this input, and counts
-pub record PartComes (old : Mind) (i : Input) (p : Piece) (f : Fetching) : Type 0 where
+pub record PartComes (old : ReplicaState) (i : Input) (p : Piece) (f : Fetching) : Type 0 where
   pub frame : Envelope
   pub is : i ≡ input.Message frame
   pub brings : frame.message ≡ SnapPart p
   pub counts : Counts old p f
 
-pub data Fetches (old : Mind) (i : Input) (new : Mind) (said : Response) : Type 0 where
+pub data Fetches (old : ReplicaState) (i : Input) (new : ReplicaState) (said : Response) : Type 0 where
   stays : new.fetching ≡ old.fetching → said.restored ≡ None → Fetches old i new said
   -- a slot was learnt
   reaches : (at : ℕ) → new.fetching ≡ still_fetched at old.fetching → said.restored ≡ None → Fetches old i new said
@@ -117,23 +117,23 @@ pub data Fetches (old : Mind) (i : Input) (new : Mind) (said : Response) : Type 
   makes : (p : Piece) (f : Fetching) → PartComes old i p f → missing f ≡ None → new.fetching ≡ None → said.restored ≡ Some f.target
       → Fetches old i new said
 
-module _ (old new : Mind) (said : Response) where
+module _ (old new : ReplicaState) (said : Response) where
   abbrev unrestored : (r : Response) → said ≡ r → r.restored ≡ None → said.restored ≡ None
   unrestored r e none = ap (λ (x : Response). x.restored) e ∙ none
 
-  same : (i : Input) (m : Mind) (r : Response) → new ≡ m → said ≡ r → m.fetching ≡ old.fetching → r.restored ≡ None
+  same : (i : Input) (m : ReplicaState) (r : Response) → new ≡ m → said ≡ r → m.fetching ≡ old.fetching → r.restored ≡ None
       → Fetches old i new said
-  same i m r leaves says still none = stays (ap (λ (x : Mind). x.fetching) leaves ∙ still) (unrestored r says none)
+  same i m r leaves says still none = stays (ap (λ (x : ReplicaState). x.fetching) leaves ∙ still) (unrestored r says none)
 
   hears_fetches : (i : Input) (c : Command) (o : Option Learned) (l : Learning) (asks : List Envelope)
       → Hears old c o l asks new said → Fetches old i new said
   hears_fetches i c None l asks k = same i _ _ k.0 k.1 refl refl
   hears_fetches i c (Some learned) l asks k =
-      reaches (prefix l) (ap (λ (x : Mind). x.fetching) k.leaves) (unrestored _ k.says refl)
+      reaches (prefix l) (ap (λ (x : ReplicaState). x.fetching) k.leaves) (unrestored _ k.says refl)
 
   floor_fetches : (i : Input) (floor : ℕ) (b : Bool) → HearsOfFloor old floor b new said → Fetches old i new said
   floor_fetches i floor false k = same i _ _ k.0 k.1 refl refl
-  floor_fetches i floor true k = aims floor (ap (λ (x : Mind). x.fetching) k.0) (unrestored _ k.1 refl)
+  floor_fetches i floor true k = aims floor (ap (λ (x : ReplicaState). x.fetching) k.0) (unrestored _ k.1 refl)
 
   module _ (e : Envelope) (p : Piece) (brings : e.message ≡ SnapPart p) where
     comes : (f : Fetching) → Counts old p f → PartComes old (input.Message e) p f
@@ -142,15 +142,15 @@ module _ (old new : Mind) (said : Response) where
     text_fetches : (f : Fetching) → Counts old p f → missing f ≡ None → (text : List ℕ)
         → RestoresText old e.from f.target text new said → Fetches old (input.Message e) new said
     text_fetches f counts none text (restores machine has k) =
-        makes p f (comes f counts) none (ap (λ (x : Mind). x.fetching) k.leaves ∙ ap (λ (x : Mind). x.fetching) k.begins)
+        makes p f (comes f counts) none (ap (λ (x : ReplicaState). x.fetching) k.leaves ∙ ap (λ (x : ReplicaState). x.fetching) k.begins)
         (ap (λ (r : Response). r.restored) k.says)
     text_fetches f counts none text (gives_up none_has leaves says) =
-        ends (ap (λ (x : Mind). x.fetching) leaves) (unrestored _ says refl)
+        ends (ap (λ (x : ReplicaState). x.fetching) leaves) (unrestored _ says refl)
 
     part_fetches : TakesPart old e.from p new said → Fetches old (input.Message e) new said
     part_fetches (passes unwanted leaves says) = same (input.Message e) _ _ leaves says refl refl
     part_fetches (keeps f counts number is leaves says) =
-        holds p f (comes f counts) (ap (λ (x : Mind). x.fetching) leaves) (unrestored _ says refl)
+        holds p f (comes f counts) (ap (λ (x : ReplicaState). x.fetching) leaves) (unrestored _ says refl)
     part_fetches (completes f counts none k) = text_fetches f counts none _ k
 
   message_fetches : (e : Envelope) (message : Message) → e.message ≡ message → TakesMessage old e.from message new said
@@ -172,7 +172,7 @@ module _ (old new : Mind) (said : Response) where
 
   pub fetches_of : (i : Input) → Takes old i new said → Fetches old i new said
   fetches_of (input.Submit client number op) k = same (input.Submit client number op) _ _ k.0 k.1 refl refl
-  fetches_of (input.Message e) k = envelope_fetches e (concerns old.id old.nodes e) k
+  fetches_of (input.Message e) k = envelope_fetches e (is_for_this_run old.id old.nodes e) k
   fetches_of input.Timeout k = same input.Timeout _ _ k.2 k.3 refl refl
   fetches_of input.Tick k = same input.Tick _ _ k.0 k.1 refl refl
   fetches_of input.Checkpoint k = same input.Checkpoint _ _ k.0 k.1 refl refl
@@ -226,12 +226,12 @@ some_parts total least =
     omega (arith, whole, short, least)
 
 -- what is fetched once a part is held that counts
-pub record Held (learnt : List Learnt) (f : Fetching) : Type 0 where
+pub record Held (learnt : List LearntEntry) (f : Fetching) : Type 0 where
   pub parts : HoldsToldParts learnt f
   pub all : length f.held ≡ parts_in f.total
   pub some : 0 < length f.held
 
-holds_more : (learnt : List Learnt) (f : Fetching) (p : Piece) → HoldsToldParts learnt f → IsPiece p → TellsPiece learnt p
+holds_more : (learnt : List LearntEntry) (f : Fetching) (p : Piece) → HoldsToldParts learnt f → IsPiece p → TellsPiece learnt p
     → is_wanted f p ≡ true → Held learnt (with_part f p)
 holds_more learnt f p h fits told wanted =
     let parts = and_parts (p.position == f.target) (is_as_long f p && not (is_held f p.number)) wanted in
@@ -282,7 +282,7 @@ each_held (Some q ∷ held) whole (suc k) low =
     ap length (take_while-cons is_some (Some q) held) in
     each_held held (omega (arith, whole, one)) k (omega (arith, low))
 
-module _ (learnt : List Learnt) (agree : LearntAgree learnt) where
+module _ (learnt : List LearntEntry) (agree : LearntAgree learnt) where
   one_log : (xs ys : List Command) → WereLearnt learnt xs → WereLearnt learnt ys → length xs ≡ length ys → xs ≡ ys
   one_log xs ys known_x known_y e = same_commands xs ys e (λ i c d at_x at_y.
       let a = known_x i c at_x in
@@ -322,13 +322,13 @@ wanted_of : (o : Option Fetching) (f : Fetching) (at : ℕ) (p : Piece) → o �
 wanted_of o f at p is wanted =
     (and_parts (nat_lt at f.target) (is_wanted f p) (subst (λ (x : Option Fetching). wants x at p ≡ true) is wanted)).1
 
-still_holds : (learnt : List Learnt) (at : ℕ) (o : Option Fetching) → IfSome o (HoldsToldParts learnt)
+still_holds : (learnt : List LearntEntry) (at : ℕ) (o : Option Fetching) → IfSome o (HoldsToldParts learnt)
     → IfSome (still_fetched at o) (HoldsToldParts learnt)
 still_holds learnt at None h = tt
 still_holds learnt at (Some f) h =
     cond_both (nat_lt at f.target) (Some f) None (λ (o : Option Fetching). IfSome o (HoldsToldParts learnt)) (λ _. h) (λ _. tt)
 
-holds_nothing : (learnt : List Learnt) (floor : ℕ) → HoldsToldParts learnt (nothing_of floor)
+holds_nothing : (learnt : List LearntEntry) (floor : ℕ) → HoldsToldParts learnt (nothing_of floor)
 holds_nothing learnt floor = record {
   places = inl refl;
   of_checkpoint = λ number p e. absurd (none-some (Some p) e);
@@ -337,7 +337,7 @@ holds_nothing learnt floor = record {
   told = λ number p e. absurd (none-some (Some p) e);
 }
 
-module _ (learnt : List Learnt) (old : Mind) (i : Input) (was : IfSome old.fetching (HoldsToldParts learnt))
+module _ (learnt : List LearntEntry) (old : ReplicaState) (i : Input) (was : IfSome old.fetching (HoldsToldParts learnt))
     (come : PartsCome learnt i) where
   with_it : (p : Piece) (f : Fetching) → PartComes old i p f → Held learnt f
   with_it p f comes =
@@ -352,7 +352,7 @@ module _ (learnt : List Learnt) (old : Mind) (i : Input) (was : IfSome old.fetch
   abbrev After : Option Fetching → Type 0
   After o = IfSome o (HoldsToldParts learnt)
 
-  pub still_told : (new : Mind) (said : Response) → Fetches old i new said → IfSome new.fetching (HoldsToldParts learnt)
+  pub still_told : (new : ReplicaState) (said : Response) → Fetches old i new said → IfSome new.fetching (HoldsToldParts learnt)
   still_told new said (stays kept none) = subst After (sym kept) was
   still_told new said (reaches at kept none) = subst After (sym kept) (still_holds learnt at old.fetching was)
   still_told new said (ends gone none) = subst After (sym gone) tt
@@ -368,7 +368,7 @@ module _ (learnt : List Learnt) (old : Mind) (i : Input) (was : IfSome old.fetch
       ∙ ap (λ (o : Option Fetching). text_with o (SnapPart p)) comes.counts.fetching_
       ∙ ap (λ (g : Fetching). joined g.held) (sym comes.counts.is)
 
-  pub restored_text : LearntAgree learnt → (new : Mind) (said : Response) → Fetches old i new said → (target : ℕ)
+  pub restored_text : LearntAgree learnt → (new : ReplicaState) (said : Response) → Fetches old i new said → (target : ℕ)
       → said.restored ≡ Some target → TellsText learnt target (fetched_text old i)
   restored_text agree new said (makes p f comes all gone some) target is =
       subst (λ (n : ℕ). TellsText learnt n (fetched_text old i)) (same_Some f.target target (sym some ∙ is))

@@ -9,23 +9,23 @@ use Rattle.synod.proofs.Thinking.{none_in}
 use Rattle.node_model.specs.declared.fault.NodeFault.{NodeFault}
 use Rattle.node_model.specs.declared.fault.NodeFault.TheVariants as fault
 use Rattle.node_model.specs.declared.input.Input.{Input}
-use Rattle.node_model.specs.declared.outputs.LogEntry.{LogEntry}
-use Rattle.node_model.specs.Minds.{Mind}
+use Rattle.node_model.specs.declared.outputs.LearntCommand.{LearntCommand}
+use Rattle.node_model.specs.Replicas.{ReplicaState}
 use Rattle.node_model.specs.Nodes.{NodeState, NodeSteps, TakesInput}
 use Rattle.node_model.specs.Outputs.{Response}
 use Rattle.node_model.specs.Protocol.{InputFits}
 use Rattle.node_model.proofs.LearntSlots.{taken_in_log}
 use Rattle.events.specs.declared.event.Event.{Event}
-use Rattle.world_model.specs.declared.lists.Learnt.{Learnt}
+use Rattle.world_model.specs.declared.lists.LearntEntry.{LearntEntry}
 use Rattle.world_model.specs.Explaining.{LearntInLog}
 use Rattle.world_model.specs.Worlds.{WorldState, Steps, learnt_by}
 use Rattle.world_model.proofs.Preserved.{Preserved, step_keeps}
 
 -- what a node says that it newly learnt is at a slot of the log
 abbrev SaysInLog : Response → Type 0
-SaysInLog said = (e : LogEntry) → said.learnt ≡ Some e → e.slot < SLOTS
+SaysInLog said = (e : LearntCommand) → said.learnt ≡ Some e → e.slot < SLOTS
 
-learnt_more : (learnt : List Learnt) (node : ℕ) (o : Option LogEntry) → ((e : LogEntry) → o ≡ Some e → e.slot < SLOTS) → LearntInLog learnt
+learnt_more : (learnt : List LearntEntry) (node : ℕ) (o : Option LearntCommand) → ((e : LearntCommand) → o ≡ Some e → e.slot < SLOTS) → LearntInLog learnt
     → LearntInLog (learnt ++ learnt_by node o)
 learnt_more learnt node None within log t c = elim (Contains-append_cases learnt [] t c) [
   | inl before ↦ log t before
@@ -34,25 +34,25 @@ learnt_more learnt node None within log t c = elim (Contains-append_cases learnt
 learnt_more learnt node (Some e) within log t c =
     elim (Contains-push_cases learnt (record { node = node; slot = e.slot; command = e.command }) t c) [
       | inl before ↦ log t before
-      | inr same ↦ subst (λ (x : Learnt). x.slot < SLOTS) same (within e refl)
+      | inr same ↦ subst (λ (x : LearntEntry). x.slot < SLOTS) same (within e refl)
     ]
 
 -- nothing is learnt yet
-pub start_in_log : (learnt : List Learnt) → learnt ≡ [] → LearntInLog learnt
-start_in_log learnt none t c = absurd (none_in t (subst (λ (l : List Learnt). Contains l t) none c))
+pub start_in_log : (learnt : List LearntEntry) → learnt ≡ [] → LearntInLog learnt
+start_in_log learnt none t c = absurd (none_in t (subst (λ (l : List LearntEntry). Contains l t) none c))
 
 module _ {S : Type 0} (storages : Ghosts (Script S)) where
   -- a node takes an input
-  node_in_log : (old new : NodeState (Script S)) (i : Input) (r : Result Response NodeFault) (said : Response) (o : Option Mind)
+  node_in_log : (old new : NodeState (Script S)) (i : Input) (r : Result Response NodeFault) (said : Response) (o : Option ReplicaState)
       → r ≡ Ok said → old.up ≡ o → NodeSteps storages old i r new → InputFits i → SaysInLog said
   node_in_log old new i r said None is up h fits =
       absurd (let e : ◌≡◌ {A = Result Response NodeFault} (Ok said) (Err fault.Down) = sym is ∙ (h.down up).0 in cc)
   node_in_log old new i r said (Some m) is up h fits =
       let takes : IfOk r (λ s. TakesInput storages old m i s new) =
-      subst (λ (o : Option Mind). IfSome o (λ n. IfOk r (λ s. TakesInput storages old n i s new))) up h.taken in
+      subst (λ (o : Option ReplicaState). IfSome o (λ n. IfOk r (λ s. TakesInput storages old n i s new))) up h.taken in
       let t : TakesInput storages old m i said new =
       subst (λ (q : Result Response NodeFault). IfOk q (λ s. TakesInput storages old m i s new)) is takes in
-      taken_in_log m t.mind said i fits t.takes
+      taken_in_log m t.replica said i fits t.takes
 
   -- only what a node says is learnt
   log_kept : Preserved storages (λ w. LearntInLog w.learnt)

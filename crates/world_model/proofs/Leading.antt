@@ -32,13 +32,13 @@ use Rattle.proposer.specs.declared.window.Proposal.{Proposal}
 use Rattle.proposer.specs.declared.window.TheConstants.{MOST_OPEN}
 use Rattle.proposer.specs.Campaigning as campaign
 use Rattle.proposer.specs.Proposing.{Proposing, StartsCampaign, next_round, promised, with_promised, is_led, gathers_on, fills, leads}
-use Rattle.node_model.specs.Minds.{Mind, position}
+use Rattle.node_model.specs.Replicas.{ReplicaState, position}
 use Rattle.node_model.specs.Outputs.{Response, sent}
 use Rattle.node_model.specs.Sending.{to_one, to_all, envelopes, envelopes_of}
 use Rattle.node_model.specs.Taking.{TakesTimeout, with_proposer, proposer_sends, proposed, begins_to_lead, after_counting, after_promise}
 
 -- the node gathers promises under the ballot for the slots from this one on, and these nodes' were counted
-pub record Gathers (ballot : Ballot) (slot : ℕ) (m : Mind) (set : List Bool) : Type 0 where
+pub record Gathers (ballot : Ballot) (slot : ℕ) (m : ReplicaState) (set : List Bool) : Type 0 where
   pub campaign : Campaigning
   pub here : m.proposing.campaign ≡ Some campaign
   pub ballot_ : campaign.ballot ≡ ballot
@@ -50,7 +50,7 @@ pub record Gathers (ballot : Ballot) (slot : ℕ) (m : Mind) (set : List Bool) :
   pub too_few : is_most m.proposing.nodes set ≡ false
 
 -- it leads
-pub record LeadsNow (m : Mind) : Type 0 where
+pub record LeadsNow (m : ReplicaState) : Type 0 where
   pub campaign : Campaigning
   pub here : m.proposing.campaign ≡ Some campaign
   pub leads : campaign.leading ≡ true
@@ -60,7 +60,7 @@ abbrev pub AsksForVote : Envelope → Type 0
 AsksForVote e = (v : Vote Command) × (e.message ≡ Accept v)
 
 -- it asks every node to vote for a command at the slot, and then perhaps for more
-pub record AsksAll (m : Mind) (ballot : Ballot) (slot : ℕ) (sends : List Envelope) : Type 0 where
+pub record AsksAll (m : ReplicaState) (ballot : Ballot) (slot : ℕ) (sends : List Envelope) : Type 0 where
   pub command : Command
   pub more : List Envelope
   pub are : sends ≡ to_all m.id m.nodes (Accept (record { slot = slot; ballot = ballot; command = command })) ++ more
@@ -257,7 +257,7 @@ accepts_ask from n (o ∷ os) h =
     (accepts_ask from n os (All-tail IsAccept o os h))
 
 -- what begins with an accept for the slot
-opening_asks : (m : Mind) (ballot : Ballot) (slot : ℕ) (os : List Outgoing) → Opens ballot slot os
+opening_asks : (m : ReplicaState) (ballot : Ballot) (slot : ℕ) (os : List Outgoing) → Opens ballot slot os
     → AsksAll m ballot slot (envelopes m.id m.nodes os)
 opening_asks m ballot slot os h = record {
   command = h.command;
@@ -268,12 +268,12 @@ opening_asks m ballot slot os h = record {
 
 -- ---- a promise that counts
 -- what a node comes to by one promise more
-abbrev GathersOrLeads : Ballot → ℕ → Mind → List Bool → Proposing × List Outgoing → Type 0
+abbrev GathersOrLeads : Ballot → ℕ → ReplicaState → List Bool → Proposing × List Outgoing → Type 0
 GathersOrLeads ballot slot m set r =
     (Gathers ballot slot (with_proposer m r) set × (proposer_sends m r ≡ []))
     ⊎ (LeadsNow (with_proposer m r) × AsksAll m ballot slot (proposer_sends m r))
 
-module _ (ballot : Ballot) (slot : ℕ) (m : Mind) (set : List Bool) (from : ℕ) (p : Promised) (g : Gathers ballot slot m set)
+module _ (ballot : Ballot) (slot : ℕ) (m : ReplicaState) (set : List Bool) (from : ℕ) (p : Promised) (g : Gathers ballot slot m set)
     (of_ballot : p.ballot ≡ ballot) (of_slot : p.first ≡ slot) (tells : slot ≤ p.last) (once : has_node set from ≡ false)
     (at : slot ≡ position m) (unlearnt : m.learning.learnt slot ≡ None) where
   abbrev joined : Campaigning
@@ -368,7 +368,7 @@ module _ (ballot : Ballot) (slot : ℕ) (m : Mind) (set : List Bool) (from : ℕ
       subst (λ (q : Proposing). GathersOrLeads ballot slot m set' (after_counting m.proposing q m.learning)) (sym comes_to) counted_now
 
 -- a promise that counts: the node gathers on and says nothing, or it leads and asks for votes
-pub counts_one : (ballot : Ballot) (slot : ℕ) (m : Mind) (set : List Bool) (from : ℕ) (p : Promised)
+pub counts_one : (ballot : Ballot) (slot : ℕ) (m : ReplicaState) (set : List Bool) (from : ℕ) (p : Promised)
     → Gathers ballot slot m set → p.ballot ≡ ballot → p.first ≡ slot → slot ≤ p.last → has_node set from ≡ false
     → slot ≡ position m → slot < SLOTS → m.learning.learnt slot ≡ None
     → (Gathers ballot slot (with_proposer m (after_promise m from p)) (with_node set from)
@@ -382,7 +382,7 @@ not_again : (x : Bool) → (not x && x) ≡ false
 not_again true = refl
 not_again false = refl
 
-pub counts_no_more : (m : Mind) (from : ℕ) (p : Promised) → LeadsNow m → after_promise m from p ≡ (m.proposing, [])
+pub counts_no_more : (m : ReplicaState) (from : ℕ) (p : Promised) → LeadsNow m → after_promise m from p ≡ (m.proposing, [])
 counts_no_more m from p h =
     let old : Proposing = m.proposing in
     let late : counts h.campaign from p ≡ false =
@@ -397,7 +397,7 @@ counts_no_more m from p h =
 
 -- ---- a campaign starts
 -- it gathers, with nobody's promise
-pub starts_gathering : (old : Proposing) (new : Mind) (slot : ℕ) (prepare' : Outgoing)
+pub starts_gathering : (old : Proposing) (new : ReplicaState) (slot : ℕ) (prepare' : Outgoing)
     → (s : StartsCampaign old slot new.proposing prepare') → slot < SLOTS → Gathers s.ballot slot new no_nodes
 starts_gathering old new slot prepare' s in_log =
     let k : Campaigning = campaign.begun s.ballot slot in
@@ -414,7 +414,7 @@ starts_gathering old new slot prepare' s in_log =
     }
 
 -- by a timeout, under this ballot
-pub timeout_gathers : (old new : Mind) (said : Response) (ballot : Ballot) → TakesTimeout old new said → position old < SLOTS
+pub timeout_gathers : (old new : ReplicaState) (said : Response) (ballot : Ballot) → TakesTimeout old new said → position old < SLOTS
     → ballot.round ≡ next_round old.proposing → ballot.node ≡ old.proposing.id → Gathers ballot (position old) new no_nodes
 timeout_gathers old new said ballot (prepare', s, leaves, says) in_log round own =
     let same : s.ballot ≡ ballot = one_ballot s.ballot ballot (s.round ∙ sym round) (s.own ∙ sym own) in
@@ -422,7 +422,7 @@ timeout_gathers old new said ballot (prepare', s, leaves, says) in_log round own
     subst (λ (b : Ballot). Gathers b (position old) new no_nodes) same gathers'
 
 -- every node is asked to promise then
-pub timeout_asks : (old new : Mind) (said : Response) (ballot : Ballot) → TakesTimeout old new said
+pub timeout_asks : (old new : ReplicaState) (said : Response) (ballot : Ballot) → TakesTimeout old new said
     → ballot.round ≡ next_round old.proposing → ballot.node ≡ old.proposing.id
     → said ≡ sent (to_all old.id old.nodes (Prepare ballot (position old)))
 timeout_asks old new said ballot (prepare', s, leaves, says) round own =

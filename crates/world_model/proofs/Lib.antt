@@ -8,10 +8,10 @@ pub mod Casting
 pub mod ListedPuts
 pub mod VotesStand
 pub mod NodeComes
--- the fleet: each node has its place as its number
+-- the membership: each node has its place as its number
 pub mod Preserved
-pub mod FleetLemmas
-pub mod FleetSteps
+pub mod MembershipLemmas
+pub mod MembershipSteps
 -- what moves of the protocol lead to
 pub mod MovingLemmas
 pub mod WorldMoves

@@ -15,9 +15,9 @@ use Rattle.stable.specs.Script.{Script}
 use Rattle.sessions.specs.declared.command.Command.{Command}
 use Rattle.wire.specs.declared.frames.envelope.Envelope.{Envelope}
 use Rattle.world_model.specs.declared.lists.Submission.{Submission}
-use Rattle.world_model.specs.declared.lists.Learnt.{Learnt}
+use Rattle.world_model.specs.declared.lists.LearntEntry.{LearntEntry}
 use Rattle.node_model.specs.States.{NodeState}
-use Rattle.world_model.specs.Protocol.{fleet, frame_of, learnt_as, command_of}
+use Rattle.world_model.specs.Protocol.{membership, frame_of, learnt_as, command_of}
 use Rattle.world_model.specs.Reaching.{StandsAt, IsAllowed}
 use Rattle.world_model.proofs.NodeComes.{local_of, stands_elsewhere}
 
@@ -53,11 +53,11 @@ module _ {S : Type 0} {contents : Script S → Records} where
   ]
 
   -- node i does some acts on an input that has come, and its state and the lists are what the acts leave
-  pub moved : (nodes : List (NodeState (Script S))) (frames more : List Envelope) (learnt news : List Learnt)
+  pub moved : (nodes : List (NodeState (Script S))) (frames more : List Envelope) (learnt news : List LearntEntry)
       (submitted asked : List Submission)
       (old : IsAllowed contents nodes frames learnt submitted) (i : ℕ) (after : NodeState (Script S)) (input : act.Input Command)
       (y : Local Command)
-      → HasCome old.state.past input → Does (fleet (length nodes)) i input (local_of old.state i) y
+      → HasCome old.state.past input → Does (membership (length nodes)) i input (local_of old.state i) y
       → StandsAt contents (length nodes) i (placed old.state i y).past (local_of (placed old.state i y) i) after
       → y.sent ≡ map frame_of more → y.learnt ≡ map learnt_as news → y.submitted ≡ map command_of asked
       → IsAllowed contents (slice_set nodes i after) (frames ++ more) (learnt ++ news) (submitted ++ asked)
@@ -65,8 +65,8 @@ module _ {S : Type 0} {contents : Script S → Records} where
       let same : length (slice_set nodes i after) ≡ length nodes = length-set nodes i after in
       record {
         state = placed old.state i y;
-        reached = subst (λ k. IsReached (fleet k) (placed old.state i y)) (sym same)
-            (does_reaches (fleet (length nodes)) old.state i input y came does old.reached);
+        reached = subst (λ k. IsReached (membership k) (placed old.state i y)) (sym same)
+            (does_reaches (membership (length nodes)) old.state i input y came does old.reached);
         stands = record {
           node = λ j n e. subst (λ k. StandsAt contents k j (placed old.state i y).past (local_of (placed old.state i y) j) n) (sym same)
               (node_placed nodes (length nodes) old.state i after y old.stands.node now j n e);

@@ -31,10 +31,10 @@ use Rattle.node_model.specs.declared.fault.NodeFault.TheVariants as fault
 use Rattle.node_model.specs.declared.input.Input.{Input}
 use Rattle.node_model.specs.Faults.{is_stop_fault}
 use Rattle.node_model.specs.Loading.{IsMember, Restarts}
-use Rattle.node_model.specs.Minds.{Mind}
+use Rattle.node_model.specs.Replicas.{ReplicaState}
 use Rattle.node_model.specs.Nodes.{NodeState, NodeSteps, TakesInput, RefusesInput, StopsOnInput, StorageStops}
 use Rattle.node_model.specs.Outputs.{Response}
-use Rattle.node_model.specs.Protocol.{fleet, frame_of, input_of, InputFits, HoldsRecords, MindStands}
+use Rattle.node_model.specs.Protocol.{membership, frame_of, input_of, InputFits, HoldsRecords, ReplicaStands}
 use Rattle.node_model.specs.Taking.{Writes, WritesCheckpoint}
 use Rattle.node_model.proofs.AllowedLoading.{blank_at}
 use Rattle.node_model.proofs.RecordsGoOn.{vote_above}
@@ -55,13 +55,13 @@ none_is_not_some None e s = search rules
 abbrev pub local_of : synod_runs.World Command → ℕ → Local Command
 local_of = synod_runs.here
 
--- a node with such records and such a mind at the beginning of a step
+-- a node with such records and such a replica at the beginning of a step
 abbrev begins : synod_records.Records Command → synod_volatile.Volatile Command → Local Command
-begins r m = record { records = r; mind = m; sent = []; learnt = []; submitted = [] }
+begins r m = record { records = r; replica = m; sent = []; learnt = []; submitted = [] }
 
--- where a node has come to with its records and its mind, the rest aside
-begun_mind : (m : Mind) (y : Local Command) → MindStands m y → MindStands m (begins y.records y.mind)
-begun_mind m y h = record {
+-- where a node has come to with its records and its replica, the rest aside
+begun_replica : (m : ReplicaState) (y : Local Command) → ReplicaStands m y → ReplicaStands m (begins y.records y.replica)
+begun_replica m y h = record {
   records = h.records;
   learner = h.learner;
   proposer = record { round = h.proposer.round; campaign = h.proposer.campaign; waiting = h.proposer.waiting };
@@ -69,32 +69,32 @@ begun_mind m y h = record {
   level = h.level;
 }
 
-begun_up : (records : Records) (o : Option Mind) (y : Local Command) → IfSome o (λ m. HoldsRecords m records × MindStands m y)
-    → IfSome o (λ m. HoldsRecords m records × MindStands m (begins y.records y.mind))
+begun_up : (records : Records) (o : Option ReplicaState) (y : Local Command) → IfSome o (λ m. HoldsRecords m records × ReplicaStands m y)
+    → IfSome o (λ m. HoldsRecords m records × ReplicaStands m (begins y.records y.replica))
 begun_up records None y h = tt
-begun_up records (Some m) y h = (h.0, begun_mind m y h.1)
+begun_up records (Some m) y h = (h.0, begun_replica m y h.1)
 
 -- the protocol's floor is the one that a node holds which is up
-floor_up : {S : Type 0} (contents : Script S → Records) (n : NodeState (Script S)) (m : Mind) (x : Local Command) → n.up ≡ Some m
+floor_up : {S : Type 0} (contents : Script S → Records) (n : NodeState (Script S)) (m : ReplicaState) (x : Local Command) → n.up ≡ Some m
     → NodeStands contents n x → x.records.floor ≡ m.accepting.floor
 floor_up contents n m x up stands =
-    let both : HoldsRecords m (contents n.storage) × MindStands m x =
-    subst (λ (o : Option Mind). IfSome o (λ k. HoldsRecords k (contents n.storage) × MindStands k x)) up stands.up in
+    let both : HoldsRecords m (contents n.storage) × ReplicaStands m x =
+    subst (λ (o : Option ReplicaState). IfSome o (λ k. HoldsRecords k (contents n.storage) × ReplicaStands k x)) up stands.up in
     both.1.records.floor_
 
 begun : {S : Type 0} (contents : Script S → Records) (n : NodeState (Script S)) (y : Local Command) → NodeStands contents n y
-    → NodeStands contents n (begins y.records y.mind)
+    → NodeStands contents n (begins y.records y.replica)
 begun contents n y h = record { records = h.records; up = begun_up (contents n.storage) n.up y h.up }
 
-here_placed : (w : synod_runs.World Command) (i : ℕ) (y : Local Command) → local_of (placed w i y) i ≡ begins y.records y.mind
+here_placed : (w : synod_runs.World Command) (i : ℕ) (y : Local Command) → local_of (placed w i y) i ≡ begins y.records y.replica
 here_placed w i y =
-    ap (λ (r : synod_records.Records Command). begins r ((placed w i y).mind i)) (put_same w.past.records i y.records)
-    ∙ ap (λ (m : synod_volatile.Volatile Command). begins y.records m) (put_same w.mind i y.mind)
+    ap (λ (r : synod_records.Records Command). begins r ((placed w i y).replica i)) (put_same w.past.records i y.records)
+    ∙ ap (λ (m : synod_volatile.Volatile Command). begins y.records m) (put_same w.replica i y.replica)
 
 there_placed : (w : synod_runs.World Command) (i : ℕ) (y : Local Command) (j : ℕ) → (j ≡ i → ⊥) → local_of (placed w i y) j ≡ local_of w j
 there_placed w i y j other =
-    ap (λ (r : synod_records.Records Command). begins r ((placed w i y).mind j)) (put_other w.past.records i y.records j other)
-    ∙ ap (λ (m : synod_volatile.Volatile Command). begins (w.past.records j) m) (put_other w.mind i y.mind j other)
+    ap (λ (r : synod_records.Records Command). begins r ((placed w i y).replica j)) (put_other w.past.records i y.records j other)
+    ∙ ap (λ (m : synod_volatile.Volatile Command). begins (w.past.records j) m) (put_other w.replica i y.replica j other)
 
 come_longer : (w : synod_runs.World Command) (i : ℕ) (y : Local Command) (input : act.Input Command) → HasCome w.past input
     → HasCome (placed w i y).past input
@@ -134,8 +134,8 @@ module _ {S : Type 0} (contents : Script S → Records) (nodes : ℕ) (w : synod
         listed = listed_when_sure contents n.storage y.records sure puts;
         input = act.Nothing;
         came = tt;
-        after = begins y.records y.mind;
-        does = does_nothing (fleet nodes) i act.Nothing (begins y.records y.mind);
+        after = begins y.records y.replica;
+        does = does_nothing (membership nodes) i act.Nothing (begins y.records y.replica);
         unsent = refl;
         unlearnt = refl;
         unsubmitted = refl;
@@ -156,11 +156,11 @@ stands_still contents nodes w i n s =
     (stays_standing contents nodes w i y i y n s)
 
 -- the records to which a node's acts lead are sound
-sound_after : (nodes : ℕ) (w : synod_runs.World Command) (i : ℕ) (input : act.Input Command) (y : Local Command) → IsReached (fleet nodes) w
-    → HasCome w.past input → Does (fleet nodes) i input (local_of w i) y → AreSound y.records
+sound_after : (nodes : ℕ) (w : synod_runs.World Command) (i : ℕ) (input : act.Input Command) (y : Local Command) → IsReached (membership nodes) w
+    → HasCome w.past input → Does (membership nodes) i input (local_of w i) y → AreSound y.records
 sound_after nodes w i input y reached came does =
     subst (λ (r : synod_records.Records Command). AreSound r) (put_same w.past.records i y.records)
-    ((reached_holds (fleet nodes) (placed w i y) (does_reaches (fleet nodes) w i input y came does reached)).past.records i)
+    ((reached_holds (membership nodes) (placed w i y) (does_reaches (membership nodes) w i input y came does reached)).past.records i)
 
 -- ---- what an input makes of a node's list of writes
 -- the node has gone down, and its list is as it was
@@ -171,7 +171,7 @@ pub record WentDown {S : Type 0} (old new : NodeState (Script S)) (r : Result Re
   pub list : new.storage.writes ≡ old.storage.writes
 
 -- what becomes of its storage: the one put that is made, if one is, is that of the input
-pub record ListGoesOn {S : Type 0} (contents : Script S → Records) (m : Mind) (input : Input) (old new : NodeState (Script S))
+pub record ListGoesOn {S : Type 0} (contents : Script S → Records) (m : ReplicaState) (input : Input) (old new : NodeState (Script S))
     (r : Result Response NodeFault) : Type 0 where
   pub made : Write
   pub writes : (made ≡ None) ⊎ Writes m input made
@@ -181,7 +181,7 @@ pub record ListGoesOn {S : Type 0} (contents : Script S → Records) (m : Mind) 
 -- of a node that is up or not
 pub record NodeGoesOn {S : Type 0} (contents : Script S → Records) (input : Input) (old new : NodeState (Script S)) : Type 0 where
   pub made : Write
-  pub writes : (made ≡ None) ⊎ ((m : Mind) × (old.up ≡ Some m) × Writes m input made)
+  pub writes : (made ≡ None) ⊎ ((m : ReplicaState) × (old.up ≡ Some m) × Writes m input made)
   pub goes : GoesOn contents (put_by made) old.storage new.storage
 
 -- the place of the key of what is put, if something is
@@ -191,13 +191,13 @@ place_of (Some (Trims below)) = 0
 place_of (Some (Sets k bytes)) = rank k
 
 -- a checkpoint puts no vote
-checkpoint_puts_no_vote : (m : Mind) (w : Write) (v : Vote Command) → WritesCheckpoint m w → w ≡ Some (Sets (key.Vote v.slot) (vote_bytes v)) → ⊥
+checkpoint_puts_no_vote : (m : ReplicaState) (w : Write) (v : Vote Command) → WritesCheckpoint m w → w ≡ Some (Sets (key.Vote v.slot) (vote_bytes v)) → ⊥
 checkpoint_puts_no_vote m w v writes e =
     let places : 0 ≡ v.slot + 3 = ap place_of (sym writes.is ∙ e) in
     absurd (omega (arith, places))
 
 -- a vote is put at a slot from the floor on
-made_above : {S : Type 0} {contents : Script S → Records} (m : Mind) (input : Input) (old new : NodeState (Script S))
+made_above : {S : Type 0} {contents : Script S → Records} (m : ReplicaState) (input : Input) (old new : NodeState (Script S))
     (r : Result Response NodeFault) (on : ListGoesOn contents m input old new r) (before after : ℕ) → before ≡ m.accepting.floor
     → IsLevelOn input before after → (v : Vote Command) → put_by on.made ≡ Some (vote_put v) → after ≤ v.slot
 made_above m input old new r on before after floor level v e = elim on.writes [
@@ -222,7 +222,7 @@ accept_levels nodes i input before after (inr same) v brings = same
 pub record NodeComes {S : Type 0} (contents : Script S → Records) (nodes i : ℕ) (input : Input) (w : synod_runs.World Command)
     (new : NodeState (Script S)) (result : Result Response NodeFault) : Type 0 where
   pub to : Local Command
-  pub does : Does (fleet nodes) i (input_of i nodes input) (local_of w i) to
+  pub does : Does (membership nodes) i (input_of i nodes input) (local_of w i) to
   pub stands : StandsAt contents nodes i (placed w i to).past (local_of (placed w i to) i) new
   pub sent : to.sent ≡ map frame_of (sends_of result)
   pub learnt : to.learnt ≡ learnt_of i result
@@ -234,7 +234,7 @@ pub record ComesQuietly {S : Type 0} (contents : Script S → Records) (nodes i 
   pub input : act.Input Command
   pub came : HasCome w.past input
   pub to : Local Command
-  pub does : Does (fleet nodes) i input (local_of w i) to
+  pub does : Does (membership nodes) i input (local_of w i) to
   pub unsent : to.sent ≡ []
   pub unlearnt : to.learnt ≡ []
   pub unsubmitted : to.submitted ≡ []
@@ -268,7 +268,7 @@ module _ {S : Type 0} {storages : Ghosts (Script S)} (laws : IsLawful storages)
   failed_list a b (Some w) h sure = lists.fails_unsure a b w h sure
 
   -- ---- an input
-  stopped : (old new : NodeState (Script S)) (m : Mind) (input : Input) (f : NodeFault)
+  stopped : (old new : NodeState (Script S)) (m : ReplicaState) (input : Input) (f : NodeFault)
       → StorageStops storages old.storage m input f new.storage
       → new.up ≡ None → storages.IsHonest new.storage → ListGoesOn storages.contents m input old new (Err f)
   stopped old new m input fault.Device h down honest = record {
@@ -305,7 +305,7 @@ module _ {S : Type 0} {storages : Ghosts (Script S)} (laws : IsLawful storages)
   stays_goes a b e = subst (λ (s : Script S). GoesOn storages.contents None a s) (sym e)
       (same_goes storages.contents None a a (same_lists storages.contents a a refl refl refl))
 
-  unchanged : (old new : NodeState (Script S)) (m : Mind) (input : Input) (r : Result Response NodeFault) → new ≡ old
+  unchanged : (old new : NodeState (Script S)) (m : ReplicaState) (input : Input) (r : Result Response NodeFault) → new ≡ old
       → ListGoesOn storages.contents m input old new r
   unchanged old new m input r e =
       let same : new.storage ≡ old.storage = ap (λ (n : NodeState (Script S)). n.storage) e in
@@ -316,14 +316,14 @@ module _ {S : Type 0} {storages : Ghosts (Script S)} (laws : IsLawful storages)
         sure = λ sure. inl (ap (λ (s : Script S). s.unsure) same ∙ sure);
       }
 
-  list_refused : (old new : NodeState (Script S)) (m : Mind) (input : Input) (f : NodeFault) (b : Bool)
+  list_refused : (old new : NodeState (Script S)) (m : ReplicaState) (input : Input) (f : NodeFault) (b : Bool)
       → MatchBool b (StopsOnInput storages old m input f new) (RefusesInput old m input f new)
       → storages.IsHonest new.storage → ListGoesOn storages.contents m input old new (Err f)
   list_refused old new m input f true h honest =
       stopped old new m input f h.storage (ap (λ (n : NodeState (Script S)). n.up) h.leaves) honest
   list_refused old new m input f false h honest = unchanged old new m input (Err f) h.leaves
 
-  list_on : (old new : NodeState (Script S)) (m : Mind) (input : Input) (r : Result Response NodeFault)
+  list_on : (old new : NodeState (Script S)) (m : ReplicaState) (input : Input) (r : Result Response NodeFault)
       → IfOk r (λ told. TakesInput storages old m input told new)
       → IfErr r (λ f. MatchBool (is_stop_fault f) (StopsOnInput storages old m input f new) (RefusesInput old m input f new))
       → storages.IsHonest new.storage → ListGoesOn storages.contents m input old new r
@@ -336,22 +336,22 @@ module _ {S : Type 0} {storages : Ghosts (Script S)} (laws : IsLawful storages)
   list_on old new m input (Err f) taken h honest = list_refused old new m input f (is_stop_fault f) h honest
 
   -- a node that is up
-  list_up : (old new : NodeState (Script S)) (m : Mind) (input : Input) (r : Result Response NodeFault) → old.up ≡ Some m
+  list_up : (old new : NodeState (Script S)) (m : ReplicaState) (input : Input) (r : Result Response NodeFault) → old.up ≡ Some m
       → NodeSteps storages old input r new → storages.IsHonest new.storage → ListGoesOn storages.contents m input old new r
   list_up old new m input r up h honest =
       list_on old new m input r
-      (subst (λ (o : Option Mind). IfSome o (λ n. IfOk r (λ told. TakesInput storages old n input told new))) up h.taken)
-      (subst (λ (o : Option Mind). IfSome o (λ n. IfErr r (λ f. MatchBool (is_stop_fault f)
+      (subst (λ (o : Option ReplicaState). IfSome o (λ n. IfOk r (λ told. TakesInput storages old n input told new))) up h.taken)
+      (subst (λ (o : Option ReplicaState). IfSome o (λ n. IfErr r (λ f. MatchBool (is_stop_fault f)
       (StopsOnInput storages old n input f new) (RefusesInput old n input f new)))) up h.refused) honest
 
-  goes_by_mind : (old new : NodeState (Script S)) (input : Input) (r : Result Response NodeFault) (o : Option Mind) → old.up ≡ o
+  goes_by_replica : (old new : NodeState (Script S)) (input : Input) (r : Result Response NodeFault) (o : Option ReplicaState) → old.up ≡ o
       → NodeSteps storages old input r new → storages.IsHonest new.storage → NodeGoesOn storages.contents input old new
-  goes_by_mind old new input r None up h honest = record {
+  goes_by_replica old new input r None up h honest = record {
     made = None;
     writes = inl refl;
     goes = stays_goes old.storage new.storage (ap (λ (n : NodeState (Script S)). n.storage) (h.down up).1);
   }
-  goes_by_mind old new input r (Some m) up h honest =
+  goes_by_replica old new input r (Some m) up h honest =
       let on = list_up old new m input r up h honest in
       record {
         made = on.made;
@@ -362,7 +362,7 @@ module _ {S : Type 0} {storages : Ghosts (Script S)} (laws : IsLawful storages)
   -- what an input makes of a node's storage
   pub node_goes : (old new : NodeState (Script S)) (input : Input) (r : Result Response NodeFault) → NodeSteps storages old input r new
       → storages.IsHonest new.storage → NodeGoesOn storages.contents input old new
-  node_goes old new input r h honest = goes_by_mind old new input r old.up refl h honest
+  node_goes old new input r h honest = goes_by_replica old new input r old.up refl h honest
 
   -- and a restart
   pub restart_goes : (old new : NodeState (Script S)) (r : Result (Unit {0}) NodeFault) → Restarts storages old r new
@@ -373,14 +373,14 @@ module _ {S : Type 0} {storages : Ghosts (Script S)} (laws : IsLawful storages)
     | inr other ↦ lists.reads_on old.storage new.storage (laws.looks_reads _ _ other.1) honest
   ]
 
-  module _ (nodes i : ℕ) (there : i < nodes) (few : nodes ≤ 7) (w : synod_runs.World Command) (reached : IsReached (fleet nodes) w) where
+  module _ (nodes i : ℕ) (there : i < nodes) (few : nodes ≤ 7) (w : synod_runs.World Command) (reached : IsReached (membership nodes) w) where
     -- a node that is down, or refuses, does nothing
     rests : (input : Input) (new : NodeState (Script S)) (r : Result Response NodeFault) (f : NodeFault) → r ≡ Err f
         → StandsAt storages.contents nodes i w.past (local_of w i) new → NodeComes storages.contents nodes i input w new r
     rests input new r f failed s =
         subst (λ (q : Result Response NodeFault). NodeComes storages.contents nodes i input w new q) (sym failed) (record {
           to = local_of w i;
-          does = does_nothing (fleet nodes) i (input_of i nodes input) (local_of w i);
+          does = does_nothing (membership nodes) i (input_of i nodes input) (local_of w i);
           stands = stands_still storages.contents nodes w i new s;
           sent = refl;
           learnt = refl;
@@ -426,16 +426,16 @@ module _ {S : Type 0} {storages : Ghosts (Script S)} (laws : IsLawful storages)
     arrives old new input r (Some u) unsure came s m stand (inl sure) = absurd (none-some u (sym sure ∙ unsure))
     arrives old new input r (Some u) unsure came s m stand (inr d) = waits old new input r u unsure came s m stand d
 
-    by_mind : (old new : NodeState (Script S)) (input : Input) (r : Result Response NodeFault) (o : Option Mind) → old.up ≡ o
+    by_replica : (old new : NodeState (Script S)) (input : Input) (r : Result Response NodeFault) (o : Option ReplicaState) → old.up ≡ o
         → HasCome w.past (input_of i nodes input) → NodeSteps storages old input r new
         → StandsAt storages.contents nodes i w.past (local_of w i) old
         → IsMember i nodes old → InputFits input → storages.IsHonest new.storage → NodeComes storages.contents nodes i input w new r
-    by_mind old new input r None up came h s member fits honest =
+    by_replica old new input r None up came h s member fits honest =
         rests input new r fault.Down (h.down up).0
         (subst (λ (n : NodeState (Script S)). StandsAt storages.contents nodes i w.past (local_of w i) n) (sym (h.down up).1) s)
-    by_mind old new input r (Some m) up came h s member fits honest =
+    by_replica old new input r (Some m) up came h s member fits honest =
         let x : Local Command = local_of w i in
-        let sure : old.storage.unsure ≡ None = s.up (subst (λ (o : Option Mind). IsSome o) (sym up) refl) in
+        let sure : old.storage.unsure ≡ None = s.up (subst (λ (o : Option ReplicaState). IsSome o) (sym up) refl) in
         let stands : NodeStands storages.contents old x =
         subst (λ (y : Local Command). NodeStands storages.contents old y) (s.sure sure) s.stands in
         let stand : PutsStand storages.contents old.storage x.records =
@@ -444,7 +444,7 @@ module _ {S : Type 0} {storages : Ghosts (Script S)} (laws : IsLawful storages)
         node_moves laws nodes i there few old new input r x h stands member fits honest in
         let on : ListGoesOn storages.contents m input old new r = list_up old new m input r up h honest in
         arrives old new input r new.storage.unsure refl came s moves
-        (puts_go_on storages.contents (fleet nodes) i (input_of i nodes input) (put_by on.made) x moves.after old.storage new moves.does
+        (puts_go_on storages.contents (membership nodes) i (input_of i nodes input) (put_by on.made) x moves.after old.storage new moves.does
         (record {
           put_above = made_above m input old new r on x.records.floor moves.after.records.floor
               (floor_up storages.contents old m x up stands) moves.floor_;
@@ -457,7 +457,7 @@ module _ {S : Type 0} {storages : Ghosts (Script S)} (laws : IsLawful storages)
         → HasCome w.past (input_of i nodes input)
         → NodeSteps storages old input r new → StandsAt storages.contents nodes i w.past (local_of w i) old
         → IsMember i nodes old → InputFits input → storages.IsHonest new.storage → NodeComes storages.contents nodes i input w new r
-    node_comes old new input r came h s member fits honest = by_mind old new input r old.up refl came h s member fits honest
+    node_comes old new input r came h s member fits honest = by_replica old new input r old.up refl came h s member fits honest
 
     -- ---- a restart
     restart_list : (old new : NodeState (Script S)) (r : Result (Unit {0}) NodeFault) → Restarts storages old r new
@@ -476,24 +476,24 @@ module _ {S : Type 0} {storages : Ghosts (Script S)} (laws : IsLawful storages)
 
     -- what was not in the records is forgotten, and the node goes to the position at which it begins
     reloads : (input : act.Input Command) (x : Local Command) (position : ℕ)
-        → Does (fleet nodes) i input x (record x { mind = blank_at position })
+        → Does (membership nodes) i input x (record x { replica = blank_at position })
     reloads input x position =
-        does_then (fleet nodes) i input (does_one (fleet nodes) i input x act.Forgets tt)
-        (does_one (fleet nodes) i input (act.acted i x act.Forgets) (act.Advances position) (omega arith))
+        does_then (membership nodes) i input (does_one (membership nodes) i input x act.Forgets tt)
+        (does_one (membership nodes) i input (act.acted i x act.Forgets) (act.Advances position) (omega arith))
 
     restarted : (old new : NodeState (Script S)) (o : Option script.Write) → new.storage.unsure ≡ o
         → (s : StandsAt storages.contents nodes i w.past (local_of w i) old)
-        → NodeStands storages.contents new (record s.after { mind = blank_at (begins_at new.up) })
+        → NodeStands storages.contents new (record s.after { replica = blank_at (begins_at new.up) })
         → PutsStand storages.contents new.storage s.after.records
         → (new.storage.unsure ≡ None) ⊎ ((new.storage.writes ≡ old.storage.writes) × (new.storage.unsure ≡ old.storage.unsure))
         → (IsSome new.up → new.storage.unsure ≡ None) → ComesQuietly storages.contents nodes i w new
     restarted old new None sure s stands stand list up =
-        let y : Local Command = record s.after { mind = blank_at (begins_at new.up) } in
+        let y : Local Command = record s.after { replica = blank_at (begins_at new.up) } in
         record {
           input = s.input;
           came = s.came;
           to = y;
-          does = does_then (fleet nodes) i s.input s.does (reloads s.input s.after (begins_at new.up));
+          does = does_then (membership nodes) i s.input s.does (reloads s.input s.after (begins_at new.up));
           unsent = s.unsent;
           unlearnt = s.unlearnt;
           unsubmitted = s.unsubmitted;
@@ -504,7 +504,7 @@ module _ {S : Type 0} {storages : Ghosts (Script S)} (laws : IsLawful storages)
       input = act.Nothing;
       came = tt;
       to = local_of w i;
-      does = does_nothing (fleet nodes) i act.Nothing (local_of w i);
+      does = does_nothing (membership nodes) i act.Nothing (local_of w i);
       unsent = refl;
       unlearnt = refl;
       unsubmitted = refl;
@@ -513,8 +513,8 @@ module _ {S : Type 0} {storages : Ghosts (Script S)} (laws : IsLawful storages)
             subst (λ (ws : List script.Write). Contains (w.past.records i).writes (VoteWrite v) ↔ HasVote ws v) (sym same.0) (s.listed v);
         input = s.input;
         came = s.came;
-        after = record s.after { mind = blank_at (begins_at new.up) };
-        does = does_then (fleet nodes) i s.input s.does (reloads s.input s.after (begins_at new.up));
+        after = record s.after { replica = blank_at (begins_at new.up) };
+        does = does_then (membership nodes) i s.input s.does (reloads s.input s.after (begins_at new.up));
         unsent = s.unsent;
         unlearnt = s.unlearnt;
         unsubmitted = s.unsubmitted;
@@ -529,13 +529,13 @@ module _ {S : Type 0} {storages : Ghosts (Script S)} (laws : IsLawful storages)
         → OnOk r (new.storage.unsure ≡ None) → StandsAt storages.contents nodes i w.past (local_of w i) old → storages.IsHonest new.storage
         → ComesQuietly storages.contents nodes i w new
     restart_comes old new r h settled s honest =
-        let y : Local Command = record s.after { mind = blank_at (begins_at new.up) } in
-        let loads : Does (fleet nodes) i s.input s.after y = reloads s.input s.after (begins_at new.up) in
+        let y : Local Command = record s.after { replica = blank_at (begins_at new.up) } in
+        let loads : Does (membership nodes) i s.input s.after y = reloads s.input s.after (begins_at new.up) in
         let stands : NodeStands storages.contents new y = restart_stands laws old new r s.after h honest s.stands in
         let sound : AreSound y.records = sound_after nodes w i s.input y reached s.came
-        (does_then (fleet nodes) i s.input s.does loads) in
+        (does_then (membership nodes) i s.input s.does loads) in
         restarted old new new.storage.unsure refl s stands
-        (puts_go_on storages.contents (fleet nodes) i s.input None s.after y old.storage new loads
+        (puts_go_on storages.contents (membership nodes) i s.input None s.after y old.storage new loads
         (record { put_above = λ v e. absurd (none-some (vote_put v) e); same_floor = λ v came_. refl })
         (restart_goes old new r h honest) stands sound s.puts)
         (restart_list old new r h) (sure_again new r settled h.down)

@@ -22,22 +22,22 @@ use Rattle.acceptor.specs.Spelling.{ballot_bytes, vote_bytes}
 use Rattle.sessions.specs.declared.command.Command.{Command}
 use Rattle.wire.specs.RecordForms.{Checkpointed, checkpoint_bytes}
 use Rattle.wire.specs.declared.frames.envelope.Envelope.{Envelope}
-use Rattle.node_model.specs.Minds.{Mind, promised}
-use Rattle.node_model.specs.Protocol.{HoldsRecords, MindStands}
+use Rattle.node_model.specs.Replicas.{ReplicaState, promised}
+use Rattle.node_model.specs.Protocol.{HoldsRecords, ReplicaStands}
 use Rattle.node_model.specs.Sending.{IsBetween}
 use Rattle.node_model.specs.States.{NodeState}
-use Rattle.world_model.specs.Fleets.{IsFleet}
+use Rattle.world_model.specs.Memberships.{IsMembership}
 use Rattle.world_model.specs.Protocol as protocol
 use Rattle.world_model.specs.Protocol.{frame_of}
 use Rattle.world_model.specs.Reaching.{StandsAt, IsAllowed, HoldsPut}
 use Rattle.world_model.specs.Safety.{PromisesAmong, PromisesOfRun}
 use Rattle.world_model.specs.Voting.{vote_put}
-use Rattle.world_model.specs.Worlds.{WorldState, mind_in, mind_at}
+use Rattle.world_model.specs.Worlds.{WorldState, replica_in, replica_at}
 use Rattle.world_model.proofs.OwnBallots.{own_ballots}
 use Rattle.world_model.proofs.VotesStand.{held_shown}
 
--- a mind is that of a node that is there and up
-pub node_of : {S : Type 0} (o : Option (NodeState S)) (m : Mind) → mind_in o ≡ Some m → (n : NodeState S) × (o ≡ Some n) × (n.up ≡ Some m)
+-- a replica is that of a node that is there and up
+pub node_of : {S : Type 0} (o : Option (NodeState S)) (m : ReplicaState) → replica_in o ≡ Some m → (n : NodeState S) × (o ≡ Some n) × (n.up ≡ Some m)
 node_of None m e = absurd (cc)
 node_of (Some n) m e = (n, refl, e)
 
@@ -60,12 +60,12 @@ sealed_there (Some c) b e = (c, refl, e)
 module _ {S : Type 0} (contents : Script S → Records) (w : WorldState S)
     (allowed : IsAllowed contents w.nodes w.frames w.learnt w.submitted) where
   -- a node that is up, where it stands, and what its records say
-  pub record UpAt (i : ℕ) (m : Mind) : Type 0 where
+  pub record UpAt (i : ℕ) (m : ReplicaState) : Type 0 where
     pub node : NodeState (Script S)
     pub here : slice_get w.nodes i ≡ Some node
     pub up : node.up ≡ Some m
     pub records : HoldsRecords m (contents node.storage)
-    pub stands : MindStands m (synod_runs.here allowed.state i)
+    pub stands : ReplicaStands m (synod_runs.here allowed.state i)
 
   abbrev standing : (i : ℕ) (n : NodeState (Script S)) → slice_get w.nodes i ≡ Some n
       → StandsAt contents (length w.nodes) i allowed.state.past (synod_runs.here allowed.state i) n
@@ -75,35 +75,35 @@ module _ {S : Type 0} (contents : Script S → Records) (w : WorldState S)
       → (standing i n here).after ≡ synod_runs.here allowed.state i
   there_now i n here up = (standing i n here).sure ((standing i n here).up up)
 
-  pub up_at : (i : ℕ) (m : Mind) → mind_at w i ≡ Some m → UpAt i m
+  pub up_at : (i : ℕ) (m : ReplicaState) → replica_at w i ≡ Some m → UpAt i m
   up_at i m e =
       let n = node_of (slice_get w.nodes i) m e in
       let s = standing i n.0 n.1 in
-      let up : IsSome n.0.up = subst (λ (o : Option Mind). IsSome o) (sym n.2) refl in
-      let both = held (λ (k : Mind). HoldsRecords k (contents n.0.storage) × MindStands k s.after) n.0.up m n.2 s.stands.up in
+      let up : IsSome n.0.up = subst (λ (o : Option ReplicaState). IsSome o) (sym n.2) refl in
+      let both = held (λ (k : ReplicaState). HoldsRecords k (contents n.0.storage) × ReplicaStands k s.after) n.0.up m n.2 s.stands.up in
       record {
         node = n.0;
         here = n.1;
         up = n.2;
         records = both.0;
-        stands = subst (λ (x : Local Command). MindStands m x) (there_now i n.0 n.1 up) both.1;
+        stands = subst (λ (x : Local Command). ReplicaStands m x) (there_now i n.0 n.1 up) both.1;
       }
 
   -- ---- where the frames go between nodes of the run
-  module _ (fleet : IsFleet w.nodes w.frames) where
+  module _ (membership : IsMembership w.nodes w.frames) where
     -- the protocol's invariant holds there
-    holds : Holds (protocol.fleet (length w.nodes)) allowed.state
-    holds = reached_holds (protocol.fleet (length w.nodes)) allowed.state allowed.reached
+    holds : Holds (protocol.membership (length w.nodes)) allowed.state
+    holds = reached_holds (protocol.membership (length w.nodes)) allowed.state allowed.reached
 
     -- whoever proposed is a node of the run
     proposer_below : (a : ℕ) (v : Vote Command) → Sent allowed.state.past a (Accept v) → a < length w.nodes
     proposer_below a v sent =
         let r : Frame Command = record { sender = a; receiver = sent.0; message = Accept v } in
-        from_below (length w.nodes) w.frames fleet.between r
+        from_below (length w.nodes) w.frames membership.between r
         (subst (λ (frames : List (Frame Command)). Contains frames r) allowed.stands.frames_ sent.1)
 
     -- each vote that a node holds, below its floor too, was put, so it was cast, and is of a node of the run
-    pub votes_of_run : (i : ℕ) (m : Mind) → mind_at w i ≡ Some m → (slot : ℕ) (v : Vote Command) → m.accepting.vote slot ≡ Some v
+    pub votes_of_run : (i : ℕ) (m : ReplicaState) → replica_at w i ≡ Some m → (slot : ℕ) (v : Vote Command) → m.accepting.vote slot ≡ Some v
         → v.ballot.node < length w.nodes
     votes_of_run i m e slot v is =
         let n : UpAt i m = up_at i m e in
@@ -115,17 +115,17 @@ module _ {S : Type 0} (contents : Script S → Records) (w : WorldState S)
         ap (λ (k : ℕ). contents n.node.storage (key.Vote k)) own_slot ∙ (says.vote_record slot ∙ ap (option_map vote_bytes) is) in
         let cast : Contains s.after.records.writes (VoteWrite v) =
         s.puts.cast v fits (held_shown contents n.node.storage s.puts.held (vote_put v) shows) in
-        let up : IsSome n.node.up = subst (λ (o : Option Mind). IsSome o) (sym n.up) refl in
+        let up : IsSome n.node.up = subst (λ (o : Option ReplicaState). IsSome o) (sym n.up) refl in
         let voted : Contains (synod_runs.here allowed.state i).records.writes (VoteWrite v) =
         subst (λ (x : Local Command). Contains x.records.writes (VoteWrite v)) (there_now i n.node n.here up) cast in
         let proposed = holds.past.backed i v voted in
         let own : v.ballot.node ≡ proposed.0 =
-        own_ballots (protocol.fleet (length w.nodes)) allowed.state allowed.reached proposed.0 v proposed.1 in
+        own_ballots (protocol.membership (length w.nodes)) allowed.state allowed.reached proposed.0 v proposed.1 in
         let below = proposer_below proposed.0 v proposed.1 in
         omega (arith, own, below)
 
     -- what a node has promised is a ballot of a node of the run: it was put, alone or in a checkpoint, or it is that of a vote
-    pub promise_of_run : PromisesOfRun contents w.nodes → (i : ℕ) (m : Mind) → mind_at w i ≡ Some m → (b : Ballot) → promised m ≡ Some b
+    pub promise_of_run : PromisesOfRun contents w.nodes → (i : ℕ) (m : ReplicaState) → replica_at w i ≡ Some m → (b : Ballot) → promised m ≡ Some b
         → b.node < length w.nodes
     promise_of_run promises i m e b is =
         let n : UpAt i m = up_at i m e in

@@ -9,7 +9,7 @@ use Rattle.sessions.proofs.Executions.{one_answer}
 use Rattle.sessions.specs.declared.command.Command.{Command}
 use Rattle.sessions.specs.declared.command.Command.TheVariants.{Request}
 use Rattle.world_model.specs.declared.lists.Answered.{Answered}
-use Rattle.world_model.specs.declared.lists.Learnt.{Learnt}
+use Rattle.world_model.specs.declared.lists.LearntEntry.{LearntEntry}
 use Rattle.world_model.specs.declared.lists.Replied.{Replied}
 use Rattle.world_model.specs.declared.lists.Submission.{Submission}
 use Rattle.world_model.specs.Explaining.{Explains, ExplainsAnswer}
@@ -24,7 +24,7 @@ taken_there (suc n) [] i c e = absurd (let h : None ≡ Some c = e in cc)
 taken_there (suc n) (d ∷ l) zero c e = e
 taken_there (suc n) (d ∷ l) (suc i) c e = taken_there n l i c e
 
-module _ (l : List Command) (submitted : List Submission) (learnt : List Learnt) (replies : List Replied) (answers : List Answered)
+module _ (l : List Command) (submitted : List Submission) (learnt : List LearntEntry) (replies : List Replied) (answers : List Answered)
     (explains : Explains l submitted learnt replies answers) (valid : BringValid submitted) where
   -- what its requests bring was submitted, and is valid
   beginning_sound : (n : ℕ) → AreSound (take n l)

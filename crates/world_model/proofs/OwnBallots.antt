@@ -6,7 +6,7 @@ use Rattle.synod.specs.Messages.{Message, Promise, Accept, Accepted, Decided, Pl
 use Rattle.synod.specs.History.{Sent}
 use Rattle.synod.specs.Volatile.{Campaign, Volatile, blank, campaigning, proposal}
 use Rattle.synod.specs.Acts as act
-use Rattle.synod.specs.Acts.{Fleet, Local, Input, Act, MayAct, MayDo, acted, done, sends, thinks, campaigns}
+use Rattle.synod.specs.Acts.{Membership, Local, Input, Act, MayAct, MayDo, acted, done, sends, thinks, campaigns}
 use Rattle.synod.specs.Runs.{World, Step, start, here, MayStep, stepped, Run, IsReached}
 use Rattle.synod.proofs.Puts.{all_put}
 use Rattle.synod.proofs.Thinking.{some_is, none_in}
@@ -19,18 +19,18 @@ IsOwn {C} r = (v : Vote C) → r.message ≡ Accept v → v.ballot.node ≡ r.se
 abbrev AreOwn : {C : Type 0} → List (Frame C) → Type 0
 AreOwn {C} frames = (r : Frame C) → Contains frames r → IsOwn r
 
--- the mind's campaign is under a ballot of node i
+-- the replica's campaign is under a ballot of node i
 abbrev HasOwn : {C : Type 0} → ℕ → Volatile C → Type 0
 HasOwn {C} i m = (k : Campaign C) → m.campaign ≡ Some k → k.ballot.node ≡ i
 
 -- what node i has in its step is under its own ballots
 record Keeps {C : Type 0} (i : ℕ) (x : Local C) : Type 0 where
-  campaign : HasOwn i x.mind
+  campaign : HasOwn i x.replica
   sent : AreOwn x.sent
 
 -- what all nodes have is
 record AllKeep {C : Type 0} (w : World C) : Type 0 where
-  minds : (i : ℕ) → HasOwn i (w.mind i)
+  replicas : (i : ℕ) → HasOwn i (w.replica i)
   frames : AreOwn w.past.frames
 
 module _ {C : Type 0} where
@@ -65,7 +65,7 @@ module _ {C : Type 0} where
 
     -- it goes on with this campaign
     campaigns_own : (k : Campaign C) → k.ballot.node ≡ i → Keeps i (campaigns x k)
-    campaigns_own k mine = thinks_own (campaigning x.mind k) (own_campaign i x.mind k mine)
+    campaigns_own k mine = thinks_own (campaigning x.replica k) (own_campaign i x.replica k mine)
 
     -- it says something
     sends_own : (to : ℕ) (m : Message C) → IsOwn (record { sender = i; receiver = to; message = m }) → Keeps i (sends x i to m)
@@ -75,7 +75,7 @@ module _ {C : Type 0} where
     }
 
   -- an act keeps what is the node's own
-  act_owns : (f : Fleet C) (i : ℕ) (input : Input C) (x : Local C) (a : Act C) → MayAct f i input x a → Keeps i x → Keeps i (acted i x a)
+  act_owns : (f : Membership C) (i : ℕ) (input : Input C) (x : Local C) (a : Act C) → MayAct f i input x a → Keeps i x → Keeps i (acted i x a)
   act_owns f i input x (act.Promises b) may keeps = record { campaign = keeps.campaign; sent = keeps.sent }
   act_owns f i input x (act.Tells to b first last told) may keeps = sends_own i x keeps to (Promise b first last told) (λ v e. absurd (cc))
   act_owns f i input x (act.Votes v) may keeps = record { campaign = keeps.campaign; sent = keeps.sent }
@@ -83,7 +83,7 @@ module _ {C : Type 0} where
   act_owns f i input x (act.Checkpoints floor) may keeps = record { campaign = keeps.campaign; sent = keeps.sent }
   act_owns f i input x act.Trims may keeps = record { campaign = keeps.campaign; sent = keeps.sent }
   act_owns f i input x (act.Begins b end) may keeps =
-      record { campaign = own_campaign i x.mind _ may.0; sent = keeps.sent }
+      record { campaign = own_campaign i x.replica _ may.0; sent = keeps.sent }
   act_owns f i input x (act.Counts k a last votes end told) may keeps = campaigns_own i x keeps _ (keeps.campaign k may.0)
   act_owns f i input x (act.Leads k) may keeps = campaigns_own i x keeps _ (keeps.campaign k may.0)
   act_owns f i input x (act.Proposes k to s c) may keeps =
@@ -93,7 +93,7 @@ module _ {C : Type 0} where
       sends_own i x keeps to (Accept (proposal k s c)) (own_proposal i to (proposal k s c) (keeps.campaign k may.0))
   act_owns f i input x (act.Closes k proposals) may keeps = campaigns_own i x keeps _ (keeps.campaign k may.0)
   act_owns f i input x (act.Gathers k end) may keeps = campaigns_own i x keeps _ (keeps.campaign k may.0)
-  act_owns f i input x act.Quits may keeps = thinks_own i x keeps _ (own_none i (record x.mind { campaign = None }) refl)
+  act_owns f i input x act.Quits may keeps = thinks_own i x keeps _ (own_none i (record x.replica { campaign = None }) refl)
   act_owns f i input x (act.Hears a v) may keeps = record { campaign = keeps.campaign; sent = keeps.sent }
   act_owns f i input x (act.Learns s c) may keeps = record { campaign = keeps.campaign; sent = keeps.sent }
   act_owns f i input x (act.Reports to s c) may keeps = sends_own i x keeps to (Decided s c) (λ u e. absurd (cc))
@@ -104,34 +104,34 @@ module _ {C : Type 0} where
   act_owns f i input x act.Forgets may keeps = thinks_own i x keeps _ (own_none i blank refl)
 
   -- so do several
-  acts_own : (f : Fleet C) (i : ℕ) (input : Input C) (acts : List (Act C)) (x : Local C) → MayDo f i input x acts → Keeps i x
+  acts_own : (f : Membership C) (i : ℕ) (input : Input C) (acts : List (Act C)) (x : Local C) → MayDo f i input x acts → Keeps i x
       → Keeps i (done i x acts)
   acts_own f i input [] x may keeps = keeps
   acts_own f i input (a ∷ acts) x may keeps =
       acts_own f i input acts (acted i x a) may.1 (act_owns f i input x a may.0 keeps)
 
   -- so does a step, at every node
-  step_owns : (f : Fleet C) (w : World C) (s : Step C) → MayStep f w s → AllKeep w → AllKeep (stepped w s)
+  step_owns : (f : Membership C) (w : World C) (s : Step C) → MayStep f w s → AllKeep w → AllKeep (stepped w s)
   step_owns f w s may all =
       let y : Local C = done s.node (here w s.node) s.acts in
-      let at_start : Keeps s.node (here w s.node) = record { campaign = all.minds s.node; sent = λ r c. absurd (none_in r c) } in
+      let at_start : Keeps s.node (here w s.node) = record { campaign = all.replicas s.node; sent = λ r c. absurd (none_in r c) } in
       let after : Keeps s.node y = acts_own f s.node s.input s.acts (here w s.node) may.acts at_start in
       record {
-        minds = all_put (λ i (m : Volatile C). HasOwn i m) w.mind s.node y.mind after.campaign (λ j other. all.minds j);
+        replicas = all_put (λ i (m : Volatile C). HasOwn i m) w.replica s.node y.replica after.campaign (λ j other. all.replicas j);
         frames = own_append w.past.frames y.sent all.frames after.sent;
       }
 
   -- so does a run
-  run_owns : (f : Fleet C) (w x : World C) (steps : List (Step C)) → Run f w steps x → AllKeep w → AllKeep x
+  run_owns : (f : Membership C) (w x : World C) (steps : List (Step C)) → Run f w steps x → AllKeep w → AllKeep x
   run_owns f w x [] run all = subst AllKeep (sym run) all
   run_owns f w x (s ∷ steps) run all = run_owns f (stepped w s) x steps run.1 (step_owns f w s run.0 all)
 
   -- and nobody has anything at the start
   start_owns : AllKeep {C = C} start
-  start_owns = record { minds = λ i. own_none i blank refl; frames = λ r c. absurd (none_in r c) }
+  start_owns = record { replicas = λ i. own_none i blank refl; frames = λ r c. absurd (none_in r c) }
 
   -- whoever proposes does so under a ballot of its own
-  pub own_ballots : (f : Fleet C) (w : World C) → IsReached f w → (a : ℕ) (v : Vote C) → Sent w.past a (Accept v) → v.ballot.node ≡ a
+  pub own_ballots : (f : Membership C) (w : World C) → IsReached f w → (a : ℕ) (v : Vote C) → Sent w.past a (Accept v) → v.ballot.node ≡ a
   own_ballots f w reached a v sent =
       (run_owns f start w reached.steps reached.run start_owns).frames
       (record { sender = a; receiver = sent.0; message = Accept v }) sent.1 v refl

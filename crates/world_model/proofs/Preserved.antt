@@ -16,12 +16,12 @@ use Rattle.node_model.specs.declared.fault.NodeFault.{NodeFault}
 use Rattle.node_model.specs.declared.input.Input.{Input}
 use Rattle.node_model.specs.declared.input.Input.TheVariants as input
 use Rattle.node_model.specs.Faults.{is_stop_fault}
-use Rattle.node_model.specs.Minds.{Mind, asked}
+use Rattle.node_model.specs.Replicas.{ReplicaState, asked}
 use Rattle.node_model.specs.Nodes.{NodeState}
 use Rattle.node_model.specs.Outputs.{Response}
 use Rattle.node_model.specs.Protocol.{InputFits, input_of}
-use Rattle.world_model.specs.declared.lists.Outcome.{Outcome}
-use Rattle.world_model.specs.declared.lists.Outcome.TheVariants.{Done, Lost, Refused, Stopped}
+use Rattle.world_model.specs.declared.lists.StepOutcome.{StepOutcome}
+use Rattle.world_model.specs.declared.lists.StepOutcome.TheVariants.{Done, Lost, Refused, Stopped}
 use Rattle.world_model.specs.declared.lists.Submission.{Submission}
 use Rattle.world_model.specs.Tallies.{learnt_told, replies_told, answers_told}
 use Rattle.world_model.specs.Worlds.{WorldState, TakesAt, SubmitsAt, ReceivesAt, ArmsAt, AsksAt, RestartsAt, Steps, with_node, with_response}
@@ -46,7 +46,7 @@ pub record IsItsOwn (i : Input) : Type 0 where
   pub unsent : (frame : Envelope) → i ≡ input.Message frame → ⊥
 
 -- an outcome that tells of no entry of a list
-pub record BringsNothing (o : Outcome) : Type 0 where
+pub record BringsNothing (o : StepOutcome) : Type 0 where
   pub learnt : 0 ≡ learnt_told o
   pub replies : 0 ≡ replies_told o
   pub answers : 0 ≡ answers_told o
@@ -61,7 +61,7 @@ pub record HoldsOf {S : Type 0} (storages : Ghosts (Script S)) (R : WorldState S
       → slice_get old.frames k ≡ Some frame → Fits 7 frame
       → TakesAt storages (without_wait old k) frame.to (input.Message frame) taken new → R old e new
   -- a frame is lost
-  pub loses : (old : WorldState S) (e : Event) (k : ℕ) (o : Outcome) (new : WorldState S) → BringsNothing o
+  pub loses : (old : WorldState S) (e : Event) (k : ℕ) (o : StepOutcome) (new : WorldState S) → BringsNothing o
       → new ≡ with_outcome (without_wait old k) o → R old e new
   pub restarts : (old : WorldState S) (node : ℕ) (new : WorldState S) → RestartsAt storages old node new → R old (event.Restart node) new
   pub arms : (old : WorldState S) (e : Event) (node : ℕ) (failing : Failing) (new : WorldState S)
@@ -85,13 +85,13 @@ nothing : BringsNothing (Done 0 0)
 nothing = record { learnt = refl; replies = refl; answers = refl }
 
 module _ {S : Type 0} {storages : Ghosts (Script S)} {R : WorldState S → Event → WorldState S → Type 0} (p : HoldsOf storages R) where
-  received : (old : WorldState S) (e : Event) (k : ℕ) (frame : Envelope) (new : WorldState S) (o : Option Mind)
+  received : (old : WorldState S) (e : Event) (k : ℕ) (frame : Envelope) (new : WorldState S) (o : Option ReplicaState)
       → slice_get old.frames k ≡ Some frame → Fits 7 frame
       → (h : ReceivesAt storages (without_wait old k) frame new) → h.receiver.up ≡ o → R old e new
   received old e k frame new None sent fits h up =
       p.loses old e k Lost new (record { learnt = refl; replies = refl; answers = refl }) (h.lost up)
   received old e k frame new (Some m) sent fits h up =
-      let takes = h.taken (subst (λ (o : Option Mind). IsSome o) (sym up) refl) in
+      let takes = h.taken (subst (λ (o : Option ReplicaState). IsSome o) (sym up) refl) in
       p.hears old e k frame takes.0 new sent fits takes.1
 
   -- each step, by its event
@@ -134,7 +134,7 @@ pub record Preserved {S : Type 0} (storages : Ghosts (Script S)) (P : WorldState
       (f : NodeFault) → h.result ≡ Err f → P w → P (with_node w node h.after)
   pub submits : (w : WorldState S) (s : Submission) → IsSound s.op → P w → P (record w { submitted = w.submitted ++ s ∷ [] })
   pub unwaits : (w : WorldState S) (k : ℕ) → P w → P (without_wait w k)
-  pub says : (w : WorldState S) (o : Outcome) → BringsNothing o → P w → P (with_outcome w o)
+  pub says : (w : WorldState S) (o : StepOutcome) → BringsNothing o → P w → P (with_outcome w o)
   pub restarts : (w : WorldState S) (node : ℕ) (v : WorldState S) (h : RestartsAt storages w node v) → P w → P (with_node w node h.after)
   pub arms : (w : WorldState S) (node : ℕ) (failing : Failing) (before : NodeState (Script S)) → slice_get w.nodes node ≡ Some before
       → P w → P (with_node w node (record before { storage = record before.storage { armed = Some failing } }))

@@ -17,10 +17,10 @@ use Rattle.node_model.specs.declared.input.Input.{Input}
 use Rattle.node_model.specs.declared.input.Input.TheVariants as input
 use Rattle.node_model.specs.Faults.{is_stop_fault}
 use Rattle.node_model.specs.Loading.{IsLoaded, Restarts}
-use Rattle.node_model.specs.Minds.{Mind, refuses}
+use Rattle.node_model.specs.Replicas.{ReplicaState, refuses}
 use Rattle.node_model.specs.Nodes.{NodeState, NodeSteps, TakesInput, RefusesInput, StopsOnInput, StorageStops}
 use Rattle.node_model.specs.Outputs.{Response}
-use Rattle.node_model.specs.Protocol.{InputFits, HoldsRecords, MindStands, RecordsHold, accepting_after, round_after}
+use Rattle.node_model.specs.Protocol.{InputFits, HoldsRecords, ReplicaStands, RecordsHold, accepting_after, round_after}
 use Rattle.node_model.specs.Taking.{Writes}
 use Rattle.node_model.proofs.AllowedLoading.{loaded_holds}
 use Rattle.node_model.proofs.RecordsGoOn.{written_holds, taken_holds}
@@ -28,7 +28,7 @@ use Rattle.node_model.proofs.RefusalLemmas.{refusal_goes_on}
 use Rattle.world_model.specs.Progress.{StepsAll, PromisesNeverFall}
 use Rattle.world_model.specs.Reaching.{AreHonest, IsAllowed}
 use Rattle.world_model.specs.Worlds.{WorldState, TakesAt, with_node, without_wait}
-use Rattle.world_model.proofs.FleetSteps.{set_at}
+use Rattle.world_model.proofs.MembershipSteps.{set_at}
 use Rattle.world_model.proofs.FloorLemmas.{promise_after}
 use Rattle.world_model.proofs.ListedPuts.{KeepsPuts}
 use Rattle.world_model.proofs.OfTheRun.{node_of, held}
@@ -39,7 +39,7 @@ use Rattle.world_model.proofs.StorageLaws.{written_contents, failed_contents}
 use Rattle.world_model.proofs.WorldMoves.{set_there}
 
 -- what is to be refused stops no node, and is not taken
-pub unrefused : (m : Mind) (i : Input) (r : Result Response NodeFault) (o : Option NodeFault) → refuses m i ≡ o
+pub unrefused : (m : ReplicaState) (i : Input) (r : Result Response NodeFault) (o : Option NodeFault) → refuses m i ≡ o
     → IfSome o (λ g. r ≡ Err g) → ((g : NodeFault) → r ≡ Err g → is_stop_fault g ≡ true) → refuses m i ≡ None
 unrefused m i r None e h stops = e
 unrefused m i r (Some g) e h stops =
@@ -52,7 +52,7 @@ module _ {S : Type 0} (contents : Script S → Records) where
     accepting : Accepting
     round : ℕ
     holds : RecordsHold (contents n.storage) accepting round
-    up : (m : Mind) → n.up ≡ Some m → HoldsRecords m (contents n.storage)
+    up : (m : ReplicaState) → n.up ≡ Some m → HoldsRecords m (contents n.storage)
 
   -- whoever loads the records of the one later has promised no less than who loads those of the other now
   abbrev IsNotLower : NodeState (Script S) → NodeState (Script S) → Type 0
@@ -65,7 +65,7 @@ module _ {S : Type 0} (contents : Script S → Records) where
 
   -- the records are the same
   keeps_same : (old new : NodeState (Script S)) → contents new.storage ≡ contents old.storage → IsRecorded old
-      → ((m : Mind) → new.up ≡ Some m → HoldsRecords m (contents old.storage)) → Keeps old new
+      → ((m : ReplicaState) → new.up ≡ Some m → HoldsRecords m (contents old.storage)) → Keeps old new
   keeps_same old new same was up = record {
     recorded = record {
       accepting = was.accepting;
@@ -86,10 +86,10 @@ module _ {S : Type 0} (contents : Script S → Records) where
       (λ m e. was.up m (sym (ap (λ (n : NodeState (Script S)). n.up) same) ∙ e))
 
   -- the write of an input is made
-  keeps_written : (old new : NodeState (Script S)) (m : Mind) (i : Input) (w : Write)
+  keeps_written : (old new : NodeState (Script S)) (m : ReplicaState) (i : Input) (w : Write)
       → contents new.storage ≡ records_after (contents old.storage) w → refuses m i ≡ None → Writes m i w → InputFits i
       → HoldsRecords m (contents old.storage)
-      → ((k : Mind) → new.up ≡ Some k → HoldsRecords k (records_after (contents old.storage) w)) → Keeps old new
+      → ((k : ReplicaState) → new.up ≡ Some k → HoldsRecords k (records_after (contents old.storage) w)) → Keeps old new
   keeps_written old new m i w written none writes fits holds up =
       let then : RecordsHold (records_after (contents old.storage) w) (accepting_after m i) (round_after m i) =
       written_holds m i (contents old.storage) w none writes fits holds in
@@ -110,7 +110,7 @@ module _ {S : Type 0} (contents : Script S → Records) where
             omega (arith, before, after, rises);
       }
 
-  down_holds_nothing : (new : NodeState (Script S)) (P : Mind → Type 0) → new.up ≡ None → (m : Mind) → new.up ≡ Some m → P m
+  down_holds_nothing : (new : NodeState (Script S)) (P : ReplicaState → Type 0) → new.up ≡ None → (m : ReplicaState) → new.up ≡ Some m → P m
   down_holds_nothing new P down m e = absurd (none-some m (sym down ∙ e))
 
 module _ {S : Type 0} {storages : Ghosts (Script S)} (laws : IsLawful storages)
@@ -124,7 +124,7 @@ module _ {S : Type 0} {storages : Ghosts (Script S)} (laws : IsLawful storages)
   NodeKeeps = Keeps storages.contents
 
   -- ---- an input
-  stopped_keeps : (old new : NodeState (Script S)) (m : Mind) (i : Input) (f : NodeFault) → old.up ≡ Some m
+  stopped_keeps : (old new : NodeState (Script S)) (m : ReplicaState) (i : Input) (f : NodeFault) → old.up ≡ Some m
       → StorageStops storages old.storage m i f new.storage → new.up ≡ None → refuses m i ≡ None → InputFits i
       → storages.IsHonest new.storage → Recorded old → NodeKeeps old new
   stopped_keeps old new m i fault.Device up h down none fits honest was =
@@ -155,7 +155,7 @@ module _ {S : Type 0} {storages : Ghosts (Script S)} (laws : IsLawful storages)
   abbrev took : Response → Result Response NodeFault
   took said = Ok said
 
-  failed_keeps : (old new : NodeState (Script S)) (m : Mind) (i : Input) (f : NodeFault) (b : Bool) → is_stop_fault f ≡ b → old.up ≡ Some m
+  failed_keeps : (old new : NodeState (Script S)) (m : ReplicaState) (i : Input) (f : NodeFault) (b : Bool) → is_stop_fault f ≡ b → old.up ≡ Some m
       → MatchBool b (StopsOnInput storages old m i f new) (RefusesInput old m i f new) → IfSome (refuses m i) (λ g. failed f ≡ Err g)
       → InputFits i → storages.IsHonest new.storage → Recorded old → NodeKeeps old new
   failed_keeps old new m i f true stops up h none fits honest was =
@@ -163,7 +163,7 @@ module _ {S : Type 0} {storages : Ghosts (Script S)} (laws : IsLawful storages)
       (unrefused m i (failed f) (refuses m i) refl none (λ g e. let same : f ≡ g = cc in sym (ap is_stop_fault same) ∙ stops)) fits honest was
   failed_keeps old new m i f false stops up h none fits honest was = keeps_node storages.contents old new h.leaves was
 
-  up_keeps : (old new : NodeState (Script S)) (m : Mind) (i : Input) (r : Result Response NodeFault) → old.up ≡ Some m
+  up_keeps : (old new : NodeState (Script S)) (m : ReplicaState) (i : Input) (r : Result Response NodeFault) → old.up ≡ Some m
       → IfOk r (λ said. TakesInput storages old m i said new)
       → IfErr r (λ f. MatchBool (is_stop_fault f) (StopsOnInput storages old m i f new) (RefusesInput old m i f new))
       → IfSome (refuses m i) (λ g. r ≡ Err g) → InputFits i → storages.IsHonest new.storage → Recorded old → NodeKeeps old new
@@ -174,21 +174,21 @@ module _ {S : Type 0} {storages : Ghosts (Script S)} (laws : IsLawful storages)
       keeps_written storages.contents old new m i w (written_contents laws old.storage new.storage w h.made.leaves honest) unrefused_
       h.made.made fits (was.up m up)
       (λ k e.
-      let same : h.mind ≡ k = same_Some h.mind k (sym (ap (λ (n : NodeState (Script S)). n.up) h.leaves) ∙ e) in
-      subst (λ (x : Mind). HoldsRecords x (records_after (storages.contents old.storage) w)) same
-      (taken_holds m i h.mind said (storages.contents old.storage) w unrefused_ h.takes h.made.made fits (was.up m up)))
+      let same : h.replica ≡ k = same_Some h.replica k (sym (ap (λ (n : NodeState (Script S)). n.up) h.leaves) ∙ e) in
+      subst (λ (x : ReplicaState). HoldsRecords x (records_after (storages.contents old.storage) w)) same
+      (taken_holds m i h.replica said (storages.contents old.storage) w unrefused_ h.takes h.made.made fits (was.up m up)))
   up_keeps old new m i (Err f) up taken h none fits honest was =
       failed_keeps old new m i f (is_stop_fault f) refl up h none fits honest was
 
-  node_keeps : (old new : NodeState (Script S)) (i : Input) (r : Result Response NodeFault) (o : Option Mind) → old.up ≡ o
+  node_keeps : (old new : NodeState (Script S)) (i : Input) (r : Result Response NodeFault) (o : Option ReplicaState) → old.up ≡ o
       → NodeSteps storages old i r new → InputFits i → storages.IsHonest new.storage → Recorded old → NodeKeeps old new
   node_keeps old new i r None up h fits honest was = keeps_node storages.contents old new (h.down up).1 was
   node_keeps old new i r (Some m) up h fits honest was =
       up_keeps old new m i r up
-      (subst (λ (o : Option Mind). IfSome o (λ n. IfOk r (λ said. TakesInput storages old n i said new))) up h.taken)
-      (subst (λ (o : Option Mind). IfSome o (λ n. IfErr r (λ f. MatchBool (is_stop_fault f)
+      (subst (λ (o : Option ReplicaState). IfSome o (λ n. IfOk r (λ said. TakesInput storages old n i said new))) up h.taken)
+      (subst (λ (o : Option ReplicaState). IfSome o (λ n. IfErr r (λ f. MatchBool (is_stop_fault f)
       (StopsOnInput storages old n i f new) (RefusesInput old n i f new)))) up h.refused)
-      (subst (λ (o : Option Mind). IfSome o (λ n. IfSome (refuses n i) (λ g. r ≡ Err g))) up h.refuses_) fits honest was
+      (subst (λ (o : Option ReplicaState). IfSome o (λ n. IfSome (refuses n i) (λ g. r ≡ Err g))) up h.refuses_) fits honest was
 
   -- ---- a restart
   restart_keeps : (old new : NodeState (Script S)) (r : Result (Unit {0}) NodeFault) → Restarts storages old r new
@@ -306,7 +306,7 @@ module _ {S : Type 0} {storages : Ghosts (Script S)} (laws : IsLawful storages)
         accepting = at.stands.records.accepting;
         round = at.stands.records.round;
         holds = at.stands.records.holds;
-        up = λ m e. (held (λ (k : Mind). HoldsRecords k (storages.contents n.storage) × MindStands k at.after) n.up m e at.stands.up).0;
+        up = λ m e. (held (λ (k : ReplicaState). HoldsRecords k (storages.contents n.storage) × ReplicaStands k at.after) n.up m e at.stands.up).0;
       }
 
   -- so no promise falls

@@ -29,20 +29,20 @@ use Rattle.wire.specs.RecordForms.{Checkpointed, checkpoint_bytes}
 use Rattle.node_model.specs.declared.fault.NodeFault.{NodeFault}
 use Rattle.node_model.specs.declared.input.Input.{Input}
 use Rattle.node_model.specs.declared.input.Input.TheVariants as input
-use Rattle.node_model.specs.Inputs.{names_run, concerns}
+use Rattle.node_model.specs.Inputs.{names_run, is_for_this_run}
 use Rattle.node_model.specs.Loading.{IsMember, Restarts}
-use Rattle.node_model.specs.Minds.{Mind, promised}
+use Rattle.node_model.specs.Replicas.{ReplicaState, promised}
 use Rattle.node_model.specs.Nodes.{NodeState, NodeSteps}
 use Rattle.node_model.specs.Outputs.{Response}
 use Rattle.node_model.specs.Taking.{WritesOnMessage, WritesOnEnvelope, Writes}
 use Rattle.events.specs.declared.event.Event.{Event}
-use Rattle.world_model.specs.Fleets.{IsFleet}
+use Rattle.world_model.specs.Memberships.{IsMembership}
 use Rattle.world_model.specs.Flushing.{IsStart}
 use Rattle.world_model.specs.Reaching.{AreHonest, IsAllowed}
 use Rattle.world_model.specs.Safety.{PromisesAmong, PromisesOfRun}
-use Rattle.world_model.specs.Worlds.{WorldState, mind_in, mind_at, TakesAt, Steps, with_node, without_wait}
+use Rattle.world_model.specs.Worlds.{WorldState, replica_in, replica_at, TakesAt, Steps, with_node, without_wait}
 use Rattle.world_model.proofs.CheckpointPuts.{checkpoint_put}
-use Rattle.world_model.proofs.FleetSteps.{set_at}
+use Rattle.world_model.proofs.MembershipSteps.{set_at}
 use Rattle.world_model.proofs.ListedPuts.{GoesOn, KeepsPuts, same_lists, same_goes, put_by, sets_put}
 use Rattle.world_model.proofs.NodeComes.{NodeGoesOn, node_goes, restart_goes}
 use Rattle.world_model.proofs.OfTheRun.{up_at, promise_of_run}
@@ -113,7 +113,7 @@ trim_among nodes a (Some change) h b e =
     absurd (none-some (key.Promise, ballot_bytes b) (ap (λ (x : Change). put_by (Some x)) (sym h.1) ∙ ap put_by e))
 
 -- on a message that names the run
-message_among : (m : Mind) (message : Message) (write : Write) → names_run m.nodes message ≡ true → WritesOnMessage m message write
+message_among : (m : ReplicaState) (message : Message) (write : Write) → names_run m.nodes message ≡ true → WritesOnMessage m message write
     → WritesAmong m.nodes write
 message_among m (Prepare ballot first) write names w =
     subst (λ (x : Write). WritesAmong m.nodes x) (sym w)
@@ -123,20 +123,20 @@ message_among m (Accept v) write names w = cast_among m.nodes m.accepting v writ
 message_among m other write names w = none_among m.nodes write w
 
 -- a message that concerns a node names the run
-names_the_run : (id nodes : ℕ) (e : Envelope) → concerns id nodes e ≡ true → names_run nodes e.message ≡ true
+names_the_run : (id nodes : ℕ) (e : Envelope) → is_for_this_run id nodes e ≡ true → names_run nodes e.message ≡ true
 names_the_run id nodes e h =
     (and_parts (nat_lt e.from nodes) (names_run nodes e.message)
     (and_parts (e.to == id) (nat_lt e.from nodes && names_run nodes e.message) h).1).1
 
-envelope_among : (m : Mind) (e : Envelope) (write : Write) (b : Bool) → concerns m.id m.nodes e ≡ b → WritesOnEnvelope m e b write
+envelope_among : (m : ReplicaState) (e : Envelope) (write : Write) (b : Bool) → is_for_this_run m.id m.nodes e ≡ b → WritesOnEnvelope m e b write
     → WritesAmong m.nodes write
 envelope_among m e write false is w = none_among m.nodes write w
 envelope_among m e write true is w = message_among m e.message write (names_the_run m.id m.nodes e is) w
 
 -- on any input
-input_among : (m : Mind) (i : Input) (write : Write) → Writes m i write → WritesAmong m.nodes write
+input_among : (m : ReplicaState) (i : Input) (write : Write) → Writes m i write → WritesAmong m.nodes write
 input_among m (input.Submit client number op) write w = none_among m.nodes write w
-input_among m (input.Message e) write w = envelope_among m e write (concerns m.id m.nodes e) refl w
+input_among m (input.Message e) write w = envelope_among m e write (is_for_this_run m.id m.nodes e) refl w
 input_among m input.Timeout write w = other_among m.nodes write key.Round _ (λ zero_. absurd (omega arith)) w
 input_among m input.Tick write w = none_among m.nodes write w
 input_among m input.Checkpoint write w = other_among m.nodes write key.Checkpoint _ (λ zero_. absurd (omega arith)) w.is
@@ -156,7 +156,7 @@ nothing_among nodes = record {
 }
 
 -- what a node that is up puts, as it has promised a ballot of such a node
-puts_among : (records : Records) (m : Mind) (i : Input) (write : Write) → RecordsSay records m.accepting
+puts_among : (records : Records) (m : ReplicaState) (i : Input) (write : Write) → RecordsSay records m.accepting
     → ((b : Ballot) → promised m ≡ Some b → b.node < m.nodes) → Writes m i write → PutsAmong m.nodes (put_by write)
 puts_among records m i write says of_run writes = record {
   alone = λ b e. input_among m i write writes b (sets_put write (key.Promise, ballot_bytes b) e);
@@ -194,17 +194,17 @@ module _ {S : Type 0} {storages : Ghosts (Script S)} (laws : IsLawful storages) 
 
   -- ---- a node takes an input
   -- where it is up it holds what its records say, and has promised a ballot of one of so many nodes
-  record IsSureOf (nodes : ℕ) (n : NodeState (Script S)) (m : Mind) : Type 0 where
+  record IsSureOf (nodes : ℕ) (n : NodeState (Script S)) (m : ReplicaState) : Type 0 where
     says : RecordsSay (storages.contents n.storage) m.accepting
     of_run : (b : Ballot) → promised m ≡ Some b → b.node < nodes
 
   made_among : (id nodes : ℕ) (old new : NodeState (Script S)) (i : Input) → IsMember id nodes old
-      → ((m : Mind) → old.up ≡ Some m → IsSureOf nodes old m) → (on : NodeGoesOn storages.contents i old new)
+      → ((m : ReplicaState) → old.up ≡ Some m → IsSureOf nodes old m) → (on : NodeGoesOn storages.contents i old new)
       → PutsAmong nodes (put_by on.made)
   made_among id nodes old new i member is on = elim on.writes [
     | inl none ↦ subst (λ (w : Write). PutsAmong nodes (put_by w)) (sym none) (nothing_among nodes)
     | inr writer ↦
-        let m : Mind = writer.0 in
+        let m : ReplicaState = writer.0 in
         let of_all : m.nodes ≡ nodes = (member.up m writer.1).of_all in
         let sure : IsSureOf nodes old m = is m writer.1 in
         subst (λ (k : ℕ). PutsAmong k (put_by on.made)) of_all
@@ -213,7 +213,7 @@ module _ {S : Type 0} {storages : Ghosts (Script S)} (laws : IsLawful storages) 
   ]
 
   node_among : (id nodes : ℕ) (old new : NodeState (Script S)) (i : Input) (r : Result Response NodeFault)
-      → NodeSteps storages old i r new → IsMember id nodes old → ((m : Mind) → old.up ≡ Some m → IsSureOf nodes old m)
+      → NodeSteps storages old i r new → IsMember id nodes old → ((m : ReplicaState) → old.up ≡ Some m → IsSureOf nodes old m)
       → storages.IsHonest new.storage → Among nodes old.storage → Among nodes new.storage
   node_among id nodes old new i r h member is honest =
       let on : NodeGoesOn storages.contents i old new = node_goes laws lists old new i r h honest in
@@ -246,15 +246,15 @@ module _ {S : Type 0} {storages : Ghosts (Script S)} (laws : IsLawful storages) 
   Honest nodes = AreHonest storages.IsHonest nodes
 
   -- who is up holds what its records say, and has promised a ballot of the run
-  sure_of : (w : WorldState S) (i : ℕ) (n : NodeState (Script S)) → slice_get w.nodes i ≡ Some n → IsFleet w.nodes w.frames → Allowed w
-      → OfRun w.nodes → (m : Mind) → n.up ≡ Some m → IsSureOf (length w.nodes) n m
-  sure_of w i n here fleet allowed promises m up =
-      let there : mind_at w i ≡ Some m = ap (λ (o : Option (NodeState (Script S))). mind_in o) here ∙ up in
+  sure_of : (w : WorldState S) (i : ℕ) (n : NodeState (Script S)) → slice_get w.nodes i ≡ Some n → IsMembership w.nodes w.frames → Allowed w
+      → OfRun w.nodes → (m : ReplicaState) → n.up ≡ Some m → IsSureOf (length w.nodes) n m
+  sure_of w i n here membership allowed promises m up =
+      let there : replica_at w i ≡ Some m = ap (λ (o : Option (NodeState (Script S))). replica_in o) here ∙ up in
       let at = up_at storages.contents w allowed i m there in
       let same : at.node ≡ n = same_Some at.node n (sym at.here ∙ here) in
       record {
         says = subst (λ (x : NodeState (Script S)). RecordsSay (storages.contents x.storage) m.accepting) same at.records.acceptor;
-        of_run = promise_of_run storages.contents w allowed fleet promises i m there;
+        of_run = promise_of_run storages.contents w allowed membership promises i m there;
       }
 
   -- one node is another
@@ -281,40 +281,40 @@ module _ {S : Type 0} {storages : Ghosts (Script S)} (laws : IsLawful storages) 
       (set_promises old.nodes node after promises (keeps own (promises node before here)))
 
   takes_promises : (old : WorldState S) (node : ℕ) (i : Input) (taken : Bool) (new : WorldState S)
-      → TakesAt storages old node i taken new → IsFleet old.nodes old.frames → Allowed old → OfRun old.nodes → Honest new.nodes
+      → TakesAt storages old node i taken new → IsMembership old.nodes old.frames → Allowed old → OfRun old.nodes → Honest new.nodes
       → OfRun new.nodes
-  takes_promises old node i taken new h fleet allowed promises honest =
+  takes_promises old node i taken new h membership allowed promises honest =
       changed_promises old new node h.before h.after h.here
       (ap (λ (w : WorldState S). w.nodes) h.leaves ∙ recorded_nodes (with_node old node h.after) node h.result) promises honest
-      (node_among node (length old.nodes) h.before h.after i h.result h.steps (fleet.members node h.before h.here)
-      (sure_of old node h.before h.here fleet allowed promises))
+      (node_among node (length old.nodes) h.before h.after i h.result h.steps (membership.members node h.before h.here)
+      (sure_of old node h.before h.here membership allowed promises))
 
   -- ---- one step
   promises_hold : ((s : Script S) (f : Failing) → storages.contents (record s { armed = Some f }) ≡ storages.contents s)
-      → HoldsOf storages (λ old e new. IsFleet old.nodes old.frames → Allowed old → OfRun old.nodes → Honest new.nodes → OfRun new.nodes)
+      → HoldsOf storages (λ old e new. IsMembership old.nodes old.frames → Allowed old → OfRun old.nodes → Honest new.nodes → OfRun new.nodes)
   promises_hold armed = record {
     takes = λ old e node i taken new h own. takes_promises old node i taken new h;
-    submits = λ old e node r new h fleet allowed promises honest.
+    submits = λ old e node r new h membership allowed promises honest.
         let nodes : new.nodes ≡ h.between.nodes = ap (λ (w : WorldState S). w.nodes) h.leaves ∙ submission_nodes h.between h.taken node _ in
         same_promises h.between new nodes
-        (takes_promises old node (input.Submit r.client r.number r.op) h.taken h.between h.takes fleet allowed promises
+        (takes_promises old node (input.Submit r.client r.number r.op) h.taken h.between h.takes membership allowed promises
         (subst (λ (x : Nodes). Honest x) nodes honest));
-    hears = λ old e k frame taken new sent fits h fleet allowed promises honest.
-        takes_promises (without_wait old k) frame.to (input.Message frame) taken new h fleet allowed promises honest;
-    loses = λ old e k o new brings h fleet allowed promises honest.
+    hears = λ old e k frame taken new sent fits h membership allowed promises honest.
+        takes_promises (without_wait old k) frame.to (input.Message frame) taken new h membership allowed promises honest;
+    loses = λ old e k o new brings h membership allowed promises honest.
         same_promises old new (ap (λ (w : WorldState S). w.nodes) h) promises;
-    restarts = λ old node new h fleet allowed promises honest.
+    restarts = λ old node new h membership allowed promises honest.
         changed_promises old new node h.before h.after h.here (ap (λ (w : WorldState S). w.nodes) h.leaves) promises honest
         (restarted_among (length old.nodes) h.before h.after h.result h.restarts);
-    arms = λ old e node failing new h fleet allowed promises honest.
+    arms = λ old e node failing new h membership allowed promises honest.
         let after : NodeState (Script S) = record h.before { storage = record h.before.storage { armed = Some failing } } in
         changed_promises old new node h.before after h.here (ap (λ (w : WorldState S). w.nodes) h.leaves) promises honest
         (λ _. armed_among (length old.nodes) h.before.storage after.storage (armed h.before.storage failing) refl refl);
-    answers = λ old e node query new h fleet allowed promises honest.
+    answers = λ old e node query new h membership allowed promises honest.
         same_promises old new (ap (λ (w : WorldState S). w.nodes) h.leaves ∙ answered_nodes old node query h.result) promises;
   }
 
   pub step_promises : ((s : Script S) (f : Failing) → storages.contents (record s { armed = Some f }) ≡ storages.contents s)
       → (old : WorldState S) (e : Event) (new : WorldState S) → Steps storages old e new
-      → IsFleet old.nodes old.frames → Allowed old → OfRun old.nodes → Honest new.nodes → OfRun new.nodes
+      → IsMembership old.nodes old.frames → Allowed old → OfRun old.nodes → Honest new.nodes → OfRun new.nodes
   step_promises armed old e new h = step_holds (promises_hold armed) old e new h

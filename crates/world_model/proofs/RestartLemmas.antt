@@ -10,39 +10,39 @@ use Rattle.wire.specs.RecordForms.{checkpoint_bytes}
 use Rattle.acceptor.specs.Accepting.{floor_of}
 use Rattle.node_model.specs.declared.fault.NodeFault.{NodeFault}
 use Rattle.node_model.specs.Loading.{IsLoaded, Restarts}
-use Rattle.node_model.specs.Minds.{Mind, position}
-use Rattle.node_model.specs.Protocol.{RecordsAgree, HoldsRecords, MindStands}
+use Rattle.node_model.specs.Replicas.{ReplicaState, position}
+use Rattle.node_model.specs.Protocol.{RecordsAgree, HoldsRecords, ReplicaStands}
 use Rattle.node_model.specs.States.{NodeState}
 use Rattle.node_model.proofs.AllowedLoading.{blank_at, loaded_holds, loaded_stands}
 use Rattle.node_model.proofs.Learnt.{loaded_begins}
 use Rattle.world_model.specs.Reaching.{NodeStands}
 
 -- what stands for a node that is up
-abbrev Up : Records → Local Command → Mind → Type 0
-Up records x m = HoldsRecords m records × MindStands m x
+abbrev Up : Records → Local Command → ReplicaState → Type 0
+Up records x m = HoldsRecords m records × ReplicaStands m x
 
 -- the slot at which a node begins; one that is down is nowhere
-abbrev pub begins_at : Option Mind → ℕ
+abbrev pub begins_at : Option ReplicaState → ℕ
 begins_at None = zero
 begins_at (Some m) = position m
 
 module _ {S : Type 0} {contents : Script S → Records} where
   -- a node whose records are the same, and which holds what they leave where it is up
-  pub up_again : (old new : NodeState (Script S)) (x : Local Command) (o : Option Mind) → new.up ≡ o
-      → contents new.storage ≡ contents old.storage → RecordsAgree (contents old.storage) x.records → x.mind ≡ blank_at (begins_at o)
+  pub up_again : (old new : NodeState (Script S)) (x : Local Command) (o : Option ReplicaState) → new.up ≡ o
+      → contents new.storage ≡ contents old.storage → RecordsAgree (contents old.storage) x.records → x.replica ≡ blank_at (begins_at o)
       → IfSome o (IsLoaded (contents old.storage) old.id old.nodes) → NodeStands contents new x
   up_again old new x None up same agree none loads = record {
     records = subst (λ (c : Records). RecordsAgree c x.records) (sym same) agree;
-    up = subst (λ (o : Option Mind). IfSome o (Up (contents new.storage) x)) (sym up) tt;
+    up = subst (λ (o : Option ReplicaState). IfSome o (Up (contents new.storage) x)) (sym up) tt;
   }
   up_again old new x (Some m) up same agree none loads =
       let holds : HoldsRecords m (contents old.storage) =
       loaded_holds (contents old.storage) old.id old.nodes m loads agree.accepting agree.round agree.holds in
-      let stands : MindStands m x =
+      let stands : ReplicaStands m x =
       loaded_stands (contents old.storage) old.id old.nodes m loads agree.accepting agree.round x agree.holds agree.stands none in
       record {
         records = subst (λ (c : Records). RecordsAgree c x.records) (sym same) agree;
-        up = subst (λ (o : Option Mind). IfSome o (Up (contents new.storage) x)) (sym up)
+        up = subst (λ (o : Option ReplicaState). IfSome o (Up (contents new.storage) x)) (sym up)
             (subst (λ (c : Records). HoldsRecords m c) (sym same) holds, stands);
       }
 
@@ -52,7 +52,7 @@ none_before f None e = refl
 none_before f (Some x) e = absurd cc
 
 -- one that comes up without records begins at slot 0
-pub begins_at_first : (id nodes : ℕ) (o : Option Mind) → IfSome o (IsLoaded no_records id nodes) → begins_at o ≡ zero
+pub begins_at_first : (id nodes : ℕ) (o : Option ReplicaState) → IfSome o (IsLoaded no_records id nodes) → begins_at o ≡ zero
 begins_at_first id nodes None loads = refl
 begins_at_first id nodes (Some m) loads =
     let says = loads.accepting in
@@ -69,7 +69,7 @@ pub loads_or_down : {S : Type 0} {storages : Ghosts (Script S)} (old new : NodeS
     → IfSome new.up (IsLoaded (storages.contents old.storage) old.id old.nodes)
 loads_or_down old new (Ok x) h honest = h.loads honest
 loads_or_down {S} {storages} old new (Err f) h honest =
-    subst (λ (o : Option Mind). IfSome o (IsLoaded (storages.contents old.storage) old.id old.nodes)) (sym h.down) tt
+    subst (λ (o : Option ReplicaState). IfSome o (IsLoaded (storages.contents old.storage) old.id old.nodes)) (sym h.down) tt
 
 module _ {S : Type 0} {storages : Ghosts (Script S)} (laws : IsLawful storages) where
   SameAndHonest : NodeState (Script S) → NodeState (Script S) → Type 0
@@ -105,9 +105,9 @@ module _ {S : Type 0} {storages : Ghosts (Script S)} (laws : IsLawful storages) 
   pub restart_stands : (old new : NodeState (Script S)) (result : Result (Unit {0}) NodeFault) (x : Local Command)
       → Restarts storages old result new
       → storages.IsHonest new.storage → NodeStands storages.contents old x
-      → NodeStands storages.contents new (record x { mind = blank_at (begins_at new.up) })
+      → NodeStands storages.contents new (record x { replica = blank_at (begins_at new.up) })
   unfolding SameAndHonest
   restart_stands old new result x h honest stands =
-      up_again old new (record x { mind = blank_at (begins_at new.up) }) new.up refl (restart_reads old new result h honest).0
+      up_again old new (record x { replica = blank_at (begins_at new.up) }) new.up refl (restart_reads old new result h honest).0
       stands.records refl
       (loads_or_down old new result h honest)

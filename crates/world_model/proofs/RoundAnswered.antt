@@ -19,14 +19,14 @@ use Rattle.wire.specs.Promises.{Promised}
 use Rattle.wire.specs.declared.frames.envelope.Envelope.{Envelope}
 use Rattle.wire.specs.declared.frames.message.Message.TheVariants.{Accept, Promise}
 use Rattle.node_model.specs.Inputs.{names_run, is_of_run, is_vote_of_run}
-use Rattle.node_model.specs.Loading.{IsMindOf}
-use Rattle.node_model.specs.Minds.{Mind, position}
+use Rattle.node_model.specs.Loading.{IsReplicaOf}
+use Rattle.node_model.specs.Replicas.{ReplicaState, position}
 use Rattle.node_model.specs.Outputs.{Response}
 use Rattle.node_model.specs.Sending.{to_all}
 use Rattle.node_model.specs.Taking.{Takes, TakesMessage, with_proposer, proposer_sends, after_promise}
 use Rattle.node_model.specs.declared.input.Input.TheVariants as input
 use Rattle.node_model.proofs.Members.{takes_own}
-use Rattle.world_model.specs.Progress.{mind_at}
+use Rattle.world_model.specs.Progress.{replica_at}
 use Rattle.world_model.specs.Worlds.{WorldState}
 use Rattle.world_model.proofs.Handing.{Took, HandsOn, ends, skips, takes, hands_apart, same_or_not}
 use Rattle.world_model.proofs.Leading.{Gathers, LeadsNow, AsksForVote, AsksAll, counts_one, counts_no_more, cannot_gather}
@@ -68,7 +68,7 @@ no_flag (suc n) zero = refl
 no_flag (suc n) (suc j) = no_flag n j
 
 -- ---- a promise that was answered names the nodes of the run
-pub promise_names : (nodes : ℕ) (ballot : Ballot) (slot : ℕ) (m : Mind) (p : Promised) → ballot.node < nodes
+pub promise_names : (nodes : ℕ) (ballot : Ballot) (slot : ℕ) (m : ReplicaState) (p : Promised) → ballot.node < nodes
     → ((s : ℕ) (v : Vote Command) → m.accepting.vote s ≡ Some v → v.ballot.node < nodes) → IsPromiseFrom m.accepting.vote ballot slot p
     → names_run nodes (Promise p) ≡ true
 promise_names nodes ballot slot m p owner voted h =
@@ -77,11 +77,11 @@ promise_names nodes ballot slot m p owner voted h =
     (all_of (is_vote_of_run nodes) p.entries (λ v among. is_below v.ballot.node nodes (voted v.slot v (h.tells.stand v among))))
 
 -- what it makes of the node
-pub record Counts (node : ℕ) (from : ℕ) (p : Promised) (m new : Mind) (said : Response) : Type 0 where
+pub record Counts (node : ℕ) (from : ℕ) (p : Promised) (m new : ReplicaState) (said : Response) : Type 0 where
   pub leaves : new ≡ with_proposer m (after_promise m from p)
   pub sends : said.sends ≡ proposer_sends m (after_promise m from p)
 
-pub counts_promise : (nodes node from : ℕ) (p : Promised) (m new : Mind) (said : Response) → IsMindOf node nodes m → from < nodes
+pub counts_promise : (nodes node from : ℕ) (p : Promised) (m new : ReplicaState) (said : Response) → IsReplicaOf node nodes m → from < nodes
     → names_run nodes (Promise p) ≡ true → Takes m (input.Message (record { from = from; to = node; message = Promise p })) new said
     → Counts node from p m new said
 counts_promise nodes node from p m new said is there names h =
@@ -91,7 +91,7 @@ counts_promise nodes node from p m new said is there names h =
     record { leaves = t.0; sends = ap (λ (r : Response). r.sends) t.1 }
 
 -- ---- all promises come to the node, one after the other
-module _ {S : Type 0} (w start : WorldState S) (nodes node : ℕ) (members : List ℕ) (ballot : Ballot) (slot : ℕ) (mind : Mind) where
+module _ {S : Type 0} (w start : WorldState S) (nodes node : ℕ) (members : List ℕ) (ballot : Ballot) (slot : ℕ) (replica : ReplicaState) where
   -- it asks all for their votes for a command at the slot, and perhaps for more
   pub record Asks (sends : List Envelope) : Type 0 where
     pub command : Command
@@ -100,7 +100,7 @@ module _ {S : Type 0} (w start : WorldState S) (nodes node : ℕ) (members : Lis
     pub votes : All AsksForVote more
 
   -- the promises of the members below a number were counted
-  pub record Gathering (k : ℕ) (m : Mind) (sends : List Envelope) : Type 0 where
+  pub record Gathering (k : ℕ) (m : ReplicaState) (sends : List Envelope) : Type 0 where
     pub set : List Bool
     pub gathers : Gathers ballot slot m set
     pub flags : length set ≡ 7
@@ -109,38 +109,38 @@ module _ {S : Type 0} (w start : WorldState S) (nodes node : ℕ) (members : Lis
     pub silent : sends ≡ []
 
   -- the node leads already
-  pub record Leading (m : Mind) (sends : List Envelope) : Type 0 where
+  pub record Leading (m : ReplicaState) (sends : List Envelope) : Type 0 where
     pub leads : LeadsNow m
     pub asks : Asks sends
 
   pub record CountedBelow (k : ℕ) (now : WorldState S) : Type 0 where
-    pub mind_then : Mind
-    pub here : mind_at now node ≡ Some mind_then
-    pub is : IsMindOf node nodes mind_then
-    pub learning : mind_then.learning ≡ mind.learning
-    pub accepting : mind_then.accepting ≡ mind.accepting
-    pub others : (j : ℕ) → j ≢ node → mind_at now j ≡ mind_at start j
+    pub replica_then : ReplicaState
+    pub here : replica_at now node ≡ Some replica_then
+    pub is : IsReplicaOf node nodes replica_then
+    pub learning : replica_then.learning ≡ replica.learning
+    pub accepting : replica_then.accepting ≡ replica.accepting
+    pub others : (j : ℕ) → j ≢ node → replica_at now j ≡ replica_at start j
     pub sends : List Envelope
     pub frames_ : now.frames ≡ start.frames ++ sends
-    pub so_far : Gathering k mind_then sends ⊎ Leading mind_then sends
+    pub so_far : Gathering k replica_then sends ⊎ Leading replica_then sends
 
   -- all have come: it has asked all for their votes
   pub record HasAsked (now : WorldState S) : Type 0 where
-    pub mind_then : Mind
-    pub here_then : mind_at now node ≡ Some mind_then
-    pub is_then : IsMindOf node nodes mind_then
-    pub learning : mind_then.learning ≡ mind.learning
-    pub accepting : mind_then.accepting ≡ mind.accepting
-    pub others : (j : ℕ) → j ≢ node → mind_at now j ≡ mind_at start j
+    pub replica_then : ReplicaState
+    pub here_then : replica_at now node ≡ Some replica_then
+    pub is_then : IsReplicaOf node nodes replica_then
+    pub learning : replica_then.learning ≡ replica.learning
+    pub accepting : replica_then.accepting ≡ replica.accepting
+    pub others : (j : ℕ) → j ≢ node → replica_at now j ≡ replica_at start j
     pub sends : List Envelope
     pub frames_ : now.frames ≡ start.frames ++ sends
     pub asks : Asks sends
 
   -- a promise comes while it gathers
-  module _ (node_there : node < nodes) (owner_there : ballot.node < nodes) (few : nodes ≤ 7) (at : slot ≡ position mind)
+  module _ (node_there : node < nodes) (owner_there : ballot.node < nodes) (few : nodes ≤ 7) (at : slot ≡ position replica)
       (in_log : slot < SLOTS)
-      (unlearnt : mind.learning.learnt slot ≡ None) where
-    asks_so : (m : Mind) (sends says : List Envelope) → AsksAll m ballot slot says → sends ≡ says → m.id ≡ node → m.nodes ≡ nodes
+      (unlearnt : replica.learning.learnt slot ≡ None) where
+    asks_so : (m : ReplicaState) (sends says : List Envelope) → AsksAll m ballot slot says → sends ≡ says → m.id ≡ node → m.nodes ≡ nodes
         → Asks sends
     asks_so m sends says a same number of_all = record {
       command = a.command;
@@ -151,9 +151,9 @@ module _ {S : Type 0} (w start : WorldState S) (nodes node : ℕ) (members : Lis
       votes = a.votes;
     }
 
-    gathers_on : (k : ℕ) (p : Promised) (m new : Mind) (said : Response) (sends : List Envelope) → Gathering k m sends
-        → Counts node k p m new said → k < nodes → p.ballot ≡ ballot → p.first ≡ slot → slot ≤ p.last → m.learning ≡ mind.learning
-        → IsMindOf node nodes m → Gathering (suc k) new (sends ++ said.sends) ⊎ Leading new (sends ++ said.sends)
+    gathers_on : (k : ℕ) (p : Promised) (m new : ReplicaState) (said : Response) (sends : List Envelope) → Gathering k m sends
+        → Counts node k p m new said → k < nodes → p.ballot ≡ ballot → p.first ≡ slot → slot ≤ p.last → m.learning ≡ replica.learning
+        → IsReplicaOf node nodes m → Gathering (suc k) new (sends ++ said.sends) ⊎ Leading new (sends ++ said.sends)
     gathers_on k p m new said sends g c there of_ballot from within learning is =
         let silent : sends ++ said.sends ≡ proposer_sends m (after_promise m k p) =
         ap (λ (xs : List Envelope). xs ++ said.sends) g.silent ∙ c.sends in
@@ -161,7 +161,7 @@ module _ {S : Type 0} (w start : WorldState S) (nodes node : ℕ) (members : Lis
         (at ∙ ap (λ (l : Learning). prefix l) (sym learning)) in_log (ap (λ (l : Learning). l.learnt slot) learning ∙ unlearnt)) [
           | inl more ↦ inl (record {
             set = with_node g.set k;
-            gathers = subst (λ (x : Mind). Gathers ballot slot x (with_node g.set k)) (sym c.leaves) more.0;
+            gathers = subst (λ (x : ReplicaState). Gathers ballot slot x (with_node g.set k)) (sym c.leaves) more.0;
             flags = same_flags g.set k ∙ g.flags;
             counted_ = λ j less among. elim (same_or_not j k) [
               | inl same ↦ subst (λ (i : ℕ). has_node (with_node g.set k) i ≡ true) (sym same)
@@ -172,12 +172,12 @@ module _ {S : Type 0} (w start : WorldState S) (nodes node : ℕ) (members : Lis
             silent = silent ∙ more.1;
           })
           | inr lead ↦ inr (record {
-            leads = subst (λ (x : Mind). LeadsNow x) (sym c.leaves) lead.0;
+            leads = subst (λ (x : ReplicaState). LeadsNow x) (sym c.leaves) lead.0;
             asks = asks_so m (sends ++ said.sends) (proposer_sends m (after_promise m k p)) lead.1 silent is.number is.of_all;
           })
         ]
 
-    leads_on : (k : ℕ) (p : Promised) (m new : Mind) (said : Response) (sends : List Envelope) → Leading m sends
+    leads_on : (k : ℕ) (p : Promised) (m new : ReplicaState) (said : Response) (sends : List Envelope) → Leading m sends
         → Counts node k p m new said
         → Leading new (sends ++ said.sends)
     leads_on k p m new said sends l c =
@@ -185,13 +185,13 @@ module _ {S : Type 0} (w start : WorldState S) (nodes node : ℕ) (members : Lis
         let silent : said.sends ≡ [] = c.sends ∙ ap (λ (x : _). proposer_sends m x) none in
         let same : new ≡ m = c.leaves ∙ ap (λ (x : _). with_proposer m x) none in
         record {
-          leads = subst (λ (x : Mind). LeadsNow x) (sym same) l.leads;
+          leads = subst (λ (x : ReplicaState). LeadsNow x) (sym same) l.leads;
           asks = subst (λ (xs : List Envelope). Asks xs) (sym (ap (λ (xs : List Envelope). sends ++ xs) silent ∙ append-nil sends)) l.asks;
         }
 
-    counted_so : (k : ℕ) (p : Promised) (m new : Mind) (said : Response) (sends : List Envelope)
+    counted_so : (k : ℕ) (p : Promised) (m new : ReplicaState) (said : Response) (sends : List Envelope)
         → Gathering k m sends ⊎ Leading m sends → Counts node k p m new said → k < nodes → p.ballot ≡ ballot → p.first ≡ slot
-        → slot ≤ p.last → m.learning ≡ mind.learning → IsMindOf node nodes m
+        → slot ≤ p.last → m.learning ≡ replica.learning → IsReplicaOf node nodes m
         → Gathering (suc k) new (sends ++ said.sends) ⊎ Leading new (sends ++ said.sends)
     counted_so k p m new said sends (inl g) c there of_ballot from within learning is =
         gathers_on k p m new said sends g c there of_ballot from within learning is
@@ -201,36 +201,36 @@ module _ {S : Type 0} (w start : WorldState S) (nodes node : ℕ) (members : Lis
     promise_from k p = record { from = k; to = node; message = Promise p }
 
     -- a member's promise comes
-    counted_promise : (k : ℕ) (p : Promised) (mid now : WorldState S) (m : Mind) → CountedBelow k mid → k < nodes
+    counted_promise : (k : ℕ) (p : Promised) (mid now : WorldState S) (m : ReplicaState) → CountedBelow k mid → k < nodes
         → IsPromiseFrom m.accepting.vote ballot slot p → names_run nodes (Promise p) ≡ true
         → Took mid (record { from = k; to = node; message = Promise p }) now → CountedBelow (suc k) now
     counted_promise k p mid now m h there tells names took =
-        let same : h.mind_then ≡ took.mind = same_mind h.mind_then took.mind (sym h.here ∙ took.here) in
-        let is : IsMindOf node nodes took.mind = subst (λ (x : Mind). IsMindOf node nodes x) same h.is in
-        let learning : took.mind.learning ≡ mind.learning = ap (λ (x : Mind). x.learning) (sym same) ∙ h.learning in
-        let c = counts_promise nodes node k p took.mind took.mind_then took.said is there names took.takes in
+        let same : h.replica_then ≡ took.replica = same_replica h.replica_then took.replica (sym h.here ∙ took.here) in
+        let is : IsReplicaOf node nodes took.replica = subst (λ (x : ReplicaState). IsReplicaOf node nodes x) same h.is in
+        let learning : took.replica.learning ≡ replica.learning = ap (λ (x : ReplicaState). x.learning) (sym same) ∙ h.learning in
+        let c = counts_promise nodes node k p took.replica took.replica_then took.said is there names took.takes in
         record {
-          mind_then = took.mind_then;
+          replica_then = took.replica_then;
           here = took.here_then;
-          is = takes_own node nodes took.mind is (input.Message (record { from = k; to = node; message = Promise p })) took.mind_then
+          is = takes_own node nodes took.replica is (input.Message (record { from = k; to = node; message = Promise p })) took.replica_then
               took.said took.takes;
-          learning = ap (λ (x : Mind). x.learning) c.leaves ∙ learning;
-          accepting = ap (λ (x : Mind). x.accepting) c.leaves ∙ (ap (λ (x : Mind). x.accepting) (sym same) ∙ h.accepting);
+          learning = ap (λ (x : ReplicaState). x.learning) c.leaves ∙ learning;
+          accepting = ap (λ (x : ReplicaState). x.accepting) c.leaves ∙ (ap (λ (x : ReplicaState). x.accepting) (sym same) ∙ h.accepting);
           others = λ j other. took.others j other ∙ h.others j other;
           sends = h.sends ++ took.said.sends;
           frames_ = took.frames_ ∙ (ap (λ (fs : List Envelope). fs ++ took.said.sends) h.frames_
               ∙ append_assoc start.frames h.sends took.said.sends);
-          so_far = counted_so k p took.mind took.mind_then took.said h.sends
-              (subst (λ (x : Mind). Gathering k x h.sends ⊎ Leading x h.sends) same h.so_far) c there tells.of_the_ballot tells.from
+          so_far = counted_so k p took.replica took.replica_then took.said h.sends
+              (subst (λ (x : ReplicaState). Gathering k x h.sends ⊎ Leading x h.sends) same h.so_far) c there tells.of_the_ballot tells.from
               (subst (λ (s : ℕ). s ≤ p.last) tells.from tells.may_be_said.in_order) learning is;
         }
       where
-        same_mind : (m n : Mind) → Some m ≡ Some n → m ≡ n
-        same_mind m n e = let same : m ≡ n = cc in same
+        same_replica : (m n : ReplicaState) → Some m ≡ Some n → m ≡ n
+        same_replica m n e = let same : m ≡ n = cc in same
 
     passed_on : (k : ℕ) (now : WorldState S) → (Contains members k → ⊥) → CountedBelow k now → CountedBelow (suc k) now
     passed_on k now not h = record {
-      mind_then = h.mind_then;
+      replica_then = h.replica_then;
       here = h.here;
       is = h.is;
       learning = h.learning;
@@ -254,13 +254,13 @@ module _ {S : Type 0} (w start : WorldState S) (nodes node : ℕ) (members : Lis
       ];
     }
 
-    module _ (willing : (j : ℕ) (m : Mind) → Contains members j → mind_at w j ≡ Some m → refusing m.accepting.promise ballot ≡ None)
-        (of_run : (j : ℕ) (m : Mind) → mind_at w j ≡ Some m → (s : ℕ) (v : Vote Command) → m.accepting.vote s ≡ Some v
+    module _ (willing : (j : ℕ) (m : ReplicaState) → Contains members j → replica_at w j ≡ Some m → refusing m.accepting.promise ballot ≡ None)
+        (of_run : (j : ℕ) (m : ReplicaState) → replica_at w j ≡ Some m → (s : ℕ) (v : Vote Command) → m.accepting.vote s ≡ Some v
         → v.ballot.node < nodes)
-        (here : mind_at start node ≡ Some mind) (is : IsMindOf node nodes mind) (gathers : Gathers ballot slot mind no_nodes) where
+        (here : replica_at start node ≡ Some replica) (is : IsReplicaOf node nodes replica) (gathers : Gathers ballot slot replica no_nodes) where
       counted_none : (now : WorldState S) → HandsOn (node ∷ []) [] start now → CountedBelow zero now
       counted_none now (ends w_) = record {
-        mind_then = mind;
+        replica_then = replica;
         here = here;
         is = is;
         learning = refl;
@@ -278,8 +278,8 @@ module _ {S : Type 0} (w start : WorldState S) (nodes node : ℕ) (members : Lis
         });
       }
 
-      counted_answer : (k : ℕ) (e : Envelope) (m : Mind) (mid now : WorldState S) → CountedBelow k mid → k < nodes → Contains members k
-          → mind_at w k ≡ Some m → IsAnswer node ballot slot k m e → HandsOn (node ∷ []) (e ∷ []) mid now → CountedBelow (suc k) now
+      counted_answer : (k : ℕ) (e : Envelope) (m : ReplicaState) (mid now : WorldState S) → CountedBelow k mid → k < nodes → Contains members k
+          → replica_at w k ≡ Some m → IsAnswer node ballot slot k m e → HandsOn (node ∷ []) (e ∷ []) mid now → CountedBelow (suc k) now
       counted_answer k e m mid now h there among known (declines g same some) hands =
           let never : None ≡ Some g = sym (willing k m among known) ∙ some in absurd cc
       counted_answer k e m mid now h there among known (promises p same none_ tells) (skips e_ es w_ now_ not hands) =
@@ -307,7 +307,7 @@ module _ {S : Type 0} (w start : WorldState S) (nodes node : ℕ) (members : Lis
       has_asked es a most apart there now hands =
           let h = counted_below nodes es a (omega arith) now hands in
           record {
-            mind_then = h.mind_then;
+            replica_then = h.replica_then;
             here_then = h.here;
             is_then = h.is;
             learning = h.learning;

@@ -13,19 +13,19 @@ use Rattle.acceptor.specs.declared.answer.Answer.{Answer}
 use Rattle.wire.specs.Promises.{Promised}
 use Rattle.wire.specs.declared.frames.envelope.Envelope.{Envelope}
 use Rattle.wire.specs.declared.frames.message.Message.TheVariants.{Prepare, Promise, Nack}
-use Rattle.node_model.specs.Inputs.{concerns, names_run}
-use Rattle.node_model.specs.Loading.{IsMindOf}
-use Rattle.node_model.specs.Minds.{Mind}
+use Rattle.node_model.specs.Inputs.{is_for_this_run, names_run}
+use Rattle.node_model.specs.Loading.{IsReplicaOf}
+use Rattle.node_model.specs.Replicas.{ReplicaState}
 use Rattle.node_model.specs.Outputs.{Response, sent}
 use Rattle.node_model.specs.Sending.{to_all, to_one, answer_sends}
 use Rattle.node_model.specs.Taking.{Takes, TakesEnvelope, TakesMessage}
 use Rattle.node_model.specs.declared.input.Input.TheVariants as input
-use Rattle.world_model.specs.Progress.{mind_at}
+use Rattle.world_model.specs.Progress.{replica_at}
 use Rattle.world_model.specs.Worlds.{WorldState}
 use Rattle.world_model.proofs.Handing.{Took, HandsOn, ends, skips, takes, hands_apart, same_or_not}
 
 -- ---- an envelope that concerns its receiver
-pub takes_message : (m : Mind) (e : Envelope) (new : Mind) (said : Response) → concerns m.id m.nodes e ≡ true
+pub takes_message : (m : ReplicaState) (e : Envelope) (new : ReplicaState) (said : Response) → is_for_this_run m.id m.nodes e ≡ true
     → Takes m (input.Message e) new said → TakesMessage m e.from e.message new said
 takes_message m e new said yes_ h = subst (λ (b : Bool). TakesEnvelope m e b new said) yes_ h
 
@@ -40,9 +40,9 @@ both true b x y = y
 both false b x y = absurd cc
 
 -- it is addressed to the node, and names nodes of the run
-pub it_concerns : (to nodes : ℕ) (m : Mind) (e : Envelope) → IsMindOf to nodes m → e.to ≡ to → e.from < nodes
+pub it_concerns : (to nodes : ℕ) (m : ReplicaState) (e : Envelope) → IsReplicaOf to nodes m → e.to ≡ to → e.from < nodes
     → names_run nodes e.message ≡ true
-    → concerns m.id m.nodes e ≡ true
+    → is_for_this_run m.id m.nodes e ≡ true
 it_concerns to nodes m e is to_ from names =
     let here : e.to == m.id ≡ true =
     subst (λ (k : ℕ). e.to == k ≡ true) (to_ ∙ sym is.number) (is_itself e.to) in
@@ -52,26 +52,26 @@ it_concerns to nodes m e is to_ from names =
 
 -- ---- a member answers a prepare
 -- an envelope is what this member answers to node `to`
-pub data IsAnswer (to : ℕ) (ballot : Ballot) (slot : ℕ) (from : ℕ) (m : Mind) (e : Envelope) : Type 0 where
+pub data IsAnswer (to : ℕ) (ballot : Ballot) (slot : ℕ) (from : ℕ) (m : ReplicaState) (e : Envelope) : Type 0 where
   promises : (p : Promised) → e ≡ record { from = from; to = to; message = Promise p } → refusing m.accepting.promise ballot ≡ None
       → IsPromiseFrom m.accepting.vote ballot slot p → IsAnswer to ballot slot from m e
   declines : (g : Ballot) → e ≡ record { from = from; to = to; message = Nack (record { ballot = ballot; promised = g }) }
       → refusing m.accepting.promise ballot ≡ Some g → IsAnswer to ballot slot from m e
 
 -- what it holds then
-abbrev pub asked_mind : Mind → Ballot → ℕ → Mind
-asked_mind m ballot slot = record m { accepting = after_prepare m.accepting ballot slot }
+abbrev pub asked_replica : ReplicaState → Ballot → ℕ → ReplicaState
+asked_replica m ballot slot = record m { accepting = after_prepare m.accepting ballot slot }
 
-pub record IsAnswered (to : ℕ) (ballot : Ballot) (slot : ℕ) (from : ℕ) (m new : Mind) (said : Response) : Type 0 where
+pub record IsAnswered (to : ℕ) (ballot : Ballot) (slot : ℕ) (from : ℕ) (m new : ReplicaState) (said : Response) : Type 0 where
   pub envelope : Envelope
   pub is : IsAnswer to ballot slot from m envelope
   pub sends : said.sends ≡ envelope ∷ []
-  pub leaves : new ≡ asked_mind m ballot slot
+  pub leaves : new ≡ asked_replica m ballot slot
 
-answered_so : (to : ℕ) (ballot : Ballot) (slot : ℕ) (from : ℕ) (m new : Mind) (said : Response) (a : Answer) (o : Option Ballot)
+answered_so : (to : ℕ) (ballot : Ballot) (slot : ℕ) (from : ℕ) (m new : ReplicaState) (said : Response) (a : Answer) (o : Option Ballot)
     → refusing m.accepting.promise ballot ≡ o
     → MatchOption (turned_away (of_refusal o Taken) ballot) (TellsFrom m.accepting ballot slot a) (λ away. a ≡ away)
-    → new ≡ asked_mind m ballot slot
+    → new ≡ asked_replica m ballot slot
     → said ≡ sent (answer_sends m.id m.nodes to a) → m.id ≡ from → IsAnswered to ballot slot from m new said
 answered_so to ballot slot from m new said a None none h leaves says is = record {
   envelope = record { from = from; to = to; message = Promise h.promise };
@@ -88,7 +88,7 @@ answered_so to ballot slot from m new said a (Some g) some h leaves says is = re
   leaves = leaves;
 }
 
-pub answered_prepare : (to nodes : ℕ) (ballot : Ballot) (slot : ℕ) (from : ℕ) (m new : Mind) (said : Response) → IsMindOf from nodes m
+pub answered_prepare : (to nodes : ℕ) (ballot : Ballot) (slot : ℕ) (from : ℕ) (m new : ReplicaState) (said : Response) → IsReplicaOf from nodes m
     → to < nodes → ballot.node < nodes → m.accepting.floor ≤ slot
     → Takes m (input.Message (record { from = to; to = from; message = Prepare ballot slot })) new said
     → IsAnswered to ballot slot from m new said
@@ -102,7 +102,7 @@ answered_prepare to nodes ballot slot from m new said is to_there owner_there le
 
 -- whoever of the members is up may speak of the slot
 abbrev pub MaySpeak : {S : Type 0} → WorldState S → List ℕ → ℕ → Type 0
-MaySpeak w members slot = (j : ℕ) (m : Mind) → Contains members j → mind_at w j ≡ Some m → m.accepting.floor ≤ slot
+MaySpeak w members slot = (j : ℕ) (m : ReplicaState) → Contains members j → replica_at w j ≡ Some m → m.accepting.floor ≤ slot
 
 -- ---- all of them do, in order of their numbers
 module _ {S : Type 0} (w : WorldState S) (nodes node : ℕ) (members : List ℕ) (ballot : Ballot) (slot : ℕ) where
@@ -110,7 +110,7 @@ module _ {S : Type 0} (w : WorldState S) (nodes node : ℕ) (members : List ℕ)
   pub data Answers : ℕ → List Envelope → Type 0 where
     none : Answers zero []
     passed : (k : ℕ) (es : List Envelope) → (Contains members k → ⊥) → Answers k es → Answers (suc k) es
-    answered : (k : ℕ) (es : List Envelope) (e : Envelope) (m : Mind) → Contains members k → mind_at w k ≡ Some m
+    answered : (k : ℕ) (es : List Envelope) (e : Envelope) (m : ReplicaState) → Contains members k → replica_at w k ≡ Some m
         → IsAnswer node ballot slot k m e → Answers k es → Answers (suc k) (es ++ e ∷ [])
 
   -- the prepares came to the members below a number
@@ -118,15 +118,15 @@ module _ {S : Type 0} (w : WorldState S) (nodes node : ℕ) (members : List ℕ)
     pub answers : List Envelope
     pub are : Answers k answers
     pub frames_ : now.frames ≡ w.frames ++ answers
-    pub later : (j : ℕ) → k ≤ j → mind_at now j ≡ mind_at w j
-    pub strangers : (j : ℕ) → (Contains members j → ⊥) → mind_at now j ≡ mind_at w j
-    pub members_ : (j : ℕ) (m : Mind) → j < k → Contains members j → mind_at w j ≡ Some m → mind_at now j ≡ Some (asked_mind m ballot slot)
+    pub later : (j : ℕ) → k ≤ j → replica_at now j ≡ replica_at w j
+    pub strangers : (j : ℕ) → (Contains members j → ⊥) → replica_at now j ≡ replica_at w j
+    pub members_ : (j : ℕ) (m : ReplicaState) → j < k → Contains members j → replica_at w j ≡ Some m → replica_at now j ≡ Some (asked_replica m ballot slot)
 
   abbrev prepare_to : ℕ → Envelope
   prepare_to k = record { from = node; to = k; message = Prepare ballot slot }
 
   module _ (node_there : node < nodes) (owner_there : ballot.node < nodes)
-      (known : (j : ℕ) (m : Mind) → mind_at w j ≡ Some m → IsMindOf j nodes m) (level : MaySpeak w members slot) where
+      (known : (j : ℕ) (m : ReplicaState) → replica_at w j ≡ Some m → IsReplicaOf j nodes m) (level : MaySpeak w members slot) where
     asked_none : (now : WorldState S) → HandsOn members [] w now → AskedBelow zero now
     asked_none now (ends w_) = record {
       answers = [];
@@ -153,27 +153,27 @@ module _ {S : Type 0} (w : WorldState S) (nodes node : ℕ) (members : List ℕ)
     asked_member : (k : ℕ) (mid now : WorldState S) → Contains members k → AskedBelow k mid → Took mid (prepare_to k) now
         → AskedBelow (suc k) now
     asked_member k mid now among h took =
-        let before : mind_at w k ≡ Some took.mind = sym (h.later k (omega arith)) ∙ took.here in
-        let a = answered_prepare node nodes ballot slot k took.mind took.mind_then took.said (known k took.mind before)
-        node_there owner_there (level k took.mind among before) took.takes in
+        let before : replica_at w k ≡ Some took.replica = sym (h.later k (omega arith)) ∙ took.here in
+        let a = answered_prepare node nodes ballot slot k took.replica took.replica_then took.said (known k took.replica before)
+        node_there owner_there (level k took.replica among before) took.takes in
         record {
           answers = h.answers ++ a.envelope ∷ [];
-          are = answered k h.answers a.envelope took.mind among before a.is h.are;
+          are = answered k h.answers a.envelope took.replica among before a.is h.are;
           frames_ = took.frames_ ∙ (ap (λ (es : List Envelope). mid.frames ++ es) a.sends
               ∙ (ap (λ (fs : List Envelope). fs ++ a.envelope ∷ []) h.frames_ ∙ append_assoc w.frames h.answers (a.envelope ∷ [])));
           later = λ j less. took.others j (λ same. omega (arith, less, same)) ∙ h.later j (omega (arith, less));
           strangers = λ j not. took.others j (λ same. not (subst (λ (i : ℕ). Contains members i) (sym same) among)) ∙ h.strangers j not;
           members_ = λ j m less within here. elim (same_or_not j k) [
             | inl same ↦
-                let is : took.mind ≡ m = same_mind took.mind m (sym before ∙ (ap (λ (i : ℕ). mind_at w i) (sym same) ∙ here)) in
-                ap (λ (i : ℕ). mind_at now i) same ∙ (took.here_then ∙ ap (λ (x : Mind). Some x)
-                (a.leaves ∙ ap (λ (x : Mind). asked_mind x ballot slot) is))
+                let is : took.replica ≡ m = same_replica took.replica m (sym before ∙ (ap (λ (i : ℕ). replica_at w i) (sym same) ∙ here)) in
+                ap (λ (i : ℕ). replica_at now i) same ∙ (took.here_then ∙ ap (λ (x : ReplicaState). Some x)
+                (a.leaves ∙ ap (λ (x : ReplicaState). asked_replica x ballot slot) is))
             | inr other ↦ took.others j other ∙ h.members_ j m (omega (arith, less, other)) within here
           ];
         }
       where
-        same_mind : (m n : Mind) → Some m ≡ Some n → m ≡ n
-        same_mind m n e = let same : m ≡ n = cc in same
+        same_replica : (m n : ReplicaState) → Some m ≡ Some n → m ≡ n
+        same_replica m n e = let same : m ≡ n = cc in same
 
     asked_next : (k : ℕ) (mid now : WorldState S) → AskedBelow k mid → HandsOn members (prepare_to k ∷ []) mid now
         → AskedBelow (suc k) now
@@ -191,10 +191,10 @@ module _ {S : Type 0} (w : WorldState S) (nodes node : ℕ) (members : List ℕ)
   -- each is a member's
   pub record IsOneOf (e : Envelope) : Type 0 where
     pub member : ℕ
-    pub mind : Mind
+    pub replica : ReplicaState
     pub among : Contains members member
-    pub here : mind_at w member ≡ Some mind
-    pub is : IsAnswer node ballot slot member mind e
+    pub here : replica_at w member ≡ Some replica
+    pub is : IsAnswer node ballot slot member replica e
 
   pub answer_of_one : (k : ℕ) (es : List Envelope) → Answers k es → (e : Envelope) → Contains es e → IsOneOf e
   answer_of_one _ _ none e among = absurd (in_none e among)
@@ -202,18 +202,18 @@ module _ {S : Type 0} (w : WorldState S) (nodes node : ℕ) (members : List ℕ)
   answer_of_one _ _ (answered k es f m within here is h) e among = elim (Contains-append_cases es (f ∷ []) e among) [
     | inl before ↦ answer_of_one k es h e before
     | inr last ↦ elim (in_cons f e [] last) [
-      | inl same ↦ subst (λ (x : Envelope). IsOneOf x) same (record { member = k; mind = m; among = within; here = here; is = is })
+      | inl same ↦ subst (λ (x : Envelope). IsOneOf x) same (record { member = k; replica = m; among = within; here = here; is = is })
       | inr never ↦ absurd (in_none e never)
     ]
   ]
 
   -- each member has one
-  pub record HasAnswered (es : List Envelope) (j : ℕ) (m : Mind) : Type 0 where
+  pub record HasAnswered (es : List Envelope) (j : ℕ) (m : ReplicaState) : Type 0 where
     pub envelope : Envelope
     pub among : Contains es envelope
     pub is : IsAnswer node ballot slot j m envelope
 
-  pub answer_of_each : (k : ℕ) (es : List Envelope) → Answers k es → (j : ℕ) (m : Mind) → j < k → Contains members j → mind_at w j ≡ Some m
+  pub answer_of_each : (k : ℕ) (es : List Envelope) → Answers k es → (j : ℕ) (m : ReplicaState) → j < k → Contains members j → replica_at w j ≡ Some m
       → HasAnswered es j m
   answer_of_each _ _ none j m less among here = absurd (omega (arith, less))
   answer_of_each _ es (passed k es_ not h) j m less among here = elim (same_or_not j k) [
@@ -225,13 +225,13 @@ module _ {S : Type 0} (w : WorldState S) (nodes node : ℕ) (members : List ℕ)
       envelope = f;
       among = Contains-append_right es (f ∷ []) f (in_head f []);
       is = subst (λ (i : ℕ). IsAnswer node ballot slot i m f) (sym same)
-          (subst (λ (x : Mind). IsAnswer node ballot slot k x f)
-          (same_mind n m (sym there ∙ (ap (λ (i : ℕ). mind_at w i) (sym same) ∙ here))) is);
+          (subst (λ (x : ReplicaState). IsAnswer node ballot slot k x f)
+          (same_replica n m (sym there ∙ (ap (λ (i : ℕ). replica_at w i) (sym same) ∙ here))) is);
     }
     | inr other ↦
         let one = answer_of_each k es h j m (omega (arith, less, other)) among here in
         record { envelope = one.envelope; among = Contains-append_left es (f ∷ []) one.envelope one.among; is = one.is }
   ]
     where
-      same_mind : (m n : Mind) → Some m ≡ Some n → m ≡ n
-      same_mind m n e = let same : m ≡ n = cc in same
+      same_replica : (m n : ReplicaState) → Some m ≡ Some n → m ≡ n
+      same_replica m n e = let same : m ≡ n = cc in same

@@ -21,8 +21,8 @@ use Rattle.proposer.specs.Proposing.{next_round}
 use Rattle.wire.specs.NodeSets.{no_nodes}
 use Rattle.wire.specs.declared.frames.envelope.Envelope.{Envelope}
 use Rattle.wire.specs.declared.frames.message.Message.TheVariants.{Prepare, Accept}
-use Rattle.node_model.specs.Loading.{IsMindOf}
-use Rattle.node_model.specs.Minds.{Mind, position, promised, IsNextBallot}
+use Rattle.node_model.specs.Loading.{IsReplicaOf}
+use Rattle.node_model.specs.Replicas.{ReplicaState, position, promised, IsNextBallot}
 use Rattle.node_model.specs.Nodes.{NodeState, NodeSteps}
 use Rattle.node_model.specs.Outputs.{Response}
 use Rattle.node_model.specs.Sending.{to_all}
@@ -30,23 +30,23 @@ use Rattle.node_model.specs.Taking.{TakesTimeout}
 use Rattle.node_model.specs.declared.fault.NodeFault.{NodeFault}
 use Rattle.node_model.specs.declared.input.Input.{Input}
 use Rattle.node_model.specs.declared.input.Input.TheVariants as input
-use Rattle.world_model.specs.Progress.{mind_in, mind_at}
+use Rattle.world_model.specs.Progress.{replica_in, replica_at}
 use Rattle.world_model.specs.Rounds.{IsQuorum, NoneRefuses, refusal_in, begun, asked, answered, voted, heard, ComesThrough, begins, asks}
 use Rattle.world_model.specs.Rounds.{answers}
 use Rattle.world_model.specs.Rounds.{votes, hears}
 use Rattle.world_model.specs.Worlds.{WorldState, TakesAt, recorded, with_node}
-use Rattle.world_model.proofs.Handing.{TookAt, HandsOn, hands_all, hands_apart, frames_more, same_or_not, took_of, AreMembers, same_mind}
+use Rattle.world_model.proofs.Handing.{TookAt, HandsOn, hands_all, hands_apart, frames_more, same_or_not, took_of, AreMembers, same_replica}
 use Rattle.world_model.proofs.Handing.{stays_up, stay_members, hands_members}
 use Rattle.world_model.proofs.Hearing.{HasHeard, none_heard, heard_all}
 use Rattle.world_model.proofs.Leading.{Gathers, timeout_gathers, timeout_asks}
-use Rattle.world_model.proofs.RoundAsked.{IsAnswer, promises, declines, AskedBelow, asked_below, asked_mind, answer_of_each, MaySpeak}
+use Rattle.world_model.proofs.RoundAsked.{IsAnswer, promises, declines, AskedBelow, asked_below, asked_replica, answer_of_each, MaySpeak}
 use Rattle.world_model.proofs.RoundAnswered.{HasAsked, has_asked}
 use Rattle.world_model.proofs.RoundVoted.{Votes, LearnsAs, voted_below, learns_no_more}
 use Rattle.world_model.proofs.RoundHeard.{heard_up_to, Knows, knows_still}
 
 -- ---- the node begins its campaign
 module _ {S : Type 0} (storages : Ghosts (Script S)) (old : WorldState S) (node : ℕ) (i : Input) where
-  took_input : (before after : NodeState (Script S)) (m : Mind) (r : Result Response NodeFault) (new : WorldState S)
+  took_input : (before after : NodeState (Script S)) (m : ReplicaState) (r : Result Response NodeFault) (new : WorldState S)
       → slice_get old.nodes node ≡ Some before → before.up ≡ Some m → NodeSteps storages before i r after → true ≡ is_ok r
       → new ≡ recorded (with_node old node after) node r → TookAt old node i new
   took_input before after m (Ok said) new here up steps taken leaves =
@@ -54,11 +54,11 @@ module _ {S : Type 0} (storages : Ghosts (Script S)) (old : WorldState S) (node 
   took_input before after m (Err f) new here up steps taken leaves = absurd (cc)
 
   -- a node that is up has taken the input
-  pub took_taken : (new : WorldState S) (m : Mind) → mind_at old node ≡ Some m → TakesAt storages old node i true new
+  pub took_taken : (new : WorldState S) (m : ReplicaState) → replica_at old node ≡ Some m → TakesAt storages old node i true new
       → TookAt old node i new
   took_taken new m here h =
       took_input h.before h.after m h.result new h.here
-      (sym (ap (λ (o : Option (NodeState (Script S))). mind_in o) h.here) ∙ here) h.steps h.taken_ h.leaves
+      (sym (ap (λ (o : Option (NodeState (Script S))). replica_in o) h.here) ∙ here) h.steps h.taken_ h.leaves
 
 -- ---- the position of a node, in the log
 of_none : (learnt : ℕ → Option Command) (s : ℕ) → first_unlearnt learnt s zero ≡ s
@@ -92,32 +92,32 @@ free_at l in_log = elim (cases_lt SLOTS l.first) [
 ]
 
 -- ---- what is known when a round begins
-pub record Facts {S : Type 0} (old : WorldState S) (node : ℕ) (members : List ℕ) (slot : ℕ) (ballot : Ballot) (mind : Mind) : Type 0 where
-  pub here : mind_at old node ≡ Some mind
-  pub at : slot ≡ position mind
+pub record Facts {S : Type 0} (old : WorldState S) (node : ℕ) (members : List ℕ) (slot : ℕ) (ballot : Ballot) (replica : ReplicaState) : Type 0 where
+  pub here : replica_at old node ≡ Some replica
+  pub at : slot ≡ position replica
   pub in_log : slot < SLOTS
-  pub next : IsNextBallot mind ballot
+  pub next : IsNextBallot replica ballot
   pub quorum : IsQuorum (length old.nodes) node members
-  pub up : (m : ℕ) → Contains members m → IsSome (mind_at old m)
+  pub up : (m : ℕ) → Contains members m → IsSome (replica_at old m)
   pub few : length old.nodes ≤ 7
-  pub there : (j : ℕ) (m : Mind) → mind_at old j ≡ Some m → j < length old.nodes
+  pub there : (j : ℕ) (m : ReplicaState) → replica_at old j ≡ Some m → j < length old.nodes
   pub known : AreMembers (length old.nodes) old
   pub level : MaySpeak old members slot
-  pub unheard : (a : ℕ) → a < length old.nodes → mind.learning.heard slot ballot a ≡ None
-  pub of_run : (j : ℕ) (m : Mind) → mind_at old j ≡ Some m → (s : ℕ) (v : Vote Command) → m.accepting.vote s ≡ Some v
+  pub unheard : (a : ℕ) → a < length old.nodes → replica.learning.heard slot ballot a ≡ None
+  pub of_run : (j : ℕ) (m : ReplicaState) → replica_at old j ≡ Some m → (s : ℕ) (v : Vote Command) → m.accepting.vote s ≡ Some v
       → v.ballot.node < length old.nodes
 
 module _ {S : Type 0} (storages : Ghosts (Script S)) (old : WorldState S) (node : ℕ) (members : List ℕ) (slot : ℕ) (ballot : Ballot)
-    (mind : Mind) (facts : Facts old node members slot ballot mind) where
+    (replica : ReplicaState) (facts : Facts old node members slot ballot replica) where
   abbrev nodes : ℕ
   nodes = length old.nodes
 
   pub node_there : node < nodes
-  node_there = facts.there node mind facts.here
+  node_there = facts.there node replica facts.here
 
   pub owner_there : ballot.node < nodes
   owner_there =
-      let is = facts.known node mind facts.here in
+      let is = facts.known node replica facts.here in
       subst (λ (i : ℕ). i < nodes) (sym (facts.next.own ∙ is.number)) node_there
 
   some_of : {A : Type 0} (o : Option A) → IsSome o → (a : A) × (o ≡ Some a)
@@ -125,56 +125,56 @@ module _ {S : Type 0} (storages : Ghosts (Script S)) (old : WorldState S) (node 
   some_of (Some a) h = (a, refl)
 
   pub member_there : (m : ℕ) → Contains members m → m < nodes
-  member_there m among = let up = some_of (mind_at old m) (facts.up m among) in facts.there m up.0 up.1
+  member_there m among = let up = some_of (replica_at old m) (facts.up m among) in facts.there m up.0 up.1
 
   -- ---- begun
   pub record IsBegun (first : ℕ) (w : WorldState S) : Type 0 where
-    pub mind_then : Mind
-    pub here : mind_at w node ≡ Some mind_then
-    pub gathers : Gathers ballot slot mind_then no_nodes
-    pub learning : mind_then.learning ≡ mind.learning
+    pub replica_then : ReplicaState
+    pub here : replica_at w node ≡ Some replica_then
+    pub gathers : Gathers ballot slot replica_then no_nodes
+    pub learning : replica_then.learning ≡ replica.learning
     pub prepares : drop first w.frames ≡ to_all node nodes (Prepare ballot slot)
     pub known : AreMembers nodes w
-    pub up : (j : ℕ) → IsSome (mind_at old j) → IsSome (mind_at w j)
-    pub accepting : (j : ℕ) (m : Mind) → mind_at w j ≡ Some m → (x : Mind) × (mind_at old j ≡ Some x) × (m.accepting ≡ x.accepting)
+    pub up : (j : ℕ) → IsSome (replica_at old j) → IsSome (replica_at w j)
+    pub accepting : (j : ℕ) (m : ReplicaState) → replica_at w j ≡ Some m → (x : ReplicaState) × (replica_at old j ≡ Some x) × (m.accepting ≡ x.accepting)
 
   begun_so : (w : WorldState S) → TookAt old node input.Timeout w → IsBegun (length old.frames) w
   begun_so w took =
-      let same : took.mind ≡ mind = same_mind took.mind mind (sym took.here ∙ facts.here) in
-      let is : IsMindOf node nodes took.mind = facts.known node took.mind took.here in
-      let t : TakesTimeout took.mind took.mind_then took.said = took.takes in
-      let at : slot ≡ position took.mind = facts.at ∙ ap (λ (m : Mind). position m) (sym same) in
-      let own : ballot.node ≡ took.mind.proposing.id =
-      facts.next.own ∙ (ap (λ (m : Mind). m.id) (sym same) ∙ (is.number ∙ sym is.proposing.0)) in
-      let round = facts.next.round ∙ ap (λ (m : Mind). next_round m.proposing) (sym same) in
+      let same : took.replica ≡ replica = same_replica took.replica replica (sym took.here ∙ facts.here) in
+      let is : IsReplicaOf node nodes took.replica = facts.known node took.replica took.here in
+      let t : TakesTimeout took.replica took.replica_then took.said = took.takes in
+      let at : slot ≡ position took.replica = facts.at ∙ ap (λ (m : ReplicaState). position m) (sym same) in
+      let own : ballot.node ≡ took.replica.proposing.id =
+      facts.next.own ∙ (ap (λ (m : ReplicaState). m.id) (sym same) ∙ (is.number ∙ sym is.proposing.0)) in
+      let round = facts.next.round ∙ ap (λ (m : ReplicaState). next_round m.proposing) (sym same) in
       record {
-        mind_then = took.mind_then;
+        replica_then = took.replica_then;
         here = took.here_then;
-        gathers = subst (λ (s : ℕ). Gathers ballot s took.mind_then no_nodes) (sym at)
-            (timeout_gathers took.mind took.mind_then took.said ballot t (subst (λ (s : ℕ). s < SLOTS) at facts.in_log) round own);
-        learning = ap (λ (m : Mind). m.learning) t.2 ∙ ap (λ (m : Mind). m.learning) same;
+        gathers = subst (λ (s : ℕ). Gathers ballot s took.replica_then no_nodes) (sym at)
+            (timeout_gathers took.replica took.replica_then took.said ballot t (subst (λ (s : ℕ). s < SLOTS) at facts.in_log) round own);
+        learning = ap (λ (m : ReplicaState). m.learning) t.2 ∙ ap (λ (m : ReplicaState). m.learning) same;
         prepares = ap (λ (fs : List Envelope). drop (length old.frames) fs) took.frames_
             ∙ (drop-append_seam old.frames took.said.sends
-            ∙ (ap (λ (r : Response). r.sends) (timeout_asks took.mind took.mind_then took.said ballot t round own)
-            ∙ (ap (λ (k : ℕ). to_all k took.mind.nodes (Prepare ballot (position took.mind))) is.number
-            ∙ (ap (λ (n : ℕ). to_all node n (Prepare ballot (position took.mind))) is.of_all
+            ∙ (ap (λ (r : Response). r.sends) (timeout_asks took.replica took.replica_then took.said ballot t round own)
+            ∙ (ap (λ (k : ℕ). to_all k took.replica.nodes (Prepare ballot (position took.replica))) is.number
+            ∙ (ap (λ (n : ℕ). to_all node n (Prepare ballot (position took.replica))) is.of_all
             ∙ ap (λ (s : ℕ). to_all node nodes (Prepare ballot s)) (sym at)))));
         known = stay_members nodes old node input.Timeout w took facts.known;
         up = stays_up old node input.Timeout w took;
         accepting = λ j m here. elim (same_or_not j node) [
           | inl own_ ↦
-              let this : took.mind_then ≡ m =
-              same_mind took.mind_then m (sym took.here_then ∙ (ap (λ (k : ℕ). mind_at w k) (sym own_) ∙ here)) in (
-                took.mind,
-                ap (λ (k : ℕ). mind_at old k) own_ ∙ took.here,
-                ap (λ (x : Mind). x.accepting) (sym this) ∙ ap (λ (x : Mind). x.accepting) t.2,
+              let this : took.replica_then ≡ m =
+              same_replica took.replica_then m (sym took.here_then ∙ (ap (λ (k : ℕ). replica_at w k) (sym own_) ∙ here)) in (
+                took.replica,
+                ap (λ (k : ℕ). replica_at old k) own_ ∙ took.here,
+                ap (λ (x : ReplicaState). x.accepting) (sym this) ∙ ap (λ (x : ReplicaState). x.accepting) t.2,
               )
           | inr other ↦ (m, sym (took.others j other) ∙ here, refl)
         ];
       }
 
   pub begun_lem : (first : ℕ) (w : WorldState S) → ComesThrough storages old node members begun first w → IsBegun first w
-  begun_lem _ w (begins w_ takes) = begun_so w (took_taken storages old node input.Timeout w mind facts.here takes)
+  begun_lem _ w (begins w_ takes) = begun_so w (took_taken storages old node input.Timeout w replica facts.here takes)
 
   -- it changes no floor
   begun_level : (first : ℕ) (w : WorldState S) → IsBegun first w → MaySpeak w members slot
@@ -213,7 +213,7 @@ module _ {S : Type 0} (storages : Ghosts (Script S)) (old : WorldState S) (node 
 
   -- ---- answered
   -- what a member holds that has been asked
-  asked_gathers : (m : Mind) → Gathers ballot slot m no_nodes → Gathers ballot slot (asked_mind m ballot slot) no_nodes
+  asked_gathers : (m : ReplicaState) → Gathers ballot slot m no_nodes → Gathers ballot slot (asked_replica m ballot slot) no_nodes
   asked_gathers m g = record {
     campaign = g.campaign;
     here = g.here;
@@ -227,7 +227,7 @@ module _ {S : Type 0} (storages : Ghosts (Script S)) (old : WorldState S) (node 
   }
 
   -- whose answer is no refusal was willing
-  willing_one : (m : Mind) (j : ℕ) (e : Envelope) → IsAnswer node ballot slot j m e → refusal_in e.message ≡ None
+  willing_one : (m : ReplicaState) (j : ℕ) (e : Envelope) → IsAnswer node ballot slot j m e → refusal_in e.message ≡ None
       → refusing m.accepting.promise ballot ≡ None
   willing_one m j e (promises p same none tells) quiet = none
   willing_one m j e (declines g same some) quiet =
@@ -239,7 +239,7 @@ module _ {S : Type 0} (storages : Ghosts (Script S)) (old : WorldState S) (node 
       ap (λ (v : Verdict). (if_taken v (record a { promise = Some ballot }) a).promise) (taken_where a ballot slot level none)
 
   abbrev IsWilling : WorldState S → Type 0
-  IsWilling w = (j : ℕ) (m : Mind) → Contains members j → mind_at w j ≡ Some m → refusing m.accepting.promise ballot ≡ None
+  IsWilling w = (j : ℕ) (m : ReplicaState) → Contains members j → replica_at w j ≡ Some m → refusing m.accepting.promise ballot ≡ None
 
   willing : (first : ℕ) (w : WorldState S) (h : IsAsked first w) → NoneRefuses (drop first w.frames) → IsWilling h.between
   willing first w h none j m among here =
@@ -249,7 +249,7 @@ module _ {S : Type 0} (storages : Ghosts (Script S)) (old : WorldState S) (node 
       (drop first w.frames) one.envelope none
       (subst (λ (es : List Envelope). Contains es one.envelope) (sym h.answers_) one.among))
 
-  voted_of_run : (first : ℕ) (w : WorldState S) → IsBegun first w → (j : ℕ) (m : Mind) → mind_at w j ≡ Some m → (s : ℕ) (v : Vote Command)
+  voted_of_run : (first : ℕ) (w : WorldState S) → IsBegun first w → (j : ℕ) (m : ReplicaState) → replica_at w j ≡ Some m → (s : ℕ) (v : Vote Command)
       → m.accepting.vote s ≡ Some v → v.ballot.node < nodes
   voted_of_run first w h j m here s v vote =
       let before = h.accepting j m here in
@@ -260,33 +260,33 @@ module _ {S : Type 0} (storages : Ghosts (Script S)) (old : WorldState S) (node 
     pub between : WorldState S
     pub asked_ : IsAsked before between
     pub willing_ : IsWilling asked_.between
-    pub mind_before : Mind
-    pub here_before : mind_at between node ≡ Some (asked_mind mind_before ballot slot)
-    pub learning_before : mind_before.learning ≡ mind.learning
-    pub has_asked_ : HasAsked asked_.between between nodes node members ballot slot (asked_mind mind_before ballot slot) w
+    pub replica_before : ReplicaState
+    pub here_before : replica_at between node ≡ Some (asked_replica replica_before ballot slot)
+    pub learning_before : replica_before.learning ≡ replica.learning
+    pub has_asked_ : HasAsked asked_.between between nodes node members ballot slot (asked_replica replica_before ballot slot) w
     pub accepts : drop first w.frames ≡ has_asked_.sends
     pub known : AreMembers nodes w
 
   led_so : (first : ℕ) (between w : WorldState S) (a : IsAsked first between) → NoneRefuses (drop first between.frames)
       → HandsOn (node ∷ []) a.below.answers between w → IsLed (length between.frames) w
   led_so first between w a none hands =
-      let m : Mind = a.begun_.mind_then in
-      let here : mind_at between node ≡ Some (asked_mind m ballot slot) =
+      let m : ReplicaState = a.begun_.replica_then in
+      let here : replica_at between node ≡ Some (asked_replica m ballot slot) =
       a.below.members_ node m node_there facts.quorum.own a.begun_.here in
       let will = willing first between a none in
-      let free : IsFree mind.learning slot = subst (λ (s : ℕ). IsFree mind.learning s) (sym facts.at)
-      (free_at mind.learning (subst (λ (s : ℕ). s < SLOTS) facts.at facts.in_log)) in
-      let h = has_asked a.between between nodes node members ballot slot (asked_mind m ballot slot) node_there owner_there facts.few
+      let free : IsFree replica.learning slot = subst (λ (s : ℕ). IsFree replica.learning s) (sym facts.at)
+      (free_at replica.learning (subst (λ (s : ℕ). s < SLOTS) facts.at facts.in_log)) in
+      let h = has_asked a.between between nodes node members ballot slot (asked_replica m ballot slot) node_there owner_there facts.few
       (facts.at ∙ ap (λ (l : Learning). prefix l) (sym a.begun_.learning)) facts.in_log
       (ap (λ (l : Learning). l.learnt slot) a.begun_.learning ∙ free.unlearnt) will (voted_of_run a.before a.between a.begun_) here
-      (a.known node (asked_mind m ballot slot) here) (asked_gathers m a.begun_.gathers) a.below.answers a.below.are facts.quorum.most
+      (a.known node (asked_replica m ballot slot) here) (asked_gathers m a.begun_.gathers) a.below.answers a.below.are facts.quorum.most
       facts.quorum.none_twice member_there w hands in
       record {
         before = first;
         between = between;
         asked_ = a;
         willing_ = will;
-        mind_before = m;
+        replica_before = m;
         here_before = here;
         learning_before = a.begun_.learning;
         has_asked_ = h;
@@ -313,59 +313,59 @@ module _ {S : Type 0} (storages : Ghosts (Script S)) (old : WorldState S) (node 
     pub are : Votes between nodes node members (vote_for command) nodes votes_
     pub more : List Envelope
     pub told : drop first w.frames ≡ votes_ ++ more
-    pub learns : LearnsAs between nodes node members (vote_for command) mind w
+    pub learns : LearnsAs between nodes node members (vote_for command) replica w
 
   -- what a member's acceptor holds is what it held once the prepare had come
   record HoldsAsked (between : WorldState S) (j : ℕ) (a : Accepting) : Type 0 where
-    mind_asked : Mind
-    here_asked : mind_at between j ≡ Some mind_asked
-    is : a ≡ after_prepare mind_asked.accepting ballot slot
+    replica_asked : ReplicaState
+    here_asked : replica_at between j ≡ Some replica_asked
+    is : a ≡ after_prepare replica_asked.accepting ballot slot
 
-  holds_asked : (first : ℕ) (w : WorldState S) (h : IsLed first w) → (j : ℕ) (m : Mind) → Contains members j → mind_at w j ≡ Some m
+  holds_asked : (first : ℕ) (w : WorldState S) (h : IsLed first w) → (j : ℕ) (m : ReplicaState) → Contains members j → replica_at w j ≡ Some m
       → HoldsAsked h.asked_.between j m.accepting
   holds_asked first w h j m among here =
       let a = h.asked_ in
-      let member = some_of (mind_at a.between j) (a.begun_.up j (facts.up j among)) in
-      let asked_then : mind_at h.between j ≡ Some (asked_mind member.0 ballot slot) =
+      let member = some_of (replica_at a.between j) (a.begun_.up j (facts.up j among)) in
+      let asked_then : replica_at h.between j ≡ Some (asked_replica member.0 ballot slot) =
       a.below.members_ j member.0 (member_there j among) among member.1 in
       record {
-        mind_asked = member.0;
+        replica_asked = member.0;
         here_asked = member.1;
         is = elim (same_or_not j node) [
           | inl own ↦
-              let this : h.has_asked_.mind_then ≡ m =
-              same_mind h.has_asked_.mind_then m (sym h.has_asked_.here_then ∙ (ap (λ (k : ℕ). mind_at w k) (sym own) ∙ here)) in
-              let same : asked_mind h.mind_before ballot slot ≡ asked_mind member.0 ballot slot =
-              same_mind (asked_mind h.mind_before ballot slot) (asked_mind member.0 ballot slot)
-              (sym h.here_before ∙ (ap (λ (k : ℕ). mind_at h.between k) (sym own) ∙ asked_then)) in
-              ap (λ (x : Mind). x.accepting) (sym this) ∙ (h.has_asked_.accepting ∙ ap (λ (x : Mind). x.accepting) same)
+              let this : h.has_asked_.replica_then ≡ m =
+              same_replica h.has_asked_.replica_then m (sym h.has_asked_.here_then ∙ (ap (λ (k : ℕ). replica_at w k) (sym own) ∙ here)) in
+              let same : asked_replica h.replica_before ballot slot ≡ asked_replica member.0 ballot slot =
+              same_replica (asked_replica h.replica_before ballot slot) (asked_replica member.0 ballot slot)
+              (sym h.here_before ∙ (ap (λ (k : ℕ). replica_at h.between k) (sym own) ∙ asked_then)) in
+              ap (λ (x : ReplicaState). x.accepting) (sym this) ∙ (h.has_asked_.accepting ∙ ap (λ (x : ReplicaState). x.accepting) same)
           | inr other ↦
-              let this : asked_mind member.0 ballot slot ≡ m =
-              same_mind (asked_mind member.0 ballot slot) m (sym asked_then ∙ (sym (h.has_asked_.others j other) ∙ here)) in
-              ap (λ (x : Mind). x.accepting) (sym this)
+              let this : asked_replica member.0 ballot slot ≡ m =
+              same_replica (asked_replica member.0 ballot slot) m (sym asked_then ∙ (sym (h.has_asked_.others j other) ∙ here)) in
+              ap (λ (x : ReplicaState). x.accepting) (sym this)
         ];
       }
 
   -- the member might speak of the slot then
-  level_asked : (first : ℕ) (w : WorldState S) (h : IsLed first w) → (j : ℕ) (m : Mind) → Contains members j
-      → mind_at h.asked_.between j ≡ Some m → m.accepting.floor ≤ slot
+  level_asked : (first : ℕ) (w : WorldState S) (h : IsLed first w) → (j : ℕ) (m : ReplicaState) → Contains members j
+      → replica_at h.asked_.between j ≡ Some m → m.accepting.floor ≤ slot
   level_asked first w h j m among here = begun_level h.asked_.before h.asked_.between h.asked_.begun_ j m among here
 
   -- it has promised the ballot, and no other since
-  holds_promise : (first : ℕ) (w : WorldState S) (h : IsLed first w) → (j : ℕ) (m : Mind) → Contains members j → mind_at w j ≡ Some m
+  holds_promise : (first : ℕ) (w : WorldState S) (h : IsLed first w) → (j : ℕ) (m : ReplicaState) → Contains members j → replica_at w j ≡ Some m
       → promised m ≡ Some ballot
   holds_promise first w h j m among here =
       let x = holds_asked first w h j m among here in
       ap (λ (a : Accepting). a.promise) x.is
-      ∙ has_promised x.mind_asked.accepting (level_asked first w h j x.mind_asked among x.here_asked)
-      (h.willing_ j x.mind_asked among x.here_asked)
+      ∙ has_promised x.replica_asked.accepting (level_asked first w h j x.replica_asked among x.here_asked)
+      (h.willing_ j x.replica_asked among x.here_asked)
 
   -- and may still speak of the slot
   led_level : (first : ℕ) (w : WorldState S) → IsLed first w → MaySpeak w members slot
   led_level first w h j m among here =
       let x = holds_asked first w h j m among here in
-      let level = level_asked first w h j x.mind_asked among x.here_asked in
-      let same = ap (λ (a : Accepting). a.floor) x.is ∙ floor_prepared x.mind_asked.accepting ballot slot in
+      let level = level_asked first w h j x.replica_asked among x.here_asked in
+      let same = ap (λ (a : Accepting). a.floor) x.is ∙ floor_prepared x.replica_asked.accepting ballot slot in
       omega (arith, level, same)
 
   voted_so : (first : ℕ) (between w : WorldState S) (h : IsLed first between)
@@ -377,9 +377,9 @@ module _ {S : Type 0} (storages : Ghosts (Script S)) (old : WorldState S) (node 
       (subst (λ (es : List Envelope). HandsOn members es between w) asks_.are hands) in
       let below = voted_below between nodes node members v node_there owner_there h.known (led_level first between h)
       (holds_promise first between h)
-      h.has_asked_.mind_then h.has_asked_.here_then nodes two.mid two.first in
+      h.has_asked_.replica_then h.has_asked_.here_then nodes two.mid two.first in
       let rest = frames_more members asks_.more two.mid w two.then in
-      let now = learns_no_more between nodes node members v h.has_asked_.mind_then asks_.more asks_.votes two.mid w two.then below.learns in
+      let now = learns_no_more between nodes node members v h.has_asked_.replica_then asks_.more asks_.votes two.mid w two.then below.learns in
       record {
         before = first;
         between = between;
@@ -391,7 +391,7 @@ module _ {S : Type 0} (storages : Ghosts (Script S)) (old : WorldState S) (node 
         told = sent_since between w (below.votes ++ rest.0)
             (rest.1 ∙ (ap (λ (fs : List Envelope). fs ++ rest.0) below.frames_ ∙ append_assoc between.frames below.votes rest.0));
         learns = record {
-          mind_then = now.mind_then;
+          replica_then = now.replica_then;
           here = now.here;
           is = now.is;
           learning = now.learning ∙ (h.has_asked_.learning ∙ h.learning_before);
@@ -410,28 +410,28 @@ module _ {S : Type 0} (storages : Ghosts (Script S)) (old : WorldState S) (node 
   heard_so first between w h hands =
       let v : Vote Command = vote_for h.command in
       let two = hands_apart (node ∷ []) h.votes_ h.more between w hands in
-      let l : Learning = h.learns.mind_then.learning in
-      let same : mind.learning ≡ l = sym h.learns.learning in
-      let free : IsFree l slot = subst (λ (x : Learning). IsFree x slot) same (subst (λ (s : ℕ). IsFree mind.learning s) (sym facts.at)
-      (free_at mind.learning (subst (λ (s : ℕ). s < SLOTS) facts.at facts.in_log))) in
+      let l : Learning = h.learns.replica_then.learning in
+      let same : replica.learning ≡ l = sym h.learns.learning in
+      let free : IsFree l slot = subst (λ (x : Learning). IsFree x slot) same (subst (λ (s : ℕ). IsFree replica.learning s) (sym facts.at)
+      (free_at replica.learning (subst (λ (s : ℕ). s < SLOTS) facts.at facts.in_log))) in
       let none : (a : ℕ) → a < l.nodes → l.heard slot ballot a ≡ None =
       λ a less. ap (λ (x : Learning). x.heard slot ballot a) h.learns.learning ∙ facts.unheard a
       (subst (λ (n : ℕ). a < n) h.learns.is.learning less) in
       let up_to = heard_up_to between nodes node members v h.between owner_there node_there
       (record {
-        mind = h.learns.mind_then;
+        replica = h.learns.replica_then;
         here = h.learns.here;
         is = h.learns.is;
         heard = inr (none_heard l slot ballot h.command members free.kept free.unlearnt none);
       }) nodes h.votes_ h.are (omega arith) two.mid two.first in
-      let all : up_to.mind.learning.nodes ≡ nodes = up_to.is.learning in
-      let learnt : up_to.mind.learning.learnt slot ≡ Some h.command =
-      heard_all up_to.mind.learning slot ballot h.command members
+      let all : up_to.replica.learning.nodes ≡ nodes = up_to.is.learning in
+      let learnt : up_to.replica.learning.learnt slot ≡ Some h.command =
+      heard_all up_to.replica.learning slot ballot h.command members
       (subst (λ (n : ℕ). IsMajority n (length members)) (sym all) facts.quorum.most) facts.quorum.none_twice
       (λ a among. subst (λ (n : ℕ). a < n) (sym all) (member_there a among))
-      (subst (λ (n : ℕ). HasHeard up_to.mind.learning slot ballot h.command members n) (sym all) up_to.heard) in
+      (subst (λ (n : ℕ). HasHeard up_to.replica.learning slot ballot h.command members n) (sym all) up_to.heard) in
       knows_still node slot h.command (node ∷ []) h.more two.mid w two.then
-      (record { mind = up_to.mind; here = up_to.here; learnt = learnt })
+      (record { replica = up_to.replica; here = up_to.here; learnt = learnt })
 
   -- a round that comes through all phases decides
   pub decides : (first : ℕ) (w : WorldState S) → ComesThrough storages old node members heard first w

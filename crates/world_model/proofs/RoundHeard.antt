@@ -6,13 +6,13 @@ use Rattle.proposer.proofs.Votes.{in_cons, in_head, in_none}
 use Rattle.wire.specs.declared.frames.envelope.Envelope.{Envelope}
 use Rattle.wire.specs.declared.frames.message.Message.{Message}
 use Rattle.wire.specs.declared.frames.message.Message.TheVariants.{Accepted}
-use Rattle.node_model.specs.Loading.{IsMindOf}
-use Rattle.node_model.specs.Minds.{Mind}
+use Rattle.node_model.specs.Loading.{IsReplicaOf}
+use Rattle.node_model.specs.Replicas.{ReplicaState}
 use Rattle.node_model.specs.Sending.{to_all}
 use Rattle.node_model.specs.Taking.{TakesMessage}
 use Rattle.node_model.specs.declared.input.Input.TheVariants as input
 use Rattle.node_model.proofs.Members.{takes_own}
-use Rattle.world_model.specs.Progress.{mind_at}
+use Rattle.world_model.specs.Progress.{replica_at}
 use Rattle.world_model.specs.Worlds.{WorldState}
 use Rattle.world_model.proofs.Handing.{Took, HandsOn, ends, skips, takes, hands_apart, same_or_not}
 use Rattle.world_model.proofs.Hearing.{HasHeard, passed_one, heard_one, stays_learnt, hears_of_vote}
@@ -64,39 +64,39 @@ module _ {S : Type 0} (node from : ℕ) (message : Message) where
 module _ {S : Type 0} (start : WorldState S) (nodes node : ℕ) (members : List ℕ) (v : Vote Command) where
   -- those of the members below a number were heard
   pub record HeardUpTo (k : ℕ) (now : WorldState S) : Type 0 where
-    pub mind : Mind
-    pub here : mind_at now node ≡ Some mind
-    pub is : IsMindOf node nodes mind
-    pub heard : HasHeard mind.learning v.slot v.ballot v.command members k
+    pub replica : ReplicaState
+    pub here : replica_at now node ≡ Some replica
+    pub is : IsReplicaOf node nodes replica
+    pub heard : HasHeard replica.learning v.slot v.ballot v.command members k
 
-  same_mind : (m n : Mind) → Some m ≡ Some n → m ≡ n
-  same_mind m n e = let same : m ≡ n = cc in same
+  same_replica : (m n : ReplicaState) → Some m ≡ Some n → m ≡ n
+  same_replica m n e = let same : m ≡ n = cc in same
 
   -- one more
   heard_member : (k : ℕ) (mid now : WorldState S) → k < nodes → v.ballot.node < nodes → HeardUpTo k mid
       → Took mid (one_to k node (Accepted v)) now → HeardUpTo (suc k) now
   heard_member k mid now there owner_there h took =
-      let same : h.mind ≡ took.mind = same_mind h.mind took.mind (sym h.here ∙ took.here) in
-      let is : IsMindOf node nodes took.mind = subst (λ (x : Mind). IsMindOf node nodes x) same h.is in
-      let t : TakesMessage took.mind k (Accepted v) took.mind_then took.said =
-      takes_message took.mind (one_to k node (Accepted v)) took.mind_then took.said
-      (it_concerns node nodes took.mind (one_to k node (Accepted v)) is refl there (is_below v.ballot.node nodes owner_there)) took.takes in
-      let news = hears_of_vote took.mind k v took.mind_then took.said t in
+      let same : h.replica ≡ took.replica = same_replica h.replica took.replica (sym h.here ∙ took.here) in
+      let is : IsReplicaOf node nodes took.replica = subst (λ (x : ReplicaState). IsReplicaOf node nodes x) same h.is in
+      let t : TakesMessage took.replica k (Accepted v) took.replica_then took.said =
+      takes_message took.replica (one_to k node (Accepted v)) took.replica_then took.said
+      (it_concerns node nodes took.replica (one_to k node (Accepted v)) is refl there (is_below v.ballot.node nodes owner_there)) took.takes in
+      let news = hears_of_vote took.replica k v took.replica_then took.said t in
       record {
-        mind = took.mind_then;
+        replica = took.replica_then;
         here = took.here_then;
-        is = takes_own node nodes took.mind is (input.Message (one_to k node (Accepted v))) took.mind_then took.said took.takes;
-        heard = heard_one took.mind.learning v.slot v.ballot v.command members k news.0 took.mind_then.learning
-            (subst (λ (x : Mind). HasHeard x.learning v.slot v.ballot v.command members k) same h.heard)
+        is = takes_own node nodes took.replica is (input.Message (one_to k node (Accepted v))) took.replica_then took.said took.takes;
+        heard = heard_one took.replica.learning v.slot v.ballot v.command members k news.0 took.replica_then.learning
+            (subst (λ (x : ReplicaState). HasHeard x.learning v.slot v.ballot v.command members k) same h.heard)
             (subst (λ (n : ℕ). k < n) (sym is.learning) there) news.1;
       }
 
   heard_another : (k : ℕ) (now : WorldState S) → (Contains members k → ⊥) → HeardUpTo k now → HeardUpTo (suc k) now
   heard_another k now not h = record {
-    mind = h.mind;
+    replica = h.replica;
     here = h.here;
     is = h.is;
-    heard = passed_one h.mind.learning v.slot v.ballot v.command members k not h.heard;
+    heard = passed_one h.replica.learning v.slot v.ballot v.command members k not h.heard;
   }
 
   pub heard_up_to : {T : Type 0} (w : WorldState T) (owner_there : v.ballot.node < nodes) (node_there : node < nodes) → HeardUpTo zero start
@@ -113,27 +113,27 @@ module _ {S : Type 0} (start : WorldState S) (nodes node : ℕ) (members : List 
 
 -- ---- what is learnt stays so, whatever else comes
 pub record Knows {S : Type 0} (node slot : ℕ) (c : Command) (now : WorldState S) : Type 0 where
-  pub mind : Mind
-  pub here : mind_at now node ≡ Some mind
-  pub learnt : mind.learning.learnt slot ≡ Some c
+  pub replica : ReplicaState
+  pub here : replica_at now node ≡ Some replica
+  pub learnt : replica.learning.learnt slot ≡ Some c
 
 module _ {S : Type 0} (node slot : ℕ) (c : Command) (receivers : List ℕ) where
   knows_on : (old : WorldState S) (e : Envelope) (new : WorldState S) → Took old e new → Knows node slot c old → Knows node slot c new
   knows_on old e new took h = elim (same_or_not node e.to) [
     | inl here ↦
-        let same : h.mind ≡ took.mind =
-        same_mind h.mind took.mind (sym h.here ∙ (ap (λ (i : ℕ). mind_at old i) here ∙ took.here)) in
+        let same : h.replica ≡ took.replica =
+        same_replica h.replica took.replica (sym h.here ∙ (ap (λ (i : ℕ). replica_at old i) here ∙ took.here)) in
         record {
-          mind = took.mind_then;
-          here = ap (λ (i : ℕ). mind_at new i) here ∙ took.here_then;
-          learnt = stays_learnt took.mind e took.mind_then took.said slot c took.takes
-              (ap (λ (x : Mind). x.learning.learnt slot) (sym same) ∙ h.learnt);
+          replica = took.replica_then;
+          here = ap (λ (i : ℕ). replica_at new i) here ∙ took.here_then;
+          learnt = stays_learnt took.replica e took.replica_then took.said slot c took.takes
+              (ap (λ (x : ReplicaState). x.learning.learnt slot) (sym same) ∙ h.learnt);
         }
-    | inr other ↦ record { mind = h.mind; here = took.others node other ∙ h.here; learnt = h.learnt }
+    | inr other ↦ record { replica = h.replica; here = took.others node other ∙ h.here; learnt = h.learnt }
   ]
     where
-      same_mind : (m n : Mind) → Some m ≡ Some n → m ≡ n
-      same_mind m n e = let same : m ≡ n = cc in same
+      same_replica : (m n : ReplicaState) → Some m ≡ Some n → m ≡ n
+      same_replica m n e = let same : m ≡ n = cc in same
 
   pub knows_still : (es : List Envelope) (old new : WorldState S) → HandsOn receivers es old new → Knows node slot c old
       → Knows node slot c new

@@ -7,7 +7,7 @@ use Rattle.std.proofs.lemmas.List.{length-drop}
 use Rattle.stable.specs.Script.{Script}
 use Rattle.stable.specs.declared.stable.Stable.{Ghosts}
 use Rattle.wire.specs.declared.frames.envelope.Envelope.{Envelope}
-use Rattle.node_model.specs.Minds.{Mind}
+use Rattle.node_model.specs.Replicas.{ReplicaState}
 use Rattle.node_model.specs.Outputs.{Response}
 use Rattle.node_model.specs.declared.fault.NodeFault.{NodeFault}
 use Rattle.node_model.specs.declared.input.Input.{Input}
@@ -16,8 +16,8 @@ use Rattle.events.specs.declared.event.Event.{Event}
 use Rattle.events.specs.declared.event.Event.TheVariants as event
 use Rattle.events.specs.declared.fault.WorldFault.{WorldFault}
 use Rattle.events.specs.declared.fault.WorldFault.TheVariants as fault
-use Rattle.world_model.specs.declared.lists.Outcome.{Outcome}
-use Rattle.world_model.specs.declared.lists.Outcome.TheVariants as outcome
+use Rattle.world_model.specs.declared.lists.StepOutcome.{StepOutcome}
+use Rattle.world_model.specs.declared.lists.StepOutcome.TheVariants as outcome
 use Rattle.world_model.specs.declared.round_end.RoundEnd.{RoundEnd}
 use Rattle.world_model.specs.declared.round_end.RoundEnd.TheVariants.{NotAQuorum, Down, Behind, Refused, Stopped, TooLow, Decided}
 use Rattle.world_model.specs.Rounds.{is_up, DeliversTo, nothing, elsewhere, there, GoesDownOn, DeliversPart, NoneRefuses, IsInterrupted}
@@ -60,12 +60,12 @@ module _ {S : Type 0} (storages : Ghosts (Script S)) where
       subst (λ (w : WorldState S). length old.frames ≤ length w.frames) (sym h.leaves)
       (recorded_frames (with_node old node h.after) node h.result)
 
-  received_frames : (old : WorldState S) (frame : Envelope) (new : WorldState S) (o : Option Mind) (h : ReceivesAt storages old frame new)
+  received_frames : (old : WorldState S) (frame : Envelope) (new : WorldState S) (o : Option ReplicaState) (h : ReceivesAt storages old frame new)
       → h.receiver.up ≡ o → length old.frames ≤ length new.frames
   received_frames old frame new None h up =
       subst (λ (w : WorldState S). length old.frames ≤ length w.frames) (sym (h.lost up)) (omega arith)
   received_frames old frame new (Some m) h up =
-      let takes = h.taken (subst (λ (o : Option Mind). IsSome o) (sym up) refl) in
+      let takes = h.taken (subst (λ (o : Option ReplicaState). IsSome o) (sym up) refl) in
       taken_frames old frame.to (input.Message frame) takes.0 new takes.1
 
   pub delivered_frames : (old : WorldState S) (k : ℕ) (new : WorldState S) → DeliversFrame storages old k new
@@ -99,7 +99,7 @@ module _ {S : Type 0} (storages : Ghosts (Script S)) where
 -- ---- what every step keeps, and what a told outcome keeps, a round keeps
 module _ {S : Type 0} (storages : Ghosts (Script S)) (Kept : WorldState S → Type 0)
     (step_keeps : (old : WorldState S) (e : Event) (new : WorldState S) → Steps storages old e new → Kept old → Kept new)
-    (told_keeps : (w : WorldState S) (o : Outcome) → Kept w → Kept (with_outcome w o)) where
+    (told_keeps : (w : WorldState S) (o : StepOutcome) → Kept w → Kept (with_outcome w o)) where
   same_keeps : (old new : WorldState S) → new ≡ old → Kept old → Kept new
   same_keeps old new e kept = subst (λ (w : WorldState S). Kept w) (sym e) kept
 

@@ -13,7 +13,7 @@ use Rattle.synod.specs.Ballots.{rank}
 use Rattle.synod.specs.declared.ballot.Ballot.{Ballot}
 use Rattle.wire.specs.declared.frames.envelope.Envelope.{Envelope}
 use Rattle.world_model.specs.Worlds.{WorldState}
-use Rattle.node_model.specs.Minds.{position}
+use Rattle.node_model.specs.Replicas.{position}
 use Rattle.world_model.specs.Rounds.{IsQuorum, AreUp, IsBehind, CanMeet, refusal_in, greater, NoneRefuses, IsGreatestTold}
 
 -- the others of a list

@@ -10,11 +10,11 @@ use Rattle.synod.proofs.Running.{reached_holds}
 use Rattle.stable.specs.Records.{Records}
 use Rattle.stable.specs.Script.{Script}
 use Rattle.sessions.specs.declared.command.Command.{Command}
-use Rattle.node_model.specs.Loading.{IsMindOf}
-use Rattle.node_model.specs.Minds.{Mind, IsNextBallot}
-use Rattle.node_model.specs.Protocol.{MindStands}
-use Rattle.world_model.specs.Fleets.{IsFleet}
-use Rattle.world_model.specs.Progress.{mind_at}
+use Rattle.node_model.specs.Loading.{IsReplicaOf}
+use Rattle.node_model.specs.Replicas.{ReplicaState, IsNextBallot}
+use Rattle.node_model.specs.Protocol.{ReplicaStands}
+use Rattle.world_model.specs.Memberships.{IsMembership}
+use Rattle.world_model.specs.Progress.{replica_at}
 use Rattle.world_model.specs.Protocol as protocol
 use Rattle.world_model.specs.Safety.{IsSound}
 use Rattle.world_model.specs.Worlds.{WorldState}
@@ -25,28 +25,28 @@ nothing_there : {A : Type 0} (o : Option A) → ((x : A) → o ≡ Some x → �
 nothing_there None h = refl
 nothing_there (Some x) h = absurd (h x refl)
 
-module _ {S : Type 0} (contents : Script S → Records) (w : WorldState S) (fleet : IsFleet w.nodes w.frames)
+module _ {S : Type 0} (contents : Script S → Records) (w : WorldState S) (membership : IsMembership w.nodes w.frames)
     (sound : IsSound contents w) where
   -- the protocol's world that leads there
   abbrev state : synod_runs.World Command
   state = sound.allowed.state
 
   -- the invariant holds there
-  holds : Holds (protocol.fleet (length w.nodes)) state
-  holds = reached_holds (protocol.fleet (length w.nodes)) state sound.allowed.reached
+  holds : Holds (protocol.membership (length w.nodes)) state
+  holds = reached_holds (protocol.membership (length w.nodes)) state sound.allowed.reached
 
   -- who is up is one of the run, and holds what that node holds
-  pub is_member : (i : ℕ) (m : Mind) → mind_at w i ≡ Some m → (i < length w.nodes) × IsMindOf i (length w.nodes) m
+  pub is_member : (i : ℕ) (m : ReplicaState) → replica_at w i ≡ Some m → (i < length w.nodes) × IsReplicaOf i (length w.nodes) m
   is_member i m e =
       let n = node_of (slice_get w.nodes i) m e in
-      (slice_get_within w.nodes i n.0 n.1, (fleet.members i n.0 n.1).up m n.2)
+      (slice_get_within w.nodes i n.0 n.1, (membership.members i n.0 n.1).up m n.2)
 
-  -- who is up stands for the protocol's mind
-  stands_up : (i : ℕ) (m : Mind) → mind_at w i ≡ Some m → MindStands m (synod_runs.here state i)
+  -- who is up stands for the protocol's replica
+  stands_up : (i : ℕ) (m : ReplicaState) → replica_at w i ≡ Some m → ReplicaStands m (synod_runs.here state i)
   stands_up i m e = (up_at contents w sound.allowed i m e).stands
 
   -- what is proposed is of a round that its node has begun
-  begun_round : (i : ℕ) (m : Mind) → mind_at w i ≡ Some m → (v : Vote Command) → Proposed state.past v → v.ballot.node ≡ i
+  begun_round : (i : ℕ) (m : ReplicaState) → replica_at w i ≡ Some m → (v : Vote Command) → Proposed state.past v → v.ballot.node ≡ i
       → v.ballot.round ≤ m.proposing.round
   begun_round i m e v proposed mine =
       let owned = holds.past.owned v proposed in
@@ -55,7 +55,7 @@ module _ {S : Type 0} (contents : Script S → Records) (w : WorldState S) (flee
       omega (arith, owned, same, stands)
 
   -- a node has heard of no vote under its next ballot
-  pub unheard_next : (i : ℕ) (m : Mind) → mind_at w i ≡ Some m → (ballot : Ballot) → IsNextBallot m ballot
+  pub unheard_next : (i : ℕ) (m : ReplicaState) → replica_at w i ≡ Some m → (ballot : Ballot) → IsNextBallot m ballot
       → (slot a : ℕ) → a < length w.nodes → m.learning.heard slot ballot a ≡ None
   unheard_next i m e ballot next slot a below =
       nothing_there (m.learning.heard slot ballot a) (λ c is.
@@ -63,6 +63,6 @@ module _ {S : Type 0} (contents : Script S → Records) (w : WorldState S) (flee
       let among : a < m.learning.nodes = omega (arith, below, mine.learning) in
       let v : Vote Command = record { slot = slot; ballot = ballot; command = c } in
       let heard = (stands_up i m e).learner.heard slot a ballot c among is in
-      let proposed = holds.past.backed a v ((holds.mind i).heard a v heard) in
+      let proposed = holds.past.backed a v ((holds.replica i).heard a v heard) in
       let begun : ballot.round ≤ m.proposing.round = begun_round i m e v proposed (next.own ∙ mine.number) in
       omega (arith, begun, next.round))

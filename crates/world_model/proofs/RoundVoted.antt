@@ -14,8 +14,8 @@ use Rattle.acceptor.specs.declared.answer.Answer.{Answer}
 use Rattle.acceptor.specs.declared.answer.Answer.TheVariants as answer
 use Rattle.wire.specs.declared.frames.envelope.Envelope.{Envelope}
 use Rattle.wire.specs.declared.frames.message.Message.TheVariants.{Accept, Accepted}
-use Rattle.node_model.specs.Loading.{IsMindOf}
-use Rattle.node_model.specs.Minds.{Mind, promised}
+use Rattle.node_model.specs.Loading.{IsReplicaOf}
+use Rattle.node_model.specs.Replicas.{ReplicaState, promised}
 use Rattle.node_model.specs.Outputs.{Response}
 use Rattle.node_model.specs.Sending.{to_all, answer_sends}
 use Rattle.node_model.specs.Inputs.{role_of}
@@ -23,7 +23,7 @@ use Rattle.node_model.specs.Inputs.Role.{Acceptor, Learner, Fetcher}
 use Rattle.node_model.specs.Taking.{Takes, TakesMessage}
 use Rattle.node_model.specs.declared.input.Input.TheVariants as input
 use Rattle.node_model.proofs.Members.{takes_own}
-use Rattle.world_model.specs.Progress.{mind_at}
+use Rattle.world_model.specs.Progress.{replica_at}
 use Rattle.world_model.specs.Worlds.{WorldState}
 use Rattle.world_model.proofs.Handing.{Took, HandsOn, ends, skips, takes, hands_apart, same_or_not}
 use Rattle.world_model.proofs.Hearing.{same_learner}
@@ -42,11 +42,11 @@ votes_so a v level none =
     ap (λ (x : Verdict). unwrap_or (turned_away x v.ballot) (answer.Accepted v)) (taken_where a v.ballot v.slot level none)
 
 -- it tells all nodes, and has learnt what it had
-pub record HasVoted (nodes from : ℕ) (v : Vote Command) (m new : Mind) (said : Response) : Type 0 where
+pub record HasVoted (nodes from : ℕ) (v : Vote Command) (m new : ReplicaState) (said : Response) : Type 0 where
   pub sends : said.sends ≡ to_all from nodes (Accepted v)
   pub learning : new.learning ≡ m.learning
 
-pub voted_for : (nodes node from : ℕ) (v : Vote Command) (m new : Mind) (said : Response) → IsMindOf from nodes m → node < nodes
+pub voted_for : (nodes node from : ℕ) (v : Vote Command) (m new : ReplicaState) (said : Response) → IsReplicaOf from nodes m → node < nodes
     → v.ballot.node < nodes → m.accepting.floor ≤ v.slot → promised m ≡ Some v.ballot
     → Takes m (input.Message (record { from = node; to = from; message = Accept v })) new said → HasVoted nodes from v m new said
 voted_for nodes node from v m new said is node_there owner_there level has h =
@@ -58,7 +58,7 @@ voted_for nodes node from v m new said is node_there owner_there level has h =
           ∙ (ap (λ (a : Answer). answer_sends m.id m.nodes node a)
           (votes_so m.accepting v level (not_refused v.ballot m.accepting.promise has))
           ∙ (ap (λ (i : ℕ). to_all i m.nodes (Accepted v)) is.number ∙ ap (λ (n : ℕ). to_all from n (Accepted v)) is.of_all));
-      learning = ap (λ (x : Mind). x.learning) t.0;
+      learning = ap (λ (x : ReplicaState). x.learning) t.0;
     }
 
 -- ---- all of them do, in order of their numbers
@@ -70,41 +70,41 @@ module _ {S : Type 0} (w : WorldState S) (nodes node : ℕ) (members : List ℕ)
     told_vote : (k : ℕ) (es : List Envelope) → Contains members k → Votes k es → Votes (suc k) (es ++ to_all k nodes (Accepted v))
 
   -- the node is up, and has learnt what it had
-  pub record LearnsAs (mind : Mind) (now : WorldState S) : Type 0 where
-    pub mind_then : Mind
-    pub here : mind_at now node ≡ Some mind_then
-    pub is : IsMindOf node nodes mind_then
-    pub learning : mind_then.learning ≡ mind.learning
+  pub record LearnsAs (replica : ReplicaState) (now : WorldState S) : Type 0 where
+    pub replica_then : ReplicaState
+    pub here : replica_at now node ≡ Some replica_then
+    pub is : IsReplicaOf node nodes replica_then
+    pub learning : replica_then.learning ≡ replica.learning
 
-  pub record VotedBelow (mind : Mind) (k : ℕ) (now : WorldState S) : Type 0 where
+  pub record VotedBelow (replica : ReplicaState) (k : ℕ) (now : WorldState S) : Type 0 where
     pub votes : List Envelope
     pub are : Votes k votes
     pub frames_ : now.frames ≡ w.frames ++ votes
-    pub later : (j : ℕ) → k ≤ j → mind_at now j ≡ mind_at w j
-    pub learns : LearnsAs mind now
+    pub later : (j : ℕ) → k ≤ j → replica_at now j ≡ replica_at w j
+    pub learns : LearnsAs replica now
 
   abbrev accept_to : ℕ → Envelope
   accept_to k = record { from = node; to = k; message = Accept v }
 
-  same_mind : (m n : Mind) → Some m ≡ Some n → m ≡ n
-  same_mind m n e = let same : m ≡ n = cc in same
+  same_replica : (m n : ReplicaState) → Some m ≡ Some n → m ≡ n
+  same_replica m n e = let same : m ≡ n = cc in same
 
   -- a step of another node, or one that leaves the node what it has learnt
-  learns_on : (mind : Mind) (old : WorldState S) (e : Envelope) (new : WorldState S) → LearnsAs mind old → (took : Took old e new)
-      → took.mind_then.learning ≡ took.mind.learning → LearnsAs mind new
-  learns_on mind old e new h took same = elim (same_or_not node e.to) [
+  learns_on : (replica : ReplicaState) (old : WorldState S) (e : Envelope) (new : WorldState S) → LearnsAs replica old → (took : Took old e new)
+      → took.replica_then.learning ≡ took.replica.learning → LearnsAs replica new
+  learns_on replica old e new h took same = elim (same_or_not node e.to) [
     | inl here ↦
-        let before : h.mind_then ≡ took.mind =
-        same_mind h.mind_then took.mind (sym h.here ∙ (ap (λ (i : ℕ). mind_at old i) here ∙ took.here)) in
+        let before : h.replica_then ≡ took.replica =
+        same_replica h.replica_then took.replica (sym h.here ∙ (ap (λ (i : ℕ). replica_at old i) here ∙ took.here)) in
         record {
-          mind_then = took.mind_then;
-          here = ap (λ (i : ℕ). mind_at new i) here ∙ took.here_then;
-          is = takes_own node nodes took.mind (subst (λ (x : Mind). IsMindOf node nodes x) before h.is) (input.Message e) took.mind_then
+          replica_then = took.replica_then;
+          here = ap (λ (i : ℕ). replica_at new i) here ∙ took.here_then;
+          is = takes_own node nodes took.replica (subst (λ (x : ReplicaState). IsReplicaOf node nodes x) before h.is) (input.Message e) took.replica_then
               took.said took.takes;
-          learning = same ∙ (ap (λ (x : Mind). x.learning) (sym before) ∙ h.learning);
+          learning = same ∙ (ap (λ (x : ReplicaState). x.learning) (sym before) ∙ h.learning);
         }
     | inr other ↦ record {
-      mind_then = h.mind_then;
+      replica_then = h.replica_then;
       here = took.others node other ∙ h.here;
       is = h.is;
       learning = h.learning;
@@ -112,20 +112,20 @@ module _ {S : Type 0} (w : WorldState S) (nodes node : ℕ) (members : List ℕ)
   ]
 
   module _ (node_there : node < nodes) (owner_there : v.ballot.node < nodes)
-      (known : (j : ℕ) (m : Mind) → mind_at w j ≡ Some m → IsMindOf j nodes m)
+      (known : (j : ℕ) (m : ReplicaState) → replica_at w j ≡ Some m → IsReplicaOf j nodes m)
       (level : MaySpeak w members v.slot)
-      (has : (j : ℕ) (m : Mind) → Contains members j → mind_at w j ≡ Some m → promised m ≡ Some v.ballot)
-      (mind : Mind) (here : mind_at w node ≡ Some mind) where
-    voted_none : (now : WorldState S) → HandsOn members [] w now → VotedBelow mind zero now
+      (has : (j : ℕ) (m : ReplicaState) → Contains members j → replica_at w j ≡ Some m → promised m ≡ Some v.ballot)
+      (replica : ReplicaState) (here : replica_at w node ≡ Some replica) where
+    voted_none : (now : WorldState S) → HandsOn members [] w now → VotedBelow replica zero now
     voted_none now (ends w_) = record {
       votes = [];
       are = no_votes;
       frames_ = sym (append-nil w.frames);
       later = λ j _. refl;
-      learns = record { mind_then = mind; here = here; is = known node mind here; learning = refl };
+      learns = record { replica_then = replica; here = here; is = known node replica here; learning = refl };
     }
 
-    voted_another : (k : ℕ) (now : WorldState S) → (Contains members k → ⊥) → VotedBelow mind k now → VotedBelow mind (suc k) now
+    voted_another : (k : ℕ) (now : WorldState S) → (Contains members k → ⊥) → VotedBelow replica k now → VotedBelow replica (suc k) now
     voted_another k now not h = record {
       votes = h.votes;
       are = passed_vote k h.votes not h.are;
@@ -134,12 +134,12 @@ module _ {S : Type 0} (w : WorldState S) (nodes node : ℕ) (members : List ℕ)
       learns = h.learns;
     }
 
-    voted_member : (k : ℕ) (mid now : WorldState S) → Contains members k → VotedBelow mind k mid → Took mid (accept_to k) now
-        → VotedBelow mind (suc k) now
+    voted_member : (k : ℕ) (mid now : WorldState S) → Contains members k → VotedBelow replica k mid → Took mid (accept_to k) now
+        → VotedBelow replica (suc k) now
     voted_member k mid now among h took =
-        let before : mind_at w k ≡ Some took.mind = sym (h.later k (omega arith)) ∙ took.here in
-        let a = voted_for nodes node k v took.mind took.mind_then took.said (known k took.mind before) node_there owner_there
-        (level k took.mind among before) (has k took.mind among before) took.takes in
+        let before : replica_at w k ≡ Some took.replica = sym (h.later k (omega arith)) ∙ took.here in
+        let a = voted_for nodes node k v took.replica took.replica_then took.said (known k took.replica before) node_there owner_there
+        (level k took.replica among before) (has k took.replica among before) took.takes in
         record {
           votes = h.votes ++ to_all k nodes (Accepted v);
           are = told_vote k h.votes among h.are;
@@ -147,15 +147,15 @@ module _ {S : Type 0} (w : WorldState S) (nodes node : ℕ) (members : List ℕ)
               ∙ (ap (λ (fs : List Envelope). fs ++ to_all k nodes (Accepted v)) h.frames_
               ∙ append_assoc w.frames h.votes (to_all k nodes (Accepted v))));
           later = λ j less. took.others j (λ same. omega (arith, less, same)) ∙ h.later j (omega (arith, less));
-          learns = learns_on mind mid (accept_to k) now h.learns took a.learning;
+          learns = learns_on replica mid (accept_to k) now h.learns took a.learning;
         }
 
-    voted_next : (k : ℕ) (mid now : WorldState S) → VotedBelow mind k mid → HandsOn members (accept_to k ∷ []) mid now
-        → VotedBelow mind (suc k) now
+    voted_next : (k : ℕ) (mid now : WorldState S) → VotedBelow replica k mid → HandsOn members (accept_to k ∷ []) mid now
+        → VotedBelow replica (suc k) now
     voted_next k mid now h (skips e es w_ now_ not (ends last)) = voted_another k mid not h
     voted_next k mid now h (takes e es w_ new now_ among took (ends last)) = voted_member k mid now among h took
 
-    pub voted_below : (k : ℕ) (now : WorldState S) → HandsOn members (to_all node k (Accept v)) w now → VotedBelow mind k now
+    pub voted_below : (k : ℕ) (now : WorldState S) → HandsOn members (to_all node k (Accept v)) w now → VotedBelow replica k now
     voted_below zero now hands = voted_none now hands
     voted_below (suc k) now hands =
         let two = hands_apart members (to_all node k (Accept v)) (accept_to k ∷ []) w now hands in
@@ -163,17 +163,17 @@ module _ {S : Type 0} (w : WorldState S) (nodes node : ℕ) (members : List ℕ)
 
   -- ---- what else the node asks for
   -- who is asked for a vote learns nothing by it
-  no_news : (e : Envelope) (m new : Mind) (said : Response) → AsksForVote e → Takes m (input.Message e) new said
+  no_news : (e : Envelope) (m new : ReplicaState) (said : Response) → AsksForVote e → Takes m (input.Message e) new said
       → new.learning ≡ m.learning
   no_news e m new said asks h =
       same_learner m e new said (λ is. let clash : Acceptor ≡ Learner = ap role_of (sym asks.1) ∙ is in cc)
       (λ is. let clash : Acceptor ≡ Fetcher = ap role_of (sym asks.1) ∙ is in cc) h
 
-  pub learns_no_more : (mind : Mind) (es : List Envelope) → All AsksForVote es → (old new : WorldState S) → HandsOn members es old new
-      → LearnsAs mind old → LearnsAs mind new
-  learns_no_more mind _ all old new (ends w_) h = h
-  learns_no_more mind _ all old new (skips e es w_ new_ not hands) h =
-      learns_no_more mind es (All-tail AsksForVote e es all) old new hands h
-  learns_no_more mind _ all old new (takes e es w_ mid new_ among took hands) h =
-      learns_no_more mind es (All-tail AsksForVote e es all) mid new hands
-      (learns_on mind old e mid h took (no_news e took.mind took.mind_then took.said (All-head AsksForVote e es all) took.takes))
+  pub learns_no_more : (replica : ReplicaState) (es : List Envelope) → All AsksForVote es → (old new : WorldState S) → HandsOn members es old new
+      → LearnsAs replica old → LearnsAs replica new
+  learns_no_more replica _ all old new (ends w_) h = h
+  learns_no_more replica _ all old new (skips e es w_ new_ not hands) h =
+      learns_no_more replica es (All-tail AsksForVote e es all) old new hands h
+  learns_no_more replica _ all old new (takes e es w_ mid new_ among took hands) h =
+      learns_no_more replica es (All-tail AsksForVote e es all) mid new hands
+      (learns_on replica old e mid h took (no_news e took.replica took.replica_then took.said (All-head AsksForVote e es all) took.takes))

@@ -23,13 +23,13 @@ use Rattle.acceptor.proofs.RecordLemmas.{RecordsSay-nothing}
 use Rattle.sessions.specs.declared.command.Command.{Command}
 use Rattle.sessions.specs.declared.command.Command.TheVariants.{NoOp, Request}
 use Rattle.world_model.specs.declared.lists.Submission.{Submission}
-use Rattle.world_model.specs.declared.lists.Learnt.{Learnt}
+use Rattle.world_model.specs.declared.lists.LearntEntry.{LearntEntry}
 use Rattle.world_model.specs.Explaining.{LearntAgree, LearntGrounded}
 use Rattle.world_model.specs.Flushing.{IsUnused, IsStart, IsStarted}
 use Rattle.node_model.specs.Loading.{IsLoaded}
 use Rattle.node_model.specs.Protocol.{RecordsAgree}
 use Rattle.node_model.proofs.AllowedLoading.{blank_at}
-use Rattle.world_model.specs.Protocol.{fleet, frame_of, learnt_as}
+use Rattle.world_model.specs.Protocol.{membership, frame_of, learnt_as}
 use Rattle.world_model.specs.Reaching.{NodeStands, TookEffect, StandsAt, IsAllowed, AreHonest}
 use Rattle.world_model.specs.Safety.{HasAgreed, writes_of}
 use Rattle.node_model.specs.States.{NodeState}
@@ -64,7 +64,7 @@ submitted_in submitted (Request r) (inr c) =
     }
 
 module _ {S : Type 0} where
-  chosen_of : (w : WorldState S) (h : HasAgreed w) (t : Learnt) → Contains w.learnt t
+  chosen_of : (w : WorldState S) (h : HasAgreed w) (t : LearntEntry) → Contains w.learnt t
       → Chosen (length w.nodes) h.state.past t.slot t.command
   chosen_of w h t c = h.agreed.learnt (learnt_as t) (subst (λ (l : List (Lesson Command)). Contains l (learnt_as t)) (sym h.learnt)
       (map_contains learnt_as w.learnt t c))
@@ -163,7 +163,7 @@ module _ {S : Type 0} {contents : Script S → Records} where
     learnt = a.stands.learnt_;
     submitted = a.stands.submitted_;
     votes = λ i n e. (a.stands.node i n e).listed;
-    agreed = agreed_lem (fleet (length w.nodes)) a.state a.reached;
+    agreed = agreed_lem (membership (length w.nodes)) a.state a.reached;
   }
 
 -- ---- the start
@@ -200,7 +200,7 @@ module _ {S : Type 0} {storages : Ghosts (Script S)} where
     input = act.Nothing;
     came = tt;
     after = synod_runs.here synod_runs.start i;
-    does = does_nothing (fleet nodes) i act.Nothing (synod_runs.here synod_runs.start i);
+    does = does_nothing (membership nodes) i act.Nothing (synod_runs.here synod_runs.start i);
     unsent = refl;
     unlearnt = refl;
     unsubmitted = refl;

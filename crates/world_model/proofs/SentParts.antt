@@ -31,8 +31,8 @@ use Rattle.wire.specs.declared.frames.message.Message.TheVariants.{SnapPart, Beh
 use Rattle.node_model.specs.declared.input.Input.{Input}
 use Rattle.node_model.specs.declared.input.Input.TheVariants as input
 use Rattle.node_model.specs.Fetching.{Fetching, next_part}
-use Rattle.node_model.specs.Inputs.{concerns}
-use Rattle.node_model.specs.Minds.{Mind, position, asked, waits}
+use Rattle.node_model.specs.Inputs.{is_for_this_run}
+use Rattle.node_model.specs.Replicas.{ReplicaState, position, asked, waits}
 use Rattle.node_model.specs.Outputs.{Response}
 use Rattle.node_model.specs.Sending.{to_one, to_all, to_recipients, envelopes_of, envelopes, answer_sends, decided_sends, ask_sends}
 use Rattle.node_model.specs.Sending.{ask_others, to_others, part_sends, snapshot_sends}
@@ -122,7 +122,7 @@ proposes_none p (Some k) l = cond_both k.leading _ _ NoneOf (λ _. leads_none p 
 counting_none : (p q : Proposing) (l : Learning) → NoneOf (after_counting p q l)
 counting_none p q l = cond_both (begins_to_lead p q) _ _ NoneOf (λ _. proposes_none q q.campaign l) (λ _. tt)
 
-submit_none : (m : Mind) (r : Asked) → NoneOf (after_submit m r)
+submit_none : (m : ReplicaState) (r : Asked) → NoneOf (after_submit m r)
 submit_none m r =
     let p : Proposing = with_request m.proposing r in
     cond_both (waits m r.client r.number) _ _ NoneOf (λ _. tt) (λ _. proposes_none p p.campaign m.learning)
@@ -213,7 +213,7 @@ part_tells a id nodes to target number =
     (λ _. one_if (IsPartOf a) id nodes (nat_lt target a.floor) to (Behind a.floor) refl)
 
 -- ---- each input
-module _ (old new : Mind) (said : Response) where
+module _ (old new : ReplicaState) (said : Response) where
   abbrev P : Piece → Type 0
   P = IsPartOf old.accepting
 
@@ -275,7 +275,7 @@ module _ (old new : Mind) (said : Response) where
   pub takes_sends : (i : Input) → Takes old i new said → Sends said.sends
   takes_sends (input.Submit client number op) k =
       says _ k.1 (proposed_sends (after_submit old (asked client number op)).1 (submit_none old (asked client number op)))
-  takes_sends (input.Message e) k = envelope_sends e (concerns old.id old.nodes e) k
+  takes_sends (input.Message e) k = envelope_sends e (is_for_this_run old.id old.nodes e) k
   takes_sends input.Timeout (prepare, starts, leaves, e) =
       says _ e (outgoing P old.id old.nodes prepare (ap (λ (o : Outgoing). part_in o.message) starts.asks_all))
   takes_sends input.Tick k =

@@ -9,7 +9,7 @@ use Rattle.events.specs.declared.event.Event.{Event}
 use Rattle.events.specs.declared.event.Event.TheVariants as event
 use Rattle.node_model.specs.declared.input.Input.{Input}
 use Rattle.node_model.specs.declared.input.Input.TheVariants as input
-use Rattle.world_model.specs.Fleets.{IsFleet}
+use Rattle.world_model.specs.Memberships.{IsMembership}
 use Rattle.world_model.specs.Flushing.{IsStart, Delivers}
 use Rattle.node_model.specs.Nodes.{NodeState}
 use Rattle.world_model.specs.Reaching.{AreHonest}
@@ -17,19 +17,19 @@ use Rattle.world_model.specs.Safety.{HasAgreed, IsSafe, IsSound, IsSoundIfHonest
 use Rattle.world_model.specs.Worlds.{WorldState, TakesAt, Steps, with_outcome, without_wait}
 use Rattle.events.specs.declared.fault.WorldFault.{WorldFault}
 use Rattle.events.specs.declared.fault.WorldFault.TheVariants as fault
-use Rattle.world_model.specs.declared.lists.Outcome.{Outcome}
+use Rattle.world_model.specs.declared.lists.StepOutcome.{StepOutcome}
 use Rattle.world_model.specs.declared.round_end.RoundEnd.{RoundEnd}
 use Rattle.world_model.specs.Rounds.{RoundEnds, IsPartOfRound}
 use Rattle.world_model.proofs.RoundLemmas.{call_keeps}
 use Rattle.world_model.proofs.Explained.{explained}
-use Rattle.world_model.proofs.FleetSteps.{step_fleet}
+use Rattle.world_model.proofs.MembershipSteps.{step_membership}
 use Rattle.world_model.proofs.InLog.{start_in_log, step_in_log}
 use Rattle.world_model.proofs.ListedPuts.{KeepsPuts}
 use Rattle.world_model.proofs.Preserved.{HoldsOf, step_holds, submission_nodes, answered_nodes}
 use Rattle.world_model.proofs.PromisesStand.{start_promises, step_promises}
 use Rattle.world_model.proofs.RestartLemmas.{restart_honest}
 use Rattle.world_model.proofs.SafetyLemmas.{allowed_agrees, has_chosen, learnt_agree, learnt_grounded, start_allowed}
-use Rattle.world_model.proofs.Tellings.{steps_tell, start_tells}
+use Rattle.world_model.proofs.Tellings.{steps_keep_lists, start_tells}
 use Rattle.world_model.proofs.Texts.{texts_explained, parts_explained, nodes_explained}
 use Rattle.world_model.proofs.Validity.{start_valid, step_valid}
 use Rattle.world_model.proofs.WorldMoves.{honest_nodes, honest_took, step_allowed}
@@ -104,27 +104,27 @@ module _ {S : Type 0} {storages : Ghosts (Script S)} (laws : IsLawful storages)
 
   -- ---- a step
   pub step_sound : (old : WorldState S) (e : Event) (new : WorldState S) → Steps storages old e new
-      → IsFleet old.nodes old.frames → IsSoundIfHonest storages.contents storages.IsHonest old
+      → IsMembership old.nodes old.frames → IsSoundIfHonest storages.contents storages.IsHonest old
       → IsSoundIfHonest storages.contents storages.IsHonest new
-  step_sound old e new h fleet before = record {
+  step_sound old e new h membership before = record {
     sound = λ honest.
         let was = before.sound (step_holds was_honest old e new h honest) in
         record {
-          allowed = step_allowed laws armed_honest armed_contents lists old e new h fleet (λ then. (before.sound then).allowed) honest;
-          tells = steps_tell laws lists armed_contents old new e h honest was.allowed
+          allowed = step_allowed laws armed_honest armed_contents lists old e new h membership (λ then. (before.sound then).allowed) honest;
+          tells = steps_keep_lists laws lists armed_contents old new e h honest was.allowed
               (learnt_agree old (allowed_agrees old was.allowed)) was.tells;
           in_log = step_in_log storages old e new h was.in_log;
           valid = step_valid storages old e new h was.valid;
-          promises = step_promises laws lists armed_contents old e new h fleet was.allowed was.promises honest;
+          promises = step_promises laws lists armed_contents old e new h membership was.allowed was.promises honest;
         };
   }
 
   record Kept (w : WorldState S) : Type 0 where
-    fleet : IsFleet w.nodes w.frames
+    membership : IsMembership w.nodes w.frames
     sound : IsSoundIfHonest storages.contents storages.IsHonest w
 
   -- ---- an outcome more is told
-  pub told_sound : (w : WorldState S) (o : Outcome) → IsSoundIfHonest storages.contents storages.IsHonest w
+  pub told_sound : (w : WorldState S) (o : StepOutcome) → IsSoundIfHonest storages.contents storages.IsHonest w
       → IsSoundIfHonest storages.contents storages.IsHonest (with_outcome w o)
   told_sound w o h = record {
     sound = λ honest.
@@ -135,22 +135,22 @@ module _ {S : Type 0} {storages : Ghosts (Script S)} (laws : IsLawful storages)
   -- ---- a round, whatever comes of it
   step_keeps : (old : WorldState S) (e : Event) (new : WorldState S) → Steps storages old e new → Kept old → Kept new
   step_keeps old e new h kept = record {
-    fleet = step_fleet storages old e new h kept.fleet;
-    sound = step_sound old e new h kept.fleet kept.sound;
+    membership = step_membership storages old e new h kept.membership;
+    sound = step_sound old e new h kept.membership kept.sound;
   }
 
-  told_keeps : (w : WorldState S) (o : Outcome) → Kept w → Kept (with_outcome w o)
-  told_keeps w o kept = record { fleet = kept.fleet; sound = told_sound w o kept.sound }
+  told_keeps : (w : WorldState S) (o : StepOutcome) → Kept w → Kept (with_outcome w o)
+  told_keeps w o kept = record { membership = kept.membership; sound = told_sound w o kept.sound }
 
   pub round_sound : (old new : WorldState S) (node : ℕ) (members : List ℕ) (result : Result RoundEnd WorldFault)
       → IfOk result (λ end. RoundEnds storages old node members end new)
       → (IsErrOf result fault.NoSuchNode → new ≡ old)
       → (IsErrOf result fault.Memory → IsPartOfRound storages old node members new)
       → IfErr result (λ f. (f ≡ fault.NoSuchNode) ⊎ (f ≡ fault.Memory))
-      → IsFleet old.nodes old.frames → IsSoundIfHonest storages.contents storages.IsHonest old
+      → IsMembership old.nodes old.frames → IsSoundIfHonest storages.contents storages.IsHonest old
       → IsSoundIfHonest storages.contents storages.IsHonest new
-  round_sound old new node members result ends unchanged part faults fleet sound =
-      (call_keeps storages (λ w. Kept w) step_keeps told_keeps old node members (record { fleet = fleet; sound = sound })
+  round_sound old new node members result ends unchanged part faults membership sound =
+      (call_keeps storages (λ w. Kept w) step_keeps told_keeps old node members (record { membership = membership; sound = sound })
       new result ends unchanged part faults).sound
 
   -- ---- deliveries one after the other
@@ -159,10 +159,10 @@ module _ {S : Type 0} {storages : Ghosts (Script S)} (laws : IsLawful storages)
   delivers_kept old _ new (Delivers.more n k between new_ before lowest delivers) kept =
       let then = delivers_kept old n between before kept in
       record {
-        fleet = step_fleet storages between (event.Deliver k) new delivers then.fleet;
-        sound = step_sound between (event.Deliver k) new delivers then.fleet then.sound;
+        membership = step_membership storages between (event.Deliver k) new delivers then.membership;
+        sound = step_sound between (event.Deliver k) new delivers then.membership then.sound;
       }
 
-  pub delivers_sound : (old : WorldState S) (n : ℕ) (new : WorldState S) → Delivers storages old n new → IsFleet old.nodes old.frames
+  pub delivers_sound : (old : WorldState S) (n : ℕ) (new : WorldState S) → Delivers storages old n new → IsMembership old.nodes old.frames
       → IsSoundIfHonest storages.contents storages.IsHonest old → IsSoundIfHonest storages.contents storages.IsHonest new
-  delivers_sound old n new h fleet sound = (delivers_kept old n new h (record { fleet = fleet; sound = sound })).sound
+  delivers_sound old n new h membership sound = (delivers_kept old n new h (record { membership = membership; sound = sound })).sound

@@ -6,14 +6,14 @@ use Rattle.std.proofs.lemmas.List.Sums.{sum_by-append}
 use Rattle.stable.specs.Script.{Script}
 use Rattle.stable.specs.declared.stable.Stable.{Ghosts}
 use Rattle.store.specs.declared.query.Query.{Query}
-use Rattle.world_model.specs.declared.lists.Outcome.{Outcome}
-use Rattle.world_model.specs.declared.lists.Outcome.TheVariants.{Answered}
+use Rattle.world_model.specs.declared.lists.StepOutcome.{StepOutcome}
+use Rattle.world_model.specs.declared.lists.StepOutcome.TheVariants.{Answered}
 use Rattle.world_model.specs.Flushing.{IsStart}
 use Rattle.node_model.specs.declared.fault.NodeFault.{NodeFault}
 use Rattle.node_model.specs.declared.fault.NodeFault.TheVariants as fault
 use Rattle.node_model.specs.declared.input.Input.{Input}
-use Rattle.node_model.specs.declared.outputs.LogEntry.{LogEntry}
-use Rattle.node_model.specs.Minds.{Mind}
+use Rattle.node_model.specs.declared.outputs.LearntCommand.{LearntCommand}
+use Rattle.node_model.specs.Replicas.{ReplicaState}
 use Rattle.node_model.specs.Nodes.{NodeState, NodeSteps, TakesInput}
 use Rattle.node_model.specs.Outputs.{Response}
 use Rattle.node_model.proofs.Learnt.{takes_restored}
@@ -23,12 +23,12 @@ use Rattle.world_model.specs.Outputs.{replied_at, replied_by}
 use Rattle.world_model.proofs.Preserved.{Preserved, step_keeps}
 
 -- entries join a list, and an outcome tells of as many
-grows : {A : Type 0} (xs ys : List A) (f : Outcome → ℕ) (os : List Outcome) (o : Outcome) → length xs ≡ sum_by f os
+grows : {A : Type 0} (xs ys : List A) (f : StepOutcome → ℕ) (os : List StepOutcome) (o : StepOutcome) → length xs ≡ sum_by f os
     → length ys ≡ f o → length (xs ++ ys) ≡ sum_by f (os ++ o ∷ [])
 grows xs ys f os o e g = omega (arith, length-append xs ys, sum_by-append f os (o ∷ []), e, g)
 
 -- an outcome tells of none
-stays : {A : Type 0} (xs : List A) (f : Outcome → ℕ) (os : List Outcome) (o : Outcome) → length xs ≡ sum_by f os
+stays : {A : Type 0} (xs : List A) (f : StepOutcome → ℕ) (os : List StepOutcome) (o : StepOutcome) → length xs ≡ sum_by f os
     → 0 ≡ f o → length xs ≡ sum_by f (os ++ o ∷ [])
 stays xs f os o e g = omega (arith, sum_by-append f os (o ∷ []), e, g)
 
@@ -48,7 +48,7 @@ came_answers node (Some target) learnt replies = refl
 
 module _ {S : Type 0} where
   -- an outcome that tells of no entry
-  with_quiet : (w : WorldState S) (o : Outcome) → 0 ≡ learnt_told o → 0 ≡ replies_told o → 0 ≡ answers_told o
+  with_quiet : (w : WorldState S) (o : StepOutcome) → 0 ≡ learnt_told o → 0 ≡ replies_told o → 0 ≡ answers_told o
       → IsTallied w → IsTallied (with_outcome w o)
   with_quiet w o l r a t = record {
     learnt = stays w.learnt learnt_told w.outcomes o t.learnt l;
@@ -60,9 +60,9 @@ module _ {S : Type 0} where
       → IsTallied w → IsTallied (with_response w node said)
   said_tallied w node said restoring t =
       let learnt : ℕ = length (learnt_by node said.learnt) in
-      let o : Outcome = came_of node said.restored learnt (length said.replies) in
+      let o : StepOutcome = came_of node said.restored learnt (length said.replies) in
       let none : (target : ℕ) → said.restored ≡ Some target → length (learnt_by node said.learnt) ≡ 0 = λ target is.
-      ap (λ (e : Option LogEntry). length (learnt_by node e)) (restoring target is) in
+      ap (λ (e : Option LearntCommand). length (learnt_by node e)) (restoring target is) in
       record {
         learnt = grows w.learnt (learnt_by node said.learnt) learnt_told w.outcomes o t.learnt
             (came_learnt node said.restored learnt (length said.replies) none);
@@ -74,16 +74,16 @@ module _ {S : Type 0} where
 
   -- with a text that it restores a node learns nothing
   node_restoring : {storages : Ghosts (Script S)} (old new : NodeState (Script S)) (i : Input) (r : Result Response NodeFault)
-      (said : Response) (o : Option Mind) → r ≡ Ok said → old.up ≡ o → NodeSteps storages old i r new
+      (said : Response) (o : Option ReplicaState) → r ≡ Ok said → old.up ≡ o → NodeSteps storages old i r new
       → (target : ℕ) → said.restored ≡ Some target → said.learnt ≡ None
   node_restoring old new i r said None is up h target some =
       absurd (let e : ◌≡◌ {A = Result Response NodeFault} (Ok said) (Err fault.Down) = sym is ∙ (h.down up).0 in cc)
   node_restoring {storages} old new i r said (Some m) is up h target some =
       let takes : IfOk r (λ s. TakesInput storages old m i s new) =
-      subst (λ (o : Option Mind). IfSome o (λ n. IfOk r (λ s. TakesInput storages old n i s new))) up h.taken in
+      subst (λ (o : Option ReplicaState). IfSome o (λ n. IfOk r (λ s. TakesInput storages old n i s new))) up h.taken in
       let t : TakesInput storages old m i said new =
       subst (λ (q : Result Response NodeFault). IfOk q (λ s. TakesInput storages old m i s new)) is takes in
-      takes_restored m t.mind said i t.takes target some
+      takes_restored m t.replica said i t.takes target some
 
   answered_tallied : (w : WorldState S) (node : ℕ) (query : Query) (told : ℕ × List ℕ) → IsTallied w
       → IsTallied (with_answer w node query told.0 told.1)

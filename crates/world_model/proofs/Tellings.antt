@@ -34,14 +34,14 @@ use Rattle.node_model.specs.declared.fault.NodeFault.{NodeFault}
 use Rattle.node_model.specs.declared.fault.NodeFault.TheVariants as fault
 use Rattle.node_model.specs.declared.input.Input.{Input}
 use Rattle.node_model.specs.declared.input.Input.TheVariants as input
-use Rattle.node_model.specs.declared.outputs.Executed.{Executed}
-use Rattle.node_model.specs.declared.outputs.LogEntry.{LogEntry}
+use Rattle.node_model.specs.declared.outputs.ReplyOut.{ReplyOut}
+use Rattle.node_model.specs.declared.outputs.LearntCommand.{LearntCommand}
 use Rattle.node_model.specs.Composition.{IsMeaningOf, IsReplyOf, GoesOnFrom, RestoresFrom, executed_from}
 use Rattle.node_model.specs.Executing.{commands}
 use Rattle.node_model.specs.Faults.{is_stop_fault}
 use Rattle.node_model.specs.Fetching.{Fetching}
 use Rattle.node_model.specs.Loading.{IsBaseOf, IsLoaded}
-use Rattle.node_model.specs.Minds.{Mind, learnt_in, position}
+use Rattle.node_model.specs.Replicas.{ReplicaState, learnt_in, position}
 use Rattle.node_model.specs.Nodes.{fetched_text}
 use Rattle.node_model.specs.Nodes.{TakesInput, RefusesInput, StopsOnInput, NodeAnswers, AnswersMeaning}
 use Rattle.node_model.specs.Outputs.{Response, silence}
@@ -50,7 +50,7 @@ use Rattle.node_model.specs.Taking.{Takes}
 use Rattle.node_model.proofs.Learnt.{takes_tells, learnt_behind, loaded_means}
 use Rattle.node_model.proofs.Meanings.{as_many}
 use Rattle.events.specs.declared.event.Event.{Event}
-use Rattle.world_model.specs.declared.lists.Learnt.{Learnt}
+use Rattle.world_model.specs.declared.lists.LearntEntry.{LearntEntry}
 use Rattle.world_model.specs.declared.lists.Replied.{Replied}
 use Rattle.world_model.specs.declared.lists.Answered.{Answered}
 use Rattle.world_model.specs.Explaining.{LearntAgree}
@@ -58,9 +58,9 @@ use Rattle.world_model.specs.Flushing.{IsStart, IsStarted}
 use Rattle.world_model.specs.Reaching.{HoldsPut, IsAllowed, AreHonest}
 use Rattle.world_model.specs.Outputs.{replied_at, replied_by}
 use Rattle.world_model.specs.Telling.{WasLearnt, WereLearnt, TellsReply, TellsAnswer, TellsText, TextsTold, TellsPiece, HoldsToldParts}
-use Rattle.world_model.specs.Telling.{Knows, ListsTell, Tells}
+use Rattle.world_model.specs.Telling.{ReplicaIsBacked, ListsAreBacked, WorldIsBacked}
 use Rattle.world_model.specs.Worlds.{WorldState, TakesAt, SubmitsAt, AsksAt, ArmsAt, RestartsAt, Steps, recorded, with_node}
-use Rattle.world_model.specs.Worlds.{with_submission, without_wait, learnt_by, answered, mind_in, mind_at}
+use Rattle.world_model.specs.Worlds.{with_submission, without_wait, learnt_by, answered, replica_in, replica_at}
 use Rattle.world_model.proofs.CheckpointPuts.{IsCheckpointOfNode, checkpoint_put}
 use Rattle.world_model.proofs.HeldParts.{PartsCome, set_cases, was_still, text_still, piece_still, fetches_still, fetches_of, still_told}
 use Rattle.world_model.proofs.HeldParts.{restored_text}
@@ -88,7 +88,7 @@ out_of_map f (x ∷ xs) y c = elim (Contains-append_cases (f x ∷ []) (map f xs
 ]
 
 -- ---- what was learnt stays so
-module _ (learnt more : List Learnt) where
+module _ (learnt more : List LearntEntry) where
   reply_still : (p : Replied) → TellsReply learnt p → TellsReply (learnt ++ more) p
   reply_still p t = record {
     log = t.log;
@@ -104,7 +104,7 @@ module _ (learnt more : List Learnt) where
     answers = t.answers;
   }
 
-  knows_still : (m : Mind) → Knows learnt m → Knows (learnt ++ more) m
+  knows_still : (m : ReplicaState) → ReplicaIsBacked learnt m → ReplicaIsBacked (learnt ++ more) m
   knows_still m k = record {
     base = k.base;
     begins = λ slot c e. was_still learnt more slot c (k.begins slot c e);
@@ -114,7 +114,7 @@ module _ (learnt more : List Learnt) where
   }
 
 -- what is told now is in the longer list
-now_learnt : (learnt : List Learnt) (i : ℕ) (o : Option LogEntry) (slot : ℕ) (c : Command)
+now_learnt : (learnt : List LearntEntry) (i : ℕ) (o : Option LearntCommand) (slot : ℕ) (c : Command)
     → o ≡ Some (record { slot = slot; command = c }) → WasLearnt (learnt ++ learnt_by i o) slot c
 now_learnt learnt i None slot c e = absurd (cc)
 now_learnt learnt i (Some d) slot c e =
@@ -122,8 +122,8 @@ now_learnt learnt i (Some d) slot c e =
     record {
       entry = record { node = i; slot = d.slot; command = d.command };
       there = Contains-push learnt (record { node = i; slot = d.slot; command = d.command });
-      at = ap (λ (x : LogEntry). x.slot) is;
-      holds = ap (λ (x : LogEntry). x.command) is;
+      at = ap (λ (x : LearntCommand). x.slot) is;
+      holds = ap (λ (x : LearntCommand). x.command) is;
     }
 
 -- what stands in front in two lists that are joined
@@ -133,7 +133,7 @@ get_before (z ∷ xs) ys zero x less e = e
 get_before (z ∷ xs) ys (suc k) x less e = get_before xs ys k x (omega (arith, less)) e
 
 -- of what a node is the meaning was learnt, by it or by some node before it began
-pub known_of : (learnt : List Learnt) (m : Mind) (k : Knows learnt m) → WereLearnt learnt (executed_from k.base m)
+pub known_of : (learnt : List LearntEntry) (m : ReplicaState) (k : ReplicaIsBacked learnt m) → WereLearnt learnt (executed_from k.base m)
 known_of learnt m k slot c e = elim (cases_lt slot (length k.base)) [
   | inl below ↦ k.begins slot c
       (get_before k.base (commands m.learning.learnt m.learning.first (position m - m.learning.first)) slot c below e)
@@ -142,21 +142,21 @@ known_of learnt m k slot c e = elim (cases_lt slot (length k.base)) [
 
 -- ---- what a node tells
 -- what it knows then, of what its replies are, and which parts it sends
-record Says (learnt : List Learnt) (after : Option Mind) (said : Response) : Type 0 where
-  knows : (m : Mind) → after ≡ Some m → Knows learnt m
-  replied : (e : Executed) → Contains said.replies e → (log : List Command) × WereLearnt learnt log × IsReplyOf log e
+record Says (learnt : List LearntEntry) (after : Option ReplicaState) (said : Response) : Type 0 where
+  knows : (m : ReplicaState) → after ≡ Some m → ReplicaIsBacked learnt m
+  replied : (e : ReplyOut) → Contains said.replies e → (log : List Command) × WereLearnt learnt log × IsReplyOf log e
   parts : (e : Envelope) (p : Piece) → Contains said.sends e → e.message ≡ SnapPart p → TellsPiece learnt p
 
 -- one that is down, and one that knows what it knew
-says_down : (learnt : List Learnt) (after : Option Mind) → after ≡ None → Says learnt after silence
+says_down : (learnt : List LearntEntry) (after : Option ReplicaState) → after ≡ None → Says learnt after silence
 says_down learnt after gone = record {
   knows = λ m e. absurd (let h : None ≡ Some m = sym gone ∙ e in cc);
   replied = λ e c. absurd (none_in e c);
   parts = λ e p c brings. absurd (none_in e c);
 }
 
-says_still : (learnt : List Learnt) (before after : Option Mind) → after ≡ before
-    → ((m : Mind) → before ≡ Some m → Knows learnt m) → Says learnt after silence
+says_still : (learnt : List LearntEntry) (before after : Option ReplicaState) → after ≡ before
+    → ((m : ReplicaState) → before ≡ Some m → ReplicaIsBacked learnt m) → Says learnt after silence
 says_still learnt before after same knew = record {
   knows = λ m e. knew m (sym same ∙ e);
   replied = λ e c. absurd (none_in e c);
@@ -165,8 +165,8 @@ says_still learnt before after same knew = record {
 
 -- ---- one that takes an input
 -- whatever the input, it has learnt no more than it tells, and what it fetches is told
-module _ (learnt : List Learnt) (i : ℕ) (old new : Mind) (input : Input) (said : Response) (takes : Takes old input new said)
-    (knew : Knows learnt old) (comes : PartsCome learnt input) where
+module _ (learnt : List LearntEntry) (i : ℕ) (old new : ReplicaState) (input : Input) (said : Response) (takes : Takes old input new said)
+    (knew : ReplicaIsBacked learnt old) (comes : PartsCome learnt input) where
   listed_then : (slot : ℕ) (c : Command) → learnt_in new slot ≡ Some c → WasLearnt (learnt ++ learnt_by i said.learnt) slot c
   listed_then slot c there = elim ((takes_tells old new said input takes).told slot c there) [
     | inl before ↦ was_still learnt (learnt_by i said.learnt) slot c (knew.listed slot c before)
@@ -179,7 +179,7 @@ module _ (learnt : List Learnt) (i : ℕ) (old new : Mind) (input : Input) (said
       (still_told learnt old input knew.fetches comes new said (fetches_of old new said input takes))
 
   -- it knows this where it is the meaning of a list of what was learnt and of what it has learnt behind it
-  knows_then : (base : List Command) → WereLearnt learnt base → IsMeaningOf base new → Knows (learnt ++ learnt_by i said.learnt) new
+  knows_then : (base : List Command) → WereLearnt learnt base → IsMeaningOf base new → ReplicaIsBacked (learnt ++ learnt_by i said.learnt) new
   knows_then base begins means = record {
     base = base;
     begins = λ slot c e. was_still learnt (learnt_by i said.learnt) slot c (begins slot c e);
@@ -198,13 +198,13 @@ module _ (learnt : List Learnt) (i : ℕ) (old new : Mind) (input : Input) (said
       (own p (subst (λ (m : Message). IfSome (part_in m) (IsPartOf old.accepting)) brings part))
 
   says_then : (base : List Command) → WereLearnt learnt base → IsMeaningOf base new
-      → ((e : Executed) → Contains said.replies e → IsReplyOf (executed_from base new) e)
+      → ((e : ReplyOut) → Contains said.replies e → IsReplyOf (executed_from base new) e)
       → ((p : Piece) → IsPartOf old.accepting p → TellsPiece learnt p) → Says (learnt ++ learnt_by i said.learnt) (Some new) said
   unfolding knows_then
   says_then base begins means replies own =
-      let known : Knows (learnt ++ learnt_by i said.learnt) new = knows_then base begins means in
+      let known : ReplicaIsBacked (learnt ++ learnt_by i said.learnt) new = knows_then base begins means in
       record {
-        knows = λ m e. subst (Knows (learnt ++ learnt_by i said.learnt)) (same_Some new m e) known;
+        knows = λ m e. subst (ReplicaIsBacked (learnt ++ learnt_by i said.learnt)) (same_Some new m e) known;
         replied = λ e c. (executed_from base new, known_of (learnt ++ learnt_by i said.learnt) new known, replies e c);
         parts = sent_then own;
       }
@@ -233,15 +233,15 @@ stops_or_refuses true h = inl h
 stops_or_refuses false h = inr h
 
 -- what is told of a text that is restored, of a node that is up then
-abbrev RestoresTo : Mind → Input → List Command → Option Mind → Response → ℕ → Type 0
+abbrev RestoresTo : ReplicaState → Input → List Command → Option ReplicaState → Response → ℕ → Type 0
 RestoresTo m input base after said target =
     length base ≡ target → IsSnapshot base (fetched_text m input) → IfSome after (λ n. RestoresFrom base m n said)
 
-module _ {S : Type 0} (storages : Ghosts S) (learnt : List Learnt) (agree : LearntAgree learnt) (i : ℕ) (before after : NodeState S)
+module _ {S : Type 0} (storages : Ghosts S) (learnt : List LearntEntry) (agree : LearntAgree learnt) (i : ℕ) (before after : NodeState S)
     (input : Input) (comes : PartsCome learnt input) where
   -- by whether it was up, and whether it took the input
-  node_says : (up : Option Mind) (result : Result Response NodeFault) → before.up ≡ up → ((m : Mind) → up ≡ Some m → Knows learnt m)
-      → ((m : Mind) → up ≡ Some m → (p : Piece) → IsPartOf m.accepting p → TellsPiece learnt p)
+  node_says : (up : Option ReplicaState) (result : Result Response NodeFault) → before.up ≡ up → ((m : ReplicaState) → up ≡ Some m → ReplicaIsBacked learnt m)
+      → ((m : ReplicaState) → up ≡ Some m → (p : Piece) → IsPartOf m.accepting p → TellsPiece learnt p)
       → (up ≡ None → (result ≡ Err fault.Down) × (after ≡ before))
       → IfSome up (λ m. IfOk result (λ said. TakesInput storages before m input said after))
       → IfSome up (λ m. IfErr result (λ f. MatchBool (is_stop_fault f)
@@ -256,12 +256,12 @@ module _ {S : Type 0} (storages : Ghosts S) (learnt : List Learnt) (agree : Lear
   node_says None (Err f) here knew own down taken refused goes restores =
       says_down (learnt ++ []) after.up (ap (λ (n : NodeState S). n.up) (down refl).1 ∙ here)
   node_says (Some m) (Ok said) here knew own down taken refused goes restores =
-      let is : after.up ≡ Some taken.mind = ap (λ (n : NodeState S). n.up) taken.leaves in
+      let is : after.up ≡ Some taken.replica = ap (λ (n : NodeState S). n.up) taken.leaves in
       let base : List Command = (knew m refl).base in
-      subst (λ (o : Option Mind). Says (learnt ++ learnt_by i said.learnt) o said) (sym is)
-      (says_taken learnt i m taken.mind input said taken.takes (knew m refl) comes agree (own m refl) said.restored refl
-      (λ none. subst (λ (o : Option Mind). IfSome o (λ n. GoesOnFrom base m n said)) is (goes base (knew m refl).meaning none))
-      (λ anew. subst (λ (o : Option Mind). IfSome said.restored (RestoresTo m input anew o said)) is (restores anew)))
+      subst (λ (o : Option ReplicaState). Says (learnt ++ learnt_by i said.learnt) o said) (sym is)
+      (says_taken learnt i m taken.replica input said taken.takes (knew m refl) comes agree (own m refl) said.restored refl
+      (λ none. subst (λ (o : Option ReplicaState). IfSome o (λ n. GoesOnFrom base m n said)) is (goes base (knew m refl).meaning none))
+      (λ anew. subst (λ (o : Option ReplicaState). IfSome said.restored (RestoresTo m input anew o said)) is (restores anew)))
   node_says (Some m) (Err f) here knew own down taken refused goes restores = elim (stops_or_refuses (is_stop_fault f) refused) [
     | inl stops ↦ says_down (learnt ++ []) after.up (ap (λ (n : NodeState S). n.up) stops.leaves)
     | inr refuses ↦
@@ -270,7 +270,7 @@ module _ {S : Type 0} (storages : Ghosts S) (learnt : List Learnt) (agree : Lear
   ]
 
 -- ---- and the lists
-new_reply : (learnt : List Learnt) (i : ℕ) (after : Option Mind) (said : Response) → Says learnt after said
+new_reply : (learnt : List LearntEntry) (i : ℕ) (after : Option ReplicaState) (said : Response) → Says learnt after said
     → (p : Replied) → Contains (replied_by i said.replies) p → TellsReply learnt p
 new_reply learnt i after said says p c =
     let of = out_of_map (replied_at i) said.replies p c in
@@ -279,11 +279,11 @@ new_reply learnt i after said says p c =
 
 -- ---- the texts of a storage
 module _ {S : Type 0} (contents : Script S → Records) where
-  texts_still : (learnt more : List Learnt) (s : Script S) → TextsTold contents learnt s → TextsTold contents (learnt ++ more) s
+  texts_still : (learnt more : List LearntEntry) (s : Script S) → TextsTold contents learnt s → TextsTold contents (learnt ++ more) s
   texts_still learnt more s told c fits took = text_still learnt more c.position c.text (told c fits took)
 
   -- a storage goes on: what is new is the one checkpoint that was put, if one was
-  texts_go_on : (learnt : List Learnt) (made : Option Write) (a b : Script S) → GoesOn contents made a b
+  texts_go_on : (learnt : List LearntEntry) (made : Option Write) (a b : Script S) → GoesOn contents made a b
       → ((c : Checkpointed) → CheckpointFits c → made ≡ Some (key.Checkpoint, checkpoint_bytes c) → TellsText learnt c.position c.text)
       → TextsTold contents learnt a → TextsTold contents learnt b
   texts_go_on learnt made a b goes put told c fits took = elim (goes.new (key.Checkpoint, checkpoint_bytes c) took) [
@@ -292,12 +292,12 @@ module _ {S : Type 0} (contents : Script S → Records) where
   ]
 
   -- nothing is put
-  texts_stay : (learnt : List Learnt) (a b : Script S) → GoesOn contents None a b → TextsTold contents learnt a → TextsTold contents learnt b
+  texts_stay : (learnt : List LearntEntry) (a b : Script S) → GoesOn contents None a b → TextsTold contents learnt a → TextsTold contents learnt b
   texts_stay learnt a b goes =
       texts_go_on learnt None a b goes (λ c fits e. absurd (none-some (key.Checkpoint, checkpoint_bytes c) e))
 
 -- a checkpoint of a node is the text of what it knows
-node_text : (learnt : List Learnt) (m : Mind) (c : Checkpointed) → Knows learnt m → IsCheckpointOfNode m c
+node_text : (learnt : List LearntEntry) (m : ReplicaState) (c : Checkpointed) → ReplicaIsBacked learnt m → IsCheckpointOfNode m c
     → TellsText learnt c.position c.text
 node_text learnt m c knows of =
     let log : List Command = executed_from knows.base m in
@@ -309,7 +309,7 @@ node_text learnt m c knows of =
     })
 
 -- the part of a node's own text is one of what was learnt, as its record took effect
-own_part : {S : Type 0} (contents : Script S → Records) (learnt : List Learnt) (s : Script S) (a : Accepting) (p : Piece)
+own_part : {S : Type 0} (contents : Script S → Records) (learnt : List LearntEntry) (s : Script S) (a : Accepting) (p : Piece)
     (o : Option Checkpointed) → contents s key.Checkpoint ≡ option_map checkpoint_bytes o → IfSome o CheckpointFits
     → a.floor ≡ floor_of o → a.text ≡ text_of o → ((k : Key) → HoldsPut contents s k) → TextsTold contents learnt s → IsPartOf a p
     → TellsPiece learnt p
@@ -326,10 +326,10 @@ own_part contents learnt s a p (Some c) e fits floor text held told part =
     }
 
 said_tells : {S : Type 0} (contents : Script S → Records) (nodes : List (NodeState (Script S))) (frames : List Envelope)
-    (learnt : List Learnt) (replies : List Replied) (answers : List Answered)
-    (i : ℕ) (after : NodeState (Script S)) (said : Response) → ListsTell contents nodes frames learnt replies answers
+    (learnt : List LearntEntry) (replies : List Replied) (answers : List Answered)
+    (i : ℕ) (after : NodeState (Script S)) (said : Response) → ListsAreBacked contents nodes frames learnt replies answers
     → Says (learnt ++ learnt_by i said.learnt) after.up said → TextsTold contents learnt after.storage
-    → ListsTell contents (slice_set nodes i after) (frames ++ said.sends) (learnt ++ learnt_by i said.learnt)
+    → ListsAreBacked contents (slice_set nodes i after) (frames ++ said.sends) (learnt ++ learnt_by i said.learnt)
     (replies ++ replied_by i said.replies) answers
 said_tells {S} contents nodes frames learnt replies answers i after said t says texts = record {
   replied = λ p c. elim (Contains-append_cases replies (replied_by i said.replies) p c) [
@@ -353,26 +353,26 @@ said_tells {S} contents nodes frames learnt replies answers i after said t says 
 
 -- nothing is told
 quiet_tells : {S : Type 0} (contents : Script S → Records) (nodes : List (NodeState (Script S))) (frames : List Envelope)
-    (learnt : List Learnt) (replies : List Replied) (answers : List Answered)
-    → ListsTell contents nodes (frames ++ []) (learnt ++ []) (replies ++ []) answers
-    → ListsTell contents nodes frames learnt replies answers
+    (learnt : List LearntEntry) (replies : List Replied) (answers : List Answered)
+    → ListsAreBacked contents nodes (frames ++ []) (learnt ++ []) (replies ++ []) answers
+    → ListsAreBacked contents nodes frames learnt replies answers
 quiet_tells contents nodes frames learnt replies answers t =
-    subst (λ (fs : List Envelope). ListsTell contents nodes fs learnt replies answers) (append-nil frames)
-    (subst (λ (ls : List Learnt). ListsTell contents nodes (frames ++ []) ls replies answers) (append-nil learnt)
-    (subst (λ (rs : List Replied). ListsTell contents nodes (frames ++ []) (learnt ++ []) rs answers) (append-nil replies) t))
+    subst (λ (fs : List Envelope). ListsAreBacked contents nodes fs learnt replies answers) (append-nil frames)
+    (subst (λ (ls : List LearntEntry). ListsAreBacked contents nodes (frames ++ []) ls replies answers) (append-nil learnt)
+    (subst (λ (rs : List Replied). ListsAreBacked contents nodes (frames ++ []) (learnt ++ []) rs answers) (append-nil replies) t))
 
 changed_tells : {S : Type 0} (contents : Script S → Records) (old : WorldState S) (node : ℕ) (after : NodeState (Script S))
-    → Tells contents old → Says old.learnt after.up silence → TextsTold contents old.learnt after.storage
-    → ListsTell contents (slice_set old.nodes node after) old.frames old.learnt old.replies old.answers
+    → WorldIsBacked contents old → Says old.learnt after.up silence → TextsTold contents old.learnt after.storage
+    → ListsAreBacked contents (slice_set old.nodes node after) old.frames old.learnt old.replies old.answers
 changed_tells contents old node after tells says texts =
     quiet_tells contents (slice_set old.nodes node after) old.frames old.learnt old.replies old.answers
     (said_tells contents old.nodes old.frames old.learnt old.replies old.answers node after silence tells
-    (subst (λ (ls : List Learnt). Says ls after.up silence) (sym (append-nil old.learnt)) says) texts)
+    (subst (λ (ls : List LearntEntry). Says ls after.up silence) (sym (append-nil old.learnt)) says) texts)
 
 -- ---- a node that has loaded its records
 -- it has learnt nothing, and is the meaning of the list with which it began
-loaded_knows : (learnt : List Learnt) (records : Records) (id nodes : ℕ) (m : Mind) (base : List Command) → WereLearnt learnt base
-    → IsBaseOf records base → IsLoaded records id nodes m → Knows learnt m
+loaded_knows : (learnt : List LearntEntry) (records : Records) (id nodes : ℕ) (m : ReplicaState) (base : List Command) → WereLearnt learnt base
+    → IsBaseOf records base → IsLoaded records id nodes m → ReplicaIsBacked learnt m
 loaded_knows learnt records id nodes m base begins is loaded = record {
   base = base;
   begins = begins;
@@ -382,17 +382,17 @@ loaded_knows learnt records id nodes m base begins is loaded = record {
 }
 
 -- without a checkpoint it begins with nothing
-begins_with_nothing : (learnt : List Learnt) (records : Records) (id nodes : ℕ) (m : Mind) → records key.Checkpoint ≡ None
-    → IsLoaded records id nodes m → Knows learnt m
+begins_with_nothing : (learnt : List LearntEntry) (records : Records) (id nodes : ℕ) (m : ReplicaState) → records key.Checkpoint ≡ None
+    → IsLoaded records id nodes m → ReplicaIsBacked learnt m
 begins_with_nothing learnt records id nodes m none loaded =
     let base : List Command = [] in
     loaded_knows learnt records id nodes m base (λ slot c e. absurd (let h : None ≡ Some c = e in cc))
     (subst (λ (o : Option (List ℕ)). MatchOption o (base ≡ []) (IsCheckpointOf base)) (sym none) refl) loaded
 
 -- the checkpoint in its record was put, so it is the text of what was learnt: it begins with that
-begins_with_text : {S : Type 0} (contents : Script S → Records) (learnt : List Learnt) (s : Script S) (id nodes : ℕ) (m : Mind)
+begins_with_text : {S : Type 0} (contents : Script S → Records) (learnt : List LearntEntry) (s : Script S) (id nodes : ℕ) (m : ReplicaState)
     (c : Checkpointed) → contents s key.Checkpoint ≡ Some (checkpoint_bytes c) → CheckpointFits c
-    → ((k : Key) → HoldsPut contents s k) → TextsTold contents learnt s → IsLoaded (contents s) id nodes m → Knows learnt m
+    → ((k : Key) → HoldsPut contents s k) → TextsTold contents learnt s → IsLoaded (contents s) id nodes m → ReplicaIsBacked learnt m
 begins_with_text contents learnt s id nodes m c there fits held told loaded =
     let t : TellsText learnt c.position c.text =
     told c fits (held_shown contents s held (key.Checkpoint, checkpoint_bytes c) there) in
@@ -401,9 +401,9 @@ begins_with_text contents learnt s id nodes m c there fits held told loaded =
     loaded_knows learnt (contents s) id nodes m t.log t.known
     (subst (λ (o : Option (List ℕ)). MatchOption o (t.log ≡ []) (IsCheckpointOf t.log)) (sym there) base) loaded
 
-begins_with : {S : Type 0} (contents : Script S → Records) (learnt : List Learnt) (s : Script S) (id nodes : ℕ) (m : Mind)
+begins_with : {S : Type 0} (contents : Script S → Records) (learnt : List LearntEntry) (s : Script S) (id nodes : ℕ) (m : ReplicaState)
     (o : Option Checkpointed) → contents s key.Checkpoint ≡ option_map checkpoint_bytes o → IfSome o CheckpointFits
-    → ((k : Key) → HoldsPut contents s k) → TextsTold contents learnt s → IsLoaded (contents s) id nodes m → Knows learnt m
+    → ((k : Key) → HoldsPut contents s k) → TextsTold contents learnt s → IsLoaded (contents s) id nodes m → ReplicaIsBacked learnt m
 begins_with contents learnt s id nodes m None e fits held told loaded = begins_with_nothing learnt (contents s) id nodes m e loaded
 begins_with contents learnt s id nodes m (Some c) e fits held told loaded =
     begins_with_text contents learnt s id nodes m c e fits held told loaded
@@ -412,7 +412,7 @@ begins_with contents learnt s id nodes m (Some c) e fits held told loaded =
 module _ {S : Type 0} {storages : Ghosts (Script S)} (laws : IsLawful storages) (lists : KeepsPuts storages)
     (armed_contents : (s : Script S) (f : Failing) → storages.contents (record s { armed = Some f }) ≡ storages.contents s) where
   abbrev Told : WorldState S → Type 0
-  Told w = Tells storages.contents w
+  Told w = WorldIsBacked storages.contents w
 
   abbrev Allowed : WorldState S → Type 0
   Allowed w = IsAllowed storages.contents w.nodes w.frames w.learnt w.submitted
@@ -421,7 +421,7 @@ module _ {S : Type 0} {storages : Ghosts (Script S)} (laws : IsLawful storages) 
   Honest w = AreHonest storages.IsHonest w.nodes
 
   recorded_result : (old : WorldState S) (i : ℕ) (after : NodeState (Script S)) (result : Result Response NodeFault)
-      → ListsTell storages.contents (slice_set old.nodes i after) (old.frames ++ (said_of result).sends)
+      → ListsAreBacked storages.contents (slice_set old.nodes i after) (old.frames ++ (said_of result).sends)
       (old.learnt ++ learnt_by i (said_of result).learnt) (old.replies ++ replied_by i (said_of result).replies) old.answers
       → Told (recorded (with_node old i after) i result)
   recorded_result old i after (Ok said) t = t
@@ -436,17 +436,17 @@ module _ {S : Type 0} {storages : Ghosts (Script S)} (laws : IsLawful storages) 
       (λ c fits e. elim on.writes [
         | inl none ↦ absurd (none-some (key.Checkpoint, checkpoint_bytes c) (ap put_by (sym none) ∙ e))
         | inr writer ↦
-            let m : Mind = writer.0 in
-            let there : mind_at old node ≡ Some m = ap (λ (o : Option (NodeState (Script S))). mind_in o) here ∙ writer.1 in
+            let m : ReplicaState = writer.0 in
+            let there : replica_at old node ≡ Some m = ap (λ (o : Option (NodeState (Script S))). replica_in o) here ∙ writer.1 in
             let says = (up_at storages.contents old allowed node m there).records.acceptor in
             node_text old.learnt m c (tells.knows node before m here writer.1) (checkpoint_put _ m i on.made says writer.2 c fits e)
       ]) (tells.texts node before here)
 
   -- the parts of its own text
   own_parts : (old : WorldState S) (node : ℕ) (before : NodeState (Script S)) → slice_get old.nodes node ≡ Some before → Allowed old
-      → Told old → (m : Mind) → before.up ≡ Some m → (p : Piece) → IsPartOf m.accepting p → TellsPiece old.learnt p
+      → Told old → (m : ReplicaState) → before.up ≡ Some m → (p : Piece) → IsPartOf m.accepting p → TellsPiece old.learnt p
   own_parts old node before here allowed tells m up p part =
-      let there : mind_at old node ≡ Some m = ap (λ (o : Option (NodeState (Script S))). mind_in o) here ∙ up in
+      let there : replica_at old node ≡ Some m = ap (λ (o : Option (NodeState (Script S))). replica_in o) here ∙ up in
       let at = up_at storages.contents old allowed node m there in
       let says = at.records.acceptor in
       own_part storages.contents old.learnt at.node.storage m.accepting p says.checkpointed says.checkpoint_record says.checkpoint_fits
@@ -498,7 +498,7 @@ module _ {S : Type 0} {storages : Ghosts (Script S)} (laws : IsLawful storages) 
       (changed_tells storages.contents old node r.after tells (record {
         knows = λ m up.
             let loaded : IsLoaded (storages.contents r.before.storage) r.before.id r.before.nodes m =
-            subst (λ (o : Option Mind). IfSome o (IsLoaded (storages.contents r.before.storage) r.before.id r.before.nodes)) up loads in
+            subst (λ (o : Option ReplicaState). IfSome o (IsLoaded (storages.contents r.before.storage) r.before.id r.before.nodes)) up loads in
             begins_with storages.contents old.learnt r.before.storage r.before.id r.before.nodes m loaded.accepting.checkpointed
             loaded.accepting.checkpoint_record loaded.accepting.checkpoint_fits held texts loaded;
         replied = λ e c. absurd (none_in e c);
@@ -522,13 +522,13 @@ module _ {S : Type 0} {storages : Ghosts (Script S)} (laws : IsLawful storages) 
   abbrev answer_at : ℕ → Query → ℕ → List ℕ → Answered
   answer_at node query position text = record { node = node; position = position; query = query; text = text }
 
-  answer_tells : (learnt : List Learnt) (node : ℕ) (query : Query) (at : ℕ) (text : List ℕ) (up : Option Mind)
-      → ((m : Mind) → up ≡ Some m → Knows learnt m) → (up ≡ None → ⊥) → IfSome up (λ m. at ≡ position m)
+  answer_tells : (learnt : List LearntEntry) (node : ℕ) (query : Query) (at : ℕ) (text : List ℕ) (up : Option ReplicaState)
+      → ((m : ReplicaState) → up ≡ Some m → ReplicaIsBacked learnt m) → (up ≡ None → ⊥) → IfSome up (λ m. at ≡ position m)
       → ((base : List Command) → IfSome up (λ m. IsMeaningOf base m → Answers (executed_from base m) query text))
       → TellsAnswer learnt (answer_at node query at text)
   answer_tells learnt node query at text None knew some says_at says = absurd (some refl)
   answer_tells learnt node query at text (Some m) knew some says_at says =
-      let knows : Knows learnt m = knew m refl in
+      let knows : ReplicaIsBacked learnt m = knew m refl in
       record {
         log = executed_from knows.base m;
         known = known_of learnt m knows;
@@ -587,22 +587,22 @@ module _ {S : Type 0} {storages : Ghosts (Script S)} (laws : IsLawful storages) 
     answers = λ old e node query new h honest allowed agree tells. asks_at old node query new h tells;
   }
 
-  pub steps_tell : (old new : WorldState S) (e : Event) → Steps storages old e new → Honest new → Allowed old → LearntAgree old.learnt
+  pub steps_keep_lists : (old new : WorldState S) (e : Event) → Steps storages old e new → Honest new → Allowed old → LearntAgree old.learnt
       → Told old → Told new
-  steps_tell old new e h honest allowed agree tells = step_holds tell old e new h honest allowed agree tells
+  steps_keep_lists old new e h honest allowed agree tells = step_holds tell old e new h honest allowed agree tells
 
 -- ---- the start
 -- nothing is told, and no node has learnt or executed anything
 pub start_tells : {S : Type 0} (storages : Ghosts (Script S)) (count : ℕ) (w : WorldState S) → IsStart storages count w
-    → AreHonest storages.IsHonest w.nodes → Tells storages.contents w
+    → AreHonest storages.IsHonest w.nodes → WorldIsBacked storages.contents w
 start_tells {S} storages count w s honest =
-    subst (λ (x : WorldState S). Tells storages.contents x) (sym s.nothing) (record {
+    subst (λ (x : WorldState S). WorldIsBacked storages.contents x) (sym s.nothing) (record {
       replied = λ p c. absurd (none_in p c);
       answered = λ a c. absurd (none_in a c);
       knows = λ i n m here up.
           let started : IsStarted storages i count n = s.nodes.each i n here in
           begins_with_nothing [] no_records i count m refl
-          (subst (λ (o : Option Mind). IfSome o (IsLoaded no_records i count)) up (started.up (honest i n here)));
+          (subst (λ (o : Option ReplicaState). IfSome o (IsLoaded no_records i count)) up (started.up (honest i n here)));
       texts = λ i n here c fits took.
           absurd (none_put n.storage (key.Checkpoint, checkpoint_bytes c) (s.nodes.each i n here).unused took);
       parts = λ e p c brings. absurd (none_in e c);

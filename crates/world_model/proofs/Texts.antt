@@ -10,30 +10,30 @@ use Rattle.sessions.specs.Snapshots.{IsSnapshot}
 use Rattle.sessions.specs.Standing.{StandsFor}
 use Rattle.sessions.specs.declared.command.Command.{Command}
 use Rattle.node_model.specs.Composition.{executed_from}
-use Rattle.node_model.specs.Minds.{Mind, position}
+use Rattle.node_model.specs.Replicas.{ReplicaState, position}
 use Rattle.node_model.specs.States.{NodeState}
 use Rattle.node_model.proofs.Meanings.{as_many}
-use Rattle.world_model.specs.declared.lists.Learnt.{Learnt}
+use Rattle.world_model.specs.declared.lists.LearntEntry.{LearntEntry}
 use Rattle.world_model.specs.Explaining.{Explains}
 use Rattle.world_model.specs.Safety.{IsTextOfFirst, HasTexts, HasParts, StandsForFirst, NodesStand, writes_of}
-use Rattle.world_model.specs.Telling.{WereLearnt, TellsText, TellsPiece, Knows, Tells}
+use Rattle.world_model.specs.Telling.{WereLearnt, TellsText, TellsPiece, ReplicaIsBacked, WorldIsBacked}
 use Rattle.world_model.specs.Worlds.{WorldState}
 use Rattle.world_model.proofs.Explained.{IsBeginning, begins_with}
 use Rattle.world_model.proofs.OfTheRun.{node_of}
 use Rattle.world_model.proofs.Tellings.{known_of, out_of_map}
 
 -- the list has what was learnt
-abbrev HasLearnt : List Command → List Learnt → Type 0
-HasLearnt l learnt = (t : Learnt) → Contains learnt t → slice_get l t.slot ≡ Some t.command
+abbrev HasLearnt : List Command → List LearntEntry → Type 0
+HasLearnt l learnt = (t : LearntEntry) → Contains learnt t → slice_get l t.slot ≡ Some t.command
 
-begins_so : (l : List Command) (learnt : List Learnt) → HasLearnt l learnt → (log : List Command) → WereLearnt learnt log
+begins_so : (l : List Command) (learnt : List LearntEntry) → HasLearnt l learnt → (log : List Command) → WereLearnt learnt log
     → IsBeginning log l
 begins_so l learnt has log known i c e =
     let was = known i c e in
     subst (λ (j : ℕ). slice_get l j ≡ Some c) was.at (has was.entry was.there ∙ ap (λ (d : Command). Some d) was.holds)
 
 -- a text that is told is that of its first entries
-text_explained : (l : List Command) (learnt : List Learnt) (at : ℕ) (text : List ℕ) → HasLearnt l learnt → TellsText learnt at text
+text_explained : (l : List Command) (learnt : List LearntEntry) (at : ℕ) (text : List ℕ) → HasLearnt l learnt → TellsText learnt at text
     → IsTextOfFirst l at text
 text_explained l learnt at text has t =
     let first = begins_with t.log l (begins_so l learnt has t.log t.known) in
@@ -43,7 +43,7 @@ text_explained l learnt at text has t =
     }
 
 -- a node stands for its first entries, as many as its position says, whether it learnt them or began with their text
-node_explained : (l : List Command) (learnt : List Learnt) (m : Mind) → HasLearnt l learnt → Knows learnt m → StandsForFirst l m
+node_explained : (l : List Command) (learnt : List LearntEntry) (m : ReplicaState) → HasLearnt l learnt → ReplicaIsBacked learnt m → StandsForFirst l m
 node_explained l learnt m has k =
     let log : List Command = executed_from k.base m in
     let first = begins_with log l (begins_so l learnt has log (known_of learnt m k)) in
@@ -53,7 +53,7 @@ node_explained l learnt m has k =
       stands = subst (λ (xs : List Command). StandsFor m.machine xs) (sym (ap (λ (n : ℕ). take n l) (sym many) ∙ first.1)) k.meaning.stands;
     }
 
-module _ {S : Type 0} (contents : Script S → Records) (w : WorldState S) (tells : Tells contents w) (l : List Command)
+module _ {S : Type 0} (contents : Script S → Records) (w : WorldState S) (tells : WorldIsBacked contents w) (l : List Command)
     (explains : Explains l w.submitted w.learnt w.replies w.answers) where
   pub texts_explained : HasTexts l (writes_of w.nodes)
   texts_explained writes c listed fits put =

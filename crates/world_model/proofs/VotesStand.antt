@@ -4,7 +4,7 @@ use Rattle.std.proofs.Common.{◌≤◌, arith}
 use Rattle.std.proofs.lemmas.Option.{none-some}
 use Rattle.synod.specs.Records as synod_records
 use Rattle.synod.specs.Acts as act
-use Rattle.synod.specs.Acts.{Fleet, Local, Does, Brings}
+use Rattle.synod.specs.Acts.{Membership, Local, Does, Brings}
 use Rattle.synod.specs.Invariant.{AreSound}
 use Rattle.synod.specs.Messages.{Accept}
 use Rattle.synod.specs.declared.vote.Vote.{Vote}
@@ -74,7 +74,7 @@ module _ {S : Type 0} (contents : Script S → Records) where
       (sym (says.vote_record v.slot) ∙ shows)
 
   -- what acts of a node make of its votes, and what became of its storage
-  pub puts_go_on : (f : Fleet Command) (i : ℕ) (input : act.Input Command) (made : Option Write) (x y : Local Command) (a : Script S)
+  pub puts_go_on : (f : Membership Command) (i : ℕ) (input : act.Input Command) (made : Option Write) (x y : Local Command) (a : Script S)
       (n : NodeState (Script S)) → Does f i input x y → IsLevel input made x y → GoesOn contents made a n.storage
       → NodeStands contents n y → AreSound y.records → PutsStand contents a x.records → PutsStand contents n.storage y.records
   puts_go_on f i input made x y a n does level goes stands sound puts = record {

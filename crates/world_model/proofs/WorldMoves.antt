@@ -24,14 +24,14 @@ use Rattle.node_model.specs.declared.fault.NodeFault.{NodeFault}
 use Rattle.node_model.specs.declared.input.Input.{Input}
 use Rattle.node_model.specs.declared.input.Input.TheVariants as input
 use Rattle.world_model.specs.declared.lists.Submission.{Submission}
-use Rattle.world_model.specs.declared.lists.Learnt.{Learnt}
-use Rattle.node_model.specs.declared.outputs.LogEntry.{LogEntry}
-use Rattle.world_model.specs.Fleets.{IsFleet}
+use Rattle.world_model.specs.declared.lists.LearntEntry.{LearntEntry}
+use Rattle.node_model.specs.declared.outputs.LearntCommand.{LearntCommand}
+use Rattle.world_model.specs.Memberships.{IsMembership}
 use Rattle.node_model.specs.Nodes.{NodeState}
 use Rattle.node_model.specs.Outputs.{Response}
-use Rattle.node_model.specs.Inputs.{concerns}
-use Rattle.node_model.specs.Protocol.{learnings, input_of, coming, InputFits, RecordsAgree, HoldsRecords, MindStands}
-use Rattle.world_model.specs.Protocol.{fleet, frame_of, learnt_as, command_of}
+use Rattle.node_model.specs.Inputs.{is_for_this_run}
+use Rattle.node_model.specs.Protocol.{learnings, input_of, coming, InputFits, RecordsAgree, HoldsRecords, ReplicaStands}
+use Rattle.world_model.specs.Protocol.{membership, frame_of, learnt_as, command_of}
 use Rattle.world_model.specs.Reaching.{NodeStands, StandsAt, IsAllowed, AreHonest}
 use Rattle.world_model.specs.Worlds.{WorldState, submission_of, TakesAt, ArmsAt, RestartsAt, Steps, with_node, with_outcome, recorded}
 use Rattle.world_model.specs.Worlds.{with_submission, answered, without_wait, learnt_by}
@@ -57,14 +57,14 @@ set_beside (x ∷ xs) (suc i) zero y ne = refl
 set_beside (x ∷ xs) (suc i) (suc j) y ne = set_beside xs i j y (λ same. ne (ap suc same))
 
 -- ---- what a node told, as the world lists it
-abbrev news_of : ℕ → Result Response NodeFault → List Learnt
+abbrev news_of : ℕ → Result Response NodeFault → List LearntEntry
 news_of node (Ok told) = learnt_by node told.learnt
 news_of node (Err f) = []
 
 news_listed : (node : ℕ) (r : Result Response NodeFault) → learnt_of node r ≡ map learnt_as (news_of node r)
 news_listed node (Ok told) = by_option told.learnt
   where
-    by_option : (o : Option LogEntry) → learnings node o ≡ map learnt_as (learnt_by node o)
+    by_option : (o : Option LearntCommand) → learnings node o ≡ map learnt_as (learnt_by node o)
     by_option None = refl
     by_option (Some c) = refl
 news_listed node (Err f) = refl
@@ -103,13 +103,13 @@ module _ {S : Type 0} {storages : Ghosts (Script S)} (laws : IsLawful storages)
   ]
 
   -- ---- lists by other names
-  named : (nodes nodes' : Nodes) (frames frames' : List Envelope) (learnt learnt' : List Learnt) (submitted submitted' : List Submission)
+  named : (nodes nodes' : Nodes) (frames frames' : List Envelope) (learnt learnt' : List LearntEntry) (submitted submitted' : List Submission)
       → nodes' ≡ nodes → frames' ≡ frames → learnt' ≡ learnt → submitted' ≡ submitted
       → IsAllowed storages.contents nodes frames learnt submitted → IsAllowed storages.contents nodes' frames' learnt' submitted'
   named nodes nodes' frames frames' learnt learnt' submitted submitted' a b c d h =
       subst (λ (x : Nodes). IsAllowed storages.contents x frames' learnt' submitted') (sym a)
       (subst (λ (x : List Envelope). IsAllowed storages.contents nodes x learnt' submitted') (sym b)
-      (subst (λ (x : List Learnt). IsAllowed storages.contents nodes frames x submitted') (sym c)
+      (subst (λ (x : List LearntEntry). IsAllowed storages.contents nodes frames x submitted') (sym c)
       (subst (λ (x : List Submission). IsAllowed storages.contents nodes frames learnt x) (sym d) h)))
 
   abbrev WorldAllowed : WorldState S → Type 0
@@ -149,17 +149,17 @@ module _ {S : Type 0} {storages : Ghosts (Script S)} (laws : IsLawful storages)
       (subst (λ (x : Nodes). AreHonest storages.IsHonest x) nodes honest)
 
   takes_allowed : (old : WorldState S) (node : ℕ) (i : Input) (taken : Bool) (new : WorldState S) → TakesAt storages old node i taken new
-      → IsFleet old.nodes old.frames → InputFits i → (a : WorldAllowed old) → HasCome a.state.past (input_of node (length old.nodes) i)
+      → IsMembership old.nodes old.frames → InputFits i → (a : WorldAllowed old) → HasCome a.state.past (input_of node (length old.nodes) i)
       → WorldHonest new → TakesAllowed old node i taken new
-  takes_allowed old node i taken new h fleet_ fits a came honest =
+  takes_allowed old node i taken new h membership_ fits a came honest =
       let nodes : new.nodes ≡ slice_set old.nodes node h.after = ap (λ (w : WorldState S). w.nodes) h.leaves
       ∙ recorded_nodes (with_node old node h.after) node h.result in
       let there : node < length old.nodes = slice_get_within old.nodes node h.before h.here in
       let own : storages.IsHonest h.after.storage = honest node h.after (ap (λ (x : Nodes). slice_get x node) nodes
       ∙ set_there old.nodes node h.after h.before h.here) in
       let m : NodeComes storages.contents (length old.nodes) node i a.state h.after h.result =
-      node_comes laws list_laws (length old.nodes) node there fleet_.few a.state a.reached h.before h.after i h.result came h.steps
-      (a.stands.node node h.before h.here) (fleet_.members node h.before h.here) fits own in
+      node_comes laws list_laws (length old.nodes) node there membership_.few a.state a.reached h.before h.after i h.result came h.steps
+      (a.stands.node node h.before h.here) (membership_.members node h.before h.here) fits own in
       let asks : m.to.submitted ≡ map command_of (taken_of node i taken) =
       m.submitted ∙ taken_listed node i h.result ∙ ap (λ b. map command_of (taken_of node i b)) (sym h.taken_) in
       record {
@@ -212,18 +212,18 @@ module _ {S : Type 0} {storages : Ghosts (Script S)} (laws : IsLawful storages)
 
   takes_step : (old : WorldState S) (node : ℕ) (i : Input) (taken : Bool) (new : WorldState S) → taken_of node i taken ≡ []
       → TakesAt storages old node i taken new
-      → IsFleet old.nodes old.frames → InputFits i → ((a : WorldAllowed old) → HasCome a.state.past (input_of node (length old.nodes) i))
+      → IsMembership old.nodes old.frames → InputFits i → ((a : WorldAllowed old) → HasCome a.state.past (input_of node (length old.nodes) i))
       → (WorldHonest old → WorldAllowed old) → WorldHonest new → WorldAllowed new
-  takes_step old node i taken new none h fleet_ fits came before honest =
+  takes_step old node i taken new none h membership_ fits came before honest =
       let a : WorldAllowed old = before (honest_took old node i taken new h honest) in
-      takes_quietly old node i taken new none (takes_allowed old node i taken new h fleet_ fits a (came a) honest)
+      takes_quietly old node i taken new none (takes_allowed old node i taken new h membership_ fits a (came a) honest)
 
   -- ---- a node is changed, and nothing is told
   changed : (old new : WorldState S) (node : ℕ) (after : NodeState (Script S)) (acts : act.Input Command) (y : Local Command)
       → new.nodes ≡ slice_set old.nodes node after
       → new.frames ≡ old.frames → new.learnt ≡ old.learnt → new.submitted ≡ old.submitted → (a : WorldAllowed old)
       → HasCome a.state.past acts
-      → act.Does (fleet (length old.nodes)) node acts (local_of a.state node) y
+      → act.Does (membership (length old.nodes)) node acts (local_of a.state node) y
       → StandsAt storages.contents (length old.nodes) node (placed a.state node y).past (local_of (placed a.state node y) node) after
       → y.sent ≡ [] → y.learnt ≡ [] → y.submitted ≡ []
       → WorldAllowed new
@@ -257,7 +257,7 @@ module _ {S : Type 0} {storages : Ghosts (Script S)} (laws : IsLawful storages)
       → NodeStands storages.contents n x → NodeStands storages.contents (record n { storage = record n.storage { armed = Some f } }) x
   armed_stands n f x stands = record {
     records = subst (λ (c : Records). RecordsAgree c x.records) (sym (armed_contents n.storage f)) stands.records;
-    up = subst (λ (c : Records). IfSome n.up (λ m. HoldsRecords m c × MindStands m x)) (sym (armed_contents n.storage f)) stands.up;
+    up = subst (λ (c : Records). IfSome n.up (λ m. HoldsRecords m c × ReplicaStands m x)) (sym (armed_contents n.storage f)) stands.up;
   }
 
   armed_at : (nodes i : ℕ) (w : synod_runs.World Command) (n : NodeState (Script S)) (f : Failing)
@@ -289,7 +289,7 @@ module _ {S : Type 0} {storages : Ghosts (Script S)} (laws : IsLawful storages)
       let x : Local Command = local_of a.state node in
       changed old new node after act.Nothing x nodes (ap (λ (w : WorldState S). w.frames) h.leaves)
       (ap (λ (w : WorldState S). w.learnt) h.leaves)
-      (ap (λ (w : WorldState S). w.submitted) h.leaves) a tt (does_nothing (fleet (length old.nodes)) node act.Nothing x)
+      (ap (λ (w : WorldState S). w.submitted) h.leaves) a tt (does_nothing (membership (length old.nodes)) node act.Nothing x)
       (stands_still storages.contents (length old.nodes) a.state node after
       (armed_at (length old.nodes) node a.state h.before f (a.stands.node node h.before h.here))) refl refl refl
 
@@ -302,33 +302,33 @@ module _ {S : Type 0} {storages : Ghosts (Script S)} (laws : IsLawful storages)
   same_world old new e a = subst (λ (w : WorldState S). WorldAllowed w) (sym e) a
 
   -- ---- one step
-  worlds_allowed : HoldsOf storages (λ old e new. IsFleet old.nodes old.frames → (WorldHonest old → WorldAllowed old) → WorldHonest new
+  worlds_allowed : HoldsOf storages (λ old e new. IsMembership old.nodes old.frames → (WorldHonest old → WorldAllowed old) → WorldHonest new
       → WorldAllowed new)
   worlds_allowed = record {
-    takes = λ old e node i taken new h own fleet_ before honest.
-        takes_step old node i taken new (own.unsubmitted node taken) h fleet_ own.fits
+    takes = λ old e node i taken new h own membership_ before honest.
+        takes_step old node i taken new (own.unsubmitted node taken) h membership_ own.fits
         (λ a. subst (λ (x : act.Input Command). HasCome a.state.past x) (sym (own.unasked node (length old.nodes))) tt) before honest;
-    submits = λ old e node r new h fleet_ before honest.
+    submits = λ old e node r new h membership_ before honest.
         let i : Input = input.Submit r.client r.number r.op in
         let nodes : new.nodes ≡ h.between.nodes =
         ap (λ (w : WorldState S). w.nodes) h.leaves ∙ submission_nodes h.between h.taken node r in
         let then : WorldHonest h.between = subst (λ (x : Nodes). AreHonest storages.IsHonest x) nodes honest in
         let a : WorldAllowed old = before (honest_took old node i h.taken h.between h.takes then) in
-        submits_allowed old h.between new node r h.taken h.leaves (takes_allowed old node i h.taken h.between h.takes fleet_ tt a tt then);
-    hears = λ old e k frame taken new sent fits h fleet_ before honest.
-        takes_step (without_wait old k) frame.to (input.Message frame) taken new refl h fleet_ fits.message
-        (λ a. was_sent (without_wait old k) a k frame sent (concerns frame.to (length old.nodes) frame)) before honest;
-    loses = λ old e k o new brings h fleet_ before honest.
+        submits_allowed old h.between new node r h.taken h.leaves (takes_allowed old node i h.taken h.between h.takes membership_ tt a tt then);
+    hears = λ old e k frame taken new sent fits h membership_ before honest.
+        takes_step (without_wait old k) frame.to (input.Message frame) taken new refl h membership_ fits.message
+        (λ a. was_sent (without_wait old k) a k frame sent (is_for_this_run frame.to (length old.nodes) frame)) before honest;
+    loses = λ old e k o new brings h membership_ before honest.
         same_world (with_outcome (without_wait old k) o) new h
         (before (subst (λ (x : Nodes). AreHonest storages.IsHonest x) (ap (λ (w : WorldState S). w.nodes) h) honest));
-    restarts = λ old node new h fleet_ before honest. restart_allowed old new node h fleet_.few before honest;
-    arms = λ old e node failing new h fleet_ before honest. arm_allowed old new node failing h before honest;
-    answers = λ old e node query new h fleet_ before honest.
+    restarts = λ old node new h membership_ before honest. restart_allowed old new node h membership_.few before honest;
+    arms = λ old e node failing new h membership_ before honest. arm_allowed old new node failing h before honest;
+    answers = λ old e node query new h membership_ before honest.
         same_world (answered old node query h.result) new h.leaves (answered_same old node query h.result
         (before (subst (λ (x : Nodes). AreHonest storages.IsHonest x) (ap (λ (w : WorldState S). w.nodes) h.leaves
         ∙ answered_nodes old node query h.result) honest)));
   }
 
   pub step_allowed : (old : WorldState S) (e : Event) (new : WorldState S) → Steps storages old e new
-      → IsFleet old.nodes old.frames → (WorldHonest old → WorldAllowed old) → WorldHonest new → WorldAllowed new
+      → IsMembership old.nodes old.frames → (WorldHonest old → WorldAllowed old) → WorldHonest new → WorldAllowed new
   step_allowed old e new h = step_holds worlds_allowed old e new h

@@ -1,7 +1,7 @@
 pub mod Events
 pub mod Explaining
 pub mod Fired
-pub mod Fleets
+pub mod Memberships
 pub mod Flushing
 pub mod Outputs
 pub mod Progress

@@ -9,64 +9,64 @@ use Rattle.synod.specs.declared.ballot.Ballot.{Ballot}
 use Rattle.synod.specs.declared.slot.TheConstants.{SLOTS}
 use Rattle.node_model.specs.declared.fault.NodeFault.{NodeFault}
 use Rattle.node_model.specs.declared.fault.NodeFault.TheVariants as fault
-use Rattle.node_model.specs.Minds.{Mind, position, promised, learnt_in, IsNextBallot}
+use Rattle.node_model.specs.Replicas.{ReplicaState, position, promised, learnt_in, IsNextBallot}
 use Rattle.node_model.specs.States.{NodeState}
 use Rattle.events.specs.declared.event.Event.{Event}
 use Rattle.events.specs.declared.event.Event.TheVariants as event
-use Rattle.world_model.specs.declared.lists.Outcome.{Outcome}
-use Rattle.world_model.specs.declared.lists.Outcome.TheVariants as outcome
+use Rattle.world_model.specs.declared.lists.StepOutcome.{StepOutcome}
+use Rattle.world_model.specs.declared.lists.StepOutcome.TheVariants as outcome
 use Rattle.world_model.specs.declared.round_end.RoundEnd.{RoundEnd}
 use Rattle.world_model.specs.declared.round_end.RoundEnd.TheVariants.{Stopped, TooLow, Decided}
 use Rattle.world_model.specs.Fired.{AreHonestInside}
 use Rattle.world_model.specs.Reaching.{IsAllowed, AreHonest}
 use Rattle.world_model.specs.Rounds.{CanMeet}
 use Rattle.world_model.specs.Worlds.{WorldState, Steps, with_node, with_outcome}
-pub use Rattle.world_model.specs.Worlds.{mind_in, mind_at}
+pub use Rattle.world_model.specs.Worlds.{replica_in, replica_at}
 
 -- ---- before the round
 -- nothing disturbs it: the members can meet, the log has a slot at the node's position, and the node a ballot of a round that is left
 pub record IsUndisturbed {S : Type 0} (w : WorldState S) (node : ℕ) (members : List ℕ) (slot : ℕ) (ballot : Ballot) : Type 0 where
   pub meets : CanMeet w node members
-  pub mind : Mind
-  pub here : mind_at w node ≡ Some mind
-  pub at : slot ≡ position mind
+  pub replica : ReplicaState
+  pub here : replica_at w node ≡ Some replica
+  pub at : slot ≡ position replica
   pub in_log : slot < SLOTS
-  pub next : IsNextBallot mind ballot
+  pub next : IsNextBallot replica ballot
   pub left : ballot.round < 2 ^ 64
 
 -- no member has promised a greater ballot
 abbrev pub NoneAbove : {S : Type 0} → WorldState S → List ℕ → Ballot → Type 0
-NoneAbove w members ballot = (m : ℕ) (mind : Mind) → Contains members m → mind_at w m ≡ Some mind → rank_of (promised mind) ≤ rank ballot
+NoneAbove w members ballot = (m : ℕ) (replica : ReplicaState) → Contains members m → replica_at w m ≡ Some replica → rank_of (promised replica) ≤ rank ballot
 
 -- a member has promised a greater ballot, and this is the greatest that any member has promised
 pub record IsGreatestAbove {S : Type 0} (w : WorldState S) (members : List ℕ) (ballot greatest : Ballot) : Type 0 where
   pub member : ℕ
-  pub mind : Mind
+  pub replica : ReplicaState
   pub among : Contains members member
-  pub here : mind_at w member ≡ Some mind
-  pub has : promised mind ≡ Some greatest
+  pub here : replica_at w member ≡ Some replica
+  pub has : promised replica ≡ Some greatest
   pub above : rank ballot < rank greatest
   pub most : NoneAbove w members greatest
 
 -- ---- after the round
 -- the node has learnt what the slot holds
 pub record HasLearnt {S : Type 0} (w : WorldState S) (node slot : ℕ) : Type 0 where
-  pub mind : Mind
-  pub here : mind_at w node ≡ Some mind
-  pub learnt : IsSome (learnt_in mind slot)
+  pub replica : ReplicaState
+  pub here : replica_at w node ≡ Some replica
+  pub learnt : IsSome (learnt_in replica slot)
 
 -- the node's next ballot is above this one
 pub record IsAbove {S : Type 0} (w : WorldState S) (node : ℕ) (ballot : Ballot) : Type 0 where
-  pub mind : Mind
-  pub here : mind_at w node ≡ Some mind
-  pub next : (b : Ballot) → IsNextBallot mind b → rank ballot < rank b
+  pub replica : ReplicaState
+  pub here : replica_at w node ≡ Some replica
+  pub next : (b : Ballot) → IsNextBallot replica b → rank ballot < rank b
 
 -- the last that was told is that a member went down, for want of memory or by a failure of its device
 pub record HasStopped {S : Type 0} (w : WorldState S) (members : List ℕ) (member : ℕ) : Type 0 where
   pub among : Contains members member
   pub failure : NodeFault
   pub kind : (failure ≡ fault.Memory) ⊎ (failure ≡ fault.Device)
-  pub before : List Outcome
+  pub before : List StepOutcome
   pub told : w.outcomes ≡ before ++ outcome.Stopped member failure ∷ []
 
 abbrev pub IsStopped : RoundEnd → Type 0
@@ -113,7 +113,7 @@ Restarts node (event.Query i query) = ⊥
 -- no step but its restart makes the next ballot of a node lower
 abbrev pub BallotsNeverFall : {S : Type 0} → Ghosts (Script S) → Type 0
 BallotsNeverFall {S} storages = (old : WorldState S) (e : Event) (new : WorldState S) (node : ℕ) → Steps storages old e new
-    → (Restarts node e → ⊥) → (before after : Mind) → mind_at old node ≡ Some before → mind_at new node ≡ Some after
+    → (Restarts node e → ⊥) → (before after : ReplicaState) → replica_at old node ≡ Some before → replica_at new node ≡ Some after
     → (b c : Ballot) → IsNextBallot before b → IsNextBallot after c → rank b ≤ rank c
 
 -- one step after the other leads from one world to another
@@ -126,7 +126,7 @@ abbrev pub PromisesNeverFall : {S : Type 0} → Ghosts (Script S) → Type 0
 PromisesNeverFall {S} storages = (old : WorldState S) (events : List Event) (new : WorldState S) (node : ℕ)
     → IsAllowed storages.contents old.nodes old.frames old.learnt old.submitted → AreHonest storages.IsHonest new.nodes
     → StepsAll storages old events new
-    → (before after : Mind) → mind_at old node ≡ Some before → mind_at new node ≡ Some after
+    → (before after : ReplicaState) → replica_at old node ≡ Some before → replica_at new node ≡ Some after
     → rank_of (promised before) ≤ rank_of (promised after)
 
 -- a restart of a node whose next reading is armed to fail ends with that failure and the node down, and in no other way

@@ -1,9 +1,9 @@
 -- What a world lists, to the protocol.
 use Rattle.synod.specs.History as history
 use Rattle.sessions.specs.declared.command.Command.{Command}
-use Rattle.world_model.specs.declared.lists.Learnt.{Learnt}
-pub use Rattle.node_model.specs.Protocol.{fleet, frame_of}
+use Rattle.world_model.specs.declared.lists.LearntEntry.{LearntEntry}
+pub use Rattle.node_model.specs.Protocol.{membership, frame_of}
 pub use Rattle.world_model.specs.Submissions.{asked_of, command_of}
 
-abbrev pub learnt_as : Learnt → history.Lesson Command
+abbrev pub learnt_as : LearntEntry → history.Lesson Command
 learnt_as l = record { node = l.node; slot = l.slot; command = l.command }

@@ -15,17 +15,17 @@ use Rattle.acceptor.specs.Forms.{VoteFits}
 use Rattle.sessions.specs.declared.command.Command.{Command}
 use Rattle.wire.specs.declared.frames.envelope.Envelope.{Envelope}
 use Rattle.world_model.specs.declared.lists.Submission.{Submission}
-use Rattle.world_model.specs.declared.lists.Learnt.{Learnt}
-use Rattle.node_model.specs.Protocol.{RecordsAgree, HoldsRecords, MindStands}
+use Rattle.world_model.specs.declared.lists.LearntEntry.{LearntEntry}
+use Rattle.node_model.specs.Protocol.{RecordsAgree, HoldsRecords, ReplicaStands}
 use Rattle.node_model.specs.States.{NodeState}
-use Rattle.world_model.specs.Protocol.{fleet, frame_of, learnt_as, command_of}
+use Rattle.world_model.specs.Protocol.{membership, frame_of, learnt_as, command_of}
 use Rattle.world_model.specs.Voting.{vote_put, HasVote}
 
 -- a node's records say what the protocol's records do, and where it is up it holds what they say, and stands for the
--- protocol's mind
+-- protocol's replica
 pub record NodeStands {S : Type 0} (contents : Script S → Records) (n : NodeState (Script S)) (x : Local Command) : Type 0 where
   pub records : RecordsAgree (contents n.storage) x.records
-  pub up : IfSome n.up (λ m. HoldsRecords m (contents n.storage) × MindStands m x)
+  pub up : IfSome n.up (λ m. HoldsRecords m (contents n.storage) × ReplicaStands m x)
 
 -- ---- the list of writes
 -- the put took effect: it is listed, or it is the one that is unsure, and the records show it
@@ -55,7 +55,7 @@ pub record StandsAt {S : Type 0} (contents : Script S → Records) (nodes i : �
   pub input : acts.Input Command
   pub came : HasCome past input
   pub after : Local Command
-  pub does : Does (fleet nodes) i input x after
+  pub does : Does (membership nodes) i input x after
   pub unsent : after.sent ≡ []
   pub unlearnt : after.learnt ≡ []
   pub unsubmitted : after.submitted ≡ []
@@ -66,7 +66,7 @@ pub record StandsAt {S : Type 0} (contents : Script S → Records) (nodes i : �
 
 -- the nodes and the lists are those of the protocol's world
 pub record WorldStands {S : Type 0} (contents : Script S → Records) (nodes : List (NodeState (Script S)))
-    (frames : List Envelope) (learnt : List Learnt) (submitted : List Submission) (w : synod_runs.World Command) : Type 0 where
+    (frames : List Envelope) (learnt : List LearntEntry) (submitted : List Submission) (w : synod_runs.World Command) : Type 0 where
   pub node : (i : ℕ) (n : NodeState (Script S)) → slice_get nodes i ≡ Some n
       → StandsAt contents (length nodes) i w.past (synod_runs.here w i) n
   pub frames_ : w.past.frames ≡ map frame_of frames
@@ -75,9 +75,9 @@ pub record WorldStands {S : Type 0} (contents : Script S → Records) (nodes : L
 
 -- moves that the protocol allows lead there
 pub record IsAllowed {S : Type 0} (contents : Script S → Records) (nodes : List (NodeState (Script S)))
-    (frames : List Envelope) (learnt : List Learnt) (submitted : List Submission) : Type 0 where
+    (frames : List Envelope) (learnt : List LearntEntry) (submitted : List Submission) : Type 0 where
   pub state : synod_runs.World Command
-  pub reached : IsReached (fleet (length nodes)) state
+  pub reached : IsReached (membership (length nodes)) state
   pub stands : WorldStands contents nodes frames learnt submitted state
 
 -- every storage is honest

@@ -12,12 +12,12 @@ use Rattle.wire.specs.declared.frames.message.Message.{Message}
 use Rattle.wire.specs.declared.frames.message.Message.TheVariants.{Nack}
 use Rattle.node_model.specs.declared.fault.NodeFault.{NodeFault}
 use Rattle.node_model.specs.declared.input.Input.TheVariants as input
-use Rattle.node_model.specs.Minds.{Mind, position, refuses}
+use Rattle.node_model.specs.Replicas.{ReplicaState, position, refuses}
 use Rattle.node_model.specs.States.{NodeState}
-use Rattle.world_model.specs.declared.lists.Outcome.TheVariants as outcome
+use Rattle.world_model.specs.declared.lists.StepOutcome.TheVariants as outcome
 use Rattle.world_model.specs.declared.round_end.RoundEnd.{RoundEnd}
 use Rattle.world_model.specs.declared.round_end.RoundEnd.TheVariants.{NotAQuorum, Down, Behind, Refused, Stopped, TooLow, Decided}
-use Rattle.world_model.specs.Worlds.{WorldState, mind_at, TakesAt, DeliversFrame, with_outcome}
+use Rattle.world_model.specs.Worlds.{WorldState, replica_at, TakesAt, DeliversFrame, with_outcome}
 
 -- ---- the members
 -- the node, or a member, is none of so many
@@ -49,10 +49,10 @@ AreUp w members = (m : ℕ) → Contains members m → is_up w m ≡ true
 
 -- the node is behind node m: the acceptor there may not speak of the node's position any more
 pub record IsBehind {S : Type 0} (w : WorldState S) (node m : ℕ) : Type 0 where
-  pub own : Mind
-  pub here : mind_at w node ≡ Some own
-  pub other : Mind
-  pub there : mind_at w m ≡ Some other
+  pub own : ReplicaState
+  pub here : replica_at w node ≡ Some own
+  pub other : ReplicaState
+  pub there : replica_at w m ≡ Some other
   pub above : position own < other.accepting.floor
 
 -- m is the lowest member that the node is behind
@@ -65,7 +65,7 @@ pub record IsLowestBehind {S : Type 0} (w : WorldState S) (node : ℕ) (members 
 pub record CanMeet {S : Type 0} (w : WorldState S) (node : ℕ) (members : List ℕ) : Type 0 where
   pub quorum : IsQuorum (length w.nodes) node members
   pub up : AreUp w members
-  pub level : (p m : Mind) (i : ℕ) → Contains members i → mind_at w node ≡ Some p → mind_at w i ≡ Some m
+  pub level : (p m : ReplicaState) (i : ℕ) → Contains members i → replica_at w node ≡ Some p → replica_at w i ≡ Some m
       → m.accepting.floor ≤ position p
 
 -- ---- the node
@@ -73,17 +73,17 @@ pub record CanMeet {S : Type 0} (w : WorldState S) (node : ℕ) (members : List 
 pub record IsAt {S : Type 0} (w : WorldState S) (node slot : ℕ) : Type 0 where
   pub state : NodeState (Script S)
   pub here : slice_get w.nodes node ≡ Some state
-  pub mind : Mind
-  pub up : state.up ≡ Some mind
-  pub position_ : slot ≡ position mind
+  pub replica : ReplicaState
+  pub up : state.up ≡ Some replica
+  pub position_ : slot ≡ position replica
 
 -- it refuses to begin a campaign
 pub record RefusesToBegin {S : Type 0} (w : WorldState S) (node : ℕ) (f : NodeFault) : Type 0 where
   pub state : NodeState (Script S)
   pub here : slice_get w.nodes node ≡ Some state
-  pub mind : Mind
-  pub up : state.up ≡ Some mind
-  pub refused : refuses mind input.Timeout ≡ Some f
+  pub replica : ReplicaState
+  pub up : state.up ≡ Some replica
+  pub refused : refuses replica input.Timeout ≡ Some f
 
 -- ---- refusals
 -- the promise that a message tells by which its sender refuses a ballot

@@ -18,15 +18,15 @@ use Rattle.wire.specs.RecordForms.{Checkpointed, checkpoint_bytes}
 use Rattle.wire.specs.declared.frames.envelope.Envelope.{Envelope}
 use Rattle.wire.specs.declared.frames.message.Message.TheVariants.{SnapPart}
 use Rattle.acceptor.specs.Forms.{CheckpointFits}
-use Rattle.node_model.specs.Minds.{Mind, position}
+use Rattle.node_model.specs.Replicas.{ReplicaState, position}
 use Rattle.world_model.specs.Explaining.{Explains, IsExplained, LearntInLog}
-use Rattle.world_model.specs.Protocol.{fleet, frame_of, learnt_as, command_of}
+use Rattle.world_model.specs.Protocol.{membership, frame_of, learnt_as, command_of}
 use Rattle.world_model.specs.Reaching.{TookEffect, IsAllowed, AreHonest}
 use Rattle.node_model.specs.States.{NodeState}
 use Rattle.world_model.specs.Submissions.{BringValid}
-use Rattle.world_model.specs.Telling.{Tells}
+use Rattle.world_model.specs.Telling.{WorldIsBacked}
 use Rattle.world_model.specs.Voting.{HasVote, HasChosen}
-use Rattle.world_model.specs.Worlds.{WorldState, mind_at}
+use Rattle.world_model.specs.Worlds.{WorldState, replica_at}
 
 -- the writes of each node
 abbrev pub writes_of : {S : Type 0} → List (NodeState (Script S)) → List (List Write)
@@ -37,13 +37,13 @@ writes_of nodes = map (λ n. n.storage.writes) nodes
 -- whatever any node learnt is chosen, and each chosen command is a no-op or was submitted
 pub record HasAgreed {S : Type 0} (w : WorldState S) : Type 0 where
   pub state : synod_runs.World Command
-  pub reached : IsReached (fleet (length w.nodes)) state
+  pub reached : IsReached (membership (length w.nodes)) state
   pub frames : state.past.frames ≡ map frame_of w.frames
   pub learnt : state.past.learnt ≡ map learnt_as w.learnt
   pub submitted : state.past.submitted ≡ map command_of w.submitted
   pub votes : (i : ℕ) (n : NodeState (Script S)) → slice_get w.nodes i ≡ Some n
       → (v : Vote Command) → Voted state.past i v ↔ HasVote n.storage.writes v
-  pub agreed : IsAgreed (fleet (length w.nodes)) state.past
+  pub agreed : IsAgreed (membership (length w.nodes)) state.past
 
 -- the text is that of the list's first entries, as many as the position says, and these are there
 pub record IsTextOfFirst (l : List Command) (position : ℕ) (text : List ℕ) : Type 0 where
@@ -66,12 +66,12 @@ abbrev pub HasParts : List Command → List Envelope → Type 0
 HasParts l frames = (e : Envelope) (p : Piece) → Contains frames e → e.message ≡ SnapPart p → IsPieceOfFirst l p
 
 -- each node that is up stands for the list's first entries, as many as its position says, and these are there
-pub record StandsForFirst (l : List Command) (m : Mind) : Type 0 where
+pub record StandsForFirst (l : List Command) (m : ReplicaState) : Type 0 where
   pub there : position m ≤ length l
   pub stands : StandsFor m.machine (take (position m) l)
 
 abbrev pub NodesStand : {S : Type 0} → List Command → WorldState S → Type 0
-NodesStand l w = (i : ℕ) (m : Mind) → mind_at w i ≡ Some m → StandsForFirst l m
+NodesStand l w = (i : ℕ) (m : ReplicaState) → replica_at w i ≡ Some m → StandsForFirst l m
 
 -- so whatever any node learnt is chosen by the lists of writes, and one list of commands explains everything that any
 -- node told. What the requests bring is valid, so that a query has one answer over such a list
@@ -101,7 +101,7 @@ PromisesOfRun {S} contents nodes =
 -- what was submitted is valid, and what was promised is of a node of the run
 pub record IsSound {S : Type 0} (contents : Script S → Records) (w : WorldState S) : Type 0 where
   pub allowed : IsAllowed contents w.nodes w.frames w.learnt w.submitted
-  pub tells : Tells contents w
+  pub tells : WorldIsBacked contents w
   pub in_log : LearntInLog w.learnt
   pub valid : BringValid w.submitted
   pub promises : PromisesOfRun contents w.nodes

@@ -3,13 +3,13 @@ use Rattle.std.specs.Prelude.{◌≡◌, ℕ, length, sum_by}
 use Rattle.stable.specs.Script.{Script}
 use Rattle.stable.specs.declared.stable.Stable.{Ghosts}
 use Rattle.events.specs.declared.event.Event.{Event}
-use Rattle.world_model.specs.declared.lists.Outcome.{Outcome}
-use Rattle.world_model.specs.declared.lists.Outcome.TheVariants.{Done, Restored, Answered, Lost, Refused, Stopped, Round}
+use Rattle.world_model.specs.declared.lists.StepOutcome.{StepOutcome}
+use Rattle.world_model.specs.declared.lists.StepOutcome.TheVariants.{Done, Restored, Answered, Lost, Refused, Stopped, Round}
 use Rattle.world_model.specs.Flushing.{IsStart}
 use Rattle.world_model.specs.Worlds.{WorldState, Steps}
 
 -- how many slots a node learnt
-abbrev pub learnt_told : Outcome → ℕ
+abbrev pub learnt_told : StepOutcome → ℕ
 learnt_told (Done learnt replies) = learnt
 learnt_told (Restored node position replies) = 0
 learnt_told Answered = 0
@@ -19,7 +19,7 @@ learnt_told (Stopped node f) = 0
 learnt_told (Round node end) = 0
 
 -- how many requests that waited have their reply
-abbrev pub replies_told : Outcome → ℕ
+abbrev pub replies_told : StepOutcome → ℕ
 replies_told (Done learnt replies) = replies
 replies_told (Restored node position replies) = replies
 replies_told Answered = 0
@@ -29,7 +29,7 @@ replies_told (Stopped node f) = 0
 replies_told (Round node end) = 0
 
 -- how many queries were answered
-abbrev pub answers_told : Outcome → ℕ
+abbrev pub answers_told : StepOutcome → ℕ
 answers_told (Done learnt replies) = 0
 answers_told (Restored node position replies) = 0
 answers_told Answered = 1

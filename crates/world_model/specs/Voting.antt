@@ -8,7 +8,7 @@ use Rattle.stable.specs.declared.key.Key.TheVariants as key
 use Rattle.acceptor.specs.Forms.{VoteFits}
 use Rattle.acceptor.specs.Spelling.{vote_bytes}
 use Rattle.sessions.specs.declared.command.Command.{Command}
-use Rattle.world_model.specs.declared.lists.Learnt.{Learnt}
+use Rattle.world_model.specs.declared.lists.LearntEntry.{LearntEntry}
 use Rattle.world_model.specs.declared.lists.Submission.{Submission}
 use Rattle.world_model.specs.Submissions.{IsGrounded}
 
@@ -29,7 +29,7 @@ IsChosen nodes slot c = (b : Ballot) × Majority (length nodes) (λ a. IfSome (s
 
 -- whatever any node learnt is chosen, no two commands are chosen for one slot, and each that is chosen is a no-op or
 -- was submitted
-pub record HasChosen (nodes : List (List Write)) (learnt : List Learnt) (submitted : List Submission) : Type 0 where
-  pub all_learnt : (t : Learnt) → Contains learnt t → IsChosen nodes t.slot t.command
+pub record HasChosen (nodes : List (List Write)) (learnt : List LearntEntry) (submitted : List Submission) : Type 0 where
+  pub all_learnt : (t : LearntEntry) → Contains learnt t → IsChosen nodes t.slot t.command
   pub one : (slot : ℕ) (c d : Command) → IsChosen nodes slot c → IsChosen nodes slot d → c ≡ d
   pub grounded : (slot : ℕ) (c : Command) → IsChosen nodes slot c → IsGrounded submitted c

@@ -14,18 +14,18 @@ use Rattle.events.specs.declared.event.Event.TheVariants as event
 use Rattle.node_model.specs.declared.fault.NodeFault.{NodeFault}
 use Rattle.node_model.specs.declared.input.Input.{Input}
 use Rattle.node_model.specs.declared.input.Input.TheVariants as input
-use Rattle.node_model.specs.declared.outputs.LogEntry.{LogEntry}
+use Rattle.node_model.specs.declared.outputs.LearntCommand.{LearntCommand}
 use Rattle.node_model.specs.Faults.{is_stop_fault}
 use Rattle.node_model.specs.Loading.{Restarts}
-use Rattle.node_model.specs.Minds.{Mind}
+use Rattle.node_model.specs.Replicas.{ReplicaState}
 use Rattle.node_model.specs.Nodes.{NodeState, NodeSteps, NodeAnswers, StaysMeaning, AnswersMeaning}
 use Rattle.node_model.specs.Outputs.{Response}
 use Rattle.world_model.specs.declared.lists.Submission.{Submission}
-use Rattle.world_model.specs.declared.lists.Learnt.{Learnt}
+use Rattle.world_model.specs.declared.lists.LearntEntry.{LearntEntry}
 use Rattle.world_model.specs.declared.lists.Replied.{Replied}
 use Rattle.world_model.specs.declared.lists.Answered.{Answered}
-use Rattle.world_model.specs.declared.lists.Outcome.{Outcome}
-use Rattle.world_model.specs.declared.lists.Outcome.TheVariants.{Done, Restored, Lost, Refused, Stopped, Answered as AnsweredOutcome}
+use Rattle.world_model.specs.declared.lists.StepOutcome.{StepOutcome}
+use Rattle.world_model.specs.declared.lists.StepOutcome.TheVariants.{Done, Restored, Lost, Refused, Stopped, Answered as AnsweredOutcome}
 use Rattle.world_model.specs.Outputs.{replied_by}
 
 -- all nodes over their storages, and everything that happened
@@ -35,29 +35,29 @@ pub record WorldState (S : Type 0) : Type 0 where
   pub frames : List Envelope
   -- which frames wait to be delivered: a flag for each
   pub waiting : List Bool
-  pub learnt : List Learnt
+  pub learnt : List LearntEntry
   pub replies : List Replied
   pub answers : List Answered
-  pub outcomes : List Outcome
+  pub outcomes : List StepOutcome
 
 -- what a node holds, where it is there and up
-abbrev pub mind_in : {S : Type 0} → Option (NodeState S) → Option Mind
-mind_in None = None
-mind_in (Some n) = n.up
+abbrev pub replica_in : {S : Type 0} → Option (NodeState S) → Option ReplicaState
+replica_in None = None
+replica_in (Some n) = n.up
 
-abbrev pub mind_at : {S : Type 0} → WorldState S → ℕ → Option Mind
-mind_at w m = mind_in (slice_get w.nodes m)
+abbrev pub replica_at : {S : Type 0} → WorldState S → ℕ → Option ReplicaState
+replica_at w m = replica_in (slice_get w.nodes m)
 
 -- ---- what a node told joins the lists
-abbrev pub learnt_by : ℕ → Option LogEntry → List Learnt
+abbrev pub learnt_by : ℕ → Option LearntCommand → List LearntEntry
 learnt_by node None = []
 learnt_by node (Some e) = record { node = node; slot = e.slot; command = e.command } ∷ []
 
-abbrev pub with_outcome : {S : Type 0} → WorldState S → Outcome → WorldState S
+abbrev pub with_outcome : {S : Type 0} → WorldState S → StepOutcome → WorldState S
 with_outcome w outcome = record w { outcomes = w.outcomes ++ outcome ∷ [] }
 
 -- what came of a step that was made: a text was restored, or so many slots were learnt
-abbrev pub came_of : ℕ → Option ℕ → ℕ → ℕ → Outcome
+abbrev pub came_of : ℕ → Option ℕ → ℕ → ℕ → StepOutcome
 came_of node None learnt replies = Done learnt replies
 came_of node (Some position) learnt replies = Restored node position replies
 
@@ -71,7 +71,7 @@ with_response w node said = record w {
 }
 
 -- a refusal and a failure are told, and nothing else
-abbrev pub outcome_of : ℕ → NodeFault → Outcome
+abbrev pub outcome_of : ℕ → NodeFault → StepOutcome
 outcome_of node f = if is_stop_fault f then Stopped node f else Refused node f
 
 -- the world once a node's answer to an input is recorded
@@ -167,7 +167,7 @@ pub record AsksAt {S : Type 0} (old : WorldState S) (node : ℕ) (query : Query)
   pub leaves : new ≡ answered old node query result
 
 -- a node restarts
-abbrev pub restart_outcome : ℕ → Result (Unit {0}) NodeFault → Outcome
+abbrev pub restart_outcome : ℕ → Result (Unit {0}) NodeFault → StepOutcome
 restart_outcome node (Ok x) = Done 0 0
 restart_outcome node (Err f) = Stopped node f
 

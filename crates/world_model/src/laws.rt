@@ -7,7 +7,7 @@ ghost use Rattle.world_model.specs.Tallies.{StepsTally};
 ghost use Rattle.world_model.specs.Worlds.{WorldState};
 ghost use Rattle.world_model.specs.declared.lists.Answered.{Answered};
 ghost use Rattle.world_model.specs.declared.lists.Replied.{Replied};
-ghost use Rattle.sessions.specs.Outcomes.{outcome_code};
+ghost use Rattle.sessions.specs.SessionReplies.{outcome_code};
 
 use stable::{Scripted, Stable};
 

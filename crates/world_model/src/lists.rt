@@ -2,7 +2,7 @@
 
 use super::round_end::RoundEnd;
 use learner::Held;
-use node_model::{NodeFault, Text};
+use node_model::{AnswerText, NodeFault};
 use sessions::Number;
 use store::{Op, Query};
 use synod::Slot;
@@ -19,7 +19,7 @@ pub struct Submission {
 
 /// What a node learnt.
 #[derive(Drop)]
-pub struct Learnt {
+pub struct LearntEntry {
     pub node: NodeId,
     pub slot: Slot,
     pub command: Held,
@@ -31,7 +31,7 @@ pub struct Replied {
     pub node: NodeId,
     pub client: u8,
     pub number: Number,
-    pub reply: sessions::Outcome,
+    pub reply: sessions::StepOutcome,
     pub position: u32,
 }
 
@@ -41,12 +41,12 @@ pub struct Answered {
     pub node: NodeId,
     pub position: u32,
     pub query: Query,
-    pub text: Text,
+    pub text: AnswerText,
 }
 
 /// What came of a step. What was learnt, replied and answered stands in the world's lists, in the order of the steps.
 #[derive(Clone, Copy)]
-pub enum Outcome {
+pub enum StepOutcome {
     /// The step was made: how many slots a node learnt by it, and how many requests that waited there have their reply.
     Done {
         learnt: u32,

@@ -6,8 +6,8 @@ use crate::runs::checks::LINE;
 use crate::runs::program::{FIRST_LINES, FIRST_RUN};
 use crate::runs::worlds::three_storages;
 use cli::{Archive, command};
-use commands::{Failure, Tracked};
-use record_files::{Files, System};
+use commands::{CheckedStream, Failure};
+use record_files::{RecordFolder, System};
 use stable::MemStable;
 use std::alloc::AllocError;
 use std::io::{self, Error, ErrorKind, Read, Write};
@@ -63,7 +63,7 @@ impl Archive for Shelf {
         }
     }
 
-    fn is_left_open(
+    fn has_unmerged_log(
         &mut self,
         _rt: &HostRuntime,
         folder: &str,
@@ -72,7 +72,7 @@ impl Archive for Shelf {
         Ok(self.was_left_open && folder == SHELF)
     }
 
-    fn settle(&mut self, _rt: &HostRuntime, folder: &str, count: Nodes) {
+    fn merge_logs(&mut self, _rt: &HostRuntime, folder: &str, count: Nodes) {
         if folder == SHELF && count.count() == 3 {
             self.settled = self.settled.saturating_add(1);
         }
@@ -137,9 +137,9 @@ fn run_over<A: Archive, R: Read + Drop, O: Write + Drop, E: Write + Drop>(
     err: E,
 ) -> Result<(u8, O, E), Fail> {
     let words = owned(rt, words)?;
-    let mut input = Tracked::new(input);
-    let mut out = Tracked::new(out);
-    let mut err = Tracked::new(err);
+    let mut input = CheckedStream::new(input);
+    let mut out = CheckedStream::new(out);
+    let mut err = CheckedStream::new(err);
     let status = command(rt, words, &mut input, &mut out, &mut err, archive);
     Ok((status, out.into_inner(), err.into_inner()))
 }
@@ -150,7 +150,7 @@ pub(crate) fn answer(
     words: &[&str],
     input: &[u8],
 ) -> Result<(u8, Vec<u8>, Vec<u8>), Fail> {
-    answer_over(rt, &mut Files::new(System), words, input)
+    answer_over(rt, &mut RecordFolder::new(System), words, input)
 }
 
 /// The same over this archive.
@@ -189,7 +189,7 @@ pub(crate) fn tells_a_device<R: Read + Drop, O: Write + Drop>(
     input: R,
     out: O,
 ) -> Result<bool, Fail> {
-    let files = &mut Files::new(System);
+    let files = &mut RecordFolder::new(System);
     let (status, _out, err) = run_over(rt, files, words, input, out, Vec::new(rt.alloc()))?;
     Ok(status == 3 && err.as_slice() == b"mfpx: device\n".as_slice())
 }
@@ -261,7 +261,7 @@ fn streams_that_fail(rt: HostRuntime) -> Result<(), Fail> {
 /// The status where nothing can be told, and whether nothing was printed.
 fn untold(rt: &HostRuntime, words: &[&str], input: &[u8]) -> Result<(u8, bool), Fail> {
     let out = Vec::new(rt.alloc());
-    let files = &mut Files::new(System);
+    let files = &mut RecordFolder::new(System);
     let (status, out, _err) = run_over(rt, files, words, input, out, Unwritable)?;
     Ok((status, out.is_empty()))
 }

@@ -5,8 +5,8 @@ ghost use Rattle.std.specs.Prelude.{◌≡◌, vec_len, IfOk};
 use stable::{Key, MemStable, Stable, StableFault};
 use std::alloc::Global;
 use world_model::{
-    a_start_tells, answers_are_one, ballots_never_fall, lists_are_as_told, promises_never_fall,
-    steps_tell, tellings_are_explained,
+    answers_are_one, ballots_never_fall, lists_are_as_told, one_log_explains, promises_never_fall,
+    start_keeps_lists, steps_keep_lists,
 };
 
 #[test]
@@ -15,9 +15,9 @@ fn laws_run_nothing() {
     answers_are_one::<MemStable>();
     ballots_never_fall::<MemStable>();
     promises_never_fall::<MemStable>();
-    a_start_tells::<MemStable>();
-    steps_tell::<MemStable>();
-    tellings_are_explained::<MemStable>();
+    start_keeps_lists::<MemStable>();
+    steps_keep_lists::<MemStable>();
+    one_log_explains::<MemStable>();
 }
 
 // Three storages, of which this one holds a record.

@@ -1,8 +1,8 @@
 //! Checkpoints and trims: what they write, what a restart finds of them, and records that are none.
 
 use super::faults::{node_over, stays_down};
-use super::fleet::Fleet;
 use super::tables_hold;
+use super::test_nodes::TestNodes;
 use stable::{Key, MemStable, Stable};
 use std::alloc::Global;
 use std::test::Fail;
@@ -80,8 +80,8 @@ fn records_of(alloc: Global, bytes: &[u8]) -> Result<MemStable, Fail> {
 
 /// Whether a node stays down over a checkpoint of these bytes.
 fn is_kept_down(alloc: Global, bytes: &[u8]) -> Result<bool, Fail> {
-    let mut fleet = node_over(alloc, records_of(alloc, bytes)?)?;
-    Ok(stays_down(alloc, fleet.member(0)?))
+    let mut nodes_under_test = node_over(alloc, records_of(alloc, bytes)?)?;
+    Ok(stays_down(alloc, nodes_under_test.member(0)?))
 }
 
 #[test]
@@ -94,10 +94,10 @@ fn damaged_checkpoints_keep_a_node_down(rt: HostRuntime) -> Result<(), Fail> {
 
 /// Whether a node writes this checkpoint, once it has executed a removal.
 fn is_written(alloc: Global, record: &[u8]) -> Result<bool, Fail> {
-    let mut fleet = Fleet::new(alloc, 3)?;
-    fleet.take(alloc, "hear 0 1, decided 0 7:1")?;
-    fleet.take(alloc, "checkpoint 0")?;
-    let written = fleet.member(0)?.writes().last().ok_or("a put")?;
+    let mut nodes_under_test = TestNodes::new(alloc, 3)?;
+    nodes_under_test.take(alloc, "hear 0 1, decided 0 7:1")?;
+    nodes_under_test.take(alloc, "checkpoint 0")?;
+    let written = nodes_under_test.member(0)?.writes().last().ok_or("a put")?;
     Ok(written.key() == Key::Checkpoint && written.bytes() == record)
 }
 

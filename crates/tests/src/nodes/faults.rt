@@ -1,7 +1,7 @@
 //! Nodes that go down, and what a restart finds.
 
-use super::fleet::{Fleet, Member};
 use super::tables_hold;
+use super::test_nodes::{Member, TestNodes};
 use node::NodeFault;
 use stable::{Key, MemStable, Stable};
 use std::alloc::Global;
@@ -124,16 +124,16 @@ fn damaged_records_keep_a_node_down(rt: HostRuntime) -> Result<(), Fail> {
 
 /// Whether a node stays down where this record of it is of no form.
 fn is_kept_down(alloc: Global, key: Key) -> Result<bool, Fail> {
-    let mut fleet = node_over(alloc, damaged(alloc, key)?)?;
-    Ok(stays_down(alloc, fleet.member(0)?))
+    let mut nodes_under_test = node_over(alloc, damaged(alloc, key)?)?;
+    Ok(stays_down(alloc, nodes_under_test.member(0)?))
 }
 
 /// Node 0 of three, over these records.
-pub fn node_over(alloc: Global, records: MemStable) -> Result<Fleet, Fail> {
+pub fn node_over(alloc: Global, records: MemStable) -> Result<TestNodes, Fail> {
     let nodes = Nodes::new(3).ok_or("nodes")?;
-    let mut fleet = Fleet::empty(alloc);
-    fleet.start(alloc, records, 0, nodes)?;
-    Ok(fleet)
+    let mut nodes_under_test = TestNodes::empty(alloc);
+    nodes_under_test.start(alloc, records, 0, nodes)?;
+    Ok(nodes_under_test)
 }
 
 /// Records of which one is of no form.

@@ -9,7 +9,8 @@ use std::test::Fail;
 use store::Op;
 use synod::{Ballot, Slot, Vote};
 use wire::{
-    Entries, Entry, Envelope, Held, Id, Message, Nack, NodeId, Part, PartNumber, Position, Promise,
+    Entries, Entry, Envelope, Id, Message, Nack, NodeId, Part, PartNumber, Position, Promise,
+    SharedCommand,
 };
 
 /// The numbers of a text, whatever stands between them.
@@ -71,18 +72,18 @@ pub fn part_number(value: u64) -> Result<PartNumber, Fail> {
 }
 
 /// The removal of a client under a number, or for the number 0 the no-op.
-fn command(alloc: Global, client: u64, value: u64) -> Result<Held, Fail> {
+fn command(alloc: Global, client: u64, value: u64) -> Result<SharedCommand, Fail> {
     if value == 0 {
-        return Ok(Held::new(alloc, Command::NoOp)?);
+        return Ok(SharedCommand::new(alloc, Command::NoOp)?);
     }
     let Ok(request) = Request::new(small(client), number(value)?, removal()?) else {
         return Err("request".into());
     };
-    Ok(Held::new(alloc, Command::Request(request))?)
+    Ok(SharedCommand::new(alloc, Command::Request(request))?)
 }
 
 /// The vote of five numbers: the ballot, the slot and the command.
-pub fn vote(alloc: Global, numbers: &[u64]) -> Result<Vote<Held>, Fail> {
+pub fn vote(alloc: Global, numbers: &[u64]) -> Result<Vote<SharedCommand>, Fail> {
     let &[round, node, at, client, value] = numbers else {
         return Err("a vote".into());
     };

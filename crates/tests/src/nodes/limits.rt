@@ -1,6 +1,6 @@
 //! What a node refuses, and with which number.
 
-use super::fleet::Fleet;
+use super::test_nodes::TestNodes;
 use super::{rows_follow, tables_hold};
 use node::NodeFault;
 use std::alloc::Global;
@@ -58,16 +58,16 @@ submit 0 7 65";
 
 #[test]
 fn sixty_four_requests_wait(rt: HostRuntime) -> Result<(), Fail> {
-    let mut fleet = Fleet::new(rt.alloc(), 3)?;
-    submit(rt.alloc(), &mut fleet, 64)?;
-    rows_follow(&rt, rt.alloc(), &mut fleet, SIXTY_FOUR_WAIT)
+    let mut nodes_under_test = TestNodes::new(rt.alloc(), 3)?;
+    submit(rt.alloc(), &mut nodes_under_test, 64)?;
+    rows_follow(&rt, rt.alloc(), &mut nodes_under_test, SIXTY_FOUR_WAIT)
 }
 
 // Client 7 submits so many requests at node 0.
-fn submit(alloc: Global, fleet: &mut Fleet, requests: u8) -> Result<(), Fail> {
+fn submit(alloc: Global, nodes_under_test: &mut TestNodes, requests: u8) -> Result<(), Fail> {
     for value in 1..=requests {
         let step = format!(in alloc; "submit 0 7 {value}")?;
-        let _told = fleet.take(alloc, step.as_str())?;
+        let _told = nodes_under_test.take(alloc, step.as_str())?;
     }
     Ok(())
 }
@@ -133,17 +133,17 @@ timeout 0 > refuse 0 42
 tick 0";
 
 // Node 0 is told what is decided at each of so many slots.
-fn decide(alloc: Global, fleet: &mut Fleet, slots: u32) -> Result<(), Fail> {
+fn decide(alloc: Global, nodes_under_test: &mut TestNodes, slots: u32) -> Result<(), Fail> {
     for at in 0..slots {
         let step = format!(in alloc; "hear 0 1, decided {at} 0:0")?;
-        let _told = fleet.take(alloc, step.as_str())?;
+        let _told = nodes_under_test.take(alloc, step.as_str())?;
     }
     Ok(())
 }
 
 #[test]
 fn the_log_fills(rt: HostRuntime) -> Result<(), Fail> {
-    let mut fleet = Fleet::new(rt.alloc(), 3)?;
-    decide(rt.alloc(), &mut fleet, SLOTS - 3)?;
-    rows_follow(&rt, rt.alloc(), &mut fleet, FULL_LOG)
+    let mut nodes_under_test = TestNodes::new(rt.alloc(), 3)?;
+    decide(rt.alloc(), &mut nodes_under_test, SLOTS - 3)?;
+    rows_follow(&rt, rt.alloc(), &mut nodes_under_test, FULL_LOG)
 }

@@ -1,8 +1,8 @@
 //! A node that missed what the others have forgotten, and is restored from the parts of a snapshot text.
 
-use super::fleet::{Fleet, ride};
 use super::letters::{number, part_number, position};
 use super::tables_hold;
+use super::test_nodes::{TestNodes, ride};
 use sessions::{Command, Machine, Request};
 use std::alloc::Global;
 use std::process::Abort;
@@ -259,17 +259,17 @@ fn order_restores(
     text: &[u8],
     parts: &[(u8, &str)],
 ) -> Result<(), Fail> {
-    let mut fleet = Fleet::new(alloc, 5)?;
-    fleet.take(alloc, "hear 0 1, behind 6")?;
+    let mut nodes_under_test = TestNodes::new(alloc, 5)?;
+    nodes_under_test.take(alloc, "hear 0 1, behind 6")?;
     for (at, said) in parts {
-        part_comes(rt, alloc, &mut fleet, text, *at, said)?;
+        part_comes(rt, alloc, &mut nodes_under_test, text, *at, said)?;
     }
     assert_eq!(rt;
-        fleet.take(alloc, "count 0")?.as_str(),
+        nodes_under_test.take(alloc, "count 0")?.as_str(),
         "answer 0 6 count 6"
     );
-    fleet.take(alloc, "checkpoint 0")?;
-    let written = fleet.member(0)?.writes().last().ok_or("a put")?;
+    nodes_under_test.take(alloc, "checkpoint 0")?;
+    let written = nodes_under_test.member(0)?.writes().last().ok_or("a put")?;
     assert!(rt; written.bytes().get(5..) == Some(text));
     Ok(())
 }
@@ -278,7 +278,7 @@ fn order_restores(
 fn part_comes(
     rt: &impl Abort,
     alloc: Global,
-    fleet: &mut Fleet,
+    nodes_under_test: &mut TestNodes,
     text: &[u8],
     at: u8,
     said: &str,
@@ -286,7 +286,7 @@ fn part_comes(
     for expected in [said, ""] {
         let number = part_number(u64::from(at))?;
         let part = Part::of(alloc, position(6)?, text, number)?.ok_or("a part")?;
-        let told = fleet.hand(alloc, at.saturating_add(1), 0, Message::SnapPart(part))?;
+        let told = nodes_under_test.hand(alloc, at.saturating_add(1), 0, Message::SnapPart(part))?;
         assert_eq!(rt; told.as_str(), expected, "part {at}");
     }
     Ok(())

@@ -1,12 +1,12 @@
 //! What nodes tell, as text: one thing after another, parted by semicolons.
 
-use node::{Executed, LogEntry, NodeFault};
+use node::{LearntCommand, NodeFault, ReplyOut};
 use sessions::Command;
 use stable::{Key, Put};
 use std::alloc::{AllocError, Global};
 use std::fmt::Write;
 use synod::{Ballot, Slot, Vote};
-use wire::{Frame, Held, Message, Position, Promise};
+use wire::{Frame, Message, Position, Promise, SharedCommand};
 
 /// Another thing is to be told.
 pub fn part(text: &mut String) -> Result<(), AllocError> {
@@ -17,7 +17,7 @@ pub fn part(text: &mut String) -> Result<(), AllocError> {
 }
 
 /// What is newly learnt.
-pub fn tell_learnt(text: &mut String, node: u8, entry: &LogEntry) -> Result<(), AllocError> {
+pub fn tell_learnt(text: &mut String, node: u8, entry: &LearntCommand) -> Result<(), AllocError> {
     part(text)?;
     write!(text, "learn {node}")?;
     tell_command(text, " ", entry.slot, entry.command.command())
@@ -31,7 +31,7 @@ pub fn tell_restored(text: &mut String, node: u8, position: Position) -> Result<
 }
 
 /// The replies to requests that waited.
-pub fn tell_replies(text: &mut String, node: u8, replies: &[Executed]) -> Result<(), AllocError> {
+pub fn tell_replies(text: &mut String, node: u8, replies: &[ReplyOut]) -> Result<(), AllocError> {
     for executed in replies {
         let client = executed.client;
         let number = executed.number.value();
@@ -164,7 +164,11 @@ fn tell_promise(text: &mut String, promise: &Promise) -> Result<(), AllocError> 
 }
 
 /// The ballot of a vote, its slot and its command.
-fn tell_vote(text: &mut String, before: &str, vote: &Vote<Held>) -> Result<(), AllocError> {
+fn tell_vote(
+    text: &mut String,
+    before: &str,
+    vote: &Vote<SharedCommand>,
+) -> Result<(), AllocError> {
     tell_ballot(text, before, vote.ballot)?;
     tell_command(text, " ", vote.slot, vote.command.command())
 }

@@ -2,7 +2,7 @@
 
 use super::calls::{fill, is_filled, is_trimmed, keeps_records, trims_records};
 use commands::Archive;
-use record_files::{Files, NodeFile, System};
+use record_files::{RecordFile, RecordFolder, System};
 use sqlite::{Connection, Error, MemStore, Options, params};
 use sqlstable::SqlStable;
 use stable::{Stable, StableFault};
@@ -91,7 +91,7 @@ const PATH: &str = "sqlstable_test/node0.db";
 
 // What a run leaves: its storage is dropped and not closed.
 fn leave_a_file(rt: &HostRuntime, path: &str) -> Result<bool, StableFault> {
-    let mut storage = NodeFile::open(rt, path)?;
+    let mut storage = RecordFile::open(rt, path)?;
     fill(rt.alloc(), &mut storage)?;
     is_filled(rt.alloc(), &mut storage)
 }
@@ -104,7 +104,7 @@ fn close_a_file(rt: &HostRuntime, path: &str) -> Result<(), StableFault> {
 
 // Whether a file that is opened holds what `fill` puts.
 fn is_file_filled(rt: &HostRuntime, path: &str) -> Result<bool, StableFault> {
-    let mut storage = NodeFile::open(rt, path)?;
+    let mut storage = RecordFile::open(rt, path)?;
     is_filled(rt.alloc(), &mut storage)
 }
 
@@ -126,7 +126,7 @@ const TRIM_PATH: &str = "out/trimmed/node0.db";
 
 // A file is trimmed, and left as a run leaves it.
 fn trim_a_file(rt: &HostRuntime, path: &str) -> Result<bool, StableFault> {
-    let mut storage = NodeFile::open(rt, path)?;
+    let mut storage = RecordFile::open(rt, path)?;
     fill(rt.alloc(), &mut storage)?;
     storage.trim_below(rt.alloc(), 700)?;
     is_trimmed(rt.alloc(), &mut storage)
@@ -134,7 +134,7 @@ fn trim_a_file(rt: &HostRuntime, path: &str) -> Result<bool, StableFault> {
 
 // Whether a file that is opened holds what a trim left.
 fn is_file_trimmed(rt: &HostRuntime, path: &str) -> Result<bool, StableFault> {
-    let mut storage = NodeFile::open(rt, path)?;
+    let mut storage = RecordFile::open(rt, path)?;
     is_trimmed(rt.alloc(), &mut storage)
 }
 
@@ -190,15 +190,18 @@ fn a_settled_file_is_alone(rt: HostRuntime) {
 #[test]
 fn an_empty_name_is_no_folder(rt: HostRuntime) {
     let nodes = Nodes::new(3).unwrap();
-    assert_eq!(rt; Files::new(System).is_left_open(&rt, "", nodes), Ok(true));
+    assert_eq!(rt;
+        RecordFolder::new(System).has_unmerged_log(&rt, "", nodes),
+        Ok(true)
+    );
     assert!(rt; is_no_folder(&rt, "", nodes));
-    Files::new(System).settle(&rt, "", nodes);
+    RecordFolder::new(System).merge_logs(&rt, "", nodes);
     assert!(rt; fs::symlink_metadata(&rt, "/node0.db").is_err());
 }
 
 // Whether no records can be kept under this name.
 fn is_no_folder(rt: &HostRuntime, folder: &str, nodes: Nodes) -> bool {
-    Files::new(System).open(rt, folder, nodes).is_err()
+    RecordFolder::new(System).open(rt, folder, nodes).is_err()
 }
 
 // What a run has left open is seen by its log, and closed in order under the names by which a run finds it.
@@ -208,17 +211,17 @@ fn an_archive_settles_its_files(rt: HostRuntime) {
     let _ = fs::remove_dir_all(&rt, ARCHIVE);
     assert!(rt; fs::create_dir(&rt, ARCHIVE).is_ok());
     assert_eq!(rt;
-        Files::new(System).is_left_open(&rt, ARCHIVE, nodes),
+        RecordFolder::new(System).has_unmerged_log(&rt, ARCHIVE, nodes),
         Ok(false)
     );
     assert_eq!(rt; leave_a_file(&rt, FIRST_FILE), Ok(true));
     assert_eq!(rt;
-        Files::new(System).is_left_open(&rt, ARCHIVE, nodes),
+        RecordFolder::new(System).has_unmerged_log(&rt, ARCHIVE, nodes),
         Ok(true)
     );
-    Files::new(System).settle(&rt, ARCHIVE, nodes);
+    RecordFolder::new(System).merge_logs(&rt, ARCHIVE, nodes);
     assert_eq!(rt;
-        Files::new(System).is_left_open(&rt, ARCHIVE, nodes),
+        RecordFolder::new(System).has_unmerged_log(&rt, ARCHIVE, nodes),
         Ok(false)
     );
     assert_eq!(rt; is_file_filled(&rt, FIRST_FILE), Ok(true));

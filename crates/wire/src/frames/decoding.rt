@@ -19,7 +19,7 @@ use super::nack::Nack;
 use super::parts::{read_part, read_position, read_snap_ask};
 use super::reading::{read_ballot, read_held, read_slot};
 use super::telling::read_promise;
-use crate::{Held, NodeId, Nodes};
+use crate::{NodeId, Nodes, SharedCommand};
 use fields::Input;
 use sessions::Command;
 use std::alloc::Global;
@@ -209,7 +209,11 @@ fn read_ballot_above(input: &mut Input, nodes: Nodes, refused: Ballot) -> Result
 
 /// What is proposed or was voted for.
 #[tactic(auto, unfolding(crate::specs::FrameReading::vote_at))]
-fn read_vote(alloc: Global, input: &mut Input, nodes: Nodes) -> Result<Vote<Held>, WireFault>
+fn read_vote(
+    alloc: Global,
+    input: &mut Input,
+    nodes: Nodes,
+) -> Result<Vote<SharedCommand>, WireFault>
     ensures read { Gives (λ x. (x, input.new)) result (vote_at nodes input.old) }
     ensures memory { IsErrOf result WireFault.Memory → MayWant (λ _. ⊤) (vote_at nodes input.old) }
 {

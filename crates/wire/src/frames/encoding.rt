@@ -16,7 +16,7 @@ use super::part::{Part, PartNumber};
 use super::position::Position;
 use super::promise::Promise;
 use super::spelling::{command_len, push_ballot, push_command, push_slot};
-use crate::{Held, NodeId, Slot};
+use crate::{NodeId, SharedCommand, Slot};
 use fields::push_u32;
 use sessions::Command;
 use std::alloc::{AllocError, Global};
@@ -143,7 +143,7 @@ fn push_counted(out: &mut Vec<u8>, bytes: &[u8]) -> Result<(), AllocError>
 }
 
 /// What is proposed or was voted for.
-fn push_vote(out: &mut Vec<u8>, vote: &Vote<Held>) -> Result<(), AllocError>
+fn push_vote(out: &mut Vec<u8>, vote: &Vote<SharedCommand>) -> Result<(), AllocError>
     ensures spelled { OnOk result (out.new.items ≡ out.old.items ++ vote_bytes vote.now) }
     ensures fits { OnOk result (VoteFits 7 vote.now) }
 {
@@ -178,7 +178,7 @@ fn push_entries(out: &mut Vec<u8>, entries: &[Entry]) -> Result<(), AllocError>
 }
 
 /// A vote as a promise tells it.
-fn push_entry(out: &mut Vec<u8>, vote: &Vote<Held>) -> Result<(), AllocError>
+fn push_entry(out: &mut Vec<u8>, vote: &Vote<SharedCommand>) -> Result<(), AllocError>
     ensures spelled { OnOk result (out.new.items ≡ out.old.items ++ entry_bytes vote.now) }
     ensures fits { OnOk result (VoteFits 7 vote.now) }
 {

@@ -2,7 +2,7 @@
 
 ghost use Rattle.std.specs.Prelude.{◌≡◌};
 
-use crate::Held;
+use crate::SharedCommand;
 use sessions::Command;
 use std::alloc::AllocError;
 use std::marker::Model;
@@ -11,7 +11,7 @@ use synod::Vote;
 /// A vote that a promise tells.
 #[derive(Drop)]
 pub struct Entry {
-    vote: Vote<Held>,
+    vote: Vote<SharedCommand>,
 }
 
 impl Model for Entry {
@@ -27,21 +27,21 @@ impl Model for Entry {
 
 impl Entry {
     /// The entry that tells this vote.
-    pub fn new(vote: Vote<Held>) -> Entry
+    pub fn new(vote: Vote<SharedCommand>) -> Entry
         ensures { result ≡ vote }
     {
         Entry { vote }
     }
 
     /// The vote.
-    pub fn vote(&self) -> &Vote<Held>
+    pub fn vote(&self) -> &Vote<SharedCommand>
         ensures { result.now ≡ self.now }
     {
         &self.vote
     }
 
     /// The vote itself.
-    pub fn into_vote(self) -> Vote<Held>
+    pub fn into_vote(self) -> Vote<SharedCommand>
         ensures { result ≡ self }
     {
         self.vote

@@ -8,7 +8,7 @@ use super::nack::Nack;
 use super::part::{Part, PartNumber};
 use super::position::Position;
 use super::promise::Promise;
-use crate::Held;
+use crate::SharedCommand;
 use sessions::Command;
 use synod::{Ballot, Slot, Vote};
 
@@ -25,9 +25,9 @@ pub enum Message {
     /// A prepare or an accept is refused.
     Nack(Nack),
     /// Asks for this vote.
-    Accept(Vote<Held>),
+    Accept(Vote<SharedCommand>),
     /// The sender voted so.
-    Accepted(Vote<Held>),
+    Accepted(Vote<SharedCommand>),
     /// Asks what is decided at this slot.
     Ask {
         slot: Slot,
@@ -35,7 +35,7 @@ pub enum Message {
     /// The sender has learnt that this is chosen.
     Decided {
         slot: Slot,
-        command: Held,
+        command: SharedCommand,
     },
     /// Asks for this part of the text of the checkpoint at this position.
     SnapAsk {

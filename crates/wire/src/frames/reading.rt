@@ -8,7 +8,7 @@ ghost use Rattle.wire.specs.Reading.{Gives, MayWant, ballot_of, ballot_at, slot_
 ghost use Rattle.wire.specs.Reading.{request_number_at, request_at, asked_at, command_at};
 
 use super::fault::WireFault;
-use crate::{Held, Nodes, Slot};
+use crate::{Nodes, SharedCommand, Slot};
 use fields::{Input, read_id, read_sequence, read_triple};
 use sessions::{Command, MOST_PUT_POINTS, Number, Request};
 use std::alloc::Global;
@@ -54,12 +54,12 @@ pub(super) fn read_slot(input: &mut Input) -> Result<Slot, WireFault>
 
 /// What is at a slot of the log, to be held.
 #[tactic(auto)]
-pub(super) fn read_held(alloc: Global, input: &mut Input) -> Result<Held, WireFault>
+pub(super) fn read_held(alloc: Global, input: &mut Input) -> Result<SharedCommand, WireFault>
     ensures read { Gives (λ x. (x, input.new)) result (command_at input.old) }
     ensures memory { IsErrOf result WireFault.Memory → MayWant (λ _. ⊤) (command_at input.old) }
 {
     let command = read_command(alloc, input)?;
-    Ok(Held::new(alloc, command)?)
+    Ok(SharedCommand::new(alloc, command)?)
 }
 
 /// What is at a slot of the log: nothing, or a client's request.

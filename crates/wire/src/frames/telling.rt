@@ -12,7 +12,7 @@ use super::entry::Entry;
 use super::fault::WireFault;
 use super::promise::{Entries, MOST_ENTRIES, Promise};
 use super::reading::{read_ballot, read_held, read_slot};
-use crate::{Held, Nodes};
+use crate::{Nodes, SharedCommand};
 use fields::Input;
 use sessions::Command;
 use std::alloc::Global;
@@ -122,7 +122,7 @@ fn read_entry(
     limit: Ballot,
     from: u32,
     last: Slot,
-) -> Result<Vote<Held>, WireFault>
+) -> Result<Vote<SharedCommand>, WireFault>
     ensures read { Gives (λ x. (x, input.new)) result (entry_at nodes limit from last input.old) }
     ensures memory { IsErrOf result WireFault.Memory
         → MayWant (λ _. ⊤) (entry_at nodes limit from last input.old) }

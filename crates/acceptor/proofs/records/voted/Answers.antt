@@ -1,7 +1,7 @@
 use Rattle.std.proofs.Common.{rules, ◌≡◌, Some}
 use Rattle.stable.specs.declared.key.Key.TheVariants as key
 use Rattle.wire.specs.RecordForms.{IsVoteRecord}
-use Rattle.acceptor.specs.Casts.{vote_at}
+use Rattle.acceptor.specs.AcceptedValues.{vote_at}
 use Rattle.acceptor.proofs.RecordLemmas.{vote_of_its_form}
 use Rattle.acceptor.proofs.records.voted.Goals as goal
 

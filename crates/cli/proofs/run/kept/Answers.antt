@@ -10,7 +10,7 @@ returns-in-Ok-clause-kept g c =
       plan = c.in_ok-schedule.schedule;
       spelled = c.in_ok-schedule.ensures.spelled;
       was_left_open = c.in_ok-was_left_open.was_left_open;
-      looked = c.is_left_open.new.self;
+      looked = c.has_unmerged_log.new.self;
       looks = rw (← c.nodes-count.ensures) c.in_ok-was_left_open.ensures.looked;
     } in
     record {
@@ -19,7 +19,7 @@ returns-in-Ok-clause-kept g c =
       opened = c.made_in.new.archive;
       hands_out = made.1;
       runs = made.2;
-      settles = rw (← c.nodes-count.ensures) c.settle.ensures;
+      settles = rw (← c.nodes-count.ensures) c.merge_logs.ensures;
     }
 
 -- one that ends without a text is over that too, where anything was handed out
@@ -29,7 +29,7 @@ returns-in-Err-clause-ends g c =
       plan = c.in_ok-schedule.schedule;
       spelled = c.in_ok-schedule.ensures.spelled;
       was_left_open = c.in_ok-was_left_open.was_left_open;
-      looked = c.is_left_open.new.self;
+      looked = c.has_unmerged_log.new.self;
       looks = rw (← c.nodes-count.ensures) c.in_ok-was_left_open.ensures.looked;
     } in
     elim c.in-Err.ensures.ends [

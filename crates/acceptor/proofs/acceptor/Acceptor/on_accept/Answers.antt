@@ -14,11 +14,11 @@ use Rattle.acceptor.specs.State.{accepting_of}
 use Rattle.acceptor.proofs.VerdictLemmas.{taken_is_above, taken_unless_away, untaken_away, same_after_accept}
 use Rattle.acceptor.proofs.VoteLemmas.{cast_write, no_write, untaken_write}
 use Rattle.acceptor.proofs.acceptor.Acceptor.on_accept.Goals as goal
-use Rattle.acceptor.proofs.acceptor.Acceptor.on_accept.Goals.{then-not-has+in_ok-cast, else-not-has}
+use Rattle.acceptor.proofs.acceptor.Acceptor.on_accept.Goals.{then-not-has+in_ok-record_vote, else-not-has}
 
 -- the device failed on the write of the vote
-pub returns-in_err-cast-clause-device : goal.returns-in_err-cast-clause-device
-returns-in_err-cast-clause-device g c = λ device.
+pub returns-in_err-record_vote-clause-device : goal.returns-in_err-record_vote-clause-device
+returns-in_err-record_vote-clause-device g c = λ device.
     let a = accepting_of c.args.self.now in
     let vote = c.args.vote in
     let taken : verdict a vote.ballot vote.slot ≡ Taken =
@@ -42,8 +42,8 @@ returns-clause-state g c =
     let taken : verdict a vote.ballot vote.slot ≡ Taken =
     taken_unless_away (verdict a vote.ballot vote.slot) vote.ballot (sym c.in_default.ensures) in
     elim c.if-not-has.branch [
-      | then-not-has+in_ok-cast w ↦ rw (taken, w.self-is)
-          (ap (λ (f : ℕ → Option (Vote Command)). record a { promise = Some vote.ballot; vote = f }) (fun_ext w.in_ok-cast.ensures.votes))
+      | then-not-has+in_ok-record_vote w ↦ rw (taken, w.self-is)
+          (ap (λ (f : ℕ → Option (Vote Command)). record a { promise = Some vote.ballot; vote = f }) (fun_ext w.in_ok-record_vote.ensures.votes))
       | else-not-has w ↦ rw (taken, w.self-is)
           (ap (λ (f : ℕ → Option (Vote Command)). record a { promise = Some vote.ballot; vote = f })
           (fun_ext (stands_already a.vote vote.slot vote (c.has.ensures.0 (search rules)))))
@@ -57,7 +57,7 @@ returns-clause-written g c =
     let taken : verdict a vote.ballot vote.slot ≡ Taken =
     taken_unless_away (verdict a vote.ballot vote.slot) vote.ballot (sym c.in_default.ensures) in
     elim c.if-not-has.branch [
-      | then-not-has+in_ok-cast w ↦ (
+      | then-not-has+in_ok-record_vote w ↦ (
         Some (Sets (key.Vote vote.slot) (vote_bytes vote)),
         cast_write a vote taken (λ told. let has = c.has.ensures.1 told in search rules),
         search rules,
@@ -107,8 +107,8 @@ invariant_of-self-2 g c = record {
       let taken = taken_unless_away (verdict a vote.ballot vote.slot) vote.ballot (sym c.in_default.ensures) in
       let above = taken_is_above a vote.ballot vote.slot taken in
       elim c.if-not-has.branch [
-        | then-not-has+in_ok-cast w ↦
-            cast_bounded _ _ before vote above _ w.in_ok-cast.ensures.votes s v (rw w.self-is at held)
+        | then-not-has+in_ok-record_vote w ↦
+            cast_bounded _ _ before vote above _ w.in_ok-record_vote.ensures.votes s v (rw w.self-is at held)
         | else-not-has w ↦ old_bounded _ _ before vote above s v (rw w.self-is at held)
       ];
   in_log = c.args.self.now.in_log;
@@ -116,6 +116,6 @@ invariant_of-self-2 g c = record {
 
 pub invariant_of-self : goal.invariant_of-self
 invariant_of-self g c = record {
-  bounded = λ s v held. c.args.self.now.bounded s v (sym (c.in_err-cast.ensures.unchanged s) ∙ held);
+  bounded = λ s v held. c.args.self.now.bounded s v (sym (c.in_err-record_vote.ensures.unchanged s) ∙ held);
   in_log = c.args.self.now.in_log;
 }

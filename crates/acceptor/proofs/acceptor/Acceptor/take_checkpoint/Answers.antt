@@ -1,5 +1,5 @@
 use Rattle.std.proofs.Common.{refl, sym, ap, ◌∙◌}
-use Rattle.acceptor.specs.Casts.{vote_held}
+use Rattle.acceptor.specs.AcceptedValues.{vote_held}
 use Rattle.acceptor.specs.Loading.{checkpoint_found}
 use Rattle.acceptor.specs.State.{accepting_of}
 use Rattle.acceptor.proofs.CheckpointLemmas.{begins_same, begins_with_text, machine_of_text, machine_as_before}

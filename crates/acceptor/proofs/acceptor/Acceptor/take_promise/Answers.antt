@@ -1,5 +1,5 @@
 use Rattle.std.proofs.Common.{ap}
-use Rattle.acceptor.specs.Casts.{vote_held}
+use Rattle.acceptor.specs.AcceptedValues.{vote_held}
 use Rattle.acceptor.specs.Loading.{raised}
 use Rattle.acceptor.specs.State.{accepting_of}
 use Rattle.acceptor.proofs.RecordLemmas.{RecordsSay-see_promise, RecordsSay-holds}

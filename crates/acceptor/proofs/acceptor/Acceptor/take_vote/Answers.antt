@@ -1,6 +1,6 @@
 use Rattle.std.proofs.Common.{Some, ap}
 use Rattle.acceptor.specs.Accepting.{put}
-use Rattle.acceptor.specs.Casts.{vote_at, vote_held}
+use Rattle.acceptor.specs.AcceptedValues.{vote_at, vote_held}
 use Rattle.acceptor.specs.Loading.{raised}
 use Rattle.acceptor.specs.State.{accepting_of}
 use Rattle.acceptor.proofs.RecordLemmas.{RecordsSay-see_vote, RecordsSay-holds}

@@ -1,7 +1,7 @@
 use Rattle.std.proofs.Common.{rules, arith, ◌≡◌, ◌∙◌, ap, sym, Some}
 use Rattle.std.proofs.lemmas.Bool.Decides.{nat_tests}
 use Rattle.wire.specs.OneBallot.{same_ballot}
-use Rattle.acceptor.specs.Casts.{cast_at}
+use Rattle.acceptor.specs.AcceptedValues.{cast_at}
 use Rattle.acceptor.proofs.VoteLemmas.{same_vote, command_told}
 use Rattle.acceptor.proofs.votes.Votes.has.Goals as goal
 

@@ -1,7 +1,7 @@
 use Rattle.std.proofs.Common.{ℕ, Option, ap, ◌∙◌, refl, option_map}
 use Rattle.slot_table.proofs.ValueLemmas.{where_refused}
-use Rattle.acceptor.specs.Casts.{vote_at, cast_at}
-use Rattle.acceptor.specs.declared.cast.Cast.{Cast}
+use Rattle.acceptor.specs.AcceptedValues.{vote_at, cast_at}
+use Rattle.acceptor.specs.declared.accepted_value.AcceptedValue.{AcceptedValue}
 use Rattle.acceptor.proofs.VoteLemmas.{votes-put}
 use Rattle.acceptor.proofs.votes.Votes.insert.Goals as goal
 
@@ -15,4 +15,4 @@ returns-clause-votes c = λ s.
 -- memory was wanting
 pub returns-in_err-insert-clause-unchanged : goal.returns-in_err-insert-clause-unchanged
 returns-in_err-insert-clause-unchanged c =
-    where_refused c.from_residual.result (λ s. ap (λ (f : ℕ → Option Cast). option_map (vote_at s) (f s)) c.in_err-insert.ensures.unchanged)
+    where_refused c.from_residual.result (λ s. ap (λ (f : ℕ → Option AcceptedValue). option_map (vote_at s) (f s)) c.in_err-insert.ensures.unchanged)

@@ -5,7 +5,7 @@ use Rattle.synod.specs.declared.ballot.Ballot.{Ballot}
 use Rattle.synod.specs.declared.vote.Vote.{Vote}
 use Rattle.sessions.specs.declared.command.Command.{Command}
 use Rattle.wire.specs.Promises.{Promised}
-use Rattle.acceptor.specs.Casts.{vote_at}
+use Rattle.acceptor.specs.AcceptedValues.{vote_at}
 use Rattle.acceptor.specs.Ranges.{IsPromiseFrom}
 use Rattle.acceptor.proofs.RangeLemmas.{IsToldTo, held, so_far, all_looked_at, one_told, nothing_more, told_to_next}
 use Rattle.acceptor.proofs.RangeLemmas.{found_from, has_one_before, full_promise, last_promise}

@@ -1,5 +1,5 @@
 use Rattle.std.proofs.Common.{rules, ap, IsSome}
-use Rattle.acceptor.specs.Casts.{cast_at}
+use Rattle.acceptor.specs.AcceptedValues.{cast_at}
 use Rattle.acceptor.proofs.VoteLemmas.{never_refused}
 use Rattle.acceptor.proofs.votes.Votes.put_back.Goals as goal
 

@@ -1,9 +1,9 @@
 use Rattle.std.proofs.Common.{inl, inr, ◌≡◌, Option, Some, None, IfSome, IfErr, option_map, ap, sym, subst}
 use Rattle.std.proofs.lemmas.Result.{IfOk-weaker, IfErr-weaker}
-use Rattle.node_model.specs.Minds.{Mind}
+use Rattle.node_model.specs.Replicas.{ReplicaState}
 use Rattle.node.specs.Seen.{state_of}
 use Rattle.node.specs.Wanting.{MayWantOn}
-use Rattle.node.specs.Roles.{mind_of}
+use Rattle.node.specs.Replica.{replica_of}
 use Rattle.node_model.specs.declared.input.Input.TheVariants as input
 use Rattle.node_model.proofs.Fewness.{said_few}
 use Rattle.node_model.proofs.Meanings.{meaning_stays}
@@ -14,10 +14,10 @@ use Rattle.node.proofs.node.Node.receive.Goals as goal
 -- it took the message
 pub returns : goal.returns
 returns g c =
-    let m = mind_of c.in-Some.roles in
-    let n = mind_of c.receive-result.new.self in
+    let m = replica_of c.in-Some.replica in
+    let n = replica_of c.receive-result.new.self in
     let r = c.receive-result.result in
-    let up : (state_of c.args.self.now).up ≡ Some m = ap (λ o. option_map mind_of o) c.in-Some.is in
+    let up : (state_of c.args.self.now).up ≡ Some m = ap (λ o. option_map replica_of o) c.in-Some.is in
     record {
       steps = steps_up _ (state_of c.args.self.now) c.receive-result.new.storage m n (input.Message c.args.envelope.now) r _ up (record {
         takes = c.receive-result.ensures.takes;
@@ -38,18 +38,18 @@ returns g c =
             (λ same. ap (λ n. (state_of n).up) same)
             c.receive-result.ensures.takes;
       };
-      few = said_few (input.Message c.args.envelope.now) m n r c.see_small.ensures c.receive-result.ensures.takes;
-      wanted = subst (λ (o : Option Mind). IfSome o (λ m. IfErr r (λ _. MayWantOn m c.args.envelope.now.from c.args.envelope.now.message)))
+      few = said_few (input.Message c.args.envelope.now) m n r c.recall_bounds.ensures c.receive-result.ensures.takes;
+      wanted = subst (λ (o : Option ReplicaState). IfSome o (λ m. IfErr r (λ _. MayWantOn m c.args.envelope.now.from c.args.envelope.now.message)))
           (sym up) c.receive-result.ensures.wanted;
     }
 
 -- it is down
 pub returns-in_default : goal.returns-in_default
 returns-in_default g c =
-    let down : (state_of c.args.self.now).up ≡ None = ap (λ o. option_map mind_of o) c.in_default.is in
+    let down : (state_of c.args.self.now).up ≡ None = ap (λ o. option_map replica_of o) c.in_default.is in
     record {
       steps = steps_down _ _ _ down;
       meaning = stays_down _ _ down;
       few = tt;
-      wanted = subst (λ (o : Option Mind). IfSome o (λ m. MayWantOn m c.args.envelope.now.from c.args.envelope.now.message)) (sym down) tt;
+      wanted = subst (λ (o : Option ReplicaState). IfSome o (λ m. MayWantOn m c.args.envelope.now.from c.args.envelope.now.message)) (sym down) tt;
     }

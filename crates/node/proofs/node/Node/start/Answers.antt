@@ -1,14 +1,14 @@
 use Rattle.std.proofs.Common.{refl, subst}
 use Rattle.std.proofs.lemmas.Option.{same_Some}
-use Rattle.node_model.specs.Loading.{IsMindOf}
-use Rattle.node_model.specs.Minds.{Mind}
+use Rattle.node_model.specs.Loading.{IsReplicaOf}
+use Rattle.node_model.specs.Replicas.{ReplicaState}
 use Rattle.node.proofs.node.Node.start.Goals as goal
 
 pub returns-in-Ok-clause-member : goal.returns-in-Ok-clause-member
 returns-in-Ok-clause-member g c = record {
   number = refl;
   of_all = refl;
-  up = λ m up. subst (λ (x : Mind). IsMindOf c.args.id c.args.nodes x) (same_Some _ m up) c.in-Ok.ensures.own;
+  up = λ m up. subst (λ (x : ReplicaState). IsReplicaOf c.args.id c.args.nodes x) (same_Some _ m up) c.in-Ok.ensures.own;
 }
 
 pub returns-in-Ok-clause-loads : goal.returns-in-Ok-clause-loads

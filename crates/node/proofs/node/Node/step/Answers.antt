@@ -1,9 +1,9 @@
 use Rattle.std.proofs.Common.{◌≡◌, Option, Some, None, option_map, IfSome, IfErr, ap, sym, subst}
-use Rattle.node_model.specs.Minds.{Mind}
+use Rattle.node_model.specs.Replicas.{ReplicaState}
 use Rattle.node.specs.Wanting.{MayWant}
 use Rattle.std.proofs.lemmas.Result.{IfOk-weaker, IfErr-weaker}
 use Rattle.node.specs.Seen.{state_of}
-use Rattle.node.specs.Roles.{mind_of}
+use Rattle.node.specs.Replica.{replica_of}
 use Rattle.node_model.proofs.Fewness.{said_few}
 use Rattle.node_model.proofs.Meanings.{meaning_stays}
 use Rattle.node_model.proofs.Restoring.{meaning_restored}
@@ -13,10 +13,10 @@ use Rattle.node.proofs.node.Node.step.Goals as goal
 -- it took the input
 pub returns : goal.returns
 returns g c =
-    let m = mind_of c.in-Some.roles in
-    let n = mind_of c.take-result.new.self in
+    let m = replica_of c.in-Some.replica in
+    let n = replica_of c.take-result.new.self in
     let r = c.take-result.result in
-    let up : (state_of c.args.self.now).up ≡ Some m = ap (λ o. option_map mind_of o) c.in-Some.is in
+    let up : (state_of c.args.self.now).up ≡ Some m = ap (λ o. option_map replica_of o) c.in-Some.is in
     record {
       steps = steps_up _ (state_of c.args.self.now) c.take-result.new.storage m n c.args.input r _ up (record {
         takes = c.take-result.ensures.takes;
@@ -36,20 +36,20 @@ returns g c =
             (λ same. ap (λ n. (state_of n).up) same)
             c.take-result.ensures.takes;
       };
-      few = said_few c.args.input m n r c.see_small.ensures c.take-result.ensures.takes;
+      few = said_few c.args.input m n r c.recall_bounds.ensures c.take-result.ensures.takes;
       unwritten = λ memory alone. subst (λ s. g.S.Stable.reads c.args.self.now.storage s) (sym c.stop_after.ensures.storage)
           (c.take-result.ensures.unwritten memory alone);
-      wanted = subst (λ (o : Option Mind). IfSome o (λ m. IfErr r (λ _. MayWant m c.args.input))) (sym up) c.take-result.ensures.wanted;
+      wanted = subst (λ (o : Option ReplicaState). IfSome o (λ m. IfErr r (λ _. MayWant m c.args.input))) (sym up) c.take-result.ensures.wanted;
     }
 
 -- it is down
 pub returns-in_default : goal.returns-in_default
 returns-in_default g c =
-    let down : (state_of c.args.self.now).up ≡ None = ap (λ o. option_map mind_of o) c.in_default.is in
+    let down : (state_of c.args.self.now).up ≡ None = ap (λ o. option_map replica_of o) c.in_default.is in
     record {
       steps = steps_down _ _ _ down;
       meaning = stays_down _ _ down;
       few = tt;
       unwritten = λ memory. absurd cc;
-      wanted = subst (λ (o : Option Mind). IfSome o (λ m. MayWant m c.args.input)) (sym down) tt;
+      wanted = subst (λ (o : Option ReplicaState). IfSome o (λ m. MayWant m c.args.input)) (sym down) tt;
     }

@@ -4,7 +4,7 @@ use Rattle.sessions.specs.Machines.{MachineState, after_request}
 use Rattle.sessions.specs.Standing.{StandsForOneMore, RepliesOneMore}
 use Rattle.sessions.specs.declared.command.Command.{Command}
 use Rattle.sessions.specs.declared.command.Command.TheVariants.{Request}
-use Rattle.sessions.specs.declared.outcome.Outcome.{Outcome}
+use Rattle.sessions.specs.declared.session_reply.SessionReply.{SessionReply}
 use Rattle.sessions.proofs.Standing.{stands_noop, stands_request, replies_request}
 use Rattle.sessions.proofs.machine.Machine.execute.Goals as goal
 
@@ -36,5 +36,5 @@ returns-in-Request-clause-replies c =
     let facts = c.execute_request.ensures in
     IfOk-weaker c.execute_request.result _ _ (λ told says.
     subst (λ (d : Command). RepliesOneMore c.args.self.now d told) (sym c.in-Request.is)
-    (subst (λ (o : Outcome). RepliesOneMore c.args.self.now (Request c.in-Request.request) o) (sym says)
+    (subst (λ (o : SessionReply). RepliesOneMore c.args.self.now (Request c.in-Request.request) o) (sym says)
     (record { replies = λ l s. replies_request c.args.self.now l s c.in-Request.request facts.from_one }))) facts.reply

@@ -1,5 +1,5 @@
 use Rattle.std.proofs.Common.{rules}
-use Rattle.world.specs.Runs.{run_of}
+use Rattle.world.specs.Inner.{inner_of}
 use Rattle.world_model.proofs.FiredLemmas.{step_keeps_few}
 use Rattle.world.proofs.WorldSound.{step_kept, stays_safe}
 use Rattle.world.proofs.world.World.step.Goals as goal
@@ -7,11 +7,11 @@ use Rattle.world.proofs.world.World.step.Goals as goal
 -- the run behind it was left as its contract says
 pub invariant_of-self : goal.invariant_of-self
 invariant_of-self g c =
-    let old = run_of c.args.self.now.run in
-    let new = run_of c.step.new.self in
+    let old = inner_of c.args.self.now.inner in
+    let new = inner_of c.step.new.self in
     record {
       sound = step_kept g.S.Stable g.met.S.Stable.laws old new c.args.event c.step.result c.step.ensures.steps c.step.ensures.err
-          c.args.self.now.run.fleet c.args.self.now.sound;
+          c.args.self.now.inner.membership c.args.self.now.sound;
       few_faults = step_keeps_few g.S.Stable old new c.args.event c.step.result c.step.ensures.steps c.step.ensures.err
           c.args.self.now.few_faults;
     }

@@ -1,0 +1,16 @@
+use Rattle.std.proofs.Common.{◌≡◌, ◌++◌, List, ap, ◌∙◌, subst}
+use Rattle.wire.specs.declared.frames.envelope.Envelope.{Envelope}
+use Rattle.node_model.specs.Replicas.{ReplicaState}
+use Rattle.node_model.specs.Outputs.{sent}
+use Rattle.node.specs.Replica.{replica_of}
+use Rattle.node_model.specs.Sending.{snapshot_sends}
+use Rattle.node.proofs.replica.Replica.on_snap_ask.Goals as goal
+
+-- the room that was taken changes nothing of what is known
+pub returns-clause-takes : goal.returns-clause-takes
+returns-clause-takes c =
+    let told : ReplicaState → List Envelope = λ m. snapshot_sends m.accepting m.id c.args.from c.args.position c.args.number in
+    let now : ReplicaState = replica_of c.take_send_buffer-sends.new.self in
+    let said : c.of_frames.result ≡ sent (told now) =
+    c.of_frames.ensures ∙ ap sent (c.in_ok-tell_snapshot.ensures ∙ ap (λ (es : List Envelope). es ++ told now) c.take_send_buffer-sends.ensures.empty) in
+    (c.take_send_buffer-sends.ensures.same, subst (λ (m : ReplicaState). c.of_frames.result ≡ sent (told m)) c.take_send_buffer-sends.ensures.same said)

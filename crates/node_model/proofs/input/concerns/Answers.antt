@@ -1,5 +1,0 @@
-use Rattle.std.proofs.Common.{rules}
-use Rattle.node_model.proofs.input.concerns.Goals as goal
-
-pub returns-then-of_run : goal.returns-then-of_run
-returns-then-of_run c = search rules

@@ -1,0 +1,73 @@
+-- Lines that were read but for their documents, or for the members of their rounds.
+use Rattle.std.specs.Prelude.{◌≡◌, ℕ, List, ◌∷◌, codes, All}
+use Rattle.mfjson.specs.Document.{IsDocumentOf}
+use Rattle.mfjson.specs.declared.feature.Feature.{Feature}
+use Rattle.store.specs.declared.op.Op.TheVariants as op
+use Rattle.events.specs.declared.event.Event.TheVariants as event
+use Rattle.schedule.specs.Spelling.{Submits, WordsSpell}
+use Rattle.schedule.specs.Table.{IsNode, IsPrintable, NameEach}
+use Rattle.schedule.specs.Words.{words_of}
+use Rattle.schedule.specs.declared.action.Action.{Action}
+use Rattle.schedule.specs.declared.action.Action.TheVariants as act
+use Rattle.schedule.specs.declared.fault.ParseFault.{ParseFault}
+use Rattle.schedule.specs.declared.fault.ParseFault.TheVariants.{Line, Memory}
+use Rattle.schedule.specs.declared.fault.ScheduleFault.TheVariants.{Document, WordForm}
+use Rattle.schedule.specs.declared.keyword.Operation.TheVariants as operation
+use Rattle.schedule.specs.declared.pending_line.PendingLine.{PendingLine}
+use Rattle.schedule.specs.declared.pending_line.PendingLine.TheVariants.{Whole, Put, Round}
+use Rattle.schedule.specs.declared.pending_line.Putting.{Putting}
+use Rattle.schedule.specs.declared.pending_line.PendingRound.{PendingRound}
+
+-- the words put the document, whatever it stands for
+abbrev pub Puts : ℕ → List (List ℕ) → Putting → Type 0
+Puts n words p = (submits : Submits n operation.Put words p.node p.client p.number)
+    × (submits.others ≡ words_of p.document.now)
+
+-- the words have the node lead a round, whomever they name as members
+pub record LeadsRound (n : ℕ) (words : List (List ℕ)) (r : PendingRound) : Type 0 where
+  pub node_word : List ℕ
+  pub words_are : words ≡ codes "round" ∷ node_word ∷ words_of r.members.now
+  pub leader : IsNode n node_word r.node
+
+-- the words spell an action, or put a document, or have a node lead a round
+abbrev pub WordsGive : ℕ → List (List ℕ) → PendingLine → Type 0
+WordsGive n words (Whole action) = WordsSpell n words action
+WordsGive n words (Put putting) = Puts n words putting
+WordsGive n words (Round rounding) = LeadsRound n words rounding
+
+-- the same of a line
+pub record Gives (n : ℕ) (text : List ℕ) (unread : PendingLine) : Type 0 where
+  pub prints : All IsPrintable text
+  pub words : WordsGive n (words_of text) unread
+
+-- the submission of the feature
+abbrev pub submission : Putting → Feature → Action
+submission p f = act.Step (event.Submit p.node p.client p.number (op.Put f.id f.seq))
+
+-- with its document or its members read, it is the action
+abbrev pub Becomes : ℕ → PendingLine → Action → Type 0
+Becomes n (Whole whole) action = action ≡ whole
+Becomes n (Put p) action =
+    (feature : Feature) × IsDocumentOf p.document.now feature × (action ≡ submission p feature)
+Becomes n (Round r) action =
+    (members : List ℕ) × NameEach n (words_of r.members.now) members × (action ≡ act.Round r.node members)
+
+-- why a document was not read, at the line of this number: it stands for no feature, or a growth
+-- was refused
+abbrev pub IsNoDocument : ℕ → List ℕ → ParseFault → Type 0
+IsNoDocument number document (Line at) = (at.line ≡ number) × (at.fault ≡ Document)
+    × ((feature : Feature) → ¬ (IsDocumentOf document feature))
+IsNoDocument number document (Memory line) = line ≡ number
+
+-- why a list of nodes was not read, at the line of this number: its words don't name nodes of the run, or a growth
+-- was refused
+abbrev pub IsNoList : ℕ → ℕ → List ℕ → ParseFault → Type 0
+IsNoList n number list (Line at) = (at.line ≡ number) × (at.fault ≡ WordForm)
+    × ((nodes : List ℕ) → ¬ (NameEach n (words_of list) nodes))
+IsNoList n number list (Memory line) = line ≡ number
+
+-- why the line is no action
+abbrev pub IsNotRead : ℕ → ℕ → PendingLine → ParseFault → Type 0
+IsNotRead n number (Put p) fault = IsNoDocument number p.document.now fault
+IsNotRead n number (Round r) fault = IsNoList n number r.members.now fault
+IsNotRead n number (Whole whole) fault = ⊥

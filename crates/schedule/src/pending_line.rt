@@ -1,0 +1,112 @@
+//! Lines that were read but for what wants memory: their documents, and the members of their rounds.
+
+ghost use Rattle.std.specs.Prelude.{MatchResult};
+ghost use Rattle.mfjson.specs.Document.{IsDocumentOf};
+ghost use Rattle.schedule.specs.Table.{NameEach};
+ghost use Rattle.schedule.specs.PendingLines.{Becomes, IsNoDocument, IsNoList, IsNotRead};
+ghost use Rattle.schedule.specs.Words.{words_of};
+
+use super::action::Action;
+use super::fault::{LineFault, ParseFault, ScheduleFault};
+use super::forms::node;
+use super::members::Members;
+use super::words::Words;
+use events::Event;
+use mfjson::{Feature, MfFault};
+use sessions::Number;
+use std::alloc::Global;
+use store::Op;
+use wire::{NodeId, Nodes};
+
+/// A client asks a node to put the feature that a document stands for.
+#[derive(Drop)]
+pub(crate) struct Putting<'a> {
+    pub node: NodeId,
+    pub client: u8,
+    pub number: Number,
+    /// All that follows `put` and one blank.
+    pub document: &'a [u8],
+}
+
+/// A node leads a round of the members that are named.
+#[derive(Drop)]
+pub(crate) struct PendingRound<'a> {
+    pub node: NodeId,
+    /// All that follows the node and one blank.
+    pub members: &'a [u8],
+}
+
+/// What a line spells, before what wants memory is read.
+#[derive(Drop)]
+pub(crate) enum PendingLine<'a> {
+    /// Nothing of the line does.
+    Whole(Action),
+    Put(Putting<'a>),
+    Round(PendingRound<'a>),
+}
+
+/// The action, with its document or its members read. The line of a fault is the one of this number.
+pub(crate) fn finish_line(
+    alloc: Global,
+    nodes: Nodes,
+    number: u64,
+    unread: PendingLine,
+) -> Result<Action, ParseFault>
+    ensures { MatchResult result (Becomes nodes unread.entry) (IsNotRead nodes number unread.entry) }
+{
+    match unread {
+        PendingLine::Whole(action) => Ok(action),
+        PendingLine::Put(putting) => match feature_of(alloc, number, putting.document) {
+            Ok(feature) => Ok(Action::Step(Event::Submit {
+                node: putting.node,
+                client: putting.client,
+                number: putting.number,
+                op: Op::Put(feature.id, feature.seq),
+            })),
+            Err(fault) => Err(fault),
+        },
+        PendingLine::Round(rounding) => match members_of(alloc, nodes, number, rounding.members) {
+            Ok(members) => Ok(Action::Round {
+                node: rounding.node,
+                members,
+            }),
+            Err(fault) => Err(fault),
+        },
+    }
+}
+
+/// The feature that the document stands for, at the line of this number.
+fn feature_of(alloc: Global, number: u64, document: &[u8]) -> Result<Feature, ParseFault>
+    ensures { MatchResult result (IsDocumentOf document.now) (IsNoDocument number document.now) }
+{
+    match mfjson::read(alloc, document) {
+        Ok(feature) => Ok(feature),
+        Err(fault) => match fault {
+            MfFault::Memory => Err(ParseFault::Memory(number)),
+            _ => Err(ParseFault::Line(LineFault {
+                line: number,
+                fault: ScheduleFault::Document,
+            })),
+        },
+    }
+}
+
+/// The members that the words of the list name, at the line of this number.
+fn members_of(alloc: Global, nodes: Nodes, number: u64, list: &[u8]) -> Result<Members, ParseFault>
+    ensures { MatchResult result (NameEach nodes (words_of list.now)) (IsNoList nodes number list.now) }
+{
+    let mut words = Words::of(list);
+    let mut members = Vec::new(alloc);
+    while let Some(word) = words.next() {
+        let Some(member) = node(nodes, word) else {
+            return Err(ParseFault::Line(LineFault {
+                line: number,
+                fault: ScheduleFault::WordForm,
+            }));
+        };
+        if let Err(_) = members.push(member) {
+            return Err(ParseFault::Memory(number));
+        }
+    }
+    Ok(Members::new(members))
+}

@@ -1,5 +1,0 @@
-use Rattle.std.proofs.Common.{rules}
-use Rattle.sessions.proofs.outcome.Outcome.code.Goals as goal
-
-pub returns-in-Past : goal.returns-in-Past
-returns-in-Past c = search rules

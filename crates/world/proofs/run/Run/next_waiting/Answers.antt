@@ -1,5 +1,0 @@
-use Rattle.std.proofs.Common.{rules}
-use Rattle.world.proofs.run.Run.next_waiting.Goals as goal
-
-pub returns-then-self-len-clause-lowest : goal.returns-then-self-len-clause-lowest
-returns-then-self-len-clause-lowest g c = search rules

@@ -1,0 +1,5 @@
+use Rattle.world_model.proofs.Explained.{explained}
+use Rattle.world_model.proofs.explaining.one_log_explains.Goals as goal
+
+pub returns : goal.returns
+returns g c = explained
