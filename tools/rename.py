@@ -10,6 +10,8 @@ import re
 import subprocess
 import sys
 
+re._MAXCACHE = 1 << 16  # so many patterns
+
 # Crates: the old name, and the new one. Several old ones with one new name become one crate; its `lib.rt` and `Lib.antt` are joined by hand.
 CRATES = {
     "minds": "node_model",
@@ -138,6 +140,109 @@ FUNCTIONS = [
 WORDS = [
     ("world_model.specs.Telling", "Tells", "WorldIsBacked"),
     ("world_model.specs.Telling", "Knows", "ReplicaIsBacked"),
+    ("conformance.specs.Rounds", "Answers", "SceneAnswers"),
+    ("conformance.specs.Tasks", "Asks", "AsksForTask"),
+    ("conformance.specs.Tasks", "Names", "NamesTask"),
+    ("conformance.specs.Learners", "HasLearnt", "HasLearntSlots"),
+    ("conformance.specs.Learners", "Tells", "TwoNodesTell"),
+    ("conformance.specs.Faults", "IsNoDocument", "DocumentIsRefused"),
+    ("conformance.specs.Outcomes", "IsTold", "OutcomeIsTold"),
+    ("conformance.specs.Steps", "Passes", "StepPasses"),
+    ("conformance.specs.Leaders", "Submits", "RequestWaits"),
+    ("predicates.specs.Questions", "Answers", "AnswersQuestion"),
+    ("predicates.specs.Courses", "IsSmall", "CourseIsSmall"),
+    ("record_files.specs.Asking", "Answers", "StorageAnswers"),
+    ("record_files.specs.Asking", "Fails", "StorageFails"),
+    ("record_files.specs.Opening", "IsRefused", "OpeningIsRefused"),
+    ("learner.specs.Tallies", "AreApart", "TalliesAreApart"),
+    ("learner.specs.Tallies", "IsPlace", "IsTallyPlace"),
+    ("learner.specs.Learning", "Counts", "NewsCounts"),
+    ("learner.specs.Learning", "IsUntold", "CommandIsUntold"),
+    ("learner.specs.Protocol", "MayLearn", "LearnerMayLearn"),
+    ("proposer.specs.Protocol", "AreApart", "ProposalsAreApart"),
+    ("slot_table.specs.Places", "AreApart", "RowIsApart"),
+    ("sqlstable.specs.Rows", "AreApart", "RowsAreApart"),
+    ("sqlstable.specs.Storage", "Changes", "TableChanges"),
+    ("sqlstable.specs.Storage", "Reads", "TableReads"),
+    ("sqlstable.specs.Storage", "ReadFails", "TableReadFails"),
+    ("sqlstable.specs.Texts", "IsPut", "StatementPuts"),
+    ("sqlstable.specs.States", "IsSettled", "TableIsSettled"),
+    ("sqlstable.specs.States", "IsSound", "TableIsSound"),
+    ("mfjson.specs.Tokens", "AreRead", "ItemsAreRead"),
+    ("mfjson.specs.Tokens", "Says", "TokensSay"),
+    ("mfjson.specs.Tokens", "Told", "ValueIsTold"),
+    ("mfjson.specs.Texts", "Lists", "ListsPoints"),
+    ("mfjson.specs.Document", "Shows", "TextShows"),
+    ("mfjson.specs.Document", "StandsFor", "IsFeatureValue"),
+    ("mfjson.specs.Faults", "IsFirst", "IsFirstBroken"),
+    ("mfjson.specs.Faults", "IsPlace", "IsPlaceValue"),
+    ("schedule.specs.Reading", "AreRead", "LinesAreRead"),
+    ("schedule.specs.PendingLines", "Gives", "LineGives"),
+    ("schedule.specs.PendingLines", "IsNoDocument", "DocumentWasRefused"),
+    ("schedule.specs.Codes", "IsLowest", "IsLowestFault"),
+    ("schedule.specs.Schedules", "IsReached", "LineIsReached"),
+    ("schedule.specs.Schedules", "IsRefusal", "IsParseRefusal"),
+    ("schedule.specs.Submissions", "Names", "NamesAsker"),
+    ("schedule.specs.Spelling", "Submits", "SubmitsRequest"),
+    ("schedule.specs.Table", "Says", "PlaceSays"),
+    ("schedule.specs.Numbers", "Writes", "WritesNumber"),
+    ("sessions.specs.Meaning", "AreSound", "RequestsAreValid"),
+    ("sessions.specs.Meaning", "IsLawful", "LabellingIsLawful"),
+    ("synod.specs.Invariant", "AreSound", "RecordsAreSound"),
+    ("synod.specs.Invariant", "IsSound", "MindIsSound"),
+    ("synod.specs.Invariant", "IsLawful", "HistoryIsLawful"),
+    ("synod.specs.Invariant", "IsUsed", "ProposalIsUsed"),
+    ("synod.specs.Invariant", "Told", "VotesWereTold"),
+    ("synod.specs.Records", "Records", "NodeRecords"),
+    ("synod.specs.Records", "Write", "LoggedWrite"),
+    ("acceptor.specs.Forms", "BallotFits", "BallotFitsRecord"),
+    ("acceptor.specs.Forms", "VoteFits", "VoteFitsRecord"),
+    ("acceptor.specs.Forms", "IsText", "IsSnapshotText"),
+    ("acceptor.specs.Loading", "BeginsWith", "MachineBeginsWith"),
+    ("acceptor.specs.Accepting", "Write", "OptionalWrite"),
+    ("cluster.specs.Pumps", "BreaksOff", "PumpBreaksOff"),
+    ("cluster.specs.Indexes", "IsFirst", "IsFirstSpelled"),
+    ("cluster.specs.Lowest", "IsLowest", "IsLowestFrame"),
+    ("stable.specs.Script", "Changes", "ScriptChanges"),
+    ("stable.specs.Script", "Fails", "ScriptFails"),
+    ("stable.specs.Script", "Reads", "ScriptReads"),
+    ("stable.specs.Script", "ReadFails", "ScriptReadFails"),
+    ("stable.specs.Script", "Shows", "PutShows"),
+    ("stable.specs.ScriptLaws", "Inside", "InsideScript"),
+    ("stable.specs.Records", "IsAscending", "KeysAscend"),
+    ("timeindex.specs.Ascending", "IsAscending", "IdsAscend"),
+    ("timeindex.specs.Ascending", "IsAt", "ElementIsAt"),
+    ("timeindex.specs.Ascending", "IsGap", "IsElementGap"),
+    ("store.specs.Places", "IsAt", "FeatureIsAt"),
+    ("store.specs.Places", "IsGap", "IsFeatureGap"),
+    ("store.specs.Indexed", "IsKept", "IndexIsKept"),
+    ("store.specs.Operations", "IsSound", "OpIsValid"),
+    ("restrict.specs.Inside", "IsFirst", "IsFirstPoint"),
+    ("tpoint.specs.Lowest", "IsLowest", "IsInLowestTerms"),
+    ("tpoint.specs.Moving", "IsPlace", "IsPositionOf"),
+    ("tpoint.specs.Pieces", "Piece", "OnPiece"),
+    ("fields.specs.Reading", "Fails", "FieldFails"),
+    ("fields.specs.Reading", "Gives", "FieldGives"),
+    ("wire.specs.Reading", "MayWant", "ReadMayWant"),
+    ("wire.specs.Promises", "IsTold", "IsToldVote"),
+    ("replay.specs.Runs", "IsDone", "ActionIsDone"),
+    ("replay.specs.Runs", "IsInterrupted", "RunIsInterrupted"),
+    ("replay.specs.Runs", "IsRefused", "ActionIsRefused"),
+    ("replay.specs.Runs", "IsStopped", "RunIsStopped"),
+    ("node_model.specs.Taking", "Counts", "PartCounts"),
+    ("node_model.specs.Replicas", "IsSmall", "ReplicaIsSmall"),
+    ("world_model.specs.Rounds", "BreaksOff", "RoundBreaksOff"),
+    ("world_model.specs.Rounds", "EndsIn", "RoundEndsIn"),
+    ("world_model.specs.Rounds", "IsAt", "PositionIsAt"),
+    ("world_model.specs.Rounds", "IsDecided", "SlotIsDecided"),
+    ("world_model.specs.Rounds", "IsInterrupted", "RoundIsInterrupted"),
+    ("world_model.specs.Rounds", "IsRefused", "RoundIsRefused"),
+    ("world_model.specs.Progress", "IsStopped", "RoundIsStopped"),
+    ("world_model.specs.Progress", "HasLearnt", "NodeHasLearnt"),
+    ("world_model.specs.Progress", "Restarts", "RestartsNode"),
+    ("world_model.specs.Starting", "HoldsRecords", "StorageHoldsRecords"),
+    ("world_model.specs.Starting", "IsUsed", "StorageIsUsed"),
+    ("world_model.specs.Safety", "IsSound", "WorldInvariant"),
 ]
 
 TEXTS = (".rt", ".antt", ".edit", ".md", ".py", ".txt", ".c", ".1", ".toml")
@@ -207,7 +312,7 @@ def names_for(path):
         yield re.compile(r"(?<=\bRattle\.%s\.proofs\.%s\.)%s\b" % (home, before.replace(".", r"\."), old)), new, False
         if crate in crates.split():
             yield re.compile(call), new, False
-        if path == "crates/%s/src/%s.rt" % (home, before.split(".")[0]) and "/src/" in path:
+        if path == "crates/%s/src/%s.rt" % (home, before.split(".")[0]):
             yield re.compile(r"(?<=\bfn )%s(?=[<(])" % old), new, False
 
 
@@ -249,8 +354,11 @@ def imports(text, module):
 def with_words(path, text):
     """The words that several files define, each by the module from which this file has it."""
     for module, old, new in WORDS:
+        if not re.search(r"\b%s\b" % old, text):
+            continue
+        text = re.sub(r"(?<=\bRattle\.%s\.)%s\b" % (module.replace(".", r"\."), old), new, text)
         sources = [module] + HANDED.get((module, old), [])
-        word = r"(?<![\w.])%s\b(?!')" % old
+        word = r"(?<![\w.-])%s\b(?!['-])" % old
         home = "crates/%s.antt" % module.replace(".", "/")
         if path == home:
             text = in_parts(path, text, lambda part, is_prose: part if is_prose else re.sub(word, new, part))

@@ -8,7 +8,7 @@ use Rattle.stable.specs.declared.key.Key.TheVariants as key
 use Rattle.wire.specs.RecordForms.{Checkpointed, checkpoint_bytes, IsCheckpointRecord}
 use Rattle.wire.proofs.RecordLaws.{one_checkpoint}
 use Rattle.acceptor.specs.Forms.{CheckpointFits}
-use Rattle.acceptor.specs.Loading.{IsCheckpointOf, BeginsWith, IsMachineOf}
+use Rattle.acceptor.specs.Loading.{IsCheckpointOf, MachineBeginsWith, IsMachineOf}
 
 -- a checkpoint that fits is spelled as a record
 pub record_of : (bytes : List ℕ) (c : Checkpointed) → CheckpointFits c → bytes ≡ checkpoint_bytes c → IsCheckpointRecord bytes c
@@ -23,7 +23,7 @@ one_that_fits bytes c d fits_c fits_d spelled_c spelled_d =
 
 -- ---- with which commands a node begins
 -- no checkpoint: with none
-pub begins_with_none : (r : Records) (m : MachineState) → r key.Checkpoint ≡ None → StandsFor m [] → BeginsWith r m
+pub begins_with_none : (r : Records) (m : MachineState) → r key.Checkpoint ≡ None → StandsFor m [] → MachineBeginsWith r m
 begins_with_none r m none stands = record {
   stands = λ base is.
       let nothing : base ≡ [] = subst (λ (o : Option (List ℕ)). MatchOption o (base ≡ []) (IsCheckpointOf base)) none is in
@@ -32,7 +32,7 @@ begins_with_none r m none stands = record {
 
 -- a checkpoint: with each list that has its text
 pub begins_with_text : (r : Records) (m : MachineState) (c : Checkpointed) → r key.Checkpoint ≡ Some (checkpoint_bytes c)
-    → CheckpointFits c → StandsForEach c.text m → BeginsWith r m
+    → CheckpointFits c → StandsForEach c.text m → MachineBeginsWith r m
 begins_with_text r m c there fits each = record {
   stands = λ base is.
       let of : IsCheckpointOf base (checkpoint_bytes c) =
@@ -42,7 +42,7 @@ begins_with_text r m c there fits each = record {
 }
 
 -- no other record tells
-pub begins_same : (r q : Records) (m : MachineState) → q key.Checkpoint ≡ r key.Checkpoint → BeginsWith r m → BeginsWith q m
+pub begins_same : (r q : Records) (m : MachineState) → q key.Checkpoint ≡ r key.Checkpoint → MachineBeginsWith r m → MachineBeginsWith q m
 begins_same r q m same begins = record {
   stands = λ base is.
       begins.stands base (subst (λ (o : Option (List ℕ)). MatchOption o (base ≡ []) (IsCheckpointOf base)) same is);

@@ -11,9 +11,9 @@ use Rattle.sessions.specs.declared.command.Command.{Command}
 use Rattle.stable.specs.Records.{Records, Change, changed, with_record, without_votes_below}
 use Rattle.stable.specs.declared.key.Key.TheVariants as key
 use Rattle.wire.specs.RecordForms.{Checkpointed, checkpoint_bytes}
-use Rattle.acceptor.specs.Accepting.{Accepting, Write, put, IsGreatest, sealed_of, RecordsSay, IsCovered, records_after}
+use Rattle.acceptor.specs.Accepting.{Accepting, OptionalWrite, put, IsGreatest, sealed_of, RecordsSay, IsCovered, records_after}
 use Rattle.acceptor.specs.Accepting.{after_prepare, after_accept, checkpoint_change, after_checkpoint, IsTrimWrite, after_trim}
-use Rattle.acceptor.specs.Forms.{BallotFits, CheckpointFits, VoteFits, IsText}
+use Rattle.acceptor.specs.Forms.{BallotFitsRecord, CheckpointFits, VoteFitsRecord, IsSnapshotText}
 use Rattle.acceptor.specs.Loading.{raised, with_seen}
 use Rattle.acceptor.specs.Spelling.{vote_bytes}
 use Rattle.acceptor.proofs.RecordLemmas.{RecordsSay-holds, elsewhere, put_elsewhere, raised_cases, unmapped, none_unless, begun, same_promise}
@@ -42,24 +42,24 @@ with_checkpoint r a c p says fits greatest = record {
 }
 
 -- ---- a checkpoint is written
-sealed_fits : (c : Option Checkpointed) → IfSome c CheckpointFits → IfSome (sealed_of c) BallotFits
+sealed_fits : (c : Option Checkpointed) → IfSome c CheckpointFits → IfSome (sealed_of c) BallotFitsRecord
 sealed_fits None fits = tt
 sealed_fits (Some c) fits = fits.promise
 
 -- a promise is one that stands in a record
-pub promise_fits : (r : Records) (a : Accepting) → RecordsSay r a → IfSome a.promise BallotFits
+pub promise_fits : (r : Records) (a : Accepting) → RecordsSay r a → IfSome a.promise BallotFitsRecord
 promise_fits r a says =
     elim says.promise.among_them [
-      | inl e ↦ subst (λ (o : Option Ballot). IfSome o BallotFits) (sym e) says.promised_fits
-      | inr (inl e) ↦ subst (λ (o : Option Ballot). IfSome o BallotFits) (sym (e ∙ says.sealed))
+      | inl e ↦ subst (λ (o : Option Ballot). IfSome o BallotFitsRecord) (sym e) says.promised_fits
+      | inr (inl e) ↦ subst (λ (o : Option Ballot). IfSome o BallotFitsRecord) (sym (e ∙ says.sealed))
           (sealed_fits says.checkpointed says.checkpoint_fits)
       | inr (inr w) ↦
-          let fits : VoteFits w.1 = subst (λ (o : Option (Vote Command)). IfSome o VoteFits) w.2 (says.votes_fit w.0) in
-          subst (λ (o : Option Ballot). IfSome o BallotFits) (sym w.3) fits.ballot
+          let fits : VoteFitsRecord w.1 = subst (λ (o : Option (Vote Command)). IfSome o VoteFitsRecord) w.2 (says.votes_fit w.0) in
+          subst (λ (o : Option Ballot). IfSome o BallotFitsRecord) (sym w.3) fits.ballot
     ]
 
 -- records that say what an acceptor holds say so after a checkpoint and its write
-pub checkpoint_kept : (r : Records) (a : Accepting) (position : ℕ) (text : List ℕ) → 1 ≤ position → position ≤ SLOTS → IsText text
+pub checkpoint_kept : (r : Records) (a : Accepting) (position : ℕ) (text : List ℕ) → 1 ≤ position → position ≤ SLOTS → IsSnapshotText text
     → RecordsSay r a → RecordsSay (changed r (checkpoint_change a position text)) (after_checkpoint a position text)
 checkpoint_kept r a position text begun_ in_log is_text says =
     with_checkpoint r a (record { position = position; promise = a.promise; text = text }) a.promise says
@@ -171,7 +171,7 @@ trimmed_say r a covered says = record {
   promise = still_greatest a says.promised covered says.promise;
   promised_fits = says.promised_fits;
   checkpoint_fits = says.checkpoint_fits;
-  votes_fit = λ s. of_kept a VoteFits s (says.votes_fit s);
+  votes_fit = λ s. of_kept a VoteFitsRecord s (says.votes_fit s);
 }
 
 -- where no vote stands below the floor, none goes
@@ -191,14 +191,14 @@ pub untrimmed_is : (a : Accepting) → IsTrimWrite a None → a ≡ after_trim a
 untrimmed_is a none = trimmed_is a a refl refl refl refl (λ s. sym (none_goes a none s))
 
 -- records that say what an acceptor holds say so after a trim and its write
-pub trim_kept : (r : Records) (a : Accepting) (w : Write) → IsCovered a → IsTrimWrite a w → RecordsSay r a
+pub trim_kept : (r : Records) (a : Accepting) (w : OptionalWrite) → IsCovered a → IsTrimWrite a w → RecordsSay r a
     → RecordsSay (records_after r w) (after_trim a)
 trim_kept r a None covered is says = RecordsSay-holds r a (after_trim a) refl refl refl refl (none_goes a is) says
 trim_kept r a (Some change) covered is says =
     subst (λ (x : Change). RecordsSay (changed r x) (after_trim a)) (sym is.1) (trimmed_say r a covered says)
 
 -- what is loaded after a trim has promised what was promised before
-pub promise_outlives_trim : (r : Records) (a b : Accepting) (w : Write) → IsCovered a → IsTrimWrite a w → RecordsSay r a
+pub promise_outlives_trim : (r : Records) (a b : Accepting) (w : OptionalWrite) → IsCovered a → IsTrimWrite a w → RecordsSay r a
     → RecordsSay (records_after r w) b → rank_of b.promise ≡ rank_of a.promise
 promise_outlives_trim r a b w covered is says loaded =
     one_promise (records_after r w) b (after_trim a) loaded (trim_kept r a w covered is says)

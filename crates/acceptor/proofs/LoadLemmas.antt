@@ -19,7 +19,7 @@ use Rattle.stable.specs.declared.key.Key.TheVariants.{Checkpoint}
 use Rattle.stable.proofs.KeyLemmas.{same_rank as same_key}
 use Rattle.acceptor.specs.Accepting.{Accepting, RecordsSay}
 use Rattle.acceptor.specs.Forms.{IsOfItsForm, AreOfTheirForm}
-use Rattle.acceptor.specs.Loading.{with_seen, records_at, BeginsWith}
+use Rattle.acceptor.specs.Loading.{with_seen, records_at, MachineBeginsWith}
 use Rattle.acceptor.proofs.CheckpointLemmas.{begins_same}
 use Rattle.acceptor.proofs.RecordLemmas.{RecordsSay-same, none_unless}
 
@@ -119,8 +119,8 @@ says_more r now keys i key a b sorted lt is same taken says =
 pub begins_more : (r now : Records) (keys : List Key) (i : ℕ) (key : Key) (m n : MachineState) → IsStrictlySortedBy key_cmp keys
     → i < length keys
     → key ≡ get_or keys i key → now ≡ r
-    → ((seen : Records) → seen key ≡ None → BeginsWith seen m → BeginsWith (with_seen seen key (now key)) n)
-    → BeginsWith (records_at r (take i keys)) m → BeginsWith (records_at r (take (i + 1) keys)) n
+    → ((seen : Records) → seen key ≡ None → MachineBeginsWith seen m → MachineBeginsWith (with_seen seen key (now key)) n)
+    → MachineBeginsWith (records_at r (take i keys)) m → MachineBeginsWith (records_at r (take (i + 1) keys)) n
 begins_more r now keys i key m n sorted lt is same taken begins =
     let seen : Records = records_at r (take i keys) in
     begins_same (with_seen seen key (now key)) (records_at r (take (i + 1) keys)) n (seen_then r now keys i key lt is same Checkpoint)
@@ -152,7 +152,7 @@ pub says_all : (r : Records) (keys : List Key) (a : Accepting) → ((k : Key) �
 says_all r keys a told says = RecordsSay-same (records_at r keys) r a (all_at r keys told) says
 
 pub begins_all : (r : Records) (keys : List Key) (m : MachineState) → ((k : Key) → Contains keys k ↔ IsSome (r k))
-    → BeginsWith (records_at r keys) m → BeginsWith r m
+    → MachineBeginsWith (records_at r keys) m → MachineBeginsWith r m
 begins_all r keys m told begins = begins_same (records_at r keys) r m (all_at r keys told Checkpoint) begins
 
 pub forms_all : (r : Records) (keys : List Key) → ((k : Key) → Contains keys k ↔ IsSome (r k)) → OfTheirForm r keys → AreOfTheirForm r

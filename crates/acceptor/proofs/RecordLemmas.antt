@@ -13,11 +13,11 @@ use Rattle.stable.specs.Records.{rank as place}
 use Rattle.stable.specs.declared.key.Key.{Key}
 use Rattle.stable.specs.declared.key.Key.TheVariants as key
 use Rattle.stable.proofs.KeyLemmas.{same_rank as same_key}
-use Rattle.acceptor.specs.Forms.{BallotFits, VoteFits, IsOfItsForm}
+use Rattle.acceptor.specs.Forms.{BallotFitsRecord, VoteFitsRecord, IsOfItsForm}
 use Rattle.std.specs.Prelude.{◌==◌, if◌then◌else◌}
 use Rattle.acceptor.proofs.BallotLemmas.{same_rank}
 use Rattle.acceptor.proofs.VerdictLemmas.{judged, refused, behind, taken}
-use Rattle.acceptor.specs.Accepting.{Accepting, Write, put, RecordsSay, Taken, verdict, records_after}
+use Rattle.acceptor.specs.Accepting.{Accepting, OptionalWrite, put, RecordsSay, Taken, verdict, records_after}
 use Rattle.acceptor.specs.Accepting.{prepare_write, after_prepare, IsAcceptWrite, after_accept}
 use Rattle.acceptor.specs.Loading.{raised, with_seen}
 use Rattle.acceptor.specs.Spelling.{ballot_bytes, vote_bytes}
@@ -91,7 +91,7 @@ RecordsSay-same r q a same says =
     }
 
 -- a promise in its record that is not below the old one
-pub RecordsSay-promise : (r : Records) (a : Accepting) (b : Ballot) → BallotFits b → RecordsSay r a → rank_of a.promise ≤ rank b
+pub RecordsSay-promise : (r : Records) (a : Accepting) (b : Ballot) → BallotFitsRecord b → RecordsSay r a → rank_of a.promise ≤ rank b
     → RecordsSay (with_record r key.Promise (ballot_bytes b)) (record a { promise = Some b })
 RecordsSay-promise r a b fits says le =
     record {
@@ -151,7 +151,7 @@ prepare_leaves_round r a b first =
       ]
     ]
 
-pub accept_leaves_round : (r : Records) (a : Accepting) (v : Vote Command) (w : Write) → IsAcceptWrite a v w
+pub accept_leaves_round : (r : Records) (a : Accepting) (v : Vote Command) (w : OptionalWrite) → IsAcceptWrite a v w
     → records_after r w key.Round ≡ r key.Round
 accept_leaves_round r a v None is = refl
 accept_leaves_round r a v (Some w) is =
@@ -161,12 +161,12 @@ accept_leaves_round r a v (Some w) is =
       | taken same high from ↦
           let written : Some w ≡ Some (Sets (key.Vote v.slot) (vote_bytes v)) =
           is.cast (record { taken = same; fresh = λ stands. let none = is.already stands in absurd (cc) }) in
-          subst (λ (x : Write). records_after r x key.Round ≡ r key.Round) (sym written)
+          subst (λ (x : OptionalWrite). records_after r x key.Round ≡ r key.Round) (sym written)
           (elsewhere r (key.Vote v.slot) key.Round (Some (vote_bytes v)) (λ e. absurd (omega arith)))
     ]
 
 -- a vote in its record whose ballot is not below the promise
-pub RecordsSay-vote : (r : Records) (a : Accepting) (v : Vote Command) → VoteFits v → RecordsSay r a → rank_of a.promise ≤ rank v.ballot
+pub RecordsSay-vote : (r : Records) (a : Accepting) (v : Vote Command) → VoteFitsRecord v → RecordsSay r a → rank_of a.promise ≤ rank v.ballot
     → RecordsSay (with_record r (key.Vote v.slot) (vote_bytes v)) (record a { promise = Some v.ballot; vote = put a.vote v.slot (Some v) })
 RecordsSay-vote r a v fits says le =
     record {
@@ -188,7 +188,7 @@ RecordsSay-vote r a v fits says le =
       text = says.text;
       checkpoint_fits = says.checkpoint_fits;
       promised_fits = says.promised_fits;
-      votes_fit = λ s. IfSome-put a.vote v.slot s v VoteFits (λ e. fits) (says.votes_fit s);
+      votes_fit = λ s. IfSome-put a.vote v.slot s v VoteFitsRecord (λ e. fits) (says.votes_fit s);
     }
 
 -- ---- records that are seen one after the other
@@ -214,7 +214,7 @@ absent r k fresh q =
 pub RecordsSay-none : (r : Records) (k : Key) (a : Accepting) → r k ≡ None → RecordsSay r a → RecordsSay (with_seen r k None) a
 RecordsSay-none r k a fresh says = RecordsSay-same r (with_seen r k None) a (absent r k fresh) says
 
-low_promise : (r : Records) (a : Accepting) (b : Ballot) → BallotFits b → r key.Promise ≡ None → RecordsSay r a → rank b ≤ rank_of a.promise
+low_promise : (r : Records) (a : Accepting) (b : Ballot) → BallotFitsRecord b → r key.Promise ≡ None → RecordsSay r a → rank b ≤ rank_of a.promise
     → RecordsSay (with_record r key.Promise (ballot_bytes b)) a
 low_promise r a b fits fresh says le =
     let none : says.promised ≡ None = unmapped ballot_bytes says.promised (sym says.promise_record ∙ fresh) in
@@ -247,7 +247,7 @@ other a v s w none some e =
     let both : a.vote s ≡ None = ap a.vote e ∙ none in
     absurd cc
 
-low_vote : (r : Records) (a : Accepting) (v : Vote Command) → VoteFits v → r (key.Vote v.slot) ≡ None → RecordsSay r a
+low_vote : (r : Records) (a : Accepting) (v : Vote Command) → VoteFitsRecord v → r (key.Vote v.slot) ≡ None → RecordsSay r a
     → rank v.ballot ≤ rank_of a.promise
     → RecordsSay (with_record r (key.Vote v.slot) (vote_bytes v)) (record a { vote = put a.vote v.slot (Some v) })
 low_vote r a v fits fresh says le =
@@ -277,11 +277,11 @@ low_vote r a v fits fresh says le =
       text = says.text;
       checkpoint_fits = says.checkpoint_fits;
       promised_fits = says.promised_fits;
-      votes_fit = λ s. IfSome-put a.vote v.slot s v VoteFits (λ e. fits) (says.votes_fit s);
+      votes_fit = λ s. IfSome-put a.vote v.slot s v VoteFitsRecord (λ e. fits) (says.votes_fit s);
     }
 
 -- record Promise is seen for the first time
-pub RecordsSay-see_promise : (r : Records) (a : Accepting) (b : Ballot) → BallotFits b → r key.Promise ≡ None → RecordsSay r a
+pub RecordsSay-see_promise : (r : Records) (a : Accepting) (b : Ballot) → BallotFitsRecord b → r key.Promise ≡ None → RecordsSay r a
     → RecordsSay (with_seen r key.Promise (Some (ballot_bytes b))) (record a { promise = raised a.promise b })
 RecordsSay-see_promise r a b fits fresh says =
     elim (raised_cases a.promise b) [
@@ -292,7 +292,7 @@ RecordsSay-see_promise r a b fits fresh says =
     ]
 
 -- the record of a vote is seen for the first time
-pub RecordsSay-see_vote : (r : Records) (a : Accepting) (v : Vote Command) → VoteFits v → r (key.Vote v.slot) ≡ None → RecordsSay r a
+pub RecordsSay-see_vote : (r : Records) (a : Accepting) (v : Vote Command) → VoteFitsRecord v → r (key.Vote v.slot) ≡ None → RecordsSay r a
     → RecordsSay (with_seen r (key.Vote v.slot) (Some (vote_bytes v)))
     (record a { promise = raised a.promise v.ballot; vote = put a.vote v.slot (Some v) })
 RecordsSay-see_vote r a v fits fresh says =
@@ -335,13 +335,13 @@ RecordsSay-nothing =
     }
 
 -- ---- records of their form
-pub promise_of_its_form : (found : Option (List ℕ)) (bytes : List ℕ) (b : Ballot) → found ≡ Some bytes → BallotFits b
+pub promise_of_its_form : (found : Option (List ℕ)) (bytes : List ℕ) (b : Ballot) → found ≡ Some bytes → BallotFitsRecord b
     → bytes ≡ ballot_bytes b
     → IfSome found (IsOfItsForm key.Promise)
 promise_of_its_form found bytes b e fits spelled =
     subst (λ (o : Option (List ℕ)). IfSome o (IsOfItsForm key.Promise)) (sym e) (b, fits, spelled)
 
-pub vote_of_its_form : (found : Option (List ℕ)) (slot : ℕ) (bytes : List ℕ) (v : Vote Command) → found ≡ Some bytes → VoteFits v
+pub vote_of_its_form : (found : Option (List ℕ)) (slot : ℕ) (bytes : List ℕ) (v : Vote Command) → found ≡ Some bytes → VoteFitsRecord v
     → bytes ≡ vote_bytes v
     → IfSome found (IsOfItsForm (key.Vote slot))
 vote_of_its_form found slot bytes v e fits spelled =
@@ -352,7 +352,7 @@ pub same_promise : (p : Option Ballot) (b : Ballot) → rank b ≡ rank_of p →
 same_promise None b e = absurd (begun b (omega arith))
 same_promise (Some p) b e = ap Some (same_rank p b (sym e))
 
-prepare_taken : (r : Records) (a : Accepting) (b : Ballot) → BallotFits b → RecordsSay r a → rank_of a.promise ≤ rank b
+prepare_taken : (r : Records) (a : Accepting) (b : Ballot) → BallotFitsRecord b → RecordsSay r a → rank_of a.promise ≤ rank b
     → RecordsSay (records_after r (if rank b == rank_of a.promise then None else Some (Sets key.Promise (ballot_bytes b))))
     (record a { promise = Some b })
 prepare_taken r a b fits says le =
@@ -362,7 +362,7 @@ prepare_taken r a b fits says le =
     ]
 
 -- records that say what an acceptor holds say so after a prepare and its write
-pub prepare_kept : (r : Records) (a : Accepting) (b : Ballot) (first : ℕ) → BallotFits b → RecordsSay r a
+pub prepare_kept : (r : Records) (a : Accepting) (b : Ballot) (first : ℕ) → BallotFitsRecord b → RecordsSay r a
     → RecordsSay (records_after r (prepare_write a b first)) (after_prepare a b first)
 prepare_kept r a b first fits says =
     elim (judged a b first) [
@@ -403,7 +403,7 @@ vote_stands r a v says le stands =
       votes_fit = says.votes_fit;
     })
 
-accept_taken : (r : Records) (a : Accepting) (v : Vote Command) (w : Write) → VoteFits v → IsAcceptWrite a v w → RecordsSay r a
+accept_taken : (r : Records) (a : Accepting) (v : Vote Command) (w : OptionalWrite) → VoteFitsRecord v → IsAcceptWrite a v w → RecordsSay r a
     → verdict a v.ballot v.slot ≡ Taken
     → rank_of a.promise ≤ rank v.ballot → RecordsSay (records_after r w)
     (record a { promise = Some v.ballot; vote = put a.vote v.slot (Some v) })
@@ -415,20 +415,20 @@ accept_taken r a v None fits is says same high =
 accept_taken r a v (Some w) fits is says same high =
     let written : Some w ≡ Some (Sets (key.Vote v.slot) (vote_bytes v)) =
     is.cast (record { taken = same; fresh = λ stands. let none = is.already stands in absurd (cc) }) in
-    subst (λ (x : Write). RecordsSay (records_after r x) (record a { promise = Some v.ballot; vote = put a.vote v.slot (Some v) }))
+    subst (λ (x : OptionalWrite). RecordsSay (records_after r x) (record a { promise = Some v.ballot; vote = put a.vote v.slot (Some v) }))
     (sym written)
     (RecordsSay-vote r a v fits says high)
 
 -- records that say what an acceptor holds say so after an accept and its write
-pub accept_kept : (r : Records) (a : Accepting) (v : Vote Command) (w : Write) → VoteFits v → IsAcceptWrite a v w → RecordsSay r a
+pub accept_kept : (r : Records) (a : Accepting) (v : Vote Command) (w : OptionalWrite) → VoteFitsRecord v → IsAcceptWrite a v w → RecordsSay r a
     → RecordsSay (records_after r w) (after_accept a v)
 accept_kept r a v w fits is says =
     elim (judged a v.ballot v.slot) [
       | refused p other ↦
           let none : w ≡ None = is.untaken (λ same. absurd (cc)) in
-          rw other (subst (λ (x : Write). RecordsSay (records_after r x) a) (sym none) says)
+          rw other (subst (λ (x : OptionalWrite). RecordsSay (records_after r x) a) (sym none) says)
       | behind floor other ↦
           let none : w ≡ None = is.untaken (λ same. absurd (cc)) in
-          rw other (subst (λ (x : Write). RecordsSay (records_after r x) a) (sym none) says)
+          rw other (subst (λ (x : OptionalWrite). RecordsSay (records_after r x) a) (sym none) says)
       | taken same high from ↦ rw same (accept_taken r a v w fits is says same high)
     ]

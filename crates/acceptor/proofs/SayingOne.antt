@@ -11,12 +11,12 @@ use Rattle.wire.specs.RecordForms.{IsVoteRecord, choice_at, Checkpointed, checkp
 use Rattle.wire.proofs.BallotLaws.{ballot_again}
 use Rattle.wire.proofs.RecordLaws.{record_is_choice}
 use Rattle.acceptor.specs.Accepting.{Accepting, RecordsSay, IsGreatest, floor_of, sealed_of, text_of}
-use Rattle.acceptor.specs.Forms.{BallotFits, CheckpointFits, VoteFits}
+use Rattle.acceptor.specs.Forms.{BallotFitsRecord, CheckpointFits, VoteFitsRecord}
 use Rattle.acceptor.specs.Spelling.{ballot_bytes, vote_bytes}
 use Rattle.acceptor.proofs.CheckpointLemmas.{one_that_fits}
 
 -- ballots that fit and are spelled alike
-one_ballot : (a b : Ballot) → BallotFits a → BallotFits b → ballot_bytes a ≡ ballot_bytes b → a ≡ b
+one_ballot : (a b : Ballot) → BallotFitsRecord a → BallotFitsRecord b → ballot_bytes a ≡ ballot_bytes b → a ≡ b
 one_ballot a b fits_a fits_b e =
     let read_a : ballot_at 7 (ballot_bytes a ++ []) ≡ Ok (a, []) = ballot_again 7 a [] fits_a in
     let read_b : ballot_at 7 (ballot_bytes b ++ []) ≡ Ok (b, []) = ballot_again 7 b [] fits_b in
@@ -25,11 +25,11 @@ one_ballot a b fits_a fits_b e =
     ap (λ (p : Ballot × List ℕ). p.0) same
 
 -- the record of a vote that fits
-vote_record : (v : Vote Command) → VoteFits v → IsVoteRecord (vote_bytes v) v.ballot v.command
+vote_record : (v : Vote Command) → VoteFitsRecord v → IsVoteRecord (vote_bytes v) v.ballot v.command
 vote_record v fits = record { ballot = fits.ballot; command = fits.command; spelled = refl }
 
 -- votes that fit, at one slot, and are spelled alike
-pub one_vote : (a b : Vote Command) → VoteFits a → VoteFits b → a.slot ≡ b.slot → vote_bytes a ≡ vote_bytes b → a ≡ b
+pub one_vote : (a b : Vote Command) → VoteFitsRecord a → VoteFitsRecord b → a.slot ≡ b.slot → vote_bytes a ≡ vote_bytes b → a ≡ b
 one_vote a b fits_a fits_b slot e =
     let read_a : choice_at (vote_bytes a) ≡ Ok ((a.ballot, a.command), []) =
     record_is_choice (vote_bytes a) a.ballot a.command (vote_record a fits_a) in
@@ -41,8 +41,8 @@ one_vote a b fits_a fits_b slot e =
     let command : a.command ≡ b.command = ap (λ (p : (Ballot × Command) × List ℕ). p.0.1) same in
     λ i. record { slot = slot i; ballot = ballot i; command = command i }
 
-one_vote_at : (s : ℕ) (x y : Option (Vote Command)) → IfSome x (λ v. v.slot ≡ s) → IfSome y (λ v. v.slot ≡ s) → IfSome x VoteFits
-    → IfSome y VoteFits
+one_vote_at : (s : ℕ) (x y : Option (Vote Command)) → IfSome x (λ v. v.slot ≡ s) → IfSome y (λ v. v.slot ≡ s) → IfSome x VoteFitsRecord
+    → IfSome y VoteFitsRecord
     → option_map vote_bytes x ≡ option_map vote_bytes y → x ≡ y
 one_vote_at s None None at_x at_y fits_x fits_y e = refl
 one_vote_at s None (Some v) at_x at_y fits_x fits_y e = absurd cc
@@ -51,7 +51,7 @@ one_vote_at s (Some v) (Some w) at_x at_y fits_x fits_y e =
     let bytes : vote_bytes v ≡ vote_bytes w = cc in
     ap Some (one_vote v w fits_x fits_y (at_x ∙ sym at_y) bytes)
 
-one_promise_record : (x y : Option Ballot) → IfSome x BallotFits → IfSome y BallotFits
+one_promise_record : (x y : Option Ballot) → IfSome x BallotFitsRecord → IfSome y BallotFitsRecord
     → option_map ballot_bytes x ≡ option_map ballot_bytes y → x ≡ y
 one_promise_record None None fits_x fits_y e = refl
 one_promise_record None (Some b) fits_x fits_y e = absurd cc

@@ -12,7 +12,7 @@ use Rattle.acceptor.specs.declared.accepted_value.AcceptedValue.{AcceptedValue}
 use Rattle.stable.specs.Records.{Sets, Trims, rank as place}
 use Rattle.stable.specs.declared.key.Key.{Key}
 use Rattle.stable.specs.declared.key.Key.TheVariants as key
-use Rattle.acceptor.specs.Accepting.{Accepting, Write, put, Taken, verdict, prepare_write, IsAcceptWrite}
+use Rattle.acceptor.specs.Accepting.{Accepting, OptionalWrite, put, Taken, verdict, prepare_write, IsAcceptWrite}
 use Rattle.acceptor.specs.Spelling.{ballot_bytes, vote_bytes}
 use Rattle.acceptor.specs.AcceptedValues.{vote_at}
 use Rattle.acceptor.proofs.VerdictLemmas.{judged, refused, behind, taken}
@@ -79,14 +79,14 @@ untaken_write a v not =
 
 -- ---- which votes are written
 -- the place of the key that a write sets, if it sets one
-abbrev set_place : Write → ℕ
+abbrev set_place : OptionalWrite → ℕ
 set_place None = zero
 set_place (Some (Trims below)) = zero
 set_place (Some (Sets key bytes)) = place key
 
 -- a write of another key
 pub other_key : (other : Key) (slot : ℕ) (bytes more : List ℕ) → (place other ≡ slot + 3 → ⊥)
-    → ◌≡◌ {A = Write} (Some (Sets other bytes)) (Some (Sets (key.Vote slot) more)) → ⊥
+    → ◌≡◌ {A = OptionalWrite} (Some (Sets other bytes)) (Some (Sets (key.Vote slot) more)) → ⊥
 other_key other slot bytes more apart e = apart (ap set_place e)
 
 -- a prepare writes no vote
@@ -103,7 +103,7 @@ promise_is_no_vote a b first slot bytes e =
     ]
 
 -- an accept writes one at a slot from the floor on
-pub cast_above : (a : Accepting) (v : Vote Command) (w : Write) → IsAcceptWrite a v w → (slot : ℕ) (bytes : List ℕ)
+pub cast_above : (a : Accepting) (v : Vote Command) (w : OptionalWrite) → IsAcceptWrite a v w → (slot : ℕ) (bytes : List ℕ)
     → w ≡ Some (Sets (key.Vote slot) bytes) → a.floor ≤ slot
 cast_above a v w is slot bytes e =
     let some : w ≡ None → ⊥ = λ none. none-some (Sets (key.Vote slot) bytes) (sym none ∙ e) in

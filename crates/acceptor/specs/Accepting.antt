@@ -32,7 +32,7 @@ use Rattle.wire.specs.RecordForms.{Checkpointed, checkpoint_bytes}
 use Rattle.acceptor.specs.declared.answer.Answer.{Answer}
 use Rattle.acceptor.specs.declared.answer.Answer.TheVariants as answers
 use Rattle.acceptor.specs.declared.answer.Answer.TheVariants.{Promise, Accepted, Nack}
-use Rattle.acceptor.specs.Forms.{BallotFits, CheckpointFits, VoteFits}
+use Rattle.acceptor.specs.Forms.{BallotFitsRecord, CheckpointFits, VoteFitsRecord}
 use Rattle.acceptor.specs.AcceptedValues.{HasAnyBelow}
 use Rattle.acceptor.specs.Ranges.{IsPromiseFrom}
 use Rattle.acceptor.specs.Spelling.{ballot_bytes, vote_bytes}
@@ -47,8 +47,8 @@ pub record Accepting : Type 0 where
   pub vote : ℕ → Option (Vote Command)
 
 -- a write that a call makes, if it makes one
-abbrev pub Write : Type 0
-Write = Option Change
+abbrev pub OptionalWrite : Type 0
+OptionalWrite = Option Change
 
 -- a function with one value replaced
 abbrev pub put : {A : Type 0} → (ℕ → A) → ℕ → A → ℕ → A
@@ -92,9 +92,9 @@ pub record RecordsSay (records : Key → Option (List ℕ)) (a : Accepting) : Ty
   pub at_its_slot : (s : ℕ) → IfSome (a.vote s) (λ v. v.slot ≡ s)
   pub promise : IsGreatest promised a.sealed a.vote a.promise
   -- each fits its record, so that no two are spelled alike
-  pub promised_fits : IfSome promised BallotFits
+  pub promised_fits : IfSome promised BallotFitsRecord
   pub checkpoint_fits : IfSome checkpointed CheckpointFits
-  pub votes_fit : (s : ℕ) → IfSome (a.vote s) VoteFits
+  pub votes_fit : (s : ℕ) → IfSome (a.vote s) VoteFitsRecord
 
 -- no vote below the floor is of a ballot above the checkpoint's promise, so that no promise goes with it
 abbrev pub IsCovered : Accepting → Type 0
@@ -146,7 +146,7 @@ AnswersPrepare a b first answer =
     MatchOption (turned_away (verdict a b first) b) (TellsFrom a b first answer) (λ away. answer ≡ away)
 
 -- the promise is written, unless it is the promise already
-abbrev pub prepare_write : Accepting → Ballot → ℕ → Write
+abbrev pub prepare_write : Accepting → Ballot → ℕ → OptionalWrite
 prepare_write a b first = if_taken (verdict a b first)
     (if rank b == rank_of a.promise then None else Some (Sets key.Promise (ballot_bytes b))) None
 
@@ -167,7 +167,7 @@ pub record IsNewVote (a : Accepting) (v : Vote Command) : Type 0 where
   pub fresh : a.vote v.slot ≢ Some v
 
 -- a new vote is written; nothing is written where it isn't taken, or stands there already
-pub record IsAcceptWrite (a : Accepting) (v : Vote Command) (write : Write) : Type 0 where
+pub record IsAcceptWrite (a : Accepting) (v : Vote Command) (write : OptionalWrite) : Type 0 where
   pub cast : IsNewVote a v → write ≡ Some (Sets (key.Vote v.slot) (vote_bytes v))
   pub untaken : verdict a v.ballot v.slot ≢ Taken → write ≡ None
   pub already : a.vote v.slot ≡ Some v → write ≡ None
@@ -186,7 +186,7 @@ abbrev pub HasVoteBelow : Accepting → Type 0
 HasVoteBelow a = HasAnyBelow a.vote a.floor
 
 -- nothing is written where none stands there
-abbrev pub IsTrimWrite : Accepting → Write → Type 0
+abbrev pub IsTrimWrite : Accepting → OptionalWrite → Type 0
 IsTrimWrite a None = ¬ HasVoteBelow a
 IsTrimWrite a (Some change) = HasVoteBelow a × (change ≡ Trims a.floor)
 
@@ -196,16 +196,16 @@ after_trim a = record a { vote = λ s. if nat_lt s a.floor then None else a.vote
 -- ---- what a call makes of the storage, whose relations are given
 -- the write is made, or where there is none the storage is at most read
 abbrev pub HasWritten : {S : Type 0} → (S → S → Type 0) → (S → Change → S → Type 0)
-    → S → S → Write → Type 0
+    → S → S → OptionalWrite → Type 0
 HasWritten reads changes old new None = reads old new
 HasWritten reads changes old new (Some change) = changes old change new
 
 -- there was a write to make, and the device failed on it
-abbrev pub HasFailed : {S : Type 0} → (S → Change → S → Type 0) → S → S → Write → Type 0
+abbrev pub HasFailed : {S : Type 0} → (S → Change → S → Type 0) → S → S → OptionalWrite → Type 0
 HasFailed fails old new None = ⊥
 HasFailed fails old new (Some change) = fails old change new
 
 -- the records after a write, if there is one
-abbrev pub records_after : Records → Write → Records
+abbrev pub records_after : Records → OptionalWrite → Records
 records_after records None = records
 records_after records (Some change) = changed records change

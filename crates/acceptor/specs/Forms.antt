@@ -15,29 +15,29 @@ use Rattle.wire.specs.RecordForms.{Checkpointed, checkpoint_bytes}
 use Rattle.acceptor.specs.Spelling.{ballot_bytes, vote_bytes}
 
 -- the ballot may stand in a record, which serves the largest membership
-abbrev pub BallotFits : Ballot → Type 0
-BallotFits b = wire.BallotFits 7 b
+abbrev pub BallotFitsRecord : Ballot → Type 0
+BallotFitsRecord b = wire.BallotFits 7 b
 
-pub record VoteFits (v : Vote Command) : Type 0 where
-  pub ballot : BallotFits v.ballot
+pub record VoteFitsRecord (v : Vote Command) : Type 0 where
+  pub ballot : BallotFitsRecord v.ballot
   pub command : CommandFits v.command
 
 -- the bytes are the snapshot text of a machine
-abbrev pub IsText : List ℕ → Type 0
-IsText bytes = (m : MachineState) × MachineFits m × (snapshot_bytes m ≡ bytes)
+abbrev pub IsSnapshotText : List ℕ → Type 0
+IsSnapshotText bytes = (m : MachineState) × MachineFits m × (snapshot_bytes m ≡ bytes)
 
 pub record CheckpointFits (c : Checkpointed) : Type 0 where
   pub begun : 1 ≤ c.position
   pub in_log : c.position ≤ SLOTS
-  pub promise : IfSome c.promise BallotFits
-  pub text : IsText c.text
+  pub promise : IfSome c.promise BallotFitsRecord
+  pub text : IsSnapshotText c.text
 
 -- the bytes are what a record under the key may be; a round is the proposer's, and is not read here
 abbrev pub IsOfItsForm : Key → List ℕ → Type 0
 IsOfItsForm key.Checkpoint bytes = (c : Checkpointed) × CheckpointFits c × (bytes ≡ checkpoint_bytes c)
-IsOfItsForm key.Promise bytes = (b : Ballot) × BallotFits b × (bytes ≡ ballot_bytes b)
+IsOfItsForm key.Promise bytes = (b : Ballot) × BallotFitsRecord b × (bytes ≡ ballot_bytes b)
 IsOfItsForm key.Round bytes = Unit {0}
-IsOfItsForm (key.Vote slot) bytes = (v : Vote Command) × VoteFits v × (bytes ≡ vote_bytes v)
+IsOfItsForm (key.Vote slot) bytes = (v : Vote Command) × VoteFitsRecord v × (bytes ≡ vote_bytes v)
 
 abbrev pub AreOfTheirForm : Records → Type 0
 AreOfTheirForm records = (k : Key) → IfSome (records k) (IsOfItsForm k)

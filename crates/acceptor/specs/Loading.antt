@@ -44,7 +44,7 @@ abbrev pub IsBaseOf : Records → List Command → Type 0
 IsBaseOf records base = MatchOption (records key.Checkpoint) (base ≡ []) (IsCheckpointOf base)
 
 -- the machine stands for each of them
-pub record BeginsWith (records : Records) (m : MachineState) : Type 0 where
+pub record MachineBeginsWith (records : Records) (m : MachineState) : Type 0 where
   pub stands : (base : List Command) → IsBaseOf records base → StandsFor m base
 
 -- the machine of a checkpoint's text, whether any list of commands has that text or none; where there is no text, it has executed nothing

@@ -5,13 +5,13 @@ ghost use Rattle.std.specs.Prelude.{IsSome, IfSome, IfOk, OnOk, OnErr, IsErrOf, 
 ghost use Rattle.synod.specs.Ballots.{rank};
 ghost use Rattle.stable.specs.Records.{Records};
 ghost use Rattle.stable.specs.declared.key.Key.TheVariants as key;
-ghost use Rattle.acceptor.specs.Accepting.{Write, RecordsSay, refusing, Taken, verdict, turned_away};
+ghost use Rattle.acceptor.specs.Accepting.{OptionalWrite, RecordsSay, refusing, Taken, verdict, turned_away};
 ghost use Rattle.acceptor.specs.Accepting.{AnswersPrepare, prepare_write, after_prepare};
 ghost use Rattle.acceptor.specs.Accepting.{accept_answer, after_accept, IsAcceptWrite, IsNewVote};
 ghost use Rattle.acceptor.specs.Accepting.{HasWritten, HasFailed, checkpoint_change, after_checkpoint, HasVoteBelow, IsTrimWrite, after_trim};
 ghost use Rattle.acceptor.specs.AcceptedValues.{AreUpTo, vote_at};
-ghost use Rattle.acceptor.specs.Forms.{BallotFits, CheckpointFits, VoteFits, IsOfItsForm, AreOfTheirForm, HasDamagedRecord};
-ghost use Rattle.acceptor.specs.Loading.{raised, with_seen, BeginsWith, IsMachineOf, checkpoint_found};
+ghost use Rattle.acceptor.specs.Forms.{BallotFitsRecord, CheckpointFits, VoteFitsRecord, IsOfItsForm, AreOfTheirForm, HasDamagedRecord};
+ghost use Rattle.acceptor.specs.Loading.{raised, with_seen, MachineBeginsWith, IsMachineOf, checkpoint_found};
 ghost use Rattle.acceptor.specs.Ranges.{StandsFrom};
 ghost use Rattle.acceptor.specs.Spelling.{ballot_bytes, vote_bytes};
 ghost use Rattle.sessions.specs.Snapshots.{StandsForEach, snapshot_bytes};
@@ -95,7 +95,7 @@ impl Acceptor {
         ensures told { S.IsHonest storage.new → IfOk result (λ loaded.
             RecordsSay (S.contents storage.old) (accepting_of loaded.0)) }
         ensures machine { S.IsHonest storage.new → IfOk result (λ loaded.
-            BeginsWith (S.contents storage.old) loaded.1) }
+            MachineBeginsWith (S.contents storage.old) loaded.1) }
         ensures restored { IfOk result (λ loaded. IsMachineOf (accepting_of loaded.0).text loaded.1) }
         ensures form { S.IsHonest storage.new → OnOk result
             (AreOfTheirForm (S.contents storage.old)) }
@@ -139,8 +139,8 @@ impl Acceptor {
             → RecordsSay (with_seen seen key (S.contents storage.old key))
             (accepting_of self.new)) }
         ensures machine { S.IsHonest storage.new → OnOk result ((seen : Records) → seen key ≡ None
-            → BeginsWith seen machine.old
-            → BeginsWith (with_seen seen key (S.contents storage.old key)) machine.new) }
+            → MachineBeginsWith seen machine.old
+            → MachineBeginsWith (with_seen seen key (S.contents storage.old key)) machine.new) }
         ensures restored { OnOk result (IsMachineOf (accepting_of self.old).text machine.old
             → IsMachineOf (accepting_of self.new).text machine.new) }
         ensures form { S.IsHonest storage.new → OnOk result
@@ -182,8 +182,8 @@ impl Acceptor {
             → RecordsSay seen (accepting_of self.old)
             → RecordsSay (with_seen seen key.Checkpoint (option_map checkpoint_bytes (option_map checkpoint_found found)))
             (accepting_of self.new) }
-        ensures machine { (seen : Records) → seen key.Checkpoint ≡ None → BeginsWith seen machine.old
-            → BeginsWith (with_seen seen key.Checkpoint (option_map checkpoint_bytes (option_map checkpoint_found found)))
+        ensures machine { (seen : Records) → seen key.Checkpoint ≡ None → MachineBeginsWith seen machine.old
+            → MachineBeginsWith (with_seen seen key.Checkpoint (option_map checkpoint_bytes (option_map checkpoint_found found)))
             machine.new }
         ensures restored { IsMachineOf (accepting_of self.old).text machine.old
             → IsMachineOf (accepting_of self.new).text machine.new }
@@ -208,7 +208,7 @@ impl Acceptor {
 
     /// Takes in what record Promise says.
     fn take_promise(&mut self, found: Option<Ballot>)
-        requires { IfSome found BallotFits }
+        requires { IfSome found BallotFitsRecord }
         ensures told { (seen : Records) → seen key.Promise ≡ None
             → RecordsSay seen (accepting_of self.old)
             → RecordsSay (with_seen seen key.Promise (option_map ballot_bytes found))
@@ -222,7 +222,7 @@ impl Acceptor {
 
     /// Takes in what the record of a slot says.
     fn take_vote(&mut self, slot: Slot, found: Option<AcceptedValue>) -> Result<(), AllocError>
-        requires { IfSome found (λ cast. VoteFits (vote_at slot cast)) }
+        requires { IfSome found (λ cast. VoteFitsRecord (vote_at slot cast)) }
         ensures told { OnOk result ((seen : Records) → seen (key.Vote slot) ≡ None
             → RecordsSay seen (accepting_of self.old)
             → RecordsSay (with_seen seen (key.Vote slot)
@@ -308,16 +308,16 @@ impl Acceptor {
         ensures answer { IfOk result (λ a. a ≡ accept_answer (accepting_of self.old) vote) }
         ensures state { OnOk result
             (accepting_of self.new ≡ after_accept (accepting_of self.old) vote) }
-        ensures written { OnOk result ((w : Write) × IsAcceptWrite (accepting_of self.old) vote w
+        ensures written { OnOk result ((w : OptionalWrite) × IsAcceptWrite (accepting_of self.old) vote w
             × HasWritten S.reads S.changes storage.old storage.new w) }
-        ensures fits { OnOk result (IsNewVote (accepting_of self.old) vote → VoteFits vote) }
+        ensures fits { OnOk result (IsNewVote (accepting_of self.old) vote → VoteFitsRecord vote) }
 
         // Each error. What isn't taken, and a vote that stands there already, are answered without one.
         ensures fresh { OnErr result (IsNewVote (accepting_of self.old) vote) }
         ensures device { IsErrOf result StableFault.Device
-            → (w : Write) × IsAcceptWrite (accepting_of self.old) vote w
+            → (w : OptionalWrite) × IsAcceptWrite (accepting_of self.old) vote w
             × HasFailed S.fails storage.old storage.new w }
-        ensures device_fits { IsErrOf result StableFault.Device → VoteFits vote }
+        ensures device_fits { IsErrOf result StableFault.Device → VoteFitsRecord vote }
         ensures memory { IsErrOf result StableFault.Memory → S.reads storage.old storage.new }
         ensures err_state { OnErr result (accepting_of self.new ≡ accepting_of self.old) }
         ensures not_damaged { ¬ IsErrOf result StableFault.Damaged }
@@ -372,13 +372,13 @@ impl Acceptor {
     /// After `Device` only another load tells which votes are recorded: here they are what they were. After `Memory` nothing is
     /// written or changed.
     pub fn trim<S: Stable>(&mut self, alloc: Global, storage: &mut S) -> Result<(), StableFault>
-        ensures written { OnOk result ((w : Write) × IsTrimWrite (accepting_of self.old) w
+        ensures written { OnOk result ((w : OptionalWrite) × IsTrimWrite (accepting_of self.old) w
             × HasWritten S.reads S.changes storage.old storage.new w) }
         ensures state { OnOk result (accepting_of self.new ≡ after_trim (accepting_of self.old)) }
 
         // Each error.
         ensures device { IsErrOf result StableFault.Device
-            → (w : Write) × IsTrimWrite (accepting_of self.old) w
+            → (w : OptionalWrite) × IsTrimWrite (accepting_of self.old) w
             × HasFailed S.fails storage.old storage.new w }
         ensures wanted { OnErr result (HasVoteBelow (accepting_of self.old)) }
         ensures memory { IsErrOf result StableFault.Memory → S.reads storage.old storage.new }

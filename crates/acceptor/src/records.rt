@@ -5,7 +5,7 @@ ghost use Rattle.sessions.specs.Snapshots.{StandsForEach, snapshot_bytes};
 ghost use Rattle.synod.specs.declared.slot.TheConstants.{SLOTS};
 ghost use Rattle.wire.specs.RecordForms.{checkpoint_bytes};
 ghost use Rattle.acceptor.specs.AcceptedValues.{vote_at};
-ghost use Rattle.acceptor.specs.Forms.{BallotFits, CheckpointFits, VoteFits, IsOfItsForm, HasDamagedRecord};
+ghost use Rattle.acceptor.specs.Forms.{BallotFitsRecord, CheckpointFits, VoteFitsRecord, IsOfItsForm, HasDamagedRecord};
 ghost use Rattle.acceptor.specs.Loading.{checkpoint_found};
 ghost use Rattle.acceptor.specs.Spelling.{ballot_bytes, vote_bytes};
 ghost use Rattle.stable.specs.Records.{Sets};
@@ -100,7 +100,7 @@ pub(super) fn promised<S: Stable>(
         S.contents storage.old Key.Promise ≡ option_map ballot_bytes found) }
     ensures form { S.IsHonest storage.new → OnOk result
         (IfSome (S.contents storage.old Key.Promise) (IsOfItsForm Key.Promise)) }
-    ensures fits { IfOk result (λ found. IfSome found BallotFits) }
+    ensures fits { IfOk result (λ found. IfSome found BallotFitsRecord) }
     ensures reads { OnOk result (S.reads storage.old storage.new) }
 
     // Each error.
@@ -147,7 +147,7 @@ pub(super) fn voted<S: Stable>(
         ≡ option_map vote_bytes (option_map (vote_at slot) found)) }
     ensures form { S.IsHonest storage.new → OnOk result
         (IfSome (S.contents storage.old (Key.Vote slot)) (IsOfItsForm (Key.Vote slot))) }
-    ensures fits { IfOk result (λ found. IfSome found (λ cast. VoteFits (vote_at slot cast))) }
+    ensures fits { IfOk result (λ found. IfSome found (λ cast. VoteFitsRecord (vote_at slot cast))) }
     ensures reads { OnOk result (S.reads storage.old storage.new) }
 
     // Each error.

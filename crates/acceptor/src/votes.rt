@@ -4,7 +4,7 @@ ghost use Rattle.std.specs.Prelude.{◌≡◌, ◌↔◌, IsTrue, IsSome, IfOk, 
 ghost use Rattle.acceptor.specs.Accepting.{put};
 ghost use Rattle.acceptor.specs.Ranges.{IsPromiseFrom, StandsFrom};
 ghost use Rattle.acceptor.specs.AcceptedValues.{AreUpTo, HasAnyBelow, vote_at, cast_at, vote_held};
-ghost use Rattle.acceptor.specs.Forms.{VoteFits};
+ghost use Rattle.acceptor.specs.Forms.{VoteFitsRecord};
 ghost use Rattle.acceptor.specs.Spelling.{vote_bytes};
 ghost use Rattle.stable.specs.Records.{Sets};
 
@@ -111,12 +111,12 @@ impl Votes {
             (S.changes storage.old (Sets (Key.Vote vote.now.slot) (vote_bytes vote.now)) storage.new) }
         ensures votes { OnOk result ((s : ℕ) → vote_held self.new s
             ≡ put (vote_held self.old) vote.now.slot (Some vote.now) s) }
-        ensures fits { OnOk result (VoteFits vote.now) }
+        ensures fits { OnOk result (VoteFitsRecord vote.now) }
 
         // Each error.
         ensures device { IsErrOf result StableFault.Device
             → S.fails storage.old (Sets (Key.Vote vote.now.slot) (vote_bytes vote.now)) storage.new }
-        ensures device_fits { IsErrOf result StableFault.Device → VoteFits vote.now }
+        ensures device_fits { IsErrOf result StableFault.Device → VoteFitsRecord vote.now }
         ensures memory { IsErrOf result StableFault.Memory → S.reads storage.old storage.new }
         ensures unchanged { OnErr result ((s : ℕ) → vote_held self.new s ≡ vote_held self.old s) }
         ensures not_damaged { ¬ IsErrOf result StableFault.Damaged }

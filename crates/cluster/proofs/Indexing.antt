@@ -23,8 +23,8 @@ use Rattle.world_model.specs.Rounds.{RoundEnds, IsPartOfRound}
 use Rattle.world_model.specs.Worlds.{WorldState, Steps}
 use Rattle.world_model.proofs.FramesGrow.{BeginWith, step_grows, round_grows}
 use Rattle.world_model.proofs.Handing.{within_more}
-use Rattle.cluster.specs.Indexes.{Indexes, IsFirst, NoneBelow, number_of, spellings}
-use Rattle.cluster.specs.Lowest.{GoesAs, IsLowest, IsStranger}
+use Rattle.cluster.specs.Indexes.{Indexes, IsFirstSpelled, NoneBelow, number_of, spellings}
+use Rattle.cluster.specs.Lowest.{GoesAs, IsLowestFrame, IsStranger}
 
 -- ---- lists
 stays_at : {A : Type 0} (xs ys : List A) (k : ℕ) (x : A) → slice_get xs k ≡ Some x → slice_get (xs ++ ys) k ≡ Some x
@@ -84,8 +84,8 @@ module _ {S : Type 0} (spelled : List (List ℕ)) (numbers : HashMap (Vec ℕ) �
       | inl same ↦
           let equal : bytes ≡ other = (bytes_decides bytes other).0 same in
           let here : Some n ≡ Some k = sym (entered other ∙ cond-true (pointwise nat_eq bytes other) _ _ same) ∙ e in
-          subst (λ j. IsFirst spelled other j) (same_some n k here)
-          (subst (λ (b : List ℕ). IsFirst spelled b n) equal (record { here = next; first = h.absent bytes new }))
+          subst (λ j. IsFirstSpelled spelled other j) (same_some n k here)
+          (subst (λ (b : List ℕ). IsFirstSpelled spelled b n) equal (record { here = next; first = h.absent bytes new }))
       | inr another ↦ h.found other k (sym (entered other ∙ cond-false (pointwise nat_eq bytes other) _ _ another) ∙ e)
     ];
     absent = λ other none i less e. elim (cases_Bool (pointwise nat_eq bytes other)) [
@@ -189,7 +189,7 @@ module _ {S : Type 0} (frames : List Envelope) (numbers : HashMap (Vec ℕ) ℕ 
     (all : n ≡ length frames) (node : ℕ) (bytes : List ℕ) where
   -- the number that the index has, where that frame goes to the node
   lowest_found : (k : ℕ) (frame : Envelope) → number_of numbers bytes ≡ Some k → slice_get frames k ≡ Some frame → frame.to ≡ node
-      → IsLowest frames node bytes k
+      → IsLowestFrame frames node bytes k
   lowest_found k frame found here to =
       let f = h.found bytes k found in
       let sent = sent_at frames k bytes f.here in
@@ -253,7 +253,7 @@ module _ {S : Type 0} (frames now read : List Envelope) (same : now ≡ frames) 
       another_receives frames numbers n as_before all node bytes k frame found (there_at k frame found is) to
 
   pub lowest_there : (k : ℕ) (frame : Envelope) → number_of numbers bytes ≡ Some k → frame ≡ slice_index_or read k frame
-      → frame.to ≡ node → IsLowest frames node bytes k
+      → frame.to ≡ node → IsLowestFrame frames node bytes k
   lowest_there k frame found is to =
       lowest_found frames numbers n as_before all node bytes k frame found (there_at k frame found is) to
 

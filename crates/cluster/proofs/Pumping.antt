@@ -9,9 +9,9 @@ use Rattle.events.specs.declared.fault.WorldFault.{WorldFault}
 use Rattle.events.specs.declared.fault.WorldFault.TheVariants as fault
 use Rattle.world_model.specs.Worlds.{WorldState, DeliversFrame}
 use Rattle.cluster.specs.Clusters.{HasPassed, Pumped, sending, sendings}
-use Rattle.cluster.specs.Lowest.{IsLowest, IsStranger}
+use Rattle.cluster.specs.Lowest.{IsLowestFrame, IsStranger}
 use Rattle.cluster.specs.Passages.{Passage, Polled}
-use Rattle.cluster.specs.Pumps.{Polls, PollsBelow, IsPass, Passes, BreaksOff, BreaksPump, Pumps, OnlyDelivers}
+use Rattle.cluster.specs.Pumps.{Polls, PollsBelow, IsPass, Passes, PumpBreaksOff, BreaksPump, Pumps, OnlyDelivers}
 use Rattle.cluster.specs.Pumps.{poll_passed, with_stranger, nothing_came, stranger_came, frame_came, no_poll, one_poll, no_pass}
 use Rattle.cluster.specs.Pumps.{idle_pass, busy_pass, no_deliver, one_deliver}
 use Rattle.cluster.specs.declared.cluster.TheConstants.{MOST_IDLE_PASSES, MOST_PUMPED}
@@ -50,7 +50,7 @@ module _ {S T : Type 0} (storages : Ghosts (Script S)) (transport : Transports T
 
   pub polled_stranger : (old new : Pumped S) (t u : T) (node : ℕ) (datagram : Option (List ℕ)) (bytes : List ℕ) (found : Option ℕ)
       → datagram ≡ Some bytes
-      → MatchOption found (IsStranger old.world.frames node bytes) (IsLowest old.world.frames node bytes) → found ≡ None
+      → MatchOption found (IsStranger old.world.frames node bytes) (IsLowestFrame old.world.frames node bytes) → found ≡ None
       → new ≡ with_stranger storages old
       → HasPassed transport t (Polled node datagram ∷ []) u
       → (d : Option (List ℕ)) × Polls storages old node d 0 new × HasPassed transport t (poll_passed storages node d old.world new.world) u
@@ -67,7 +67,7 @@ module _ {S T : Type 0} (storages : Ghosts (Script S)) (transport : Transports T
   pub polled_frame : (old new : Pumped S) (t between u : T) (node : ℕ) (datagram : Option (List ℕ)) (bytes : List ℕ)
       (found : Option ℕ) (k : ℕ)
       → datagram ≡ Some bytes
-      → MatchOption found (IsStranger old.world.frames node bytes) (IsLowest old.world.frames node bytes) → found ≡ Some k
+      → MatchOption found (IsStranger old.world.frames node bytes) (IsLowestFrame old.world.frames node bytes) → found ≡ Some k
       → DeliversFrame storages old.world k new.world → new.strangers ≡ old.strangers
       → HasPassed transport t (Polled node datagram ∷ []) between → HasPassed transport between (sendings old.world new.world) u
       → (d : Option (List ℕ)) × Polls storages old node d 1 new × HasPassed transport t (poll_passed storages node d old.world new.world) u
@@ -77,14 +77,14 @@ module _ {S T : Type 0} (storages : Ghosts (Script S)) (transport : Transports T
       let all : record old { world = new.world } ≡ new = ap (λ n. record { world = new.world; strangers = n }) (sym same) in (
         Some bytes,
         subst (λ (p : Pumped S). Polls storages old node (Some bytes) 1 p) all
-            (frame_came bytes k new.world (subst (λ n. IsLowest old.world.frames node bytes n) is lowest) delivers),
+            (frame_came bytes k new.world (subst (λ n. IsLowestFrame old.world.frames node bytes n) is lowest) delivers),
         then_passes transport t between u (Polled node (Some bytes) ∷ []) (sendings old.world new.world)
             (subst (λ (d : Option (List ℕ)). HasPassed transport t (Polled node d ∷ []) between) some one) two,
       )
 
   -- a frame that was found was sent
   pub was_sent : (frames : _) (node : ℕ) (bytes : List ℕ) (found : Option ℕ) (k : ℕ)
-      → MatchOption found (IsStranger frames node bytes) (IsLowest frames node bytes) → found ≡ Some k → length frames ≤ k → ⊥
+      → MatchOption found (IsStranger frames node bytes) (IsLowestFrame frames node bytes) → found ≡ Some k → length frames ≤ k → ⊥
   was_sent frames node bytes None k lowest here past = absurd (cc)
   was_sent frames node bytes (Some j) k lowest here past =
       let is : j ≡ k = cc in
@@ -119,7 +119,7 @@ module _ {S T : Type 0} (storages : Ghosts (Script S)) (transport : Transports T
       → ((passed : List Passage) × PollsBelow storages old k passed made now × HasPassed transport t passed between)
       → ((d : Option (List ℕ)) × Polls storages now k d more new
       × HasPassed transport between (poll_passed storages k d now.world new.world) u)
-      → (passed : List Passage) × BreaksOff storages left old passed fault.FlushLimit new × HasPassed transport t passed u
+      → (passed : List Passage) × PumpBreaksOff storages left old passed fault.FlushLimit new × HasPassed transport t passed u
   hits_limit old now new t between u k made more left begun less few all before poll =
       let one : more ≡ 1 = omega (arith, less, few, all) in (
         before.0 ++ poll_passed storages k poll.0 now.world new.world,
@@ -142,9 +142,9 @@ module _ {S T : Type 0} (storages : Ghosts (Script S)) (transport : Transports T
       → f ≡ fault.Memory → new ≡ now
       → ((passed : List Passage) × PollsBelow storages old k passed made now × HasPassed transport t passed between)
       → ((bytes : List ℕ) × HasPassed transport between (Polled k (Some bytes) ∷ []) u)
-      → (passed : List Passage) × BreaksOff storages left old passed f new × HasPassed transport t passed u
+      → (passed : List Passage) × PumpBreaksOff storages left old passed f new × HasPassed transport t passed u
   wants_memory old now new t between u k made left f begun less memory same before lost =
-      subst (λ w. (passed : List Passage) × BreaksOff storages left old passed w new × HasPassed transport t passed u) (sym memory) (
+      subst (λ w. (passed : List Passage) × PumpBreaksOff storages left old passed w new × HasPassed transport t passed u) (sym memory) (
         before.0 ++ Polled k (Some lost.0) ∷ [],
         record {
           node = k;
@@ -195,7 +195,7 @@ module _ {S T : Type 0} (storages : Ghosts (Script S)) (transport : Transports T
   -- a pass breaks off
   pub broken_off : (old now new : Pumped S) (t between u : T) (idle made : ℕ) (f : WorldFault) → idle < MOST_IDLE_PASSES
       → ((passed : List Passage) × Passes storages old idle passed made now × HasPassed transport t passed between)
-      → ((passed : List Passage) × BreaksOff storages (MOST_PUMPED - made) now passed f new × HasPassed transport between passed u)
+      → ((passed : List Passage) × PumpBreaksOff storages (MOST_PUMPED - made) now passed f new × HasPassed transport between passed u)
       → (passed : List Passage) × BreaksPump storages old passed f new × HasPassed transport t passed u
   broken_off old now new t between u idle made f few before breaks = (
     before.0 ++ breaks.0,
@@ -250,7 +250,7 @@ module _ {S : Type 0} (storages : Ghosts (Script S)) where
       then_delivers old.world between.world new.world (passes_deliver old between i m p before)
       (polls_deliver between new (length between.world.nodes) more q pass)
 
-  break_delivers : (left : ℕ) (old new : Pumped S) (passed : List Passage) (f : WorldFault) → BreaksOff storages left old passed f new
+  break_delivers : (left : ℕ) (old new : Pumped S) (passed : List Passage) (f : WorldFault) → PumpBreaksOff storages left old passed f new
       → OnlyDelivers storages old.world new.world
   break_delivers left old new passed fault.FlushLimit h =
       then_delivers old.world h.between.world new.world (polls_deliver old h.between h.node h.made h.before h.part.polls)
@@ -268,7 +268,7 @@ module _ {S : Type 0} (storages : Ghosts (Script S)) where
       then_delivers old.world h.between.world new.world (passes_deliver old h.between h.idle h.made h.before h.passes)
       (break_delivers (MOST_PUMPED - h.made) h.between new h.last f h.breaks)
 
-  break_faults : (left : ℕ) (old new : Pumped S) (passed : List Passage) (f : WorldFault) → BreaksOff storages left old passed f new
+  break_faults : (left : ℕ) (old new : Pumped S) (passed : List Passage) (f : WorldFault) → PumpBreaksOff storages left old passed f new
       → (f ≡ fault.FlushLimit) ⊎ (f ≡ fault.Memory)
   break_faults left old new passed fault.FlushLimit h = inl refl
   break_faults left old new passed fault.Memory h = inr refl

@@ -19,12 +19,12 @@ abbrev pub NoneBelow : List (List ℕ) → List ℕ → ℕ → Type 0
 NoneBelow spelled bytes end = (i : ℕ) → i < end → slice_get spelled i ≢ Some bytes
 
 -- the k-th is this, and none below it
-pub record IsFirst (spelled : List (List ℕ)) (bytes : List ℕ) (k : ℕ) : Type 0 where
+pub record IsFirstSpelled (spelled : List (List ℕ)) (bytes : List ℕ) (k : ℕ) : Type 0 where
   pub here : slice_get spelled k ≡ Some bytes
   pub first : NoneBelow spelled bytes k
 
 -- the map has of the first so many the lowest with these bytes, and nothing else
 pub record Indexes {S : Type 0} (spelled : List (List ℕ)) (numbers : HashMap (Vec ℕ) ℕ S) (indexed : ℕ) : Type 0 where
   pub within : indexed ≤ length spelled
-  pub found : (bytes : List ℕ) (k : ℕ) → number_of numbers bytes ≡ Some k → IsFirst spelled bytes k
+  pub found : (bytes : List ℕ) (k : ℕ) → number_of numbers bytes ≡ Some k → IsFirstSpelled spelled bytes k
   pub absent : (bytes : List ℕ) → number_of numbers bytes ≡ None → NoneBelow spelled bytes indexed

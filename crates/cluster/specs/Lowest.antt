@@ -9,7 +9,7 @@ pub record GoesAs (node : ℕ) (bytes : List ℕ) (frame : Envelope) : Type 0 wh
   pub spelled : spelling frame ≡ bytes
 
 -- frame k is the lowest that goes to the node as these bytes
-pub record IsLowest (frames : List Envelope) (node : ℕ) (bytes : List ℕ) (k : ℕ) : Type 0 where
+pub record IsLowestFrame (frames : List Envelope) (node : ℕ) (bytes : List ℕ) (k : ℕ) : Type 0 where
   pub frame : Envelope
   pub sent : slice_get frames k ≡ Some frame
   pub goes : GoesAs node bytes frame

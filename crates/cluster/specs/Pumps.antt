@@ -6,7 +6,7 @@ use Rattle.events.specs.declared.fault.WorldFault.{WorldFault}
 use Rattle.events.specs.declared.fault.WorldFault.TheVariants as fault
 use Rattle.world_model.specs.Worlds.{WorldState, DeliversFrame}
 use Rattle.cluster.specs.Clusters.{Pumped, sendings}
-use Rattle.cluster.specs.Lowest.{IsLowest, IsStranger}
+use Rattle.cluster.specs.Lowest.{IsLowestFrame, IsStranger}
 use Rattle.cluster.specs.Passages.{Passage, Polled}
 
 module _ {S : Type 0} (storages : Ghosts (Script S)) where
@@ -20,7 +20,7 @@ module _ {S : Type 0} (storages : Ghosts (Script S)) where
   pub data Polls (old : Pumped S) (node : ℕ) : Option (List ℕ) → ℕ → Pumped S → Type 0 where
     nothing_came : Polls old node None 0 old
     stranger_came : (bytes : List ℕ) → IsStranger old.world.frames node bytes → Polls old node (Some bytes) 0 (with_stranger old)
-    frame_came : (bytes : List ℕ) (k : ℕ) (world : WorldState S) → IsLowest old.world.frames node bytes k
+    frame_came : (bytes : List ℕ) (k : ℕ) (world : WorldState S) → IsLowestFrame old.world.frames node bytes k
         → DeliversFrame storages old.world k world → Polls old node (Some bytes) 1 (record old { world = world })
 
   -- what passes through the transport then: the poll, and the frames that its Deliver sent
@@ -79,12 +79,12 @@ module _ {S : Type 0} (storages : Ghosts (Script S)) where
     pub passed_ : passed ≡ before ++ Polled node (Some bytes) ∷ []
 
   -- why, with so many Delivers left
-  abbrev pub BreaksOff : ℕ → Pumped S → List Passage → WorldFault → Pumped S → Type 0
-  BreaksOff left old passed fault.FlushLimit new = HitsLimit left old passed new
-  BreaksOff left old passed fault.Memory new = WantsMemory left old passed new
-  BreaksOff left old passed fault.NoSuchFrame new = ⊥
-  BreaksOff left old passed fault.NoSuchNode new = ⊥
-  BreaksOff left old passed fault.NotEmpty new = ⊥
+  abbrev pub PumpBreaksOff : ℕ → Pumped S → List Passage → WorldFault → Pumped S → Type 0
+  PumpBreaksOff left old passed fault.FlushLimit new = HitsLimit left old passed new
+  PumpBreaksOff left old passed fault.Memory new = WantsMemory left old passed new
+  PumpBreaksOff left old passed fault.NoSuchFrame new = ⊥
+  PumpBreaksOff left old passed fault.NoSuchNode new = ⊥
+  PumpBreaksOff left old passed fault.NotEmpty new = ⊥
 
   -- a pass that follows others breaks off
   pub record BreaksPump (old : Pumped S) (passed : List Passage) (why : WorldFault) (new : Pumped S) : Type 0 where
@@ -95,7 +95,7 @@ module _ {S : Type 0} (storages : Ghosts (Script S)) where
     pub passes : Passes old idle before made between
     pub goes_on : idle < 100
     pub last : List Passage
-    pub breaks : BreaksOff (10000 - made) between last why new
+    pub breaks : PumpBreaksOff (10000 - made) between last why new
     pub passed_ : passed ≡ before ++ last
 
   -- a pump ends with the first so many passes in a row that made no Deliver, and tells how many it made; or it breaks off

@@ -11,7 +11,7 @@ ghost use Rattle.world_model.specs.Staying.{IsSafeOver};
 ghost use Rattle.world_model.specs.Worlds.{Steps};
 ghost use Rattle.cluster.specs.Clusters.{HasPassed, sending, sendings};
 ghost use Rattle.cluster.specs.Passages.{Passage, Polled};
-ghost use Rattle.cluster.specs.Pumps.{BreaksOff, IsPass, OnlyDelivers, Polls, Pumps, poll_passed};
+ghost use Rattle.cluster.specs.Pumps.{PumpBreaksOff, IsPass, OnlyDelivers, Polls, Pumps, poll_passed};
 
 use super::indexed_world::IndexedWorld;
 use super::transport::Transport;
@@ -220,7 +220,7 @@ impl<T: Transport> Cluster<T> {
             × IsPass (⟦<Scripted<MemStable> as Stable>⟧) (pumped_of self.old) passed made (pumped_of self.new)
             × HasPassed (⟦<T as Transport>⟧) self.old.transport passed self.new.transport)) }
         ensures breaks { IfErr result (λ f. (passed : List Passage)
-            × BreaksOff (⟦<Scripted<MemStable> as Stable>⟧) left (pumped_of self.old) passed f (pumped_of self.new)
+            × PumpBreaksOff (⟦<Scripted<MemStable> as Stable>⟧) left (pumped_of self.old) passed f (pumped_of self.new)
             × HasPassed (⟦<T as Transport>⟧) self.old.transport passed self.new.transport) }
     {
         let mut made = 0;

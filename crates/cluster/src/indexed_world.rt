@@ -8,7 +8,7 @@ ghost use Rattle.world.specs.Seen.{world_of};
 ghost use Rattle.world_model.specs.Staying.{IsSafeOver};
 ghost use Rattle.world_model.specs.Worlds.{Steps};
 ghost use Rattle.cluster.specs.Indexes.{Indexes, number_of, spellings};
-ghost use Rattle.cluster.specs.Lowest.{IsLowest, IsStranger};
+ghost use Rattle.cluster.specs.Lowest.{IsLowestFrame, IsStranger};
 
 use stable::{MemStable, Scripted, Stable};
 use std::alloc::{AllocError, Global};
@@ -103,7 +103,7 @@ impl IndexedWorld {
     ) -> Result<Option<u64>, AllocError>
         ensures found { IfOk result (λ found. MatchOption found
             (IsStranger (world_of self.old.world).frames node datagram.now.items)
-            (IsLowest (world_of self.old.world).frames node datagram.now.items)) }
+            (IsLowestFrame (world_of self.old.world).frames node datagram.now.items)) }
         ensures world { world_of self.new.world ≡ world_of self.old.world }
     {
         self.catch_up(alloc)?;

@@ -4,7 +4,7 @@ use Rattle.stable.specs.Script.{Script}
 use Rattle.stable.specs.declared.stable.Stable.{Ghosts}
 use Rattle.replay.specs.Causes.{cause_code, fault_of}
 use Rattle.replay.specs.Runs.{EndsOver, ReplayEnds}
-use Rattle.schedule.specs.Schedules.{IsRefusal, IsScheduleOf, Plan}
+use Rattle.schedule.specs.Schedules.{IsParseRefusal, IsScheduleOf, Plan}
 use Rattle.stable.specs.declared.memory.MemStable.{MemStable}
 use Rattle.cluster.specs.Clusters.{ClusterState}
 use Rattle.cluster.specs.declared.transport.Transport.{Ghosts as Transports}
@@ -52,7 +52,7 @@ module _ {S : Type 0} (storages : Ghosts (Script S)) where
       (record { fault = fault; ends = ends; cause = named; told = refl })
 
 -- what bytes that are no schedule are to the program
-pub unread_ends : (bytes : List ℕ) (refusal : ParseFault) (fault : ReplayFault) (failure : Failure) → IsRefusal bytes refusal
+pub unread_ends : (bytes : List ℕ) (refusal : ParseFault) (fault : ReplayFault) (failure : Failure) → IsParseRefusal bytes refusal
     → fault ≡ fault_of refusal → (fault.cause ≡ cause.Memory → failure ≡ Memory) → (fault.cause ≢ cause.Memory → HasLine fault failure)
     → failure ≢ Memory → IsUnread bytes failure
 unread_ends bytes refusal fault failure refused is memory line other =

@@ -12,7 +12,7 @@ use Rattle.stable.specs.declared.memory.MemStable.{MemStable}
 use Rattle.stable.specs.declared.stable.Stable.{Ghosts}
 use Rattle.replay.specs.Causes.{cause_code, fault_of}
 use Rattle.replay.specs.Runs.{EndsOver, ReplayEnds}
-use Rattle.schedule.specs.Schedules.{IsRefusal, IsScheduleOf, Plan}
+use Rattle.schedule.specs.Schedules.{IsParseRefusal, IsScheduleOf, Plan}
 use Rattle.schedule.specs.declared.fault.ParseFault.{ParseFault}
 use Rattle.replay.specs.declared.replay_fault.ReplayCause.TheVariants as cause
 use Rattle.replay.specs.declared.replay_fault.ReplayFault.{ReplayFault}
@@ -65,7 +65,7 @@ module _ {S : Type 0} (storages : Ghosts (Script S)) where
 -- the replay of the bytes ended as they were read, at this line, with this number, and not for want of memory
 pub record IsUnreadAt (bytes : List ℕ) (at : FaultyLine) : Type 0 where
   pub refusal : ParseFault
-  pub refused : IsRefusal bytes refusal
+  pub refused : IsParseRefusal bytes refusal
   pub cause : (fault_of refusal).cause ≢ cause.Memory
   pub told : at ≡ record { line = (fault_of refusal).line; fault = cause_code (fault_of refusal).cause }
 

@@ -1,6 +1,6 @@
 -- The votes that a promise tells.
 use Rattle.std.proofs.Common.{◌≡◌, ℕ, suc, ◌+◌, [], ◌∷◌, ◌++◌, refl, subst, ◌≤◌, arith}
-use Rattle.wire.specs.Promises.{IsTold, IsPromise}
+use Rattle.wire.specs.Promises.{IsToldVote, IsPromise}
 use Rattle.wire.specs.Reading.{ballot_of}
 use Rattle.conformance.specs.Fleets.{put_of}
 use Rattle.conformance.specs.Messages.{votes, vote_of, promise_of}
@@ -19,7 +19,7 @@ votes_more s k =
     subst (λ (n : ℕ). votes s k ++ vote_of k (put_of s 0) ∷ [] ≡ votes s n) (omega arith) (votes_suc s k)
 
 -- a promise may tell one of them
-told_vote : (s : Scene) (from k : ℕ) → from ≤ k → k ≤ 3 → IsTold (ballot_of 1 0) from 3 (vote_of k (put_of s 0))
+told_vote : (s : Scene) (from k : ℕ) → from ≤ k → k ≤ 3 → IsToldVote (ballot_of 1 0) from 3 (vote_of k (put_of s 0))
 told_vote s from k low high = record { not_before = low; not_after = high; not_above = omega arith }
 
 -- and all of them

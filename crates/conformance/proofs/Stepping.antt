@@ -1,6 +1,6 @@
 -- One step more.
 use Rattle.std.proofs.Common.{ℕ, suc, ◌+◌, ◌%◌, ◌^◌, subst, arith}
-use Rattle.conformance.specs.Steps.{Reached, Passes, IsAnswered}
+use Rattle.conformance.specs.Steps.{Reached, StepPasses, IsAnswered}
 use Rattle.conformance.specs.Sums.{SumsTo}
 use Rattle.conformance.proofs.Adding.{sum_of_none, sum_of_more}
 
@@ -23,12 +23,12 @@ reached_more Starts Step k old new reached step =
 pub record Counted {S : Type 0} (Starts : S → Type 0) (Step : ℕ → S → ℕ → S → Type 0) (rounds total : ℕ)
     (s : S) : Type 0 where
   pub sums : SumsTo (IsAnswered Starts Step) rounds total
-  pub reached : Reached Starts (Passes Step) rounds s
+  pub reached : Reached Starts (StepPasses Step) rounds s
 
 pub counted_none : {S : Type 0} → (Starts : S → Type 0) (Step : ℕ → S → ℕ → S → Type 0) (s : S) → Starts s →
     Counted Starts Step 0 0 s
 counted_none Starts Step s starts =
-    record { sums = sum_of_none (IsAnswered Starts Step); reached = reached_none Starts (Passes Step) s starts }
+    record { sums = sum_of_none (IsAnswered Starts Step); reached = reached_none Starts (StepPasses Step) s starts }
 
 pub counted_more : {S : Type 0} → (Starts : S → Type 0) (Step : ℕ → S → ℕ → S → Type 0) (k total : ℕ) (old : S)
     (number : ℕ) (new : S) → Counted Starts Step k total old → Step k old number new →
@@ -37,5 +37,5 @@ counted_more Starts Step k total old number new counted step =
     record {
       sums = sum_of_more (IsAnswered Starts Step) k total number counted.sums
           (record { old = old; new = new; reached = counted.reached; step = step });
-      reached = reached_more Starts (Passes Step) k old new counted.reached (number, step);
+      reached = reached_more Starts (StepPasses Step) k old new counted.reached (number, step);
     }

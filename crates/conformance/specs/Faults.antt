@@ -60,6 +60,6 @@ IsNoVote bytes Vote = (b : Ballot) (c : Command) → ¬ IsVoteRecord bytes b c
 IsNoVote bytes fault = fault ≡ Memory
 
 -- bytes are no document, for the fault that they have, or memory is wanting
-abbrev pub IsNoDocument : List ℕ → Fault → Type 0
-IsNoDocument bytes Memory = Unit {0}
-IsNoDocument bytes fault = (why : MfFault) × IsFaultOf bytes why × (fault ≡ of_document why)
+abbrev pub DocumentIsRefused : List ℕ → Fault → Type 0
+DocumentIsRefused bytes Memory = Unit {0}
+DocumentIsRefused bytes fault = (why : MfFault) × IsFaultOf bytes why × (fault ≡ of_document why)

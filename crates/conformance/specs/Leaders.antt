@@ -28,14 +28,14 @@ abbrev pub leading_of : Leader → Leading
 leading_of l = record { proposing = l.proposer; learning = learning_of l.learner }
 
 -- the request waits from now on, as the last one, unless it waits already
-pub record Submits (old : Proposing) (r : Asked) (new : Proposing) : Type 0 where
+pub record RequestWaits (old : Proposing) (r : Asked) (new : Proposing) : Type 0 where
   pub again : list_any (is_of r.client r.number) old.waiting ≡ true → new ≡ old
   pub last : list_any (is_of r.client r.number) old.waiting ≡ false → new ≡ record old { waiting = old.waiting ++ r ∷ [] }
 
 -- ---- it begins
 -- one request more comes
 abbrev pub Comes : ℕ → Proposing → Proposing → Type 0
-Comes place old new = Submits old (request_of (place + 1)) new
+Comes place old new = RequestWaits old (request_of (place + 1)) new
 
 -- so many requests came to the first of three nodes
 abbrev pub HasSubmitted : ℕ → Proposing → Type 0
@@ -73,7 +73,7 @@ pub record Proposes (waiting place : ℕ) (old : Leading) (number : ℕ) (new : 
   pub proposes : (opened, sent) ≡ proposes old.proposing old.proposing.campaign old.learning
   pub learned : Option Learned
   pub learns : HearsDecided old.learning place (Request (request_of (1 + place))) learned new.learning
-  pub submits : Submits (executed (after_learned opened place) (1 + place)) (request_of (waiting + (1 + place))) new.proposing
+  pub submits : RequestWaits (executed (after_learned opened place) (1 + place)) (request_of (waiting + (1 + place))) new.proposing
   pub told : number ≡ length sent + waited_number (list_any (is_of CLIENT (1 + place)) (after_learned opened place).waiting)
 
 -- where a lap is over another leader begins

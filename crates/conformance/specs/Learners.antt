@@ -7,13 +7,13 @@ use Rattle.conformance.specs.Requests.{vote_at}
 use Rattle.conformance.specs.Steps.{Reached}
 
 -- two of three nodes told their votes, at one slot behind the first after the other
-pub record Tells (k : ℕ) (old new : Learning) : Type 0 where
+pub record TwoNodesTell (k : ℕ) (old new : Learning) : Type 0 where
   pub learned : Option Learned
   pub hears : HearsVote old (k % 2) (vote_at (1 + k / 2)) learned new
 
 -- at so many slots
-abbrev pub HasLearnt : ℕ → Learning → Type 0
-HasLearnt slots = Reached (λ l. l ≡ unlearnt 3) Tells (2 * slots)
+abbrev pub HasLearntSlots : ℕ → Learning → Type 0
+HasLearntSlots slots = Reached (λ l. l ≡ unlearnt 3) TwoNodesTell (2 * slots)
 
 -- the slot of a round's vote: the first, which isn't learnt, and one of those that are, in turn
 abbrev pub told_slot : ℕ → ℕ → ℕ

@@ -38,7 +38,7 @@ module _ {S : Type 0} (storages : Ghosts (Script S)) where
     pub made : Makes kind bytes outcome.text.items
 
   -- a failure that has this line ends it on the bytes
-  pub record IsTold (kind : Kind) (bytes : List ℕ) (outcome : Outcome) : Type 0 where
+  pub record OutcomeIsTold (kind : Kind) (bytes : List ℕ) (outcome : Outcome) : Type 0 where
     pub ending : outcome.ending.now ≡ codes "error"
     pub failure : Failure
     pub ends : EndsWith kind bytes failure
@@ -46,4 +46,4 @@ module _ {S : Type 0} (storages : Ghosts (Script S)) where
 
   -- what comes of the bytes
   abbrev pub IsOutcome : Kind → List ℕ → Outcome → Type 0
-  IsOutcome kind bytes outcome = IsPrinted kind bytes outcome ⊎ IsTold kind bytes outcome
+  IsOutcome kind bytes outcome = IsPrinted kind bytes outcome ⊎ OutcomeIsTold kind bytes outcome

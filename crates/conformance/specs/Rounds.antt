@@ -40,20 +40,20 @@ PointAnswers CutWhole s round number = IsCutNumber s s.whole number
 PointAnswers Write s round number = IsLength s number
 PointAnswers Datetimes s round number = number ≡ START + STEP * round
 
-abbrev pub Answers : SceneWork → Scene → ℕ → ℕ → Type 0
-Answers (Point work) s round number = PointAnswers work s round number
-Answers (Query work) s round number = IsAnswerLength (fleet_of s) (query_of work s round) number
-Answers (Apply work) s round number = IsReplyNumber work s round number
-Answers Check s round number = IsLength s number
-Answers Execute s round number = IsOutcomeNumber s round number
-Answers (Encode sent) s round number = IsFrameLength sent number
-Answers (Decode sent) s round number = IsSlotNumber sent number
+abbrev pub SceneAnswers : SceneWork → Scene → ℕ → ℕ → Type 0
+SceneAnswers (Point work) s round number = PointAnswers work s round number
+SceneAnswers (Query work) s round number = IsAnswerLength (fleet_of s) (query_of work s round) number
+SceneAnswers (Apply work) s round number = IsReplyNumber work s round number
+SceneAnswers Check s round number = IsLength s number
+SceneAnswers Execute s round number = IsOutcomeNumber s round number
+SceneAnswers (Encode sent) s round number = IsFrameLength sent number
+SceneAnswers (Decode sent) s round number = IsSlotNumber sent number
 
 -- the sum of so many rounds on a moving point of so many points
 pub record IsSceneSum (work : SceneWork) (points rounds total : ℕ) : Type 0 where
   pub scene : Scene
   pub made : IsScene points scene
-  pub sums : SumsTo (Answers work scene) rounds total
+  pub sums : SumsTo (SceneAnswers work scene) rounds total
 
 abbrev pub IsSum : Work → ℕ → ℕ → ℕ → Type 0
 IsSum (OfScene work) size rounds total = IsSceneSum work size rounds total

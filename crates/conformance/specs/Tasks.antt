@@ -103,13 +103,13 @@ pub record IsReadAs (bits : ℕ) (word : List ℕ) (n : ℕ) : Type 0 where
   pub fits : n < 2 ^ bits
 
 -- the words for a task's work, size and rounds
-pub record Names (work size rounds : List ℕ) (task : Task) : Type 0 where
+pub record NamesTask (work size rounds : List ℕ) (task : Task) : Type 0 where
   pub name : work ≡ name_of task.work
   pub extent : IsReadAs 16 size task.size
   pub times : IsReadAs 32 rounds task.rounds
 
 -- the words ask for a task; without a size it is one
-abbrev pub Asks : List (List ℕ) → Task → Type 0
-Asks (work ∷ rounds ∷ []) task = Names work (codes "1") rounds task
-Asks (work ∷ size ∷ rounds ∷ []) task = Names work size rounds task
-Asks _ task = ⊥
+abbrev pub AsksForTask : List (List ℕ) → Task → Type 0
+AsksForTask (work ∷ rounds ∷ []) task = NamesTask work (codes "1") rounds task
+AsksForTask (work ∷ size ∷ rounds ∷ []) task = NamesTask work size rounds task
+AsksForTask _ task = ⊥

@@ -7,7 +7,7 @@ ghost use Rattle.synod.specs.declared.slot.TheConstants.{SLOTS};
 ghost use Rattle.conformance.specs.Requests.{request_of};
 ghost use Rattle.stable.specs.Memory.{stored};
 ghost use Rattle.stable.specs.Records.{no_records};
-ghost use Rattle.conformance.specs.Leaders.{Campaigns, HasSubmitted, Submits, first_promise};
+ghost use Rattle.conformance.specs.Leaders.{Campaigns, HasSubmitted, RequestWaits, first_promise};
 
 use crate::fault::Fault;
 use crate::messages::first_ballot;
@@ -107,7 +107,7 @@ fn asked(alloc: Global, storage: &mut MemStable, waiting: u16) -> Result<Propose
 /// The request of this number comes.
 fn submit(proposer: &mut Proposer, number: u64) -> Result<(), Fault>
     requires { 1 ≤ number }
-    ensures { OnOk result (Submits proposer.old (request_of number) proposer.new) }
+    ensures { OnOk result (RequestWaits proposer.old (request_of number) proposer.new) }
 {
     proposer.submit(request(number)?)?;
     Ok(())

@@ -2,7 +2,7 @@
 
 ghost use Rattle.std.specs.Prelude.{◌≡◌, ◌≤◌, IfOk};
 ghost use Rattle.learner.specs.State.{learning_of};
-ghost use Rattle.conformance.specs.Learners.{HasLearnt, IsTelling, told_slot};
+ghost use Rattle.conformance.specs.Learners.{HasLearntSlots, IsTelling, told_slot};
 
 use crate::fault::Fault;
 use crate::numbers::STEP;
@@ -13,7 +13,7 @@ use wire::{NodeId, Nodes};
 
 /// A learner of three nodes, to which two of them told their votes at so many slots behind the first one.
 pub fn learner_of(alloc: Global, slots: u16) -> Result<Learner, Fault>
-    ensures { IfOk result (λ learner. HasLearnt slots (learning_of learner)) }
+    ensures { IfOk result (λ learner. HasLearntSlots slots (learning_of learner)) }
 {
     let mut learner = Learner::new(alloc, Nodes::new(3).unwrap());
     for telling in 0..2 * u32::from(slots) {

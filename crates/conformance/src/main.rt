@@ -42,7 +42,7 @@ ghost use Rattle.std.specs.IoError.{error_kind};
 ghost use Rattle.std.specs.Process.{exit_status};
 ghost use Rattle.conformance.specs.Faults.{status_of};
 ghost use Rattle.conformance.specs.Rounds.{IsSumOf};
-ghost use Rattle.conformance.specs.Tasks.{Asks};
+ghost use Rattle.conformance.specs.Tasks.{AsksForTask};
 
 use crate::examples::run_examples;
 use crate::fault::Fault;
@@ -147,7 +147,7 @@ fn answer(rt: &HostRuntime, line: &str) -> Result<u64, Fault> {
 
 /// The sum of the task that the words ask for.
 fn sum_of(rt: &HostRuntime, words: &[String]) -> Result<u64, Fault>
-    ensures { IfOk result (λ n. (task : Task) × Asks (map string_bytes words.now) task × IsSumOf task n) }
+    ensures { IfOk result (λ n. (task : Task) × AsksForTask (map string_bytes words.now) task × IsSumOf task n) }
 {
     match task_of(words) {
         Some(task) => sum(rt, task),

@@ -7,7 +7,7 @@ ghost use Rattle.mfjson.specs.declared.feature.Feature.{Feature};
 ghost use Rattle.sessions.specs.declared.command.Command.{Command};
 ghost use Rattle.synod.specs.declared.ballot.Ballot.{Ballot};
 ghost use Rattle.wire.specs.RecordForms.{IsVoteRecord};
-ghost use Rattle.conformance.specs.Faults.{IsNoDocument, IsNoVote, IsRefusalOf};
+ghost use Rattle.conformance.specs.Faults.{DocumentIsRefused, IsNoVote, IsRefusalOf};
 
 use crate::fault::Fault;
 use mfjson::{read, write};
@@ -73,7 +73,7 @@ pub fn document_again(alloc: Global, text: &str) -> Result<String, Fault> {
 /// The canonical document of the feature that these bytes are a document of, or why they are none.
 fn written_again(alloc: Global, document: &[u8]) -> Result<Vec<u8>, Fault>
     ensures canonical { IfOk result (λ again. (f : Feature) × IsDocumentOf document.now f × IsCanonical again.items f) }
-    ensures refused { IfErr result (IsNoDocument document.now) }
+    ensures refused { IfErr result (DocumentIsRefused document.now) }
 {
     let feature = read(alloc, document)?;
     Ok(write(alloc, &feature)?)

@@ -2,7 +2,7 @@
 
 ghost use Rattle.std.specs.Prelude.{IfOk};
 ghost use Rattle.conformance.specs.Sums.{SumsTo};
-ghost use Rattle.conformance.specs.Rounds.{Answers, PointAnswers};
+ghost use Rattle.conformance.specs.Rounds.{SceneAnswers, PointAnswers};
 ghost use Rattle.conformance.specs.declared.task.SceneWork.TheVariants.{Point, Query, Apply, Check};
 ghost use Rattle.conformance.specs.declared.task.SceneWork.TheVariants.{Execute, Encode, Decode};
 
@@ -24,7 +24,7 @@ use wire::encode;
 /// The sum of what the rounds answer, each as a number, in 64 bits; Usage where the work can't be done on so many
 /// points.
 pub fn scene_total(alloc: Global, work: SceneWork, scene: &Scene, rounds: u32) -> Result<u64, Fault>
-    ensures { IfOk result (SumsTo (Answers work scene.now) rounds) }
+    ensures { IfOk result (SumsTo (SceneAnswers work scene.now) rounds) }
 {
     match work {
         SceneWork::Point(work) => Ok(point_total(alloc, work, scene, rounds)?),
@@ -43,7 +43,7 @@ fn point_total(
     scene: &Scene,
     rounds: u32,
 ) -> Result<u64, AllocError>
-    ensures { IfOk result (SumsTo (Answers (Point work) scene.now) rounds) }
+    ensures { IfOk result (SumsTo (SceneAnswers (Point work) scene.now) rounds) }
 {
     let mut total = 0u64;
     for round in 0..rounds {
@@ -59,7 +59,7 @@ fn query_total(
     scene: &Scene,
     rounds: u32,
 ) -> Result<u64, AllocError>
-    ensures { IfOk result (SumsTo (Answers (Query work) scene.now) rounds) }
+    ensures { IfOk result (SumsTo (SceneAnswers (Query work) scene.now) rounds) }
 {
     let db = fleet(alloc, scene)?;
     let mut total = 0u64;
@@ -76,7 +76,7 @@ fn apply_total(
     scene: &Scene,
     rounds: u32,
 ) -> Result<u64, AllocError>
-    ensures { IfOk result (SumsTo (Answers (Apply work) scene.now) rounds) }
+    ensures { IfOk result (SumsTo (SceneAnswers (Apply work) scene.now) rounds) }
 {
     let mut db = fleet(alloc, scene)?;
     let mut total = 0u64;
@@ -88,7 +88,7 @@ fn apply_total(
 }
 
 fn check_total(alloc: Global, scene: &Scene, rounds: u32) -> Result<u64, AllocError>
-    ensures { IfOk result (SumsTo (Answers Check scene.now) rounds) }
+    ensures { IfOk result (SumsTo (SceneAnswers Check scene.now) rounds) }
 {
     let document = write(alloc, &scene.feature)?;
     let mut total = 0u64;
@@ -100,7 +100,7 @@ fn check_total(alloc: Global, scene: &Scene, rounds: u32) -> Result<u64, AllocEr
 }
 
 fn execute_total(alloc: Global, scene: &Scene, rounds: u32) -> Result<u64, Fault>
-    ensures { IfOk result (SumsTo (Answers Execute scene.now) rounds) }
+    ensures { IfOk result (SumsTo (SceneAnswers Execute scene.now) rounds) }
 {
     let mut machine = Machine::new(alloc);
     let mut total = 0u64;
@@ -112,7 +112,7 @@ fn execute_total(alloc: Global, scene: &Scene, rounds: u32) -> Result<u64, Fault
 }
 
 fn encode_total(alloc: Global, sent: Sent, scene: &Scene, rounds: u32) -> Result<u64, Fault>
-    ensures { IfOk result (SumsTo (Answers (Encode sent) scene.now) rounds) }
+    ensures { IfOk result (SumsTo (SceneAnswers (Encode sent) scene.now) rounds) }
 {
     let envelope = envelope(alloc, sent)?;
     let mut total = 0u64;
@@ -124,7 +124,7 @@ fn encode_total(alloc: Global, sent: Sent, scene: &Scene, rounds: u32) -> Result
 }
 
 fn decode_total(alloc: Global, sent: Sent, scene: &Scene, rounds: u32) -> Result<u64, Fault>
-    ensures { IfOk result (SumsTo (Answers (Decode sent) scene.now) rounds) }
+    ensures { IfOk result (SumsTo (SceneAnswers (Decode sent) scene.now) rounds) }
 {
     let envelope = envelope(alloc, sent)?;
     let frame = encode(alloc, &envelope)?;

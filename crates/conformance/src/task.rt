@@ -2,7 +2,7 @@
 
 ghost use Rattle.std.specs.Prelude.{◌≡◌, ◌≢◌, ℕ, MatchOption, map, string_bytes};
 ghost use Rattle.conformance.specs.Tasks.{name_of, scene_name, point_name, query_name, apply_name, encode_name, decode_name, part_name};
-ghost use Rattle.conformance.specs.Tasks.{text_name, log_name, IsReadAs, Names, Asks};
+ghost use Rattle.conformance.specs.Tasks.{text_name, log_name, IsReadAs, NamesTask, AsksForTask};
 
 /// What is timed.
 #[derive(Clone, Copy)]
@@ -158,8 +158,8 @@ pub struct Task {
 
 /// The task that the words ask for: `WORK SIZE ROUNDS`, or `WORK ROUNDS` for a size of one.
 pub fn task_of(words: &[String]) -> Option<Task>
-    ensures { MatchOption result ((task : Task) → ¬ Asks (map string_bytes words.now) task)
-        (Asks (map string_bytes words.now)) }
+    ensures { MatchOption result ((task : Task) → ¬ AsksForTask (map string_bytes words.now) task)
+        (AsksForTask (map string_bytes words.now)) }
 {
     match words {
         [work, rounds] => numbered(work.as_str(), "1", rounds.as_str()),
@@ -170,8 +170,8 @@ pub fn task_of(words: &[String]) -> Option<Task>
 
 /// The task of this work and these numbers.
 fn numbered(work: &str, size: &str, rounds: &str) -> Option<Task>
-    ensures { MatchOption result ((task : Task) → ¬ Names work.now size.now rounds.now task)
-        (Names work.now size.now rounds.now) }
+    ensures { MatchOption result ((task : Task) → ¬ NamesTask work.now size.now rounds.now task)
+        (NamesTask work.now size.now rounds.now) }
 {
     let work = work_of(work)?;
     let size = size_of(size)?;

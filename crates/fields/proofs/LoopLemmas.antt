@@ -5,10 +5,10 @@ use Rattle.std.proofs.lemmas.List.{append-nil}
 use Rattle.tpoint.specs.declared.point.Point.{Point}
 use Rattle.fields.specs.declared.fault.FieldFault.{FieldFault}
 use Rattle.fields.specs.declared.fault.FieldFault.TheVariants as faults
-use Rattle.fields.specs.Reading.{◌>>=◌, Read, Fails, triple_from, triples_at}
+use Rattle.fields.specs.Reading.{◌>>=◌, Read, FieldFails, triple_from, triples_at}
 
 -- a fault that is told is the fault of the reading
-pub fails_here : {Y : Type 0} (e : FieldFault) (read : Result Y FieldFault) → read ≡ Err e → Fails e read
+pub fails_here : {Y : Type 0} (e : FieldFault) (read : Result Y FieldFault) → read ≡ Err e → FieldFails e read
 fails_here {Y} faults.Memory read h = tt
 fails_here {Y} faults.Short read h = h
 fails_here {Y} faults.Field read h = h
@@ -24,7 +24,7 @@ regroup front one (Err f) = refl
 
 -- a first step that fails is the fault of the whole
 pub fails_first : {A B : Type 0} (e : FieldFault) (first : Result A FieldFault) (then : A → Result B FieldFault) (total : Result B FieldFault)
-    → Fails e first → total ≡ (first >>= then) → Fails e total
+    → FieldFails e first → total ≡ (first >>= then) → FieldFails e total
 fails_first {A} {B} faults.Memory first then total h so_far = tt
 fails_first {A} {B} faults.Short first then total h so_far = so_far ∙ ap (λ (r : Result A FieldFault). r >>= then) h
 fails_first {A} {B} faults.Field first then total h so_far = so_far ∙ ap (λ (r : Result A FieldFault). r >>= then) h
@@ -48,8 +48,8 @@ triples_go_on front count i from bytes p after total lt h so_far =
     sym one ∙ so_far
 
 pub triples_end : (e : FieldFault) (front : List Point) (count i from : ℕ) (bytes : List ℕ) (total : Read (List Point)) → i < count
-    → Fails e (triple_from from bytes)
-    → with_front front (triples_at (count - i) from bytes) ≡ total → Fails e total
+    → FieldFails e (triple_from from bytes)
+    → with_front front (triples_at (count - i) from bytes) ≡ total → FieldFails e total
 unfolding triples_at
 triples_end e front count i from bytes total lt h so_far =
     let k : count - i ≡ suc (count - (i + 1)) = omega arith in

@@ -31,13 +31,13 @@ Tells view (Err e) read = read ≡ Err e
 
 -- ---- reading fields
 -- the same of a function that takes memory: what it returned is what reading gives, unless memory ran out
-abbrev pub Fails : {Y : Type 0} → FieldFault → Result Y FieldFault → Type 0
-Fails Memory read = Unit {0}
-Fails e read = read ≡ Err e
+abbrev pub FieldFails : {Y : Type 0} → FieldFault → Result Y FieldFault → Type 0
+FieldFails Memory read = Unit {0}
+FieldFails e read = read ≡ Err e
 
-abbrev pub Gives : {X Y : Type 0} → (X → Y) → Result X FieldFault → Result Y FieldFault → Type 0
-Gives view (Ok x) read = read ≡ Ok (view x)
-Gives view (Err e) read = Fails e read
+abbrev pub FieldGives : {X Y : Type 0} → (X → Y) → Result X FieldFault → Result Y FieldFault → Type 0
+FieldGives view (Ok x) read = read ≡ Ok (view x)
+FieldGives view (Err e) read = FieldFails e read
 
 -- a value and the bytes after it, or a fault
 abbrev pub Read : Type 0 → Type 0

@@ -3,7 +3,7 @@
 ghost use Rattle.std.specs.Prelude.{◌≡◌, ◌<◌, ◌≤◌, ◌+◌, ◌↔◌, IsTrue, IfOk, length};
 ghost use Rattle.tpoint.specs.Coordinates.{InRange};
 ghost use Rattle.tpoint.specs.Moving.{InBounds};
-ghost use Rattle.fields.specs.Reading.{Gives, Tells, id_at, instant_at, is_coordinate};
+ghost use Rattle.fields.specs.Reading.{FieldGives, Tells, id_at, instant_at, is_coordinate};
 ghost use Rattle.fields.specs.Reading.{coordinate_at, triple_at, triple_from, triples_at, interp_at, count_at, sequence_at};
 
 use crate::fault::FieldFault;
@@ -29,7 +29,7 @@ pub fn read_id(input: &mut Input) -> Result<Id, FieldFault>
 pub fn read_sequence(alloc: Global, most: u16, input: &mut Input) -> Result<Seq, FieldFault>
     requires { most ≤ MOST_POINTS }
     ensures short { IfOk result (λ s. length s.points ≤ most) }
-    ensures read { Gives (λ x. (x, input.new)) result (sequence_at most input.old) }
+    ensures read { FieldGives (λ x. (x, input.new)) result (sequence_at most input.old) }
 {
     let interp = read_interp(input)?;
     let count = read_count(most, input)?;
@@ -68,7 +68,7 @@ fn read_count(most: u16, input: &mut Input) -> Result<u16, FieldFault>
 /// So many triples, each later than the one before it.
 fn read_triples(alloc: Global, count: u16, input: &mut Input) -> Result<Vec<Point>, FieldFault>
     ensures counted { IfOk result (λ ps. length ps.items ≡ count) }
-    ensures read { Gives (λ x. (x.items, input.new)) result (triples_at count 0 input.old) }
+    ensures read { FieldGives (λ x. (x.items, input.new)) result (triples_at count 0 input.old) }
 {
     let mut points = Vec::with_capacity(alloc, usize::from(count))?;
     let mut from = 0;

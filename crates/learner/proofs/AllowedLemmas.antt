@@ -15,7 +15,7 @@ use Rattle.synod.proofs.Doing.{does_nothing, does_one, does_then}
 use Rattle.sessions.specs.declared.command.Command.{Command}
 use Rattle.learner.specs.Learning.{Learning, HearsVote, HearsDecided, IsDecided, with_heard, with_learnt, told_too, unheard, is_same_ballot}
 use Rattle.learner.specs.Learning.{ignores, hears, learns, ignores_decided, learns_decided}
-use Rattle.learner.specs.Protocol.{LearnerStands, MayLearn}
+use Rattle.learner.specs.Protocol.{LearnerStands, LearnerMayLearn}
 use Rattle.learner.specs.declared.learned.Learned.{Learned}
 use Rattle.learner.proofs.TallyLemmas.{true_or_false, one_ballot, left_of, right_of}
 
@@ -30,9 +30,9 @@ at_slot f slot x P there else_ s = elim (eqb_tells s slot) [
 -- the same, of another result that is this
 along : {f : Membership Command} {i : ℕ} {input : Input Command} {x : Local Command} {c : Command}
     {learned other : Option Learned} {new state : Learning}
-    → learned ≡ other → new ≡ state → MayLearn f i input x c learned new → MayLearn f i input x c other state
+    → learned ≡ other → new ≡ state → LearnerMayLearn f i input x c learned new → LearnerMayLearn f i input x c other state
 along {f} {i} {input} {x} {c} {learned} {other} {new} {state} e k may =
-    subst (λ l. MayLearn f i input x c other l) k (subst (λ o. MayLearn f i input x c o new) e may)
+    subst (λ l. LearnerMayLearn f i input x c other l) k (subst (λ o. LearnerMayLearn f i input x c o new) e may)
 
 module _ (f : Membership Command) (i : ℕ) (x : Local Command) (old : Learning) (stands : LearnerStands old x.mind) where
   -- nothing joins the history
@@ -40,7 +40,7 @@ module _ (f : Membership Command) (i : ℕ) (x : Local Command) (old : Learning)
       → Does f i input x (record x { mind = m; learnt = x.learnt ++ [] })
   none_learnt input m does = subst (λ l. Does f i input x (record x { mind = m; learnt = l })) (sym (append-nil x.learnt)) does
 
-  changes_nothing : (input : Input Command) (c : Command) → MayLearn f i input x c None old
+  changes_nothing : (input : Input Command) (c : Command) → LearnerMayLearn f i input x c None old
   changes_nothing input c = record {
     learnt = x.mind.learnt;
     heard = x.mind.heard;
@@ -96,7 +96,7 @@ module _ (f : Membership Command) (i : ℕ) (x : Local Command) (old : Learning)
           (heard_of_slot a b c below) (λ q told. Contains-append_left x.mind.heard ((from, v) ∷ []) _ (stands.heard q a b c below told)) s;
     }
 
-    is_heard : MayLearn f i input x v.command None (with_heard old from v)
+    is_heard : LearnerMayLearn f i input x v.command None (with_heard old from v)
     is_heard = record {
       learnt = x.mind.learnt;
       heard = hearing;
@@ -105,7 +105,7 @@ module _ (f : Membership Command) (i : ℕ) (x : Local Command) (old : Learning)
     }
 
     is_learnt : f.nodes ≡ old.nodes → IsDecided old.nodes (old.heard v.slot) v.ballot from v.command
-        → MayLearn f i input x v.command (Some (record { slot = v.slot })) (with_learnt old v.slot v.command)
+        → LearnerMayLearn f i input x v.command (Some (record { slot = v.slot })) (with_learnt old v.slot v.command)
     is_learnt same most =
         let between : Local Command = acted i x (act.Hears from v) in
         let may : act.MayLearn f input between.mind v.slot v.command = inl (
@@ -126,7 +126,7 @@ module _ (f : Membership Command) (i : ℕ) (x : Local Command) (old : Learning)
 
     -- the news of a vote
     pub allows_vote : f.nodes ≡ old.nodes → (learned : Option Learned) (new : Learning) → HearsVote old from v learned new
-        → MayLearn f i input x v.command learned new
+        → LearnerMayLearn f i input x v.command learned new
     allows_vote same learned new (ignores never e k) = along (sym e) (sym k) (changes_nothing input v.command)
     allows_vote same learned new (hears counts few e k) = along (sym e) (sym k) is_heard
     allows_vote same learned new (learns counts most e k) = along (sym e) (sym k) (is_learnt same most)
@@ -134,7 +134,7 @@ module _ (f : Membership Command) (i : ℕ) (x : Local Command) (old : Learning)
   -- a decided slot
   pub allows_decided : (input : Input Command) (s : ℕ) (c : Command) → Brings input (Decided s c)
       → (learned : Option Learned) (new : Learning)
-      → HearsDecided old s c learned new → MayLearn f i input x c learned new
+      → HearsDecided old s c learned new → LearnerMayLearn f i input x c learned new
   allows_decided input s c brings learned new (ignores_decided never e k) = along (sym e) (sym k) (changes_nothing input c)
   allows_decided input s c brings learned new (learns_decided open_ e k) =
       along (sym e) (sym k) (record {

@@ -3,7 +3,7 @@ use Rattle.std.proofs.Common.{◌≡◌, ℕ, ◌<◌, ◌≤◌, Bool, true, fa
 use Rattle.synod.specs.Records.{put}
 use Rattle.synod.specs.declared.vote.Vote.{Vote}
 use Rattle.sessions.specs.declared.command.Command.{Command}
-use Rattle.learner.specs.Learning.{Learning, Heard, Counts, HearsVote, with_heard, with_learnt}
+use Rattle.learner.specs.Learning.{Learning, Heard, NewsCounts, HearsVote, with_heard, with_learnt}
 use Rattle.learner.specs.Learning as learning
 use Rattle.learner.specs.Places.{Turns}
 use Rattle.learner.specs.Places as places
@@ -18,7 +18,7 @@ module _ (old : Learning) (from : ℕ) (v : Vote Command) (learnt_then : ℕ →
   abbrev Reaches : Bool → Type 0
   Reaches learns = SlotHears old.nodes old.learnt old.heard from v learns learnt_then heard_then
 
-  counts : old.learnt v.slot ≡ None → old.heard v.slot v.ballot from ≡ None → Counts old from v
+  counts : old.learnt v.slot ≡ None → old.heard v.slot v.ballot from ≡ None → NewsCounts old from v
   counts none once = record { of_the_run = run; in_time = record { kept = kept; unlearnt = none }; once = once }
 
   pub hears_nothing_new : Reaches false → HearsVote old from v None after

@@ -15,7 +15,7 @@ use Rattle.sessions.specs.Same.{same_command, same_command_Decides}
 use Rattle.wire.specs.NodeSets.{has_node}
 use Rattle.wire.specs.OneBallot.{same_ballot}
 use Rattle.learner.specs.Learning.{Heard, is_same_ballot, told_too, IsDecided}
-use Rattle.learner.specs.Tallies.{told_in, has_voter, IsOf, AreApart, Overlap, IsPlace, voters_at, voters_of}
+use Rattle.learner.specs.Tallies.{told_in, has_voter, IsOf, TalliesAreApart, Overlap, IsTallyPlace, voters_at, voters_of}
 use Rattle.learner.specs.declared.tally.Tally.{Tally}
 use Rattle.learner.proofs.MajorityLemmas.{is_majority, is_no_majority}
 
@@ -98,7 +98,7 @@ some_of None h = absurd (let bad : false ≡ true = h in cc)
 some_of (Some x) h = (x, refl)
 
 -- where no two tallies overlap, it tells its command
-pub told_its_own : (ts : List Tally) → AreApart ts → (k : ℕ) (t : Tally) (b : Ballot) (a : ℕ) → slice_get ts k ≡ Some t → t.ballot ≡ b
+pub told_its_own : (ts : List Tally) → TalliesAreApart ts → (k : ℕ) (t : Tally) (b : Ballot) (a : ℕ) → slice_get ts k ≡ Some t → t.ballot ≡ b
     → has_node t.voters a ≡ true → told_in ts b a ≡ Some t.command
 told_its_own ts apart k t b a is e h =
     let some = some_of (told_in ts b a) (told_something ts k t b a is e h) in
@@ -134,7 +134,7 @@ not_none (Some x) h e = absurd cc
 
 -- at place i stood a tally of the ballot and the command, the only one, or none; its voters are these now, among them
 -- the node, whose first telling under the ballot it is
-module _ (ts : List Tally) (apart : AreApart ts) (b : Ballot) (a : ℕ) (c : Command) (i : ℕ) (old : Option Tally)
+module _ (ts : List Tally) (apart : TalliesAreApart ts) (b : Ballot) (a : ℕ) (c : Command) (i : ℕ) (old : Option Tally)
     (stood : slice_get ts i ≡ old) (of : (t : Tally) → old ≡ Some t → IsOf b c t)
     (only : (k : ℕ) (t : Tally) → slice_get ts k ≡ Some t → IsOf b c t → k ≡ i)
     (voters : List Bool) (member : has_node voters a ≡ true)
@@ -219,7 +219,7 @@ module _ (ts : List Tally) (apart : AreApart ts) (b : Ballot) (a : ℕ) (c : Com
         meets_none l u other (sym (elsewhere l other) ∙ is_u) (sym e ∙ ap (λ (x : Tally). x.ballot) same)
         (subst (λ x. Overlap x u) same overlap)
 
-    pub still_apart : AreApart after
+    pub still_apart : TalliesAreApart after
     still_apart k l t u is_t is_u e overlap = elim (eqb_tells k i) [
       | inl at ↦ elim (eqb_tells l i) [
         | inl there ↦ at.1 ∙ sym there.1
@@ -325,7 +325,7 @@ some_at [] i l = absurd (omega (arith, l))
 some_at (x ∷ xs) zero l = (x, refl)
 some_at (x ∷ xs) (suc i) l = some_at xs i (omega (arith, l))
 
-module _ (ts : List Tally) (apart : AreApart ts) (b : Ballot) (c : Command) where
+module _ (ts : List Tally) (apart : TalliesAreApart ts) (b : Ballot) (c : Command) where
   abbrev first : ℕ
   first = position_or_len (is_of b c) ts
 
@@ -353,7 +353,7 @@ module _ (ts : List Tally) (apart : AreApart ts) (b : Ballot) (c : Command) wher
       let u = stands_first within in
       (within, apart first k u.0 t u.1 is (u.2.0 ∙ sym o.0) (inr (u.2.1 ∙ sym o.1)))
 
-  pub place_of : (place : Option ℕ) → place ≡ cond (nat_lt first (length ts)) (Some first) None → IsPlace ts b c place
+  pub place_of : (place : Option ℕ) → place ≡ cond (nat_lt first (length ts)) (Some first) None → IsTallyPlace ts b c place
   place_of place e = elim (true_or_false (nat_lt first (length ts))) [
     | inl within ↦
         let here : place ≡ Some first = e ∙ rw within refl in
@@ -392,7 +392,7 @@ module _ (ts : List Tally) (b : Ballot) (c : Command) where
   stood_at None = slice_get_past ts (length ts) (le_refl _)
   stood_at (Some i) = refl
 
-  of_at : (place : Option ℕ) → IsPlace ts b c place → (t : Tally) → place_old ts place ≡ Some t → IsOf b c t
+  of_at : (place : Option ℕ) → IsTallyPlace ts b c place → (t : Tally) → place_old ts place ≡ Some t → IsOf b c t
   of_at None is t e = absurd cc
   of_at (Some i) is t e =
       let u = is.found i refl in
@@ -400,7 +400,7 @@ module _ (ts : List Tally) (b : Ballot) (c : Command) where
       let same : u.0 ≡ t = cc in
       subst (IsOf b c) same u.2
 
-  only_at : (place : Option ℕ) → IsPlace ts b c place → (k : ℕ) (t : Tally) → slice_get ts k ≡ Some t → IsOf b c t → k ≡ place_new ts place
+  only_at : (place : Option ℕ) → IsTallyPlace ts b c place → (k : ℕ) (t : Tally) → slice_get ts k ≡ Some t → IsOf b c t → k ≡ place_new ts place
   only_at None is k t g o = absurd (let bad : None ≡ Some k = is.only k t g o in cc)
   only_at (Some i) is k t g o = (let one : Some i ≡ Some k = is.only k t g o in cc)
 
@@ -409,20 +409,20 @@ module _ (ts : List Tally) (b : Ballot) (c : Command) where
   voters_there (Some i) = refl
 
   -- where there is none, nobody has told the command under the ballot
-  pub told_by_none : (place : Option ℕ) → IsPlace ts b c place → place ≡ None → (a : ℕ) → told_in ts b a ≢ Some c
+  pub told_by_none : (place : Option ℕ) → IsTallyPlace ts b c place → place ≡ None → (a : ℕ) → told_in ts b a ≢ Some c
   told_by_none place is nowhere a told =
       let r = teller ts b a c told in
       let bad : None ≡ Some r.at = sym nowhere ∙ is.only r.at r.tally r.is (r.ballot, r.command) in
       cc
 
   -- the tally that is read there
-  pub read_there : (place : Option ℕ) → IsPlace ts b c place → (i : ℕ) → place ≡ Some i → (t : Tally) → t ≡ get_or ts i t
+  pub read_there : (place : Option ℕ) → IsTallyPlace ts b c place → (i : ℕ) → place ≡ Some i → (t : Tally) → t ≡ get_or ts i t
       → slice_get ts i ≡ Some t
   read_there place is i e t read =
       let u = is.found i e in
       slice_get_read ts (length ts) i t refl (slice_get_within ts i u.0 u.1) read
 
-module _ (ts : List Tally) (apart : AreApart ts) (b : Ballot) (a : ℕ) (c : Command) (place : Option ℕ) (is : IsPlace ts b c place)
+module _ (ts : List Tally) (apart : TalliesAreApart ts) (b : Ballot) (a : ℕ) (c : Command) (place : Option ℕ) (is : IsTallyPlace ts b c place)
     (voters : List Bool) (member : has_node voters a ≡ true)
     (others : (n : ℕ) → n ≢ a → has_node voters n ≡ has_node (voters_at ts place) n) (once : told_in ts b a ≡ None) where
   others_there : (n : ℕ) → n ≢ a → has_node voters n ≡ has_node (voters_of (place_old ts place)) n
@@ -441,7 +441,7 @@ module _ (ts : List Tally) (apart : AreApart ts) (b : Ballot) (a : ℕ) (c : Com
 
   -- the list with it
   module _ (after : List Tally) (changed : (k : ℕ) → slice_get after k ≡ put (slice_get ts) (place_new ts place) (Some the_new) k) where
-    apart_then : AreApart after
+    apart_then : TalliesAreApart after
     apart_then = still_apart ts apart b a c (place_new ts place) (place_old ts place) (stood_at ts b c place) (of_at ts b c place is)
         (only_at ts b c place is) voters member others_there (nobody_of 7) once after changed
 
@@ -453,13 +453,13 @@ module _ (ts : List Tally) (apart : AreApart ts) (b : Ballot) (a : ℕ) (c : Com
   pushed : place ≡ None → (k : ℕ) → slice_get (ts ++ the_new ∷ []) k ≡ put (slice_get ts) (place_new ts place) (Some the_new) k
   pushed e k = push_at ts the_new k ∙ ap (λ p. put (slice_get ts) (place_new ts p) (Some the_new) k) (sym e)
 
-  pub pushed_apart : place ≡ None → AreApart (ts ++ the_new ∷ [])
+  pub pushed_apart : place ≡ None → TalliesAreApart (ts ++ the_new ∷ [])
   pushed_apart e = apart_then (ts ++ the_new ∷ []) (pushed e)
 
   -- whether there was room for it or not
-  pub pushed_or_not : place ≡ None → (pushes : Bool) (after : List Tally) → after ≡ cond pushes (ts ++ the_new ∷ []) ts → AreApart after
-  pushed_or_not e true after is_ = subst AreApart (sym is_) (pushed_apart e)
-  pushed_or_not e false after is_ = subst AreApart (sym is_) apart
+  pub pushed_or_not : place ≡ None → (pushes : Bool) (after : List Tally) → after ≡ cond pushes (ts ++ the_new ∷ []) ts → TalliesAreApart after
+  pushed_or_not e true after is_ = subst TalliesAreApart (sym is_) (pushed_apart e)
+  pushed_or_not e false after is_ = subst TalliesAreApart (sym is_) apart
 
   pub pushed_told : place ≡ None → told_in (ts ++ the_new ∷ []) ≡ told_too (told_in ts) b a c
   pushed_told e = told_there (ts ++ the_new ∷ []) (pushed e)
@@ -479,7 +479,7 @@ module _ (ts : List Tally) (apart : AreApart ts) (b : Ballot) (a : ℕ) (c : Com
         set_at ts i (record t { voters = voters }) (slice_get_within ts i t there) k
         ∙ ap (λ u. put (slice_get ts) i (Some u) k) same_tally ∙ ap (λ p. put (slice_get ts) (place_new ts p) (Some the_new) k) (sym e)
 
-    pub revised_apart : AreApart revised
+    pub revised_apart : TalliesAreApart revised
     revised_apart = apart_then revised set_there
 
     pub revised_told : told_in revised ≡ told_too (told_in ts) b a c

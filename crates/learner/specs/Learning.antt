@@ -66,13 +66,13 @@ pub record IsOpen (l : Learning) (s : ℕ) : Type 0 where
   pub unlearnt : l.learnt s ≡ None
 
 -- the news counts: it is of a node of the run and of an open slot, and the node's first under the ballot
-pub record Counts (l : Learning) (from : ℕ) (v : Vote Command) : Type 0 where
+pub record NewsCounts (l : Learning) (from : ℕ) (v : Vote Command) : Type 0 where
   pub of_the_run : from < l.nodes
   pub in_time : IsOpen l v.slot
   pub once : l.heard v.slot v.ballot from ≡ None
 
 -- no node has told the command at the slot under the ballot
-pub record IsUntold (l : Learning) (v : Vote Command) : Type 0 where
+pub record CommandIsUntold (l : Learning) (v : Vote Command) : Type 0 where
   pub by_none : (a : ℕ) → l.heard v.slot v.ballot a ≢ Some v.command
 
 -- of so many nodes a majority has told the command under the ballot, node `from` included
@@ -90,10 +90,10 @@ with_heard l from v = record l { heard = put l.heard v.slot (told_too (l.heard v
 -- what a learner makes of the news that node `from` cast a vote: which slot is newly learnt, and what it has learnt and
 -- heard then
 pub data HearsVote (old : Learning) (from : ℕ) (v : Vote Command) (learned : Option Learned) (new : Learning) : Type 0 where
-  ignores : (Counts old from v → ⊥) → learned ≡ None → new ≡ old → HearsVote old from v learned new
-  hears : Counts old from v → (IsDecided old.nodes (old.heard v.slot) v.ballot from v.command → ⊥)
+  ignores : (NewsCounts old from v → ⊥) → learned ≡ None → new ≡ old → HearsVote old from v learned new
+  hears : NewsCounts old from v → (IsDecided old.nodes (old.heard v.slot) v.ballot from v.command → ⊥)
       → learned ≡ None → new ≡ with_heard old from v → HearsVote old from v learned new
-  learns : Counts old from v → IsDecided old.nodes (old.heard v.slot) v.ballot from v.command
+  learns : NewsCounts old from v → IsDecided old.nodes (old.heard v.slot) v.ballot from v.command
       → learned ≡ Some (record { slot = v.slot }) → new ≡ with_learnt old v.slot v.command → HearsVote old from v learned new
 
 -- ---- the news that a slot is decided

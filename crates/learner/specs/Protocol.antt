@@ -22,7 +22,7 @@ learnt_by i c (Some learned) = record { node = i; slot = learned.slot; command =
 
 -- from x the node may come to a mind of which the learner's state stands, the command newly learnt, and nothing else
 -- changes: not its campaign, its position or what waits
-pub record MayLearn (f : Membership Command) (i : ℕ) (input : Input Command) (x : Local Command) (c : Command)
+pub record LearnerMayLearn (f : Membership Command) (i : ℕ) (input : Input Command) (x : Local Command) (c : Command)
     (learned : Option Learned) (new : Learning) : Type 0 where
   pub learnt : ℕ → Option Command
   pub heard : List (ℕ × Vote Command)

@@ -24,11 +24,11 @@ abbrev pub Overlap : Tally → Tally → Type 0
 Overlap t u = ((a : ℕ) × (has_node t.voters a ≡ true) × (has_node u.voters a ≡ true)) ⊎ (t.command ≡ u.command)
 
 -- under one ballot no two tallies do
-abbrev pub AreApart : List Tally → Type 0
-AreApart ts = (i j : ℕ) (t u : Tally) → slice_get ts i ≡ Some t → slice_get ts j ≡ Some u → t.ballot ≡ u.ballot → Overlap t u → i ≡ j
+abbrev pub TalliesAreApart : List Tally → Type 0
+TalliesAreApart ts = (i j : ℕ) (t u : Tally) → slice_get ts i ≡ Some t → slice_get ts j ≡ Some u → t.ballot ≡ u.ballot → Overlap t u → i ≡ j
 
 -- where it stands who told of the command under the ballot, if anybody did
-pub record IsPlace (ts : List Tally) (b : Ballot) (c : Command) (place : Option ℕ) : Type 0 where
+pub record IsTallyPlace (ts : List Tally) (b : Ballot) (c : Command) (place : Option ℕ) : Type 0 where
   pub found : (i : ℕ) → place ≡ Some i → (t : Tally) × (slice_get ts i ≡ Some t) × IsOf b c t
   pub only : (k : ℕ) (t : Tally) → slice_get ts k ≡ Some t → IsOf b c t → place ≡ Some k
 

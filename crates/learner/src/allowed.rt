@@ -11,20 +11,20 @@ ghost use Rattle.learner.specs.declared.learned.Learned.{Learned};
 ghost use Rattle.learner.specs.Learning.{Learning, prefix, skipped, HearsVote, HearsDecided};
 ghost use Rattle.synod.specs.Volatile.{Volatile};
 ghost use Rattle.synod.specs.declared.slot.TheConstants.{SLOTS};
-ghost use Rattle.learner.specs.Protocol.{LearnerStands, MayLearn};
+ghost use Rattle.learner.specs.Protocol.{LearnerStands, LearnerMayLearn};
 
 /// What a learner makes of the news of a vote that has come is allowed.
 pub fn vote_is_allowed()
     ensures { (f : Membership Command) (i from : ℕ) (x : Local Command) (old new : Learning) (v : Vote Command)
         (learned : Option Learned) → f.nodes ≡ old.nodes → LearnerStands old x.mind
-        → HearsVote old from v learned new → MayLearn f i (Came from (Accepted v)) x v.command learned new }
+        → HearsVote old from v learned new → LearnerMayLearn f i (Came from (Accepted v)) x v.command learned new }
 {}
 
 /// What a learner makes of a decided slot that it is told of is allowed.
 pub fn decided_is_allowed()
     ensures { (f : Membership Command) (i : ℕ) (input : Input Command) (x : Local Command) (old new : Learning) (s : ℕ)
         (c : Command) (learned : Option Learned) → Brings input (Decided s c) → LearnerStands old x.mind
-        → HearsDecided old s c learned new → MayLearn f i input x c learned new }
+        → HearsDecided old s c learned new → LearnerMayLearn f i input x c learned new }
 {}
 
 /// The prefix never falls, so the log's position may rise to it.

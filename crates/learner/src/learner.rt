@@ -41,7 +41,7 @@ impl Drop for Learner {
 }
 
 impl Learner {
-    ghost use Rattle.learner.specs.Learning.{unlearnt, unlearnt_from, learnt_at, prefix, skipped, IsOpen, Counts, IsUntold, HearsVote, HearsDecided};
+    ghost use Rattle.learner.specs.Learning.{unlearnt, unlearnt_from, learnt_at, prefix, skipped, IsOpen, NewsCounts, CommandIsUntold, HearsVote, HearsDecided};
     ghost use Rattle.learner.specs.State.{learning_of};
 
     /// Nothing is heard or learnt yet.
@@ -118,8 +118,8 @@ impl Learner {
             HearsVote (learning_of self.old) from vote.now learned (learning_of self.new)) }
 
         // Only news that counts can be refused memory, and of it only what is the first of its command under the ballot.
-        ensures counts { OnErr result (Counts (learning_of self.old) from vote.now) }
-        ensures first { OnErr result (IsUntold (learning_of self.old) vote.now) }
+        ensures counts { OnErr result (NewsCounts (learning_of self.old) from vote.now) }
+        ensures first { OnErr result (CommandIsUntold (learning_of self.old) vote.now) }
         ensures unchanged { OnErr result (learning_of self.new ≡ learning_of self.old) }
     {
         let slot = vote.slot;

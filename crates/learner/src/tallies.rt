@@ -2,7 +2,7 @@
 
 ghost use Rattle.std.specs.Prelude.{◌≡◌, ◌≢◌, ℕ, ◌<◌, [], length, slice_get, IsTrue, IsSome, Some, None, IfSome, IfOk, OnErr, true, false};
 ghost use Rattle.learner.specs.Learning.{told_too, IsDecided};
-ghost use Rattle.learner.specs.Tallies.{AreApart, told_in, IsPlace, voters_at};
+ghost use Rattle.learner.specs.Tallies.{TalliesAreApart, told_in, IsTallyPlace, voters_at};
 ghost use Rattle.wire.specs.NodeSets.{has_node};
 
 use super::tally::Tally;
@@ -17,7 +17,7 @@ use wire::{NodeId, NodeSet, Nodes, SharedCommand};
 pub(super) struct Tallies {
     tallies: Vec<Tally>,
     // Each command stands once under a ballot, and so does each node.
-    ghost apart: { AreApart tallies.items },
+    ghost apart: { TalliesAreApart tallies.items },
 }
 
 impl Tallies {
@@ -91,7 +91,7 @@ impl Tallies {
 
     /// Where it stands who told of the command under the ballot.
     fn position(&self, ballot: Ballot, command: &SharedCommand) -> Option<usize>
-        ensures { IsPlace self.now.tallies.items ballot command.now result }
+        ensures { IsTallyPlace self.now.tallies.items ballot command.now result }
     {
         self.tallies.iter().position(|tally| tally.ballot == ballot && tally.command == *command)
     }

@@ -15,8 +15,8 @@ use Rattle.tpoint.specs.Moving.{IsValid, InBounds, Rises}
 use Rattle.tpoint.specs.Places.{EachAt}
 use Rattle.mfjson.specs.declared.fault.MfFault.TheVariants.{Datetime, Coordinates, Lengths, Empty, TooMany, Order}
 use Rattle.mfjson.specs.Pairs.{Pairwise}
-use Rattle.mfjson.specs.Document.{SaysInstant, SaysWhen, SaysWhere, StandsFor}
-use Rattle.mfjson.specs.Faults.{IsFirst, IsInstantText, IsPlace, SaysCoordinates, FallsAt, geometry, datetimes, coordinates}
+use Rattle.mfjson.specs.Document.{SaysInstant, SaysWhen, SaysWhere, IsFeatureValue}
+use Rattle.mfjson.specs.Faults.{IsFirstBroken, IsInstantText, IsPlaceValue, SaysCoordinates, FallsAt, geometry, datetimes, coordinates}
 use Rattle.mfjson.specs.Outline.{IsOutline, FailsFirst, AreTogether, list_fault}
 use Rattle.mfjson.proofs.FirstFaults.{IsClear, clear_4, clear_5, clear_6, clear_7, clear_8, clear_9, clear_10, clear_11, clear_12, first_of}
 use Rattle.mfjson.proofs.FirstFaults.{first_alone}
@@ -51,26 +51,26 @@ clear_times d ts c when =
 
 clear_places : (d : Data) (ts : List ℕ) (cs : List (ℤ × ℤ)) → HasRead d ts cs → IsClear d 9
 clear_places d ts cs r =
-    clear_9 d (clear_times d ts r.clear r.when) (none_fails SaysCoordinates IsPlace (coordinates d) cs
+    clear_9 d (clear_times d ts r.clear r.when) (none_fails SaysCoordinates IsPlaceValue (coordinates d) cs
     (λ e p says. record { p = p; says = says }) r.where_to)
 
 -- ---- the first fault
 pub datetime_first : (d : Data) (id : List ℕ) (interp : Interp) (times places : List Data) (i : ℕ) → IsOutline d id interp times places →
-    FailsFirst IsInstantText times i → IsFirst d (Datetime i)
+    FailsFirst IsInstantText times i → IsFirstBroken d (Datetime i)
 datetime_first d id interp times places i o f =
     let here = subst (λ ds. FailsFirst IsInstantText ds i) o.lists.times_are f in
     first_of d (Datetime i) (clear_outline d id interp times places o) here.fails
     (λ j h g. let least = here.before j g in absurd (omega (arith, h, least)))
 
 pub coordinates_first : (d : Data) (id : List ℕ) (interp : Interp) (times places : List Data) (ts : List ℕ) (i : ℕ) →
-    IsOutline d id interp times places → Pairwise SaysInstant times ts → FailsFirst IsPlace places i → IsFirst d (Coordinates i)
+    IsOutline d id interp times places → Pairwise SaysInstant times ts → FailsFirst IsPlaceValue places i → IsFirstBroken d (Coordinates i)
 coordinates_first d id interp times places ts i o when f =
-    let here = subst (λ ds. FailsFirst IsPlace ds i) o.lists.places_are f in
+    let here = subst (λ ds. FailsFirst IsPlaceValue ds i) o.lists.places_are f in
     let read = subst (λ ds. Pairwise SaysInstant ds ts) o.lists.times_are when in
     first_of d (Coordinates i) (clear_times d ts (clear_outline d id interp times places o) read) here.fails
     (λ j h g. let least = here.before j g in absurd (omega (arith, h, least)))
 
-pub lengths_first : (d : Data) (ts : List ℕ) (cs : List (ℤ × ℤ)) → HasRead d ts cs → length ts ≢ length cs → IsFirst d Lengths
+pub lengths_first : (d : Data) (ts : List ℕ) (cs : List (ℤ × ℤ)) → HasRead d ts cs → length ts ≢ length cs → IsFirstBroken d Lengths
 lengths_first d ts cs r differ =
     first_alone d Lengths (clear_places d ts cs r) (λ same. differ (sym (pairwise_length SaysInstant (datetimes d) ts r.when) ∙ same
     ∙ pairwise_length SaysCoordinates (coordinates d) cs r.where_to)) refl
@@ -135,7 +135,7 @@ no_fall ds ps w j f rises =
 
 -- ---- what a list of points that is no sequence says of the document
 told_first : (d : Data) (ps : List Point) (fault : SeqFault) → IsClear d 10 → length (datetimes d) ≡ length ps →
-    Pairwise SaysWhen (datetimes d) ps → ((k : ℕ) → EachAt ps InBounds k) → IsFault ps fault → IsFirst d (list_fault fault)
+    Pairwise SaysWhen (datetimes d) ps → ((k : ℕ) → EachAt ps InBounds k) → IsFault ps fault → IsFirstBroken d (list_fault fault)
 told_first d ps seq_fault.Empty c long when bounds is = first_alone d Empty c (long ∙ is) refl
 told_first d ps seq_fault.TooMany c long when bounds is =
     first_alone d TooMany (clear_11 d c (omega (arith, long, is))) (omega (arith, long, is)) refl
@@ -150,7 +150,7 @@ told_first d ps (seq_fault.NotIncreasing i) c long when bounds is =
 told_first d ps (seq_fault.Range i) c long when bounds is = absurd (is.2.fails (bounds i))
 
 pub list_fault_first : (d : Data) (ts : List ℕ) (cs : List (ℤ × ℤ)) (ps : List Point) (fault : SeqFault) →
-    HasRead d ts cs → length ts ≡ length cs → AreTogether ps ts cs → IsFault ps fault → IsFirst d (list_fault fault)
+    HasRead d ts cs → length ts ≡ length cs → AreTogether ps ts cs → IsFault ps fault → IsFirstBroken d (list_fault fault)
 list_fault_first d ts cs ps fault r same all is =
     let long : length (datetimes d) ≡ length ps =
     pairwise_length SaysInstant (datetimes d) ts r.when ∙ sym (ap length all.when) ∙ length-map ps _ in
@@ -174,7 +174,7 @@ place_says e p s =
 pub feature_stands : (d : Data) (id : List ℕ) (interp : Interp) (times places : List Data) (ts : List ℕ) (cs : List (ℤ × ℤ))
     (ps : List Point) →
     IsOutline d id interp times places → HasRead d ts cs → AreTogether ps ts cs → IsValid (record { interp = interp; points = ps }) →
-    StandsFor d (record { id = id; seq = record { interp = interp; points = ps } })
+    IsFeatureValue d (record { id = id; seq = record { interp = interp; points = ps } })
 feature_stands d id interp times places ts cs ps o r all valid =
     let moving = o.lists.is_moving_point in
     record {

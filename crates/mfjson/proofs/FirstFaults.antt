@@ -6,8 +6,8 @@ use Rattle.tpoint.specs.declared.seq.TheConstants.{MOST_POINTS}
 use Rattle.mfjson.specs.declared.fault.MfFault.{MfFault}
 use Rattle.mfjson.specs.declared.fault.MfFault.TheVariants.{NotJson, Members, NotFeature, Id, Geometry, Interpolation, Datetime}
 use Rattle.mfjson.specs.declared.fault.MfFault.TheVariants.{Coordinates, Lengths, Empty, TooMany, Order, Memory}
-use Rattle.mfjson.specs.Faults.{Breaks, IsFirst, code_of, place_of, HasFeatureMembers, SaysFeature, SaysId, IsMovingPoint, SaysInterp}
-use Rattle.mfjson.specs.Faults.{IsInstantText, IsPlace, FailsAt, part, geometry, datetimes, coordinates}
+use Rattle.mfjson.specs.Faults.{Breaks, IsFirstBroken, code_of, place_of, HasFeatureMembers, SaysFeature, SaysId, IsMovingPoint, SaysInterp}
+use Rattle.mfjson.specs.Faults.{IsInstantText, IsPlaceValue, FailsAt, part, geometry, datetimes, coordinates}
 
 -- the fault of this number, at this place
 abbrev fault_at : ℕ → ℕ → MfFault
@@ -60,7 +60,7 @@ clear_more d n c kept =
     }
 
 pub first_of : (d : Data) (fault : MfFault) → IsClear d (code_of fault) → Breaks d fault →
-    ((j : ℕ) → j < place_of fault → ¬ Breaks d (fault_at (code_of fault) j)) → IsFirst d fault
+    ((j : ℕ) → j < place_of fault → ¬ Breaks d (fault_at (code_of fault) j)) → IsFirstBroken d fault
 first_of d fault c b earlier =
     record {
       broken = b;
@@ -71,7 +71,7 @@ first_of d fault c b earlier =
     }
 
 -- a fault that tells no place
-pub first_alone : (d : Data) (fault : MfFault) → IsClear d (code_of fault) → Breaks d fault → place_of fault ≡ 0 → IsFirst d fault
+pub first_alone : (d : Data) (fault : MfFault) → IsClear d (code_of fault) → Breaks d fault → place_of fault ≡ 0 → IsFirstBroken d fault
 first_alone d fault c b none = first_of d fault c b (λ j h. absurd (omega (arith, h, none)))
 
 -- ---- rule by rule
@@ -99,7 +99,7 @@ clear_7 d c h = clear_more d 6 c (λ i b. b h)
 pub clear_8 : (d : Data) → IsClear d 7 → ((i : ℕ) → ¬ FailsAt IsInstantText (datetimes d) i) → IsClear d 8
 clear_8 d c h = clear_more d 7 c h
 
-pub clear_9 : (d : Data) → IsClear d 8 → ((i : ℕ) → ¬ FailsAt IsPlace (coordinates d) i) → IsClear d 9
+pub clear_9 : (d : Data) → IsClear d 8 → ((i : ℕ) → ¬ FailsAt IsPlaceValue (coordinates d) i) → IsClear d 9
 clear_9 d c h = clear_more d 8 c h
 
 pub clear_10 : (d : Data) → IsClear d 9 → length (datetimes d) ≡ length (coordinates d) → IsClear d 10

@@ -13,8 +13,8 @@ use Rattle.mfjson.specs.declared.fault.MfFault.{MfFault}
 use Rattle.mfjson.specs.declared.fault.MfFault.TheVariants.{NotJson, Members, NotFeature, Id, Geometry, Interpolation, Datetime}
 use Rattle.mfjson.specs.declared.fault.MfFault.TheVariants.{Coordinates, Lengths, Empty, TooMany, Order, Memory}
 use Rattle.mfjson.specs.Pairs.{Pairwise}
-use Rattle.mfjson.specs.Document.{SaysWhen, SaysWhere, IsGeometry, StandsFor, IsDocumentOf, Shows}
-use Rattle.mfjson.specs.Faults.{Breaks, IsFirst, IsMovingPoint, IsInstantText, IsPlace, FailsAt, part, elements, geometry, datetimes}
+use Rattle.mfjson.specs.Document.{SaysWhen, SaysWhere, IsGeometry, IsFeatureValue, IsDocumentOf, TextShows}
+use Rattle.mfjson.specs.Faults.{Breaks, IsFirstBroken, IsMovingPoint, IsInstantText, IsPlaceValue, FailsAt, part, elements, geometry, datetimes}
 use Rattle.mfjson.specs.Faults.{coordinates}
 use Rattle.mfjson.proofs.Lists.{pairwise_length, pairwise_get, none_fails}
 use Rattle.mfjson.proofs.OneFeature.{stands_for_one}
@@ -39,7 +39,7 @@ moving_point g f is =
 
 -- a place of a point in range
 is_place : (ds : List Data) (ps : List Point) → Pairwise SaysWhere ds ps → ((k : ℕ) → EachAt ps InBounds k) → (i : ℕ)
-    → ¬ FailsAt IsPlace ds i
+    → ¬ FailsAt IsPlaceValue ds i
 is_place ds ps w all i f =
     let p = pairwise_get SaysWhere ds ps i f.element w f.here in
     let in_bounds = all i p.0 p.1 in
@@ -59,7 +59,7 @@ record HasPoints (d : Data) (f : Feature) : Type 0 where
   when : Pairwise SaysWhen (datetimes d) f.seq.points
   where_to : Pairwise SaysWhere (coordinates d) f.seq.points
 
-has_points : (d : Data) (f : Feature) → StandsFor d f → HasPoints d f
+has_points : (d : Data) (f : Feature) → IsFeatureValue d f → HasPoints d f
 has_points d f s =
     let is = s.is_geometry in
     let g : geometry d ≡ s.geometry = part_found (codes "temporalGeometry") d s.geometry s.temporal_geometry in
@@ -74,7 +74,7 @@ has_points d f s =
       where_to = subst (λ ds. Pairwise SaysWhere ds f.seq.points) (sym places) is.where_to;
     }
 
-pub never_broken : (d : Data) (f : Feature) → StandsFor d f → (fault : MfFault) → ¬ Breaks d fault
+pub never_broken : (d : Data) (f : Feature) → IsFeatureValue d f → (fault : MfFault) → ¬ Breaks d fault
 never_broken d f s NotJson b = b
 never_broken d f s Members b =
     b (record {
@@ -117,9 +117,9 @@ abbrev IsAnswered : Feature → Result Feature MfFault → Type 0
 IsAnswered f r = (r ≡ Ok f) ⊎ (r ≡ Err Memory)
 
 abbrev IsTold : Data → MfFault → Type 0
-IsTold d fault = fault ≢ Memory → IsFirst d fault
+IsTold d fault = fault ≢ Memory → IsFirstBroken d fault
 
-told : (d : Data) (f : Feature) (fault : MfFault) → StandsFor d f → IsTold d fault → IsAnswered f (Err fault)
+told : (d : Data) (f : Feature) (fault : MfFault) → IsFeatureValue d f → IsTold d fault → IsAnswered f (Err fault)
 told d f Memory s h = inr refl
 told d f NotJson s h = absurd (never_broken d f s NotJson (h (λ e. cc)).broken)
 told d f Members s h = absurd (never_broken d f s Members (h (λ e. cc)).broken)
@@ -134,13 +134,13 @@ told d f Empty s h = absurd (never_broken d f s Empty (h (λ e. cc)).broken)
 told d f TooMany s h = absurd (never_broken d f s TooMany (h (λ e. cc)).broken)
 told d f (Order i) s h = absurd (never_broken d f s (Order i) (h (λ e. cc)).broken)
 
-answered : (d : Data) (f : Feature) (r : Result Feature MfFault) → StandsFor d f → IfOk r (StandsFor d) → IfErr r (IsTold d)
+answered : (d : Data) (f : Feature) (r : Result Feature MfFault) → IsFeatureValue d f → IfOk r (IsFeatureValue d) → IfErr r (IsTold d)
     → IsAnswered f r
 answered d f (Ok g) s ok err = inl (ap (λ x. Ok x) (stands_for_one d g f ok s))
 answered d f (Err fault) s ok err = told d f fault s err
 
-pub document_answered : (text : List ℕ) (d : Data) (f : Feature) (r : Result Feature MfFault) → Shows text d → IsDocumentOf text f →
-    IfOk r (StandsFor d) → IfErr r (IsTold d) → IsAnswered f r
+pub document_answered : (text : List ℕ) (d : Data) (f : Feature) (r : Result Feature MfFault) → TextShows text d → IsDocumentOf text f →
+    IfOk r (IsFeatureValue d) → IfErr r (IsTold d) → IsAnswered f r
 document_answered text d f r shows is ok err =
     let same : is.value ≡ d = same_Some _ _ (sym is.shown.read ∙ shows.read) in
-    answered d f r (subst (λ x. StandsFor x f) same is.stands) ok err
+    answered d f r (subst (λ x. IsFeatureValue x f) same is.stands) ok err

@@ -19,10 +19,10 @@ use Rattle.tpoint.specs.declared.interp.Interp.{Interp}
 use Rattle.tpoint.specs.Interps.{interp_name}
 use Rattle.tpoint.specs.Moving.{Sequence, IsValid}
 use Rattle.mfjson.specs.declared.feature.Feature.{Feature}
-use Rattle.mfjson.specs.Document.{SaysInstant, StandsFor, IsDocumentOf}
+use Rattle.mfjson.specs.Document.{SaysInstant, IsFeatureValue, IsDocumentOf}
 use Rattle.mfjson.specs.Faults.{SaysCoordinates, part}
 use Rattle.mfjson.specs.Outline.{HasLists, IsOutline, SaysThisId, AreTogether}
-use Rattle.mfjson.specs.Tokens.{Means, Told, Member, Says, IsText, SaysEach, HasCount, SaysCourse}
+use Rattle.mfjson.specs.Tokens.{Means, ValueIsTold, Member, TokensSay, IsText, SaysEach, HasCount, SaysCourse}
 use Rattle.mfjson.proofs.FeatureLemmas.{has_read, feature_stands}
 use Rattle.mfjson.proofs.Named.{Named, whole}
 use Rattle.mfjson.proofs.PartLemmas.{part_found, elements_here}
@@ -89,7 +89,7 @@ course_members ms interp ts cs count kind name times places =
 pub course_told : {X : Type 0} (j : json.Json) (interp : Interp) (ts : List ℕ) (cs : List (ℤ × ℤ)) (course : X) → HasCount 4 j →
     Member 0 IsText j (codes "type") (codes "MovingPoint") → Member 0 IsText j (codes "interpolation") (interp_name interp) →
     Member 1 (SaysEach SaysInstant) j (codes "datetimes") ts → Member 2 (SaysEach SaysCoordinates) j (codes "coordinates") cs →
-    Told 3 (λ d (_ : X). SaysCourse d interp ts cs) j course
+    ValueIsTold 3 (λ d (_ : X). SaysCourse d interp ts cs) j course
 course_told {X} j interp ts cs course h kind name times places =
     let is = h.is_object in
     let told = course_members h.members interp ts cs h.count (subst (λ k. Member 0 IsText k (codes "type") (codes "MovingPoint")) is kind)
@@ -104,7 +104,7 @@ feature_members : {X : Type 0} (ms : json.Members) (id : List ℕ) (seq : Sequen
     length (keys ms) ≡ 3 →
     Member 0 IsText (json.object ms) (codes "type") (codes "Feature") → Member 0 SaysThisId (json.object ms) (codes "id") id →
     Member 3 (λ d (_ : X). SaysCourse d seq.interp ts cs) (json.object ms) (codes "temporalGeometry") course →
-    AreTogether seq.points ts cs → IsValid seq → Told 4 StandsFor (json.object ms) (record { id = id; seq = seq })
+    AreTogether seq.points ts cs → IsValid seq → ValueIsTold 4 IsFeatureValue (json.object ms) (record { id = id; seq = seq })
 feature_members {X} ms id seq ts cs course count kind name place all valid =
     let R : Data → X → Type 0 = λ d (_ : X). SaysCourse d seq.interp ts cs in
     let n_kind = named 0 3 IsText ms (codes "type") _ (omega arith) kind in
@@ -142,7 +142,7 @@ pub feature_told : {X : Type 0} (j : json.Json) (id : List ℕ) (interp : Interp
     (course : X) →
     HasCount 3 j → Member 0 IsText j (codes "type") (codes "Feature") → Member 0 SaysThisId j (codes "id") id →
     Member 3 (λ d (_ : X). SaysCourse d interp ts cs) j (codes "temporalGeometry") course → seq.interp ≡ interp →
-    AreTogether seq.points ts cs → IsValid seq → Told 4 StandsFor j (record { id = id; seq = seq })
+    AreTogether seq.points ts cs → IsValid seq → ValueIsTold 4 IsFeatureValue j (record { id = id; seq = seq })
 feature_told {X} j id interp seq ts cs course h kind name place same all valid =
     let is = h.is_object in
     let told = feature_members h.members id seq ts cs course h.count
@@ -150,7 +150,7 @@ feature_told {X} j id interp seq ts cs course h kind name place same all valid =
     (subst (λ k. Member 0 SaysThisId k (codes "id") id) is name)
     (subst (λ k. Member 3 (λ d (_ : X). SaysCourse d seq.interp ts cs) k (codes "temporalGeometry") course) is
     (subst (λ i. Member 3 (λ d (_ : X). SaysCourse d i ts cs) j (codes "temporalGeometry") course) (sym same) place)) all valid in
-    subst (λ k. Told 4 StandsFor k (record { id = id; seq = seq })) (sym is) told
+    subst (λ k. ValueIsTold 4 IsFeatureValue k (record { id = id; seq = seq })) (sym is) told
 
 -- ---- a whole text
 
@@ -159,7 +159,7 @@ there None some = absurd (cc)
 there (Some j) some = (j, refl)
 
 pub document_told : (text : List ℕ) (ts : List Token) (f : Feature) → IsUtf8 text → IsSome (document text) →
-    ((j : json.Json) → document text ≡ Some j → BeginsWith ts j) → Says 4 StandsFor ts f → IsDocumentOf text f
+    ((j : json.Json) → document text ≡ Some j → BeginsWith ts j) → TokensSay 4 IsFeatureValue ts f → IsDocumentOf text f
 document_told text ts f utf8 some begins says =
     let whole = there (document text) some in
     let j = whole.0 in
@@ -176,9 +176,9 @@ document_told text ts f utf8 some begins says =
 
 pub document_answer : (o : Option Feature) (bytes text : List ℕ) (tape root : List Token) → text ≡ bytes → IsUtf8 bytes →
     IsSome (document text) →
-    ((j : json.Json) → document text ≡ Some j → BeginsWith tape j) → root ≡ tape → IfSome o (λ f. Says 4 StandsFor root f) →
+    ((j : json.Json) → document text ≡ Some j → BeginsWith tape j) → root ≡ tape → IfSome o (λ f. TokensSay 4 IsFeatureValue root f) →
     IfSome o (λ f. IsDocumentOf bytes f)
 document_answer None bytes text tape root same utf8 some begins at says = tt
 document_answer (Some f) bytes text tape root same utf8 some begins at says =
     subst (λ s. IsDocumentOf s f) same
-    (document_told text tape f (subst IsUtf8 (sym same) utf8) some begins (subst (λ ts. Says 4 StandsFor ts f) at says))
+    (document_told text tape f (subst IsUtf8 (sym same) utf8) some begins (subst (λ ts. TokensSay 4 IsFeatureValue ts f) at says))

@@ -10,7 +10,7 @@ use Rattle.tpoint.specs.declared.point.Point.{Point}
 use Rattle.mfjson.specs.declared.feature.Feature.{Feature}
 use Rattle.mfjson.specs.Datetime.{ReadsAs}
 use Rattle.mfjson.specs.Pairs.{Pairwise}
-use Rattle.mfjson.specs.Document.{SaysInstant, SaysWhen, SaysWhere, IsGeometry, StandsFor, IsDocumentOf}
+use Rattle.mfjson.specs.Document.{SaysInstant, SaysWhen, SaysWhere, IsGeometry, IsFeatureValue, IsDocumentOf}
 use Rattle.tpoint.specs.Interps.{interp_name}
 use Rattle.mfjson.proofs.OneText.{instant_of_one}
 
@@ -88,7 +88,7 @@ same_geometry d f g a b =
     let points = same_points b.times b.places f.seq.points g.seq.points when b.when where_to b.where_to in
     λ i. record { interp = interps i; points = points i }
 
-pub stands_for_one : (d : Data) (f g : Feature) → StandsFor d f → StandsFor d g → f ≡ g
+pub stands_for_one : (d : Data) (f g : Feature) → IsFeatureValue d f → IsFeatureValue d g → f ≡ g
 stands_for_one d f g a b =
     let geometries = same_Some _ _ (sym a.temporal_geometry ∙ b.temporal_geometry) in
     let ids = same_text f.id g.id (same_Some _ _ (sym a.id ∙ b.id)) in
@@ -98,4 +98,4 @@ stands_for_one d f g a b =
 pub document_of_one : (text : List ℕ) (f g : Feature) → IsDocumentOf text f → IsDocumentOf text g → f ≡ g
 document_of_one text f g a b =
     let values = same_Some _ _ (sym a.shown.read ∙ b.shown.read) in
-    stands_for_one b.value f g (subst (λ d. StandsFor d f) values a.stands) b.stands
+    stands_for_one b.value f g (subst (λ d. IsFeatureValue d f) values a.stands) b.stands

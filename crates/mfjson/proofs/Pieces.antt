@@ -10,7 +10,7 @@ use Rattle.serde_json.specs.Find.{of_integer}
 use Rattle.serde_json.specs.Written.{compact_text, items_text, number_text}
 use Rattle.tpoint.specs.declared.point.Point.{Point}
 use Rattle.mfjson.specs.Document.{position}
-use Rattle.mfjson.specs.Texts.{Continues, Lists, after_comma, position_text}
+use Rattle.mfjson.specs.Texts.{Continues, ListsPoints, after_comma, position_text}
 use Rattle.mfjson.proofs.PairLemmas.{pairwise_push}
 
 -- nothing yet
@@ -35,7 +35,7 @@ follows (d ∷ ds) = ap (λ s. 44 ∷ (compact_text d ++ s)) (follows ds)
 
 -- the whole array
 pub all_listed : (R : Data → Point → Type 0) (all : List Point) (p : Point) (ps : List Point) (old mid more new : List ℕ) (d : Data) →
-    all ≡ p ∷ ps → R d p → mid ≡ old ++ 91 ∷ compact_text d → Continues R ps mid more → new ≡ more ++ 93 ∷ [] → Lists R all old new
+    all ≡ p ∷ ps → R d p → mid ≡ old ++ 91 ∷ compact_text d → Continues R ps mid more → new ≡ more ++ 93 ∷ [] → ListsPoints R all old new
 all_listed R all p ps old mid more new d parts r first rest last =
     record {
       elements = d ∷ rest.elements;
@@ -47,7 +47,7 @@ all_listed R all p ps old mid more new d parts r first rest last =
           ∙ append_assoc old (91 ∷ compact_text d) (items_text true (items_of rest.elements));
     }
 
-pub none_listed : (R : Data → Point → Type 0) (old new : List ℕ) → new ≡ old ++ 91 ∷ 93 ∷ [] → Lists R [] old new
+pub none_listed : (R : Data → Point → Type 0) (old new : List ℕ) → new ≡ old ++ 91 ∷ 93 ∷ [] → ListsPoints R [] old new
 none_listed R old new e = record { elements = []; pairs = tt; spelling = e }
 
 -- ---- the elements

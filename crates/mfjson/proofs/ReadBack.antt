@@ -31,7 +31,7 @@ use Rattle.mfjson.specs.declared.feature.Feature.{Feature}
 use Rattle.tpoint.specs.Places.{EachAt}
 use Rattle.mfjson.specs.Pairs.{Pairwise}
 use Rattle.mfjson.specs.Document.{WritesWhen, WritesWhere, position, canonical}
-use Rattle.mfjson.specs.Texts.{Lists, IsWrittenAfter}
+use Rattle.mfjson.specs.Texts.{ListsPoints, IsWrittenAfter}
 use Rattle.mfjson.proofs.AsciiTexts.{id_utf8, datetime_utf8, id_as_it_is}
 use Rattle.mfjson.proofs.Standing.{canonical_stands}
 
@@ -211,8 +211,8 @@ joined : (start l1 l2 l3 l4 l5 l6 l7 l8 l9 a b c d e g h i j : List ℕ) → a �
 joined start l1 l2 l3 l4 l5 l6 l7 l8 l9 a b c d e g h i j p q r s t u v w x = rw (x, w, v, u, t, s, r, q, p) (simp append_assoc)
 
 pub document_written : (f : Feature) (start a b c d e g h i j : List ℕ) → IsId f.id → IsValid f.seq → a ≡ start ++ codes "{\"id\":\"" →
-    b ≡ a ++ f.id → c ≡ b ++ codes "\",\"temporalGeometry\":{\"coordinates\":" → Lists WritesWhere f.seq.points c d →
-    e ≡ d ++ codes ",\"datetimes\":" → Lists WritesWhen f.seq.points e g → h ≡ g ++ codes ",\"interpolation\":\"" →
+    b ≡ a ++ f.id → c ≡ b ++ codes "\",\"temporalGeometry\":{\"coordinates\":" → ListsPoints WritesWhere f.seq.points c d →
+    e ≡ d ++ codes ",\"datetimes\":" → ListsPoints WritesWhen f.seq.points e g → h ≡ g ++ codes ",\"interpolation\":\"" →
     i ≡ h ++ interp_name f.seq.interp → j ≡ i ++ codes "\",\"type\":\"MovingPoint\"},\"type\":\"Feature\"}" → IsWrittenAfter start j f
 document_written f start a b c d e g h i j id valid a_is b_is c_is places e_is times h_is i_is j_is =
     let value = canonical f.id (interp_name f.seq.interp) times.elements places.elements in

@@ -10,7 +10,7 @@ use Rattle.tpoint.specs.Places.{EachAt}
 use Rattle.tpoint.specs.Coordinates.{InRange}
 use Rattle.mfjson.specs.declared.feature.Feature.{Feature}
 use Rattle.mfjson.specs.Pairs.{Pairwise}
-use Rattle.mfjson.specs.Document.{WritesWhen, WritesWhere, SaysWhen, SaysWhere, StandsFor, canonical}
+use Rattle.mfjson.specs.Document.{WritesWhen, WritesWhere, SaysWhen, SaysWhere, IsFeatureValue, canonical}
 use Rattle.tpoint.specs.Interps.{interp_name}
 
 -- ---- what is written says the same
@@ -47,7 +47,7 @@ says_where (d ∷ ds) (p ∷ ps) w all =
 
 pub canonical_stands : (f : Feature) (times places : List Data) → Pairwise WritesWhen times f.seq.points →
     Pairwise WritesWhere places f.seq.points → IsId f.id → IsValid f.seq →
-    StandsFor (canonical f.id (interp_name f.seq.interp) times places) f
+    IsFeatureValue (canonical f.id (interp_name f.seq.interp) times places) f
 canonical_stands f times places when where_to id valid =
     record {
       geometry = _;

@@ -56,7 +56,7 @@ pub record IsGeometry (d : Data) (f : Feature) : Type 0 where
   pub where_to : Pairwise SaysWhere places f.seq.points
 
 -- the value stands for the feature: an object with exactly three members
-pub record StandsFor (d : Data) (f : Feature) : Type 0 where
+pub record IsFeatureValue (d : Data) (f : Feature) : Type 0 where
   pub geometry : Data
   pub three_members : member_count d ≡ 3
   pub kind : get (codes "type") d ≡ Some (string (codes "Feature"))
@@ -67,15 +67,15 @@ pub record StandsFor (d : Data) (f : Feature) : Type 0 where
   pub seq_is : IsValid f.seq
 
 -- the bytes are a JSON text, in UTF-8, and this is its value
-pub record Shows (text : List ℕ) (d : Data) : Type 0 where
+pub record TextShows (text : List ℕ) (d : Data) : Type 0 where
   pub utf8 : IsUtf8 text
   pub read : read_text text ≡ Some d
 
 -- the bytes are the text of a value that stands for the feature
 pub record IsDocumentOf (text : List ℕ) (f : Feature) : Type 0 where
   pub value : Data
-  pub shown : Shows text value
-  pub stands : StandsFor value f
+  pub shown : TextShows text value
+  pub stands : IsFeatureValue value f
 
 -- and not of another feature
 abbrev pub IsDocumentOfNoOther : List ℕ → Feature → Type 0

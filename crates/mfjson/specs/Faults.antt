@@ -11,7 +11,7 @@ use Rattle.mfjson.specs.declared.fault.MfFault.{MfFault}
 use Rattle.mfjson.specs.declared.fault.MfFault.TheVariants.{NotJson, Members, NotFeature, Id, Geometry, Interpolation, Datetime}
 use Rattle.mfjson.specs.declared.fault.MfFault.TheVariants.{Coordinates, Lengths, Empty, TooMany, Order, Memory}
 use Rattle.tpoint.specs.Interps.{interp_name}
-use Rattle.mfjson.specs.Document.{SaysInstant, Shows, member_count}
+use Rattle.mfjson.specs.Document.{SaysInstant, TextShows, member_count}
 
 -- ---- the parts of a value; where one is missing, null stands for it
 abbrev pub part : List ℕ → Data → Data
@@ -88,7 +88,7 @@ pub record SaysCoordinates (d : Data) (p : ℤ × ℤ) : Type 0 where
   pub says_x : SaysCoordinate first p.0
   pub says_y : SaysCoordinate second p.1
 
-pub record IsPlace (d : Data) : Type 0 where
+pub record IsPlaceValue (d : Data) : Type 0 where
   pub p : ℤ × ℤ
   pub says : SaysCoordinates d p
 
@@ -123,7 +123,7 @@ Breaks d Id = ¬ SaysId (part (codes "id") d)
 Breaks d Geometry = ¬ IsMovingPoint (geometry d)
 Breaks d Interpolation = ¬ SaysInterp (part (codes "interpolation") (geometry d))
 Breaks d (Datetime i) = FailsAt IsInstantText (datetimes d) i
-Breaks d (Coordinates i) = FailsAt IsPlace (coordinates d) i
+Breaks d (Coordinates i) = FailsAt IsPlaceValue (coordinates d) i
 Breaks d Lengths = length (datetimes d) ≢ length (coordinates d)
 Breaks d Empty = length (datetimes d) ≡ 0
 Breaks d TooMany = MOST_POINTS < length (datetimes d)
@@ -162,12 +162,12 @@ IsBefore a b = (code_of a < code_of b) ⊎
     ((code_of a ≡ code_of b) × (place_of a < place_of b))
 
 -- of the rules that the value breaks, this is the first
-pub record IsFirst (d : Data) (fault : MfFault) : Type 0 where
+pub record IsFirstBroken (d : Data) (fault : MfFault) : Type 0 where
   pub broken : Breaks d fault
   pub first : (other : MfFault) → Breaks d other → ¬ IsBefore other fault
 
 -- the fault of bytes that are no document; memory may be refused at any of them
 abbrev pub IsFaultOf : List ℕ → MfFault → Type 0
-IsFaultOf text NotJson = (d : Data) → ¬ Shows text d
+IsFaultOf text NotJson = (d : Data) → ¬ TextShows text d
 IsFaultOf text Memory = Unit {0}
-IsFaultOf text fault = (d : Data) × Shows text d × IsFirst d fault
+IsFaultOf text fault = (d : Data) × TextShows text d × IsFirstBroken d fault

@@ -23,7 +23,7 @@ pub record Continues (R : Data → Point → Type 0) (ps : List Point) (old new 
   pub spelling : new ≡ old ++ flat_map after_comma elements
 
 -- the new text is the old one, and after it the array of such elements
-pub record Lists (R : Data → Point → Type 0) (ps : List Point) (old new : List ℕ) : Type 0 where
+pub record ListsPoints (R : Data → Point → Type 0) (ps : List Point) (old new : List ℕ) : Type 0 where
   pub elements : List Data
   pub pairs : Pairwise R elements ps
   pub spelling : new ≡ old ++ compact_text (array (items_of elements))

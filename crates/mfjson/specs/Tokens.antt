@@ -23,20 +23,20 @@ pub record Means (n : ℕ) (j : json.Json) (d : Data) : Type 0 where
   pub nests : tree.depth j ≤ n
 
 -- what the value is read as that the tokens begin with, and what it says, by R
-pub record Told {X : Type 0} (n : ℕ) (R : Data → X → Type 0) (j : json.Json) (x : X) : Type 0 where
+pub record ValueIsTold {X : Type 0} (n : ℕ) (R : Data → X → Type 0) (j : json.Json) (x : X) : Type 0 where
   pub value : Data
   pub means : Means n j value
   pub says : R value x
 
 -- the value that the tokens begin with says x
-pub record Says {X : Type 0} (n : ℕ) (R : Data → X → Type 0) (ts : List Token) (x : X) : Type 0 where
-  pub told : (j : json.Json) → BeginsWith ts j → Told n R j x
+pub record TokensSay {X : Type 0} (n : ℕ) (R : Data → X → Type 0) (ts : List Token) (x : X) : Type 0 where
+  pub told : (j : json.Json) → BeginsWith ts j → ValueIsTold n R j x
 
 -- the member of that name, and what it says
 pub record Member {X : Type 0} (n : ℕ) (R : Data → X → Type 0) (j : json.Json) (name : List ℕ) (x : X) : Type 0 where
   pub value : json.Json
   pub here : find.get name j ≡ Some value
-  pub told : Told n R value x
+  pub told : ValueIsTold n R value x
 
 -- the member of that name, of the value that the tokens begin with, says x
 pub record HasMember {X : Type 0} (n : ℕ) (R : Data → X → Type 0) (name : List ℕ) (ts : List Token) (x : X) : Type 0 where
@@ -58,14 +58,14 @@ pub record SaysEach {X : Type 0} (R : Data → X → Type 0) (d : Data) (xs : Li
   pub each : Pairwise R elements xs
 
 -- the items begin with some whose tokens are read as these, one after another, and then come the rest
-abbrev pub AreRead : {X : Type 0} → (List Token → X → Type 0) → json.Items → List X → json.Items → Type 0
-AreRead Reads all [] rest = all ≡ rest
-AreRead Reads json.no_items (x ∷ xs) rest = ⊥
-AreRead Reads (json.item j js) (x ∷ xs) rest = ((ts : List Token) × BeginsWith ts j × Reads ts x) × AreRead Reads js xs rest
+abbrev pub ItemsAreRead : {X : Type 0} → (List Token → X → Type 0) → json.Items → List X → json.Items → Type 0
+ItemsAreRead Reads all [] rest = all ≡ rest
+ItemsAreRead Reads json.no_items (x ∷ xs) rest = ⊥
+ItemsAreRead Reads (json.item j js) (x ∷ xs) rest = ((ts : List Token) × BeginsWith ts j × Reads ts x) × ItemsAreRead Reads js xs rest
 
 -- an array whose elements are read as these, one after another
 pub record IsReadEach {X : Type 0} (Reads : List Token → X → Type 0) (ts : List Token) (xs : List X) : Type 0 where
-  pub read : (j : json.Json) → BeginsWith ts j → (all : json.Items) × (j ≡ json.array all) × AreRead Reads all xs json.no_items
+  pub read : (j : json.Json) → BeginsWith ts j → (all : json.Items) × (j ≡ json.array all) × ItemsAreRead Reads all xs json.no_items
 
 -- an object of so many members
 pub record HasCount (n : ℕ) (j : json.Json) : Type 0 where

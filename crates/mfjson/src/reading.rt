@@ -8,9 +8,9 @@ ghost use Rattle.tpoint.specs.Ids.{IsId};
 ghost use Rattle.tpoint.specs.Interps.{interp_name};
 ghost use Rattle.mfjson.specs.declared.feature.Feature.{Feature};
 ghost use Rattle.mfjson.specs.Pairs.{Pairwise};
-ghost use Rattle.mfjson.specs.Document.{IsDocumentOf, StandsFor, SaysInstant, Shows, member_count};
-ghost use Rattle.mfjson.specs.Faults.{IsFaultOf, IsFirst, HasFeatureMembers, IsInstantText};
-ghost use Rattle.mfjson.specs.Faults.{IsMovingPoint, IsPlace, SaysCoordinate, SaysCoordinates};
+ghost use Rattle.mfjson.specs.Document.{IsDocumentOf, IsFeatureValue, SaysInstant, TextShows, member_count};
+ghost use Rattle.mfjson.specs.Faults.{IsFaultOf, IsFirstBroken, HasFeatureMembers, IsInstantText};
+ghost use Rattle.mfjson.specs.Faults.{IsMovingPoint, IsPlaceValue, SaysCoordinate, SaysCoordinates};
 ghost use Rattle.mfjson.specs.Outline.{SaysThisId, HasLists, IsOutline, FailsFirst, AreTogether, list_fault};
 
 use crate::tokens::feature_of_tokens;
@@ -41,9 +41,9 @@ pub fn read(alloc: Global, bytes: &[u8]) -> Result<Feature, MfFault>
 
 /// The value that the bytes are the JSON text of.
 fn value_of(alloc: Global, bytes: &[u8]) -> Result<Value, MfFault>
-    ensures ok { IfOk result (λ v. Shows bytes.now (view v)) }
+    ensures ok { IfOk result (λ v. TextShows bytes.now (view v)) }
     ensures err { IfErr result (λ fault. fault ≢ MfFault.Memory
-        → (fault ≡ MfFault.NotJson) × ((d : Data) → ¬ Shows bytes.now d)) }
+        → (fault ≡ MfFault.NotJson) × ((d : Data) → ¬ TextShows bytes.now d)) }
     ensures no_text { ¬ IsUtf8 bytes.now → result ≡ Err MfFault.NotJson }
 {
     if let Err(_) = str::from_utf8(bytes) {
@@ -60,9 +60,9 @@ fn value_of(alloc: Global, bytes: &[u8]) -> Result<Value, MfFault>
 
 /// The feature that the value stands for.
 fn feature_of(alloc: Global, value: &Value) -> Result<Feature, MfFault>
-    ensures ok { IfOk result (λ f. StandsFor (view value.now) f) }
+    ensures ok { IfOk result (λ f. IsFeatureValue (view value.now) f) }
     ensures err { IfErr result (λ fault. fault ≢ MfFault.Memory
-        → IsFirst (view value.now) fault) }
+        → IsFirstBroken (view value.now) fault) }
 {
     let (id, interp, datetimes, coordinates) = match outline_of(value) {
         Ok(outline) => outline,
@@ -85,7 +85,7 @@ fn feature_of(alloc: Global, value: &Value) -> Result<Feature, MfFault>
 fn outline_of(value: &Value) -> Result<(Id, Interp, &[Value], &[Value]), MfFault>
     ensures { MatchResult result
         (λ o. IsOutline (view value.now) o.0 o.1 (map view o.2.now) (map view o.3.now))
-        (λ fault. IsFirst (view value.now) fault) }
+        (λ fault. IsFirstBroken (view value.now) fault) }
 {
     if !has_feature_members(value) {
         return Err(MfFault::Members);
@@ -197,7 +197,7 @@ fn places_of(alloc: Global, coordinates: &[Value]) -> Result<Vec<(i64, i64)>, Mf
     ensures { MatchResult result
         (λ places. Pairwise SaysCoordinates (map view coordinates.now) places.items)
         (λ fault. fault ≢ MfFault.Memory → (i : ℕ) × (fault ≡ MfFault.Coordinates i)
-        × FailsFirst IsPlace (map view coordinates.now) i) }
+        × FailsFirst IsPlaceValue (map view coordinates.now) i) }
 {
     let mut places = Vec::with_capacity(alloc, coordinates.len())?;
     for (i, pair) in coordinates.iter().enumerate() {
@@ -211,7 +211,7 @@ fn places_of(alloc: Global, coordinates: &[Value]) -> Result<Vec<(i64, i64)>, Mf
 
 /// The x and the y of an array of both.
 fn place_of(value: &Value) -> Option<(i64, i64)>
-    ensures { MatchOption result (¬ IsPlace (view value.now))
+    ensures { MatchOption result (¬ IsPlaceValue (view value.now))
         (λ p. SaysCoordinates (view value.now) p) }
 {
     let (x, y) = pair_of(value)?;

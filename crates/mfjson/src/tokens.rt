@@ -7,10 +7,10 @@ ghost use Rattle.std.specs.Fn.{FnReturnsAt};
 ghost use Rattle.serde_json.specs.Read.{number_of};
 ghost use Rattle.tpoint.specs.Interps.{interp_name};
 ghost use Rattle.tpoint.specs.Moving.{IsValid};
-ghost use Rattle.mfjson.specs.Document.{IsDocumentOf, StandsFor, SaysInstant};
+ghost use Rattle.mfjson.specs.Document.{IsDocumentOf, IsFeatureValue, SaysInstant};
 ghost use Rattle.mfjson.specs.Faults.{SaysCoordinate, SaysCoordinates};
 ghost use Rattle.mfjson.specs.Outline.{SaysThisId, AreTogether};
-ghost use Rattle.mfjson.specs.Tokens.{Says, SaysEach, IsReadEach, SaysCourse, HasMember, HasMembers, IsText, IsWhole};
+ghost use Rattle.mfjson.specs.Tokens.{TokensSay, SaysEach, IsReadEach, SaysCourse, HasMember, HasMembers, IsText, IsWhole};
 
 use crate::reading::points_of;
 use crate::{Feature, datetime_read};
@@ -43,7 +43,7 @@ pub(crate) fn feature_of_tokens(alloc: Global, bytes: &[u8]) -> Option<Feature>
 
 /// The feature that the value stands for.
 fn feature_in(alloc: Global, root: &Element<'_, '_>) -> Option<Feature>
-    ensures { IfSome result (λ f. Says 4 StandsFor root.now f) }
+    ensures { IfSome result (λ f. TokensSay 4 IsFeatureValue root.now f) }
 {
     if !is_of_type(root, "Feature", 3) {
         return None;
@@ -85,7 +85,7 @@ fn has_members(value: &Element<'_, '_>, count: usize) -> bool
 
 /// The text that the value is.
 fn text_in<'a>(value: &Element<'_, 'a>) -> Option<&'a str>
-    ensures { IfSome result (λ text. Says 0 IsText value.now text.now) }
+    ensures { IfSome result (λ text. TokensSay 0 IsText value.now text.now) }
 {
     value.as_str()
 }
@@ -176,7 +176,7 @@ fn instants_in(alloc: Global, geometry: &Element<'_, '_>) -> Option<Vec<Instant>
 
 /// The instant that the value is a datetime of.
 fn instant_in(value: &Element<'_, '_>) -> Option<Instant>
-    ensures { IfSome result (λ t. Says 0 SaysInstant value.now t) }
+    ensures { IfSome result (λ t. TokensSay 0 SaysInstant value.now t) }
 {
     datetime_read(text_in(value)?.as_bytes())
 }
@@ -190,7 +190,7 @@ fn places_in(alloc: Global, geometry: &Element<'_, '_>) -> Option<Vec<(i64, i64)
 
 /// The x and the y of an array of both.
 fn place_in(value: &Element<'_, '_>) -> Option<(i64, i64)>
-    ensures { IfSome result (λ p. Says 1 SaysCoordinates value.now p) }
+    ensures { IfSome result (λ p. TokensSay 1 SaysCoordinates value.now p) }
 {
     let mut items = value.items()?;
     let x = items.next()?;
@@ -203,7 +203,7 @@ fn place_in(value: &Element<'_, '_>) -> Option<(i64, i64)>
 
 /// The coordinate that the value is.
 fn coordinate_in(value: &Element<'_, '_>) -> Option<i64>
-    ensures { IfSome result (λ z. Says 0 SaysCoordinate value.now z) }
+    ensures { IfSome result (λ z. TokensSay 0 SaysCoordinate value.now z) }
 {
     let z = whole_of(value.as_number()?.as_bytes())?;
     if is_coordinate(z) { Some(z) } else { None }

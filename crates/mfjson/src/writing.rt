@@ -5,7 +5,7 @@
 ghost use Rattle.std.specs.Prelude.{◌≡◌, [], ◌∷◌, ◌++◌, ℕ, List, IfOk, OnOk};
 ghost use Rattle.mfjson.specs.Datetime.{IsDatetime};
 ghost use Rattle.mfjson.specs.Document.{IsCanonical, IsDocumentOf, IsDocumentOfNoOther, WritesWhen, WritesWhere};
-ghost use Rattle.mfjson.specs.Texts.{Continues, Lists, IsWrittenAfter, position_text};
+ghost use Rattle.mfjson.specs.Texts.{Continues, ListsPoints, IsWrittenAfter, position_text};
 
 use crate::{Feature, datetime_text};
 use std::alloc::{AllocError, Global};
@@ -60,7 +60,7 @@ pub fn write_after(alloc: Global, start: &[u8], feature: &Feature) -> Result<Vec
 
 /// Adds the array of the points' positions.
 fn push_coordinates(text: &mut Vec<u8>, points: &[Point]) -> Result<(), AllocError>
-    ensures { OnOk result (Lists WritesWhere points.now text.old.items text.new.items) }
+    ensures { OnOk result (ListsPoints WritesWhere points.now text.old.items text.new.items) }
 {
     let Some((first, rest)) = points.split_first() else {
         return text.extend_from_slice(b"[]");
@@ -98,7 +98,7 @@ fn push_position(text: &mut Vec<u8>, before: u8, point: &Point) -> Result<(), Al
 
 /// Adds the array of the points' datetimes.
 fn push_datetimes(text: &mut Vec<u8>, points: &[Point]) -> Result<(), AllocError>
-    ensures { OnOk result (Lists WritesWhen points.now text.old.items text.new.items) }
+    ensures { OnOk result (ListsPoints WritesWhen points.now text.old.items text.new.items) }
 {
     let Some((first, rest)) = points.split_first() else {
         return text.extend_from_slice(b"[]");

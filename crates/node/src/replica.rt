@@ -6,7 +6,7 @@ ghost use Rattle.sessions.specs.declared.command.Command.{Command};
 ghost use Rattle.byteorder.specs.Endian.{big_bytes};
 ghost use Rattle.stable.specs.declared.key.Key.TheVariants as key;
 ghost use Rattle.sessions.specs.Standing.{AnswersAll};
-ghost use Rattle.acceptor.specs.Accepting.{Write, HasWritten, HasFailed, prepare_write, IsAcceptWrite};
+ghost use Rattle.acceptor.specs.Accepting.{OptionalWrite, HasWritten, HasFailed, prepare_write, IsAcceptWrite};
 ghost use Rattle.learner.specs.Learning.{learnt_at};
 ghost use Rattle.learner.specs.Prefixes.{IsPrefix};
 ghost use Rattle.proposer.specs.Proposing.{next_round};
@@ -70,7 +70,7 @@ impl Replica {
     ghost use Rattle.node_model.specs.Loading.{IsBaseOf, IsLoaded, IsFresh, IsDamaged, IsReplicaOf};
     ghost use Rattle.acceptor.specs.Loading.{IsMachineOf};
     ghost use Rattle.node_model.specs.Inputs.{is_for_this_run};
-    ghost use Rattle.node_model.specs.Replicas.{ReplicaState, IsSmall, position, asked, waits, refuses, refuses_submit, refuses_timeout, refuses_checkpoint, Ignores};
+    ghost use Rattle.node_model.specs.Replicas.{ReplicaState, ReplicaIsSmall, position, asked, waits, refuses, refuses_submit, refuses_timeout, refuses_checkpoint, Ignores};
     ghost use Rattle.node.specs.Replica.{replica_of};
     ghost use Rattle.node.specs.Wanting.{IsForRecords, MayWant, MayWantOn};
     ghost use Rattle.node_model.specs.Nodes.{HasMade, HasFailedToMake};
@@ -156,7 +156,7 @@ impl Replica {
 
     // What is known of its parts: nodes and their names, the requests that wait, and the open proposals.
     pub fn recall_bounds(&self)
-        ensures { IsSmall (replica_of self.now) }
+        ensures { ReplicaIsSmall (replica_of self.now) }
     {
         let _count = self.nodes.count();
         let _number = self.id.value();
@@ -430,13 +430,13 @@ impl Replica {
     ) -> Result<Outputs, NodeFault>
         ensures takes { IfOk result (λ said.
             TakesMessage (replica_of self.old) from (message.Accept vote) (replica_of self.new) said) }
-        ensures written { OnOk result ((w : Write) × IsAcceptWrite (replica_of self.old).accepting vote w
+        ensures written { OnOk result ((w : OptionalWrite) × IsAcceptWrite (replica_of self.old).accepting vote w
             × HasWritten S.reads S.changes storage.old storage.new w) }
         ensures device { IsErrOf result NodeFault.Device
-            → (w : Write) × IsAcceptWrite (replica_of self.old).accepting vote w
+            → (w : OptionalWrite) × IsAcceptWrite (replica_of self.old).accepting vote w
             × HasFailed S.fails storage.old storage.new w }
         ensures memory { IsErrOf result NodeFault.Memory → S.reads storage.old storage.new
-            ⊎ ((w : Write) × IsAcceptWrite (replica_of self.old).accepting vote w
+            ⊎ ((w : OptionalWrite) × IsAcceptWrite (replica_of self.old).accepting vote w
             × HasWritten S.reads S.changes storage.old storage.new w) }
         ensures err { IfErr result (λ fault. (fault ≡ NodeFault.Device) ⊎ (fault ≡ NodeFault.Memory)) }
     {

@@ -15,7 +15,7 @@ use Rattle.learner.specs.Learning.{Learning, prefix, HearsVote, HearsDecided}
 use Rattle.learner.specs.Learning.HearsVote.{ignores, hears, learns}
 use Rattle.learner.specs.Learning.HearsDecided.{ignores_decided, learns_decided}
 use Rattle.learner.specs.declared.learned.Learned.{Learned}
-use Rattle.learner.specs.Protocol.{MayLearn, learnt_by}
+use Rattle.learner.specs.Protocol.{LearnerMayLearn, learnt_by}
 use Rattle.learner.proofs.AllowedLemmas.{allows_vote, allows_decided}
 use Rattle.learner.proofs.PrefixLemmas.{vote_grows, decided_grows}
 use Rattle.proposer.specs.Proposing.{Proposing, after_learned}
@@ -71,7 +71,7 @@ pub record HasHeard (nodes i : ℕ) (in' : act.Input Command) (x : Local Command
   pub submitted : after.submitted ≡ x.submitted
 
 heard_lem : (nodes i : ℕ) (in' : act.Input Command) (x : Local Command) (old : ReplicaState) (l : Learning) (c : Command) (learned : Option Learned)
-    → ReplicaStands old x → position old ≤ prefix l → MayLearn (membership nodes) i in' x c learned l → HasHeard nodes i in' x old l c learned
+    → ReplicaStands old x → position old ≤ prefix l → LearnerMayLearn (membership nodes) i in' x c learned l → HasHeard nodes i in' x old l c learned
 heard_lem nodes i in' x old l c learned s grows h =
     let y : Local Command = record x {
       replica = record x.replica { learnt = h.learnt; heard = h.heard };

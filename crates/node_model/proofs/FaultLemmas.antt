@@ -2,7 +2,7 @@
 use Rattle.std.proofs.Common.{◌≡◌, ◌⊎◌, inl, inr, Option, Some, None, Result, Ok, Err, IfSome, OnOk, IfErr, IsErrOf, refl}
 use Rattle.std.proofs.lemmas.Result.{IfErr-weaker, IfErr-at_err}
 use Rattle.stable.specs.declared.stable.Stable.{Ghosts}
-use Rattle.acceptor.specs.Accepting.{Write}
+use Rattle.acceptor.specs.Accepting.{OptionalWrite}
 use Rattle.node_model.specs.declared.fault.NodeFault.{NodeFault}
 use Rattle.node_model.specs.declared.fault.NodeFault.TheVariants.{Device, Memory}
 use Rattle.node_model.specs.declared.input.Input.{Input}
@@ -42,7 +42,7 @@ memory_or_refused r m i faults is = elim (IfErr-at_err (λ f. (f ≡ Memory) ⊎
 ]
 
 -- no write is the one to be made, and none is made
-pub made_none : {S : Type 0} (storages : Ghosts S) (old new : S) (Writes : Write → Type 0) → storages.reads old new → Writes None
+pub made_none : {S : Type 0} (storages : Ghosts S) (old new : S) (Writes : OptionalWrite → Type 0) → storages.reads old new → Writes None
     → HasMade storages old new Writes
 made_none storages old new Writes reads none = record { write = None; made = none; leaves = reads }
 

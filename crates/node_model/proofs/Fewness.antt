@@ -39,7 +39,7 @@ use Rattle.node_model.specs.declared.input.Input.TheVariants as input
 use Rattle.node_model.specs.Executing.{Executing, executing, executed, reply_at}
 use Rattle.node_model.specs.Fetching.{Fetching, next_part}
 use Rattle.node_model.specs.Inputs.{is_for_this_run}
-use Rattle.node_model.specs.Replicas.{ReplicaState, IsSmall, position, asked, waits}
+use Rattle.node_model.specs.Replicas.{ReplicaState, ReplicaIsSmall, position, asked, waits}
 use Rattle.node_model.specs.Outputs.{Response, IsFew}
 use Rattle.node_model.specs.Sending.{to_one, to_all, to_recipients, envelopes_of, envelopes, answer_sends, decided_sends, ask_sends}
 use Rattle.node_model.specs.Taking.{Takes, TakesEnvelope, TakesMessage, Hears, begins_to_lead, after_counting, with_request, after_submit}
@@ -278,7 +278,7 @@ restored_few m target =
     let all = executed_few (executing_of m []) target (learnt_from m target) in omega (arith, all)
 
 -- ---- each input
-module _ (old new : ReplicaState) (said : Response) (small : IsSmall old) where
+module _ (old new : ReplicaState) (said : Response) (small : ReplicaIsSmall old) where
   few_sends : (r : Response) → said ≡ r → r.replies ≡ [] → length r.sends ≤ 62 → IsFew said
   few_sends r e none few = subst IsFew (sym e) (record {
     sends = few;
@@ -374,7 +374,7 @@ module _ (old new : ReplicaState) (said : Response) (small : IsSmall old) where
   takes_few other k = few_sends _ k.1 refl (omega arith)
 
 -- what a node says that took an input
-pub said_few : (i : Input) (old new : ReplicaState) (r : Result Response NodeFault) → IsSmall old
+pub said_few : (i : Input) (old new : ReplicaState) (r : Result Response NodeFault) → ReplicaIsSmall old
     → IfOk r (λ said. Takes old i new said) → IfOk r IsFew
 said_few i old new (Ok said) small k = takes_few old new said small i k
 said_few i old new (Err f) small k = tt

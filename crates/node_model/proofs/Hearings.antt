@@ -17,7 +17,7 @@ use Rattle.node_model.specs.Replicas.{ReplicaState, position}
 use Rattle.node_model.specs.Nodes.{fetched_text}
 use Rattle.node_model.specs.Outputs.{Response, sent}
 use Rattle.node_model.specs.Taking.{Takes, TakesEnvelope, TakesMessage, HearsOfVote, HearsOfDecided, HearsOfFloor, TakesPart, RestoresText}
-use Rattle.node_model.specs.Taking.{Counts, Restores, IsMachineOfText, is_ahead}
+use Rattle.node_model.specs.Taking.{PartCounts, Restores, IsMachineOfText, is_ahead}
 use Rattle.node_model.specs.Taking.TakesPart.{passes, keeps, completes}
 use Rattle.node_model.specs.Taking.RestoresText.{restores, gives_up}
 
@@ -78,7 +78,7 @@ module _ (old new : ReplicaState) (said : Response) where
 
   -- ---- a part has come
   -- of which checkpoint it is, where it counts
-  pub of_the_target : (p : Piece) (f : Fetching) → Counts old p f → (position old < p.position) × (f.target ≡ p.position)
+  pub of_the_target : (p : Piece) (f : Fetching) → PartCounts old p f → (position old < p.position) × (f.target ≡ p.position)
   of_the_target p f counts =
       let g : Fetching = counts.before in
       let both : wants (Some g) (position old) p ≡ true =
@@ -91,7 +91,7 @@ module _ (old new : ReplicaState) (said : Response) where
         ap (λ (h : Fetching). h.target) counts.is ∙ sym at,
       )
 
-  text_heard : (from to : ℕ) (p : Piece) (f : Fetching) → Counts old p f → RestoresText old from f.target (joined f.held) new said
+  text_heard : (from to : ℕ) (p : Piece) (f : Fetching) → PartCounts old p f → RestoresText old from f.target (joined f.held) new said
       → Hearing old (input.Message (record { from = from; to = to; message = SnapPart p })) new said
   text_heard from to p f counts (restores machine has whole) =
       let at = of_the_target p f counts in

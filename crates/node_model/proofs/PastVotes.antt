@@ -4,7 +4,7 @@ use Rattle.std.proofs.lemmas.Bool.{ltb-true}
 use Rattle.stable.specs.declared.stable.Stable.{Ghosts}
 use Rattle.synod.specs.declared.vote.Vote.{Vote}
 use Rattle.sessions.specs.declared.command.Command.{Command}
-use Rattle.learner.specs.Learning.{Learning, Counts}
+use Rattle.learner.specs.Learning.{Learning, NewsCounts}
 use Rattle.learner.specs.Learning.HearsVote.{ignores}
 use Rattle.learner.specs.Prefixes.{IsPrefix}
 use Rattle.wire.specs.declared.frames.envelope.Envelope.{Envelope}
@@ -24,7 +24,7 @@ none_is_not_some (Some x) e s = absurd (cc)
 none_is_not_some None e s = search rules
 
 -- its slot is learnt, or isn't kept, so it doesn't count
-counts_no_more : (l : Learning) (p from : ℕ) (v : Vote Command) → IsPrefix l.learnt l.first p → v.slot < p → Counts l from v → ⊥
+counts_no_more : (l : Learning) (p from : ℕ) (v : Vote Command) → IsPrefix l.learnt l.first p → v.slot < p → NewsCounts l from v → ⊥
 counts_no_more l p from v is below counts =
     none_is_not_some (l.learnt v.slot) counts.in_time.unlearnt (is.learnt_to.below v.slot counts.in_time.kept below)
 

@@ -6,7 +6,7 @@ use Rattle.std.proofs.lemmas.Option.{none-some, same_Some}
 use Rattle.byteorder.specs.Endian.{big_bytes}
 use Rattle.stable.specs.Records.{Records, Change, Sets, Trims, changed}
 use Rattle.stable.specs.declared.key.Key.TheVariants as key
-use Rattle.acceptor.specs.Accepting.{Accepting, Write, records_after, after_prepare, after_checkpoint, IsTrimWrite, after_trim}
+use Rattle.acceptor.specs.Accepting.{Accepting, OptionalWrite, records_after, after_prepare, after_checkpoint, IsTrimWrite, after_trim}
 use Rattle.acceptor.proofs.FloorLemmas.{checkpoint_kept, trim_kept, prepare_covered, accept_covered, checkpoint_covered, trim_covered}
 use Rattle.acceptor.proofs.RecordLemmas.{prepare_kept, accept_kept, RecordsSay-round, prepare_leaves_round, accept_leaves_round}
 use Rattle.acceptor.proofs.VerdictLemmas.{floor_prepared, floor_accepted}
@@ -40,14 +40,14 @@ use Rattle.node_model.specs.Taking.RestoresText.{restores, gives_up}
 use Rattle.node_model.proofs.Campaigns.{proposes_keeps, counting_keeps}
 
 -- ---- what the records say once the write is made
-no_write : (records : Records) (w : Write) (a : Accepting) (round : ℕ) → w ≡ None → RecordsHold records a round
+no_write : (records : Records) (w : OptionalWrite) (a : Accepting) (round : ℕ) → w ≡ None → RecordsHold records a round
     → RecordsHold (records_after records w) a round
-no_write records w a round e both = subst (λ (x : Write). RecordsHold (records_after records x) a round) (sym e) both
+no_write records w a round e both = subst (λ (x : OptionalWrite). RecordsHold (records_after records x) a round) (sym e) both
 
-message_holds : (m : ReplicaState) (message : Message) (records : Records) (w : Write) → WritesOnMessage m message w → MessageFits 7 message
+message_holds : (m : ReplicaState) (message : Message) (records : Records) (w : OptionalWrite) → WritesOnMessage m message w → MessageFits 7 message
     → RecordsHold records m.accepting m.proposing.round → RecordsHold (records_after records w) (accepting_on m message) m.proposing.round
 message_holds m (Prepare ballot first) records w e fits both =
-    subst (λ (x : Write). RecordsHold (records_after records x) (after_prepare m.accepting ballot first) m.proposing.round) (sym e)
+    subst (λ (x : OptionalWrite). RecordsHold (records_after records x) (after_prepare m.accepting ballot first) m.proposing.round) (sym e)
     (record {
       acceptor = prepare_kept records m.accepting ballot first fits.0 both.acceptor;
       covered = prepare_covered m.accepting ballot first both.covered;
@@ -62,7 +62,7 @@ message_holds m (Accept v) records w is fits both = record {
 }
 message_holds m other records w e fits both = no_write records w m.accepting m.proposing.round e both
 
-envelope_holds : (m : ReplicaState) (e : Envelope) (b : Bool) (records : Records) (w : Write) → WritesOnEnvelope m e b w → MessageFits 7 e.message
+envelope_holds : (m : ReplicaState) (e : Envelope) (b : Bool) (records : Records) (w : OptionalWrite) → WritesOnEnvelope m e b w → MessageFits 7 e.message
     → RecordsHold records m.accepting m.proposing.round → RecordsHold (records_after records w) (accepting_if m e b) m.proposing.round
 envelope_holds m e false records w none fits both = no_write records w m.accepting m.proposing.round none both
 envelope_holds m e true records w writes fits both = message_holds m e.message records w writes fits both
@@ -80,11 +80,11 @@ drawn m none =
     record { begun = omega arith; fits = leb-false (2 ^ 64) (next_round m.proposing) left; spelled = refl }
 
 -- a checkpoint's record is of its form
-checkpoint_holds : (m : ReplicaState) (records : Records) (w : Write) → WritesCheckpoint m w
+checkpoint_holds : (m : ReplicaState) (records : Records) (w : OptionalWrite) → WritesCheckpoint m w
     → RecordsHold records m.accepting m.proposing.round
     → RecordsHold (records_after records w) (after_checkpoint m.accepting (position m) (snapshot_bytes m.machine)) m.proposing.round
 checkpoint_holds m records w writes both =
-    subst (λ (x : Write). RecordsHold (records_after records x) (after_checkpoint m.accepting (position m) (snapshot_bytes m.machine)) m.proposing.round)
+    subst (λ (x : OptionalWrite). RecordsHold (records_after records x) (after_checkpoint m.accepting (position m) (snapshot_bytes m.machine)) m.proposing.round)
     (sym writes.is) (record {
       acceptor = checkpoint_kept records m.accepting (position m) (snapshot_bytes m.machine) (omega (arith, writes.above)) writes.in_log
           (m.machine, writes.fits, refl) both.acceptor;
@@ -93,11 +93,11 @@ checkpoint_holds m records w writes both =
     })
 
 -- only votes are taken out
-trim_leaves_round : (records : Records) (a : Accepting) (w : Write) → IsTrimWrite a w → records_after records w key.Round ≡ records key.Round
+trim_leaves_round : (records : Records) (a : Accepting) (w : OptionalWrite) → IsTrimWrite a w → records_after records w key.Round ≡ records key.Round
 trim_leaves_round records a None is = refl
 trim_leaves_round records a (Some change) is = ap (λ (c : Change). changed records c key.Round) is.1
 
-trim_holds : (m : ReplicaState) (records : Records) (w : Write) → IsTrimWrite m.accepting w → RecordsHold records m.accepting m.proposing.round
+trim_holds : (m : ReplicaState) (records : Records) (w : OptionalWrite) → IsTrimWrite m.accepting w → RecordsHold records m.accepting m.proposing.round
     → RecordsHold (records_after records w) (after_trim m.accepting) m.proposing.round
 trim_holds m records w is both = record {
   acceptor = trim_kept records m.accepting w both.covered is both.acceptor;
@@ -105,12 +105,12 @@ trim_holds m records w is both = record {
   proposer = subst (λ (o : Option (List ℕ)). SaysRound o m.proposing.round) (sym (trim_leaves_round records m.accepting w is)) both.proposer;
 }
 
-pub written_holds : (m : ReplicaState) (i : Input) (records : Records) (w : Write) → refuses m i ≡ None → Writes m i w → InputFits i
+pub written_holds : (m : ReplicaState) (i : Input) (records : Records) (w : OptionalWrite) → refuses m i ≡ None → Writes m i w → InputFits i
     → RecordsHold records m.accepting m.proposing.round → RecordsHold (records_after records w) (accepting_after m i) (round_after m i)
 written_holds m (input.Submit client number op) records w none e fits both = no_write records w m.accepting m.proposing.round e both
 written_holds m (input.Message e) records w none writes fits both = envelope_holds m e (is_for_this_run m.id m.nodes e) records w writes fits both
 written_holds m input.Timeout records w none e fits both =
-    subst (λ (x : Write). RecordsHold (records_after records x) m.accepting (next_round m.proposing)) (sym e) (record {
+    subst (λ (x : OptionalWrite). RecordsHold (records_after records x) m.accepting (next_round m.proposing)) (sym e) (record {
       acceptor = RecordsSay-round records m.accepting (big_bytes 8 (next_round m.proposing)) both.acceptor;
       covered = both.covered;
       proposer = drawn m none;
@@ -131,24 +131,24 @@ floor_if m e false = refl
 floor_if m e true = floor_on m e.message
 
 -- a vote is written at a slot from the floor on
-vote_above_on : (m : ReplicaState) (message : Message) (w : Write) → WritesOnMessage m message w → (slot : ℕ) (bytes : List ℕ)
+vote_above_on : (m : ReplicaState) (message : Message) (w : OptionalWrite) → WritesOnMessage m message w → (slot : ℕ) (bytes : List ℕ)
     → w ≡ Some (Sets (key.Vote slot) bytes) → m.accepting.floor ≤ slot
 vote_above_on m (Prepare ballot first) w writes slot bytes e =
     absurd (promise_is_no_vote m.accepting ballot first slot bytes (sym writes ∙ e))
 vote_above_on m (Accept v) w is slot bytes e = cast_above m.accepting v w is slot bytes e
 vote_above_on m other w none slot bytes e = absurd (none-some (Sets (key.Vote slot) bytes) (sym none ∙ e))
 
-vote_above_if : (m : ReplicaState) (e : Envelope) (b : Bool) (w : Write) → WritesOnEnvelope m e b w → (slot : ℕ) (bytes : List ℕ)
+vote_above_if : (m : ReplicaState) (e : Envelope) (b : Bool) (w : OptionalWrite) → WritesOnEnvelope m e b w → (slot : ℕ) (bytes : List ℕ)
     → w ≡ Some (Sets (key.Vote slot) bytes) → m.accepting.floor ≤ slot
 vote_above_if m e false w none slot bytes is = absurd (none-some (Sets (key.Vote slot) bytes) (sym none ∙ is))
 vote_above_if m e true w writes slot bytes is = vote_above_on m e.message w writes slot bytes is
 
 -- a trim writes none
-trim_is_no_vote : (a : Accepting) (w : Write) → IsTrimWrite a w → (slot : ℕ) (bytes : List ℕ) → w ≡ Some (Sets (key.Vote slot) bytes) → ⊥
+trim_is_no_vote : (a : Accepting) (w : OptionalWrite) → IsTrimWrite a w → (slot : ℕ) (bytes : List ℕ) → w ≡ Some (Sets (key.Vote slot) bytes) → ⊥
 trim_is_no_vote a None is slot bytes e = none-some (Sets (key.Vote slot) bytes) e
 trim_is_no_vote a (Some change) is slot bytes e = (let bad : Trims a.floor ≡ Sets (key.Vote slot) bytes = sym is.1 ∙ same_Some _ _ e in absurd cc)
 
-pub vote_above : (m : ReplicaState) (i : Input) (w : Write) → Writes m i w → (slot : ℕ) (bytes : List ℕ) → w ≡ Some (Sets (key.Vote slot) bytes)
+pub vote_above : (m : ReplicaState) (i : Input) (w : OptionalWrite) → Writes m i w → (slot : ℕ) (bytes : List ℕ) → w ≡ Some (Sets (key.Vote slot) bytes)
     → m.accepting.floor ≤ slot
 vote_above m (input.Submit client number op) w none slot bytes e = absurd (none-some (Sets (key.Vote slot) bytes) (sym none ∙ e))
 vote_above m (input.Message e) w writes slot bytes is = vote_above_if m e (is_for_this_run m.id m.nodes e) w writes slot bytes is
@@ -245,7 +245,7 @@ held_after m input.Timeout new said h =
     (ap (λ (p : Proposing). p.round) h.1.leaves)
 held_after m other new said h = held_as new _ h.0
 
-pub taken_holds : (m : ReplicaState) (i : Input) (new : ReplicaState) (said : Response) (records : Records) (w : Write) → refuses m i ≡ None
+pub taken_holds : (m : ReplicaState) (i : Input) (new : ReplicaState) (said : Response) (records : Records) (w : OptionalWrite) → refuses m i ≡ None
     → Takes m i new said → Writes m i w → InputFits i → RecordsHold records m.accepting m.proposing.round
     → RecordsHold (records_after records w) new.accepting new.proposing.round
 taken_holds m i new said records w none takes writes fits both =

@@ -7,7 +7,7 @@ use Rattle.stable.specs.declared.key.Key.TheVariants as key
 use Rattle.stable.specs.declared.stable.Stable.{Ghosts}
 use Rattle.acceptor.specs.Accepting.{RecordsSay}
 use Rattle.acceptor.specs.Forms.{HasDamagedRecord}
-pub use Rattle.acceptor.specs.Loading.{IsBaseOf, BeginsWith}
+pub use Rattle.acceptor.specs.Loading.{IsBaseOf, MachineBeginsWith}
 use Rattle.synod.specs.declared.slot.TheConstants.{SLOTS}
 use Rattle.learner.specs.Learning.{unlearnt_from}
 use Rattle.proposer.specs.Proposing.{Proposing, loaded}
@@ -43,7 +43,7 @@ pub record IsLoaded (records : Records) (id nodes : ℕ) (m : ReplicaState) : Ty
   pub accepting : RecordsSay records m.accepting
   pub learning : m.learning ≡ unlearnt_from nodes m.accepting.floor
   pub proposing : LoadsRound (records key.Round) id nodes m.proposing
-  pub machine : BeginsWith records m.machine
+  pub machine : MachineBeginsWith records m.machine
   pub fetching : m.fetching ≡ None
 
 -- the record of the round is that of no round

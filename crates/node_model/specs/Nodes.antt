@@ -6,7 +6,7 @@ use Rattle.store.specs.declared.query.Query.{Query}
 use Rattle.sessions.specs.Meaning.{Answers}
 use Rattle.sessions.specs.Snapshots.{IsSnapshot}
 use Rattle.sessions.specs.declared.command.Command.{Command}
-use Rattle.acceptor.specs.Accepting.{Write, HasWritten, HasFailed}
+use Rattle.acceptor.specs.Accepting.{OptionalWrite, HasWritten, HasFailed}
 use Rattle.node_model.specs.declared.fault.NodeFault.{NodeFault}
 use Rattle.node_model.specs.declared.fault.NodeFault.TheVariants as fault
 use Rattle.node_model.specs.declared.input.Input.{Input}
@@ -21,14 +21,14 @@ pub use Rattle.node_model.specs.States.{NodeState}
 
 -- ---- the one write
 -- the storage is what such a write made of it; where none is made it is at most read
-pub record HasMade {S : Type 0} (storages : Ghosts S) (old new : S) (Writes : Write → Type 0) : Type 0 where
-  pub write : Write
+pub record HasMade {S : Type 0} (storages : Ghosts S) (old new : S) (Writes : OptionalWrite → Type 0) : Type 0 where
+  pub write : OptionalWrite
   pub made : Writes write
   pub leaves : HasWritten storages.reads storages.changes old new write
 
 -- the storage is what a failure on such a write made of it
-pub record HasFailedToMake {S : Type 0} (storages : Ghosts S) (old new : S) (Writes : Write → Type 0) : Type 0 where
-  pub write : Write
+pub record HasFailedToMake {S : Type 0} (storages : Ghosts S) (old new : S) (Writes : OptionalWrite → Type 0) : Type 0 where
+  pub write : OptionalWrite
   pub made : Writes write
   pub leaves : HasFailed storages.fails old new write
 

@@ -64,7 +64,7 @@ abbrev pub waits : ReplicaState → ℕ → ℕ → Bool
 waits m client number = list_any (is_of client number) m.proposing.waiting
 
 -- it is one of seven nodes at most, few requests wait, and few proposals are open
-pub record IsSmall (m : ReplicaState) : Type 0 where
+pub record ReplicaIsSmall (m : ReplicaState) : Type 0 where
   pub number : m.id < MOST_NODES
   pub of_all : m.nodes ≤ MOST_NODES
   pub waiting : length m.proposing.waiting ≤ MOST_WAITING

@@ -11,7 +11,7 @@ use Rattle.sessions.specs.Snapshots.{MachineFits, snapshot_bytes}
 use Rattle.sessions.specs.declared.command.Command.{Command}
 use Rattle.acceptor.specs.declared.answer.Answer.{Answer}
 use Rattle.acceptor.specs.Accepting.{checkpoint_change, after_checkpoint, IsTrimWrite, after_trim}
-use Rattle.acceptor.specs.Accepting.{Write, AnswersPrepare, prepare_write, after_prepare, accept_answer, after_accept, IsAcceptWrite}
+use Rattle.acceptor.specs.Accepting.{OptionalWrite, AnswersPrepare, prepare_write, after_prepare, accept_answer, after_accept, IsAcceptWrite}
 use Rattle.learner.specs.Learning.{Learning, prefix, learnt_at, HearsVote, HearsDecided, skipped}
 use Rattle.learner.specs.declared.learned.Learned.{Learned}
 use Rattle.proposer.specs.Proposing.{Proposing, next_round, StartsCampaign, with_promised, after_nack, after_learned, is_led, proposes}
@@ -36,23 +36,23 @@ use Rattle.node_model.specs.Sending.{to_one, to_others, snapshot_sends}
 
 -- ---- the one write that an input makes, if it makes one
 -- on a message only an acceptor writes
-abbrev pub WritesOnMessage : ReplicaState → Message → Write → Type 0
+abbrev pub WritesOnMessage : ReplicaState → Message → OptionalWrite → Type 0
 WritesOnMessage m (Prepare ballot first) write = write ≡ prepare_write m.accepting ballot first
 WritesOnMessage m (Accept v) write = IsAcceptWrite m.accepting v write
 WritesOnMessage m other write = write ≡ None
 
-abbrev pub WritesOnEnvelope : ReplicaState → Envelope → Bool → Write → Type 0
+abbrev pub WritesOnEnvelope : ReplicaState → Envelope → Bool → OptionalWrite → Type 0
 WritesOnEnvelope m e false write = write ≡ None
 WritesOnEnvelope m e true write = WritesOnMessage m e.message write
 
 -- a checkpoint is written: the snapshot text of what is executed, at a position above the floor
-pub record WritesCheckpoint (m : ReplicaState) (write : Write) : Type 0 where
+pub record WritesCheckpoint (m : ReplicaState) (write : OptionalWrite) : Type 0 where
   pub above : m.accepting.floor < position m
   pub in_log : position m ≤ SLOTS
   pub fits : MachineFits m.machine
   pub is : write ≡ Some (checkpoint_change m.accepting (position m) (snapshot_bytes m.machine))
 
-abbrev pub Writes : ReplicaState → Input → Write → Type 0
+abbrev pub Writes : ReplicaState → Input → OptionalWrite → Type 0
 Writes m (input.Submit client number op) write = write ≡ None
 Writes m (input.Message e) write = WritesOnEnvelope m e (is_for_this_run m.id m.nodes e) write
 Writes m input.Timeout write = write ≡ Some (Sets key.Round (big_bytes 8 (next_round m.proposing)))
@@ -164,7 +164,7 @@ HearsOfFloor old floor true new said =
     × (said ≡ sent (to_others old.id old.nodes (SnapAsk floor 0)))
 
 -- a part counts, and this is fetched with it
-pub record Counts (m : ReplicaState) (p : Piece) (f : Fetching) : Type 0 where
+pub record PartCounts (m : ReplicaState) (p : Piece) (f : Fetching) : Type 0 where
   pub before : Fetching
   pub fetching_ : m.fetching ≡ Some before
   pub wanted : wants m.fetching (position m) p ≡ true
@@ -219,10 +219,10 @@ pub data TakesPart (old : ReplicaState) (from : ℕ) (p : Piece) (new : ReplicaS
   -- it doesn't count
   passes : wants old.fetching (position old) p ≡ false → new ≡ old → said ≡ silence → TakesPart old from p new said
   -- it counts, and the lowest part that is missing is asked for next
-  keeps : (f : Fetching) → Counts old p f → (number : ℕ) → missing f ≡ Some number → new ≡ record old { fetching = Some f }
+  keeps : (f : Fetching) → PartCounts old p f → (number : ℕ) → missing f ≡ Some number → new ≡ record old { fetching = Some f }
       → said ≡ sent (to_one old.id from (SnapAsk f.target number)) → TakesPart old from p new said
   -- none is missing
-  completes : (f : Fetching) → Counts old p f → missing f ≡ None → RestoresText old from f.target (joined f.held) new said
+  completes : (f : Fetching) → PartCounts old p f → missing f ≡ None → RestoresText old from f.target (joined f.held) new said
       → TakesPart old from p new said
 
 -- ---- what an input makes of a node, and what the node says

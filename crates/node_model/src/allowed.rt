@@ -8,7 +8,7 @@ ghost use Rattle.synod.specs.Acts as acts;
 ghost use Rattle.synod.specs.Acts.{Local};
 ghost use Rattle.sessions.specs.declared.command.Command.{Command};
 ghost use Rattle.stable.specs.Records.{Records};
-ghost use Rattle.acceptor.specs.Accepting.{Accepting, Write, records_after};
+ghost use Rattle.acceptor.specs.Accepting.{Accepting, OptionalWrite, records_after};
 ghost use Rattle.acceptor.specs.Protocol.{RecordsStand};
 ghost use Rattle.node_model.specs.declared.fault.NodeFault.{NodeFault};
 ghost use Rattle.node_model.specs.declared.input.Input.{Input};
@@ -38,10 +38,10 @@ pub fn refusals_go_on()
 /// Records that say what a node holds say what it writes on an input once that is written, and this is what it holds where it
 /// takes the input.
 pub fn records_go_on()
-    ensures written { (m : ReplicaState) (input : Input) (records : Records) (write : Write) → refuses m input ≡ None
+    ensures written { (m : ReplicaState) (input : Input) (records : Records) (write : OptionalWrite) → refuses m input ≡ None
         → Writes m input write → InputFits input → RecordsHold records m.accepting m.proposing.round
         → RecordsHold (records_after records write) (accepting_after m input) (round_after m input) }
-    ensures taken { (old new : ReplicaState) (input : Input) (said : Response) (records : Records) (write : Write)
+    ensures taken { (old new : ReplicaState) (input : Input) (said : Response) (records : Records) (write : OptionalWrite)
         → refuses old input ≡ None → Takes old input new said → Writes old input write → InputFits input
         → RecordsHold records old.accepting old.proposing.round
         → RecordsHold (records_after records write) new.accepting new.proposing.round }

@@ -18,7 +18,7 @@ use Rattle.predicates.specs.declared.questions.Question.TheVariants.{Ever, Alway
 use Rattle.predicates.specs.Windows.{InLeg, InTime, instant_at, place_at}
 use Rattle.predicates.specs.declared.questions.Tri.TheVariants.{Yes, No}
 use Rattle.predicates.specs.Predicates.{AllInside}
-use Rattle.predicates.specs.Questions.{Answers}
+use Rattle.predicates.specs.Questions.{AnswersQuestion}
 use Rattle.predicates.specs.Ends.{AreBeyond, Miss, Settle, settled}
 use Rattle.predicates.specs.Courses.{Crosses}
 use Rattle.predicates.proofs.Margins.{way_at_least, way_at_most}
@@ -112,7 +112,7 @@ shares_not a b p has apart s =
 
 -- ---- the answer of a leg that its ends settle, where it has an instant of the period
 pub settled_leg : (q : Question) (a b : Point) (p : Span) (r : Area) → a.t < b.t → HasInstant p → first_whole p ≤ b.t →
-    a.t ≤ last_whole p → Settle q a b r → Answers q (OnLeg (vertex a) (vertex b)) p r (settled q)
+    a.t ≤ last_whole p → Settle q a b r → AnswersQuestion q (OnLeg (vertex a) (vertex b)) p r (settled q)
 settled_leg Ever a b p r later has begun over h = (
   shares a b p later has begun over,
   λ s.
@@ -145,7 +145,7 @@ within_shares a b p later begun over =
     shares_at a b p (moment a.t) later (≤ᶠ_refl (moment a.t)) ((moment_le a.t b.t).0 (omega (arith, later))) begun
 
 pub crossed_leg : (a b : Point) (p : Span) (r : Area) → a.t < b.t → LiesIn (moment a.t) p → LiesIn (moment b.t) p → Crosses a b r →
-    Answers Ever (OnLeg (vertex a) (vertex b)) p r Yes
+    AnswersQuestion Ever (OnLeg (vertex a) (vertex b)) p r Yes
 crossed_leg a b p r later begun over c =
     let at = in_time a b p c.at later begun over c.in_leg in
     record {
@@ -157,7 +157,7 @@ crossed_leg a b p r later begun over c =
     }
 
 pub passed_leg : (a b : Point) (p : Span) (r : Area) → a.t < b.t → LiesIn (moment a.t) p → LiesIn (moment b.t) p → ¬ Crosses a b r →
-    Answers Ever (OnLeg (vertex a) (vertex b)) p r No
+    AnswersQuestion Ever (OnLeg (vertex a) (vertex b)) p r No
 passed_leg a b p r later begun over n = (
   within_shares a b p later begun over,
   λ s.
@@ -186,7 +186,7 @@ inside_at a b p r u later begun over in_leg all =
     all.inside (instant_at a b u) (place_at a b u) at.in_period (value_at a b p u later at)
 
 pub straying_leg : (a b : Point) (p : Span) (r : Area) → a.t < b.t → LiesIn (moment a.t) p → LiesIn (moment b.t) p →
-    ¬ (Inside (place a) r × Inside (place b) r) → Answers Always (OnLeg (vertex a) (vertex b)) p r No
+    ¬ (Inside (place a) r × Inside (place b) r) → AnswersQuestion Always (OnLeg (vertex a) (vertex b)) p r No
 straying_leg a b p r later begun over n = (
   within_shares a b p later begun over,
   λ all.

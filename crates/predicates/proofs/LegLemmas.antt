@@ -13,7 +13,7 @@ use Rattle.predicates.specs.declared.questions.Question.TheVariants.{Ever, Alway
 use Rattle.predicates.specs.declared.questions.Tri.TheVariants.{None}
 use Rattle.predicates.specs.Windows.{InLeg, InWindow, IsWindowOf, SomeIn, EveryIn, InTime, instant_at, place_at}
 use Rattle.predicates.specs.Predicates.{SomeInside, AllInside}
-use Rattle.predicates.specs.Questions.{Answers}
+use Rattle.predicates.specs.Questions.{AnswersQuestion}
 use Rattle.tpoint.proofs.Periods.{at_or_before, strictly_before, lies_same}
 use Rattle.predicates.proofs.WindowLemmas.{some_parameter, is_some_of, same_window}
 
@@ -187,7 +187,7 @@ leaves_along w a b r false across every =
     record { holds = λ u i. record { across = across.holds u i; along = every.holds u i } }
 
 -- ---- what the leg answers
-pub answers_none : (q : Question) (R : Fraction → Position → Type 0) (p : Span) (r : Area) → ¬ Shares R p → Answers q R p r None
+pub answers_none : (q : Question) (R : Fraction → Position → Type 0) (p : Span) (r : Area) → ¬ Shares R p → AnswersQuestion q R p r None
 answers_none Ever R p r none = none
 answers_none Always R p r none = none
 

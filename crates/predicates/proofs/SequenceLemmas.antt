@@ -12,7 +12,7 @@ use Rattle.tpoint.specs.Fraction.{Fraction}
 use Rattle.tpoint.specs.Moving.{Position, Sequence, HasValue, At, OnLeg, Rises, moment, vertex}
 use Rattle.tpoint.specs.Extents.{Span, HasInstant, Shares, Area, Inside, first_whole, last_whole}
 use Rattle.tpoint.specs.Places.{EachAt}
-use Rattle.tpoint.specs.Pieces.{Piece, place}
+use Rattle.tpoint.specs.Pieces.{OnPiece, place}
 use Rattle.tpoint.specs.declared.point.Point.{Point}
 use Rattle.tpoint.specs.declared.interp.Interp.{Interp}
 use Rattle.tpoint.specs.declared.interp.Interp.TheVariants.{Linear}
@@ -21,7 +21,7 @@ use Rattle.predicates.specs.declared.questions.Question.TheVariants.{Ever, Alway
 use Rattle.predicates.specs.declared.questions.Tri.{Tri}
 use Rattle.predicates.specs.declared.questions.Tri.TheVariants.{Yes, No, None}
 use Rattle.predicates.specs.Predicates.{SomeInside, AllInside}
-use Rattle.predicates.specs.Questions.{Answers, decides}
+use Rattle.predicates.specs.Questions.{AnswersQuestion, decides}
 use Rattle.predicates.specs.Courses.{Crosses}
 use Rattle.predicates.proofs.StayLemmas.{answers_same}
 use Rattle.predicates.proofs.EndLemmas.{settled_leg, passed_leg, leg_lies}
@@ -33,7 +33,7 @@ Whole interp ps t v = HasValue interp (map vertex ps) t v
 -- ---- pieces that do not meet the period
 -- one that ends before it
 pub ends_before : (interp : Interp) (ps : List Point) (p : Span) (j : ℕ) (next : Point) → ((k : ℕ) → Rises ps k) →
-    slice_get ps (j + 1) ≡ Some next → next.t < p.begin → ¬ Shares (Piece interp ps j) p
+    slice_get ps (j + 1) ≡ Some next → next.t < p.begin → ¬ Shares (OnPiece interp ps j) p
 ends_before interp ps p j next rise e before s =
     let until = piece_until interp ps j next s.t s.v rise e s.value in
     let apart = ≤ᶠ-<ᶠ until ((moment_lt next.t p.begin).0 before) in
@@ -41,7 +41,7 @@ ends_before interp ps p j next rise e before s =
 
 -- those before a place up to which each next point is before it
 pub before_place : (interp : Interp) (ps : List Point) (p : Span) (n : ℕ) → ((k : ℕ) → Rises ps k) → n < length ps →
-    ((k : ℕ) → k < n → EachAt ps (λ (next : Point). next.t < p.begin) (k + 1)) → (j : ℕ) → j < n → ¬ Shares (Piece interp ps j) p
+    ((k : ℕ) → k < n → EachAt ps (λ (next : Point). next.t < p.begin) (k + 1)) → (j : ℕ) → j < n → ¬ Shares (OnPiece interp ps j) p
 before_place interp [] p n rise within earlier j h = absurd (omega arith)
 before_place interp (x ∷ xs) p n rise within earlier j h =
     let ps = x ∷ xs in
@@ -51,7 +51,7 @@ before_place interp (x ∷ xs) p n rise within earlier j h =
 
 -- one from a point on that is after it
 pub begins_after : (interp : Interp) (ps : List Point) (p : Span) (i j : ℕ) (point : Point) → HasInstant p → ((k : ℕ) → Rises ps k) →
-    slice_get ps i ≡ Some point → last_whole p < point.t → i ≤ j → ¬ Shares (Piece interp ps j) p
+    slice_get ps i ≡ Some point → last_whole p < point.t → i ≤ j → ¬ Shares (OnPiece interp ps j) p
 begins_after interp ps p i j point has rise e after h s =
     let within = place_within interp ps j s.t s.v s.value in
     let own = get_or ps j point in
@@ -62,7 +62,7 @@ begins_after interp ps p i j point has rise e after h s =
     omega (arith, order, after, over)
 
 -- one past the last point
-pub past_the_last : (interp : Interp) (ps : List Point) (p : Span) (j : ℕ) → length ps ≤ j → ¬ Shares (Piece interp ps j) p
+pub past_the_last : (interp : Interp) (ps : List Point) (p : Span) (j : ℕ) → length ps ≤ j → ¬ Shares (OnPiece interp ps j) p
 past_the_last interp ps p j over s = absurd (omega (arith, place_within interp ps j s.t s.v s.value))
 
 -- ---- what the answer of a piece tells of the whole
@@ -81,7 +81,7 @@ undecided_of_none : (q : Question) (R : Fraction → Position → Type 0) (p : S
 undecided_of_none Ever R p r none = λ s. none (some_shares R p r s)
 undecided_of_none Always R p r none = all_of_none R p r none
 
-undecided_by : (q : Question) (R : Fraction → Position → Type 0) (p : Span) (r : Area) (part : Tri) → Answers q R p r part →
+undecided_by : (q : Question) (R : Fraction → Position → Type 0) (p : Span) (r : Area) (part : Tri) → AnswersQuestion q R p r part →
     decides q part ≡ false → Undecided q R p r
 undecided_by Ever R p r Yes h e = absurd (cc)
 undecided_by Ever R p r No h e = h.1
@@ -91,7 +91,7 @@ undecided_by Always R p r No h e = absurd (cc)
 undecided_by Always R p r None h e = undecided_of_none Always R p r h
 
 -- an answer but None comes from a value in the period
-shares_by : (q : Question) (R : Fraction → Position → Type 0) (p : Span) (r : Area) (part : Tri) → Answers q R p r part → ¬ (part ≡ None) →
+shares_by : (q : Question) (R : Fraction → Position → Type 0) (p : Span) (r : Area) (part : Tri) → AnswersQuestion q R p r part → ¬ (part ≡ None) →
     Shares R p
 shares_by Ever R p r Yes h n = some_shares R p r h
 shares_by Ever R p r No h n = h.0
@@ -100,11 +100,11 @@ shares_by Always R p r Yes h n = h.0
 shares_by Always R p r No h n = h.0
 shares_by Always R p r None h n = absurd (n refl)
 
-shares_whole : (interp : Interp) (ps : List Point) (p : Span) (i : ℕ) → Shares (Piece interp ps i) p → Shares (Whole interp ps) p
+shares_whole : (interp : Interp) (ps : List Point) (p : Span) (i : ℕ) → Shares (OnPiece interp ps i) p → Shares (Whole interp ps) p
 shares_whole interp ps p i s =
     record { t = s.t; v = s.v; in_period = s.in_period; value = record { i = i; at_i = s.value } }
 
-none_by : (q : Question) (R : Fraction → Position → Type 0) (p : Span) (r : Area) → Answers q R p r None → ¬ Shares R p
+none_by : (q : Question) (R : Fraction → Position → Type 0) (p : Span) (r : Area) → AnswersQuestion q R p r None → ¬ Shares R p
 none_by Ever R p r h = h
 none_by Always R p r h = h
 
@@ -114,7 +114,7 @@ told q part answer test is same tells e = ap (decides q) (sym same) ∙ sym tell
 
 -- a piece that decides
 pub decided : (q : Question) (interp : Interp) (ps : List Point) (p : Span) (r : Area) (i : ℕ) (part : Tri) →
-    Answers q (Piece interp ps i) p r part → decides q part ≡ true → Answers q (Whole interp ps) p r part
+    AnswersQuestion q (OnPiece interp ps i) p r part → decides q part ≡ true → AnswersQuestion q (Whole interp ps) p r part
 decided Ever interp ps p r i Yes s e =
     record { t = s.t; v = s.v; in_period = s.in_period; value = record { i = i; at_i = s.value }; inside = s.inside }
 decided Ever interp ps p r i No h e = absurd (cc)
@@ -128,8 +128,8 @@ decided Always interp ps p r i None h e = absurd (cc)
 
 -- ---- the pieces before the one at i
 pub record SoFar (q : Question) (interp : Interp) (ps : List Point) (p : Span) (r : Area) (i : ℕ) (answer : Tri) : Type 0 where
-  pub undecided : (j : ℕ) → j < i → Undecided q (Piece interp ps j) p r
-  pub none : answer ≡ None → (j : ℕ) → j < i → ¬ Shares (Piece interp ps j) p
+  pub undecided : (j : ℕ) → j < i → Undecided q (OnPiece interp ps j) p r
+  pub none : answer ≡ None → (j : ℕ) → j < i → ¬ Shares (OnPiece interp ps j) p
   pub some : ¬ (answer ≡ None) → Shares (Whole interp ps) p
   pub not_yet : decides q answer ≡ false
 
@@ -138,10 +138,10 @@ decides_none Ever = refl
 decides_none Always = refl
 
 pub so_far_none : (q : Question) (interp : Interp) (ps : List Point) (p : Span) (r : Area) (i : ℕ) →
-    ((j : ℕ) → j < i → ¬ Shares (Piece interp ps j) p) → SoFar q interp ps p r i None
+    ((j : ℕ) → j < i → ¬ Shares (OnPiece interp ps j) p) → SoFar q interp ps p r i None
 so_far_none q interp ps p r i none =
     record {
-      undecided = λ j h. undecided_of_none q (Piece interp ps j) p r (none j h);
+      undecided = λ j h. undecided_of_none q (OnPiece interp ps j) p r (none j h);
       none = λ _. none;
       some = λ n. absurd (n refl);
       not_yet = decides_none q;
@@ -149,14 +149,14 @@ so_far_none q interp ps p r i none =
 
 -- pieces without a value in the period
 pub next_none : (q : Question) (interp : Interp) (ps : List Point) (p : Span) (r : Area) (i n : ℕ) (answer : Tri) →
-    SoFar q interp ps p r i answer → ((j : ℕ) → i ≤ j → j < n → Answers q (Piece interp ps j) p r None) → SoFar q interp ps p r n answer
+    SoFar q interp ps p r i answer → ((j : ℕ) → i ≤ j → j < n → AnswersQuestion q (OnPiece interp ps j) p r None) → SoFar q interp ps p r n answer
 next_none q interp ps p r i n answer s each =
-    let none : (j : ℕ) → i ≤ j → j < n → ¬ Shares (Piece interp ps j) p = λ j l h. none_by q (Piece interp ps j) p r (each j l h) in
+    let none : (j : ℕ) → i ≤ j → j < n → ¬ Shares (OnPiece interp ps j) p = λ j l h. none_by q (OnPiece interp ps j) p r (each j l h) in
     record {
       undecided = λ j h.
           elim (cases_lt j i) [
             | inl l ↦ s.undecided j l
-            | inr l ↦ undecided_of_none q (Piece interp ps j) p r (none j l h)
+            | inr l ↦ undecided_of_none q (OnPiece interp ps j) p r (none j l h)
           ];
       none = λ e j h. elim (cases_lt j i) [ inl l ↦ s.none e j l | inr l ↦ none j l h ];
       some = s.some;
@@ -165,44 +165,44 @@ next_none q interp ps p r i n answer s each =
 
 -- pieces with one that don't decide
 pub next_some : (q : Question) (interp : Interp) (ps : List Point) (p : Span) (r : Area) (i n : ℕ) (answer part : Tri) →
-    SoFar q interp ps p r i answer → i < n → ((j : ℕ) → i ≤ j → j < n → Answers q (Piece interp ps j) p r part) → ¬ (part ≡ None) →
+    SoFar q interp ps p r i answer → i < n → ((j : ℕ) → i ≤ j → j < n → AnswersQuestion q (OnPiece interp ps j) p r part) → ¬ (part ≡ None) →
     decides q part ≡ false → SoFar q interp ps p r n part
 next_some q interp ps p r i n answer part s on each some open_still =
     record {
       undecided = λ j h.
           elim (cases_lt j i) [
             | inl l ↦ s.undecided j l
-            | inr l ↦ undecided_by q (Piece interp ps j) p r part (each j l h) open_still
+            | inr l ↦ undecided_by q (OnPiece interp ps j) p r part (each j l h) open_still
           ];
       none = λ e. absurd (some e);
-      some = λ _. shares_whole interp ps p i (shares_by q (Piece interp ps i) p r part (each i (omega arith) on) some);
+      some = λ _. shares_whole interp ps p i (shares_by q (OnPiece interp ps i) p r part (each i (omega arith) on) some);
       not_yet = open_still;
     }
 
 -- ---- when no piece is left that meets the period
 undecided_whole : (q : Question) (interp : Interp) (ps : List Point) (p : Span) (r : Area) →
-    ((j : ℕ) → Undecided q (Piece interp ps j) p r) → Undecided q (Whole interp ps) p r
+    ((j : ℕ) → Undecided q (OnPiece interp ps j) p r) → Undecided q (Whole interp ps) p r
 undecided_whole Ever interp ps p r all = λ s.
     all s.value.i (record { t = s.t; v = s.v; in_period = s.in_period; value = s.value.at_i; inside = s.inside })
 undecided_whole Always interp ps p r all =
     record { inside = λ t v lies k. (all k.i).inside t v lies k.at_i }
 
 all_undecided : (q : Question) (interp : Interp) (ps : List Point) (p : Span) (r : Area) (i : ℕ) (answer : Tri) →
-    SoFar q interp ps p r i answer → ((j : ℕ) → i ≤ j → ¬ Shares (Piece interp ps j) p) → (j : ℕ) → Undecided q (Piece interp ps j) p r
+    SoFar q interp ps p r i answer → ((j : ℕ) → i ≤ j → ¬ Shares (OnPiece interp ps j) p) → (j : ℕ) → Undecided q (OnPiece interp ps j) p r
 all_undecided q interp ps p r i answer s rest j =
     elim (cases_lt j i) [
       | inl h ↦ s.undecided j h
-      | inr h ↦ undecided_of_none q (Piece interp ps j) p r (rest j h)
+      | inr h ↦ undecided_of_none q (OnPiece interp ps j) p r (rest j h)
     ]
 
-none_whole : (interp : Interp) (ps : List Point) (p : Span) (i : ℕ) → ((j : ℕ) → j < i → ¬ Shares (Piece interp ps j) p) →
-    ((j : ℕ) → i ≤ j → ¬ Shares (Piece interp ps j) p) → ¬ Shares (Whole interp ps) p
+none_whole : (interp : Interp) (ps : List Point) (p : Span) (i : ℕ) → ((j : ℕ) → j < i → ¬ Shares (OnPiece interp ps j) p) →
+    ((j : ℕ) → i ≤ j → ¬ Shares (OnPiece interp ps j) p) → ¬ Shares (Whole interp ps) p
 none_whole interp ps p i before rest s =
-    let own : Shares (Piece interp ps s.value.i) p = record { t = s.t; v = s.v; in_period = s.in_period; value = s.value.at_i } in
+    let own : Shares (OnPiece interp ps s.value.i) p = record { t = s.t; v = s.v; in_period = s.in_period; value = s.value.at_i } in
     elim (cases_lt s.value.i i) [ inl h ↦ before s.value.i h own | inr h ↦ rest s.value.i h own ]
 
 answer_whole : (q : Question) (R : Fraction → Position → Type 0) (p : Span) (r : Area) (answer : Tri) → Undecided q R p r →
-    (answer ≡ None → ¬ Shares R p) → (¬ (answer ≡ None) → Shares R p) → decides q answer ≡ false → Answers q R p r answer
+    (answer ≡ None → ¬ Shares R p) → (¬ (answer ≡ None) → Shares R p) → decides q answer ≡ false → AnswersQuestion q R p r answer
 answer_whole Ever R p r Yes u none some e = absurd (cc)
 answer_whole Ever R p r No u none some e = (some (λ k. cc), u)
 answer_whole Ever R p r None u none some e = none refl
@@ -211,7 +211,7 @@ answer_whole Always R p r No u none some e = absurd (cc)
 answer_whole Always R p r None u none some e = none refl
 
 pub answered : (q : Question) (interp : Interp) (ps : List Point) (p : Span) (r : Area) (i : ℕ) (answer : Tri) →
-    SoFar q interp ps p r i answer → ((j : ℕ) → i ≤ j → ¬ Shares (Piece interp ps j) p) → Answers q (Whole interp ps) p r answer
+    SoFar q interp ps p r i answer → ((j : ℕ) → i ≤ j → ¬ Shares (OnPiece interp ps j) p) → AnswersQuestion q (Whole interp ps) p r answer
 answered q interp ps p r i answer s rest =
     answer_whole q (Whole interp ps) p r answer
     (undecided_whole q interp ps p r (all_undecided q interp ps p r i answer s rest))
@@ -220,9 +220,9 @@ answered q interp ps p r i answer s rest =
 
 -- a sequence is its interpolation and its points
 pub of_sequence : (q : Question) (s : Sequence) (interp : Interp) (ps : List Point) (p : Span) (r : Area) (answer : Tri) →
-    interp ≡ s.interp → ps ≡ s.points → Answers q (Whole interp ps) p r answer → Answers q (At s) p r answer
+    interp ≡ s.interp → ps ≡ s.points → AnswersQuestion q (Whole interp ps) p r answer → AnswersQuestion q (At s) p r answer
 of_sequence q s interp ps p r answer e f h =
-    subst (λ (qs : List Point). Answers q (Whole s.interp qs) p r answer) f (subst (λ (k : Interp). Answers q (Whole k ps) p r answer) e h)
+    subst (λ (qs : List Point). AnswersQuestion q (Whole s.interp qs) p r answer) f (subst (λ (k : Interp). AnswersQuestion q (Whole k ps) p r answer) e h)
 
 -- ---- the instants of a list of points do not fall
 pub instants_rise : (ps : List Point) → ((k : ℕ) → Rises ps k) → IsNonDecreasingBy (λ (p : Point). p.t) ps
@@ -246,7 +246,7 @@ before_and_after ps begin n split = (
 -- ---- a leg's answer is its piece's
 pub leg_answers : (q : Question) (ps : List Point) (p : Span) (r : Area) (i : ℕ) (a b : Point) (answer : Tri) →
     slice_get ps i ≡ Some a → slice_get ps (i + 1) ≡ Some b → i + 1 < length ps →
-    Answers q (OnLeg (vertex a) (vertex b)) p r answer → Answers q (Piece Linear ps i) p r answer
+    AnswersQuestion q (OnLeg (vertex a) (vertex b)) p r answer → AnswersQuestion q (OnPiece Linear ps i) p r answer
 leg_answers q ps p r i a b answer e f within h =
     answers_same q (OnLeg (vertex a) (vertex b)) _ _ _ _ (leg_to ps i a b e f) (leg_from ps i a b within e f) h
 
@@ -271,7 +271,7 @@ begun_later ps begin i k a rise begun h e =
 -- one that passes by
 pub passes_by : (ps : List Point) (p : Span) (r : Area) (i k : ℕ) (a b : Point) → HasInstant p → ((k : ℕ) → Rises ps k) →
     EachAt ps (λ (q : Point). first_whole p ≤ q.t) i → i ≤ k → slice_get ps k ≡ Some a → slice_get ps (k + 1) ≡ Some b →
-    b.t ≤ last_whole p → ¬ Crosses a b r → Answers Ever (Piece Linear ps k) p r No
+    b.t ≤ last_whole p → ¬ Crosses a b r → AnswersQuestion Ever (OnPiece Linear ps k) p r No
 passes_by ps p r i k a b has rise begun h e f over n =
     let from = begun_later ps (first_whole p) i k a rise begun h e in
     let later = rise k a b e f in
@@ -281,7 +281,7 @@ passes_by ps p r i k a b has rise begun h e f over n =
 -- and one that stays inside
 pub stays_inside : (ps : List Point) (p : Span) (r : Area) (i k : ℕ) (a b : Point) → HasInstant p → ((k : ℕ) → Rises ps k) →
     EachAt ps (λ (q : Point). first_whole p ≤ q.t) i → i ≤ k → slice_get ps k ≡ Some a → slice_get ps (k + 1) ≡ Some b →
-    b.t ≤ last_whole p → Inside (place a) r → Inside (place b) r → Answers Always (Piece Linear ps k) p r Yes
+    b.t ≤ last_whole p → Inside (place a) r → Inside (place b) r → AnswersQuestion Always (OnPiece Linear ps k) p r Yes
 stays_inside ps p r i k a b has rise begun h e f over x y =
     let from = begun_later ps (first_whole p) i k a rise begun h e in
     let later = rise k a b e f in
@@ -295,13 +295,13 @@ first_inside ps r i a e h q f = subst (λ (x : Point). Inside (place x) r) (same
 -- those so far stay inside, and one more does
 pub stayed_more : (ps : List Point) (p : Span) (r : Area) (i k : ℕ) (b : Point) → HasInstant p → ((k : ℕ) → Rises ps k) →
     EachAt ps (λ (q : Point). first_whole p ≤ q.t) i → i ≤ k → slice_get ps (k + 1) ≡ Some b → b.t ≤ last_whole p → Inside (place b) r →
-    ((j : ℕ) → i ≤ j → j < k → Answers Always (Piece Linear ps j) p r Yes) → EachAt ps (λ (q : Point). Inside (place q) r) k →
-    ((j : ℕ) → i ≤ j → j < k + 1 → Answers Always (Piece Linear ps j) p r Yes) × EachAt ps (λ (q : Point). Inside (place q) r) (k + 1)
+    ((j : ℕ) → i ≤ j → j < k → AnswersQuestion Always (OnPiece Linear ps j) p r Yes) → EachAt ps (λ (q : Point). Inside (place q) r) k →
+    ((j : ℕ) → i ≤ j → j < k + 1 → AnswersQuestion Always (OnPiece Linear ps j) p r Yes) × EachAt ps (λ (q : Point). Inside (place q) r) (k + 1)
 stayed_more ps p r i k b has rise begun h f over inside before last =
     let within = slice_get_within ps (k + 1) b f in
     let a = get_or ps k b in
     let e = slice_get-get_or ps k b (omega (arith, within)) in (
-      one_more (λ j. Answers Always (Piece Linear ps j) p r Yes) i k before
+      one_more (λ j. AnswersQuestion Always (OnPiece Linear ps j) p r Yes) i k before
           (stays_inside ps p r i k a b has rise begun h e f over (last a e) inside),
       first_inside ps r (k + 1) b f inside,
     )

@@ -4,7 +4,7 @@ use Rattle.std.proofs.lemmas.Bool.{cases_lt}
 use Rattle.tpoint.proofs.Fractions.{≤ᶠ_trans, ≤ᶠ_refl, ≈-≤ᶠ, ≤ᶠ-≈, ≈_sym, ≈_refl, ≤ᶠ-<ᶠ, <ᶠ-≤ᶠ, whole_le, moment_le, moment_lt}
 use Rattle.tpoint.proofs.Periods.{before_begin, over_at, whole_lies, lies_same, up_then_before, early}
 use Rattle.tpoint.specs.Fraction.{Fraction, ◌≈◌, ◌≤ᶠ◌, ◌<ᶠ◌}
-use Rattle.tpoint.specs.Moving.{Position, IsPlace, moment}
+use Rattle.tpoint.specs.Moving.{Position, IsPositionOf, moment}
 use Rattle.tpoint.specs.Extents.{Span, HasInstant, LiesIn, Shares, Area, Between, Inside, first_whole, last_whole}
 use Rattle.tpoint.specs.Pieces.{place, AtPoint, HeldUntil}
 use Rattle.tpoint.specs.declared.point.Point.{Point}
@@ -13,7 +13,7 @@ use Rattle.predicates.specs.declared.questions.Question.TheVariants.{Ever, Alway
 use Rattle.predicates.specs.declared.questions.Tri.{Tri}
 use Rattle.predicates.specs.declared.questions.Tri.TheVariants.{Yes, No, None}
 use Rattle.predicates.specs.Predicates.{SomeInside, AllInside}
-use Rattle.predicates.specs.Questions.{Answers}
+use Rattle.predicates.specs.Questions.{AnswersQuestion}
 use Rattle.predicates.specs.Stays.{IsStayAnswer}
 
 -- ---- two relations with the same pairs answer alike
@@ -30,8 +30,8 @@ all_same : (R S : Fraction → Position → Type 0) (p : Span) (r : Area) → ((
 all_same R S p r g all = record { inside = λ t v lies k. all.inside t v lies (g t v k) }
 
 pub answers_same : (q : Question) (R S : Fraction → Position → Type 0) (p : Span) (r : Area) (answer : Tri) →
-    ((t : Fraction) (v : Position) → R t v → S t v) → ((t : Fraction) (v : Position) → S t v → R t v) → Answers q R p r answer →
-    Answers q S p r answer
+    ((t : Fraction) (v : Position) → R t v → S t v) → ((t : Fraction) (v : Position) → S t v → R t v) → AnswersQuestion q R p r answer →
+    AnswersQuestion q S p r answer
 answers_same Ever R S p r Yes f g h = some_same R S p r f h
 answers_same Ever R S p r No f g h = (shares_same R S p f h.0, λ s. h.1 (some_same S R p r g s))
 answers_same Ever R S p r None f g h = λ s. h (shares_same S R p g s)
@@ -41,7 +41,7 @@ answers_same Always R S p r None f g h = λ s. h (shares_same S R p g s)
 
 -- where there is no value at all
 pub answers_nothing : (q : Question) (R : Fraction → Position → Type 0) (p : Span) (r : Area) → ((t : Fraction) (v : Position) → ¬ R t v) →
-    Answers q R p r None
+    AnswersQuestion q R p r None
 answers_nothing Ever R p r nothing = λ s. nothing s.t s.v s.value
 answers_nothing Always R p r nothing = λ s. nothing s.t s.v s.value
 
@@ -49,18 +49,18 @@ answers_nothing Always R p r nothing = λ s. nothing s.t s.v s.value
 Between-≈ : {s t : Fraction} {a b : ℤ} → s ≈ t → Between a b s → Between a b t
 Between-≈ e h = record { from = ≤ᶠ-≈ h.from e; to = ≈-≤ᶠ (≈_sym e) h.to }
 
-inside_there : (r : Area) (v w : Position) → IsPlace v w → Inside v r → Inside w r
+inside_there : (r : Area) (v w : Position) → IsPositionOf v w → Inside v r → Inside w r
 inside_there r v w e i = record { across = Between-≈ e.same_x i.across; along = Between-≈ e.same_y i.along }
 
-there_inside : (r : Area) (v w : Position) → IsPlace v w → Inside w r → Inside v r
+there_inside : (r : Area) (v w : Position) → IsPositionOf v w → Inside w r → Inside v r
 there_inside r v w e i = record { across = Between-≈ (≈_sym e.same_x) i.across; along = Between-≈ (≈_sym e.same_y) i.along }
 
-is_place : (v : Position) → IsPlace v v
+is_place : (v : Position) → IsPositionOf v v
 is_place v = record { same_x = ≈_refl v.x; same_y = ≈_refl v.y }
 
 record Stays (S : Fraction → Type 0) (w : Position) (t : Fraction) (v : Position) : Type 0 where
   pub while : S t
-  pub there : IsPlace v w
+  pub there : IsPositionOf v w
 
 -- it is there in the period
 abbrev pub MeetsStay : (Fraction → Type 0) → Span → Type 0
@@ -78,7 +78,7 @@ stay_apart : (S : Fraction → Type 0) (w : Position) (p : Span) (there : Bool) 
 stay_apart S w p there when e s = let t = when.1 (s.t, s.in_period, s.value.while) in absurd (cc)
 
 stay_answers : (q : Question) (S : Fraction → Type 0) (w : Position) (p : Span) (r : Area) (there : Bool) (answer : Tri) →
-    (IsTrue there ↔ MeetsStay S p) → IsStayAnswer there (Inside w r) answer → Answers q (Stays S w) p r answer
+    (IsTrue there ↔ MeetsStay S p) → IsStayAnswer there (Inside w r) answer → AnswersQuestion q (Stays S w) p r answer
 stay_answers Ever S w p r there Yes when h = stay_some S w p r (when.0 h.0) h.1
 stay_answers Ever S w p r there No when h =
     (stay_shares S w p (when.0 h.0), λ s. h.1 (inside_there r s.v w s.value.there s.inside))
@@ -118,7 +118,7 @@ until_next p m n h has = (
 -- ---- the two kinds
 pub point_answers : (q : Question) (point : Point) (p : Span) (r : Area) (there : Bool) (answer : Tri) →
     HasInstant p → (IsTrue there ↔ ((first_whole p ≤ point.t) × (point.t ≤ last_whole p))) →
-    IsStayAnswer there (Inside (place point) r) answer → Answers q (AtPoint point) p r answer
+    IsStayAnswer there (Inside (place point) r) answer → AnswersQuestion q (AtPoint point) p r answer
 point_answers q point p r there answer has when h =
     let S : Fraction → Type 0 = λ t. t ≈ moment point.t in
     let i = at_instant p point.t has in
@@ -129,7 +129,7 @@ point_answers q point p r there answer has when h =
 
 pub held_answers : (q : Question) (point next : Point) (p : Span) (r : Area) (there : Bool) (answer : Tri) → point.t < next.t →
     HasInstant p → (IsTrue there ↔ ((point.t ≤ last_whole p) × (p.begin < next.t))) → IsStayAnswer there (Inside (place point) r) answer →
-    Answers q (HeldUntil point next) p r answer
+    AnswersQuestion q (HeldUntil point next) p r answer
 held_answers q point next p r there answer later has when h =
     let S : Fraction → Type 0 = λ t. (moment point.t ≤ᶠ t) × (t <ᶠ moment next.t) in
     let i = until_next p point.t next.t later has in

@@ -24,7 +24,7 @@ pub record IsCourse (from to low high : ℤ) (c : Course) : Type 0 where
       Between low high (way from to u) ↔ Between c.enter c.leave (way (pos 0) c.length u)
 
 -- its numbers have few digits, so that the products of two fit 128 bits
-pub record IsSmall (c : Course) : Type 0 where
+pub record CourseIsSmall (c : Course) : Type 0 where
   pub length : unsigned_abs c.length < 2 ^ 48
   pub enter : unsigned_abs c.enter < 2 ^ 48
   pub leave : unsigned_abs c.leave < 2 ^ 48

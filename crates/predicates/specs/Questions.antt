@@ -9,9 +9,9 @@ use Rattle.predicates.specs.declared.questions.Tri.TheVariants.{Yes, No}
 use Rattle.predicates.specs.declared.questions.Question.{Question}
 use Rattle.predicates.specs.declared.questions.Question.TheVariants.{Ever, Always}
 
-abbrev pub Answers : Question → (Fraction → Position → Type 0) → Span → Area → Tri → Type 0
-Answers Ever = EverOf
-Answers Always = AlwaysOf
+abbrev pub AnswersQuestion : Question → (Fraction → Position → Type 0) → Span → Area → Tri → Type 0
+AnswersQuestion Ever = EverOf
+AnswersQuestion Always = AlwaysOf
 
 -- the answer of a part that is the answer of the whole: that it is once inside, or once outside
 abbrev pub decides : Question → Tri → Bool

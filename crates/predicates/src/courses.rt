@@ -4,7 +4,7 @@ ghost use Rattle.std.specs.Prelude.{◌≡◌, ◌^◌, ◌<◌, ◌↔◌, ◌*
 ghost use Rattle.tpoint.specs.Coordinates.{InRange};
 ghost use Rattle.tpoint.specs.Moving.{InBounds};
 ghost use Rattle.predicates.specs.Ends.{AreBeyond, Miss};
-ghost use Rattle.predicates.specs.Courses.{IsCourse, IsSmall, Crosses};
+ghost use Rattle.predicates.specs.Courses.{IsCourse, CourseIsSmall, Crosses};
 
 use crate::ends::miss;
 use tpoint::{Point, Rect};
@@ -57,7 +57,7 @@ fn course_of(from: i64, to: i64, low: i64, high: i64) -> Course
     requires order { low ≤ℤ high }
     requires near { ¬ AreBeyond from to low high }
     ensures course { IsCourse from to low high result }
-    ensures small { IsSmall result }
+    ensures small { CourseIsSmall result }
 {
     if from <= to {
         Course {
@@ -78,8 +78,8 @@ fn course_of(from: i64, to: i64, low: i64, high: i64) -> Course
 /// `enter / length <= leave / length`.
 #[inline(always)]
 fn enters_before(one: Course, other: Course) -> bool
-    requires one_small { IsSmall one }
-    requires other_small { IsSmall other }
+    requires one_small { CourseIsSmall one }
+    requires other_small { CourseIsSmall other }
     ensures { IsTrue result ↔ (one.enter *ℤ other.length) ≤ℤ (other.leave *ℤ one.length) }
 {
     product(one.enter, other.length) <= product(other.leave, one.length)

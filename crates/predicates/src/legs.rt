@@ -8,7 +8,7 @@ ghost use Rattle.tpoint.specs.Moving.{OnLeg, moment, vertex, InBounds};
 ghost use Rattle.tpoint.specs.Extents.{Span, LiesIn, Between, Inside};
 ghost use Rattle.predicates.specs.Windows.{InWindow, IsWindowOf, InTime, place_at, SomeIn, EveryIn};
 ghost use Rattle.predicates.specs.Ends.{Settle};
-ghost use Rattle.predicates.specs.Questions.{Answers};
+ghost use Rattle.predicates.specs.Questions.{AnswersQuestion};
 
 use crate::clipping::{at_least, at_most};
 use crate::courses::crosses;
@@ -23,7 +23,7 @@ pub fn leg(question: Question, a: &Point, b: &Point, period: &Period, area: &Rec
     requires later { a.now.t < b.now.t }
     requires a_fits { InBounds a.now }
     requires b_fits { InBounds b.now }
-    ensures { Answers question (OnLeg (vertex a.now) (vertex b.now)) period.now area.now result }
+    ensures { AnswersQuestion question (OnLeg (vertex a.now) (vertex b.now)) period.now area.now result }
 {
     if !shares_time(period, a, b) {
         return Tri::None;
@@ -45,7 +45,7 @@ fn unsettled(question: Question, a: &Point, b: &Point, area: &Rect) -> Tri
     requires b_fits { InBounds b.now }
     requires not_settled { ¬ Settle question a.now b.now area.now }
     ensures { (p : Span) → LiesIn (moment a.now.t) p → LiesIn (moment b.now.t) p →
-        Answers question (OnLeg (vertex a.now) (vertex b.now)) p area.now result }
+        AnswersQuestion question (OnLeg (vertex a.now) (vertex b.now)) p area.now result }
 {
     match question {
         Question::Ever => {
@@ -65,7 +65,7 @@ fn clipped(question: Question, a: &Point, b: &Point, period: &Period, area: &Rec
     requires later { a.now.t < b.now.t }
     requires a_fits { InBounds a.now }
     requires b_fits { InBounds b.now }
-    ensures { Answers question (OnLeg (vertex a.now) (vertex b.now)) period.now area.now result }
+    ensures { AnswersQuestion question (OnLeg (vertex a.now) (vertex b.now)) period.now area.now result }
 {
     let Some(time) = time_window(a, b, period) else {
         return Tri::None;

@@ -3,8 +3,8 @@
 ghost use Rattle.std.specs.Prelude.{ℕ, ◌<◌, length};
 ghost use Rattle.tpoint.specs.Places.{EachAt};
 ghost use Rattle.tpoint.specs.Moving.{Rises, InBounds};
-ghost use Rattle.tpoint.specs.Pieces.{Piece};
-ghost use Rattle.predicates.specs.Questions.{Answers};
+ghost use Rattle.tpoint.specs.Pieces.{OnPiece};
+ghost use Rattle.predicates.specs.Questions.{AnswersQuestion};
 
 use crate::legs::leg;
 use crate::questions::{Question, Tri};
@@ -24,7 +24,7 @@ pub fn piece(
     requires in_list { i < length points.now }
     requires increasing { (k : ℕ) → Rises points.now k }
     requires in_range { (k : ℕ) → EachAt points.now InBounds k }
-    ensures { Answers question (Piece interp points.now i) period.now area.now result }
+    ensures { AnswersQuestion question (OnPiece interp points.now i) period.now area.now result }
 {
     match interp {
         Interp::Discrete => at_point(&points[i], period, area),

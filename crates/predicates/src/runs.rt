@@ -4,9 +4,9 @@ ghost use Rattle.std.specs.Prelude.{ℕ, ◌<◌, ◌≤◌, length};
 ghost use Rattle.tpoint.specs.Places.{EachAt};
 ghost use Rattle.tpoint.specs.Moving.{Rises, InBounds};
 ghost use Rattle.tpoint.specs.Extents.{first_whole};
-ghost use Rattle.tpoint.specs.Pieces.{Piece};
+ghost use Rattle.tpoint.specs.Pieces.{OnPiece};
 ghost use Rattle.predicates.specs.Ends.{settled};
-ghost use Rattle.predicates.specs.Questions.{Answers};
+ghost use Rattle.predicates.specs.Questions.{AnswersQuestion};
 
 use crate::courses::comes_in;
 use crate::ends::settled;
@@ -41,7 +41,7 @@ pub fn run_from(
     ensures on { i < result.next }
     ensures within { result.next ≤ length points.now }
     ensures each { (j : ℕ) → i ≤ j → j < result.next →
-        Answers question (Piece interp points.now j) period.now area.now result.answer }
+        AnswersQuestion question (OnPiece interp points.now j) period.now area.now result.answer }
 {
     let next = passed(question, interp, points, i, period, area);
     if i < next {
@@ -73,7 +73,7 @@ fn passed(
     requires in_range { (k : ℕ) → EachAt points.now InBounds k }
     ensures within { result ≤ length points.now }
     ensures each { (j : ℕ) → from ≤ j → j < result →
-        Answers question (Piece interp points.now j) period.now area.now (settled question) }
+        AnswersQuestion question (OnPiece interp points.now j) period.now area.now (settled question) }
 {
     if interp != Interp::Linear || points[from].t < period.first_whole() {
         return from;
@@ -93,7 +93,7 @@ fn first_met(points: &[Point], from: usize, period: &Period, area: &Rect) -> usi
     requires begun { EachAt points.now (λ point. first_whole period.now ≤ point.t) from }
     ensures within { result ≤ length points.now }
     ensures each { (j : ℕ) → from ≤ j → j < result →
-        Answers Question.Ever (Piece Interp.Linear points.now j) period.now area.now Tri.No }
+        AnswersQuestion Question.Ever (OnPiece Interp.Linear points.now j) period.now area.now Tri.No }
 {
     for k in from..points.len() - 1 {
         let a = &points[k];
@@ -117,7 +117,7 @@ fn first_left(points: &[Point], from: usize, period: &Period, area: &Rect) -> us
     requires begun { EachAt points.now (λ point. first_whole period.now ≤ point.t) from }
     ensures within { result ≤ length points.now }
     ensures each { (j : ℕ) → from ≤ j → j < result →
-        Answers Question.Always (Piece Interp.Linear points.now j) period.now area.now Tri.Yes }
+        AnswersQuestion Question.Always (OnPiece Interp.Linear points.now j) period.now area.now Tri.Yes }
 {
     if !contains(area, &points[from]) {
         return from;

@@ -4,7 +4,7 @@ ghost use Rattle.std.specs.Prelude.{◌≡◌, ℕ, ◌+◌, ◌<◌, ◌≤◌,
 ghost use Rattle.tpoint.specs.Places.{EachAt};
 ghost use Rattle.tpoint.specs.Moving.{Rises, At};
 ghost use Rattle.predicates.specs.Predicates.{IsEver, IsAlways};
-ghost use Rattle.predicates.specs.Questions.{Answers, decides};
+ghost use Rattle.predicates.specs.Questions.{AnswersQuestion, decides};
 
 use crate::questions::{Question, Tri};
 use crate::runs::run_from;
@@ -35,7 +35,7 @@ pub fn always(seq: &Seq, period: &Period, area: &Rect) -> Tri
 /// is in the period.
 #[inline(always)]
 fn answer(question: Question, seq: &Seq, period: &Period, area: &Rect) -> Tri
-    ensures { Answers question (At seq.now) period.now area.now result }
+    ensures { AnswersQuestion question (At seq.now) period.now area.now result }
 {
     let interp = seq.interp();
     let points = seq.points();

@@ -3,7 +3,7 @@
 ghost use Rattle.std.specs.Prelude.{◌<◌, ◌≤◌, ◌↔◌, IsTrue, ◌≤ℤ◌};
 ghost use Rattle.tpoint.specs.Extents.{HasInstant, Inside, first_whole, last_whole};
 ghost use Rattle.tpoint.specs.Pieces.{place, AtPoint, HeldUntil};
-ghost use Rattle.predicates.specs.Questions.{Answers};
+ghost use Rattle.predicates.specs.Questions.{AnswersQuestion};
 ghost use Rattle.predicates.specs.declared.questions.Question.{Question};
 ghost use Rattle.predicates.specs.Stays.{IsStayAnswer};
 
@@ -13,7 +13,7 @@ use tpoint::{Instant, Period, Point, Rect};
 /// What a position answers, to either question, that is there at its own instant alone.
 pub fn at_point(point: &Point, period: &Period, area: &Rect) -> Tri
     ensures { (question : Question) →
-        Answers question (AtPoint point.now) period.now area.now result }
+        AnswersQuestion question (AtPoint point.now) period.now area.now result }
 {
     answer(in_period(period, point.t), point, area)
 }
@@ -22,7 +22,7 @@ pub fn at_point(point: &Point, period: &Period, area: &Rect) -> Tri
 pub fn held(point: &Point, next: &Point, period: &Period, area: &Rect) -> Tri
     requires { point.now.t < next.now.t }
     ensures { (question : Question) →
-        Answers question (HeldUntil point.now next.now) period.now area.now result }
+        AnswersQuestion question (HeldUntil point.now next.now) period.now area.now result }
 {
     answer(meets_stay(period, point.t, next.t), point, area)
 }

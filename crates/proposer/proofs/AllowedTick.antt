@@ -18,7 +18,7 @@ use Rattle.proposer.specs.declared.window.Proposal.{Proposal}
 use Rattle.proposer.specs.Campaigning.{Campaigning, accept}
 use Rattle.proposer.specs.Campaigning as campaign
 use Rattle.proposer.specs.Proposing.{Proposing, sends_again}
-use Rattle.proposer.specs.Protocol.{CampaignStands, CampaignsStand, ProposerStands, AreApart, proposed_at, MaySend, MayCome, submitting}
+use Rattle.proposer.specs.Protocol.{CampaignStands, CampaignsStand, ProposerStands, ProposalsAreApart, proposed_at, MaySend, MayCome, submitting}
 use Rattle.proposer.specs.Protocol.{frames_of, frames_of_all}
 use Rattle.proposer.proofs.Proposed.{proposed_first, proposed_later}
 
@@ -69,7 +69,7 @@ module _ (f : Membership Command) (i : ℕ) (input : Input Command) where
 
   -- open proposals go to all nodes again
   repeats : (x : Local Command) (nodes : ℕ) (b : Ballot) (q : synod_volatile.Campaign Command) → x.mind.campaign ≡ Some q → q.ballot ≡ b
-      → (ps : List Proposal) → AreApart ps → ((s : ℕ) (c : Command) → proposed_at ps s ≡ Some c → q.proposals s ≡ Some c)
+      → (ps : List Proposal) → ProposalsAreApart ps → ((s : ℕ) (c : Command) → proposed_at ps s ≡ Some c → q.proposals s ≡ Some c)
       → Does f i input x (sending x (frames_of_all i nodes (map (accept b) ps)))
   repeats x nodes b q here same [] apart open' = subst (Does f i input x) (sym (sending_nothing x)) (does_nothing f i input x)
   repeats x nodes b q here same (p ∷ ps) apart open' =

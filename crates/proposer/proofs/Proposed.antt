@@ -8,14 +8,14 @@ use Rattle.synod.proofs.Puts.{put_cases}
 use Rattle.sessions.specs.declared.command.Command.{Command}
 use Rattle.proposer.specs.declared.window.Proposal.{Proposal}
 use Rattle.proposer.specs.Campaigning.{Campaigning, is_at, placed}
-use Rattle.proposer.specs.Protocol.{proposed_at, AreApart, CampaignStands}
+use Rattle.proposer.specs.Protocol.{proposed_at, ProposalsAreApart, CampaignStands}
 
 -- the first proposal stands at its own slot
 pub proposed_first : (p : Proposal) (ps : List Proposal) → proposed_at (p ∷ ps) p.slot ≡ Some p.command
 proposed_first p ps = cond-true (p.slot == p.slot) (Some p.command) (proposed_at ps p.slot) (eq-eqb p.slot p.slot refl)
 
 -- the others stand at theirs
-pub proposed_later : (p : Proposal) (ps : List Proposal) (s : ℕ) (c : Command) → AreApart (p ∷ ps) → proposed_at ps s ≡ Some c
+pub proposed_later : (p : Proposal) (ps : List Proposal) (s : ℕ) (c : Command) → ProposalsAreApart (p ∷ ps) → proposed_at ps s ≡ Some c
     → proposed_at (p ∷ ps) s ≡ Some c
 proposed_later p ps s c apart e =
     cond_both (p.slot == s) (Some p.command) (proposed_at ps s) (λ o. o ≡ Some c)
@@ -49,12 +49,12 @@ module _ (stays : ℕ → Bool) where
   proposed_left [] s = sym (cond_both (stays s) None None (λ (o : Option Command). o ≡ None) (λ _. refl) (λ _. refl))
   proposed_left (p ∷ ps) s = left_first (stays p.slot) p ps s refl (proposed_left ps s)
 
-  apart_first : (b : Bool) (p : Proposal) (ps : List Proposal) → proposed_at (left ps) p.slot ≡ None → AreApart (left ps)
-      → AreApart (cond b (p ∷ left ps) (left ps))
+  apart_first : (b : Bool) (p : Proposal) (ps : List Proposal) → proposed_at (left ps) p.slot ≡ None → ProposalsAreApart (left ps)
+      → ProposalsAreApart (cond b (p ∷ left ps) (left ps))
   apart_first true p ps none rest = (none, rest)
   apart_first false p ps none rest = rest
 
-  pub apart_left : (ps : List Proposal) → AreApart ps → AreApart (left ps)
+  pub apart_left : (ps : List Proposal) → ProposalsAreApart ps → ProposalsAreApart (left ps)
   apart_left [] h = tt
   apart_left (p ∷ ps) h =
       apart_first (stays p.slot) p ps
@@ -97,8 +97,8 @@ module _ (p : Proposal) where
       let parts = first_none (q.slot == p.slot) q.command (proposed_at qs p.slot) none in
       placed_first (nat_lt q.slot p.slot) q qs s parts.0 (proposed_placed qs s parts.1)
 
-  apart_more : (b : Bool) (q : Proposal) (qs : List Proposal) → proposed_at (q ∷ qs) p.slot ≡ None → AreApart (q ∷ qs)
-      → AreApart (placed p qs) → AreApart (cond b (q ∷ placed p qs) (p ∷ q ∷ qs))
+  apart_more : (b : Bool) (q : Proposal) (qs : List Proposal) → proposed_at (q ∷ qs) p.slot ≡ None → ProposalsAreApart (q ∷ qs)
+      → ProposalsAreApart (placed p qs) → ProposalsAreApart (cond b (q ∷ placed p qs) (p ∷ q ∷ qs))
   apart_more true q qs none h rest =
       let parts = first_none (q.slot == p.slot) q.command (proposed_at qs p.slot) none in (
         proposed_placed qs q.slot parts.1
@@ -108,7 +108,7 @@ module _ (p : Proposal) where
       )
   apart_more false q qs none h rest = (none, h)
 
-  pub apart_placed : (qs : List Proposal) → proposed_at qs p.slot ≡ None → AreApart qs → AreApart (placed p qs)
+  pub apart_placed : (qs : List Proposal) → proposed_at qs p.slot ≡ None → ProposalsAreApart qs → ProposalsAreApart (placed p qs)
   apart_placed [] none h = (refl, tt)
   apart_placed (q ∷ qs) none h =
       let parts = first_none (q.slot == p.slot) q.command (proposed_at qs p.slot) none in
@@ -126,7 +126,7 @@ module _ (p : Proposal) where
 
 -- ---- a campaign stands for the protocol's with other proposals too
 pub stands_with : (k : Campaigning) (q : Campaign Command) (ps : List Proposal) (proposals : ℕ → Option Command) → CampaignStands k q
-    → ((s : ℕ) → proposals s ≡ proposed_at ps s) → AreApart ps
+    → ((s : ℕ) → proposals s ≡ proposed_at ps s) → ProposalsAreApart ps
     → CampaignStands (record k { proposals = ps }) (record q { proposals = proposals })
 stands_with k q ps proposals h same apart = record {
   ballot = h.ballot;

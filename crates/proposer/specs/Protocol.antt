@@ -23,9 +23,9 @@ proposed_at [] s = None
 proposed_at (p ∷ ps) s = if p.slot == s then Some p.command else proposed_at ps s
 
 -- no two proposals are of one slot
-abbrev pub AreApart : List Proposal → Type 0
-AreApart [] = Unit {0}
-AreApart (p ∷ ps) = (proposed_at ps p.slot ≡ None) × AreApart ps
+abbrev pub ProposalsAreApart : List Proposal → Type 0
+ProposalsAreApart [] = Unit {0}
+ProposalsAreApart (p ∷ ps) = (proposed_at ps p.slot ≡ None) × ProposalsAreApart ps
 
 -- the protocol's campaign is this one
 pub record CampaignStands (k : Campaigning) (q : Campaign Command) : Type 0 where
@@ -38,7 +38,7 @@ pub record CampaignStands (k : Campaigning) (q : Campaign Command) : Type 0 wher
   pub proposals : (s : ℕ) → q.proposals s ≡ proposed_at k.proposals s
   -- the set has a flag for each node that a membership may have, and each slot one proposal at most
   pub flags : length k.promised ≡ 7
-  pub apart : AreApart k.proposals
+  pub apart : ProposalsAreApart k.proposals
 
 abbrev pub CampaignsStand : Option Campaigning → Option (Campaign Command) → Type 0
 CampaignsStand None q = q ≡ None

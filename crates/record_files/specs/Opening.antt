@@ -34,7 +34,7 @@ module _ {A F : Type 0} (files : Ghosts A F) where
     pub each : (number : ℕ) (store : F) → slice_get stores number ≡ Some store → IsOpened folder number store
 
   -- the file of one of so many nodes could not be opened, and not for memory
-  pub record IsRefused (folder : List ℕ) (count : ℕ) : Type 0 where
+  pub record OpeningIsRefused (folder : List ℕ) (count : ℕ) : Type 0 where
     pub number : ℕ
     pub is_node : number < count
     pub before : A
@@ -45,4 +45,4 @@ module _ {A F : Type 0} (files : Ghosts A F) where
 
   -- a device is at fault only where the folder has no name, or where a file could not be opened
   abbrev pub MayFail : (folder : List ℕ) → (count : ℕ) → Failure → Type 0
-  MayFail folder count failure = failure ≡ ends.Device → (folder ≡ []) ⊎ IsRefused folder count
+  MayFail folder count failure = failure ≡ ends.Device → (folder ≡ []) ⊎ OpeningIsRefused folder count

@@ -3,7 +3,7 @@
 //! Each call by which such a table is handed to a function over any storage takes a quarter of a minute to prove. So here is the
 //! only one, whatever is asked for, and one that drops the table.
 
-ghost use Rattle.record_files.specs.Asking.{Answers};
+ghost use Rattle.record_files.specs.Asking.{StorageAnswers};
 ghost use Rattle.sqlite.specs.Files.{over_files};
 ghost use Rattle.sqlstable.specs.Storage.{in_table};
 
@@ -35,14 +35,14 @@ pub(crate) fn ask<D: Disk>(
     alloc: Global,
     asked: Asked,
 ) -> Result<Answer, StableFault>
-    ensures { Answers (in_table over_files) table.old asked result table.new }
+    ensures { StorageAnswers (in_table over_files) table.old asked result table.new }
 {
     ask_any(table, alloc, asked)
 }
 
 // Calls the method of any storage.
 fn ask_any<S: Stable>(storage: &mut S, alloc: Global, asked: Asked) -> Result<Answer, StableFault>
-    ensures { Answers S.Stable storage.old asked result storage.new }
+    ensures { StorageAnswers S.Stable storage.old asked result storage.new }
 {
     match asked {
         Asked::Get(key) => Ok(Answer::Found(storage.get(alloc, key)?)),

@@ -3,7 +3,7 @@
 ghost use Rattle.std.specs.Prelude.{IfOk, IsErrOf};
 ghost use Rattle.sqlite.specs.Files.{over_files};
 ghost use Rattle.sqlstable.specs.Keys.{HasStray, records_in};
-ghost use Rattle.sqlstable.specs.Storage.{Changes, HasCleanStore, IsSqlHonest, IsUnfailed, ReadFails, Reads, failures_of, rows_of};
+ghost use Rattle.sqlstable.specs.Storage.{TableChanges, HasCleanStore, IsSqlHonest, IsUnfailed, TableReadFails, TableReads, failures_of, rows_of};
 
 use crate::asking::{Answer, Asked, ask, leave};
 use sqlite::{File, FileStore};
@@ -53,15 +53,15 @@ impl Stable for RecordFile {
 
     ghost IsSettled = { λ _. Unit {0} };
 
-    ghost reads = { λ a b. Reads over_files a.table b.table };
+    ghost reads = { λ a b. TableReads over_files a.table b.table };
 
-    ghost looks = { λ a b. Reads over_files a.table b.table };
+    ghost looks = { λ a b. TableReads over_files a.table b.table };
 
-    ghost changes = { λ a change b. Changes over_files a.table change b.table };
+    ghost changes = { λ a change b. TableChanges over_files a.table change b.table };
 
-    ghost read_fails = { λ a b. ReadFails over_files a.table b.table };
+    ghost read_fails = { λ a b. TableReadFails over_files a.table b.table };
 
-    ghost fails = { λ a _ b. ReadFails over_files a.table b.table };
+    ghost fails = { λ a _ b. TableReadFails over_files a.table b.table };
 
     fn get(&mut self, alloc: Global, key: Key) -> Result<Option<Vec<u8>>, StableFault> {
         match ask(&mut self.table, alloc, Asked::Get(key))? {

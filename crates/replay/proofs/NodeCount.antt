@@ -13,7 +13,7 @@ use Rattle.world_model.specs.Flushing.{Delivers, none, more}
 use Rattle.world_model.specs.Events.{NamesNoNode}
 use Rattle.node_model.specs.Outputs.{Response}
 use Rattle.world_model.specs.Rounds.{DeliversTo, nothing, elsewhere, there, Phase, ComesThrough, begins, asks, answers, votes, hears, GoesDown}
-use Rattle.world_model.specs.Rounds.{at_once, on_the_way, EndsIn, RoundEnds, NamesNoMember}
+use Rattle.world_model.specs.Rounds.{at_once, on_the_way, RoundEndsIn, RoundEnds, NamesNoMember}
 use Rattle.world_model.specs.declared.round_end.RoundEnd.{RoundEnd}
 use Rattle.world_model.specs.declared.round_end.RoundEnd.TheVariants.{NotAQuorum, Down, Behind, Refused, Stopped, TooLow, Decided}
 use Rattle.world_model.specs.Worlds.{WorldState, Steps, TakesAt, ReceivesAt, DeliversFrame, recorded, answered, with_submission}
@@ -23,7 +23,7 @@ use Rattle.node_model.specs.declared.fault.NodeFault.{NodeFault}
 use Rattle.node_model.specs.declared.input.Input.{Input}
 use Rattle.schedule.specs.Lines.{NumberedText}
 use Rattle.replay.specs.LineByLine.{at_a_line, at_the_last}
-use Rattle.replay.specs.Runs.{IsDone, IsRefused, Leads, RunEnds, ReplayEnds, not_read, not_begun, not_run}
+use Rattle.replay.specs.Runs.{ActionIsDone, ActionIsRefused, Leads, RunEnds, ReplayEnds, not_read, not_begun, not_run}
 use Rattle.schedule.specs.Schedules.{Plan, SpellEach}
 use Rattle.schedule.specs.Spelling.{Spells, SpellsRound, WordsSpell}
 use Rattle.schedule.specs.Table.{NameEach}
@@ -107,7 +107,7 @@ module _ {S : Type 0} (storages : Ghosts (Script S)) where
       ∙ phases_keep old node members phase f between before
 
   ends_keep : (old : WorldState S) (node : ℕ) (members : List ℕ) (end : RoundEnd) (new : WorldState S)
-      → EndsIn storages old node members end new → size new ≡ size old
+      → RoundEndsIn storages old node members end new → size new ≡ size old
   ends_keep old node members NotAQuorum new e = ap size e.1
   ends_keep old node members (Down m) new e = ap size e.2
   ends_keep old node members (Behind m) new e = ap size e.3
@@ -136,7 +136,7 @@ module _ {S : Type 0} (storages : Ghosts (Script S)) where
   step_keeps old (Fault node failing) new s = ap size s.leaves ∙ length-set old.nodes node _
   step_keeps old (Query node query) new s = ap size s.leaves ∙ answered_keeps old node query s.result
 
-  done_keeps : (action : Action) (old new : WorldState S) → IsDone storages action old new → size new ≡ size old
+  done_keeps : (action : Action) (old new : WorldState S) → ActionIsDone storages action old new → size new ≡ size old
   done_keeps (Step event) old new done = step_keeps old event new done.1
   done_keeps Flush old new done = flush_keeps old done.0 new done.2
   done_keeps (Round node members) old new done = round_keeps old node members done.0 new done.1
@@ -185,7 +185,7 @@ line_spelled n (text ∷ texts) (l ∷ before) after line each = line_spelled n 
 module _ {S : Type 0} (storages : Ghosts (Script S)) where
   -- what a spelled action asks for is not refused for want of a node
   refused_otherwise : (w new : WorldState S) (n : ℕ) (words : List (List ℕ)) (action : Action) → size w ≡ n
-      → WordsSpell n words action → ¬ (IsRefused storages action w NoSuchNode new)
+      → WordsSpell n words action → ¬ (ActionIsRefused storages action w NoSuchNode new)
   refused_otherwise w new n words (Step event) same spells refused = named_below w n words event same spells refused.0
   refused_otherwise w new n words Flush same spells refused = refused
   refused_otherwise w new n words (Round node members) same spells refused =
@@ -199,7 +199,7 @@ module _ {S : Type 0} (storages : Ghosts (Script S)) where
       (subst (λ (ls : List ScheduleLine). SpellEach plan.nodes texts ls) e.parts each) in
       refused_otherwise e.reached end plan.nodes (words_of spelled.0.text) e.line.action
       (led_keeps storages e.before start e.reached e.led ∙ same) spelled.1.words
-      (subst (λ (cause : ReplayCause). IsRefused storages e.line.action e.reached cause end) is e.stopped.refused)
+      (subst (λ (cause : ReplayCause). ActionIsRefused storages e.line.action e.reached cause end) is e.stopped.refused)
   ends_otherwise plan texts start end fault each same (at_the_last led memory last) is = let e = sym memory ∙ is in cc
 
   -- a replay never ends for want of a node

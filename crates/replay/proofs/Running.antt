@@ -18,7 +18,7 @@ use Rattle.world_model.specs.Worlds.{WorldState}
 use Rattle.replay.specs.Causes.{cause_of}
 use Rattle.schedule.specs.declared.action.Action.TheVariants.{Flush, Round}
 use Rattle.replay.proofs.LineByLine.{ends_at_a_line, ends_at_the_last}
-use Rattle.replay.specs.Runs.{IsDone, IsRefused, Leads, EndsAt, RunsTo, RunFails, IsReplay, ReplayEnds}
+use Rattle.replay.specs.Runs.{ActionIsDone, ActionIsRefused, Leads, EndsAt, RunsTo, RunFails, IsReplay, ReplayEnds}
 use Rattle.replay.specs.Runs.{not_begun, not_run, told_of, IsRunOver, EndsOver, is_used, no_world, no_end}
 use Rattle.schedule.specs.Schedules.{Plan, IsScheduleOf, last_number}
 use Rattle.schedule.specs.declared.schedule.ScheduleLine.{ScheduleLine}
@@ -39,17 +39,17 @@ module _ {S : Type 0} (storages : Ghosts (Script S)) where
       → (IsErrOf (failed fault) world_fault.FlushLimit → Delivers storages old MOST_DELIVERIES new)
       → (IsErrOf (failed fault) world_fault.Memory → DeliversSome storages old MOST_DELIVERIES new)
       → OneWaits new.waiting → (fault ≡ world_fault.FlushLimit) ⊎ (fault ≡ world_fault.Memory)
-      → IsRefused storages Flush old (cause_of fault) new
+      → ActionIsRefused storages Flush old (cause_of fault) new
   flush_refused old new fault limit memory waits (inl e) =
-      subst (λ (f : WorldFault). IsRefused storages Flush old (cause_of f) new) (sym e)
+      subst (λ (f : WorldFault). ActionIsRefused storages Flush old (cause_of f) new) (sym e)
       (record { delivers = limit (ap failed e); one_waits = waits })
   flush_refused old new fault limit memory waits (inr e) =
-      subst (λ (f : WorldFault). IsRefused storages Flush old (cause_of f) new) (sym e)
+      subst (λ (f : WorldFault). ActionIsRefused storages Flush old (cause_of f) new) (sym e)
       (record { delivers = memory (ap failed e); one_waits = waits })
 
   -- a round of the members that it was handed
   pub round_done : (old new : WorldState S) (node : ℕ) (handed members : List ℕ) (end : RoundEnd) → handed ≡ members
-      → RoundEnds storages old node handed end new → IsDone storages (Round node members) old new
+      → RoundEnds storages old node handed end new → ActionIsDone storages (Round node members) old new
   round_done old new node handed members end same ends =
       (end, subst (λ (ms : List ℕ). RoundEnds storages old node ms end new) same ends)
 
@@ -59,12 +59,12 @@ module _ {S : Type 0} (storages : Ghosts (Script S)) where
       → (IsErrOf (broken_off fault) world_fault.NoSuchNode → new ≡ old)
       → (IsErrOf (broken_off fault) world_fault.Memory → IsPartOfRound storages old node handed new)
       → (fault ≡ world_fault.NoSuchNode) ⊎ (fault ≡ world_fault.Memory)
-      → IsRefused storages (Round node members) old (cause_of fault) new
+      → ActionIsRefused storages (Round node members) old (cause_of fault) new
   round_refused old new node handed members fault same no_node unchanged memory (inl e) =
-      subst (λ (f : WorldFault). IsRefused storages (Round node members) old (cause_of f) new) (sym e)
+      subst (λ (f : WorldFault). ActionIsRefused storages (Round node members) old (cause_of f) new) (sym e)
       (subst (λ (ms : List ℕ). NamesNoMember (length old.nodes) node ms) same (no_node (ap broken_off e)), unchanged (ap broken_off e))
   round_refused old new node handed members fault same no_node unchanged memory (inr e) =
-      subst (λ (f : WorldFault). IsRefused storages (Round node members) old (cause_of f) new) (sym e)
+      subst (λ (f : WorldFault). ActionIsRefused storages (Round node members) old (cause_of f) new) (sym e)
       (subst (λ (ms : List ℕ). IsPartOfRound storages old node ms new) same (memory (ap broken_off e)))
 
   -- the transcript after all lines, and the world
@@ -107,7 +107,7 @@ module _ {S : Type 0} (storages : Ghosts (Script S)) where
       → RunFails storages IsHonest plan start fault
   run_ends_at IsHonest plan lines start end fault same ends safe = record {
     end = end;
-    ends = ends_at_a_line (IsDone storages) (IsRefused storages) plan lines start end fault same ends;
+    ends = ends_at_a_line (ActionIsDone storages) (ActionIsRefused storages) plan lines start end fault same ends;
     safe = safe;
   }
 
@@ -117,7 +117,7 @@ module _ {S : Type 0} (storages : Ghosts (Script S)) where
       → RunFails storages IsHonest plan start (record { line = last; cause = Memory })
   run_ends_last IsHonest plan lines start end last same led is_last safe = record {
     end = end;
-    ends = ends_at_the_last (IsDone storages) (IsRefused storages) plan lines start end last same led is_last;
+    ends = ends_at_the_last (ActionIsDone storages) (ActionIsRefused storages) plan lines start end last same led is_last;
     safe = safe;
   }
 

@@ -15,7 +15,7 @@ use Rattle.world_model.specs.declared.round_end.RoundEnd.{RoundEnd}
 use Rattle.world.specs.declared.log.TheConstants.{MOST_DELIVERIES}
 use Rattle.replay.specs.Causes.{fault_of}
 use Rattle.replay.specs.LineByLine.{AllDone, EndsWithout, LineStops, StopsAtOne}
-use Rattle.schedule.specs.Schedules.{Plan, IsScheduleOf, IsRefusal}
+use Rattle.schedule.specs.Schedules.{Plan, IsScheduleOf, IsParseRefusal}
 use Rattle.replay.specs.Transcripts.{transcript_of}
 use Rattle.schedule.specs.declared.action.Action.{Action}
 use Rattle.schedule.specs.declared.action.Action.TheVariants.{Step, Flush, Round}
@@ -38,17 +38,17 @@ pub record NamesWhatIsThere {S : Type 0} (w : WorldState S) (event : Event) : Ty
 -- over storages of which it is known what their calls may do
 module _ {S : Type 0} (storages : Ghosts (Script S)) where
   -- what a line asks for is done: the event happens, or frames are delivered until none waits, or a round comes to an end
-  abbrev pub IsDone : Action → WorldState S → WorldState S → Type 0
-  IsDone (Step event) old new = NamesWhatIsThere old event
+  abbrev pub ActionIsDone : Action → WorldState S → WorldState S → Type 0
+  ActionIsDone (Step event) old new = NamesWhatIsThere old event
       × Steps storages old event new
-  IsDone Flush old new = (n : ℕ) × (n ≤ MOST_DELIVERIES)
+  ActionIsDone Flush old new = (n : ℕ) × (n ≤ MOST_DELIVERIES)
       × Delivers storages old n new × NoneWaits new.waiting
-  IsDone (Round node members) old new =
+  ActionIsDone (Round node members) old new =
       (end : RoundEnd) × RoundEnds storages old node members end new
 
   -- the lines are done, one after another
   abbrev pub Leads : List ScheduleLine → WorldState S → WorldState S → Type 0
-  Leads = AllDone IsDone
+  Leads = AllDone ActionIsDone
 
   -- as many frames are delivered as one flush may, and one still waits
   pub record MeetsLimit (old new : WorldState S) : Type 0 where
@@ -56,34 +56,34 @@ module _ {S : Type 0} (storages : Ghosts (Script S)) where
     pub one_waits : OneWaits new.waiting
 
   -- fewer are delivered, and one still waits
-  pub record IsInterrupted (old new : WorldState S) : Type 0 where
+  pub record RunIsInterrupted (old new : WorldState S) : Type 0 where
     pub delivers : DeliversSome storages old MOST_DELIVERIES new
     pub one_waits : OneWaits new.waiting
 
   -- why a world does not do what a line asks for, and what it is then: as it was, but for the frames that a flush has
   -- delivered, and the steps that a round has made
-  abbrev pub IsRefused : Action → WorldState S → ReplayCause → WorldState S → Type 0
-  IsRefused (Step event) old NoSuchFrame new = NamesNoFrame (length old.frames) event × (new ≡ old)
-  IsRefused (Step event) old NoSuchNode new = NamesNoNode (length old.nodes) event × (new ≡ old)
-  IsRefused (Step event) old Memory new = NamesWhatIsThere old event × (new ≡ old)
-  IsRefused Flush old FlushLimit new = MeetsLimit old new
-  IsRefused Flush old Memory new = IsInterrupted old new
-  IsRefused (Round node members) old NoSuchNode new = NamesNoMember (length old.nodes) node members × (new ≡ old)
-  IsRefused (Round node members) old Memory new = IsPartOfRound storages old node members new
-  IsRefused _ old _ new = ⊥
+  abbrev pub ActionIsRefused : Action → WorldState S → ReplayCause → WorldState S → Type 0
+  ActionIsRefused (Step event) old NoSuchFrame new = NamesNoFrame (length old.frames) event × (new ≡ old)
+  ActionIsRefused (Step event) old NoSuchNode new = NamesNoNode (length old.nodes) event × (new ≡ old)
+  ActionIsRefused (Step event) old Memory new = NamesWhatIsThere old event × (new ≡ old)
+  ActionIsRefused Flush old FlushLimit new = MeetsLimit old new
+  ActionIsRefused Flush old Memory new = RunIsInterrupted old new
+  ActionIsRefused (Round node members) old NoSuchNode new = NamesNoMember (length old.nodes) node members × (new ≡ old)
+  ActionIsRefused (Round node members) old Memory new = IsPartOfRound storages old node members new
+  ActionIsRefused _ old _ new = ⊥
 
   -- a line isn't done
-  abbrev pub IsStopped : ScheduleLine → WorldState S → ReplayFault → WorldState S → Type 0
-  IsStopped = LineStops IsRefused
+  abbrev pub RunIsStopped : ScheduleLine → WorldState S → ReplayFault → WorldState S → Type 0
+  RunIsStopped = LineStops ActionIsRefused
 
   -- the lines before one are done, and it is not
   abbrev pub EndsAt : List ScheduleLine → WorldState S → ReplayFault → WorldState S → Type 0
-  EndsAt = StopsAtOne IsDone IsRefused
+  EndsAt = StopsAtOne ActionIsDone ActionIsRefused
 
   -- why a run has no transcript, and the world in which it ends: a line isn't done, or at the last one memory is wanting
   -- for the text
   abbrev pub RunEnds : Plan → WorldState S → ReplayFault → WorldState S → Type 0
-  RunEnds = EndsWithout IsDone IsRefused
+  RunEnds = EndsWithout ActionIsDone ActionIsRefused
 
   -- the lines lead to a world of which the text is the transcript
   pub record RunsTo (IsHonest : S → Type 0) (plan : Plan) (start : WorldState S) (text : List ℕ) : Type 0 where
@@ -116,7 +116,7 @@ module _ {S : Type 0} (storages : Ghosts (Script S)) where
   -- why there is no transcript of the bytes: they were not read as a schedule, or memory was wanting, told at their first
   -- line, as it is where no world can be made, or the run ended, in a world as safe as that of a transcript
   pub data ReplayEnds (bytes : List ℕ) (fault : ReplayFault) : Type 0 where
-    not_read : (refusal : ParseFault) → IsRefusal bytes refusal → fault ≡ fault_of refusal → ReplayEnds bytes fault
+    not_read : (refusal : ParseFault) → IsParseRefusal bytes refusal → fault ≡ fault_of refusal → ReplayEnds bytes fault
     not_begun : (plan : Plan) → IsScheduleOf bytes plan → fault.cause ≡ Memory → fault.line ≡ plan.first
         → ReplayEnds bytes fault
     not_run : (plan : Plan) → IsScheduleOf bytes plan → (start end : WorldState S)

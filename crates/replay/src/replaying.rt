@@ -6,7 +6,7 @@ ghost use Rattle.world.specs.Seen.{world_of};
 ghost use Rattle.world_model.specs.Starting.{AreOver};
 ghost use Rattle.world_model.specs.Staying.{StaysSafe};
 ghost use Rattle.replay.specs.Causes.{cause_of};
-ghost use Rattle.replay.specs.Runs.{EndsAt, EndsOver, IsDone, IsRefused, IsReplay, IsRunOver, IsStopped, Leads, ReplayEnds, RunFails};
+ghost use Rattle.replay.specs.Runs.{EndsAt, EndsOver, ActionIsDone, ActionIsRefused, IsReplay, IsRunOver, RunIsStopped, Leads, ReplayEnds, RunFails};
 ghost use Rattle.replay.specs.Runs.{RunsTo, told_of};
 
 use super::replay_fault::{ReplayCause, ReplayFault};
@@ -158,8 +158,8 @@ fn do_line<S: Stable>(
     line: ScheduleLine,
 ) -> Result<(), ReplayFault>
     ensures done { MatchResult result
-        (λ _. IsDone (⟦<Scripted<S> as Stable>⟧) line.action (world_of world.old) (world_of world.new))
-        (λ fault. IsStopped (⟦<Scripted<S> as Stable>⟧) line (world_of world.old) fault (world_of world.new)) }
+        (λ _. ActionIsDone (⟦<Scripted<S> as Stable>⟧) line.action (world_of world.old) (world_of world.new))
+        (λ fault. RunIsStopped (⟦<Scripted<S> as Stable>⟧) line (world_of world.old) fault (world_of world.new)) }
     ensures safe { StaysSafe (⟦<Scripted<S> as Stable>⟧) S.IsHonest (world_of world.new) }
 {
     let ScheduleLine { number, action } = line;
@@ -175,8 +175,8 @@ fn do_line<S: Stable>(
 /// Does what a line asks for.
 fn act<S: Stable>(alloc: Global, world: &mut World<S>, action: Action) -> Result<(), WorldFault>
     ensures done { MatchResult result
-        (λ _. IsDone (⟦<Scripted<S> as Stable>⟧) action (world_of world.old) (world_of world.new))
-        (λ fault. IsRefused (⟦<Scripted<S> as Stable>⟧) action (world_of world.old) (cause_of fault)
+        (λ _. ActionIsDone (⟦<Scripted<S> as Stable>⟧) action (world_of world.old) (world_of world.new))
+        (λ fault. ActionIsRefused (⟦<Scripted<S> as Stable>⟧) action (world_of world.old) (cause_of fault)
         (world_of world.new)) }
     ensures safe { StaysSafe (⟦<Scripted<S> as Stable>⟧) S.IsHonest (world_of world.new) }
 {

@@ -13,7 +13,7 @@ use Rattle.tpoint.specs.declared.interp.Interp.{Interp}
 use Rattle.tpoint.specs.declared.interp.Interp.TheVariants.{Discrete}
 use Rattle.tpoint.specs.declared.point.Point.{Point}
 use Rattle.restrict.specs.Cuts.{HasValueAt, IsCut, IsCutInstant, IsCutPlace, IsInstantOf, IsListedIn, vertex_of}
-use Rattle.restrict.specs.Inside.{AddsNone, ArePoints, AreJoined, IsAddedFirst, IsAddedLast, IsFirst, IsInside, IsLast, IsPoint, IsValueAt}
+use Rattle.restrict.specs.Inside.{AddsNone, ArePoints, AreJoined, IsAddedFirst, IsAddedLast, IsFirstPoint, IsInside, IsLast, IsPoint, IsValueAt}
 use Rattle.restrict.proofs.Joining.{left, right, get_left, get_right, side}
 use Rattle.restrict.proofs.OwnValues.{own_value}
 use Rattle.restrict.proofs.Samples.{Samples}
@@ -219,7 +219,7 @@ last_point_then : (p : Span) (qs : List Point) → IsInstantOf qs p.end
 last_point_then p qs l to = subst (λ (n : ℕ). n ≤ last_whole p) l.then (to l.i l.point l.listed)
 
 module _ (s : Sequence) (p : Span) (begin : Option Triple) (qs : List Point) (end : Option Triple) (E : Ends s p begin qs end) where
-  first_of : (u : Triple) → begin ≡ Some u → IsFirst s p qs u
+  first_of : (u : Triple) → begin ≡ Some u → IsFirstPoint s p qs u
   first_of = begin_added s p begin qs end E
 
   last_of : (u : Triple) → end ≡ Some u → IsLast s p qs u

@@ -6,7 +6,7 @@ use Rattle.tpoint.proofs.Fractions.{≈_refl, ≤ᶠ_refl, moment_le, moment_lt}
 use Rattle.tpoint.proofs.PieceLemmas.{discrete_to, single_to, last_to, held_to, leg_to}
 use Rattle.tpoint.proofs.Unique.{leg_begin, leg_end, leg_same, same_sym}
 use Rattle.tpoint.specs.Fraction.{Fraction, ◌≤ᶠ◌}
-use Rattle.tpoint.specs.Moving.{Position, IsPlace, OnLeg, HasValue, Sequence, At, IsValid, Rises, moment, vertex}
+use Rattle.tpoint.specs.Moving.{Position, IsPositionOf, OnLeg, HasValue, Sequence, At, IsValid, Rises, moment, vertex}
 use Rattle.tpoint.specs.Pieces.{place, AtPoint}
 use Rattle.tpoint.specs.declared.point.Point.{Point}
 use Rattle.tpoint.specs.declared.interp.Interp.{Interp}
@@ -19,7 +19,7 @@ at_itself q = record { then = ≈_refl (moment q.t); there = record { same_x = �
 -- at an instant of a leg, where each value of the leg is this one
 on_leg : (ps : List Point) (i : ℕ) (a b : Point) (t : Fraction) (v : Position) → a.t < b.t → slice_get ps i ≡ Some a
     → slice_get ps (i + 1) ≡ Some b → moment a.t ≤ᶠ t → t ≤ᶠ moment b.t
-    → ((w : Position) → OnLeg (vertex a) (vertex b) t w → IsPlace w v)
+    → ((w : Position) → OnLeg (vertex a) (vertex b) t w → IsPositionOf w v)
     → HasValue Linear (map vertex ps) t v
 on_leg ps i a b t v order e f from to is =
     let w = leg_reaches a b t order from to in

@@ -5,7 +5,7 @@ use Rattle.tpoint.proofs.Fractions.{≤ᶠ_trans, ≈_sym, moment_le, moment_lt,
 use Rattle.tpoint.proofs.PieceLemmas.{unmap}
 use Rattle.tpoint.proofs.Unique.{at_unique}
 use Rattle.tpoint.specs.Fraction.{Fraction, ◌≈◌, ◌≤ᶠ◌}
-use Rattle.tpoint.specs.Moving.{Position, Vertex, IsPlace, AtListed, Sequence, At, IsValid, moment, vertex}
+use Rattle.tpoint.specs.Moving.{Position, Vertex, IsPositionOf, AtListed, Sequence, At, IsValid, moment, vertex}
 use Rattle.tpoint.specs.Extents.{Span, HasInstant, LiesIn, first_whole, last_whole}
 use Rattle.tpoint.specs.Pieces.{place}
 use Rattle.tpoint.specs.declared.point.Point.{Point}
@@ -109,7 +109,7 @@ module _ (s : Sequence) (p : Span) (list : List Vertex) (S : Samples s p list) w
 
   -- ---- at a listed instant
   pub listed_to : (i : ℕ) (w : Vertex) (t : Fraction) (v : Position) → slice_get list i ≡ Some w → ¬ StopsBefore s p w.time
-      → t ≈ moment w.time → IsPlace v w.place → At s t v
+      → t ≈ moment w.time → IsPositionOf v w.place → At s t v
   listed_to i w t v e free then there =
       at_time s S.valid (moment w.time) t v (≈_sym then)
       (at_place s S.valid (moment w.time) v w.place there ((S.placed i w e).there free))

@@ -17,7 +17,7 @@ use Rattle.tpoint.specs.declared.point.Point.{Point}
 use Rattle.tpoint.specs.declared.interp.Interp.{Interp}
 use Rattle.tpoint.specs.declared.interp.Interp.TheVariants.{Discrete, Step, Linear}
 use Rattle.restrict.specs.Cuts.{HasValueAt, HasValueBefore}
-use Rattle.restrict.specs.Inside.{AddsNone, IsAddedFirst, IsAddedLast, IsFirst, IsInside, IsLast, tells_shared}
+use Rattle.restrict.specs.Inside.{AddsNone, IsAddedFirst, IsAddedLast, IsFirstPoint, IsInside, IsLast, tells_shared}
 use Rattle.restrict.proofs.OwnValues.{own_value}
 use Rattle.restrict.proofs.Spans.{NotAfter, NotBefore, begun_before, ended_after, fills, fills_of}
 
@@ -119,7 +119,7 @@ or_false true = refl
 or_false false = refl
 
 module _ (s : Sequence) (p : Span) (begin : Option Triple) (qs : List Point) (end : Option Triple) (E : Ends s p begin qs end) where
-  pub begin_added : (u : Triple) → begin ≡ Some u → IsFirst s p qs u
+  pub begin_added : (u : Triple) → begin ≡ Some u → IsFirstPoint s p qs u
   begin_added u e = MatchOption-at_some _ _ u e E.at_begin
 
   pub end_added : (u : Triple) → end ≡ Some u → IsLast s p qs u

@@ -7,7 +7,7 @@ use Rattle.tpoint.proofs.Fractions.{≤ᶠ_trans, ≤ᶠ_of_≈, ≈_sym, ≈_re
 use Rattle.tpoint.proofs.SubLegs.{leg_reaches}
 use Rattle.tpoint.proofs.PieceLemmas.{unmap, mapped, leg_to, single_to, rises_le}
 use Rattle.tpoint.specs.Fraction.{Fraction, ◌≤ᶠ◌, ◌<ᶠ◌}
-use Rattle.tpoint.specs.Moving.{Position, Vertex, IsPlace, AtPlace, HasValue, Rises, moment, vertex}
+use Rattle.tpoint.specs.Moving.{Position, Vertex, IsPositionOf, AtPlace, HasValue, Rises, moment, vertex}
 use Rattle.tpoint.specs.declared.point.Point.{Point}
 use Rattle.tpoint.specs.declared.interp.Interp.{Interp}
 use Rattle.tpoint.specs.declared.interp.Interp.TheVariants.{Discrete, Step, Linear}
@@ -72,7 +72,7 @@ latest_point ps t h =
 
 -- ---- a value from the first instant to the last
 -- what is listed last stays, up to what is listed and not before t
-pub held_value : (list : List Vertex) (t : Fraction) (v : Position) → (l : Latest list t) → NotBefore list t → IsPlace v l.w.place
+pub held_value : (list : List Vertex) (t : Fraction) (v : Position) → (l : Latest list t) → NotBefore list t → IsPositionOf v l.w.place
     → HasValue Step list t v
 held_value list t v l k there =
     record {

@@ -7,8 +7,8 @@ use Rattle.tpoint.proofs.SubLegs.{OnLine, line_from, line_to}
 use Rattle.tpoint.proofs.PieceLemmas.{leg_to}
 use Rattle.tpoint.proofs.Unique.{leg_points, leg_same, same_trans}
 use Rattle.tpoint.specs.Fraction.{Fraction, ◌≈◌}
-use Rattle.tpoint.specs.Moving.{Position, IsPlace, OnLeg, AtListed, Sequence, At, IsValid, Rises, vertex}
-use Rattle.tpoint.specs.Pieces.{Piece}
+use Rattle.tpoint.specs.Moving.{Position, IsPositionOf, OnLeg, AtListed, Sequence, At, IsValid, Rises, vertex}
+use Rattle.tpoint.specs.Pieces.{OnPiece}
 use Rattle.tpoint.specs.declared.point.Point.{Point}
 use Rattle.tpoint.specs.declared.interp.Interp.{Interp}
 use Rattle.tpoint.specs.declared.interp.Interp.TheVariants.{Discrete, Step, Linear}
@@ -49,7 +49,7 @@ listed_time : (ps : List Point) (i : ℕ) (t u : Fraction) (v : Position) → t 
 listed_time ps i t u v e h = record { point = h.point; listed = h.listed; then = ≈_trans (≈_sym e) h.then; there = h.there }
 
 piece_time : (interp : Interp) (ps : List Point) → ((k : ℕ) → Rises ps k) → (i : ℕ) (t u : Fraction) (v : Position) → t ≈ u
-    → Piece interp ps i t v → Piece interp ps i u v
+    → OnPiece interp ps i t v → OnPiece interp ps i u v
 piece_time Discrete ps rise i t u v e h = listed_time ps i t u v e h
 piece_time Step ps rise i t u v e h =
     record {
@@ -65,8 +65,8 @@ piece_time Linear ps rise i t u v e (inl h) =
     leg_to ps i l.a l.b l.a_listed l.b_listed u v (leg_time l.a l.b t u v (rise i l.a l.b l.a_listed l.b_listed) e l.on)
 piece_time Linear ps rise i t u v e (inr h) = inr (h.0, listed_time ps i t u v e h.1)
 
-piece_place : (interp : Interp) (ps : List Point) → ((k : ℕ) → Rises ps k) → (i : ℕ) (t : Fraction) (v w : Position) → IsPlace v w
-    → Piece interp ps i t w → Piece interp ps i t v
+piece_place : (interp : Interp) (ps : List Point) → ((k : ℕ) → Rises ps k) → (i : ℕ) (t : Fraction) (v w : Position) → IsPositionOf v w
+    → OnPiece interp ps i t w → OnPiece interp ps i t v
 piece_place Discrete ps rise i t v w e h = record { point = h.point; listed = h.listed; then = h.then; there = same_trans e h.there }
 piece_place Step ps rise i t v w e h =
     record {
@@ -88,5 +88,5 @@ pub at_time : (s : Sequence) → IsValid s → (t u : Fraction) (v : Position) �
 at_time s valid t u v e h = record { i = h.i; at_i = piece_time s.interp s.points valid.increasing h.i t u v e h.at_i }
 
 -- and however its position is written
-pub at_place : (s : Sequence) → IsValid s → (t : Fraction) (v w : Position) → IsPlace v w → At s t w → At s t v
+pub at_place : (s : Sequence) → IsValid s → (t : Fraction) (v w : Position) → IsPositionOf v w → At s t w → At s t v
 at_place s valid t v w e h = record { i = h.i; at_i = piece_place s.interp s.points valid.increasing h.i t v w e h.at_i }

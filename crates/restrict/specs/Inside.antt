@@ -1,7 +1,7 @@
 -- What a cut is put together from: the points in the period, and the values at its ends.
 use Rattle.std.specs.Prelude.{◌≡◌, ◌≢◌, ℕ, ◌+◌, ◌≤◌, ◌⊎◌, ◌++◌, List, length, slice_get, Option, Some, MatchOption, option_to_list}
 use Rattle.std.specs.Prelude.{Bool, ◌||◌, ◌&&◌, nat_lt, is_some}
-use Rattle.tpoint.specs.Moving.{Sequence, At, IsPlace, Rises, moment}
+use Rattle.tpoint.specs.Moving.{Sequence, At, IsPositionOf, Rises, moment}
 use Rattle.tpoint.specs.Extents.{Span, first_whole, last_whole}
 use Rattle.tpoint.specs.Pieces.{place}
 use Rattle.tpoint.specs.declared.frac.Frac.{Frac}
@@ -29,13 +29,13 @@ abbrev pub AddsNone : Sequence → List Point → ℕ → Type 0
 AddsNone s qs n = IsInstantOf qs n ⊎ (s.interp ≡ Discrete) ⊎ (¬ HasValueAt s n)
 
 -- what the begin of the period adds
-pub record IsFirst (s : Sequence) (p : Span) (qs : List Point) (w : ℕ × Frac × Frac) : Type 0 where
+pub record IsFirstPoint (s : Sequence) (p : Span) (qs : List Point) (w : ℕ × Frac × Frac) : Type 0 where
   pub not_listed : ¬ IsInstantOf qs p.begin
   pub goes_on : s.interp ≢ Discrete
   pub value : IsValueAt s p.begin w
 
 abbrev pub IsAddedFirst : Sequence → Span → List Point → Option (ℕ × Frac × Frac) → Type 0
-IsAddedFirst s p qs added = MatchOption added (AddsNone s qs p.begin) (IsFirst s p qs)
+IsAddedFirst s p qs added = MatchOption added (AddsNone s qs p.begin) (IsFirstPoint s p qs)
 
 -- w is the sequence's value at the period's end, or just before it where the cut stops before it
 pub record IsUpToEnd (s : Sequence) (p : Span) (w : ℕ × Frac × Frac) : Type 0 where
@@ -62,7 +62,7 @@ tells_shared p begin qs end =
 -- w is the point q
 pub record IsPoint (q : Point) (w : ℕ × Frac × Frac) : Type 0 where
   pub then : w.0 ≡ q.t
-  pub there : IsPlace (vertex_of w).place (place q)
+  pub there : IsPositionOf (vertex_of w).place (place q)
 
 -- ws are the points qs, up to the n-th
 pub record ArePoints (qs : List Point) (n : ℕ) (ws : List (ℕ × Frac × Frac)) : Type 0 where

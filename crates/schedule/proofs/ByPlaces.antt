@@ -5,7 +5,7 @@ use Rattle.store.specs.declared.query.Query.{Query}
 use Rattle.events.specs.declared.event.Event.TheVariants as event
 use Rattle.schedule.specs.Spelling.{WordsSpell, op_made, query_made}
 use Rattle.schedule.specs.Table.{Place, a_document, Row, line_of, submit_of, query_of, places, width, words_at}
-use Rattle.schedule.specs.Table.{IsOfForm, Value, Says, Values, SayEach, HasItsCount, HasItsWords}
+use Rattle.schedule.specs.Table.{IsOfForm, Value, PlaceSays, Values, SayEach, HasItsCount, HasItsWords}
 use Rattle.schedule.specs.declared.action.Action.{Action}
 use Rattle.schedule.specs.declared.action.Action.TheVariants.{Step, Flush, Round}
 use Rattle.schedule.specs.declared.keyword.Keyword.TheVariants as keyword
@@ -102,7 +102,7 @@ by_places n words (Step (event.Fault node failing)) (others, e, (word, two, w)) 
 )
 
 -- ---- what words say, fits
-value_fits : (n : ℕ) (place : Place) (words : List (List ℕ)) (value : Value place) → Says n place words value → IsOfForm n place words
+value_fits : (n : ℕ) (place : Place) (words : List (List ℕ)) (value : Value place) → PlaceSays n place words value → IsOfForm n place words
 value_fits n a_document words value says = tt
 value_fits n _ words value says = (value, says)
 

@@ -10,7 +10,7 @@ use mir.Syntax.{w64}
 use Rattle.tpoint.specs.Coordinates.{InRange}
 use Rattle.tpoint.specs.Extents.{Span, HasInstant, Area, IsArea}
 use Rattle.schedule.specs.Extents.{IsBegin, IsEnd, IsPeriod, IsRect}
-use Rattle.schedule.specs.Numbers.{Writes, IsCoordinate, IsSize}
+use Rattle.schedule.specs.Numbers.{WritesNumber, IsCoordinate, IsSize}
 use Rattle.schedule.specs.declared.forms.TheConstants.{SIZES}
 use Rattle.schedule.proofs.OneMark.{one_begin, one_end}
 use Rattle.schedule.proofs.Decimals.{no_minus, writes_one}
@@ -20,7 +20,7 @@ below_limit n fits = omega (arith, ints, fits.least)
 
 -- behind a minus sign stands the text of a number that isn't 0
 pub minus_writes : (digits : List ℕ) (value : ℤ) → IsCoordinate (45 ∷ digits) value
-    → (size : ℕ) × (1 ≤ size) × Writes 0 SIZES digits size
+    → (size : ℕ) × (1 ≤ size) × WritesNumber 0 SIZES digits size
 minus_writes digits (pos n) c = absurd (no_minus n digits (omega (arith, ints, c.in_range.greatest)) c.text)
 minus_writes digits (negsuc n) c =
     let text : digits ≡ decimal (suc n) = let e = c.text in cc in
@@ -31,7 +31,7 @@ pub not_zero : (digits : List ℕ) (size value : ℤ) → IsSize SIZES digits si
     → ¬ (IsCoordinate (45 ∷ digits) value)
 not_zero digits size value is zero c =
     let m = minus_writes digits value c in
-    let wide : Writes 0 (2 ^ 64) digits is.value =
+    let wide : WritesNumber 0 (2 ^ 64) digits is.value =
     record { from = omega arith; below = omega (arith, is.writes.below); text = is.writes.text } in
     let same : m.0 ≡ is.value = writes_one digits 0 SIZES is.value m.0 (omega arith) wide m.2 in
     omega (arith, ints, is.is, is.writes.below, zero, same, m.1)

@@ -13,7 +13,7 @@ use Rattle.std.proofs.lemmas.Int.Digits.{digits_more, digits_value_more}
 use Rattle.std.specs.Char.{digit_value}
 use Rattle.std.specs.Int.{IsInRange}
 use Rattle.std.proofs.lemmas.Grind.{common_steps}
-use Rattle.schedule.specs.Numbers.{Writes, IsPlain}
+use Rattle.schedule.specs.Numbers.{WritesNumber, IsPlain}
 
 own : IsNumeralModel (AllDigits 10) (digits_value 10)
 own = numerals_by_value (AllDigits 10) tells_digits
@@ -38,19 +38,19 @@ no_minus value digits small same =
     omega (arith, digit, first)
 
 -- the text of a number is plain
-pub writes_plainly : (word : List ℕ) (value : ℕ) → Writes 0 (2 ^ 64) word value → IsPlain word
+pub writes_plainly : (word : List ℕ) (value : ℕ) → WritesNumber 0 (2 ^ 64) word value → IsPlain word
 writes_plainly word value w = rw w.text (record {
   not_empty = decimal_nonempty value w.below;
   no_plus = no_plus value w.below;
   zero_alone = zero_alone value w.below;
 })
 
-pub writes_text : (word : List ℕ) (value : ℕ) → Writes 0 (2 ^ 64) word value → IsUtf8 word
+pub writes_text : (word : List ℕ) (value : ℕ) → WritesNumber 0 (2 ^ 64) word value → IsUtf8 word
 writes_text word value w = rw w.text (IsUtf8-from_ascii _ (IsAscii-decimal value w.below))
 
 -- what `parse` reads from a plain word is what the word writes
 pub parsed_writes : {E : Type 0} (word : List ℕ) (read : Result ℕ E) → ParsesUnsigned 64 10 word read → IsPlain word
-    → MatchOption (result_ok read) ((value : ℕ) → ¬ (Writes 0 (2 ^ 64) word value)) (Writes 0 (2 ^ 64) word)
+    → MatchOption (result_ok read) ((value : ℕ) → ¬ (WritesNumber 0 (2 ^ 64) word value)) (WritesNumber 0 (2 ^ 64) word)
 parsed_writes {E = E} word (Ok value) parses plain =
     let p = parse_plain own {E = E} 64 word (Ok value) parses plain.no_plus in
     let text : decimal (digits_value 10 word) ≡ word =
@@ -60,14 +60,14 @@ parsed_writes word (Err error) parses plain =
     λ value w. let read = parse-decimal 64 value word (Err error) w.below w.below w.text parses in cc
 
 -- a word that writes a number is digits alone
-writes_digits : (word : List ℕ) (value : ℕ) → Writes 0 (2 ^ 64) word value → AllDigits 10 word
+writes_digits : (word : List ℕ) (value : ℕ) → WritesNumber 0 (2 ^ 64) word value → AllDigits 10 word
 writes_digits word value w = rw w.text ((decimal_is_IsNumeral value w.below).0.1)
 
 -- what a plain word of few digits is worth is what it writes
 pub small_writes : (word : List ℕ) (read : Option ℕ)
     → MatchOption read (¬ (AllDigits 10 word)) (λ value. AllDigits 10 word × (value ≡ digits_value 10 word))
     → length word ≤ 19 → IsPlain word
-    → MatchOption read ((value : ℕ) → ¬ (Writes 0 (2 ^ 64) word value)) (Writes 0 (2 ^ 64) word)
+    → MatchOption read ((value : ℕ) → ¬ (WritesNumber 0 (2 ^ 64) word value)) (WritesNumber 0 (2 ^ 64) word)
 small_writes word None other short plain = λ value w. other (writes_digits word value w)
 small_writes word (Some value) worth short plain =
     let small : digits_value 10 word < 2 ^ 64 = omega (arith, digits_value_short own word 19 worth.0 short) in
@@ -92,15 +92,15 @@ digit_more word i byte value inside at digit all is =
     (digits_more 10 word i inside all (omega (arith, worth, digit)), rw (digits_value_more 10 word i inside, worth, ← is) refl)
 
 -- a word writes one number
-pub writes_one : (word : List ℕ) (least limit value other : ℕ) → limit ≤ 2 ^ 64 → Writes 0 (2 ^ 64) word value
-    → Writes least limit word other → other ≡ value
+pub writes_one : (word : List ℕ) (least limit value other : ℕ) → limit ≤ 2 ^ 64 → WritesNumber 0 (2 ^ 64) word value
+    → WritesNumber least limit word other → other ≡ value
 writes_one word least limit value other small w o =
     decimal_injective other value (omega (arith, o.below)) w.below (sym o.text ∙ w.text)
 
 -- a number that is written and isn't 0 is a request's
-pub written_from_one : (word : List ℕ) (value : ℕ) (made : Option ℕ) → Writes 0 (2 ^ 64) word value → IsSome made ↔ (1 ≤ value)
+pub written_from_one : (word : List ℕ) (value : ℕ) (made : Option ℕ) → WritesNumber 0 (2 ^ 64) word value → IsSome made ↔ (1 ≤ value)
     → IfSome made (λ number. number ≡ value)
-    → MatchOption made ((number : ℕ) → ¬ (Writes 1 (2 ^ 64) word number)) (Writes 1 (2 ^ 64) word)
+    → MatchOption made ((number : ℕ) → ¬ (WritesNumber 1 (2 ^ 64) word number)) (WritesNumber 1 (2 ^ 64) word)
 written_from_one word value None w valid same =
     λ number o.
     let one = writes_one word 1 (2 ^ 64) value number (omega arith) w o in

@@ -5,7 +5,7 @@ use Rattle.std.proofs.lemmas.Bool.{cases_lt}
 use Rattle.std.proofs.lemmas.Slice.Eq.{bytes_eq-Decides}
 use Rattle.std.specs.List.{All}
 use Rattle.std.specs.Str.{bytes_eq}
-use Rattle.schedule.specs.Codes.{code_of, IsLowest}
+use Rattle.schedule.specs.Codes.{code_of, IsLowestFault}
 use Rattle.schedule.specs.Keywords.{text_of, operation_text, question_text}
 use Rattle.schedule.specs.Rows.{IsWordsFault}
 use Rattle.schedule.specs.Table.{Place, the_word, Row, line_of, submit_of, query_of, IsCount, count, takes_more}
@@ -166,7 +166,7 @@ from_above Has least from none fault h = elim (cases_lt (code_of least) (code_of
 ]
 
 -- an unprintable byte is the lowest fault
-pub lowest_unprintable : (Has : ScheduleFault → Type 0) → Has NotPrintable → IsLowest Has NotPrintable
+pub lowest_unprintable : (Has : ScheduleFault → Type 0) → Has NotPrintable → IsLowestFault Has NotPrintable
 lowest_unprintable Has has = record { is_there = has; lowest = λ other h. from_first other }
 
 -- the faults that a line hasn't bound the number of those that it has
@@ -199,7 +199,7 @@ begins_as_nodes : (others : List (List ℕ)) → HasItsWords (places (line_of No
 begins_as_nodes others = (refl, tt)
 
 pub words_fault_lowest : (n : ℕ) (text : List ℕ) (fault : ScheduleFault) → All IsPrintable text
-    → IsWordsFault n (words_of text) fault → IsLowest (HasFault n text) fault
+    → IsWordsFault n (words_of text) fault → IsLowestFault (HasFault n text) fault
 words_fault_lowest n text NotPrintable prints at = absurd at
 words_fault_lowest n text UnknownWord prints at = record {
   is_there = at;
@@ -265,7 +265,7 @@ row_faultless n text prints is Document other h = other refl
 
 -- a wrong document is the lowest fault of a line with nothing else wrong
 pub document_lowest : (n : ℕ) (text : List ℕ) → All IsPrintable text → IsRowOf n (words_of text) → HasFault n text Document
-    → IsLowest (HasFault n text) Document
+    → IsLowestFault (HasFault n text) Document
 document_lowest n text prints is wrong = record {
   is_there = wrong;
   lowest = from_six (HasFault n text) (row_faultless n text prints is NotPrintable (λ e. cc))

@@ -4,7 +4,7 @@ use Rattle.std.specs.List.{All, list_all}
 use Rattle.std.proofs.lemmas.List.Sums.{AllPass-from_list_all}
 use Rattle.std.proofs.lemmas.Bool.Decides.{nat_tests}
 use Rattle.schedule.specs.Lines.{NumberedText}
-use Rattle.schedule.specs.Schedules.{Plan, SpellEach, IsScheduleOf, IsFirstFault, no_line, first_line, later_line, IsRefusal, IsNoSchedule}
+use Rattle.schedule.specs.Schedules.{Plan, SpellEach, IsScheduleOf, IsFirstFault, no_line, first_line, later_line, IsParseRefusal, IsNoSchedule}
 use Rattle.schedule.specs.Spelling.{Spells}
 use Rattle.schedule.specs.Table.{HasFirstFault, HasItsWords, IsNodesLine, IsPrintable, line_of, places}
 use Rattle.schedule.specs.Words.{words_of}
@@ -80,6 +80,6 @@ faulty_is_none bytes number fault plan (later_line n line reached at lowest) s =
     spelled_faultless n line.text spelled.0 spelled.1 fault lowest.is_there
 
 -- a refusal that tells a line tells that there is no schedule
-pub refused_is_none : (bytes : List ℕ) (fault : ParseFault) → IsRefusal bytes fault → IsNoSchedule bytes fault
+pub refused_is_none : (bytes : List ℕ) (fault : ParseFault) → IsParseRefusal bytes fault → IsNoSchedule bytes fault
 refused_is_none bytes (Line at) r = λ plan s. faulty_is_none bytes at.line at.fault plan r s
 refused_is_none bytes (Memory number) r = tt

@@ -1,9 +1,9 @@
 -- The first fault of a file is one.
 use Rattle.std.proofs.Common.{◌≡◌, ℕ, cond, nat_eq, suc, List, [], ◌∷◌, ◌++◌, refl, sym, ◌∙◌, ap, subst, arith}
 use Rattle.std.specs.List.{All}
-use Rattle.schedule.specs.Codes.{code_of, IsLowest}
+use Rattle.schedule.specs.Codes.{code_of, IsLowestFault}
 use Rattle.schedule.specs.Lines.{NumberedText, lines_of}
-use Rattle.schedule.specs.Schedules.{IsFaultless, IsReached, IsFirstFault, no_line, first_line, later_line}
+use Rattle.schedule.specs.Schedules.{IsFaultless, LineIsReached, IsFirstFault, no_line, first_line, later_line}
 use Rattle.schedule.specs.Table.{HasFault, HasFirstFault}
 use Rattle.schedule.specs.declared.fault.ScheduleFault.{ScheduleFault}
 use Rattle.schedule.specs.declared.fault.ScheduleFault.TheVariants.{NotPrintable, UnknownWord, NodesLine, WordCount, WordForm, Document}
@@ -25,7 +25,7 @@ read_back WordCount = refl
 read_back WordForm = refl
 read_back Document = refl
 
-lowest_once : (Has : ScheduleFault → Type 0) (a b : ScheduleFault) → IsLowest Has a → IsLowest Has b → a ≡ b
+lowest_once : (Has : ScheduleFault → Type 0) (a b : ScheduleFault) → IsLowestFault Has a → IsLowestFault Has b → a ≡ b
 lowest_once Has a b la lb =
     let same : code_of a ≡ code_of b = omega (arith, la.lowest b lb.is_there, lb.lowest a la.is_there) in
     sym (read_back a) ∙ ap fault_of same ∙ read_back b
@@ -55,7 +55,7 @@ one_place n (a ∷ xs) (b ∷ ys) more others x y f g e px py hx hy =
 
 -- a right first line has no fault
 not_in_first : (bytes : List ℕ) (n : ℕ) (line first : NumberedText) (others : List NumberedText) (fault : ScheduleFault)
-    → IsReached bytes n line → lines_of bytes ≡ first ∷ others → ¬ (HasFirstFault first.text fault)
+    → LineIsReached bytes n line → lines_of bytes ≡ first ∷ others → ¬ (HasFirstFault first.text fault)
 not_in_first bytes n line first others fault reached lines has =
     let same : first ≡ reached.first = heads _ _ _ _ (sym lines ∙ reached.lines) in
     let text : first.text ≡ reached.first.text = ap (λ (l : NumberedText). l.text) same in
@@ -65,19 +65,19 @@ none_in_lines : (bytes : List ℕ) (first : NumberedText) (others : List Numbere
     → lines_of bytes ≡ first ∷ others → ⊥
 none_in_lines bytes first others none some = let e = sym none ∙ some in cc
 
-in_later : (bytes : List ℕ) (m n j k : ℕ) (x y : NumberedText) (f g : ScheduleFault) → IsReached bytes m x → IsReached bytes n y
+in_later : (bytes : List ℕ) (m n j k : ℕ) (x y : NumberedText) (f g : ScheduleFault) → LineIsReached bytes m x → LineIsReached bytes n y
     → j ≡ x.number → k ≡ y.number
-    → IsLowest (HasFault m x.text) f → IsLowest (HasFault n y.text) g → (j ≡ k) × (f ≡ g)
+    → IsLowestFault (HasFault m x.text) f → IsLowestFault (HasFault n y.text) g → (j ≡ k) × (f ≡ g)
 in_later bytes m n j k x y f g rx ry ex ey lx ly =
     let first : ry.first ≡ rx.first = heads _ _ _ _ (sym ry.lines ∙ rx.lines) in
     let size : n ≡ m = one_size ry.first rx.first n m first ry.nodes_line rx.nodes_line in
     let others : rx.others ≡ ry.others = tails _ _ _ _ (sym rx.lines ∙ ry.lines) in
     let parts = sym rx.next.parts ∙ others ∙ ry.next.parts in
-    let ly' : IsLowest (HasFault m y.text) g = subst (λ (q : ℕ). IsLowest (HasFault q y.text) g) size ly in
+    let ly' : IsLowestFault (HasFault m y.text) g = subst (λ (q : ℕ). IsLowestFault (HasFault q y.text) g) size ly in
     let none : All (IsFaultless m) ry.next.before = subst (λ (q : ℕ). All (IsFaultless q) ry.next.before) size ry.next.faultless in
     let same : x ≡ y = one_place m rx.next.before ry.next.before rx.next.after ry.next.after x y f g parts rx.next.faultless none
     lx.is_there ly'.is_there in
-    let lx' : IsLowest (HasFault m y.text) f = subst (λ (l : NumberedText). IsLowest (HasFault m l.text) f) same lx in
+    let lx' : IsLowestFault (HasFault m y.text) f = subst (λ (l : NumberedText). IsLowestFault (HasFault m l.text) f) same lx in
     (ex ∙ ap (λ (l : NumberedText). l.number) same ∙ sym ey, lowest_once (HasFault m y.text) f g lx' ly')
 
 pub one_first_fault : (bytes : List ℕ) (j k : ℕ) (f g : ScheduleFault) → IsFirstFault bytes j f → IsFirstFault bytes k g
@@ -90,7 +90,7 @@ one_first_fault bytes j k f g (first_line first others lines at lowest) (no_line
     absurd (none_in_lines bytes first others a lines)
 one_first_fault bytes j k f g (first_line first others lines at lowest) (first_line first' others' lines' at' lowest') =
     let same : first ≡ first' = heads _ _ _ _ (sym lines ∙ lines') in
-    let moved : IsLowest (HasFirstFault first'.text) f = subst (λ (l : NumberedText). IsLowest (HasFirstFault l.text) f) same lowest in
+    let moved : IsLowestFault (HasFirstFault first'.text) f = subst (λ (l : NumberedText). IsLowestFault (HasFirstFault l.text) f) same lowest in
     (at ∙ ap (λ (l : NumberedText). l.number) same ∙ sym at', lowest_once (HasFirstFault first'.text) f g moved lowest')
 one_first_fault bytes j k f g (first_line first others lines at lowest) (later_line n line reached at' lowest') =
     absurd (not_in_first bytes n line first others f reached lines lowest.is_there)

@@ -9,17 +9,17 @@ use Rattle.mfjson.proofs.OneFeature.{document_of_one}
 use Rattle.stable.specs.declared.scripted.Failing.{Failing}
 use Rattle.stable.specs.declared.scripted.Failing.TheVariants.{Old}
 use Rattle.schedule.specs.Keywords.{failing_text}
-use Rattle.schedule.specs.Numbers.{Writes}
+use Rattle.schedule.specs.Numbers.{WritesNumber}
 use Rattle.schedule.specs.Table.{Place, the_word, a_run_size, a_node, a_client, a_request_number, a_frame_number, a_failing, an_id}
 use Rattle.schedule.specs.Table.{a_datetime, a_coordinate, a_period, a_rectangle, a_document, some_nodes}
-use Rattle.schedule.specs.Table.{Value, Says, Values, SayEach, NameEach, width, words_at}
+use Rattle.schedule.specs.Table.{Value, PlaceSays, Values, SayEach, NameEach, width, words_at}
 use Rattle.schedule.proofs.Coordinates.{one_coordinate, one_rect, one_period}
 use Rattle.schedule.proofs.FirstLines.{small_size}
 use Rattle.schedule.proofs.Spelled.{same_text}
 
 -- a word is the text of one number
 one_number : (least limit : ℕ) (word other : List ℕ) (m n : ℕ) → limit ≤ 2 ^ 64 → word ≡ other
-    → Writes least limit word m → Writes least limit other n → m ≡ n
+    → WritesNumber least limit word m → WritesNumber least limit other n → m ≡ n
 one_number least limit word other m n small same a b =
     decimal_injective m n (omega (arith, a.below)) (omega (arith, b.below)) (sym a.text ∙ same ∙ b.text)
 
@@ -45,8 +45,8 @@ one_naming n (word ∷ words) (x ∷ xs) (y ∷ ys) small p q =
     cc
 
 -- words say one value for a place
-one_value : (n : ℕ) (place : Place) (words : List (List ℕ)) (v w : Value place) → n ≤ 2 ^ 64 → Says n place words v
-    → Says n place words w → v ≡ w
+one_value : (n : ℕ) (place : Place) (words : List (List ℕ)) (v w : Value place) → n ≤ 2 ^ 64 → PlaceSays n place words v
+    → PlaceSays n place words w → v ≡ w
 one_value n (the_word wanted) words v w small s r = refl
 one_value n a_run_size (word ∷ []) v w small s r =
     decimal_injective v w (omega (arith, small_size v s.0)) (omega (arith, small_size w r.0)) (sym s.1 ∙ r.1)

@@ -3,8 +3,8 @@ use Rattle.std.proofs.Common.{◌≡◌, ℕ, List, [], ◌∷◌, ◌++◌, app
 use Rattle.std.specs.List.{All}
 use Rattle.std.proofs.lemmas.List.Elements.{All-cons, All-nil}
 use Rattle.schedule.specs.Lines.{NumberedText, lines_of}
-use Rattle.schedule.specs.Reading.{AreRead, IsLineRefusal, IsLaterRefusal}
-use Rattle.schedule.specs.Schedules.{SpellEach, IsFaultless, later_line, IsRefusal}
+use Rattle.schedule.specs.Reading.{LinesAreRead, IsLineRefusal, IsLaterRefusal}
+use Rattle.schedule.specs.Schedules.{SpellEach, IsFaultless, later_line, IsParseRefusal}
 use Rattle.schedule.specs.Spelling.{Spells}
 use Rattle.schedule.specs.Table.{IsNodesLine}
 use Rattle.schedule.specs.declared.action.Action.{Action}
@@ -23,8 +23,8 @@ spelled_more n (t ∷ ts) [] line action each spells = absurd each
 spelled_more n (t ∷ ts) (r ∷ rs) line action each spells = (each.0, each.1, spelled_more n ts rs line action each.2 spells)
 
 pub read_more : (n : ℕ) (lines left more : List NumberedText) (line : NumberedText) (read now : List ScheduleLine) (action : Action)
-    → AreRead n lines left read → left ≡ line ∷ more → Spells n line.text action
-    → now ≡ read ++ record { number = line.number; action = action } ∷ [] → AreRead n lines more now
+    → LinesAreRead n lines left read → left ≡ line ∷ more → Spells n line.text action
+    → now ≡ read ++ record { number = line.number; action = action } ∷ [] → LinesAreRead n lines more now
 read_more n lines left more line read now action r next spells added = record {
   before = r.before ++ line ∷ [];
   parts = r.parts ∙ ap (λ (xs : List NumberedText). r.before ++ xs) next ∙ sym (append_assoc r.before (line ∷ []) more);
@@ -39,7 +39,7 @@ read_faultless n (t ∷ ts) (r ∷ rs) each =
     All-cons (IsFaultless n) t ts (spelled_faultless n t.text r.action each.1) (read_faultless n ts rs each.2)
 
 pub stops_there : (n : ℕ) (lines left more : List NumberedText) (line : NumberedText) (read : List ScheduleLine)
-    (fault : ParseFault) → AreRead n lines left read → left ≡ line ∷ more → IsLineRefusal n line fault
+    (fault : ParseFault) → LinesAreRead n lines left read → left ≡ line ∷ more → IsLineRefusal n line fault
     → IsLaterRefusal n lines fault
 stops_there n lines left more line read fault r next refusal = (
   line,
@@ -53,14 +53,14 @@ stops_there n lines left more line read fault r next refusal = (
 )
 
 pub stops_for_memory : (n : ℕ) (lines left more : List NumberedText) (line : NumberedText) (read : List ScheduleLine)
-    (fault : ParseFault) → AreRead n lines left read → left ≡ line ∷ more → fault ≡ Memory line.number
+    (fault : ParseFault) → LinesAreRead n lines left read → left ≡ line ∷ more → fault ≡ Memory line.number
     → IsLaterRefusal n lines fault
 stops_for_memory n lines left more line read fault r next same =
     rw same (stops_there n lines left more line read (Memory line.number) r next refl)
 
 -- a later line's refusal is the file's
 pub refused_later : (bytes : List ℕ) (n : ℕ) (first : NumberedText) (others : List NumberedText) (fault : ParseFault)
-    → lines_of bytes ≡ first ∷ others → IsNodesLine first.text n → IsLaterRefusal n others fault → IsRefusal bytes fault
+    → lines_of bytes ≡ first ∷ others → IsNodesLine first.text n → IsLaterRefusal n others fault → IsParseRefusal bytes fault
 refused_later bytes n first others (Line at) lines nodes (line, next, (same, lowest)) =
     later_line n line (record { first = first; others = others; lines = lines; nodes_line = nodes; next = next }) same lowest
 refused_later bytes n first others (Memory number) lines nodes (line, next, same) =

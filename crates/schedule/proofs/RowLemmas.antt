@@ -9,8 +9,8 @@ use Rattle.tpoint.specs.Extents.{Span}
 use Rattle.schedule.specs.Extents.{IsPeriod}
 use Rattle.schedule.specs.Keywords.{text_of, operation_text, question_text}
 use Rattle.schedule.specs.Rows.{IsFaultAt, IsRowFault, IsWordsFault}
-use Rattle.schedule.specs.Spelling.{SpellsOp, SpellsQuery, Submits, WordsSpell}
-use Rattle.schedule.specs.Submissions.{Names, asker_places, asker_words, submit_words}
+use Rattle.schedule.specs.Spelling.{SpellsOp, SpellsQuery, SubmitsRequest, WordsSpell}
+use Rattle.schedule.specs.Submissions.{NamesAsker, asker_places, asker_words, submit_words}
 use Rattle.schedule.specs.declared.submits.Asker.{Asker}
 use Rattle.schedule.specs.declared.submits.AskerWords.{AskerWords}
 use Rattle.schedule.specs.declared.action.Action.TheVariants.{Step}
@@ -178,8 +178,8 @@ asks n question asked a words node is spells =
     (question, record { node_word = a; others = words; words_are = refl; to_node = is }, spells)
 
 -- what is asked for, and who asks, are a submission
-abbrev pub named : (n : ℕ) (operation : Operation) (asking : AskerWords) (asker : Asker) (words : List (List ℕ)) → Names n asking asker
-    → Submits n operation (submit_words asking operation words) asker.node asker.client asker.number
+abbrev pub named : (n : ℕ) (operation : Operation) (asking : AskerWords) (asker : Asker) (words : List (List ℕ)) → NamesAsker n asking asker
+    → SubmitsRequest n operation (submit_words asking operation words) asker.node asker.client asker.number
 named n operation asking asker words names = record {
   node_word = asking.node.now;
   client_word = asking.client.now;
@@ -192,7 +192,7 @@ named n operation asking asker words names = record {
 }
 
 pub submits : (n : ℕ) (operation : Operation) (asking : AskerWords) (asker : Asker) (asked : Op) (words : List (List ℕ))
-    → SpellsOp n operation words asked → Names n asking asker
+    → SpellsOp n operation words asked → NamesAsker n asking asker
     → WordsSpell n (submit_words asking operation words) (Step (event.Submit asker.node asker.client asker.number asked))
 submits n operation asking asker asked words spells names = (operation, named n operation asking asker words names, spells)
 

@@ -8,7 +8,7 @@ use Rattle.mfjson.specs.declared.fault.MfFault.{MfFault}
 use Rattle.mfjson.specs.declared.fault.MfFault.TheVariants as mf_fault
 use Rattle.mfjson.specs.declared.feature.Feature.{Feature}
 use Rattle.store.specs.declared.op.Op.TheVariants as op
-use Rattle.schedule.specs.Codes.{code_of, IsLowest}
+use Rattle.schedule.specs.Codes.{code_of, IsLowestFault}
 use Rattle.schedule.specs.Lines.{NumberedText}
 use Rattle.schedule.specs.Reading.{IsLineRefusal}
 use Rattle.schedule.specs.Rows.{IsWordsFault, in_first_line}
@@ -16,7 +16,7 @@ use Rattle.schedule.specs.Spelling.{Spells, SpellsOp, SpellsRound, WordsSpell}
 use Rattle.schedule.specs.Table.{line_of, submit_of, HasFault, HasFirstFault, HasUnknownWord}
 use Rattle.schedule.specs.Table.{HasWrongDocument, IsPrintable, SayEach}
 use Rattle.schedule.specs.Table.{places}
-use Rattle.schedule.specs.PendingLines.{Becomes, Gives, IsNotRead, Puts, WordsGive}
+use Rattle.schedule.specs.PendingLines.{Becomes, LineGives, IsNotRead, Puts, WordsGive}
 use Rattle.schedule.specs.Words.{blank, words_of}
 use Rattle.schedule.specs.declared.action.Action.{Action}
 use Rattle.schedule.specs.declared.fault.ParseFault.{ParseFault}
@@ -101,14 +101,14 @@ no_document read fault feature refused other answered = elim answered [
 pub line_read : (n : ℕ) (text : List ℕ) (words : List (List ℕ)) (read : Result PendingLine ScheduleFault)
     → All IsPrintable text → words ≡ words_of text
     → MatchResult read (WordsGive n words) (IsWordsFault n words)
-    → MatchResult read (Gives n text) (IsLowest (HasFault n text))
+    → MatchResult read (LineGives n text) (IsLowestFault (HasFault n text))
 line_read n text words (Ok unread) prints same gives =
     record { prints = prints; words = subst (λ (ws : List (List ℕ)). WordsGive n ws unread) same gives }
 line_read n text words (Err fault) prints same wrong =
     words_fault_lowest n text fault prints (subst (λ (ws : List (List ℕ)). IsWordsFault n ws fault) same wrong)
 
 -- with its document, or its members, a line is an action
-pub line_spells : (n : ℕ) (text : List ℕ) (unread : PendingLine) (action : Action) → Gives n text unread → Becomes n unread action
+pub line_spells : (n : ℕ) (text : List ℕ) (unread : PendingLine) (action : Action) → LineGives n text unread → Becomes n unread action
     → Spells n text action
 line_spells n text (given.Whole whole) action gives same = rw same (record { prints = gives.prints; words = gives.words })
 line_spells n text (given.Put p) action gives (feature, is, same) =
@@ -130,7 +130,7 @@ line_spells n text (given.Round r) action gives (members, named, same) =
     rw same (record { prints = gives.prints; words = (_, leads.words_are, spells) })
 
 -- or it has a wrong one, or memory was wanting
-pub line_refused : (n : ℕ) (line : NumberedText) (unread : PendingLine) (fault : ParseFault) → Gives n line.text unread
+pub line_refused : (n : ℕ) (line : NumberedText) (unread : PendingLine) (fault : ParseFault) → LineGives n line.text unread
     → IsNotRead n line.number unread fault → IsLineRefusal n line fault
 line_refused n line (given.Whole whole) fault gives not = absurd not
 line_refused n line (given.Put p) (Memory number) gives not = not
@@ -145,15 +145,15 @@ line_refused n line (given.Put p) (Line at) gives not =
       stands_for_none = not.2;
     } in
     let lowest = document_lowest n line.text gives.prints (put_row_of n (words_of line.text) p gives.words) wrong in
-    (not.0, subst (IsLowest (HasFault n line.text)) (sym not.1) lowest)
+    (not.0, subst (IsLowestFault (HasFault n line.text)) (sym not.1) lowest)
 line_refused n line (given.Round r) (Memory number) gives not = not
 line_refused n line (given.Round r) (Line at) gives not =
     let leads = gives.words in
     let wrong : IsWordsFault n (words_of line.text) WordForm =
     rw leads.words_are (members_fault n leads.node_word r.members.now not.2) in
-    (not.0, subst (IsLowest (HasFault n line.text)) (sym not.1) (words_fault_lowest n line.text WordForm gives.prints wrong))
+    (not.0, subst (IsLowestFault (HasFault n line.text)) (sym not.1) (words_fault_lowest n line.text WordForm gives.prints wrong))
 
-pub line_result : (n : ℕ) (line : NumberedText) (unread : PendingLine) (read : Result Action ParseFault) → Gives n line.text unread
+pub line_result : (n : ℕ) (line : NumberedText) (unread : PendingLine) (read : Result Action ParseFault) → LineGives n line.text unread
     → MatchResult read (Becomes n unread) (IsNotRead n line.number unread)
     → MatchResult read (Spells n line.text) (IsLineRefusal n line)
 line_result n line unread (Ok action) gives becomes = line_spells n line.text unread action gives becomes
@@ -161,16 +161,16 @@ line_result n line unread (Err fault) gives not = line_refused n line unread fau
 
 -- ---- first lines
 -- a first line that would do as a later one
-pub given_first : (n : ℕ) (text : List ℕ) (unread : PendingLine) → HasFirstFault text NodesLine → Gives n text unread
-    → IsLowest (HasFirstFault text) NodesLine
+pub given_first : (n : ℕ) (text : List ℕ) (unread : PendingLine) → HasFirstFault text NodesLine → LineGives n text unread
+    → IsLowestFault (HasFirstFault text) NodesLine
 given_first n text unread wrong gives = record {
   is_there = wrong;
   lowest = from_three (HasFirstFault text) (prints_throughout text gives.prints) (given_known n (words_of text) unread gives.words);
 }
 
 -- a first line whose lowest fault as a later one is above the second
-beyond_two : (n : ℕ) (text : List ℕ) (fault : ScheduleFault) → HasFirstFault text NodesLine → IsLowest (HasFault n text) fault
-    → 3 ≤ code_of fault → IsLowest (HasFirstFault text) NodesLine
+beyond_two : (n : ℕ) (text : List ℕ) (fault : ScheduleFault) → HasFirstFault text NodesLine → IsLowestFault (HasFault n text) fault
+    → 3 ≤ code_of fault → IsLowestFault (HasFirstFault text) NodesLine
 beyond_two n text fault wrong l above = record {
   is_there = wrong;
   lowest = from_three (HasFirstFault text) (λ h. absurd (omega (arith, above, l.lowest NotPrintable h)))
@@ -178,8 +178,8 @@ beyond_two n text fault wrong l above = record {
 }
 
 -- a first line that would not
-pub faulty_first : (n : ℕ) (text : List ℕ) (fault : ScheduleFault) → HasFirstFault text NodesLine → IsLowest (HasFault n text) fault
-    → IsLowest (HasFirstFault text) (in_first_line fault)
+pub faulty_first : (n : ℕ) (text : List ℕ) (fault : ScheduleFault) → HasFirstFault text NodesLine → IsLowestFault (HasFault n text) fault
+    → IsLowestFault (HasFirstFault text) (in_first_line fault)
 faulty_first n text NotPrintable wrong l = lowest_unprintable (HasFirstFault text) l.is_there
 faulty_first n text UnknownWord wrong l = record {
   is_there = l.is_there;

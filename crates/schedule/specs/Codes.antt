@@ -12,6 +12,6 @@ code_of WordForm = 5
 code_of Document = 6
 
 -- of the faults that there are, this is the one of the lowest number
-pub record IsLowest (Has : ScheduleFault → Type 0) (fault : ScheduleFault) : Type 0 where
+pub record IsLowestFault (Has : ScheduleFault → Type 0) (fault : ScheduleFault) : Type 0 where
   pub is_there : Has fault
   pub lowest : (other : ScheduleFault) → Has other → code_of fault ≤ code_of other

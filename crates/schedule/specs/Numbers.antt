@@ -4,7 +4,7 @@ use Rattle.std.specs.Fmt.{decimal, signed_decimal}
 use Rattle.tpoint.specs.Coordinates.{InRange}
 
 -- the word is the decimal text, without leading zeros, of a value from `least` on and below `limit`
-pub record Writes (least limit : ℕ) (word : List ℕ) (value : ℕ) : Type 0 where
+pub record WritesNumber (least limit : ℕ) (word : List ℕ) (value : ℕ) : Type 0 where
   pub from : least ≤ value
   pub below : value < limit
   pub text : word ≡ decimal value
@@ -13,7 +13,7 @@ pub record Writes (least limit : ℕ) (word : List ℕ) (value : ℕ) : Type 0 w
 pub record IsSize (limit : ℕ) (word : List ℕ) (size : ℤ) : Type 0 where
   pub value : ℕ
   pub is : size ≡ pos value
-  pub writes : Writes 0 limit word value
+  pub writes : WritesNumber 0 limit word value
 
 -- the word is the decimal text of a coordinate in range; a minus sign stands before one below zero
 pub record IsCoordinate (word : List ℕ) (value : ℤ) : Type 0 where

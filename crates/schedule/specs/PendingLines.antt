@@ -4,7 +4,7 @@ use Rattle.mfjson.specs.Document.{IsDocumentOf}
 use Rattle.mfjson.specs.declared.feature.Feature.{Feature}
 use Rattle.store.specs.declared.op.Op.TheVariants as op
 use Rattle.events.specs.declared.event.Event.TheVariants as event
-use Rattle.schedule.specs.Spelling.{Submits, WordsSpell}
+use Rattle.schedule.specs.Spelling.{SubmitsRequest, WordsSpell}
 use Rattle.schedule.specs.Table.{IsNode, IsPrintable, NameEach}
 use Rattle.schedule.specs.Words.{words_of}
 use Rattle.schedule.specs.declared.action.Action.{Action}
@@ -20,7 +20,7 @@ use Rattle.schedule.specs.declared.pending_line.PendingRound.{PendingRound}
 
 -- the words put the document, whatever it stands for
 abbrev pub Puts : ℕ → List (List ℕ) → Putting → Type 0
-Puts n words p = (submits : Submits n operation.Put words p.node p.client p.number)
+Puts n words p = (submits : SubmitsRequest n operation.Put words p.node p.client p.number)
     × (submits.others ≡ words_of p.document.now)
 
 -- the words have the node lead a round, whomever they name as members
@@ -36,7 +36,7 @@ WordsGive n words (Put putting) = Puts n words putting
 WordsGive n words (Round rounding) = LeadsRound n words rounding
 
 -- the same of a line
-pub record Gives (n : ℕ) (text : List ℕ) (unread : PendingLine) : Type 0 where
+pub record LineGives (n : ℕ) (text : List ℕ) (unread : PendingLine) : Type 0 where
   pub prints : All IsPrintable text
   pub words : WordsGive n (words_of text) unread
 
@@ -54,10 +54,10 @@ Becomes n (Round r) action =
 
 -- why a document was not read, at the line of this number: it stands for no feature, or a growth
 -- was refused
-abbrev pub IsNoDocument : ℕ → List ℕ → ParseFault → Type 0
-IsNoDocument number document (Line at) = (at.line ≡ number) × (at.fault ≡ Document)
+abbrev pub DocumentWasRefused : ℕ → List ℕ → ParseFault → Type 0
+DocumentWasRefused number document (Line at) = (at.line ≡ number) × (at.fault ≡ Document)
     × ((feature : Feature) → ¬ (IsDocumentOf document feature))
-IsNoDocument number document (Memory line) = line ≡ number
+DocumentWasRefused number document (Memory line) = line ≡ number
 
 -- why a list of nodes was not read, at the line of this number: its words don't name nodes of the run, or a growth
 -- was refused
@@ -68,6 +68,6 @@ IsNoList n number list (Memory line) = line ≡ number
 
 -- why the line is no action
 abbrev pub IsNotRead : ℕ → ℕ → PendingLine → ParseFault → Type 0
-IsNotRead n number (Put p) fault = IsNoDocument number p.document.now fault
+IsNotRead n number (Put p) fault = DocumentWasRefused number p.document.now fault
 IsNotRead n number (Round r) fault = IsNoList n number r.members.now fault
 IsNotRead n number (Whole whole) fault = ⊥

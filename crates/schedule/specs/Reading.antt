@@ -1,6 +1,6 @@
 -- How far the lines after the first were read.
 use Rattle.std.specs.Prelude.{◌≡◌, ℕ, List, ◌++◌}
-use Rattle.schedule.specs.Codes.{IsLowest}
+use Rattle.schedule.specs.Codes.{IsLowestFault}
 use Rattle.schedule.specs.Lines.{NumberedText}
 use Rattle.schedule.specs.Schedules.{ComesNext, SpellEach}
 use Rattle.schedule.specs.Table.{HasFault}
@@ -9,7 +9,7 @@ use Rattle.schedule.specs.declared.fault.ParseFault.TheVariants.{Line, Memory}
 use Rattle.schedule.specs.declared.schedule.ScheduleLine.{ScheduleLine}
 
 -- the first lines of the list were read as these, and the others are left
-pub record AreRead (n : ℕ) (lines left : List NumberedText) (read : List ScheduleLine)
+pub record LinesAreRead (n : ℕ) (lines left : List NumberedText) (read : List ScheduleLine)
     : Type 0 where
   pub before : List NumberedText
   pub parts : lines ≡ before ++ left
@@ -17,7 +17,7 @@ pub record AreRead (n : ℕ) (lines left : List NumberedText) (read : List Sched
 
 -- why a line was not read
 abbrev pub IsLineRefusal : ℕ → NumberedText → ParseFault → Type 0
-IsLineRefusal n line (Line at) = (at.line ≡ line.number) × IsLowest (HasFault n line.text) at.fault
+IsLineRefusal n line (Line at) = (at.line ≡ line.number) × IsLowestFault (HasFault n line.text) at.fault
 IsLineRefusal n line (Memory number) = number ≡ line.number
 
 -- why the lines were not read

@@ -1,6 +1,6 @@
 -- Which bytes are the spelling of a schedule, and where else the first fault is.
 use Rattle.std.specs.Prelude.{◌≡◌, ℕ, ◌-◌, Option, Some, None, List, [], ◌∷◌, ◌++◌, length, slice_get, All}
-use Rattle.schedule.specs.Codes.{IsLowest}
+use Rattle.schedule.specs.Codes.{IsLowestFault}
 use Rattle.schedule.specs.Lines.{NumberedText, lines_of}
 use Rattle.schedule.specs.Spelling.{Spells}
 use Rattle.schedule.specs.Table.{HasFault, HasFirstFault, IsNodesLine}
@@ -55,7 +55,7 @@ pub record ComesNext (n : ℕ) (lines : List NumberedText) (line : NumberedText)
   pub faultless : All (IsFaultless n) before
 
 -- the line comes after a right first line of n nodes, and after others with which nothing is wrong
-pub record IsReached (bytes : List ℕ) (n : ℕ) (line : NumberedText) : Type 0 where
+pub record LineIsReached (bytes : List ℕ) (n : ℕ) (line : NumberedText) : Type 0 where
   pub first : NumberedText
   pub others : List NumberedText
   pub lines : lines_of bytes ≡ first ∷ others
@@ -66,21 +66,21 @@ pub record IsReached (bytes : List ℕ) (n : ℕ) (line : NumberedText) : Type 0
 pub data IsFirstFault (bytes : List ℕ) (number : ℕ) (fault : ScheduleFault) : Type 0 where
   no_line : lines_of bytes ≡ [] → number ≡ 1 → fault ≡ NodesLine → IsFirstFault bytes number fault
   first_line : (first : NumberedText) (others : List NumberedText) → lines_of bytes ≡ first ∷ others
-      → number ≡ first.number → IsLowest (HasFirstFault first.text) fault
+      → number ≡ first.number → IsLowestFault (HasFirstFault first.text) fault
       → IsFirstFault bytes number fault
-  later_line : (n : ℕ) (line : NumberedText) → IsReached bytes n line
-      → number ≡ line.number → IsLowest (HasFault n line.text) fault
+  later_line : (n : ℕ) (line : NumberedText) → LineIsReached bytes n line
+      → number ≡ line.number → IsLowestFault (HasFault n line.text) fault
       → IsFirstFault bytes number fault
 
 -- a line that was reached has this number
 abbrev pub IsNumberReached : List ℕ → ℕ → Type 0
 IsNumberReached bytes number =
-    (n : ℕ) × (line : NumberedText) × (number ≡ line.number) × IsReached bytes n line
+    (n : ℕ) × (line : NumberedText) × (number ≡ line.number) × LineIsReached bytes n line
 
 -- why the bytes were not read as a schedule
-abbrev pub IsRefusal : List ℕ → ParseFault → Type 0
-IsRefusal bytes (Line at) = IsFirstFault bytes at.line at.fault
-IsRefusal bytes (Memory number) = IsNumberReached bytes number
+abbrev pub IsParseRefusal : List ℕ → ParseFault → Type 0
+IsParseRefusal bytes (Line at) = IsFirstFault bytes at.line at.fault
+IsParseRefusal bytes (Memory number) = IsNumberReached bytes number
 
 -- where a faulty line is told, the bytes are no schedule's
 abbrev pub IsNoSchedule : List ℕ → ParseFault → Type 0

@@ -30,7 +30,7 @@ SpellsOp n operation words asked = (values : Values (operation_places operation)
     × SayAll n (operation_places operation) words values × (asked ≡ op_made operation values)
 
 -- the words submit a client's request to the node, and others are left for what the operation needs
-pub record Submits (n : ℕ) (operation : Operation) (words : List (List ℕ)) (node client number : ℕ) : Type 0 where
+pub record SubmitsRequest (n : ℕ) (operation : Operation) (words : List (List ℕ)) (node client number : ℕ) : Type 0 where
   pub node_word : List ℕ
   pub client_word : List ℕ
   pub number_word : List ℕ
@@ -90,7 +90,7 @@ pub record SpellsRound (n : ℕ) (words : List (List ℕ)) (node : ℕ) (members
 -- the words spell the action, in a run of n nodes
 abbrev pub WordsSpell : ℕ → List (List ℕ) → Action → Type 0
 WordsSpell n words (Step (event.Submit node client number asked)) =
-    (operation : Operation) × (submits : Submits n operation words node client number)
+    (operation : Operation) × (submits : SubmitsRequest n operation words node client number)
     × SpellsOp n operation submits.others asked
 WordsSpell n words (Step (event.Deliver frame)) =
     BeginsWith (codes "deliver") words (IsOneWord (λ word. IsFrameNumber word frame))

@@ -14,7 +14,7 @@ abbrev pub asker_words : AskerWords → List (List ℕ)
 asker_words w = w.node.now ∷ w.client.now ∷ w.number.now ∷ []
 
 -- the words say that this one asks
-pub record Names (n : ℕ) (words : AskerWords) (asker : Asker) : Type 0 where
+pub record NamesAsker (n : ℕ) (words : AskerWords) (asker : Asker) : Type 0 where
   pub node : IsNode n words.node.now asker.node
   pub client : IsClient words.client.now asker.client
   pub number : IsRequestNumber words.number.now asker.number

@@ -9,7 +9,7 @@ use Rattle.tpoint.specs.Ids.{IsId}
 use Rattle.stable.specs.declared.scripted.Failing.{Failing}
 use Rattle.schedule.specs.Extents.{IsPeriod, IsRect}
 use Rattle.schedule.specs.Keywords.{text_of, failing_text, operation_text, question_text}
-use Rattle.schedule.specs.Numbers.{Writes, IsCoordinate}
+use Rattle.schedule.specs.Numbers.{WritesNumber, IsCoordinate}
 use Rattle.schedule.specs.Words.{words_of}
 use Rattle.schedule.specs.declared.keyword.Keyword.{Keyword}
 use Rattle.schedule.specs.declared.keyword.Keyword.TheVariants.{Nodes, Deliver, Drop, Flush, Timeout, Tick, Checkpoint, Trim, Restart, Fault, Round}
@@ -120,7 +120,7 @@ IsRunSize n = (n ≡ 3) ⊎ (n ≡ 5) ⊎ (n ≡ 7)
 
 -- n nodes are there; frames have the numbers of a u64
 abbrev pub IsNode : ℕ → List ℕ → ℕ → Type 0
-IsNode n = Writes 0 n
+IsNode n = WritesNumber 0 n
 
 -- the words name these nodes, one by one
 abbrev pub NameEach : ℕ → List (List ℕ) → List ℕ → Type 0
@@ -129,13 +129,13 @@ NameEach n (word ∷ words) (node ∷ nodes) = IsNode n word node × NameEach n 
 NameEach n _ _ = ⊥
 
 abbrev pub IsClient : List ℕ → ℕ → Type 0
-IsClient = Writes 0 256
+IsClient = WritesNumber 0 256
 
 abbrev pub IsRequestNumber : List ℕ → ℕ → Type 0
-IsRequestNumber = Writes 1 (2 ^ 64)
+IsRequestNumber = WritesNumber 1 (2 ^ 64)
 
 abbrev pub IsFrameNumber : List ℕ → ℕ → Type 0
-IsFrameNumber = Writes 0 (2 ^ 64)
+IsFrameNumber = WritesNumber 0 (2 ^ 64)
 
 -- what the words at a place say; a certain word says nothing, and the places that are not named say a number
 abbrev pub Value : Place → Type 0
@@ -150,27 +150,27 @@ Value some_nodes = List ℕ
 Value _ = ℕ
 
 -- the words are what the place wants, in a run of n nodes, and say this value
-abbrev pub Says : ℕ → (place : Place) → List (List ℕ) → Value place → Type 0
-Says n (the_word wanted) (word ∷ []) nothing = word ≡ wanted
-Says n a_run_size (word ∷ []) size = IsRunSize size × (word ≡ decimal size)
-Says n a_node (word ∷ []) node = IsNode n word node
-Says n a_client (word ∷ []) client = IsClient word client
-Says n a_request_number (word ∷ []) number = IsRequestNumber word number
-Says n a_frame_number (word ∷ []) frame = IsFrameNumber word frame
-Says n a_failing (word ∷ []) failing = word ≡ failing_text failing
-Says n an_id (word ∷ []) id = (id ≡ word) × IsId word
-Says n a_datetime (word ∷ []) t = ReadsAs word t
-Says n a_coordinate (word ∷ []) value = IsCoordinate word value
-Says n a_period (begin ∷ end ∷ []) period = IsPeriod begin end period
-Says n a_rectangle (x0 ∷ y0 ∷ x1 ∷ y1 ∷ []) rect = IsRect x0 y0 x1 y1 rect
-Says n a_document words feature = (document : List ℕ) × (words ≡ words_of document) × IsDocumentOf document feature
-Says n some_nodes words nodes = NameEach n words nodes
-Says n _ _ _ = ⊥
+abbrev pub PlaceSays : ℕ → (place : Place) → List (List ℕ) → Value place → Type 0
+PlaceSays n (the_word wanted) (word ∷ []) nothing = word ≡ wanted
+PlaceSays n a_run_size (word ∷ []) size = IsRunSize size × (word ≡ decimal size)
+PlaceSays n a_node (word ∷ []) node = IsNode n word node
+PlaceSays n a_client (word ∷ []) client = IsClient word client
+PlaceSays n a_request_number (word ∷ []) number = IsRequestNumber word number
+PlaceSays n a_frame_number (word ∷ []) frame = IsFrameNumber word frame
+PlaceSays n a_failing (word ∷ []) failing = word ≡ failing_text failing
+PlaceSays n an_id (word ∷ []) id = (id ≡ word) × IsId word
+PlaceSays n a_datetime (word ∷ []) t = ReadsAs word t
+PlaceSays n a_coordinate (word ∷ []) value = IsCoordinate word value
+PlaceSays n a_period (begin ∷ end ∷ []) period = IsPeriod begin end period
+PlaceSays n a_rectangle (x0 ∷ y0 ∷ x1 ∷ y1 ∷ []) rect = IsRect x0 y0 x1 y1 rect
+PlaceSays n a_document words feature = (document : List ℕ) × (words ≡ words_of document) × IsDocumentOf document feature
+PlaceSays n some_nodes words nodes = NameEach n words nodes
+PlaceSays n _ _ _ = ⊥
 
 -- the words are what the place wants; that a document stands for no feature is told by the sixth fault alone
 abbrev pub IsOfForm : ℕ → Place → List (List ℕ) → Type 0
 IsOfForm n a_document words = Unit {0}
-IsOfForm n place words = (value : Value place) × Says n place words value
+IsOfForm n place words = (value : Value place) × PlaceSays n place words value
 
 -- as far as there are words, those that have to be certain words are
 abbrev pub HasItsWords : List Place → List (List ℕ) → Type 0
@@ -194,7 +194,7 @@ Values (place ∷ others) = Value place × Values others
 abbrev pub SayEach : ℕ → (at : List Place) → List (List ℕ) → Values at → Type 0
 SayEach n [] words values = Unit {0}
 SayEach n (place ∷ others) words values =
-    Says n place (words_at place words) values.0 × SayEach n others (drop (width place) words) values.1
+    PlaceSays n place (words_at place words) values.0 × SayEach n others (drop (width place) words) values.1
 
 -- there are as many words as the places want, and they say these values
 abbrev pub SayAll : ℕ → (at : List Place) → List (List ℕ) → Values at → Type 0

@@ -6,7 +6,7 @@ ghost use Rattle.tpoint.specs.Extents.{Span, Area};
 ghost use Rattle.tpoint.specs.Ids.{IsId};
 ghost use Rattle.mfjson.specs.Datetime.{ReadsAs};
 ghost use Rattle.schedule.specs.Extents.{IsBegin, IsEnd, IsPeriod, IsRect};
-ghost use Rattle.schedule.specs.Numbers.{Writes, IsCoordinate, IsPlain, IsSize};
+ghost use Rattle.schedule.specs.Numbers.{WritesNumber, IsCoordinate, IsPlain, IsSize};
 ghost use Rattle.stable.specs.declared.scripted.Failing.{Failing};
 ghost use Rattle.schedule.specs.Keywords.{failing_text};
 ghost use Rattle.schedule.specs.declared.forms.TheConstants.{SIZES, SMALL_DIGITS};
@@ -171,7 +171,7 @@ fn after_minus(word: &[u8]) -> Option<&[u8]>
 
 /// The number up to `FURTHEST` that the word writes, if it writes one.
 fn size_of_coordinate(word: &[u8]) -> Option<i64>
-    ensures { MatchOption result ((size : ℕ) → ¬ Writes 0 SIZES word.now size)
+    ensures { MatchOption result ((size : ℕ) → ¬ WritesNumber 0 SIZES word.now size)
         (IsSize SIZES word.now) }
 {
     Some(below(SIZES, word)? as i64)
@@ -179,8 +179,8 @@ fn size_of_coordinate(word: &[u8]) -> Option<i64>
 
 /// The number below the limit that the word writes, if it writes one.
 fn below(limit: u64, word: &[u8]) -> Option<u64>
-    ensures { MatchOption result ((value : ℕ) → ¬ Writes 0 limit word.now value)
-        (Writes 0 limit word.now) }
+    ensures { MatchOption result ((value : ℕ) → ¬ WritesNumber 0 limit word.now value)
+        (WritesNumber 0 limit word.now) }
 {
     let value = decimal(word)?;
     if value < limit { Some(value) } else { None }

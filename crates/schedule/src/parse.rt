@@ -4,7 +4,7 @@ ghost use Rattle.std.specs.Prelude.{◌≡◌, [], ◌∷◌, ◌++◌, filter, 
 ghost use Rattle.schedule.specs.Lines.{is_filled};
 ghost use Rattle.schedule.specs.Reading.{IsLaterRefusal, IsLineRefusal};
 ghost use Rattle.schedule.specs.Entries.{entry_of};
-ghost use Rattle.schedule.specs.Schedules.{IsScheduleOf, IsRefusal, IsNoSchedule, SpellEach};
+ghost use Rattle.schedule.specs.Schedules.{IsScheduleOf, IsParseRefusal, IsNoSchedule, SpellEach};
 ghost use Rattle.schedule.specs.Spelling.{Spells};
 
 use super::action::Action;
@@ -24,7 +24,7 @@ use wire::Nodes;
 /// it is faulty. The bytes are read once, from the front.
 pub fn parse_schedule(alloc: Global, bytes: &[u8]) -> Result<Schedule, ParseFault>
     ensures spelled { IfOk result (IsScheduleOf bytes.now) }
-    ensures refused { IfErr result (IsRefusal bytes.now) }
+    ensures refused { IfErr result (IsParseRefusal bytes.now) }
     ensures no_schedule { IfErr result (IsNoSchedule bytes.now) }
 {
     let mut lines = Lines::of(bytes);

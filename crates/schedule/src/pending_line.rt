@@ -3,7 +3,7 @@
 ghost use Rattle.std.specs.Prelude.{MatchResult};
 ghost use Rattle.mfjson.specs.Document.{IsDocumentOf};
 ghost use Rattle.schedule.specs.Table.{NameEach};
-ghost use Rattle.schedule.specs.PendingLines.{Becomes, IsNoDocument, IsNoList, IsNotRead};
+ghost use Rattle.schedule.specs.PendingLines.{Becomes, DocumentWasRefused, IsNoList, IsNotRead};
 ghost use Rattle.schedule.specs.Words.{words_of};
 
 use super::action::Action;
@@ -77,7 +77,7 @@ pub(crate) fn finish_line(
 
 /// The feature that the document stands for, at the line of this number.
 fn feature_of(alloc: Global, number: u64, document: &[u8]) -> Result<Feature, ParseFault>
-    ensures { MatchResult result (IsDocumentOf document.now) (IsNoDocument number document.now) }
+    ensures { MatchResult result (IsDocumentOf document.now) (DocumentWasRefused number document.now) }
 {
     match mfjson::read(alloc, document) {
         Ok(feature) => Ok(feature),

@@ -1,11 +1,11 @@
 //! What one line spells, but for its document.
 
 ghost use Rattle.std.specs.Prelude.{◌≡◌, ◌≤◌, ◌∷◌, ℕ, All, IsTrue, MatchBool, MatchOption, MatchResult};
-ghost use Rattle.schedule.specs.Codes.{IsLowest};
+ghost use Rattle.schedule.specs.Codes.{IsLowestFault};
 ghost use Rattle.schedule.specs.Keywords.{text_of};
 ghost use Rattle.schedule.specs.Rows.{IsWordsFault, in_first_line};
 ghost use Rattle.schedule.specs.Table.{HasFault, HasFirstFault, IsNodesLine, IsPrintable, IsNotPrintable};
-ghost use Rattle.schedule.specs.PendingLines.{Gives, WordsGive};
+ghost use Rattle.schedule.specs.PendingLines.{LineGives, WordsGive};
 
 use super::action::Action;
 use super::fault::ScheduleFault;
@@ -20,7 +20,7 @@ use wire::Nodes;
 
 /// How many nodes the first line says that there are.
 pub(crate) fn nodes_line(text: &[u8]) -> Result<Nodes, ScheduleFault>
-    ensures { MatchResult result (IsNodesLine text.now) (IsLowest (HasFirstFault text.now)) }
+    ensures { MatchResult result (IsNodesLine text.now) (IsLowestFault (HasFirstFault text.now)) }
 {
     if let Some(nodes) = run_size(text) {
         return Ok(nodes);
@@ -68,7 +68,7 @@ fn smallest_run() -> Nodes
 
 /// What a later line spells, its document unread.
 pub(crate) fn later_line<'a>(nodes: Nodes, text: &'a [u8]) -> Result<PendingLine<'a>, ScheduleFault>
-    ensures { MatchResult result (Gives nodes text.now) (IsLowest (HasFault nodes text.now)) }
+    ensures { MatchResult result (LineGives nodes text.now) (IsLowestFault (HasFault nodes text.now)) }
 {
     if !prints(text) {
         return Err(ScheduleFault::NotPrintable);

@@ -3,7 +3,7 @@
 ghost use Rattle.std.specs.Prelude.{◌≡◌, ℕ, ◌<◌, ◌∷◌, [], ◌++◌, length, MatchOption, MatchResult, codes};
 ghost use Rattle.schedule.specs.Rows.{IsFaultAt, IsRowFault, IsWordsFault};
 ghost use Rattle.schedule.specs.Spelling.{SpellsOp};
-ghost use Rattle.schedule.specs.Submissions.{Names, asker_places, asker_words, submit_words};
+ghost use Rattle.schedule.specs.Submissions.{NamesAsker, asker_places, asker_words, submit_words};
 ghost use Rattle.schedule.specs.Table.{HasMisfit, operation_places, submit_of};
 ghost use Rattle.schedule.specs.PendingLines.{WordsGive};
 
@@ -174,7 +174,7 @@ fn removal(words: Words) -> Result<Op, ScheduleFault>
 /// The client that asks.
 fn asker_of(nodes: Nodes, words: AskerWords) -> Option<Asker>
     ensures { MatchOption result (HasMisfit nodes asker_places (asker_words words.entry))
-        (Names nodes words.entry) }
+        (NamesAsker nodes words.entry) }
 {
     Some(Asker {
         node: node(nodes, words.node)?,

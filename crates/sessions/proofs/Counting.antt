@@ -6,7 +6,7 @@ use Rattle.std.proofs.lemmas.Bool.Decides.{nat_tests}
 use Rattle.sessions.specs.Asked.{Asked}
 use Rattle.sessions.specs.declared.command.Command.{Command}
 use Rattle.sessions.specs.declared.command.Command.TheVariants.{NoOp, Request}
-use Rattle.sessions.specs.Meaning.{IsRequestAt, HasCounted, IsNext, IsLawful}
+use Rattle.sessions.specs.Meaning.{IsRequestAt, HasCounted, IsNext, LabellingIsLawful}
 
 -- a labelling with one place labelled anew
 abbrev pub put : (ℕ → Bool) → ℕ → Bool → ℕ → Bool
@@ -52,14 +52,14 @@ same_tests false true f g = g refl
 same_tests false false f g = refl
 
 -- ---- two lawful labellings are one
-lawful_below : (l : List Command) (p q : ℕ → Bool) → IsLawful l p → IsLawful l q → (n i : ℕ) → i < n → p i ≡ q i
+lawful_below : (l : List Command) (p q : ℕ → Bool) → LabellingIsLawful l p → LabellingIsLawful l q → (n i : ℕ) → i < n → p i ≡ q i
 lawful_below l p q f g zero i h = absurd (omega (arith, h))
 lawful_below l p q f g (suc n) i h =
     let same : (j : ℕ) → j < i → p j ≡ q j = λ j k. lawful_below l p q f g n j (omega (arith, h, k)) in
     same_tests (p i) (q i) (λ e. (g i).1 (is_next_by l p q i same ((f i).0 e)))
     (λ e. (f i).1 (is_next_by l q p i (λ j k. sym (same j k)) ((g i).0 e)))
 
-pub one_labelling : (l : List Command) (p q : ℕ → Bool) → IsLawful l p → IsLawful l q → (i : ℕ) → p i ≡ q i
+pub one_labelling : (l : List Command) (p q : ℕ → Bool) → LabellingIsLawful l p → LabellingIsLawful l q → (i : ℕ) → p i ≡ q i
 one_labelling l p q f g i = lawful_below l p q f g (suc i) i (omega arith)
 
 -- ---- it can be told whether a place is to count
@@ -215,7 +215,7 @@ label_before l (suc n) i h = elim (same_number i n) [
       ∙ label_before l n i (omega (arith, h, other))
 ]
 
-pub labelling_is_lawful : (l : List Command) → IsLawful l (labelling l)
+pub labelling_is_lawful : (l : List Command) → LabellingIsLawful l (labelling l)
 labelling_is_lawful l i = (
   λ e. is_next_by l (labels l i) (labelling l) i (label_before l i)
       (tested (is_next_or_not l (labels l i) i) (sym (label_here l i) ∙ e)),

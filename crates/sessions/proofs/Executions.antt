@@ -12,7 +12,7 @@ use Rattle.store.proofs.ValidLemmas.{none_valid, effect_valid}
 use Rattle.sessions.specs.Asked.{Asked}
 use Rattle.sessions.specs.declared.command.Command.{Command}
 use Rattle.sessions.specs.declared.command.Command.TheVariants.{NoOp, Request}
-use Rattle.sessions.specs.Meaning.{Database, empty, HasCounted, IsNext, IsRequestAt, Execution, IsReply, RepliesAt, AreSound, Answers}
+use Rattle.sessions.specs.Meaning.{Database, empty, HasCounted, IsNext, IsRequestAt, Execution, IsReply, RepliesAt, RequestsAreValid, Answers}
 use Rattle.sessions.proofs.Counting.{labelling, labelling_is_lawful, one_labelling, has_counted_by, has_counted_or_not, counted_or_not}
 
 -- ---- each list can be executed
@@ -131,7 +131,7 @@ module _ (l : List Command) (e : Execution l) where
 
 -- ---- one answer to each query
 -- the features stay valid, where what the requests bring is
-module _ (l : List Command) (sound : AreSound l) (e : Execution l) where
+module _ (l : List Command) (sound : RequestsAreValid l) (e : Execution l) where
   valid_next : (i : ℕ) → AreValid (e.before i) → AreValid (e.before (i + 1))
   valid_next i valid = elim (counted_or_not (e.counts i)) [
     | inl counted ↦
@@ -148,7 +148,7 @@ module _ (l : List Command) (sound : AreSound l) (e : Execution l) where
       let more : i + 1 ≡ suc i = omega arith in
       subst (λ n. AreValid (e.before n)) more (valid_next i (valid_before i))
 
-pub one_answer : (l : List Command) (query : Query) (a b : List ℕ) → AreSound l → Answers l query a → Answers l query b →
+pub one_answer : (l : List Command) (query : Query) (a b : List ℕ) → RequestsAreValid l → Answers l query a → Answers l query b →
     a ≡ b
 one_answer l query a b sound p q =
     let end = length l in

@@ -10,7 +10,7 @@ use Rattle.std.proofs.lemmas.List.Elements.{All-from_recursion}
 use Rattle.std.proofs.lemmas.List.Edits.{insert_end}
 use Rattle.mfjson.specs.declared.feature.Feature.{Feature}
 use Rattle.store.specs.Features.{IsDatabase}
-use Rattle.store.specs.Places.{IsGap}
+use Rattle.store.specs.Places.{IsFeatureGap}
 use Rattle.store.specs.declared.db.TheConstants.{MOST_FEATURES}
 use Rattle.store.proofs.DatabaseLemmas.{insert_database}
 use Rattle.sessions.specs.Restoring.{comes_after}
@@ -45,7 +45,7 @@ all_before (f ∷ g ∷ fs) id ascends h =
     let more = all_before (g ∷ fs) id rest h in
     (nat_list_cmp_total.trans f.id g.id id next more.0, more)
 
-pub gap_behind : (fs : List Feature) (id : List ℕ) → IsDatabase fs → comes_after (last_id fs) id ≡ true → IsGap fs id (length fs)
+pub gap_behind : (fs : List Feature) (id : List ℕ) → IsDatabase fs → comes_after (last_id fs) id ≡ true → IsFeatureGap fs id (length fs)
 gap_behind fs id db h = record {
   in_range = omega arith;
   lower = λ k f from to.

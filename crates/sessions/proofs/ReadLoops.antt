@@ -2,7 +2,7 @@
 use Rattle.std.proofs.Common.{◌≡◌, ℕ, suc, ◌-◌, ◌+◌, ◌≤◌, ◌<◌, List, [], ◌∷◌, ◌++◌, Option, Some, Ok, Err, refl, sym, ap, ◌∙◌, arith}
 use Rattle.std.proofs.lemmas.List.{append-nil}
 use Rattle.fields.specs.declared.fault.FieldFault.{FieldFault}
-use Rattle.fields.specs.Reading.{◌>>=◌, Read, Fails}
+use Rattle.fields.specs.Reading.{◌>>=◌, Read, FieldFails}
 use Rattle.fields.proofs.LoopLemmas.{fails_first, regroup, bind_inside}
 pub use Rattle.fields.proofs.LoopLemmas.{with_front, fails_here}
 use Rattle.mfjson.specs.declared.feature.Feature.{Feature}
@@ -27,8 +27,8 @@ features_go_on front count i before bytes f after total lt h so_far =
     sym one ∙ so_far
 
 pub features_end : (e : FieldFault) (front : List Feature) (count i : ℕ) (before : Option (List ℕ)) (bytes : List ℕ)
-    (total : Read (List Feature)) → i < count → Fails e (feature_at before bytes)
-    → with_front front (features_at (count - i) before bytes) ≡ total → Fails e total
+    (total : Read (List Feature)) → i < count → FieldFails e (feature_at before bytes)
+    → with_front front (features_at (count - i) before bytes) ≡ total → FieldFails e total
 unfolding features_at
 features_end e front count i before bytes total lt h so_far =
     let k : count - i ≡ suc (count - (i + 1)) = omega arith in

@@ -19,7 +19,7 @@ use Rattle.fields.specs.declared.fault.FieldFault.TheVariants as faults
 use Rattle.sessions.specs.declared.fault.SnapFault.TheVariants as snap
 use Rattle.sessions.specs.Restoring.{snap_fault}
 use Rattle.fields.specs.Spelling.{id_bytes, sequence_bytes, SequenceFits}
-use Rattle.fields.specs.Reading.{Fails, Read, byte_at, number_at, id_at, sequence_at}
+use Rattle.fields.specs.Reading.{FieldFails, Read, byte_at, number_at, id_at, sequence_at}
 use Rattle.fields.proofs.FieldLemmas.{IsBytes, bind_ok, guard_ok, chosen, ok_is, Takes, Takes-then, Took, number_takes, number_again}
 use Rattle.fields.proofs.FieldLemmas.{back2, back8, byte_takes, from_zero, at_most, is_equal}
 use Rattle.fields.proofs.FieldLaws.{id_takes, id_again, sequence_takes, sequence_again}
@@ -495,7 +495,7 @@ one_machine_of_text m n fits other e =
     λ i. record { features = same.0 i; sessions = sessions i }
 
 -- where a fault is told that isn't want of memory, nothing was read
-pub no_value : {Y : Type 0} (e : FieldFault) (read : Result Y FieldFault) → snap_fault e ≡ snap.Damaged → Fails e read → (x : Y) → read ≢ Ok x
+pub no_value : {Y : Type 0} (e : FieldFault) (read : Result Y FieldFault) → snap_fault e ≡ snap.Damaged → FieldFails e read → (x : Y) → read ≢ Ok x
 no_value faults.Memory read d f x is = absurd (cc d)
 no_value faults.Short read d f x is = absurd (cc (f, is))
 no_value faults.Field read d f x is = absurd (cc (f, is))

@@ -3,7 +3,7 @@
 use Rattle.std.specs.Prelude.{◌≡◌, ◌↔◌, ℕ, ◌+◌, ◌-◌, ◌<◌, ◌≤◌, ◌⊎◌, length, List, [], Bool, true, false, Some, slice_get}
 use Rattle.mfjson.specs.declared.feature.Feature.{Feature}
 use Rattle.store.specs.Answers.{IsAnswer}
-use Rattle.store.specs.Operations.{reply, effect, IsSound}
+use Rattle.store.specs.Operations.{reply, effect, OpIsValid}
 use Rattle.store.specs.Replies.{reply_code}
 use Rattle.store.specs.declared.query.Query.{Query}
 use Rattle.store.specs.declared.reply.Reply.{Reply}
@@ -43,13 +43,13 @@ pub record IsNext (l : List Command) (counts : ℕ → Bool) (i : ℕ) : Type 0 
   pub in_turn : (request.number ≡ 1) ⊎ HasCounted l counts i request.client (request.number - 1)
 
 -- the labelling says of each place whether it counts
-abbrev pub IsLawful : List Command → (ℕ → Bool) → Type 0
-IsLawful l counts = (i : ℕ) → (counts i ≡ true) ↔ IsNext l counts i
+abbrev pub LabellingIsLawful : List Command → (ℕ → Bool) → Type 0
+LabellingIsLawful l counts = (i : ℕ) → (counts i ≡ true) ↔ IsNext l counts i
 
 -- ---- the list is executed
 pub record Execution (l : List Command) : Type 0 where
   pub counts : ℕ → Bool
-  pub lawful : IsLawful l counts
+  pub lawful : LabellingIsLawful l counts
   -- the database before each place
   pub before : ℕ → Database
   pub starts : before 0 ≡ empty
@@ -94,5 +94,5 @@ pub record Answers (l : List Command) (query : Query) (text : List ℕ) : Type 0
   pub says : IsAnswer (execution.before (length l)) query text
 
 -- what each request of the list brings is valid: the sequence of a Put, and the coordinates of an Append
-pub record AreSound (l : List Command) : Type 0 where
-  pub each : (i : ℕ) (r : Asked) → IsRequestAt l i r → IsSound r.op
+pub record RequestsAreValid (l : List Command) : Type 0 where
+  pub each : (i : ℕ) (r : Asked) → IsRequestAt l i r → OpIsValid r.op

@@ -5,7 +5,7 @@ ghost use Rattle.store.specs.Features.{IsDatabase};
 ghost use Rattle.store.specs.declared.query.Query.{Query};
 ghost use Rattle.sessions.specs.Asked.{Asked};
 ghost use Rattle.sessions.specs.Machines.{MachineState, IsMachine};
-ghost use Rattle.sessions.specs.Meaning.{Execution, RepliesAt, Answers, AreSound};
+ghost use Rattle.sessions.specs.Meaning.{Execution, RepliesAt, Answers, RequestsAreValid};
 ghost use Rattle.sessions.specs.Snapshots.{IsSnapshot, MachineFits, snapshot_bytes};
 ghost use Rattle.sessions.specs.Standing.{StandsFor};
 ghost use Rattle.sessions.specs.declared.command.Command.{Command};
@@ -29,7 +29,7 @@ pub fn one_reply_at_each_place()
 /// A list of commands has one answer to a query, byte for byte, where what its requests bring is valid: the sequence
 /// of a Put, and the coordinates of an Append.
 pub fn one_answer_to_each_query()
-    ensures { (l : List Command) (query : Query) (a b : List ℕ) → AreSound l → Answers l query a → Answers l query b
+    ensures { (l : List Command) (query : Query) (a b : List ℕ) → RequestsAreValid l → Answers l query a → Answers l query b
         → a ≡ b }
 {}
 

@@ -1,7 +1,7 @@
 //! The machine of a snapshot text, read from left to right. Each byte is read once, and what is read is moved to its place.
 
 ghost use Rattle.std.specs.Prelude.{◌≡◌, ◌≤◌, ◌<◌, ◌+◌, None, Some, IsTrue, IfOk, OnOk, length, true};
-ghost use Rattle.fields.specs.Reading.{Gives, Tells};
+ghost use Rattle.fields.specs.Reading.{FieldGives, Tells};
 ghost use Rattle.store.specs.Features.{IsDatabase};
 ghost use Rattle.sessions.specs.Restoring.{next_id_at, feature_at, features_at, few_at, all_features_at, comes_after};
 ghost use Rattle.sessions.specs.Restoring.{request_number_at, reply_at, session_at, client_from, clients_at, all_clients_at};
@@ -24,7 +24,7 @@ const MOST_PARTS: u16 = 256;
 pub fn read_snapshot(alloc: Global, bytes: &[u8]) -> Result<(Db, Sessions), FieldFault>
     ensures database { IfOk result (λ x. IsDatabase x.0) }
     ensures clients { IfOk result (λ x. length x.1 ≡ 256) }
-    ensures read { Gives (λ x. (x.0, held x.1)) result (snapshot_at bytes.now) }
+    ensures read { FieldGives (λ x. (x.0, held x.1)) result (snapshot_at bytes.now) }
 {
     let mut input = Input::new(bytes);
     let db = read_features(alloc, &mut input)?;
@@ -39,7 +39,7 @@ pub fn read_snapshot(alloc: Global, bytes: &[u8]) -> Result<(Db, Sessions), Fiel
 #[tactic(auto, unfolding(crate::specs::Restoring::all_features_at))]
 fn read_features(alloc: Global, input: &mut Input) -> Result<Db, FieldFault>
     ensures database { IfOk result IsDatabase }
-    ensures read { Gives (λ x. (x, input.new)) result (all_features_at input.old) }
+    ensures read { FieldGives (λ x. (x, input.new)) result (all_features_at input.old) }
 {
     let count = read_few(input)?;
     read_each_feature(alloc, count, input)
@@ -62,7 +62,7 @@ fn read_few(input: &mut Input) -> Result<u16, FieldFault>
 fn read_each_feature(alloc: Global, count: u16, input: &mut Input) -> Result<Db, FieldFault>
     requires few { count ≤ 256 }
     ensures database { IfOk result IsDatabase }
-    ensures read { Gives (λ x. (x, input.new)) result (features_at count None input.old) }
+    ensures read { FieldGives (λ x. (x, input.new)) result (features_at count None input.old) }
 {
     let mut db = Db::new(alloc);
     let mut before: Option<Id> = None;
@@ -78,7 +78,7 @@ fn read_each_feature(alloc: Global, count: u16, input: &mut Input) -> Result<Db,
 #[tactic(auto, unfolding(crate::specs::Restoring::feature_at))]
 fn read_feature(alloc: Global, before: Option<Id>, input: &mut Input) -> Result<Feature, FieldFault>
     ensures later { IfOk result (λ f. comes_after before f.id ≡ true) }
-    ensures read { Gives (λ x. (x, input.new)) result (feature_at before input.old) }
+    ensures read { FieldGives (λ x. (x, input.new)) result (feature_at before input.old) }
 {
     let id = read_next_id(before, input)?;
     let seq = read_sequence(alloc, MOST_POINTS as u16, input)?;

@@ -19,7 +19,7 @@ use Rattle.std.proofs.lemmas.List.Elements.{All-contains}
 use Rattle.std.proofs.lemmas.List.Kept.{IsStrictlySortedBy-filter}
 use Rattle.std.proofs.lemmas.Map.Entries.{lookup-filter-keys, lookup_at_gap}
 use Rattle.synod.specs.Records.{put}
-use Rattle.slot_table.specs.Places.{AreEmptyTo, AreApart}
+use Rattle.slot_table.specs.Places.{AreEmptyTo, RowIsApart}
 use Rattle.slot_table.specs.Values.{row_from, in_row, in_log, without_below, IsEmptyFrom, IsFirstFrom, IsEmptyBetween}
 
 -- a number is below another, or it isn't
@@ -298,23 +298,23 @@ module _ {V : Type 0} where
   ]
 
 -- ---- the row and the tree
-module _ {V : Type 0} (first : ℕ) (row : List (Option V)) (m n : BTreeMap ℕ V) (apart : AreApart first row m) where
+module _ {V : Type 0} (first : ℕ) (row : List (Option V)) (m n : BTreeMap ℕ V) (apart : RowIsApart first row m) where
   -- a change at a slot that isn't of the row
   pub apart_put : (i : ℕ) (x : Option V) → row_from first row i ≡ None → ((s : ℕ) → get nat_cmp n s ≡ put (get nat_cmp m) i x s)
-      → AreApart first row n
+      → RowIsApart first row n
   apart_put i x none changed s lt = changed (first + s) ∙ elim (eqb_tells (first + s) i) [
     | inl same ↦ absurd (there row s lt (sym (in_its_place first row i s (sym same.1)) ∙ none))
     | inr other ↦ rw other.0 (apart s lt)
   ]
 
   pub apart_tried : {A E : Type 0} (r : Result A E) (i : ℕ) (x : Option V) → row_from first row i ≡ None
-      → OnOk r (Updates nat_cmp m n i x) → OnErr r (n.entries ≡ m.entries) → AreApart first row n
+      → OnOk r (Updates nat_cmp m n i x) → OnErr r (n.entries ≡ m.entries) → RowIsApart first row n
   apart_tried (Ok a) i x none updates same = apart_put i x none (get-updated m n i x updates)
   apart_tried (Err e) i x none updates same = λ s lt. ap (λ es. lookup (is_at (nat_cmp (first + s))) es) same ∙ apart s lt
 
   -- what stood at the next slot of the row goes as it joins it
   pub apart_longer : (more : List (Option V)) (p : Option V) (i : ℕ) → more ≡ row ++ p ∷ [] → i ≡ first + length row
-      → ((s : ℕ) → get nat_cmp n s ≡ put (get nat_cmp m) i None s) → AreApart first more n
+      → ((s : ℕ) → get nat_cmp n s ≡ put (get nat_cmp m) i None s) → RowIsApart first more n
   apart_longer more p i is next changed s lt = changed (first + s) ∙ elim (eqb_tells (first + s) i) [
     | inl same ↦ rw same.0 refl
     | inr other ↦
@@ -332,7 +332,7 @@ module _ {V : Type 0} where
       ∙ others_of row p s (λ e. clash (slice_get row s) None (none_behind row s (omega (arith, e))) (empty s lt)) ∙ empty s lt
 
   -- where all are, the row may go
-  pub cleared : (first : ℕ) (row : List (Option V)) (m : BTreeMap ℕ V) → AreEmptyTo (length row) row → AreApart first row m
+  pub cleared : (first : ℕ) (row : List (Option V)) (m : BTreeMap ℕ V) → AreEmptyTo (length row) row → RowIsApart first row m
       → in_log (in_row first [] (get nat_cmp m)) ≡ in_log (in_row first row (get nat_cmp m))
   cleared first row m empty apart = ap in_log (λ k s. at s k)
     where

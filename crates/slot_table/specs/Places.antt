@@ -8,5 +8,5 @@ abbrev pub AreEmptyTo : {V : Type 0} → ℕ → List (Option V) → Type 0
 AreEmptyTo end row = (s : ℕ) → s < end → slice_get row s ≡ Some None
 
 -- nothing else is kept of the slots of a row that begins at this slot
-abbrev pub AreApart : {V : Type 0} → ℕ → List (Option V) → BTreeMap ℕ V → Type 0
-AreApart first row others = (s : ℕ) → s < length row → get nat_cmp others (first + s) ≡ None
+abbrev pub RowIsApart : {V : Type 0} → ℕ → List (Option V) → BTreeMap ℕ V → Type 0
+RowIsApart first row others = (s : ℕ) → s < length row → get nat_cmp others (first + s) ≡ None

@@ -5,7 +5,7 @@ ghost use Rattle.std.specs.Option.{option_copied};
 ghost use Rattle.std.specs.BTreeMap.{get};
 ghost use Rattle.std.specs.Ordering.{nat_cmp};
 ghost use Rattle.synod.specs.Records.{put};
-ghost use Rattle.slot_table.specs.Places.{AreEmptyTo, AreApart};
+ghost use Rattle.slot_table.specs.Places.{AreEmptyTo, RowIsApart};
 
 use std::alloc::{AllocError, Global};
 use std::collections::BTreeMap;
@@ -29,7 +29,7 @@ pub struct SlotTable<V> {
     // The places of the row before this one hold nothing, and are looked at no more.
     empty: usize,
     ghost vacant: { AreEmptyTo empty row.items },
-    ghost apart: { AreApart from row.items others },
+    ghost apart: { RowIsApart from row.items others },
 }
 
 // By hand, so that a crate that drops one proves nothing of what lies within.

@@ -17,31 +17,31 @@ use Rattle.sqlite_disk.specs.Disk.{MoreFaults}
 use Rattle.sqlite.specs.Held.{Held, state}
 use Rattle.sqlite_rules.specs.Lists.{Has}
 use Rattle.stable.specs.declared.fault.StableFault.{StableFault}
-use Rattle.stable.specs.Records.{IsAscending}
+use Rattle.stable.specs.Records.{KeysAscend}
 use Rattle.stable.specs.Records.{Sets, Trims, without_votes_below}
 use Rattle.stable.specs.Script.{counted}
 use Rattle.stable.specs.ScriptLaws.{counted_before}
 use Rattle.stable.specs.declared.key.Key.{Key}
 use Rattle.sqlstable.specs.Table.{record_schema}
-use Rattle.sqlstable.specs.Rows.{has_key, value_at, AreApart, HasOwnKeys, PutsRow, TrimsRows}
+use Rattle.sqlstable.specs.Rows.{has_key, value_at, RowsAreApart, HasOwnKeys, PutsRow, TrimsRows}
 use Rattle.sqlstable.specs.Lists.{ListsKeys}
-use Rattle.sqlstable.specs.States.{IsSound, IsSettled, IsUsable, Follows, table}
+use Rattle.sqlstable.specs.States.{TableIsSound, TableIsSettled, IsUsable, Follows, table}
 use Rattle.sqlstable.specs.Keys.{spelled, is_valid, vote_key, records_in, HasStray, AreKeysOf, TellsNone}
-use Rattle.sqlstable.specs.Storage.{StaysHonest, Reads, ReadFails, Changes}
+use Rattle.sqlstable.specs.Storage.{StaysHonest, TableReads, TableReadFails, TableChanges}
 use Rattle.sqlstable.specs.declared.storage.SqlStable.{SqlStable}
 use Rattle.sqlstable.proofs.Keys.{puts_records, puts_stray, trims_records, trims_stray, at_most_all, keys_tell, keys_ascend, stray_row, no_stray_row}
 
 Schema-set : IsSet Schema
 Schema-set = Coded-set schema_row.the_row.coded
 
-IsSound-prop : (s : State) → IsProp (IsSound s)
+IsSound-prop : (s : State) → IsProp (TableIsSound s)
 IsSound-prop s a b = λ i. record {
   schema = Schema-set s.now.schema record_schema a.schema b.schema i;
   autocommit = Bool-set s.in_transaction false a.autocommit b.autocommit i;
   committed_schema = Schema-set s.committed.schema record_schema a.committed_schema b.committed_schema i;
   committed = rows_set (s.committed.trees 0) (s.now.trees 0) a.committed b.committed i;
   listed = ¬_prop a.listed b.listed i;
-  own_keys = IsAscending-prop AreApart (λ x y. Π_prop (λ k. Π_prop (λ h. Bool-set (has_key k y) false)))
+  own_keys = IsAscending-prop RowsAreApart (λ x y. Π_prop (λ k. Π_prop (λ h. Bool-set (has_key k y) false)))
       (s.now.trees 0) a.own_keys b.own_keys i;
   numbered = AllByRecursion-prop (λ r. is_int (rowid r) ≡ true) (λ r. Bool-set (is_int (rowid r)) true)
       (s.now.trees 0) a.numbered b.numbered i;
@@ -49,10 +49,10 @@ IsSound-prop s a b = λ i. record {
       (s.now.trees 0) a.own_numbers b.own_numbers i;
 }
 
-IsSettled-prop : (s : State) → IsProp (IsSettled s)
+IsSettled-prop : (s : State) → IsProp (TableIsSettled s)
 IsSettled-prop s = Π_prop (λ clean. Π_prop (λ now. IsSound-prop s))
 
-pub settled_is : (s : State) → ∥ IsSettled s ∥₁ → IsSettled s
+pub settled_is : (s : State) → ∥ TableIsSettled s ∥₁ → TableIsSettled s
 settled_is s h = ∥∥₁_elim h (IsSettled-prop s) (λ x. x)
 
 module _ {S : Type 0} (g : Ghosts S) (a : SqlStable S g) (now : Held S) where
@@ -62,7 +62,7 @@ module _ {S : Type 0} (g : Ghosts S) (a : SqlStable S g) (now : Held S) where
   abbrev new : State
   new = state g now
 
-  pub sound_before : Follows old new → IsUsable new → IsSound old
+  pub sound_before : Follows old new → IsUsable new → TableIsSound old
   sound_before f usable = settled_is old a.settled (f.clean usable.0) (f.was_open usable.0 usable.1)
 
   pub usable_before : Follows old new → IsUsable new → IsUsable old
@@ -83,8 +83,8 @@ module _ {S : Type 0} (g : Ghosts S) (a : SqlStable S g) (now : Held S) where
   }
 
   -- a call that read
-  pub read_made : (b : SqlStable S g) → Follows old new → (IsUsable new → IsSound old → table new ≡ table old) → b.connection ≡ now
-      → b.failures ≡ a.failures → Reads g a b
+  pub read_made : (b : SqlStable S g) → Follows old new → (IsUsable new → TableIsSound old → table new ≡ table old) → b.connection ≡ now
+      → b.failures ≡ a.failures → TableReads g a b
   read_made b f same is counts = record {
     disk = stays_honest b f is;
     honest = λ h. record {
@@ -97,8 +97,8 @@ module _ {S : Type 0} (g : Ghosts S) (a : SqlStable S g) (now : Held S) where
   }
 
   -- a call on which the device failed
-  pub read_failed : (b : SqlStable S g) → Follows old new → (IsUsable new → IsSound old → table new ≡ table old) → b.connection ≡ now
-      → b.failures ≡ counted a.failures → ReadFails g a b
+  pub read_failed : (b : SqlStable S g) → Follows old new → (IsUsable new → TableIsSound old → table new ≡ table old) → b.connection ≡ now
+      → b.failures ≡ counted a.failures → TableReadFails g a b
   read_failed b f same is counts = record {
     disk = stays_honest b f is;
     honest = λ h. record {
@@ -111,8 +111,8 @@ module _ {S : Type 0} (g : Ghosts S) (a : SqlStable S g) (now : Held S) where
   }
 
   pub put_made : (key : Key) (bytes : List ℕ) (b : SqlStable S g) → is_valid key ≡ true → Follows old new
-      → (IsUsable new → IsSound old → PutsRow (spelled key) bytes (table old) (table new)) → b.connection ≡ now
-      → b.failures ≡ a.failures → Changes g a (Sets key bytes) b
+      → (IsUsable new → TableIsSound old → PutsRow (spelled key) bytes (table old) (table new)) → b.connection ≡ now
+      → b.failures ≡ a.failures → TableChanges g a (Sets key bytes) b
   put_made key bytes b valid f made is counts = record {
     disk = stays_honest b f is;
     honest = λ h. record {
@@ -129,8 +129,8 @@ module _ {S : Type 0} (g : Ghosts S) (a : SqlStable S g) (now : Held S) where
   }
 
   pub trim_done : (below end : ℕ) (b : SqlStable S g) → end ≡ min below 65536 → Follows old new
-      → (IsUsable new → IsSound old → TrimsRows (0x56 ∷ []) (vote_key end) (table old) (table new)) → b.connection ≡ now
-      → b.failures ≡ a.failures → Changes g a (Trims below) b
+      → (IsUsable new → TableIsSound old → TrimsRows (0x56 ∷ []) (vote_key end) (table old) (table new)) → b.connection ≡ now
+      → b.failures ≡ a.failures → TableChanges g a (Trims below) b
   trim_done below end b at f made is counts = record {
     disk = stays_honest b f is;
     honest = λ h. record {
@@ -164,7 +164,7 @@ module _ {X : Type 0} (keys_of : X → List Key) (rows_before rows slice : List 
   if_told (Err e) told l = tt
 
   pub if_ascending : (r : Result X StableFault) → IfOk r (λ x. AreKeysOf slice (keys_of x)) → ListsKeys rows_before rows
-      → IfOk r (λ x. IsAscending (keys_of x))
+      → IfOk r (λ x. KeysAscend (keys_of x))
   if_ascending (Ok x) told l = keys_ascend rows_before rows (keys_of x) own l (subst (λ rs. AreKeysOf rs (keys_of x)) same told)
   if_ascending (Err e) told l = tt
 

@@ -21,7 +21,7 @@ use Rattle.sqlstable.proofs.Selects.{pairwise_permuted}
 use Rattle.sqlite_rules.proofs.ListLemmas.{all_has, all_from}
 use Rattle.sqlstable.specs.Rows.{is_bytes, Differ, HasOwnKeys, HasOwnNumbers, AreNumbered}
 use Rattle.sqlstable.specs.Lists.{rises, RisesTo, AreRising, AreSoundRows, HaveOwnNumbers, ListsKeys, key_row}
-use Rattle.sqlstable.specs.States.{IsSound, IsUsable, table}
+use Rattle.sqlstable.specs.States.{TableIsSound, IsUsable, table}
 use Rattle.sqlite.specs.State.{State}
 use Rattle.sqlite.specs.Effect.{Database}
 use Rattle.std.proofs.lemmas.Fmt.{decimal_digit}
@@ -141,7 +141,7 @@ listed_is = ap schema_with (sym (decimal_digit 1 (omega arith)))
 -- the list of keys shows that the table is sound, and leaves its rows
 pub found_sound : (before after : State) (rows slice : List Row) → before.now.schema ≡ record_schema → ListsKeys (table before) rows
     → IsUnchanged before after
-    → IsLive before → after.in_transaction ≡ false → after.now ≡ after.committed → slice ≡ rows → AreSoundRows slice → HaveOwnNumbers slice → IsSound after
+    → IsLive before → after.in_transaction ≡ false → after.now ≡ after.committed → slice ≡ rows → AreSoundRows slice → HaveOwnNumbers slice → TableIsSound after
     × (table after ≡ table before)
 found_sound before after rows slice has l same live auto settled is sound own =
     let now = same.0.now_is in
@@ -179,7 +179,7 @@ those_held image before found opens holds finds rows held = ∥∥₁_elim held 
     ])
 
 -- a storage that is closed leaves its rows
-pub closed_holds : (image : Image) (last : State) → IsSound last → HoldsAlone image last.committed.trees → HoldRowsAlone image (table last)
+pub closed_holds : (image : Image) (last : State) → TableIsSound last → HoldsAlone image last.committed.trees → HoldRowsAlone image (table last)
 closed_holds image last sound holds = record {
   both = ∥∥₁_map holds.both (λ there. (last.committed.trees, there, sound.listed, sound.committed));
   alone = ∥∥₁_map holds.alone (λ there. (last.committed.trees, there, sound.listed, sound.committed));

@@ -41,7 +41,7 @@ use Rattle.sqlite.specs.Rows.{Written, Upserts, Updates, Puts, Clears, Meets}
 use Rattle.sqlite.proofs.Callers.{one_permutation}
 use Rattle.sqlstable.specs.Table.{record_table, record_schema}
 use Rattle.sqlite_rules.specs.Edit.{is_taken}
-use Rattle.sqlstable.specs.Rows.{is_bytes, has_key, value_at, AreApart, HasOwnKeys, HasOwnNumbers, AreNumbered, PutsRow}
+use Rattle.sqlstable.specs.Rows.{is_bytes, has_key, value_at, RowsAreApart, HasOwnKeys, HasOwnNumbers, AreNumbered, PutsRow}
 use Rattle.sqlstable.specs.Texts.{put_clause}
 use Rattle.sqlstable.proofs.Puts.{goes_in, cast_int}
 use Rattle.sqlstable.proofs.Sets.{outputs, set_row, sets, set_program}
@@ -74,17 +74,17 @@ or_false false = refl
 
 -- ---- one row goes into rows that have not its key
 
-own-put_row : (new : Row) (rows : List Row) → HasOwnKeys rows → AllByRecursion (λ r. AreApart r new) rows → HasOwnKeys (put_row new rows)
+own-put_row : (new : Row) (rows : List Row) → HasOwnKeys rows → AllByRecursion (λ r. RowsAreApart r new) rows → HasOwnKeys (put_row new rows)
 own-put_row new [] own apart = (tt, tt)
 own-put_row new (r ∷ rs) own apart =
     elim (value_cmp (rowid r) (rowid new)) as (λ o. HasOwnKeys (match_ordering o (r ∷ put_row new rs) (new ∷ rs) (new ∷ r ∷ rs))) [
-      | Less ↦ (all-put_row (AreApart r) new rs apart.0 own.0, own-put_row new rs own.1 apart.1)
+      | Less ↦ (all-put_row (RowsAreApart r) new rs apart.0 own.0, own-put_row new rs own.1 apart.1)
       | Equal ↦ (others, own.1)
       | Greater ↦ ((apart_back r new apart.0, others), own)
     ]
   where
-    others : AllByRecursion (AreApart new) rs
-    others = all_from (AreApart new) rs (λ s h. apart_back s new (all_has (λ r. AreApart r new) rs s apart.1 h))
+    others : AllByRecursion (RowsAreApart new) rs
+    others = all_from (RowsAreApart new) rs (λ s h. apart_back s new (all_has (λ r. RowsAreApart r new) rs s apart.1 h))
 
 -- the same of their numbers, where the new row's is free
 own-number_row : (new : Row) (rows : List Row) → HasOwnNumbers rows → AllByRecursion (λ r. rowid r ≢ rowid new) rows
@@ -116,7 +116,7 @@ pub goes_to : (id : ℤ) (k v : List ℕ) (old left : List Row) → HasOwnKeys l
 goes_to id k v old left own numbered own_numbers none from stays fresh =
     let n = row_of id k v in
     record {
-      own_keys = own-put_row n left own (all_from (λ r. AreApart r n) left (λ r h. apart_back n r (λ q is.
+      own_keys = own-put_row n left own (all_from (λ r. RowsAreApart r n) left (λ r h. apart_back n r (λ q is.
           let same : k ≡ q = (bytes_eq-Decides k q).0 is in subst (λ b. has_key b r ≡ false) same (none r h))));
       numbered = all-put_row (λ r. is_int (rowid r) ≡ true) n left refl numbered;
       own_numbers = own-number_row n left own_numbers (free_number n left fresh);
@@ -243,7 +243,7 @@ module _ (k v : List ℕ) (rows : List Row) (own : HasOwnKeys rows) (numbered : 
     ]
 
     updated : are_fresh left (row_of id k v ∷ []) ≡ true → PutsRow k v rows (put_all left (row_of id k v ∷ []))
-    updated fresh = goes_to id k v rows left (ascending-filter AreApart _ rows own) (all-filter _ _ rows numbered)
+    updated fresh = goes_to id k v rows left (ascending-filter RowsAreApart _ rows own) (all-filter _ _ rows numbered)
         (ascending-filter (λ a b. rowid a ≢ rowid b) _ rows own_numbers) left_apart
         (λ r h. (left_was r h).0) stays_left fresh
 

@@ -23,7 +23,7 @@ use Rattle.sqlite.specs.Effect.{Database}
 use Rattle.sqlite.specs.State.{State, mode_of, Writes, Executes}
 use Rattle.sqlite.proofs.Callers.{runs_as, one_step, statement_of}
 use Rattle.sqlstable.specs.Table.{record_table, record_schema, no_schema}
-use Rattle.sqlstable.specs.Texts.{IsMaking, IsPut, put_command, put_clause}
+use Rattle.sqlstable.specs.Texts.{IsMaking, StatementPuts, put_command, put_clause}
 
 either : (b : Bool) (x : Value) → cond b x x ≡ x
 either true x = refl
@@ -86,7 +86,7 @@ judged_upserts task new db one None h = h
 judged_upserts task new db one (Some why) h = absurd (let e = h in cc)
 
 -- a put is one row that goes in, or that takes the place of the rows with its key
-pub puts : (sql : List ℕ) (put : IsPut sql) (old new : State) (k v : List ℕ) (count : ℕ) → old.now.schema ≡ record_schema
+pub puts : (sql : List ℕ) (put : StatementPuts sql) (old new : State) (k v : List ℕ) (count : ℕ) → old.now.schema ≡ record_schema
     → Executes sql (Blob k ∷ Blob v ∷ []) old new (Ok count)
     → (new.now.schema ≡ record_schema) × (one : Written) × (new.now.trees ≡ one.trees)
     × Upserts (task_of old.step_limit old k v) Abort (fresh_row (old.now.trees 0) k v) old.now.trees (put_clause ∷ []) (Ok one)

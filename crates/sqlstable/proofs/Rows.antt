@@ -7,7 +7,7 @@ use Rattle.sqlite_value.specs.declared.value.Value.TheVariants.{Null, Int, Real,
 use Rattle.sqlite_value.specs.Order.{Row, column, bytes}
 use Rattle.sqlite_rules.specs.Lists.{Has}
 use Rattle.sqlite_rules.proofs.ListLemmas.{all_has}
-use Rattle.sqlstable.specs.Rows.{is_bytes, has_key, value_at, AreApart, HasOwnKeys}
+use Rattle.sqlstable.specs.Rows.{is_bytes, has_key, value_at, RowsAreApart, HasOwnKeys}
 
 -- bytes are a blob of their own
 pub blob_is : (k : List ℕ) (v : Value) → is_bytes k v ≡ true → v ≡ Blob k
@@ -20,7 +20,7 @@ blob_is k (Blob b) h = ap Blob ((bytes_eq-Decides b k).0 h)
 pub is_bytes-self : (k : List ℕ) → is_bytes k (Blob k) ≡ true
 is_bytes-self k = (bytes_eq-Decides k k).1 refl
 
-pub apart_back : (a b : Row) → AreApart a b → AreApart b a
+pub apart_back : (a b : Row) → RowsAreApart a b → RowsAreApart b a
 apart_back a b apart k h = elim (cases_Bool (has_key k a)) [ inl hit ↦ absurd (true≢false (sym h ∙ apart k hit)) | inr none ↦ none ]
 
 -- two rows with one key are one row
@@ -29,9 +29,9 @@ pub same_row : (rows : List Row) (k : List ℕ) (a b : Row) → HasOwnKeys rows 
 same_row [] k a b own x y p q = absurd x
 same_row (r ∷ rs) k a b own (inl x) (inl y) p q = x ∙ sym y
 same_row (r ∷ rs) k a b own (inl x) (inr y) p q =
-    absurd (true≢false (sym q ∙ all_has (AreApart r) rs b own.0 y k (subst (λ c. has_key k c ≡ true) x p)))
+    absurd (true≢false (sym q ∙ all_has (RowsAreApart r) rs b own.0 y k (subst (λ c. has_key k c ≡ true) x p)))
 same_row (r ∷ rs) k a b own (inr x) (inl y) p q =
-    absurd (true≢false (sym p ∙ all_has (AreApart r) rs a own.0 x k (subst (λ c. has_key k c ≡ true) y q)))
+    absurd (true≢false (sym p ∙ all_has (RowsAreApart r) rs a own.0 x k (subst (λ c. has_key k c ≡ true) y q)))
 same_row (r ∷ rs) k a b own (inr x) (inr y) p q = same_row rs k a b own.1 x y p q
 
 pub value_none : (k : List ℕ) (rows : List Row) → ((r : Row) → Has rows r → has_key k r ≡ false) → value_at k rows ≡ None

@@ -29,7 +29,7 @@ use Rattle.sqlite.specs.declared.error.Error.{Error}
 use Rattle.sqlstable.specs.Table.{record_schema}
 use Rattle.sqlstable.specs.Rows.{is_bytes, has_key, HasOwnKeys, Differ}
 use Rattle.sqlstable.specs.Lists.{key_row, ListsKeys, TellsValue}
-use Rattle.sqlstable.specs.States.{IsSound, table}
+use Rattle.sqlstable.specs.States.{TableIsSound, table}
 use Rattle.sqlstable.specs.Texts.{IsLookup, IsListing, get_query, keys_query}
 use Rattle.sqlstable.proofs.OnePut.{equal_is}
 use Rattle.sqlstable.proofs.Rows.{value_none, value_has}
@@ -199,7 +199,7 @@ lists sql listing old new rows has h =
     (subst (λ ks. IsPermutation ks a.ordered) kept a.same) a.sorted)
 
 module _ (sql : List ℕ) (old new : State) {X : Type 0} (rows_in : X → List Row) where
-  pub if_tells : IsLookup sql → (k : List ℕ) (r : Result X Error) → IsSound old
+  pub if_tells : IsLookup sql → (k : List ℕ) (r : Result X Error) → TableIsSound old
       → IfOk r (λ x. Shown sql (Blob k ∷ []) old new (rows_in x)) → IfOk r (λ x. TellsValue k (table old) (rows_in x))
   if_tells lookup k (Ok x) s h = tells sql lookup k old new (rows_in x) s.schema s.own_keys h
   if_tells lookup k (Err e) s h = tt

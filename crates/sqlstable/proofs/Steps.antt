@@ -17,9 +17,9 @@ use Rattle.sqlite.specs.State.{State, HasCleanDisk, Executes, IsUnchanged, Fails
 use Rattle.sqlite.specs.Listing.{understood}
 use Rattle.sqlite.proofs.Callers.{runs_as, IsPlain}
 use Rattle.sqlstable.specs.Table.{record_schema, no_schema}
-use Rattle.sqlstable.specs.States.{Leaves, IsSound, table, Follows, IsUsable}
+use Rattle.sqlstable.specs.States.{Leaves, TableIsSound, table, Follows, IsUsable}
 use Rattle.sqlstable.specs.Rows.{HasOwnKeys, HasOwnNumbers, AreNumbered, PutsRow}
-use Rattle.sqlstable.specs.Texts.{IsMaking, IsPut, put_command}
+use Rattle.sqlstable.specs.Texts.{IsMaking, StatementPuts, put_command}
 use Rattle.sqlstable.proofs.Listed.{lists_something}
 use Rattle.sqlstable.proofs.Kept.{not_run, refused_keeps, executes_open}
 use Rattle.sqlstable.proofs.Puts.{puts, creates}
@@ -30,7 +30,7 @@ module _ (old new : State) where
   kept_open (inl h) now = h.0.was_open
   kept_open (inr h) now = h.was_open now
 
-  pub kept_sound : Leaves old new → IsTrue new.is_open → IsSound old → IsSound new × (table new ≡ table old)
+  pub kept_sound : Leaves old new → IsTrue new.is_open → TableIsSound old → TableIsSound new × (table new ≡ table old)
   kept_sound (inl h) now s =
       let same : table new ≡ table old = ap (λ (d : Database). d.trees 0) h.0.now_is in (
         record {
@@ -63,15 +63,15 @@ module _ (old new : State) where
 
   -- ---- the put
 
-  module _ (sql : List ℕ) (put : IsPut sql) (k v : List ℕ) where
-    pub put_made : (count : ℕ) → IsSound old → Executes sql (Blob k ∷ Blob v ∷ []) old new (Ok count) → PutsRow k v (table old) (table new)
+  module _ (sql : List ℕ) (put : StatementPuts sql) (k v : List ℕ) where
+    pub put_made : (count : ℕ) → TableIsSound old → Executes sql (Blob k ∷ Blob v ∷ []) old new (Ok count) → PutsRow k v (table old) (table new)
     put_made count s h =
         let p = puts sql put old new k v count s.schema h in
         let one = one_put old.step_limit (mode_of old).keys (Blob k ∷ Blob v ∷ [])
         (next_rowid (old.now.trees 0)) k v old.now.trees p.1 s.own_keys s.numbered s.own_numbers refl p.3 in
         subst (PutsRow k v (table old)) (sym (ap (λ (t : Trees). t 0) p.2)) one
 
-    pub put_sound : (count : ℕ) → IsSound old → Executes sql (Blob k ∷ Blob v ∷ []) old new (Ok count) → IsSound new
+    pub put_sound : (count : ℕ) → TableIsSound old → Executes sql (Blob k ∷ Blob v ∷ []) old new (Ok count) → TableIsSound new
     put_sound count s h =
         let w = runs_as sql (Blob k ∷ Blob v ∷ []) old new record_schema s.schema put_command put.command put.bare count h in
         let p = puts sql put old new k v count s.schema h in
@@ -89,16 +89,16 @@ module _ (old new : State) where
           listed = λ none. lists_something new.now p.0 w.sound (ap (λ (d : Database). d.trees catalog_tree) (sym done) ∙ none);
         }
 
-    pub step_sound : (r : Result ℕ Error) → Executes sql (Blob k ∷ Blob v ∷ []) old new r → IsTrue new.is_open → IsSound old → IsSound new
+    pub step_sound : (r : Result ℕ Error) → Executes sql (Blob k ∷ Blob v ∷ []) old new r → IsTrue new.is_open → TableIsSound old → TableIsSound new
     step_sound (Ok count) h now s = put_sound count s h
     step_sound (Err e) h now s = (kept_sound (refused_keeps old new sql _ e h) now s).0
 
-    pub step_made : (r : Result ℕ Error) → Executes sql (Blob k ∷ Blob v ∷ []) old new r → IsSound old
+    pub step_made : (r : Result ℕ Error) → Executes sql (Blob k ∷ Blob v ∷ []) old new r → TableIsSound old
         → OnOk r (PutsRow k v (table old) (table new))
     step_made (Ok count) h s = put_made count s h
     step_made (Err e) h s = tt
 
-    pub step_refused : (r : Result ℕ Error) → Executes sql (Blob k ∷ Blob v ∷ []) old new r → IsTrue new.is_open → IsSound old
+    pub step_refused : (r : Result ℕ Error) → Executes sql (Blob k ∷ Blob v ∷ []) old new r → IsTrue new.is_open → TableIsSound old
         → OnErr r (table new ≡ table old)
     step_refused (Ok count) h now s = tt
     step_refused (Err e) h now s = (kept_sound (refused_keeps old new sql _ e h) now s).1
@@ -138,7 +138,7 @@ module _ (old new : State) where
 
   -- ---- what a caller keeps
 
-  pub put_follows : (sql : List ℕ) (put : IsPut sql) (k v : List ℕ) (r : Result ℕ Error) → (HasCleanDisk new → HasCleanDisk old)
+  pub put_follows : (sql : List ℕ) (put : StatementPuts sql) (k v : List ℕ) (r : Result ℕ Error) → (HasCleanDisk new → HasCleanDisk old)
       → (old.faults ≤ new.faults)
       → (HasCleanDisk new → IsTrue old.is_open → IsTrue new.is_open ⊎ MoreFaults old.faults new.faults)
       → (HasCleanDisk new → Executes sql (Blob k ∷ Blob v ∷ []) old new r) → Follows old new
@@ -158,7 +158,7 @@ module _ (old new : State) where
     query_open (Err e) ok err now = kept_open (query_fails sql params e err) now
 
     pub query_keeps : (r : Result X Error) → IfOk r (λ x. Shown sql params old new (rows_in x))
-        → IfErr r (FailsToQuery sql params old new) → IsSound old → Leaves old new
+        → IfErr r (FailsToQuery sql params old new) → TableIsSound old → Leaves old new
     query_keeps (Ok x) ok err s = shown_keeps sql params record_schema s.schema plain (rows_in x) ok
     query_keeps (Err e) ok err s = query_fails sql params e err
 
@@ -177,13 +177,13 @@ module _ (old new : State) where
     }
 
     pub query_same : (r : Result X Error) → (HasCleanDisk new → IfOk r (λ x. Shown sql params old new (rows_in x)))
-        → (HasCleanDisk new → IfErr r (FailsToQuery sql params old new)) → IsUsable new → IsSound old → table new ≡ table old
+        → (HasCleanDisk new → IfErr r (FailsToQuery sql params old new)) → IsUsable new → TableIsSound old → table new ≡ table old
     query_same r ok err usable s = (kept_sound (query_keeps r (ok usable.0) (err usable.0) s) usable.1 s).1
 
   -- ---- the table is made
 
   pub create_sound : (sql : List ℕ) (making : IsMaking sql) (r : Result ℕ Error) → old.now.schema ≡ no_schema
-      → old.in_transaction ≡ false → Executes sql [] old new r → OnOk r (IsSound new × (table new ≡ []))
+      → old.in_transaction ≡ false → Executes sql [] old new r → OnOk r (TableIsSound new × (table new ≡ []))
   create_sound sql making (Err e) has auto h = tt
   create_sound sql making (Ok count) has auto h =
       let w = runs_as sql [] old new no_schema has CreateTable making.command making.bare count h in

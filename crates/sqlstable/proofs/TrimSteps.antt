@@ -8,7 +8,7 @@ use Rattle.sqlite.specs.Effect.{Database}
 use Rattle.sqlite.specs.State.{State, HasCleanDisk, Executes}
 use Rattle.sqlite.proofs.Callers.{runs_as}
 use Rattle.sqlstable.specs.Table.{record_schema}
-use Rattle.sqlstable.specs.States.{IsSound, table, Follows}
+use Rattle.sqlstable.specs.States.{TableIsSound, table, Follows}
 use Rattle.sqlstable.specs.Rows.{TrimsRows}
 use Rattle.sqlstable.specs.Texts.{IsTrim}
 use Rattle.sqlstable.proofs.Listed.{lists_something}
@@ -18,14 +18,14 @@ use Rattle.sqlstable.proofs.Trims.{takes_out, trimmed}
 
 module _ (old new : State) where
   module _ (sql : List ℕ) (trim : IsTrim sql) (high : List ℕ) where
-    pub trim_made : (count : ℕ) → IsSound old → Executes sql (Blob high ∷ []) old new (Ok count)
+    pub trim_made : (count : ℕ) → TableIsSound old → Executes sql (Blob high ∷ []) old new (Ok count)
         → TrimsRows (0x56 ∷ []) high (table old) (table new)
     trim_made count s h =
         let t = takes_out sql trim old new high count s.schema h in
         subst (TrimsRows (0x56 ∷ []) high (table old)) (sym t.5)
         (trimmed high (table old) s.own_keys s.numbered s.own_numbers t.1 t.2 t.3 t.4)
 
-    pub trim_sound : (count : ℕ) → IsSound old → Executes sql (Blob high ∷ []) old new (Ok count) → IsSound new
+    pub trim_sound : (count : ℕ) → TableIsSound old → Executes sql (Blob high ∷ []) old new (Ok count) → TableIsSound new
     trim_sound count s h =
         let w = runs_as sql (Blob high ∷ []) old new record_schema s.schema _ trim.command trim.bare count h in
         let t = takes_out sql trim old new high count s.schema h in
@@ -43,16 +43,16 @@ module _ (old new : State) where
           listed = λ none. lists_something new.now t.0 w.sound (ap (λ (d : Database). d.trees catalog_tree) (sym done) ∙ none);
         }
 
-    trim_step : (r : Result ℕ Error) → Executes sql (Blob high ∷ []) old new r → IsTrue new.is_open → IsSound old → IsSound new
+    trim_step : (r : Result ℕ Error) → Executes sql (Blob high ∷ []) old new r → IsTrue new.is_open → TableIsSound old → TableIsSound new
     trim_step (Ok count) h now s = trim_sound count s h
     trim_step (Err e) h now s = (kept_sound old new (refused_keeps old new sql _ e h) now s).0
 
-    pub trim_shown : (r : Result ℕ Error) → Executes sql (Blob high ∷ []) old new r → IsSound old
+    pub trim_shown : (r : Result ℕ Error) → Executes sql (Blob high ∷ []) old new r → TableIsSound old
         → OnOk r (TrimsRows (0x56 ∷ []) high (table old) (table new))
     trim_shown (Ok count) h s = trim_made count s h
     trim_shown (Err e) h s = tt
 
-    pub trim_refused : (r : Result ℕ Error) → Executes sql (Blob high ∷ []) old new r → IsTrue new.is_open → IsSound old
+    pub trim_refused : (r : Result ℕ Error) → Executes sql (Blob high ∷ []) old new r → IsTrue new.is_open → TableIsSound old
         → OnErr r (table new ≡ table old)
     trim_refused (Ok count) h now s = tt
     trim_refused (Err e) h now s = (kept_sound old new (refused_keeps old new sql _ e h) now s).1

@@ -35,7 +35,7 @@ use Rattle.sqlite.specs.Rows.{Written}
 use Rattle.sqlite.specs.State.{State, mode_of, Executes}
 use Rattle.sqlite.specs.Listing.{understood}
 use Rattle.sqlite.proofs.Callers.{one_step, runs_as, statement_of}
-use Rattle.sqlstable.specs.Rows.{AreApart, AreNumbered, HasOwnKeys, HasOwnNumbers, TrimsRows, goes, is_between}
+use Rattle.sqlstable.specs.Rows.{RowsAreApart, AreNumbered, HasOwnKeys, HasOwnNumbers, TrimsRows, goes, is_between}
 use Rattle.sqlstable.specs.Table.{record_schema, record_table}
 use Rattle.sqlstable.specs.Texts.{IsTrim, trim_query}
 use Rattle.sqlstable.proofs.OnePut.{alike, int_tied}
@@ -210,7 +210,7 @@ module _ (high : List ℕ) (old : List Row) (own : HasOwnKeys old) (numbered : A
 
   pub trimmed : TrimsRows low high old (without_all old (ids_of rows))
   trimmed = record {
-    own_keys = ascending_left AreApart (ids_of rows) old own;
+    own_keys = ascending_left RowsAreApart (ids_of rows) old own;
     numbered = all_left (λ r. is_int (rowid r) ≡ true) (ids_of rows) old numbered;
     own_numbers = ascending_left (λ a b. rowid a ≢ rowid b) (ids_of rows) old own_numbers;
     kept = λ r h is. stays (ids_of rows) old r h (λ id x. elim (cases_Bool (has_rowid id r)) [

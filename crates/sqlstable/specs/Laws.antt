@@ -9,7 +9,7 @@ use Rattle.stable.specs.ScriptLaws.{counted_before, counted_more}
 use Rattle.stable.specs.Storages.{IsLawful}
 use Rattle.stable.specs.StrayLaws.{stray_same, stray_after, stray_before}
 use Rattle.sqlstable.specs.Keys.{records_in, HasStray}
-use Rattle.sqlstable.specs.Storage.{in_table, Reads, StaysHonest}
+use Rattle.sqlstable.specs.Storage.{in_table, TableReads, StaysHonest}
 use Rattle.sqlstable.specs.declared.storage.SqlStable.{SqlStable}
 
 same_strays : {a b : List Row} → b ≡ a → HasStray b ↔ HasStray a
@@ -47,7 +47,7 @@ stays_none : {S : Type 0} (g : Ghosts S) (a : SqlStable S g) → StaysHonest g a
 stays_none g a = record { clean = λ h. h; faults = omega arith; stays = λ h some honest. inl honest }
 
 -- two readings are one
-reads_one : {S : Type 0} (g : Ghosts S) (a b c : SqlStable S g) → Reads g a b → Reads g b c → Reads g a c
+reads_one : {S : Type 0} (g : Ghosts S) (a b c : SqlStable S g) → TableReads g a b → TableReads g b c → TableReads g a c
 reads_one g a b c r s = record {
   disk = stays_both g a b c r.disk s.disk (λ some. subst IsSome s.failures some);
   honest = λ h. r.honest (s.honest h);

@@ -32,12 +32,12 @@ abbrev pub Differ : Value → Value → Type 0
 Differ v w = (k : List ℕ) → is_bytes k v ≡ true → is_bytes k w ≡ false
 
 -- no key is that of both rows
-abbrev pub AreApart : Row → Row → Type 0
-AreApart a b = (k : List ℕ) → has_key k a ≡ true → has_key k b ≡ false
+abbrev pub RowsAreApart : Row → Row → Type 0
+RowsAreApart a b = (k : List ℕ) → has_key k a ≡ true → has_key k b ≡ false
 
 -- no key comes twice
 abbrev pub HasOwnKeys : List Row → Type 0
-HasOwnKeys = IsAscending AreApart
+HasOwnKeys = IsAscending RowsAreApart
 
 -- each row has a number
 abbrev pub AreNumbered : List Row → Type 0

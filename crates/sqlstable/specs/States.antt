@@ -20,7 +20,7 @@ abbrev pub Leaves : State → State → Type 0
 Leaves old new = IsUnchanged old new ⊎ IsRolledBack old new
 
 -- the table is there and nothing else, its keys differ, its rows have numbers that differ, and all is committed
-pub record IsSound (s : State) : Type 0 where
+pub record TableIsSound (s : State) : Type 0 where
   pub schema : s.now.schema ≡ record_schema
   pub autocommit : s.in_transaction ≡ false
   pub committed_schema : s.committed.schema ≡ record_schema
@@ -31,14 +31,14 @@ pub record IsSound (s : State) : Type 0 where
   pub own_numbers : HasOwnNumbers (s.now.trees 0)
 
 -- sound, or of no use any more
-abbrev pub IsSettled : State → Type 0
-IsSettled s = HasCleanDisk s → IsTrue s.is_open → IsSound s
+abbrev pub TableIsSettled : State → Type 0
+TableIsSettled s = HasCleanDisk s → IsTrue s.is_open → TableIsSound s
 
 -- no call makes a disk honest again, opens a connection again, forgets a fault of the disk or spoils the table; and as long as the disk
 -- has returned what was written, only a fault of it shuts the connection
 pub record Follows (old new : State) : Type 0 where
   pub clean : HasCleanDisk new → HasCleanDisk old
   pub was_open : HasCleanDisk new → IsTrue new.is_open → IsTrue old.is_open
-  pub settled : IsSettled old → IsSettled new
+  pub settled : TableIsSettled old → TableIsSettled new
   pub faults : old.faults ≤ new.faults
   pub closes : HasCleanDisk new → IsTrue old.is_open → IsTrue new.is_open ⊎ MoreFaults old.faults new.faults

@@ -43,21 +43,21 @@ module _ {S : Type 0} (g : Ghosts S) where
         → IsSqlHonest b ⊎ MoreFaults (state g a.connection).faults (state g b.connection).faults
 
   -- calls that write nothing, on which the device didn't fail
-  pub record Reads (a b : SqlStable S g) : Type 0 where
+  pub record TableReads (a b : SqlStable S g) : Type 0 where
     pub disk : StaysHonest a b
     pub honest : IsSqlHonest b → IsSqlHonest a
     pub rows : IsSqlHonest b → rows_of b ≡ rows_of a
     pub failures : b.failures ≡ a.failures
 
   -- the same, but the last of them answers Device
-  pub record ReadFails (a b : SqlStable S g) : Type 0 where
+  pub record TableReadFails (a b : SqlStable S g) : Type 0 where
     pub disk : StaysHonest a b
     pub honest : IsSqlHonest b → IsSqlHonest a
     pub rows : IsSqlHonest b → rows_of b ≡ rows_of a
     pub failures : b.failures ≡ counted a.failures
 
   -- calls of which one made this change
-  pub record Changes (a : SqlStable S g) (change : Change) (b : SqlStable S g) : Type 0 where
+  pub record TableChanges (a : SqlStable S g) (change : Change) (b : SqlStable S g) : Type 0 where
     pub disk : StaysHonest a b
     pub honest : IsSqlHonest b → IsSqlHonest a
     pub records : IsSqlHonest b → records_in (rows_of b) ≡ changed (records_in (rows_of a)) change
@@ -72,9 +72,9 @@ module _ {S : Type 0} (g : Ghosts S) where
     IsHonest = IsSqlHonest;
     HasStrayKey = λ s. HasStray (rows_of s);
     IsSettled = λ _. Unit {0};
-    reads = Reads;
-    looks = Reads;
-    changes = Changes;
-    read_fails = ReadFails;
-    fails = λ a change b. ReadFails a b;
+    reads = TableReads;
+    looks = TableReads;
+    changes = TableChanges;
+    read_fails = TableReadFails;
+    fails = λ a change b. TableReadFails a b;
   }

@@ -55,7 +55,7 @@ abbrev pub put_command : Command
 put_command = InsertOr 0 Abort put_source (put_clause ∷ [])
 
 -- it puts the second parameter under the first
-pub record IsPut (sql : List ℕ) : Type 0 where
+pub record StatementPuts (sql : List ℕ) : Type 0 where
   pub command : command_of (understood record_schema sql) ≡ put_command
   pub bare : IsPlain (understood record_schema sql)
 

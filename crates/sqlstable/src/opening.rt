@@ -3,7 +3,7 @@
 ghost use Rattle.std.specs.Prelude.{◌≡◌, [], Ok, IfOk, IsTrue, OnOk, IsErrOf};
 ghost use Rattle.sqlite.specs.Held.{state};
 ghost use Rattle.sqlite.specs.State.{HasCleanDisk};
-ghost use Rattle.sqlstable.specs.States.{IsSound, IsUsable, table};
+ghost use Rattle.sqlstable.specs.States.{TableIsSound, IsUsable, table};
 ghost use Rattle.sqlstable.specs.Files.{FindsTable};
 ghost use Rattle.sqlstable.specs.Storage.{HasCleanStore, IsSqlHonest, IsUnfailed, rows_of};
 ghost use Rattle.sqlstable.specs.Table.{no_schema};
@@ -124,7 +124,7 @@ impl<S: Alter + Drop> SqlStable<S> {
 // Makes the table where nothing is there, and else looks whether what is there is the table.
 fn prepare<S: Alter>(connection: &mut Connection<S>) -> Result<(), StableFault>
     ensures sound { IsUsable (state S.Store connection.new)
-        → OnOk result (IsSound (state S.Store connection.new)) }
+        → OnOk result (TableIsSound (state S.Store connection.new)) }
     ensures found { IsUsable (state S.Store connection.new)
         → OnOk result (FindsTable (state S.Store connection.old) (table (state S.Store connection.new))) }
     ensures opened { HasCleanDisk (state S.Store connection.new)
@@ -148,7 +148,7 @@ fn prepare<S: Alter>(connection: &mut Connection<S>) -> Result<(), StableFault>
 fn begin<S: Alter>(connection: &mut Connection<S>) -> Result<(), StableFault>
     requires blank { connection.old.schema ≡ no_schema }
     ensures sound { IsUsable (state S.Store connection.new)
-        → OnOk result (IsSound (state S.Store connection.new)) }
+        → OnOk result (TableIsSound (state S.Store connection.new)) }
     ensures empty { IsUsable (state S.Store connection.new)
         → OnOk result (table (state S.Store connection.new) ≡ []) }
     ensures was_usable { IsUsable (state S.Store connection.new)

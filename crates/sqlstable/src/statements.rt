@@ -6,8 +6,8 @@ ghost use Rattle.std.specs.Prelude.{◌≡◌, false, [], IsTrue, OnErr, OnOk, I
 ghost use Rattle.sqlite.specs.Held.{state};
 ghost use Rattle.sqlite.specs.State.{HasCleanDisk, IsUnchanged};
 ghost use Rattle.sqlstable.specs.Table.{no_schema, record_schema};
-ghost use Rattle.sqlstable.specs.Texts.{IsListing, IsLookup, IsMaking, IsPut, IsTrim};
-ghost use Rattle.sqlstable.specs.States.{Follows, IsSound, IsUsable, table};
+ghost use Rattle.sqlstable.specs.Texts.{IsListing, IsLookup, IsMaking, StatementPuts, IsTrim};
+ghost use Rattle.sqlstable.specs.States.{Follows, TableIsSound, IsUsable, table};
 ghost use Rattle.sqlstable.specs.Rows.{PutsRow, TrimsRows, value_at};
 ghost use Rattle.sqlstable.specs.Keys.{votes};
 ghost use Rattle.sqlstable.specs.Lists.{ListsKeys, TellsValue};
@@ -23,7 +23,7 @@ pub fn create<S: Alter>(connection: &mut Connection<S>) -> Result<usize, Error>
     ensures opened { HasCleanDisk (state S.Store connection.new)
         → OnOk result (IsTrue (state S.Store connection.new).is_open) }
     ensures made { HasCleanDisk (state S.Store connection.new)
-        → OnOk result (IsSound (state S.Store connection.new)
+        → OnOk result (TableIsSound (state S.Store connection.new)
         × (table (state S.Store connection.new) ≡ [])) }
 {
     run_making(
@@ -40,11 +40,11 @@ pub fn write<S: Alter>(
 ) -> Result<usize, Error>
     ensures follows { Follows (state S.Store connection.old) (state S.Store connection.new) }
     ensures wrote { IsUsable (state S.Store connection.new)
-        → IsSound (state S.Store connection.old)
+        → TableIsSound (state S.Store connection.old)
         → OnOk result (PutsRow key.now bytes.now
         (table (state S.Store connection.old)) (table (state S.Store connection.new))) }
     ensures refused { IsUsable (state S.Store connection.new)
-        → IsSound (state S.Store connection.old)
+        → TableIsSound (state S.Store connection.old)
         → OnErr result (table (state S.Store connection.new)
         ≡ table (state S.Store connection.old)) }
 {
@@ -60,11 +60,11 @@ pub fn write<S: Alter>(
 pub fn trim<S: Alter>(connection: &mut Connection<S>, end: &[u8]) -> Result<usize, Error>
     ensures follows { Follows (state S.Store connection.old) (state S.Store connection.new) }
     ensures trimmed { IsUsable (state S.Store connection.new)
-        → IsSound (state S.Store connection.old)
+        → TableIsSound (state S.Store connection.old)
         → OnOk result (TrimsRows votes end.now
         (table (state S.Store connection.old)) (table (state S.Store connection.new))) }
     ensures refused { IsUsable (state S.Store connection.new)
-        → IsSound (state S.Store connection.old)
+        → TableIsSound (state S.Store connection.old)
         → OnErr result (table (state S.Store connection.new)
         ≡ table (state S.Store connection.old)) }
 {
@@ -79,10 +79,10 @@ pub fn trim<S: Alter>(connection: &mut Connection<S>, end: &[u8]) -> Result<usiz
 pub fn read<S: Alter>(connection: &mut Connection<S>, key: &[u8]) -> Result<Option<Vec<u8>>, Error>
     ensures follows { Follows (state S.Store connection.old) (state S.Store connection.new) }
     ensures same { IsUsable (state S.Store connection.new)
-        → IsSound (state S.Store connection.old)
+        → TableIsSound (state S.Store connection.old)
         → table (state S.Store connection.new) ≡ table (state S.Store connection.old) }
     ensures told { IsUsable (state S.Store connection.new)
-        → IsSound (state S.Store connection.old)
+        → TableIsSound (state S.Store connection.old)
         → IfOk result (λ found. option_map (λ bytes. bytes.items) found
         ≡ value_at key.now (table (state S.Store connection.old))) }
 {
@@ -94,7 +94,7 @@ pub fn read<S: Alter>(connection: &mut Connection<S>, key: &[u8]) -> Result<Opti
 pub fn list<S: Alter>(connection: &mut Connection<S>) -> Result<Vec<Row>, Error>
     ensures follows { Follows (state S.Store connection.old) (state S.Store connection.new) }
     ensures same { IsUsable (state S.Store connection.new)
-        → IsSound (state S.Store connection.old)
+        → TableIsSound (state S.Store connection.old)
         → table (state S.Store connection.new) ≡ table (state S.Store connection.old) }
     ensures listed { HasCleanDisk (state S.Store connection.new)
         → connection.old.schema ≡ record_schema
@@ -116,7 +116,7 @@ fn run_making<S: Alter>(connection: &mut Connection<S>, sql: &str) -> Result<usi
     ensures opened { HasCleanDisk (state S.Store connection.new)
         → OnOk result (IsTrue (state S.Store connection.new).is_open) }
     ensures made { HasCleanDisk (state S.Store connection.new)
-        → OnOk result (IsSound (state S.Store connection.new)
+        → OnOk result (TableIsSound (state S.Store connection.new)
         × (table (state S.Store connection.new) ≡ [])) }
 {
     connection.execute(sql, &[])
@@ -129,14 +129,14 @@ fn run_put<S: Alter>(
     key: &[u8],
     bytes: &[u8],
 ) -> Result<usize, Error>
-    requires put { IsPut sql.now }
+    requires put { StatementPuts sql.now }
     ensures follows { Follows (state S.Store connection.old) (state S.Store connection.new) }
     ensures wrote { IsUsable (state S.Store connection.new)
-        → IsSound (state S.Store connection.old)
+        → TableIsSound (state S.Store connection.old)
         → OnOk result (PutsRow key.now bytes.now
         (table (state S.Store connection.old)) (table (state S.Store connection.new))) }
     ensures refused { IsUsable (state S.Store connection.new)
-        → IsSound (state S.Store connection.old)
+        → TableIsSound (state S.Store connection.old)
         → OnErr result (table (state S.Store connection.new)
         ≡ table (state S.Store connection.old)) }
 {
@@ -148,11 +148,11 @@ fn run_trim<S: Alter>(connection: &mut Connection<S>, sql: &str, end: &[u8]) -> 
     requires trim { IsTrim sql.now }
     ensures follows { Follows (state S.Store connection.old) (state S.Store connection.new) }
     ensures trimmed { IsUsable (state S.Store connection.new)
-        → IsSound (state S.Store connection.old)
+        → TableIsSound (state S.Store connection.old)
         → OnOk result (TrimsRows votes end.now
         (table (state S.Store connection.old)) (table (state S.Store connection.new))) }
     ensures refused { IsUsable (state S.Store connection.new)
-        → IsSound (state S.Store connection.old)
+        → TableIsSound (state S.Store connection.old)
         → OnErr result (table (state S.Store connection.new)
         ≡ table (state S.Store connection.old)) }
 {
@@ -168,10 +168,10 @@ fn run_lookup<S: Alter>(
     requires lookup { IsLookup sql.now }
     ensures follows { Follows (state S.Store connection.old) (state S.Store connection.new) }
     ensures same { IsUsable (state S.Store connection.new)
-        → IsSound (state S.Store connection.old)
+        → TableIsSound (state S.Store connection.old)
         → table (state S.Store connection.new) ≡ table (state S.Store connection.old) }
     ensures told { IsUsable (state S.Store connection.new)
-        → IsSound (state S.Store connection.old)
+        → TableIsSound (state S.Store connection.old)
         → IfOk result (λ rows. TellsValue key.now (table (state S.Store connection.old)) rows.items) }
 {
     connection.query_all(sql, params![key])
@@ -193,7 +193,7 @@ fn run_listing<S: Alter>(connection: &mut Connection<S>, sql: &str) -> Result<Ve
     requires listing { IsListing sql.now }
     ensures follows { Follows (state S.Store connection.old) (state S.Store connection.new) }
     ensures same { IsUsable (state S.Store connection.new)
-        → IsSound (state S.Store connection.old)
+        → TableIsSound (state S.Store connection.old)
         → table (state S.Store connection.new) ≡ table (state S.Store connection.old) }
     ensures listed { HasCleanDisk (state S.Store connection.new)
         → connection.old.schema ≡ record_schema

@@ -1,7 +1,7 @@
 //! The storage over a connection.
 
 ghost use Rattle.sqlite.specs.Held.{state};
-ghost use Rattle.sqlstable.specs.States.{IsSettled};
+ghost use Rattle.sqlstable.specs.States.{TableIsSettled};
 
 use crate::fault::fault_of;
 use crate::listing::keys_in;
@@ -22,18 +22,18 @@ pub struct SqlStable<S: Alter> {
     pub(crate) connection: Connection<S>,
     // How often it has failed; None once that can't be counted.
     failures: Option<u64>,
-    ghost settled: { ∥ IsSettled (state S.Store connection) ∥₁ },
+    ghost settled: { ∥ TableIsSettled (state S.Store connection) ∥₁ },
 }
 
 impl<S: Alter> SqlStable<S> {
     ghost use Rattle.std.specs.Prelude.{◌≡◌, ◌≢◌, Some, OnOk, IsErrOf};
     ghost use Rattle.stable.specs.Script.{counted};
-    ghost use Rattle.sqlstable.specs.Storage.{Changes, ReadFails, Reads};
+    ghost use Rattle.sqlstable.specs.Storage.{TableChanges, TableReadFails, TableReads};
     ghost use Rattle.stable.specs.Records.{Sets, Trims};
 
     // A connection whose table is settled, with no failure yet.
     pub(crate) fn holding(connection: Connection<S>) -> SqlStable<S>
-        requires { ∥ IsSettled (state S.Store connection) ∥₁ }
+        requires { ∥ TableIsSettled (state S.Store connection) ∥₁ }
         ensures connection { result.connection ≡ connection }
         ensures unfailed { result.failures ≡ Some 0 }
     {
@@ -62,11 +62,11 @@ impl<S: Alter> SqlStable<S> {
 
     // Takes out the votes at slots below this one, and leaves every other key.
     fn trim(&mut self, below: u32) -> Result<(), StableFault>
-        ensures ok { OnOk result (Changes S.Store self.old (Trims below) self.new) }
+        ensures ok { OnOk result (TableChanges S.Store self.old (Trims below) self.new) }
 
         // Each error.
-        ensures device { IsErrOf result StableFault.Device → ReadFails S.Store self.old self.new }
-        ensures memory { IsErrOf result StableFault.Memory → Reads S.Store self.old self.new }
+        ensures device { IsErrOf result StableFault.Device → TableReadFails S.Store self.old self.new }
+        ensures memory { IsErrOf result StableFault.Memory → TableReads S.Store self.old self.new }
         ensures not_damaged { ¬ IsErrOf result StableFault.Damaged }
     {
         let end = vote_key(below.min(SLOTS));
@@ -78,11 +78,11 @@ impl<S: Alter> SqlStable<S> {
 
     // Makes the key hold these bytes, and leaves every other key.
     fn store(&mut self, key: Key, bytes: &[u8]) -> Result<(), StableFault>
-        ensures ok { OnOk result (Changes S.Store self.old (Sets key bytes.now) self.new) }
+        ensures ok { OnOk result (TableChanges S.Store self.old (Sets key bytes.now) self.new) }
 
         // Each error.
-        ensures device { IsErrOf result StableFault.Device → ReadFails S.Store self.old self.new }
-        ensures memory { IsErrOf result StableFault.Memory → Reads S.Store self.old self.new }
+        ensures device { IsErrOf result StableFault.Device → TableReadFails S.Store self.old self.new }
+        ensures memory { IsErrOf result StableFault.Memory → TableReads S.Store self.old self.new }
         ensures not_damaged { ¬ IsErrOf result StableFault.Damaged }
     {
         let (spelled, length) = spelling(key);
@@ -96,7 +96,7 @@ impl<S: Alter> SqlStable<S> {
 impl<S: Alter> Stable for SqlStable<S> {
     ghost use Rattle.std.specs.Prelude.{◌≡◌, ℕ, ◌↔◌, List, IfOk, OnOk, IsErrOf};
     ghost use Rattle.sqlstable.specs.Keys.{HasStray, records_in};
-    ghost use Rattle.sqlstable.specs.Storage.{Changes, IsSqlHonest, ReadFails, Reads};
+    ghost use Rattle.sqlstable.specs.Storage.{TableChanges, IsSqlHonest, TableReadFails, TableReads};
     ghost use Rattle.sqlstable.specs.Storage.{failures_of, rows_of};
     ghost use Rattle.sqlstable.specs.Laws.{table_laws};
 
@@ -108,17 +108,17 @@ impl<S: Alter> Stable for SqlStable<S> {
 
     ghost HasStrayKey = { λ s. HasStray (rows_of S.Store s) };
 
-    ghost IsSettled = { λ _. Unit {0} };
+    ghost TableIsSettled = { λ _. Unit {0} };
 
-    ghost reads = { Reads S.Store };
+    ghost reads = { TableReads S.Store };
 
-    ghost looks = { Reads S.Store };
+    ghost looks = { TableReads S.Store };
 
-    ghost changes = { Changes S.Store };
+    ghost changes = { TableChanges S.Store };
 
-    ghost read_fails = { ReadFails S.Store };
+    ghost read_fails = { TableReadFails S.Store };
 
-    ghost fails = { λ a _ b. ReadFails S.Store a b };
+    ghost fails = { λ a _ b. TableReadFails S.Store a b };
 
     fn get(&mut self, alloc: Global, key: Key) -> Result<Option<Vec<u8>>, StableFault> {
         let (spelled, length) = spelling(key);

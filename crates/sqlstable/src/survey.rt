@@ -6,7 +6,7 @@ ghost use Rattle.sqlite_value.specs.Value.{owned};
 ghost use Rattle.sqlite_trees.specs.View.{is_int};
 ghost use Rattle.sqlite.specs.Held.{state};
 ghost use Rattle.sqlite.specs.State.{HasCleanDisk, IsLive};
-ghost use Rattle.sqlstable.specs.States.{IsSound, IsUsable};
+ghost use Rattle.sqlstable.specs.States.{TableIsSound, IsUsable};
 ghost use Rattle.sqlstable.specs.Files.{FindsTable};
 ghost use Rattle.sqlstable.specs.States as states;
 ghost use Rattle.sqlstable.specs.Lists.{AreRising, AreSoundRows, HaveOwnNumbers, RisesTo};
@@ -26,7 +26,7 @@ pub fn survey<S: Alter>(connection: &mut Connection<S>) -> Result<bool, Error>
     requires ours { connection.old.schema ≡ listed_schema }
     requires live { IsLive (state S.Store connection.old) }
     ensures sound { IsUsable (state S.Store connection.new) → IfOk result (λ sound. IsTrue sound
-        → IsSound (state S.Store connection.new)) }
+        → TableIsSound (state S.Store connection.new)) }
     ensures opened { HasCleanDisk (state S.Store connection.new)
         → OnOk result (IsTrue (state S.Store connection.new).is_open) }
     ensures found { IsUsable (state S.Store connection.new) → IfOk result (λ sound. IsTrue sound

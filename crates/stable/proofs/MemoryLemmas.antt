@@ -15,7 +15,7 @@ use Rattle.slot_table.specs.declared.slot_table.SlotTable.{SlotTable}
 use Rattle.slot_table.proofs.ValueLemmas.{less, tells, written_of, unwritten_of}
 use Rattle.stable.specs.Listing.{ListsTo}
 use Rattle.stable.specs.Memory.{stored}
-use Rattle.stable.specs.Records.{Records, rank, slot_in, key_cmp, IsAscending, no_records, with_record, without_votes_below}
+use Rattle.stable.specs.Records.{Records, rank, slot_in, key_cmp, KeysAscend, no_records, with_record, without_votes_below}
 use Rattle.stable.specs.declared.key.Key.{Key}
 use Rattle.stable.specs.declared.key.Key.TheVariants.{Checkpoint, Promise, Round, Vote}
 use Rattle.stable.specs.declared.memory.MemStable.{MemStable}
@@ -128,8 +128,8 @@ in_tail : (j : Key) (keys : List Key) (q : Key) → Contains keys q → Contains
 in_tail j keys q c = (suc c.0, omega (arith, c.1), c.2)
 
 -- a key above those that ascend goes behind them
-ascending_push : (keys : List Key) (k : Key) → IsAscending keys → ((q : Key) → Contains keys q → rank q < rank k)
-    → IsAscending (keys ++ k ∷ [])
+ascending_push : (keys : List Key) (k : Key) → KeysAscend keys → ((q : Key) → Contains keys q → rank q < rank k)
+    → KeysAscend (keys ++ k ∷ [])
 unfolding IsStrictlySortedBy
 ascending_push [] k sorted below = (tt, tt)
 ascending_push (j ∷ keys) k sorted below = (

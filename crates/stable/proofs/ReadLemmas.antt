@@ -1,6 +1,6 @@
 -- What a reading of a scripted storage comes to, from what the storage inside makes of it.
 use Rattle.std.proofs.Common.{Result, Ok, Err, OnOk, IsErrOf, Some, ◌≡◌, ◌≢◌, refl, ap, inl}
-use Rattle.stable.specs.Script.{Script, Reads, Looks}
+use Rattle.stable.specs.Script.{Script, ScriptReads, Looks}
 use Rattle.stable.specs.ScriptLaws.{scripted_laws}
 use Rattle.stable.specs.Storages.{IsLawful}
 use Rattle.stable.specs.declared.fault.StableFault.{StableFault}
@@ -19,9 +19,9 @@ module _ {S : Type 0} (storage : Ghosts S) (laws : IsLawful storage) where
   honest_before (Err Damaged) m b ok device memory damaged h = laws.reads_honest m b (damaged refl) h
 
   -- only the storage inside read on
-  pub then_read : (a m b : Script S) → Reads storage.contents storage.IsHonest storage.reads a m
+  pub then_read : (a m b : Script S) → ScriptReads storage.contents storage.IsHonest storage.reads a m
       → b ≡ record m { inner = b.inner } → storage.reads m.inner b.inner
-      → Reads storage.contents storage.IsHonest storage.reads a b
+      → ScriptReads storage.contents storage.IsHonest storage.reads a b
   then_read a m b before after read = (scripted_laws laws).reads_reads a m b before (record {
     inner = read;
     armed = ap (λ t. t.armed) after;
@@ -31,7 +31,7 @@ module _ {S : Type 0} (storage : Ghosts S) (laws : IsLawful storage) where
   })
 
   -- only the storage inside was asked for its keys, and nothing was armed against that
-  pub then_look : (a m b : Script S) → Reads storage.contents storage.IsHonest storage.reads a m
+  pub then_look : (a m b : Script S) → ScriptReads storage.contents storage.IsHonest storage.reads a m
       → b ≡ record m { inner = b.inner } → a.armed ≢ Some Read → storage.looks m.inner b.inner
       → Looks storage.contents storage.IsHonest storage.reads a b
   then_look a m b before after unarmed look =

@@ -1,7 +1,7 @@
 -- Storages, each seen as one record of what it holds and of what its calls may make of it.
 use Rattle.std.specs.Prelude.{◌≡◌, ◌+◌, None, IsSome, unwrap_or}
 use Rattle.stable.specs.Laws.{KeepsLaws}
-use Rattle.stable.specs.Script.{Script, Reads, Looks, ReadFails, Changes, Fails}
+use Rattle.stable.specs.Script.{Script, ScriptReads, Looks, ScriptReadFails, ScriptChanges, ScriptFails}
 use Rattle.stable.specs.declared.stable.Stable.{Ghosts}
 
 -- it keeps the laws
@@ -17,9 +17,9 @@ scripted storage = record {
   IsHonest = λ s. storage.IsHonest s.inner × IsSome s.fired;
   HasStrayKey = λ s. storage.HasStrayKey s.inner;
   IsSettled = λ s. s.unsure ≡ None;
-  reads = Reads storage.contents storage.IsHonest storage.reads;
+  reads = ScriptReads storage.contents storage.IsHonest storage.reads;
   looks = Looks storage.contents storage.IsHonest storage.reads;
-  changes = Changes storage.contents storage.IsHonest storage.reads storage.changes;
-  read_fails = ReadFails storage.contents storage.IsHonest storage.reads storage.read_fails;
-  fails = Fails storage.contents storage.IsHonest storage.reads storage.read_fails storage.changes storage.fails;
+  changes = ScriptChanges storage.contents storage.IsHonest storage.reads storage.changes;
+  read_fails = ScriptReadFails storage.contents storage.IsHonest storage.reads storage.read_fails;
+  fails = ScriptFails storage.contents storage.IsHonest storage.reads storage.read_fails storage.changes storage.fails;
 }

@@ -15,7 +15,7 @@ use Rattle.store.specs.Additions.{Added}
 use Rattle.timeindex.specs.Ascending.{id_order, before, after}
 use Rattle.timeindex.proofs.EditLemmas.{insert-gap, with_element_ascending, without_ascending}
 use Rattle.store.specs.Features.{feature_id, IsDatabase, feature_of, with_feature, without}
-use Rattle.store.specs.Places.{IsGap}
+use Rattle.store.specs.Places.{IsFeatureGap}
 use Rattle.store.specs.declared.db.TheConstants.{MOST_FEATURES}
 use Rattle.store.specs.Operations.{reply, effect, append_reply, extended, is_done}
 use Rattle.store.specs.declared.op.Op.{Op}
@@ -107,7 +107,7 @@ without_database fs id db =
 
 -- with room for one more, the list is a database again
 pub insert_database : (fs : List Feature) (f : Feature) (i : ℕ) → IsDatabase fs →
-    length fs < MOST_FEATURES → IsGap fs f.id i → IsDatabase (insert fs i f)
+    length fs < MOST_FEATURES → IsFeatureGap fs f.id i → IsDatabase (insert fs i f)
 insert_database fs f i db room gap =
     record {
       ascending = rw (insert-gap feature_id fs f i gap) (with_element_ascending feature_id fs f db.ascending);

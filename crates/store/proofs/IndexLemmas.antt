@@ -18,7 +18,7 @@ use Rattle.tpoint.proofs.ListLemmas.{filter_mapped}
 use Rattle.predicates.specs.Predicates.{IsEver}
 use Rattle.predicates.specs.declared.questions.Tri.TheVariants.{Yes}
 use Rattle.mfjson.specs.declared.feature.Feature.{Feature}
-use Rattle.timeindex.specs.Ascending.{id_order, before, after, IsGap}
+use Rattle.timeindex.specs.Ascending.{id_order, before, after, IsElementGap}
 use Rattle.timeindex.specs.Entries.{Entry, id_of, overlaps, with_entry}
 use Rattle.store.specs.Features.{feature_id, with_feature}
 use Rattle.store.specs.Indexed.{entry_of, entries_of}
@@ -36,7 +36,7 @@ with_feature_indexed fs f =
     ∙ sym (map-append entry_of (before feature_id fs f.id) (f ∷ after feature_id fs f.id))
 
 -- an id that no feature has would go to the same place among the entries
-pub gap_indexed : (fs : List Feature) (f : Feature) (i : ℕ) → IsGap feature_id fs f.id i → IsGap id_of (entries_of fs) f.id i
+pub gap_indexed : (fs : List Feature) (f : Feature) (i : ℕ) → IsElementGap feature_id fs f.id i → IsElementGap id_of (entries_of fs) f.id i
 gap_indexed fs f i gap =
     record {
       in_range = subst (λ (n : ℕ). i ≤ n) (sym (length-map fs entry_of)) gap.in_range;

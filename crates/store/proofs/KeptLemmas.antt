@@ -7,19 +7,19 @@ use Rattle.std.proofs.lemmas.Option.{slice_get-get_or, slice_get-map}
 use Rattle.tpoint.specs.Spans.{span_of}
 use Rattle.mfjson.specs.declared.feature.Feature.{Feature}
 use Rattle.timeindex.specs.Entries.{Entry, with_entry}
-use Rattle.timeindex.specs.Ascending.{IsAscending}
+use Rattle.timeindex.specs.Ascending.{IdsAscend}
 use Rattle.timeindex.proofs.PlaceLemmas.{at_place}
 use Rattle.timeindex.proofs.EditLemmas.{set-at, insert-gap, remove-at, with_element_ascending}
 use Rattle.store.specs.Features.{feature_id, IsDatabase, with_feature, without}
-use Rattle.store.specs.Places.{IsAt, IsGap}
-use Rattle.store.specs.Indexed.{entry_of, entries_of, IsKept}
+use Rattle.store.specs.Places.{FeatureIsAt, IsFeatureGap}
+use Rattle.store.specs.Indexed.{entry_of, entries_of, IndexIsKept}
 use Rattle.store.specs.declared.db.TheConstants.{MOST_FEATURES}
 use Rattle.store.proofs.DatabaseLemmas.{without_database, insert_database}
 use Rattle.store.proofs.IndexLemmas.{with_feature_indexed, remove_indexed}
 
 -- a feature is taken out
-pub removed_kept : (fs gs : List Feature) (es ds : List Entry) (id : List ℕ) (i : ℕ) → IsKept fs es → IsAt fs id i →
-    gs ≡ remove fs i → ds ≡ remove es i → IsKept gs ds
+pub removed_kept : (fs gs : List Feature) (es ds : List Entry) (id : List ℕ) (i : ℕ) → IndexIsKept fs es → FeatureIsAt fs id i →
+    gs ≡ remove fs i → ds ≡ remove es i → IndexIsKept gs ds
 removed_kept fs gs es ds id i kept at gone taken =
     let same : gs ≡ without fs id = gone ∙ remove-at feature_id fs id i at in
     record {
@@ -28,8 +28,8 @@ removed_kept fs gs es ds id i kept at gone taken =
     }
 
 -- a feature is put into a gap
-pub added_kept : (fs gs : List Feature) (es ds : List Entry) (f : Feature) (e : Entry) (i : ℕ) → IsKept fs es →
-    length fs < MOST_FEATURES → IsGap fs f.id i → gs ≡ insert fs i f → e ≡ entry_of f → ds ≡ with_entry es e → IsKept gs ds
+pub added_kept : (fs gs : List Feature) (es ds : List Entry) (f : Feature) (e : Entry) (i : ℕ) → IndexIsKept fs es →
+    length fs < MOST_FEATURES → IsFeatureGap fs f.id i → gs ≡ insert fs i f → e ≡ entry_of f → ds ≡ with_entry es e → IndexIsKept gs ds
 added_kept fs gs es ds f e i kept room gap added entry taken =
     let same : gs ≡ with_feature fs f = added ∙ insert-gap feature_id fs f i gap in
     record {
@@ -38,9 +38,9 @@ added_kept fs gs es ds f e i kept room gap added entry taken =
     }
 
 -- a feature is written over by another with its id
-pub replaced_kept : (fs gs : List Feature) (es ds : List Entry) (f d : Feature) (first last i : ℕ) → IsKept fs es → i < length fs →
+pub replaced_kept : (fs gs : List Feature) (es ds : List Entry) (f d : Feature) (first last i : ℕ) → IndexIsKept fs es → i < length fs →
     gs ≡ set fs i f → f.id ≡ (get_or fs i d).id → first ≡ (span_of f.seq.points).begin → last ≡ (span_of f.seq.points).end →
-    ((e : Entry) → slice_get es i ≡ Some e → ds ≡ slice_set es i (record e { first = first; last = last })) → IsKept gs ds
+    ((e : Entry) → slice_get es i ≡ Some e → ds ≡ slice_set es i (record e { first = first; last = last })) → IndexIsKept gs ds
 replaced_kept fs gs es ds f d first last i kept within written same_id begins ends replaced =
     let g = get_or fs i d in
     let place = at_place feature_id fs kept.database.ascending f.id i within
@@ -55,7 +55,7 @@ replaced_kept fs gs es ds f d first last i kept within written same_id begins en
     let few = kept.database.not_too_many in
     record {
       database = record {
-        ascending = subst (IsAscending feature_id) (sym same) (with_element_ascending feature_id fs f kept.database.ascending);
+        ascending = subst (IdsAscend feature_id) (sym same) (with_element_ascending feature_id fs f kept.database.ascending);
         not_too_many = omega arith;
       };
       indexed = replaced (entry_of g) there ∙ (λ j. set (kept.indexed j) i (entry j)) ∙ sym (map-set entry_of fs i f)

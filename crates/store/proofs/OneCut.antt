@@ -6,7 +6,7 @@ use Rattle.std.proofs.lemmas.Bool.{cases_eq, cases_Bool}
 use Rattle.std.proofs.lemmas.Int.{ints}
 use Rattle.std.proofs.lemmas.Option.{same_Some, none-some}
 use Rattle.tpoint.specs.Fraction.{Fraction, ◌≤ᶠ◌}
-use Rattle.tpoint.specs.Moving.{Position, Vertex, IsPlace, Sequence, IsValid, moment}
+use Rattle.tpoint.specs.Moving.{Position, Vertex, IsPositionOf, Sequence, IsValid, moment}
 use Rattle.tpoint.specs.Extents.{Span}
 use Rattle.tpoint.specs.FracText.{frac_text}
 use Rattle.tpoint.specs.declared.frac.Frac.{Frac}
@@ -119,7 +119,7 @@ in_order a b = by (b.num *ℤ pos a.den -ℤ a.num *ℤ pos b.den) refl
     by (pos n) e = inl (record { cross = omega (arith, ints, e) })
     by (negsuc n) e = inr (record { cross = omega (arith, ints, e) })
 
-one_before : (s : Sequence) → IsValid s → (n : ℕ) (v w : Position) → HasValueBefore s n v → HasValueBefore s n w → IsPlace v w
+one_before : (s : Sequence) → IsValid s → (n : ℕ) (v w : Position) → HasValueBefore s n v → HasValueBefore s n w → IsPositionOf v w
 one_before s valid n v w h k =
     elim (in_order h.from k.from) [
       | inl order ↦ at_unique s valid k.from v w (h.held k.from order k.earlier) (k.held k.from (≤ᶠ_refl k.from) k.earlier)
@@ -141,7 +141,7 @@ stops_or_not s p n = by_interp s.interp refl
     by_interp Linear is = inr (λ stops. let step = stops.is_step in absurd (cc))
 
 one_place : (s : Sequence) → IsValid s → (p : Span) (n : ℕ) (v w : Position)
-    → IsCutPlace s p (record { time = n; place = v }) → IsCutPlace s p (record { time = n; place = w }) → IsPlace v w
+    → IsCutPlace s p (record { time = n; place = v }) → IsCutPlace s p (record { time = n; place = w }) → IsPositionOf v w
 one_place s valid p n v w h k =
     elim (stops_or_not s p n) [
       | inl stops ↦ one_before s valid n v w (h.before stops) (k.before stops)

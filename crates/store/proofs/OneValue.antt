@@ -3,7 +3,7 @@ use Rattle.std.proofs.Common.{◌≡◌, ℕ, ◌*◌, ◌≤◌, ◌++◌, code
 use Rattle.std.proofs.Common.{◌∙◌, ap, arith}
 use Rattle.std.proofs.lemmas.Int.{ints}
 use Rattle.tpoint.specs.Fraction.{◌≈◌}
-use Rattle.tpoint.specs.Moving.{IsPlace, Sequence, At, IsValid, moment}
+use Rattle.tpoint.specs.Moving.{IsPositionOf, Sequence, At, IsValid, moment}
 use Rattle.tpoint.specs.Reduced.{fraction, position, Finds}
 use Rattle.tpoint.specs.FracText.{frac_text}
 use Rattle.tpoint.specs.declared.frac.Frac.{Frac}
@@ -36,7 +36,7 @@ one_text f g e =
     rw (num, den) refl
 
 -- ---- a position has one text for each coordinate
-pub one_pair : (v w : Frac × Frac) → IsPlace (position v) (position w) →
+pub one_pair : (v w : Frac × Frac) → IsPositionOf (position v) (position w) →
     (frac_text v.0 ≡ frac_text w.0) × (frac_text v.1 ≡ frac_text w.1)
 one_pair v w e = (one_text v.0 w.0 e.same_x, one_text v.1 w.1 e.same_y)
 

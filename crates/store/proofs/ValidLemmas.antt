@@ -13,7 +13,7 @@ use Rattle.mfjson.specs.declared.feature.Feature.{Feature}
 use Rattle.store.specs.Additions.{Added}
 use Rattle.timeindex.specs.Ascending.{before, after}
 use Rattle.store.specs.Features.{feature_id, AreValid, feature_of, with_feature, without}
-use Rattle.store.specs.Operations.{reply, effect, append_reply, extended, is_done, is_later, IsSound}
+use Rattle.store.specs.Operations.{reply, effect, append_reply, extended, is_done, is_later, OpIsValid}
 use Rattle.store.specs.declared.op.Op.{Op}
 use Rattle.store.specs.declared.op.Op.TheVariants.{Put, Append, Remove}
 use Rattle.store.specs.declared.reply.Reply.TheVariants.{Done, Unknown, NotLater, Full}
@@ -81,7 +81,7 @@ append_valid fs a None v h fits = v
 append_valid fs a (Some f) v h fits = appended_one fs f a.point v h fits
 
 -- ---- each operation
-pub effect_valid : (fs : List Feature) (op : Op) → AreValid fs → IsSound op → AreValid (effect fs op)
+pub effect_valid : (fs : List Feature) (op : Op) → AreValid fs → OpIsValid op → AreValid (effect fs op)
 effect_valid fs (Put id seq) v h =
     either_valid (is_done (reply fs (Put id seq))) fs (with_feature fs (record { id = id; seq = seq })) v
     (with_valid fs (record { id = id; seq = seq }) v h)

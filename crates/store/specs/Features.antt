@@ -3,7 +3,7 @@ use Rattle.std.specs.Prelude.{ℕ, ◌≤◌, List, length, All, Option}
 use Rattle.tpoint.specs.Moving.{IsValid}
 use Rattle.mfjson.specs.declared.feature.Feature.{Feature}
 use Rattle.timeindex.specs.Ascending as by_id
-use Rattle.timeindex.specs.Ascending.{IsAscending, element_of, with_element}
+use Rattle.timeindex.specs.Ascending.{IdsAscend, element_of, with_element}
 use Rattle.store.specs.declared.db.TheConstants.{MOST_FEATURES}
 
 -- features go by their ids
@@ -13,7 +13,7 @@ feature_id f = f.id
 -- a database: the id of each feature comes before those of all that follow, and there are at most
 -- `MOST_FEATURES`
 pub record IsDatabase (fs : List Feature) : Type 0 where
-  pub ascending : IsAscending feature_id fs
+  pub ascending : IdsAscend feature_id fs
   pub not_too_many : length fs ≤ MOST_FEATURES
 
 -- each feature's sequence is valid

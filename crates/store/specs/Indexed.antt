@@ -15,6 +15,6 @@ abbrev pub entries_of : List Feature → List Entry
 entries_of fs = map entry_of fs
 
 -- a database and its index
-pub record IsKept (fs : List Feature) (es : List Entry) : Type 0 where
+pub record IndexIsKept (fs : List Feature) (es : List Entry) : Type 0 where
   pub database : IsDatabase fs
   pub indexed : es ≡ entries_of fs

@@ -56,10 +56,10 @@ abbrev pub append_effect : Sequence → Point → Sequence
 append_effect s p = if is_done (append_reply s.points p) then extended s p else s
 
 -- ---- what an operation brings: a valid sequence, or a point with its coordinates in range
-abbrev pub IsSound : Op → Type 0
-IsSound (Put id seq) = IsValid seq
-IsSound (Append a) = InBounds a.point
-IsSound (Remove id) = Unit {0}
+abbrev pub OpIsValid : Op → Type 0
+OpIsValid (Put id seq) = IsValid seq
+OpIsValid (Append a) = InBounds a.point
+OpIsValid (Remove id) = Unit {0}
 
 -- ---- what takes no memory: a removal, and whatever is refused
 abbrev pub TakesNoMemory : List Feature → Op → Type 0

@@ -5,9 +5,9 @@ use Rattle.timeindex.specs.Ascending as by_id
 use Rattle.store.specs.Features.{feature_id}
 
 -- the feature at i has the id
-abbrev pub IsAt : List Feature → List ℕ → ℕ → Type 0
-IsAt = by_id.IsAt feature_id
+abbrev pub FeatureIsAt : List Feature → List ℕ → ℕ → Type 0
+FeatureIsAt = by_id.IsAt feature_id
 
 -- none has it, and a feature with it would go to the place i
-abbrev pub IsGap : List Feature → List ℕ → ℕ → Type 0
-IsGap = by_id.IsGap feature_id
+abbrev pub IsFeatureGap : List Feature → List ℕ → ℕ → Type 0
+IsFeatureGap = by_id.IsGap feature_id

@@ -6,7 +6,7 @@ ghost use Rattle.std.specs.Option.{option_copied};
 ghost use Rattle.predicates.specs.Predicates.{IsEver};
 ghost use Rattle.store.specs.Answers.{OfKnown, SaysValue, SaysCut, SaysDocument, SaysWithin};
 ghost use Rattle.store.specs.Answers.{AreIdsOf, value_text, fix_text, mark_text, part_text, id_text, tri_text};
-ghost use Rattle.store.specs.Indexed.{IsKept};
+ghost use Rattle.store.specs.Indexed.{IndexIsKept};
 
 use crate::line::{LONGEST_FIX, write_fix, write_place};
 use crate::stored_feature::StoredFeature;
@@ -91,7 +91,7 @@ pub(crate) fn within_text(
     period: &Period,
     area: &Rect,
 ) -> Result<Vec<u8>, AllocError>
-    requires { IsKept features.now index.now }
+    requires { IndexIsKept features.now index.now }
     ensures { IfOk result (λ text. SaysWithin features.now period.now area.now text.items) }
 {
     let ids = ids_within(alloc, features, index, period, area)?;
@@ -206,7 +206,7 @@ fn ids_within(
     period: &Period,
     area: &Rect,
 ) -> Result<Vec<Id>, AllocError>
-    requires { IsKept features.now index.now }
+    requires { IndexIsKept features.now index.now }
     ensures { IfOk result (λ ids.
         AreIdsOf (λ f. IsEver f.seq period.now area.now Tri.Yes) features.now ids.items) }
 {

@@ -5,7 +5,7 @@ ghost use Rattle.std.specs.Option.{option_copied};
 ghost use Rattle.store.specs.Answers.{IsAnswer};
 ghost use Rattle.store.specs.Features.{IsDatabase, feature_of};
 ghost use Rattle.store.specs.Operations.{reply, effect, TakesNoMemory};
-ghost use Rattle.store.specs.Places.{IsAt, IsGap};
+ghost use Rattle.store.specs.Places.{FeatureIsAt, IsFeatureGap};
 
 use crate::answers::{at_text, count_text, cut_text, document_text, tri_answer, within_text};
 use crate::op::{Addition, Op};
@@ -44,13 +44,13 @@ impl Drop for Db {
 impl Model for Db {
     ghost use Rattle.std.specs.Prelude.{List};
     ghost use Rattle.mfjson.specs.declared.feature.Feature.{Feature};
-    ghost use Rattle.store.specs.Indexed.{IsKept};
+    ghost use Rattle.store.specs.Indexed.{IndexIsKept};
 
     ghost Value = { List Feature };
 
     ghost view = { λ db. db.features.items };
 
-    ghost invariant = { λ db. IsKept db.features.items db.index };
+    ghost invariant = { λ db. IndexIsKept db.features.items db.index };
 }
 
 impl Db {
@@ -132,7 +132,7 @@ impl Db {
     /// a growth was refused the database is as it was.
     pub fn push(&mut self, id: Id, seq: Seq) -> Result<(), AllocError>
         requires room { length self.old < MOST_FEATURES }
-        requires last { IsGap self.old id (length self.old) }
+        requires last { IsFeatureGap self.old id (length self.old) }
         ensures added { OnOk result (self.new ≡ self.old ++ record { id = id; seq = seq } ∷ []) }
         ensures err { OnErr result (self.new ≡ self.old) }
     {
@@ -171,7 +171,7 @@ impl Db {
     /// Gives the feature at a place another sequence.
     fn replace(&mut self, at: usize, seq: &Seq) -> Result<(), AllocError>
         requires { at < length self.old }
-        ensures effect { OnOk result ((id : List ℕ) → IsAt self.old id at
+        ensures effect { OnOk result ((id : List ℕ) → FeatureIsAt self.old id at
             → self.new ≡ effect self.old (Op.Put id seq.now)) }
         ensures err { OnErr result (self.new ≡ self.old) }
     {
@@ -184,7 +184,7 @@ impl Db {
 
     /// Puts a feature into the gap where it goes.
     fn add(&mut self, at: usize, id: &Id, seq: &Seq) -> Result<(), AllocError>
-        requires gap { IsGap self.old id.now at }
+        requires gap { IsFeatureGap self.old id.now at }
         requires room { length self.old < MOST_FEATURES }
         ensures effect { OnOk result (self.new ≡ effect self.old (Op.Put id.now seq.now)) }
         ensures err { OnErr result (self.new ≡ self.old) }
@@ -239,8 +239,8 @@ impl Db {
 
     /// The place of the feature with the id, or the place where it would go.
     fn place(&self, id: &Id) -> Result<usize, usize>
-        ensures found { IfOk result (IsAt self.now id.now) }
-        ensures absent { IfErr result (IsGap self.now id.now) }
+        ensures found { IfOk result (FeatureIsAt self.now id.now) }
+        ensures absent { IfErr result (IsFeatureGap self.now id.now) }
     {
         self.features
             .binary_search_by_key(id, |held| held.feature().id)

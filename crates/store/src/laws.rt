@@ -7,7 +7,7 @@ ghost use Rattle.mfjson.specs.declared.feature.Feature.{Feature};
 ghost use Rattle.store.specs.declared.query.Query.{Query};
 ghost use Rattle.store.specs.Answers.{IsAnswer};
 ghost use Rattle.store.specs.Features.{AreValid, IsDatabase};
-ghost use Rattle.store.specs.Operations.{effect, IsSound};
+ghost use Rattle.store.specs.Operations.{effect, OpIsValid};
 ghost use Rattle.store.specs.declared.op.Op.{Op};
 
 use crate::db::MOST_FEATURES;
@@ -20,7 +20,7 @@ pub fn an_answer_is_one()
 /// The features are valid at the start, and after each operation that brings what is valid.
 pub fn features_stay_valid()
     ensures start { AreValid [] }
-    ensures kept { (fs : List Feature) (op : Op) → AreValid fs → IsSound op → AreValid (effect fs op) }
+    ensures kept { (fs : List Feature) (op : Op) → AreValid fs → OpIsValid op → AreValid (effect fs op) }
 {}
 
 /// The features are a database at the start, and after each operation: at most `MOST_FEATURES`, ascending by their ids.

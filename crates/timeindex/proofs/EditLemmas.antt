@@ -7,7 +7,7 @@ use Rattle.std.specs.declared.cmp.Ordering.TheVariants.{Less, Equal, Greater}
 use Rattle.std.proofs.lemmas.List.{set_split}
 use Rattle.std.proofs.lemmas.List.Elements.{filter_passes}
 use Rattle.std.proofs.lemmas.List.Kept.{AllPairs-cons, AllPairs-filter}
-use Rattle.timeindex.specs.Ascending.{id_order, ComesBefore, IsAscending, before, after, with_element, without, IsAt, IsGap}
+use Rattle.timeindex.specs.Ascending.{id_order, ComesBefore, IdsAscend, before, after, with_element, without, ElementIsAt, IsElementGap}
 use Rattle.timeindex.specs.Entries.{Entry, IsSet, id_of, with_entry}
 use Rattle.tpoint.proofs.ListLemmas.{AllBoth, all_pairs_append}
 use Rattle.timeindex.proofs.PlaceLemmas.{total, turned, before-at, after-at, before-gap, after-gap}
@@ -25,13 +25,13 @@ is_gt-Greater Greater e = refl
 module _ {X : Type 0} (id_of : X → List ℕ) where
   -- ---- an edit at the place of an id
   -- an element in the place of another with its id
-  pub set-at : (xs : List X) (x : X) (i : ℕ) → IsAt id_of xs (id_of x) i → set xs i x ≡ with_element id_of xs x
+  pub set-at : (xs : List X) (x : X) (i : ℕ) → ElementIsAt id_of xs (id_of x) i → set xs i x ≡ with_element id_of xs x
   set-at xs x i at = rw (before-at id_of xs (id_of x) i at, after-at id_of xs (id_of x) i at) (set_split xs i x at.in_range)
 
-  pub insert-gap : (xs : List X) (x : X) (i : ℕ) → IsGap id_of xs (id_of x) i → insert xs i x ≡ with_element id_of xs x
+  pub insert-gap : (xs : List X) (x : X) (i : ℕ) → IsElementGap id_of xs (id_of x) i → insert xs i x ≡ with_element id_of xs x
   insert-gap xs x i gap = rw (before-gap id_of xs (id_of x) i gap, after-gap id_of xs (id_of x) i gap) refl
 
-  pub remove-at : (xs : List X) (id : List ℕ) (i : ℕ) → IsAt id_of xs id i → remove xs i ≡ without id_of xs id
+  pub remove-at : (xs : List X) (id : List ℕ) (i : ℕ) → ElementIsAt id_of xs id i → remove xs i ≡ without id_of xs id
   remove-at xs id i at = rw (before-at id_of xs id i at, after-at id_of xs id i at) refl
 
   -- ---- the order is kept
@@ -49,18 +49,18 @@ module _ {X : Type 0} (id_of : X → List ℕ) where
         total.trans (id_of (get_or (before id_of xs id) i d)) id (id_of (get_or (after id_of xs id) k e))
         (all_before i d in_before) (all_after k e in_after)
 
-    module _ (up : IsAscending id_of xs) where
-      before_ascending : IsAscending id_of (before id_of xs id)
+    module _ (up : IdsAscend id_of xs) where
+      before_ascending : IdsAscend id_of (before id_of xs id)
       before_ascending = AllPairs-filter (ComesBefore id_of) _ xs up
 
-      after_ascending : IsAscending id_of (after id_of xs id)
+      after_ascending : IdsAscend id_of (after id_of xs id)
       after_ascending = AllPairs-filter (ComesBefore id_of) _ xs up
 
-      pub without_ascending : IsAscending id_of (without id_of xs id)
+      pub without_ascending : IdsAscend id_of (without id_of xs id)
       without_ascending =
           all_pairs_append (ComesBefore id_of) (before id_of xs id) (after id_of xs id) before_ascending after_ascending before_after
 
-  pub with_element_ascending : (xs : List X) (x : X) → IsAscending id_of xs → IsAscending id_of (with_element id_of xs x)
+  pub with_element_ascending : (xs : List X) (x : X) → IdsAscend id_of xs → IdsAscend id_of (with_element id_of xs x)
   with_element_ascending xs x up =
       all_pairs_append (ComesBefore id_of) (before id_of xs (id_of x)) (x ∷ after id_of xs (id_of x))
       (before_ascending xs (id_of x) up)

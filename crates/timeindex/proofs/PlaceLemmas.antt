@@ -12,7 +12,7 @@ use Rattle.std.proofs.lemmas.Bool.{cases_lt, cases_eq}
 use Rattle.std.proofs.lemmas.Cmp.{tied_itself}
 use Rattle.std.proofs.lemmas.List.{take-append-drop}
 use Rattle.std.proofs.lemmas.List.Sorted.{searchable_from_sorted}
-use Rattle.timeindex.specs.Ascending.{id_order, IsAscending, element_of, before, after, without, IsAt, IsGap}
+use Rattle.timeindex.specs.Ascending.{id_order, IdsAscend, element_of, before, after, without, ElementIsAt, IsElementGap}
 use Rattle.tpoint.proofs.ListLemmas.{filter-take, filter-drop, find-none, find-at}
 
 -- ---- the order of two ids
@@ -32,7 +32,7 @@ same_id : (a b : List ℕ) (o : Ordering) → id_order a b ≡ o → pointwise n
 same_id a b o e = texts_ties a b ∙ ap is_eq e
 
 -- ---- what a binary search finds
-module _ {X : Type 0} (id_of : X → List ℕ) (xs : List X) (up : IsAscending id_of xs) (id : List ℕ) where
+module _ {X : Type 0} (id_of : X → List ℕ) (xs : List X) (up : IdsAscend id_of xs) (id : List ℕ) where
   -- no element's id is below that of the one before it
   in_order : IsSortedBy (λ (x y : X). is_lt (id_order (id_of x) (id_of y))) xs
   in_order k d from to =
@@ -42,7 +42,7 @@ module _ {X : Type 0} (id_of : X → List ℕ) (xs : List X) (up : IsAscending i
   comparisons_rise = searchable_from_sorted total id_of xs id in_order
 
   -- the element at a place has the id: those before it are lower, and those behind it higher
-  pub at_place : (i : ℕ) → i < length xs → HoldsAt (λ (x : X). id_of x ≡ id) xs i → IsAt id_of xs id i
+  pub at_place : (i : ℕ) → i < length xs → HoldsAt (λ (x : X). id_of x ≡ id) xs i → ElementIsAt id_of xs id i
   at_place i within has =
       record {
         in_range = within;
@@ -56,7 +56,7 @@ module _ {X : Type 0} (id_of : X → List ℕ) (xs : List X) (up : IsAscending i
 
   pub searched : (r : Result ℕ ℕ) → IsSearchInRange r (length xs) →
       IsBinarySearchResult (λ (x : X). id_order (id_of x) id) xs r →
-      record { found : IfOk r (IsAt id_of xs id); absent : IfErr r (IsGap id_of xs id) }
+      record { found : IfOk r (ElementIsAt id_of xs id); absent : IfErr r (IsElementGap id_of xs id) }
   searched (Ok i) within equal =
       record {
         found = at_place i within (λ d. same_when_equal (id_of (get_or xs i d)) id (equal d));
@@ -73,7 +73,7 @@ module _ {X : Type 0} (id_of : X → List ℕ) (xs : List X) (up : IsAscending i
       }
 
 -- ---- the parts of an ascending list around a place
-module _ {X : Type 0} (id_of : X → List ℕ) (xs : List X) (id : List ℕ) (i : ℕ) (at : IsAt id_of xs id i) where
+module _ {X : Type 0} (id_of : X → List ℕ) (xs : List X) (id : List ℕ) (i : ℕ) (at : ElementIsAt id_of xs id i) where
   -- the id there is the id
   level : (d : X) → id_order (id_of (get_or xs i d)) id ≡ Equal
   level d = equal_when_same (id_of (get_or xs i d)) id (at.has_id d)
@@ -108,7 +108,7 @@ module _ {X : Type 0} (id_of : X → List ℕ) (xs : List X) (id : List ℕ) (i 
       (λ k e from to. same_id (id_of (get_or xs k e)) id Less (at.lower k e from to))
       (same_id (id_of (get_or xs i d)) id Equal (level d))
 
-module _ {X : Type 0} (id_of : X → List ℕ) (xs : List X) (id : List ℕ) (i : ℕ) (gap : IsGap id_of xs id i) where
+module _ {X : Type 0} (id_of : X → List ℕ) (xs : List X) (id : List ℕ) (i : ℕ) (gap : IsElementGap id_of xs id i) where
   pub before-gap : before id_of xs id ≡ take i xs
   before-gap =
       filter-take (λ (x : X). is_lt (id_order (id_of x) id)) xs i

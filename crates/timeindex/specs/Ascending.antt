@@ -14,8 +14,8 @@ abbrev pub ComesBefore : {X : Type 0} → (X → List ℕ) → X → X → Type 
 ComesBefore {X} id_of x y = id_order (id_of x) (id_of y) ≡ Less
 
 -- the id of each element comes before those of all that follow
-abbrev pub IsAscending : {X : Type 0} → (X → List ℕ) → List X → Type 0
-IsAscending {X} id_of xs = AllPairs (ComesBefore id_of) xs
+abbrev pub IdsAscend : {X : Type 0} → (X → List ℕ) → List X → Type 0
+IdsAscend {X} id_of xs = AllPairs (ComesBefore id_of) xs
 
 -- the element with an id, where there is one
 abbrev pub element_of : {X : Type 0} → (X → List ℕ) → List X → List ℕ → Option X
@@ -45,14 +45,14 @@ abbrev pub AllAfter : {X : Type 0} → (X → List ℕ) → List X → List ℕ 
 AllAfter {X} id_of xs id low high = AllWithin (λ (x : X). id_order (id_of x) id ≡ Greater) xs low high
 
 -- the element at i has the id
-pub record IsAt {X : Type 0} (id_of : X → List ℕ) (xs : List X) (id : List ℕ) (i : ℕ) : Type 0 where
+pub record ElementIsAt {X : Type 0} (id_of : X → List ℕ) (xs : List X) (id : List ℕ) (i : ℕ) : Type 0 where
   pub in_range : i < length xs
   pub has_id : HoldsAt (λ (x : X). id_of x ≡ id) xs i
   pub lower : AllBefore id_of xs id 0 i
   pub higher : AllAfter id_of xs id (i + 1) (length xs)
 
 -- none has it, and an element with it would go to the place i
-pub record IsGap {X : Type 0} (id_of : X → List ℕ) (xs : List X) (id : List ℕ) (i : ℕ) : Type 0 where
+pub record IsElementGap {X : Type 0} (id_of : X → List ℕ) (xs : List X) (id : List ℕ) (i : ℕ) : Type 0 where
   pub in_range : i ≤ length xs
   pub lower : AllBefore id_of xs id 0 i
   pub higher : AllAfter id_of xs id i (length xs)

@@ -3,7 +3,7 @@
 -- A set is seen as the list of its entries in the byte order of their ids.
 use Rattle.std.specs.Prelude.{ℕ, List, map, filter, Bool, ◌&&◌, nat_le, nat_lt, is_some, if◌then◌else◌}
 use Rattle.tpoint.specs.Extents.{Span}
-use Rattle.timeindex.specs.Ascending.{IsAscending, element_of, with_element, without}
+use Rattle.timeindex.specs.Ascending.{IdsAscend, element_of, with_element, without}
 
 -- something with an id is from its first instant to its last, both included
 pub record Entry : Type 0 where
@@ -16,7 +16,7 @@ id_of e = e.id
 
 -- at most one entry for an id
 pub record IsSet (es : List Entry) : Type 0 where
-  pub ascending : IsAscending id_of es
+  pub ascending : IdsAscend id_of es
 
 -- an entry has the id
 abbrev pub is_known : List Entry → List ℕ → Bool

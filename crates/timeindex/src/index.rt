@@ -2,7 +2,7 @@
 
 ghost use Rattle.std.specs.Prelude.{◌≡◌, ◌<◌, [], length, slice_get, slice_set, Some, IsTrue, IfOk, IfErr, OnOk, OnErr, IsOk};
 ghost use Rattle.std.specs.List.{remove};
-ghost use Rattle.timeindex.specs.Ascending.{IsAt, IsGap};
+ghost use Rattle.timeindex.specs.Ascending.{ElementIsAt, IsElementGap};
 ghost use Rattle.timeindex.specs.Entries.{Entry, IsSet, overlaps, id_of, is_known, with_entry, without_entry, ids_overlapping};
 
 use crate::entry::Entry;
@@ -65,7 +65,7 @@ impl TimeIndex {
         first: Instant,
         last: Instant,
     ) -> Result<(), AllocError>
-        requires { IsGap id_of self.old id place }
+        requires { IsElementGap id_of self.old id place }
         ensures value { OnOk result
             (self.new ≡ with_entry self.old (record { id = id; first = first; last = last })) }
         ensures err { OnErr result (self.new ≡ self.old) }
@@ -133,8 +133,8 @@ impl TimeIndex {
 
     /// The place of the entry with the id, or the place where it would go.
     fn place(&self, id: &Id) -> Result<usize, usize>
-        ensures found { IfOk result (IsAt id_of self.now id.now) }
-        ensures absent { IfErr result (IsGap id_of self.now id.now) }
+        ensures found { IfOk result (ElementIsAt id_of self.now id.now) }
+        ensures absent { IfErr result (IsElementGap id_of self.now id.now) }
     {
         self.entries.binary_search_by_key(id, |entry| entry.id())
     }

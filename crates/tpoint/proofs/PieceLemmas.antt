@@ -6,11 +6,11 @@ use Rattle.std.proofs.lemmas.List.{length-map}
 use Rattle.std.specs.Option.{option_map}
 use Rattle.tpoint.proofs.Fractions.{≤ᶠ_trans, ≈_sym, ≈_from_≤ᶠ, ≤ᶠ_of_≈, <ᶠ-≤ᶠ, ≤ᶠ_of_<ᶠ, moment_le}
 use Rattle.tpoint.specs.Fraction.{Fraction, ◌≈◌, ◌≤ᶠ◌, ◌<ᶠ◌}
-use Rattle.tpoint.specs.Moving.{Position, Vertex, IsPlace, OnLeg, AtListed, AtStep, AtPlace, Rises, moment, vertex}
+use Rattle.tpoint.specs.Moving.{Position, Vertex, IsPositionOf, OnLeg, AtListed, AtStep, AtPlace, Rises, moment, vertex}
 use Rattle.tpoint.specs.declared.point.Point.{Point}
 use Rattle.tpoint.specs.declared.interp.Interp.{Interp}
 use Rattle.tpoint.specs.declared.interp.Interp.TheVariants.{Discrete, Step, Linear}
-use Rattle.tpoint.specs.Pieces.{AtPoint, HeldUntil, Piece}
+use Rattle.tpoint.specs.Pieces.{AtPoint, HeldUntil, OnPiece}
 
 -- ---- elements of the list of vertices
 pub mapped : (ps : List Point) (k : ℕ) (q : Point) → slice_get ps k ≡ Some q → slice_get (map vertex ps) k ≡ Some (vertex q)
@@ -51,7 +51,7 @@ discrete_to ps i p e t v h = record { point = vertex p; listed = mapped ps i p e
 pub discrete_from : (ps : List Point) (i : ℕ) (p : Point) → slice_get ps i ≡ Some p → (t : Fraction) (v : Position) →
     AtListed (map vertex ps) i t v → AtPoint p t v
 discrete_from ps i p e t v h =
-    let P : Vertex → Type 0 = λ w. (t ≈ moment w.time) × IsPlace v w.place in
+    let P : Vertex → Type 0 = λ w. (t ≈ moment w.time) × IsPositionOf v w.place in
     let r = subst P (the_vertex ps i p h.point e h.listed) (h.then, h.there) in
     record { then = r.0; there = r.1 }
 
@@ -74,7 +74,7 @@ held_to ps rise i p q e f t v h =
 pub held_from : (ps : List Point) (i : ℕ) (p q : Point) → slice_get ps i ≡ Some p → slice_get ps (i + 1) ≡ Some q →
     (t : Fraction) (v : Position) → AtStep (map vertex ps) i t v → HeldUntil p q t v
 held_from ps i p q e f t v h =
-    let P : Vertex → Type 0 = λ w. (moment w.time ≤ᶠ t) × IsPlace v w.place in
+    let P : Vertex → Type 0 = λ w. (moment w.time ≤ᶠ t) × IsPositionOf v w.place in
     let r = subst P (the_vertex ps i p h.point e h.listed) (h.reached, h.there) in
     record { reached = r.0; not_left = h.not_left (i + 1) (vertex q) (omega arith) (mapped ps (i + 1) q f); there = r.1 }
 
@@ -93,7 +93,7 @@ last_to ps i p over e t v h =
 pub last_from : (ps : List Point) → ((k : ℕ) → Rises ps k) → (i : ℕ) (p : Point) → length ps ≤ i + 1 → slice_get ps i ≡ Some p →
     (t : Fraction) (v : Position) → AtStep (map vertex ps) i t v → AtPoint p t v
 last_from ps rise i p over e t v h =
-    let P : Vertex → Type 0 = λ w. (moment w.time ≤ᶠ t) × IsPlace v w.place in
+    let P : Vertex → Type 0 = λ w. (moment w.time ≤ᶠ t) × IsPositionOf v w.place in
     let r = subst P (the_vertex ps i p h.point e h.listed) (h.reached, h.there) in
     let j = h.not_over.0 in
     let w = h.not_over.1 in
@@ -140,7 +140,7 @@ no_leg ps i over many t v h =
     ]
 
 -- a piece has its place within the list
-pub place_within : (interp : Interp) (ps : List Point) (i : ℕ) (t : Fraction) (v : Position) → Piece interp ps i t v → i < length ps
+pub place_within : (interp : Interp) (ps : List Point) (i : ℕ) (t : Fraction) (v : Position) → OnPiece interp ps i t v → i < length ps
 place_within Discrete ps i t v h = let f = unmap ps i h.point h.listed in slice_get_within ps i f.0 f.1
 place_within Step ps i t v h = let f = unmap ps i h.point h.listed in slice_get_within ps i f.0 f.1
 place_within Linear ps i t v h =
@@ -158,7 +158,7 @@ listed_from ps j p t v e h =
     ≤ᶠ_of_≈ (≈_sym (subst P (the_vertex ps j p h.point e h.listed) h.then))
 
 pub piece_from : (interp : Interp) (ps : List Point) (j : ℕ) (p : Point) (t : Fraction) (v : Position) → slice_get ps j ≡ Some p →
-    Piece interp ps j t v → moment p.t ≤ᶠ t
+    OnPiece interp ps j t v → moment p.t ≤ᶠ t
 piece_from Discrete ps j p t v e h = listed_from ps j p t v e h
 piece_from Step ps j p t v e h =
     let P : Vertex → Type 0 = λ w. moment w.time ≤ᶠ t in
@@ -173,7 +173,7 @@ piece_from Linear ps j p t v e h =
 
 -- nor after the next one
 pub piece_until : (interp : Interp) (ps : List Point) (j : ℕ) (next : Point) (t : Fraction) (v : Position) → ((k : ℕ) → Rises ps k) →
-    slice_get ps (j + 1) ≡ Some next → Piece interp ps j t v → t ≤ᶠ moment next.t
+    slice_get ps (j + 1) ≡ Some next → OnPiece interp ps j t v → t ≤ᶠ moment next.t
 piece_until Discrete ps j next t v rise e h =
     let found = unmap ps j h.point h.listed in
     let P : Vertex → Type 0 = λ w. t ≈ moment w.time in

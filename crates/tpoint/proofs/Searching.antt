@@ -8,7 +8,7 @@ use Rattle.tpoint.proofs.PieceLemmas.{rises_le, place_within, piece_from, piece_
 use Rattle.tpoint.specs.Places.{EachAt}
 use Rattle.tpoint.specs.Listing.{IsListed, instants_of}
 use Rattle.tpoint.specs.Moving.{Position, Rises, moment}
-use Rattle.tpoint.specs.Pieces.{Piece}
+use Rattle.tpoint.specs.Pieces.{OnPiece}
 use Rattle.tpoint.specs.declared.point.Point.{Point}
 use Rattle.tpoint.specs.declared.interp.Interp.{Interp}
 
@@ -55,7 +55,7 @@ points_to_come ps t n to_come k from p at =
 -- ---- the pieces that have no value at t
 -- all but the last two of those that have begun
 pub none_passed : (interp : Interp) (ps : List Point) (t count : ℕ) → ((k : ℕ) → Rises ps k) → count ≤ length ps →
-    ((k : ℕ) → k < count → EachAt ps (λ p. p.t ≤ t) k) → (j : ℕ) → j + 2 < count → (v : Position) → ¬ Piece interp ps j (moment t) v
+    ((k : ℕ) → k < count → EachAt ps (λ p. p.t ≤ t) k) → (j : ℕ) → j + 2 < count → (v : Position) → ¬ OnPiece interp ps j (moment t) v
 none_passed interp [] t count rise within passed j less v h = absurd (omega arith)
 none_passed interp (x ∷ xs) t count rise within passed j less v h =
     let ps = x ∷ xs in
@@ -70,7 +70,7 @@ none_passed interp (x ∷ xs) t count rise within passed j less v h =
 
 -- those that are to come
 pub none_to_come : (interp : Interp) (ps : List Point) (t count : ℕ) → ((k : ℕ) → count ≤ k → EachAt ps (λ p. t < p.t) k) → (j : ℕ) →
-    count ≤ j → (v : Position) → ¬ Piece interp ps j (moment t) v
+    count ≤ j → (v : Position) → ¬ OnPiece interp ps j (moment t) v
 none_to_come interp [] t count to_come j over v h = absurd (omega (arith, place_within interp [] j (moment t) v h))
 none_to_come interp (x ∷ xs) t count to_come j over v h =
     let ps = x ∷ xs in

@@ -7,7 +7,7 @@ use Rattle.std.proofs.lemmas.Option.{slice_get-get_or}
 use Rattle.tpoint.proofs.PlaceLemmas.{stands_at}
 use Rattle.tpoint.specs.Fraction.{Fraction, ◌≤ᶠ◌}
 use Rattle.tpoint.specs.Moving.{Position, Sequence, IsValid, Rises, moment}
-use Rattle.tpoint.specs.Pieces.{AtPoint, Piece}
+use Rattle.tpoint.specs.Pieces.{AtPoint, OnPiece}
 use Rattle.tpoint.specs.Extents.{closed}
 use Rattle.tpoint.proofs.Periods.{at_or_before}
 use Rattle.tpoint.specs.Spans.{instant_at, span_of, HasValuesIn}
@@ -30,7 +30,7 @@ point_there (x ∷ xs) k within = (get_or (x ∷ xs) k x, slice_get-get_or (x �
 
 -- ---- a piece ends no later than the last instant
 single : (interp : Interp) (ps : List Point) → ((k : ℕ) → Rises ps k) → (i : ℕ) (p : Point) → length ps ≤ i + 1 →
-    slice_get ps i ≡ Some p → (t : Fraction) (v : Position) → Piece interp ps i t v → AtPoint p t v
+    slice_get ps i ≡ Some p → (t : Fraction) (v : Position) → OnPiece interp ps i t v → AtPoint p t v
 single Discrete ps rise i p over at t v h = discrete_from ps i p at t v h
 single Step ps rise i p over at t v h = last_from ps rise i p over at t v h
 single Linear ps rise i p over at t v h =
@@ -40,7 +40,7 @@ single Linear ps rise i p over at t v h =
     ]
 
 until_last : (interp : Interp) (ps : List Point) → ((k : ℕ) → Rises ps k) → (i n : ℕ) (last : Point) → length ps ≡ n + 1 →
-    slice_get ps n ≡ Some last → (t : Fraction) (v : Position) → Piece interp ps i t v → t ≤ᶠ moment last.t
+    slice_get ps n ≡ Some last → (t : Fraction) (v : Position) → OnPiece interp ps i t v → t ≤ᶠ moment last.t
 until_last interp ps rise i n last whole at t v h =
     let within = place_within interp ps i t v h in
     elim (cases_lt i n) [
@@ -51,12 +51,12 @@ until_last interp ps rise i n last whole at t v h =
           ≤ᶠ_trans (piece_until interp ps i next t v rise there h) ((moment_le next.t last.t).0 order)
       | inr none ↦
           let same : i ≡ n = omega arith in
-          let it = subst (λ k. Piece interp ps k t v) same h in
+          let it = subst (λ k. OnPiece interp ps k t v) same h in
           ≤ᶠ_of_≈ (single interp ps rise n last (omega arith) at t v it).then
     ]
 
 from_first : (interp : Interp) (ps : List Point) → ((k : ℕ) → Rises ps k) → (i : ℕ) (first : Point) →
-    slice_get ps 0 ≡ Some first → (t : Fraction) (v : Position) → Piece interp ps i t v → moment first.t ≤ᶠ t
+    slice_get ps 0 ≡ Some first → (t : Fraction) (v : Position) → OnPiece interp ps i t v → moment first.t ≤ᶠ t
 from_first interp ps rise i first at t v h =
     let own = get_or ps i first in
     let there = slice_get-get_or ps i first (place_within interp ps i t v h) in

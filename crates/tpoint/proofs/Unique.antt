@@ -10,9 +10,9 @@ use Rattle.tpoint.proofs.Fractions.{≤ᶠ_of_≈, ≈_sym, ≈_trans, ≤ᶠ_tr
 use Rattle.tpoint.proofs.PieceLemmas.{unmap, rises_le, leg_to}
 use Rattle.tpoint.proofs.SubLegs.{OnLine, line_value, line_from, line_to, leg_reaches}
 use Rattle.tpoint.specs.Fraction.{Fraction, ◌≈◌, ◌≤ᶠ◌, whole}
-use Rattle.tpoint.specs.Moving.{Position, Vertex, IsPlace, OnLeg, BetweenNeighbours, AtListed, AtStep, HasValue, Sequence, At, IsValid}
+use Rattle.tpoint.specs.Moving.{Position, Vertex, IsPositionOf, OnLeg, BetweenNeighbours, AtListed, AtStep, HasValue, Sequence, At, IsValid}
 use Rattle.tpoint.specs.Moving.{Rises, moment, vertex}
-use Rattle.tpoint.specs.Pieces.{place, AtPoint, Piece}
+use Rattle.tpoint.specs.Pieces.{place, AtPoint, OnPiece}
 use Rattle.tpoint.specs.declared.point.Point.{Point}
 use Rattle.tpoint.specs.declared.interp.Interp.{Interp}
 use Rattle.tpoint.specs.declared.interp.Interp.TheVariants.{Discrete, Step, Linear}
@@ -60,42 +60,42 @@ line_of_leg : (a b : Point) (D : ℕ) (t : Fraction) (v : Position) → b.t ≡ 
 line_of_leg a b D t v e l = (line_from a.x b.x a.t D v.x t (rw e at l.along_x), line_from a.y b.y a.t D v.y t (rw e at l.along_y))
 
 leg_unique_by : (a b : Point) (D : ℕ) (t : Fraction) (v w : Position) → 1 ≤ D → b.t ≡ a.t + D → OnLeg (vertex a) (vertex b) t v →
-    OnLeg (vertex a) (vertex b) t w → IsPlace v w
+    OnLeg (vertex a) (vertex b) t w → IsPositionOf v w
 leg_unique_by a b D t v w h e l m =
     let p = line_of_leg a b D t v e l in
     let q = line_of_leg a b D t w e m in
     record { same_x = same_line a.x (b.x -ℤ a.x) a.t D v.x w.x t h p.0 q.0; same_y = same_line a.y (b.y -ℤ a.y) a.t D v.y w.y t h p.1 q.1 }
 
 pub leg_unique : (a b : Point) (t : Fraction) (v w : Position) → a.t < b.t → OnLeg (vertex a) (vertex b) t v →
-    OnLeg (vertex a) (vertex b) t w → IsPlace v w
+    OnLeg (vertex a) (vertex b) t w → IsPositionOf v w
 leg_unique a b t v w h l m = leg_unique_by a b (b.t - a.t) t v w (omega arith) (omega arith) l m
 
 leg_end_by : (a b : Point) (D : ℕ) (t : Fraction) (v : Position) → 1 ≤ D → b.t ≡ a.t + D → t ≈ moment b.t →
-    OnLeg (vertex a) (vertex b) t v → IsPlace v (place b)
+    OnLeg (vertex a) (vertex b) t v → IsPositionOf v (place b)
 leg_end_by a b D t v h e f l =
     let p = line_of_leg a b D t v e l in
     let g : t ≈ moment (a.t + D) = rw e at f in
     record { same_x = (end_line a.x b.x a.t D v.x t h g).0 p.0; same_y = (end_line a.y b.y a.t D v.y t h g).0 p.1 }
 
 pub leg_end : (a b : Point) (t : Fraction) (v : Position) → a.t < b.t → t ≈ moment b.t → OnLeg (vertex a) (vertex b) t v →
-    IsPlace v (place b)
+    IsPositionOf v (place b)
 leg_end a b t v h f l = leg_end_by a b (b.t - a.t) t v (omega arith) (omega arith) f l
 
 leg_begin_by : (a b : Point) (D : ℕ) (t : Fraction) (v : Position) → 1 ≤ D → b.t ≡ a.t + D → t ≈ moment a.t →
-    OnLeg (vertex a) (vertex b) t v → IsPlace v (place a)
+    OnLeg (vertex a) (vertex b) t v → IsPositionOf v (place a)
 leg_begin_by a b D t v h e f l =
     let p = line_of_leg a b D t v e l in
     record { same_x = (begin_line a.x b.x a.t D v.x t h f).0 p.0; same_y = (begin_line a.y b.y a.t D v.y t h f).0 p.1 }
 
 pub leg_begin : (a b : Point) (t : Fraction) (v : Position) → a.t < b.t → t ≈ moment a.t → OnLeg (vertex a) (vertex b) t v →
-    IsPlace v (place a)
+    IsPositionOf v (place a)
 leg_begin a b t v h f l = leg_begin_by a b (b.t - a.t) t v (omega arith) (omega arith) f l
 
 -- ---- positions
-pub same_sym : {v w : Position} → IsPlace v w → IsPlace w v
+pub same_sym : {v w : Position} → IsPositionOf v w → IsPositionOf w v
 same_sym e = record { same_x = ≈_sym e.same_x; same_y = ≈_sym e.same_y }
 
-pub same_trans : {u v w : Position} → IsPlace u v → IsPlace v w → IsPlace u w
+pub same_trans : {u v w : Position} → IsPositionOf u v → IsPositionOf v w → IsPositionOf u w
 same_trans e f = record { same_x = ≈_trans e.same_x f.same_x; same_y = ≈_trans e.same_y f.same_y }
 
 -- ---- for one piece after another, v at i and w at j with i < j
@@ -124,7 +124,7 @@ record ListedPoint (ps : List Point) (i : ℕ) (t : Fraction) (v : Position) : T
 listed_point : (ps : List Point) (i : ℕ) (t : Fraction) (v : Position) → AtListed (map vertex ps) i t v → ListedPoint ps i t v
 listed_point ps i t v h =
     let f = unmap ps i h.point h.listed in
-    let P : Vertex → Type 0 = λ w. (t ≈ moment w.time) × IsPlace v w.place in
+    let P : Vertex → Type 0 = λ w. (t ≈ moment w.time) × IsPositionOf v w.place in
     let r = subst P (sym f.2) (h.then, h.there) in
     record { point = f.0; listed = f.1; at = record { then = r.0; there = r.1 } }
 
@@ -145,19 +145,19 @@ leg_points ps i t v h =
 
 -- at one place
 here_listed : (ps : List Point) (i : ℕ) (t : Fraction) (v w : Position) → AtListed (map vertex ps) i t v → AtListed (map vertex ps) i t w →
-    IsPlace v w
+    IsPositionOf v w
 here_listed ps i t v w h k =
-    let P : Vertex → Type 0 = λ x. IsPlace v x.place in
+    let P : Vertex → Type 0 = λ x. IsPositionOf v x.place in
     same_trans (subst P (same_Some h.point k.point (sym h.listed ∙ k.listed)) h.there) (same_sym k.there)
 
 here_step : (ps : List Point) (i : ℕ) (t : Fraction) (v w : Position) → AtStep (map vertex ps) i t v → AtStep (map vertex ps) i t w →
-    IsPlace v w
+    IsPositionOf v w
 here_step ps i t v w h k =
-    let P : Vertex → Type 0 = λ x. IsPlace v x.place in
+    let P : Vertex → Type 0 = λ x. IsPositionOf v x.place in
     same_trans (subst P (same_Some h.point k.point (sym h.listed ∙ k.listed)) h.there) (same_sym k.there)
 
 here_leg : (ps : List Point) → ((k : ℕ) → Rises ps k) → (i : ℕ) (t : Fraction) (v w : Position) → BetweenNeighbours (map vertex ps) i t v →
-    BetweenNeighbours (map vertex ps) i t w → IsPlace v w
+    BetweenNeighbours (map vertex ps) i t w → IsPositionOf v w
 here_leg ps rise i t v w h k =
     let p = leg_points ps i t v h in
     let q = leg_points ps i t w k in
@@ -180,7 +180,7 @@ apart_step : (ps : List Point) (i j : ℕ) (t : Fraction) (v w : Position) → i
 apart_step ps i j t v w l h k = <ᶠ_of_≤ᶠ_not t (moment k.point.time) (h.not_left j k.point l k.listed) k.reached
 
 meet_legs : (ps : List Point) → ((k : ℕ) → Rises ps k) → (i j : ℕ) (t : Fraction) (v w : Position) → i < j →
-    BetweenNeighbours (map vertex ps) i t v → BetweenNeighbours (map vertex ps) j t w → IsPlace v w
+    BetweenNeighbours (map vertex ps) i t v → BetweenNeighbours (map vertex ps) j t w → IsPositionOf v w
 meet_legs ps rise i j t v w l h k =
     let p = leg_points ps i t v h in
     let q = leg_points ps j t w k in
@@ -190,7 +190,7 @@ meet_legs ps rise i j t v w l h k =
           let e : i + 1 ≡ j = omega arith in
           let at : slice_get ps (i + 1) ≡ Some q.a = subst (λ (n : ℕ). slice_get ps n ≡ Some q.a) (sym e) q.a_listed in
           let same = same_Some p.b q.a (sym p.b_listed ∙ at) in
-          let P : Point → Type 0 = λ x. (t ≤ᶠ moment x.t) × (t ≈ moment x.t → IsPlace v (place x)) in
+          let P : Point → Type 0 = λ x. (t ≤ᶠ moment x.t) × (t ≈ moment x.t → IsPositionOf v (place x)) in
           let r = subst P same (p.on.not_over, λ f. leg_end p.a p.b t v (rise i p.a p.b p.a_listed p.b_listed) f p.on) in
           let here = ≈_from_≤ᶠ r.0 q.on.begun in
           same_trans (r.1 here) (same_sym (leg_begin q.a q.b t w (rise j q.a q.b q.a_listed q.b_listed) here q.on))
@@ -201,23 +201,23 @@ by_places : (P : Type 0) (i j : ℕ) → (i < j → P) → (i ≡ j → P) → (
 by_places P i j f g h = elim (cases_lt i j) [ inl l ↦ f l | inr l ↦ elim (cases_lt j i) [ inl m ↦ h m | inr m ↦ g (omega arith) ] ]
 
 unique_listed : (ps : List Point) → ((k : ℕ) → Rises ps k) → (i j : ℕ) (t : Fraction) (v w : Position) → AtListed (map vertex ps) i t v →
-    AtListed (map vertex ps) j t w → IsPlace v w
+    AtListed (map vertex ps) j t w → IsPositionOf v w
 unique_listed ps rise i j t v w h k =
-    by_places (IsPlace v w) i j
+    by_places (IsPositionOf v w) i j
     (λ l. absurd (apart_listed ps rise i j t v w l h k))
     (λ e. here_listed ps i t v w h (subst (λ (n : ℕ). AtListed (map vertex ps) n t w) (sym e) k))
     (λ l. absurd (apart_listed ps rise j i t w v l k h))
 
-unique : (interp : Interp) (ps : List Point) → ((k : ℕ) → Rises ps k) → (i j : ℕ) (t : Fraction) (v w : Position) → Piece interp ps i t v →
-    Piece interp ps j t w → IsPlace v w
+unique : (interp : Interp) (ps : List Point) → ((k : ℕ) → Rises ps k) → (i j : ℕ) (t : Fraction) (v w : Position) → OnPiece interp ps i t v →
+    OnPiece interp ps j t w → IsPositionOf v w
 unique Discrete ps rise i j t v w h k = unique_listed ps rise i j t v w h k
 unique Step ps rise i j t v w h k =
-    by_places (IsPlace v w) i j
+    by_places (IsPositionOf v w) i j
     (λ l. absurd (apart_step ps i j t v w l h k))
     (λ e. here_step ps i t v w h (subst (λ (n : ℕ). AtStep (map vertex ps) n t w) (sym e) k))
     (λ l. absurd (apart_step ps j i t w v l k h))
 unique Linear ps rise i j t v w (inl h) (inl k) =
-    by_places (IsPlace v w) i j
+    by_places (IsPositionOf v w) i j
     (λ l. meet_legs ps rise i j t v w l h k)
     (λ e. here_leg ps rise i t v w h (subst (λ (n : ℕ). BetweenNeighbours (map vertex ps) n t w) (sym e) k))
     (λ l. same_sym (meet_legs ps rise j i t w v l k h))
@@ -227,7 +227,7 @@ unique Linear ps rise i j t v w (inr h) (inl k) = absurd (let p =
     leg_points ps j t w k in omega (arith, h.0, length-map ps vertex, slice_get_within ps (j + 1) p.b p.b_listed))
 unique Linear ps rise i j t v w (inr h) (inr k) = unique_listed ps rise i j t v w h.1 k.1
 
-pub at_unique : (s : Sequence) → IsValid s → (t : Fraction) (v w : Position) → At s t v → At s t w → IsPlace v w
+pub at_unique : (s : Sequence) → IsValid s → (t : Fraction) (v w : Position) → At s t v → At s t w → IsPositionOf v w
 at_unique s valid t v w h k = unique s.interp s.points valid.increasing h.i k.i t v w h.at_i k.at_i
 
 -- ---- the values of a list of points on one of its legs are that leg's
@@ -235,7 +235,7 @@ line_same : (x0 k : ℤ) (t0 D : ℕ) (v w t : Fraction) → 1 ≤ D → v ≈ w
     OnLine x0 k t0 D v.num v.den t.num t.den
 line_same x0 k t0 D v w t h e q = (≈_trans {c = line_value x0 k t0 D h t} e (record { cross = q })).cross
 
-leg_same_by : (a b : Point) (D : ℕ) (t : Fraction) (v w : Position) → 1 ≤ D → b.t ≡ a.t + D → IsPlace v w →
+leg_same_by : (a b : Point) (D : ℕ) (t : Fraction) (v w : Position) → 1 ≤ D → b.t ≡ a.t + D → IsPositionOf v w →
     OnLeg (vertex a) (vertex b) t w → OnLeg (vertex a) (vertex b) t v
 leg_same_by a b D t v w h e same l =
     let q = line_of_leg a b D t w e l in
@@ -246,7 +246,7 @@ leg_same_by a b D t v w h e same l =
       along_y = rw e (line_to a.y b.y a.t D v.y t (line_same a.y (b.y -ℤ a.y) a.t D v.y w.y t h same.same_y q.1));
     }
 
-pub leg_same : (a b : Point) (t : Fraction) (v w : Position) → a.t < b.t → IsPlace v w → OnLeg (vertex a) (vertex b) t w →
+pub leg_same : (a b : Point) (t : Fraction) (v w : Position) → a.t < b.t → IsPositionOf v w → OnLeg (vertex a) (vertex b) t w →
     OnLeg (vertex a) (vertex b) t v
 leg_same a b t v w h same l = leg_same_by a b (b.t - a.t) t v w (omega arith) (omega arith) same l
 

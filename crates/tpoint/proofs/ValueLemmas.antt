@@ -10,14 +10,14 @@ use Rattle.tpoint.proofs.PieceLemmas.{place_within}
 use Rattle.tpoint.specs.Fraction.{Fraction, whole}
 use Rattle.tpoint.specs.Moving.{Position, Sequence, OnLeg, InProportion, HasValue, At, IsValid, Rises, InBounds, moment, vertex}
 use Rattle.tpoint.specs.Places.{EachAt}
-use Rattle.tpoint.specs.Pieces.{Piece}
-use Rattle.tpoint.specs.Lowest.{IsLowest}
+use Rattle.tpoint.specs.Pieces.{OnPiece}
+use Rattle.tpoint.specs.Lowest.{IsInLowestTerms}
 use Rattle.tpoint.specs.Reduced.{fraction, position}
 use Rattle.tpoint.specs.declared.point.Point.{Point}
 use Rattle.tpoint.specs.declared.interp.Interp.{Interp}
 use Rattle.tpoint.specs.declared.frac.Frac.{Frac}
 
-pub lowest_over_one : (n : ℕ) → IsLowest n 1
+pub lowest_over_one : (n : ℕ) → IsInLowestTerms n 1
 lowest_over_one n = record { lowest = λ d p q. le_of_dvd (omega arith) q }
 
 in_proportion : (v : ℤ) (w : ℕ) (x0 x1 : ℤ) (t t0 t1 : ℕ) → v *ℤ (pos t1 -ℤ pos t0) ≡
@@ -76,20 +76,20 @@ of_parts s interp ps e f P h =
     subst (λ (qs : List Point). P (HasValue s.interp (map vertex qs))) f (subst (λ (k : Interp). P (HasValue k (map vertex ps))) e h)
 
 pub found_at : (s : Sequence) (interp : Interp) (ps : List Point) (i t : ℕ) (o : Option (Frac × Frac)) → interp ≡ s.interp →
-    ps ≡ s.points → IsSome o → MatchOption o ((v : Position) → ¬ Piece interp ps i (moment t) v)
-    (λ r. Piece interp ps i (moment t) (position r)) → MatchOption o ((v : Position) → ¬ At s (moment t) v)
+    ps ≡ s.points → IsSome o → MatchOption o ((v : Position) → ¬ OnPiece interp ps i (moment t) v)
+    (λ r. OnPiece interp ps i (moment t) (position r)) → MatchOption o ((v : Position) → ¬ At s (moment t) v)
     (λ r. At s (moment t) (position r))
 found_at s interp ps i t None e f h p = absurd (cc)
 found_at s interp ps i t (Some r) e f h p = of_parts s interp ps e f (λ R. R (moment t) (position r)) (record { i = i; at_i = p })
 
 pub missing_more : (interp : Interp) (ps : List Point) (i t : ℕ) (o : Option (Frac × Frac)) → ¬ IsSome o →
-    ((j : ℕ) → j < i → (v : Position) → ¬ Piece interp ps j (moment t) v) →
-    MatchOption o ((v : Position) → ¬ Piece interp ps i (moment t) v) (λ r. Piece interp ps i (moment t) (position r)) → (j : ℕ) →
-    j < i + 1 → (v : Position) → ¬ Piece interp ps j (moment t) v
-missing_more interp ps i t None n all h = below_more (λ j. (v : Position) → ¬ Piece interp ps j (moment t) v) i all h
+    ((j : ℕ) → j < i → (v : Position) → ¬ OnPiece interp ps j (moment t) v) →
+    MatchOption o ((v : Position) → ¬ OnPiece interp ps i (moment t) v) (λ r. OnPiece interp ps i (moment t) (position r)) → (j : ℕ) →
+    j < i + 1 → (v : Position) → ¬ OnPiece interp ps j (moment t) v
+missing_more interp ps i t None n all h = below_more (λ j. (v : Position) → ¬ OnPiece interp ps j (moment t) v) i all h
 missing_more interp ps i t (Some r) n all h = absurd (n refl)
 
 pub missing : (s : Sequence) (interp : Interp) (ps : List Point) (t : ℕ) → interp ≡ s.interp → ps ≡ s.points →
-    ((j : ℕ) → j < length ps → (v : Position) → ¬ Piece interp ps j (moment t) v) → (v : Position) → ¬ At s (moment t) v
+    ((j : ℕ) → j < length ps → (v : Position) → ¬ OnPiece interp ps j (moment t) v) → (v : Position) → ¬ At s (moment t) v
 missing s interp ps t e f all v h =
     of_parts s interp ps e f (λ R. ¬ R (moment t) v) (λ k. all k.i (place_within interp ps k.i (moment t) v k.at_i) v k.at_i) h

@@ -28,7 +28,7 @@ abbrev pub moment : ℕ → Fraction
 moment n = whole (pos n)
 
 -- v is the position p
-pub record IsPlace (v p : Position) : Type 0 where
+pub record IsPositionOf (v p : Position) : Type 0 where
   pub same_x : v.x ≈ p.x
   pub same_y : v.y ≈ p.y
 
@@ -37,7 +37,7 @@ pub record AtListed (list : List Vertex) (i : ℕ) (t : Fraction) (v : Position)
   pub point : Vertex
   pub listed : slice_get list i ≡ Some point
   pub then : t ≈ moment point.time
-  pub there : IsPlace v point.place
+  pub there : IsPositionOf v point.place
 
 -- ---- Step: t lies from the first to the last instant, the one at i is the last that is not after
 -- t, and v is its position
@@ -49,7 +49,7 @@ pub record AtStep (list : List Vertex) (i : ℕ) (t : Fraction) (v : Position) :
       t <ᶠ moment later.time
   pub not_over : (j : ℕ) × (last : Vertex) × (slice_get list j ≡ Some last) ×
       (t ≤ᶠ moment last.time)
-  pub there : IsPlace v point.place
+  pub there : IsPositionOf v point.place
 
 -- ---- Linear: t lies between neighbours, and v is in proportion on the way from one to the other
 -- (v - from) (t1 - t0) = (to - from) (t - t0), for one coordinate
@@ -116,4 +116,4 @@ pub record IsValid (s : Sequence) : Type 0 where
 
 -- a sequence has at most one value at an instant
 abbrev pub HasOneValue : Sequence → Type 0
-HasOneValue s = (t : Fraction) (v w : Position) → At s t v → At s t w → IsPlace v w
+HasOneValue s = (t : Fraction) (v w : Position) → At s t v → At s t w → IsPositionOf v w

@@ -1,7 +1,7 @@
 //! Fractions in lowest terms.
 
 ghost use Rattle.std.specs.Prelude.{pos, ◌≤ℤ◌, unsigned_abs};
-ghost use Rattle.tpoint.specs.Lowest.{IsLowest};
+ghost use Rattle.tpoint.specs.Lowest.{IsInLowestTerms};
 
 use std::fmt;
 
@@ -13,7 +13,7 @@ pub struct Frac {
     pub num: i128,
     pub den: i64,
     pub ghost positive: { pos 1 ≤ℤ den },
-    pub ghost lowest: { IsLowest (unsigned_abs num) (unsigned_abs den) },
+    pub ghost lowest: { IsInLowestTerms (unsigned_abs num) (unsigned_abs den) },
 }
 
 impl From<i64> for Frac {

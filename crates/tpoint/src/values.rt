@@ -3,10 +3,10 @@
 ghost use Rattle.std.specs.Prelude.{◌≡◌, ℕ, ◌^◌, ◌<◌, ◌≤◌, length};
 ghost use Rattle.std.specs.Prelude.{pos, ◌+ℤ◌, ◌-ℤ◌, ◌*ℤ◌, ◌≤ℤ◌, unsigned_abs};
 ghost use Rattle.tpoint.specs.Places.{EachAt};
-ghost use Rattle.tpoint.specs.Moving.{IsPlace, OnLeg, Rises, InBounds, moment, vertex};
+ghost use Rattle.tpoint.specs.Moving.{IsPositionOf, OnLeg, Rises, InBounds, moment, vertex};
 ghost use Rattle.tpoint.specs.Moving.{At, HasOneValue};
 ghost use Rattle.tpoint.specs.Coordinates.{InRange};
-ghost use Rattle.tpoint.specs.Pieces.{place, AtPoint, HeldUntil, Piece};
+ghost use Rattle.tpoint.specs.Pieces.{place, AtPoint, HeldUntil, OnPiece};
 ghost use Rattle.tpoint.specs.Reduced.{position, Finds};
 
 use crate::probed::Probed;
@@ -87,7 +87,7 @@ fn piece_value(interp: Interp, points: &[Point], i: usize, t: Instant) -> Option
     requires in_list { i < length points.now }
     requires increasing { (k : ℕ) → Rises points.now k }
     requires in_range { (k : ℕ) → EachAt points.now InBounds k }
-    ensures { Finds (Piece interp points.now i (moment t)) result }
+    ensures { Finds (OnPiece interp points.now i (moment t)) result }
 {
     let last = i + 1 == points.len();
     match interp {
@@ -151,7 +151,7 @@ fn on_leg(a: &Point, b: &Point, t: Instant) -> Option<(Frac, Frac)>
 
 /// The position of a point.
 fn place_of(point: &Point) -> (Frac, Frac)
-    ensures { IsPlace (position result) (place point.now) }
+    ensures { IsPositionOf (position result) (place point.now) }
 {
     (Frac::from(point.x), Frac::from(point.y))
 }

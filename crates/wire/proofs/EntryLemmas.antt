@@ -9,7 +9,7 @@ use Rattle.sessions.specs.declared.command.Command.{Command}
 use Rattle.wire.specs.declared.frames.fault.WireFault.{WireFault}
 use Rattle.wire.specs.declared.frames.fault.WireFault.TheVariants.{Field}
 use Rattle.wire.specs.declared.frames.fault.WireFault.TheVariants as faults
-use Rattle.wire.specs.Promises.{IsTold, AreTold}
+use Rattle.wire.specs.Promises.{IsToldVote, AreTold}
 use Rattle.fields.specs.Reading.{◌>>=◌}
 use Rattle.wire.specs.Reading.{Read, Fails, Gives, ballot_at, slot_at, command_at}
 use Rattle.wire.specs.FrameReading.{slot_within, ballot_up_to, entry_at, entries_at}
@@ -85,7 +85,7 @@ up_to_is nodes limit bytes x e =
     subst (λ (y : Ballot × List ℕ). rank y.0 ≤ rank limit) (ok_is _ _ g.1) (at_most (rank limit) (rank b.0.0) g.0)
 
 entry_is_told : (nodes : ℕ) (limit : Ballot) (from last : ℕ) (bytes : List ℕ) (x : Vote Command × List ℕ)
-    → entry_at nodes limit from last bytes ≡ Ok x → IsTold limit from last x.0
+    → entry_at nodes limit from last bytes ≡ Ok x → IsToldVote limit from last x.0
 unfolding entry_at
 entry_is_told nodes limit from last bytes x e =
     let s = bind_ok (slot_within from last bytes) _ x e in
@@ -94,8 +94,8 @@ entry_is_told nodes limit from last bytes x e =
     let tb = up_to_is nodes limit s.0.1 b.0 b.1 in
     let c = bind_ok (command_at b.0.1) _ x b.2 in
     let made : Vote Command = record { slot = s.0.0; ballot = b.0.0; command = c.0.0 } in
-    let it : IsTold limit from last made = record { not_before = ts.0; not_after = ts.1; not_above = tb } in
-    subst (λ (y : Vote Command × List ℕ). IsTold limit from last y.0) (ok_is _ _ c.2) it
+    let it : IsToldVote limit from last made = record { not_before = ts.0; not_after = ts.1; not_above = tb } in
+    subst (λ (y : Vote Command × List ℕ). IsToldVote limit from last y.0) (ok_is _ _ c.2) it
 
 -- so many, and a promise may tell them
 pub entries_are_told : (nodes : ℕ) (limit : Ballot) (last count from : ℕ) (bytes : List ℕ) (x : List (Vote Command) × List ℕ)

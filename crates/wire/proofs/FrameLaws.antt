@@ -20,7 +20,7 @@ use Rattle.wire.specs.declared.frames.kind.Kind.TheVariants as kind
 use Rattle.wire.specs.declared.frames.message.Message.{Message}
 use Rattle.wire.specs.declared.frames.message.Message.TheVariants.{Prepare, Promise, Nack, Accept, Accepted, Ask, Decided, SnapAsk, SnapPart, Behind}
 use Rattle.wire.specs.declared.frames.promise.TheConstants.{MOST_ENTRIES}
-use Rattle.wire.specs.Promises.{Promised, Refused, IsTold, AreTold, IsPromise}
+use Rattle.wire.specs.Promises.{Promised, Refused, IsToldVote, AreTold, IsPromise}
 use Rattle.wire.specs.Spelling.{ballot_bytes, BallotFits, slot_bytes, SlotFits, command_bytes, CommandFits}
 use Rattle.wire.specs.FrameSpelling.{version_of, byte_of, kinds, kind_of, vote_bytes, entry_bytes, promise_bytes, body_bytes, head_bytes}
 use Rattle.wire.specs.FrameSpelling.{spelling, VoteFits, PromiseFits, NackFits, MessageFits, Fits, IsFrame}
@@ -296,7 +296,7 @@ ballot_up_to_again nodes limit b rest fits low =
 
 record EntryFits (nodes : ℕ) (limit : Ballot) (from last : ℕ) (v : Vote Command) : Type 0 where
   pub vote : VoteFits nodes v
-  pub told : IsTold limit from last v
+  pub told : IsToldVote limit from last v
 
 entry_takes : (nodes : ℕ) → nodes ≤ 7 → (limit : Ballot) (from last : ℕ) (bytes : List ℕ) (x : Vote Command × List ℕ) → IsBytes bytes
     → entry_at nodes limit from last bytes ≡ Ok x → Took entry_bytes (EntryFits nodes limit from last) bytes x
@@ -312,12 +312,12 @@ entry_takes nodes few limit from last bytes x fits e =
     let all = Takes-then bytes (slot_bytes s.0.0) s.0.1 (ballot_bytes b.0.0 ++ command_bytes c.0.0) c.0.1 ts.takes later in
     let made : Vote Command = record { slot = s.0.0; ballot = b.0.0; command = c.0.0 } in
     let fit : VoteFits nodes made = record { slot = ts.fits.0; ballot = tb.fits.0; command = tc.fits } in
-    let told : IsTold limit from last made = record { not_before = ts.fits.1; not_after = ts.fits.2; not_above = tb.fits.1 } in
+    let told : IsToldVote limit from last made = record { not_before = ts.fits.1; not_after = ts.fits.2; not_above = tb.fits.1 } in
     let it : Took entry_bytes (EntryFits nodes limit from last) bytes (made, c.0.1) = record
     { takes = all; fits = record { vote = fit; told = told } } in
     subst (Took entry_bytes (EntryFits nodes limit from last) bytes) (ok_is _ _ c.2) it
 
-entry_again : (nodes : ℕ) (limit : Ballot) (from last : ℕ) (v : Vote Command) (rest : List ℕ) → VoteFits nodes v → IsTold limit from last v
+entry_again : (nodes : ℕ) (limit : Ballot) (from last : ℕ) (v : Vote Command) (rest : List ℕ) → VoteFits nodes v → IsToldVote limit from last v
     → entry_at nodes limit from last (entry_bytes v ++ rest) ≡ Ok (v, rest)
 unfolding entry_at
 entry_again nodes limit from last v rest fits told =

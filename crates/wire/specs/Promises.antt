@@ -19,7 +19,7 @@ pub record Refused : Type 0 where
   pub promised : Ballot
 
 -- a promise of this ballot may tell the vote: its slot is from one to another, and its ballot is not greater
-pub record IsTold (ballot : Ballot) (from last : ℕ) (v : Vote Command) : Type 0 where
+pub record IsToldVote (ballot : Ballot) (from last : ℕ) (v : Vote Command) : Type 0 where
   pub not_before : from ≤ v.slot
   pub not_after : v.slot ≤ last
   pub not_above : rank v.ballot ≤ rank ballot
@@ -27,7 +27,7 @@ pub record IsTold (ballot : Ballot) (from last : ℕ) (v : Vote Command) : Type 
 -- it may tell all of them, slots ascending
 abbrev pub AreTold : Ballot → ℕ → ℕ → List (Vote Command) → Type 0
 AreTold ballot from last [] = Unit {0}
-AreTold ballot from last (v ∷ vs) = IsTold ballot from last v × AreTold ballot (v.slot + 1) last vs
+AreTold ballot from last (v ∷ vs) = IsToldVote ballot from last v × AreTold ballot (v.slot + 1) last vs
 
 -- a promise may say this
 pub record IsPromise (p : Promised) : Type 0 where

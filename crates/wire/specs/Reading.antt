@@ -30,9 +30,9 @@ Gives view (Ok x) read = read ≡ Ok (view x)
 Gives view (Err e) read = Fails e read
 
 -- memory may be wanted: what stands there is no value, or brings what memory is taken for
-abbrev pub MayWant : {Y : Type 0} → (Y → Type 0) → Result Y WireFault → Type 0
-MayWant brings (Ok y) = brings y
-MayWant brings (Err e) = Unit {0}
+abbrev pub ReadMayWant : {Y : Type 0} → (Y → Type 0) → Result Y WireFault → Type 0
+ReadMayWant brings (Ok y) = brings y
+ReadMayWant brings (Err e) = Unit {0}
 
 -- a value and the bytes after it, or a fault
 abbrev pub Read : Type 0 → Type 0

@@ -7,7 +7,7 @@ use Rattle.stable.specs.Records.{Records, no_records}
 use Rattle.stable.specs.declared.key.Key.{Key}
 use Rattle.stable.specs.declared.memory.MemStable.{MemStable}
 use Rattle.stable.specs.declared.stable.Stable.{Ghosts}
-use Rattle.world_model.specs.Starting.{IsUsed, OneIsUsed, told, failed}
+use Rattle.world_model.specs.Starting.{StorageIsUsed, OneIsUsed, told, failed}
 use Rattle.events.specs.declared.fault.WorldFault.{WorldFault}
 use Rattle.events.specs.declared.fault.WorldFault.TheVariants as fault
 
@@ -18,13 +18,13 @@ first_is_in x xs = (zero, omega arith, refl)
 module _ {S : Type 0} (storages : Ghosts S) where
   -- a storage that told a key holds that key's record
   pub keys_used : (keys : List Key) (len : ℕ) (before after : S) → len ≡ length keys → false ≡ (len == 0) → storages.reads before after
-      → (storages.IsHonest after → (k : Key) → Contains keys k ↔ IsSome (storages.contents before k)) → IsUsed storages before
+      → (storages.IsHonest after → (k : Key) → Contains keys k ↔ IsSome (storages.contents before k)) → StorageIsUsed storages before
   keys_used [] len before after same some reads keys = absurd (true≢false (sym (subst (λ (n : ℕ). false ≡ (n == 0)) same some)))
   keys_used (k ∷ keys) len before after same some reads holds =
       told after reads (λ honest. inr (k, (holds honest k).0 (first_is_in k keys)))
 
   -- one of those that are left is one of all
-  pub one_of_all : (all before left after : List S) (s : S) → before ++ left ≡ all → left ≡ s ∷ after → IsUsed storages s
+  pub one_of_all : (all before left after : List S) (s : S) → before ++ left ≡ all → left ≡ s ∷ after → StorageIsUsed storages s
       → OneIsUsed storages all
   one_of_all all before left after s parts next used = record {
     store = s;
@@ -38,7 +38,7 @@ none_is_some : {A : Type 0} (o : Option A) → o ≡ None → IsSome o → ⊥
 none_is_some o none some = true≢false (sym (subst (λ (p : Option _). IsSome p) none some))
 
 -- a storage in memory that has no record is found used by no look
-unused : (s : MemStable) → stored s ≡ no_records → IsUsed in_memory s → ⊥
+unused : (s : MemStable) → stored s ≡ no_records → StorageIsUsed in_memory s → ⊥
 unused s empty (told after reads holds) = elim (holds tt) [
   | inl stray ↦ stray
   | inr found ↦ none_is_some (stored s found.0) (ap (λ (r : Records). r found.0) empty) found.1

@@ -3,7 +3,7 @@
 ghost use Rattle.std.specs.Prelude.{◌≡◌, ◌≤◌, ◌<◌, ◌+◌, ◌++◌, ◌∷◌, [], ◌↔◌, ℕ, true, false, length, vec_len, vec_capacity, Some, None};
 ghost use Rattle.std.specs.Prelude.{OnOk, OnErr, IsOk, IsErrOf, ◌⊎◌, Bool, IfOk, IfErr, IsTrue, is_ok, MatchBool};
 ghost use Rattle.std.specs.Prelude.{MatchOption, All, map};
-ghost use Rattle.store.specs.Operations.{IsSound};
+ghost use Rattle.store.specs.Operations.{OpIsValid};
 ghost use Rattle.node_model.specs.Faults.{is_stop_fault};
 ghost use Rattle.node.specs.Seen.{state_of};
 ghost use Rattle.node_model.specs.declared.input.Input.TheVariants as input;
@@ -93,7 +93,7 @@ impl<S: Stable> Inner<S> {
     ghost use Rattle.world.specs.Inner.{HasRoom};
     ghost use Rattle.world_model.specs.Events.{NamesNoFrame, NamesNoNode};
     ghost use Rattle.world_model.specs.Flushing.{Delivers, DeliversSome};
-    ghost use Rattle.world_model.specs.Rounds.{is_up, IsBehind, IsAt, RefusesToBegin, FailsToBegin};
+    ghost use Rattle.world_model.specs.Rounds.{is_up, IsBehind, PositionIsAt, RefusesToBegin, FailsToBegin};
 
     /// Every frame that was sent.
     pub fn frames(&self) -> &[Frame]
@@ -137,7 +137,7 @@ impl<S: Stable> Inner<S> {
     pub fn slot_of(&self, node: NodeId) -> Option<Slot>
         requires there { node < vec_len self.now.nodes }
         requires up { is_up (inner_of self.now) node ≡ true }
-        ensures { MatchOption result (RefusesToBegin (inner_of self.now) node NodeFault.LogFull) (IsAt (inner_of self.now) node) }
+        ensures { MatchOption result (RefusesToBegin (inner_of self.now) node NodeFault.LogFull) (PositionIsAt (inner_of self.now) node) }
     {
         let at = &self.nodes[usize::from(node.value())];
         Slot::new(at.position())
@@ -683,7 +683,7 @@ fn add_replies(replies: &mut Vec<Replied>, node: NodeId, executed: Vec<ReplyOut>
 
 // What an operation brings is valid, as its type has it: a sequence, or a point with its coordinates in range.
 fn recall_valid(op: &Op)
-    ensures { IsSound op.now }
+    ensures { OpIsValid op.now }
 {
     match op {
         Op::Put(_, seq) => {

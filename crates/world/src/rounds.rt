@@ -16,10 +16,10 @@ use world_model::{RoundEnd, WorldFault};
 
 impl<S: Stable> Inner<S> {
     ghost use Rattle.world.specs.Inner.{inner_of};
-    ghost use Rattle.world_model.specs.Rounds.{NamesNoMember, IsLowestDown, IsBehind, IsLowestBehind, CanMeet, IsAt};
-    ghost use Rattle.world_model.specs.Rounds.{DeliversTo, DeliversPart, GoesDownOn, EndsIn};
-    ghost use Rattle.world_model.specs.Rounds.{MeetingEnds, IsInterrupted, RoundEnds, IsPartOfRound, is_up};
-    ghost use Rattle.world_model.specs.Rounds.{GoesOn, GoesToItsEnd, BreaksOff, begun, answered, heard};
+    ghost use Rattle.world_model.specs.Rounds.{NamesNoMember, IsLowestDown, IsBehind, IsLowestBehind, CanMeet, PositionIsAt};
+    ghost use Rattle.world_model.specs.Rounds.{DeliversTo, DeliversPart, GoesDownOn, RoundEndsIn};
+    ghost use Rattle.world_model.specs.Rounds.{MeetingEnds, RoundIsInterrupted, RoundEnds, IsPartOfRound, is_up};
+    ghost use Rattle.world_model.specs.Rounds.{GoesOn, GoesToItsEnd, RoundBreaksOff, begun, answered, heard};
 
     /// A round of a node with these members, by hand, and how it ended.
     pub fn round(
@@ -65,7 +65,7 @@ impl<S: Stable> Inner<S> {
     ) -> Result<RoundEnd, WorldFault>
         requires there { node < vec_len self.old.nodes }
         requires members_there { All (λ m. m < vec_len self.old.nodes) members.now }
-        ensures ends { IfOk result (λ end. EndsIn (⟦<Scripted<S> as Stable>⟧)
+        ensures ends { IfOk result (λ end. RoundEndsIn (⟦<Scripted<S> as Stable>⟧)
             (inner_of self.old) node members.now end (inner_of self.new)) }
         ensures part { OnErr result (IsPartOfRound (⟦<Scripted<S> as Stable>⟧)
             (inner_of self.old) node members.now (inner_of self.new)) }
@@ -131,10 +131,10 @@ impl<S: Stable> Inner<S> {
     ) -> Result<RoundEnd, WorldFault>
         requires there { node < vec_len self.old.nodes }
         requires up { is_up (inner_of self.old) node ≡ true }
-        requires at { IsAt (inner_of self.old) node slot }
+        requires at { PositionIsAt (inner_of self.old) node slot }
         ensures ends { IfOk result (λ end. MeetingEnds (⟦<Scripted<S> as Stable>⟧)
             (inner_of self.old) node members.now end (inner_of self.new)) }
-        ensures part { OnErr result (IsInterrupted (⟦<Scripted<S> as Stable>⟧)
+        ensures part { OnErr result (RoundIsInterrupted (⟦<Scripted<S> as Stable>⟧)
             (inner_of self.old) node members.now (inner_of self.new)) }
         ensures memory { IfErr result (λ f. f ≡ WorldFault.Memory) }
     {
@@ -168,7 +168,7 @@ impl<S: Stable> Inner<S> {
         ensures ends { IfOk result (λ gathered. IfErr gathered (λ end. GoesToItsEnd (⟦<Scripted<S> as Stable>⟧)
             node members.now begun prepares (inner_of self.old) end (inner_of self.new))) }
         ensures accepts_sent { IfOk result (λ gathered. IfOk gathered (λ accepts. accepts ≤ vec_len self.new.frames)) }
-        ensures part { OnErr result (BreaksOff (⟦<Scripted<S> as Stable>⟧)
+        ensures part { OnErr result (RoundBreaksOff (⟦<Scripted<S> as Stable>⟧)
             node members.now begun prepares (inner_of self.old) (inner_of self.new)) }
         ensures memory { IfErr result (λ f. f ≡ WorldFault.Memory) }
     {
@@ -201,7 +201,7 @@ impl<S: Stable> Inner<S> {
             node members.now answered accepts (inner_of self.old) heard last (inner_of self.new))
             (λ down. GoesToItsEnd (⟦<Scripted<S> as Stable>⟧)
             node members.now answered accepts (inner_of self.old) (end.Stopped down) (inner_of self.new))) }
-        ensures part { OnErr result (BreaksOff (⟦<Scripted<S> as Stable>⟧)
+        ensures part { OnErr result (RoundBreaksOff (⟦<Scripted<S> as Stable>⟧)
             node members.now answered accepts (inner_of self.old) (inner_of self.new)) }
         ensures memory { IfErr result (λ f. f ≡ WorldFault.Memory) }
     {

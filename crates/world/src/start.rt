@@ -5,7 +5,7 @@ ghost use Rattle.node.specs.Seen.{state_of};
 ghost use Rattle.stable.specs.Memory.{stored};
 ghost use Rattle.stable.specs.Records.{no_records};
 ghost use Rattle.world_model.specs.Flushing.{IsStarted, HaveStarted};
-ghost use Rattle.world_model.specs.Starting.{AreOver, IsUsed, OneIsUsed, WasRead};
+ghost use Rattle.world_model.specs.Starting.{AreOver, StorageIsUsed, OneIsUsed, WasRead};
 
 use node::Node;
 use stable::{MemStable, Scripted, Stable, StableFault};
@@ -62,7 +62,7 @@ fn start_node<S: Stable + Drop>(
     ensures over { IfOk result (λ n. WasRead S.Stable store (state_of n).storage.inner) }
 
     // Each fault.
-    ensures used { IfErr result (λ f. f ≡ WorldFault.NotEmpty → IsUsed S.Stable store) }
+    ensures used { IfErr result (λ f. f ≡ WorldFault.NotEmpty → StorageIsUsed S.Stable store) }
     ensures faults { IfErr result (λ f. (f ≡ WorldFault.NotEmpty) ⊎ (f ≡ WorldFault.Memory)) }
 {
     let mut store = store;
@@ -78,7 +78,7 @@ fn see_empty<S: Stable>(alloc: Global, store: &mut S) -> Result<(), WorldFault>
 
     // Each fault. Whatever it answers, the storage was only read.
     ensures only_read { WasRead S.Stable store.old store.new }
-    ensures used { IfErr result (λ f. f ≡ WorldFault.NotEmpty → IsUsed S.Stable store.old) }
+    ensures used { IfErr result (λ f. f ≡ WorldFault.NotEmpty → StorageIsUsed S.Stable store.old) }
     ensures faults { IfErr result (λ f. (f ≡ WorldFault.NotEmpty) ⊎ (f ≡ WorldFault.Memory)) }
 {
     match store.keys(alloc) {

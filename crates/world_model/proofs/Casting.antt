@@ -4,7 +4,7 @@ use Rattle.std.proofs.Common.{◌≡◌, ◌⊎◌, ℕ, ◌≤◌, List, [], �
 use Rattle.std.proofs.lemmas.Bool.{le-ltb}
 use Rattle.std.proofs.lemmas.List.Elements.{Contains-push_cases}
 use Rattle.synod.specs.Messages.{Accept}
-use Rattle.synod.specs.Records.{Write, VoteWrite, PromiseWrite, RoundWrite, CheckpointWrite}
+use Rattle.synod.specs.Records.{LoggedWrite, VoteWrite, PromiseWrite, RoundWrite, CheckpointWrite}
 use Rattle.synod.specs.Acts as act
 use Rattle.synod.specs.Acts.{Membership, Local, Input, Came, Nothing, Act, Brings, MayAct, MayDo, acted, done, Does}
 use Rattle.synod.specs.declared.vote.Vote.{Vote}
@@ -91,7 +91,7 @@ module _ {C : Type 0} (f : Membership C) (i : ℕ) (input : Input C) where
     pub above : x.records.floor ≤ v.slot
     pub stands : y.records.floor ≤ v.slot → Stands y v
 
-  another_write : (ws : List (Write C)) (w : Write C) (v : Vote C) → (w ≡ VoteWrite v → ⊥) → Contains (ws ++ w ∷ []) (VoteWrite v)
+  another_write : (ws : List (LoggedWrite C)) (w : LoggedWrite C) (v : Vote C) → (w ≡ VoteWrite v → ⊥) → Contains (ws ++ w ∷ []) (VoteWrite v)
       → Contains ws (VoteWrite v)
   another_write ws w v apart c = elim (Contains-push_cases ws w (VoteWrite v) c) [ inl old ↦ old | inr new ↦ absurd (apart new) ]
 

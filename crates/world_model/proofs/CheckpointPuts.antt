@@ -20,7 +20,7 @@ use Rattle.wire.specs.declared.frames.message.Message.TheVariants.{Prepare, Acce
 use Rattle.wire.proofs.RecordLaws.{one_checkpoint}
 use Rattle.acceptor.proofs.CheckpointLemmas.{record_of}
 use Rattle.acceptor.proofs.FloorLemmas.{promise_fits}
-use Rattle.acceptor.specs.Accepting.{Accepting, Write, RecordsSay, IsAcceptWrite, IsTrimWrite}
+use Rattle.acceptor.specs.Accepting.{Accepting, OptionalWrite, RecordsSay, IsAcceptWrite, IsTrimWrite}
 use Rattle.acceptor.specs.Accepting.{Verdict, Refused, Behind, Taken, verdict, if_taken}
 use Rattle.acceptor.specs.Forms.{CheckpointFits}
 use Rattle.acceptor.specs.Spelling.{ballot_bytes}
@@ -34,20 +34,20 @@ use Rattle.world_model.proofs.ListedPuts.{put_by}
 
 -- ---- under which key an input puts something: what the key isn't it doesn't put
 -- nothing is put
-abbrev PutsNothing : Write → Type 0
+abbrev PutsNothing : OptionalWrite → Type 0
 PutsNothing w = (c : script.Write) → put_by w ≡ Some c → ⊥
 
-puts_none : (w : Write) → w ≡ None → PutsNothing w
+puts_none : (w : OptionalWrite) → w ≡ None → PutsNothing w
 puts_none w none c e = none-some c (ap put_by (sym none) ∙ e)
 
 -- what is put is no checkpoint
-abbrev PutsNoCheckpoint : Write → Type 0
+abbrev PutsNoCheckpoint : OptionalWrite → Type 0
 PutsNoCheckpoint w = (c : script.Write) → put_by w ≡ Some c → 1 ≤ rank c.0
 
-nothing_is_no_checkpoint : (w : Write) → w ≡ None → PutsNoCheckpoint w
+nothing_is_no_checkpoint : (w : OptionalWrite) → w ≡ None → PutsNoCheckpoint w
 nothing_is_no_checkpoint w none c e = absurd (puts_none w none c e)
 
-other_put : (w : Write) (k : Key) (bytes : List ℕ) → 1 ≤ rank k → w ≡ Some (Sets k bytes) → PutsNoCheckpoint w
+other_put : (w : OptionalWrite) (k : Key) (bytes : List ℕ) → 1 ≤ rank k → w ≡ Some (Sets k bytes) → PutsNoCheckpoint w
 other_put w k bytes other is c e =
     let same : (k, bytes) ≡ c = same_Some (k, bytes) c (ap put_by (sym is) ∙ e) in
     subst (λ (x : script.Write). 1 ≤ rank x.0) same other
@@ -59,7 +59,7 @@ on_prepare b (Behind floor) already = nothing_is_no_checkpoint None refl
 on_prepare b Taken true = nothing_is_no_checkpoint None refl
 on_prepare b Taken false = other_put _ key.Promise (ballot_bytes b) (omega arith) refl
 
-on_accept : (a : Accepting) (v : Vote Command) (w : Write) → IsAcceptWrite a v w → PutsNoCheckpoint w
+on_accept : (a : Accepting) (v : Vote Command) (w : OptionalWrite) → IsAcceptWrite a v w → PutsNoCheckpoint w
 on_accept a v w h c e =
     let some : w ≡ None → ⊥ = λ none. puts_none w none c e in
     elim (judged a v.ballot v.slot) [
@@ -69,18 +69,18 @@ on_accept a v w h c e =
           other_put w (key.Vote v.slot) _ (omega arith) (h.cast (record { taken = same; fresh = λ stands. some (h.already stands) })) c e
     ]
 
-on_message : (m : ReplicaState) (message : Message) (w : Write) → WritesOnMessage m message w → PutsNoCheckpoint w
+on_message : (m : ReplicaState) (message : Message) (w : OptionalWrite) → WritesOnMessage m message w → PutsNoCheckpoint w
 on_message m (Prepare ballot first) w is =
-    subst (λ (x : Write). PutsNoCheckpoint x) (sym is)
+    subst (λ (x : OptionalWrite). PutsNoCheckpoint x) (sym is)
     (on_prepare ballot (verdict m.accepting ballot first) (ballots.rank ballot == rank_of m.accepting.promise))
 on_message m (Accept v) w is = on_accept m.accepting v w is
 on_message m other w is = nothing_is_no_checkpoint w is
 
-on_envelope : (m : ReplicaState) (e : Envelope) (b : Bool) (w : Write) → WritesOnEnvelope m e b w → PutsNoCheckpoint w
+on_envelope : (m : ReplicaState) (e : Envelope) (b : Bool) (w : OptionalWrite) → WritesOnEnvelope m e b w → PutsNoCheckpoint w
 on_envelope m e false w is = nothing_is_no_checkpoint w is
 on_envelope m e true w is = on_message m e.message w is
 
-on_trim : (a : Accepting) (w : Write) → IsTrimWrite a w → PutsNoCheckpoint w
+on_trim : (a : Accepting) (w : OptionalWrite) → IsTrimWrite a w → PutsNoCheckpoint w
 on_trim a None is c e = absurd (none-some c e)
 on_trim a (Some change) is c e = absurd (none-some c (ap (λ (x : Change). put_by (Some x)) (sym is.1) ∙ e))
 
@@ -90,7 +90,7 @@ pub record IsCheckpointOfNode (m : ReplicaState) (c : Checkpointed) : Type 0 whe
   pub machine : MachineFits m.machine
   pub is : c ≡ record { position = position m; promise = promised m; text = snapshot_bytes m.machine }
 
-checkpoint_written : (r : Records) (m : ReplicaState) (w : Write) → RecordsSay r m.accepting → WritesCheckpoint m w → (c : Checkpointed)
+checkpoint_written : (r : Records) (m : ReplicaState) (w : OptionalWrite) → RecordsSay r m.accepting → WritesCheckpoint m w → (c : Checkpointed)
     → CheckpointFits c → put_by w ≡ Some (key.Checkpoint, checkpoint_bytes c) → IsCheckpointOfNode m c
 checkpoint_written r m w says writes c fits e =
     let d : Checkpointed = record { position = position m; promise = promised m; text = snapshot_bytes m.machine } in
@@ -108,7 +108,7 @@ checkpoint_written r m w says writes c fits e =
     record { machine = writes.fits; is = one_checkpoint (checkpoint_bytes c) c d (record_of (checkpoint_bytes c) c fits refl) written }
 
 -- whatever checkpoint an input puts is that
-pub checkpoint_put : (r : Records) (m : ReplicaState) (i : Input) (w : Write) → RecordsSay r m.accepting → Writes m i w → (c : Checkpointed)
+pub checkpoint_put : (r : Records) (m : ReplicaState) (i : Input) (w : OptionalWrite) → RecordsSay r m.accepting → Writes m i w → (c : Checkpointed)
     → CheckpointFits c → put_by w ≡ Some (key.Checkpoint, checkpoint_bytes c) → IsCheckpointOfNode m c
 checkpoint_put r m (input.Submit client number op) w says writes c fits e = absurd (puts_none w writes (key.Checkpoint, checkpoint_bytes c) e)
 checkpoint_put r m (input.Message e) w says writes c fits put =

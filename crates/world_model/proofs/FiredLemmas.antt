@@ -7,7 +7,7 @@ use Rattle.stable.specs.ScriptLaws.{read_fails_inside_fired, read_fails_fired}
 use Rattle.stable.specs.Records.{Change}
 use Rattle.stable.specs.declared.stable.Stable.{Ghosts}
 use Rattle.stable.specs.Storages.{scripted}
-use Rattle.acceptor.specs.Accepting.{Write, HasWritten, HasFailed}
+use Rattle.acceptor.specs.Accepting.{OptionalWrite, HasWritten, HasFailed}
 use Rattle.store.specs.declared.query.Query.{Query}
 use Rattle.events.specs.declared.event.Event.{Event}
 use Rattle.events.specs.declared.event.Event.TheVariants as event
@@ -152,11 +152,11 @@ failed_with f = Err f
 
 module _ {S : Type 0} {storages : Ghosts (Script S)} (calls : CountsCalls storages) where
   -- ---- an input comes to a node
-  written : (a b : Script S) (w : Write) → HasWritten storages.reads storages.changes a b w → CountsOn a b
+  written : (a b : Script S) (w : OptionalWrite) → HasWritten storages.reads storages.changes a b w → CountsOn a b
   written a b None h = calls.reading a b h
   written a b (Some w) h = calls.changing a b w h
 
-  failed : (a b : Script S) (w : Write) → HasFailed storages.fails a b w → CountsOn a b
+  failed : (a b : Script S) (w : OptionalWrite) → HasFailed storages.fails a b w → CountsOn a b
   failed a b None h = absurd h
   failed a b (Some w) h = calls.failed_changing a b w h
 

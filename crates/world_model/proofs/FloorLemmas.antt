@@ -5,7 +5,7 @@ use Rattle.synod.specs.declared.ballot.Ballot.{Ballot}
 use Rattle.synod.specs.declared.vote.Vote.{Vote}
 use Rattle.stable.specs.Records.{Records}
 use Rattle.sessions.specs.declared.command.Command.{Command}
-use Rattle.acceptor.specs.Accepting.{Accepting, Write, records_after, after_prepare, after_accept}
+use Rattle.acceptor.specs.Accepting.{Accepting, OptionalWrite, records_after, after_prepare, after_accept}
 use Rattle.acceptor.proofs.SayingOne.{one_floor}
 use Rattle.acceptor.proofs.VerdictLemmas.{judged, refused, behind, taken}
 use Rattle.wire.specs.declared.frames.envelope.Envelope.{Envelope}
@@ -66,7 +66,7 @@ promise_after m input.Checkpoint = le_refl _
 promise_after m input.Trim = le_refl _
 
 -- ---- where an input is taken, the records say both what is held then and what was to be held
-module _ (m : ReplicaState) (i : Input) (new : ReplicaState) (said : Response) (records : Records) (w : Write) (none : refuses m i ≡ None)
+module _ (m : ReplicaState) (i : Input) (new : ReplicaState) (said : Response) (records : Records) (w : OptionalWrite) (none : refuses m i ≡ None)
     (takes : Takes m i new said) (writes : Writes m i w) (fits : InputFits i) (holds : HoldsRecords m records) where
   pub floor_then : new.accepting.floor ≡ (accepting_after m i).floor
   floor_then = one_floor (records_after records w) new.accepting (accepting_after m i)

@@ -29,7 +29,7 @@ use Rattle.node_model.specs.Inputs.{is_for_this_run}
 use Rattle.node_model.specs.Replicas.{ReplicaState, position}
 use Rattle.node_model.specs.Nodes.{fetched_text}
 use Rattle.node_model.specs.Outputs.{Response}
-use Rattle.node_model.specs.Taking.{Takes, TakesEnvelope, TakesMessage, Hears, HearsOfFloor, TakesPart, RestoresText, Counts, is_ahead}
+use Rattle.node_model.specs.Taking.{Takes, TakesEnvelope, TakesMessage, Hears, HearsOfFloor, TakesPart, RestoresText, PartCounts, is_ahead}
 use Rattle.node_model.specs.Taking.TakesPart.{passes, keeps, completes}
 use Rattle.node_model.specs.Taking.RestoresText.{restores, gives_up}
 use Rattle.world_model.specs.declared.lists.LearntEntry.{LearntEntry}
@@ -104,7 +104,7 @@ pub record PartComes (old : ReplicaState) (i : Input) (p : Piece) (f : Fetching)
   pub frame : Envelope
   pub is : i ≡ input.Message frame
   pub brings : frame.message ≡ SnapPart p
-  pub counts : Counts old p f
+  pub counts : PartCounts old p f
 
 pub data Fetches (old : ReplicaState) (i : Input) (new : ReplicaState) (said : Response) : Type 0 where
   stays : new.fetching ≡ old.fetching → said.restored ≡ None → Fetches old i new said
@@ -136,10 +136,10 @@ module _ (old new : ReplicaState) (said : Response) where
   floor_fetches i floor true k = aims floor (ap (λ (x : ReplicaState). x.fetching) k.0) (unrestored _ k.1 refl)
 
   module _ (e : Envelope) (p : Piece) (brings : e.message ≡ SnapPart p) where
-    comes : (f : Fetching) → Counts old p f → PartComes old (input.Message e) p f
+    comes : (f : Fetching) → PartCounts old p f → PartComes old (input.Message e) p f
     comes f counts = record { frame = e; is = refl; brings = brings; counts = counts }
 
-    text_fetches : (f : Fetching) → Counts old p f → missing f ≡ None → (text : List ℕ)
+    text_fetches : (f : Fetching) → PartCounts old p f → missing f ≡ None → (text : List ℕ)
         → RestoresText old e.from f.target text new said → Fetches old (input.Message e) new said
     text_fetches f counts none text (restores machine has k) =
         makes p f (comes f counts) none (ap (λ (x : ReplicaState). x.fetching) k.leaves ∙ ap (λ (x : ReplicaState). x.fetching) k.begins)

@@ -6,7 +6,7 @@ use Rattle.std.proofs.lemmas.Bool.Decides.{eqb_tells}
 use Rattle.std.proofs.lemmas.List.Elements.{Contains-append_left, Contains-push, Contains-push_cases}
 use Rattle.std.proofs.lemmas.Option.{same_Some, none-some}
 use Rattle.stable.specs.Records.{Records, rank, Change, Sets, Trims, with_record, without_votes_below, changed}
-use Rattle.stable.specs.Script.{Script, Write, Shows, noted, unsure_by, raised_by, Settles, ReadFailsInside, Adds, FailsOld, FailsInside}
+use Rattle.stable.specs.Script.{Script, Write, PutShows, noted, unsure_by, raised_by, Settles, ReadFailsInside, Adds, FailsOld, FailsInside}
 use Rattle.stable.specs.ScriptLaws.{reads_listed}
 use Rattle.stable.specs.declared.key.Key.{Key}
 use Rattle.stable.specs.declared.key.Key.TheVariants.{Checkpoint, Promise, Round, Vote}
@@ -20,8 +20,8 @@ use Rattle.world_model.specs.Safety.{contents_inside}
 -- where that was so before
 pub record GoesOn {S : Type 0} (contents : Script S → Records) (made : Option Write) (a b : Script S) : Type 0 where
   pub kept : (w : Write) → TookEffect contents a w → TookEffect contents b w
-  pub new : (w : Write) → TookEffect contents b w → TookEffect contents a w ⊎ ((made ≡ Some w) × Shows (contents b) w)
-  pub shown : ((w : Write) → Shows (contents a) w → TookEffect contents a w) → (w : Write) → Shows (contents b) w → TookEffect contents b w
+  pub new : (w : Write) → TookEffect contents b w → TookEffect contents a w ⊎ ((made ≡ Some w) × PutShows (contents b) w)
+  pub shown : ((w : Write) → PutShows (contents a) w → TookEffect contents a w) → (w : Write) → PutShows (contents b) w → TookEffect contents b w
 
 -- the records are the same, and so is what took effect
 pub record IsSame {S : Type 0} (contents : Script S → Records) (a b : Script S) : Type 0 where
@@ -34,21 +34,21 @@ module _ {S : Type 0} (contents : Script S → Records) where
   same_then made a b c s g = record {
     kept = λ w t. g.kept w (s.to w t);
     new = λ w t. elim (g.new w t) [ inl old ↦ inl (s.from w old) | inr now ↦ inr now ];
-    shown = λ put w shows. g.shown (λ u h. s.to u (put u (subst (λ (r : Records). Shows r u) s.records h))) w shows;
+    shown = λ put w shows. g.shown (λ u h. s.to u (put u (subst (λ (r : Records). PutShows r u) s.records h))) w shows;
   }
 
   pub same_goes : (made : Option Write) (a b : Script S) → IsSame contents a b → GoesOn contents made a b
   same_goes made a b s = record {
     kept = s.to;
     new = λ w t. inl (s.from w t);
-    shown = λ put w shows. s.to w (put w (subst (λ (r : Records). Shows r w) s.records shows));
+    shown = λ put w shows. s.to w (put w (subst (λ (r : Records). PutShows r w) s.records shows));
   }
 
   pub took_over : (a b : Script S) → contents b ≡ contents a → b.writes ≡ a.writes → b.unsure ≡ a.unsure → (w : Write)
       → TookEffect contents a w
       → TookEffect contents b w
   took_over a b e list unsure w (inl c) = inl (subst (λ (ws : List Write). Contains ws w) (sym list) c)
-  took_over a b e list unsure w (inr t) = inr (unsure ∙ t.0, subst (λ (r : Records). Shows r w) (sym e) t.1)
+  took_over a b e list unsure w (inr t) = inr (unsure ∙ t.0, subst (λ (r : Records). PutShows r w) (sym e) t.1)
 
   pub same_lists : (a b : Script S) → contents b ≡ contents a → b.writes ≡ a.writes → b.unsure ≡ a.unsure → IsSame contents a b
   same_lists a b e list unsure = record {
@@ -95,10 +95,10 @@ module _ {S : Type 0} {contents : S → Records} {IsHonest : S → Type 0} (a b 
   listed_same (inr s) = record { records = same; to = settled_to s; from = settled_from s }
 
 -- ---- one record is put
-put_shows : (r : Records) (key : Key) (bytes : List ℕ) → Shows (with_record r key bytes) (key, bytes)
+put_shows : (r : Records) (key : Key) (bytes : List ℕ) → PutShows (with_record r key bytes) (key, bytes)
 put_shows r key bytes = rw (eq-eqb (rank key) (rank key) refl) refl
 
-pub put_cases : (r : Records) (key : Key) (bytes : List ℕ) (w : Write) → Shows (with_record r key bytes) w → ((key, bytes) ≡ w) ⊎ Shows r w
+pub put_cases : (r : Records) (key : Key) (bytes : List ℕ) (w : Write) → PutShows (with_record r key bytes) w → ((key, bytes) ≡ w) ⊎ PutShows r w
 put_cases r key bytes w shows = elim (eqb_tells (rank w.0) (rank key)) [
   | inl same ↦
       let k : key ≡ w.0 = sym (same_rank w.0 key same.1) in
@@ -134,7 +134,7 @@ was_there r below (Vote slot) bytes h = elim (cases_Bool (nat_lt slot below)) [
   | inr left ↦ (let there : r (Vote slot) ≡ Some bytes = rw left at h in there)
 ]
 
-pub left_shows : (r : Records) (below : ℕ) (w : Write) → Shows (without_votes_below r below) w → Shows r w
+pub left_shows : (r : Records) (below : ℕ) (w : Write) → PutShows (without_votes_below r below) w → PutShows r w
 left_shows r below w shows = was_there r below w.0 w.1 shows
 
 -- with nothing unsure, votes are gone and the list is left
@@ -151,7 +151,7 @@ after_trim contents a b below settled writes unsure e =
         | inl c ↦ inl (inl (subst (λ (ws : List Write). Contains ws w) writes c))
         | inr u ↦ absurd (none-some w (sym unsure ∙ u.0))
       ];
-      shown = λ put w shows. kept_ w (put w (left_shows (contents a) below w (subst (λ (r : Records). Shows r w) e shows)));
+      shown = λ put w shows. kept_ w (put w (left_shows (contents a) below w (subst (λ (r : Records). PutShows r w) e shows)));
     }
 
 module _ {S : Type 0} (contents : S → Records) where
@@ -172,13 +172,13 @@ module _ {S : Type 0} (contents : S → Records) where
             | inl old ↦ inl (inl old)
             | inr now ↦ inr (
               ap Some now,
-              subst (λ (x : Write). Shows (contents b.inner) x) now
-                  (subst (λ (r : Records). Shows r (key, bytes)) (sym e) (put_shows (contents a.inner) key bytes)),
+              subst (λ (x : Write). PutShows (contents b.inner) x) now
+                  (subst (λ (r : Records). PutShows r (key, bytes)) (sym e) (put_shows (contents a.inner) key bytes)),
             )
           ]
           | inr u ↦ absurd (none-some w (sym h.unsure ∙ u.0))
         ];
-        shown = λ put w shows. elim (put_cases (contents a.inner) key bytes w (subst (λ (r : Records). Shows r w) e shows)) [
+        shown = λ put w shows. elim (put_cases (contents a.inner) key bytes w (subst (λ (r : Records). PutShows r w) e shows)) [
           | inl now ↦ inl (subst (λ (ws : List Write). Contains ws w) (sym h.writes)
               (subst (λ (x : Write). Contains (a.writes ++ (key, bytes) ∷ []) x) now (Contains-push a.writes (key, bytes))))
           | inr old ↦ kept_ w (put w old)
@@ -204,8 +204,8 @@ module _ {S : Type 0} (contents : S → Records) where
         kept = kept_;
         new = λ w t. elim t [ inl c ↦ inl (inl c) | inr u ↦ inr u ];
         shown = λ put w shows. elim e [
-          | inl same ↦ kept_ w (put w (subst (λ (r : Records). Shows r w) same shows))
-          | inr written ↦ elim (put_cases (contents a.inner) key bytes w (subst (λ (r : Records). Shows r w) written shows)) [
+          | inl same ↦ kept_ w (put w (subst (λ (r : Records). PutShows r w) same shows))
+          | inr written ↦ elim (put_cases (contents a.inner) key bytes w (subst (λ (r : Records). PutShows r w) written shows)) [
             | inl now ↦ inr (ap Some now, shows)
             | inr old ↦ kept_ w (put w old)
           ]

@@ -4,7 +4,7 @@ use Rattle.std.proofs.Common.{subst, arith}
 use Rattle.store.specs.Operations.{reply, effect}
 use Rattle.store.specs.Replies.{reply_code}
 use Rattle.sessions.specs.Asked.{Asked}
-use Rattle.sessions.specs.Meaning.{Database, HasCounted, IsNext, IsLawful, Execution, IsReply, RepliesAt}
+use Rattle.sessions.specs.Meaning.{Database, HasCounted, IsNext, LabellingIsLawful, Execution, IsReply, RepliesAt}
 use Rattle.sessions.specs.declared.command.Command.{Command}
 use Rattle.sessions.proofs.Counting.{counted_or_not}
 use Rattle.sessions.proofs.Executions.{executed}
@@ -46,7 +46,7 @@ next_in l k p q i agree same n =
       ];
     }
 
-same_labels : (l k : List Command) (p q : ℕ → Bool) → IsLawful l p → IsLawful k q → (n : ℕ) → AgreeBelow l k n
+same_labels : (l k : List Command) (p q : ℕ → Bool) → LabellingIsLawful l p → LabellingIsLawful k q → (n : ℕ) → AgreeBelow l k n
     → (i : ℕ) → i < n → p i ≡ q i
 same_labels l k p q f g zero agree i h = absurd (omega (arith, h))
 same_labels l k p q f g (suc n) agree i h =

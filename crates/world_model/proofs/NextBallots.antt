@@ -11,7 +11,7 @@ use Rattle.node_model.specs.Outputs.{Response}
 use Rattle.node_model.specs.declared.fault.NodeFault.{NodeFault}
 use Rattle.node_model.specs.declared.input.Input.{Input}
 use Rattle.node_model.specs.declared.input.Input.TheVariants as input
-use Rattle.world_model.specs.Progress.{replica_in, replica_at, Restarts, BallotsNeverFall}
+use Rattle.world_model.specs.Progress.{replica_in, replica_at, RestartsNode, BallotsNeverFall}
 use Rattle.world_model.specs.Worlds.{WorldState, TakesAt, with_node, without_wait}
 use Rattle.world_model.proofs.Handing.{same_replica, same_or_not, set_here, set_other}
 use Rattle.world_model.proofs.Preserved.{HoldsOf, step_holds, recorded_nodes, submission_nodes, answered_nodes}
@@ -91,7 +91,7 @@ module _ {S : Type 0} where
         ∙ ap (λ (o : Option (NodeState (Script S))). replica_in o) (set_other old.nodes i node after other) in
         still was now (same_replica was now (sym here ∙ (sym kept ∙ there)))
 
-    no_step_behind : HoldsOf storages (λ old e new. (node : ℕ) → (Restarts node e → ⊥) → NotBehind old node new)
+    no_step_behind : HoldsOf storages (λ old e new. (node : ℕ) → (RestartsNode node e → ⊥) → NotBehind old node new)
     no_step_behind = record {
       takes = λ old e i x taken new h own node not. takes_not_behind old i x taken new h node;
       submits = λ old e i r new h node not.

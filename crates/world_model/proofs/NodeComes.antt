@@ -9,7 +9,7 @@ use Rattle.synod.specs.Records.{VoteWrite}
 use Rattle.synod.specs.Volatile as synod_volatile
 use Rattle.synod.specs.Acts as act
 use Rattle.synod.specs.Acts.{Local, Does, Brings}
-use Rattle.synod.specs.Invariant.{AreSound}
+use Rattle.synod.specs.Invariant.{RecordsAreSound}
 use Rattle.synod.specs.Messages.{Accept}
 use Rattle.synod.specs.Runs as synod_runs
 use Rattle.synod.specs.Runs.{placed, HasCome, IsReached}
@@ -23,7 +23,7 @@ use Rattle.stable.specs.Script as script
 use Rattle.stable.specs.declared.key.Key.TheVariants as key
 use Rattle.stable.specs.declared.stable.Stable.{Ghosts}
 use Rattle.stable.specs.Storages.{IsLawful}
-use Rattle.acceptor.specs.Accepting.{Write, HasWritten, HasFailed}
+use Rattle.acceptor.specs.Accepting.{OptionalWrite, HasWritten, HasFailed}
 use Rattle.acceptor.specs.Spelling.{vote_bytes}
 use Rattle.sessions.specs.declared.command.Command.{Command}
 use Rattle.node_model.specs.declared.fault.NodeFault.{NodeFault}
@@ -157,9 +157,9 @@ stands_still contents nodes w i n s =
 
 -- the records to which a node's acts lead are sound
 sound_after : (nodes : ℕ) (w : synod_runs.World Command) (i : ℕ) (input : act.Input Command) (y : Local Command) → IsReached (membership nodes) w
-    → HasCome w.past input → Does (membership nodes) i input (local_of w i) y → AreSound y.records
+    → HasCome w.past input → Does (membership nodes) i input (local_of w i) y → RecordsAreSound y.records
 sound_after nodes w i input y reached came does =
-    subst (λ (r : synod_records.Records Command). AreSound r) (put_same w.past.records i y.records)
+    subst (λ (r : synod_records.Records Command). RecordsAreSound r) (put_same w.past.records i y.records)
     ((reached_holds (membership nodes) (placed w i y) (does_reaches (membership nodes) w i input y came does reached)).past.records i)
 
 -- ---- what an input makes of a node's list of writes
@@ -173,25 +173,25 @@ pub record WentDown {S : Type 0} (old new : NodeState (Script S)) (r : Result Re
 -- what becomes of its storage: the one put that is made, if one is, is that of the input
 pub record ListGoesOn {S : Type 0} (contents : Script S → Records) (m : ReplicaState) (input : Input) (old new : NodeState (Script S))
     (r : Result Response NodeFault) : Type 0 where
-  pub made : Write
+  pub made : OptionalWrite
   pub writes : (made ≡ None) ⊎ Writes m input made
   pub goes : GoesOn contents (put_by made) old.storage new.storage
   pub sure : old.storage.unsure ≡ None → (new.storage.unsure ≡ None) ⊎ WentDown old new r
 
 -- of a node that is up or not
 pub record NodeGoesOn {S : Type 0} (contents : Script S → Records) (input : Input) (old new : NodeState (Script S)) : Type 0 where
-  pub made : Write
+  pub made : OptionalWrite
   pub writes : (made ≡ None) ⊎ ((m : ReplicaState) × (old.up ≡ Some m) × Writes m input made)
   pub goes : GoesOn contents (put_by made) old.storage new.storage
 
 -- the place of the key of what is put, if something is
-abbrev place_of : Write → ℕ
+abbrev place_of : OptionalWrite → ℕ
 place_of None = 0
 place_of (Some (Trims below)) = 0
 place_of (Some (Sets k bytes)) = rank k
 
 -- a checkpoint puts no vote
-checkpoint_puts_no_vote : (m : ReplicaState) (w : Write) (v : Vote Command) → WritesCheckpoint m w → w ≡ Some (Sets (key.Vote v.slot) (vote_bytes v)) → ⊥
+checkpoint_puts_no_vote : (m : ReplicaState) (w : OptionalWrite) (v : Vote Command) → WritesCheckpoint m w → w ≡ Some (Sets (key.Vote v.slot) (vote_bytes v)) → ⊥
 checkpoint_puts_no_vote m w v writes e =
     let places : 0 ≡ v.slot + 3 = ap place_of (sym writes.is ∙ e) in
     absurd (omega (arith, places))
@@ -249,21 +249,21 @@ module _ {S : Type 0} {storages : Ghosts (Script S)} (laws : IsLawful storages)
   read_sure : (a b : Script S) → storages.reads a b → a.unsure ≡ None → b.unsure ≡ None
   read_sure a b h sure = elim (lists.reads_unsure a b h) [ inl now ↦ now | inr same ↦ same.1 ∙ sure ]
 
-  pub written_goes : (a b : Script S) (w : Write) → HasWritten storages.reads storages.changes a b w → storages.IsHonest b
+  pub written_goes : (a b : Script S) (w : OptionalWrite) → HasWritten storages.reads storages.changes a b w → storages.IsHonest b
       → GoesOn storages.contents (put_by w) a b
   written_goes a b None h honest = lists.reads_on a b h honest
   written_goes a b (Some w) h honest = lists.changes_on a b w h honest
 
-  written_sure : (a b : Script S) (w : Write) → HasWritten storages.reads storages.changes a b w → a.unsure ≡ None → b.unsure ≡ None
+  written_sure : (a b : Script S) (w : OptionalWrite) → HasWritten storages.reads storages.changes a b w → a.unsure ≡ None → b.unsure ≡ None
   written_sure a b None h sure = read_sure a b h sure
   written_sure a b (Some w) h sure = lists.changes_sure a b w h
 
-  pub failed_goes : (a b : Script S) (w : Write) → HasFailed storages.fails a b w → storages.IsHonest b
+  pub failed_goes : (a b : Script S) (w : OptionalWrite) → HasFailed storages.fails a b w → storages.IsHonest b
       → GoesOn storages.contents (put_by w) a b
   failed_goes a b None h honest = absurd h
   failed_goes a b (Some w) h honest = lists.fails_on a b w h honest
 
-  failed_list : (a b : Script S) (w : Write) → HasFailed storages.fails a b w → a.unsure ≡ None → (b.unsure ≡ None) ⊎ (b.writes ≡ a.writes)
+  failed_list : (a b : Script S) (w : OptionalWrite) → HasFailed storages.fails a b w → a.unsure ≡ None → (b.unsure ≡ None) ⊎ (b.writes ≡ a.writes)
   failed_list a b None h sure = absurd h
   failed_list a b (Some w) h sure = lists.fails_unsure a b w h sure
 
@@ -532,7 +532,7 @@ module _ {S : Type 0} {storages : Ghosts (Script S)} (laws : IsLawful storages)
         let y : Local Command = record s.after { replica = blank_at (begins_at new.up) } in
         let loads : Does (membership nodes) i s.input s.after y = reloads s.input s.after (begins_at new.up) in
         let stands : NodeStands storages.contents new y = restart_stands laws old new r s.after h honest s.stands in
-        let sound : AreSound y.records = sound_after nodes w i s.input y reached s.came
+        let sound : RecordsAreSound y.records = sound_after nodes w i s.input y reached s.came
         (does_then (membership nodes) i s.input s.does loads) in
         restarted old new new.storage.unsure refl s stands
         (puts_go_on storages.contents (membership nodes) i s.input None s.after y old.storage new loads

@@ -8,7 +8,7 @@ use Rattle.stable.specs.Records.{Records}
 use Rattle.stable.specs.Script.{Script}
 use Rattle.stable.specs.declared.stable.Stable.{Ghosts}
 use Rattle.stable.specs.Storages.{IsLawful}
-use Rattle.acceptor.specs.Accepting.{Accepting, Write, records_after}
+use Rattle.acceptor.specs.Accepting.{Accepting, OptionalWrite, records_after}
 use Rattle.proposer.specs.Protocol.{stopping}
 use Rattle.sessions.specs.declared.command.Command.{Command}
 use Rattle.wire.specs.declared.frames.envelope.Envelope.{Envelope}
@@ -164,7 +164,7 @@ module _ {S : Type 0} {storages : Ghosts (Script S)} (laws : IsLawful storages)
       stops input x new f m.accepting m.proposing.round down (inr (sym up.replica.records.floor_)) (other_records same up.holds)
       (unwritten_allowed nodes i m (input_of i nodes input) x replica up.replica)
 
-  stops_with : (old new : NodeState (Script S)) (m : ReplicaState) (input : Input) (f : NodeFault) (w : Write) (x : Local Command)
+  stops_with : (old new : NodeState (Script S)) (m : ReplicaState) (input : Input) (f : NodeFault) (w : OptionalWrite) (x : Local Command)
       → StandsUp old m x
       → IsReplicaOf i nodes m → InputFits input → refuses m input ≡ None → Writes m input w → new.up ≡ None
       → (storages.contents new.storage ≡ storages.contents old.storage)

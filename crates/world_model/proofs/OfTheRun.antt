@@ -17,7 +17,7 @@ use Rattle.stable.specs.Script.{Script}
 use Rattle.stable.specs.declared.key.Key.{Key}
 use Rattle.stable.specs.declared.key.Key.TheVariants as key
 use Rattle.acceptor.specs.Accepting.{RecordsSay, sealed_of}
-use Rattle.acceptor.specs.Forms.{VoteFits, CheckpointFits}
+use Rattle.acceptor.specs.Forms.{VoteFitsRecord, CheckpointFits}
 use Rattle.acceptor.specs.Spelling.{ballot_bytes, vote_bytes}
 use Rattle.sessions.specs.declared.command.Command.{Command}
 use Rattle.wire.specs.RecordForms.{Checkpointed, checkpoint_bytes}
@@ -110,7 +110,7 @@ module _ {S : Type 0} (contents : Script S → Records) (w : WorldState S)
         let s = standing i n.node n.here in
         let says : RecordsSay (contents n.node.storage) m.accepting = n.records.acceptor in
         let own_slot : v.slot ≡ slot = held (λ (u : Vote Command). u.slot ≡ slot) (m.accepting.vote slot) v is (says.at_its_slot slot) in
-        let fits : VoteFits v = held VoteFits (m.accepting.vote slot) v is (says.votes_fit slot) in
+        let fits : VoteFitsRecord v = held VoteFitsRecord (m.accepting.vote slot) v is (says.votes_fit slot) in
         let shows : contents n.node.storage (key.Vote v.slot) ≡ Some (vote_bytes v) =
         ap (λ (k : ℕ). contents n.node.storage (key.Vote k)) own_slot ∙ (says.vote_record slot ∙ ap (option_map vote_bytes) is) in
         let cast : Contains s.after.records.writes (VoteWrite v) =

@@ -2,9 +2,9 @@
 use Rattle.std.proofs.Common.{◌≡◌, ℕ, zero, suc, List, [], ◌∷◌, take, Some, None, Contains, slice_get, sym, subst}
 use Rattle.std.proofs.Math.Logic.{∥∥₁_elim}
 use Rattle.std.specs.Coded.{Coded-set, coded_list, coded_ℕ}
-use Rattle.store.specs.Operations.{IsSound}
+use Rattle.store.specs.Operations.{OpIsValid}
 use Rattle.sessions.specs.Asked.{Asked}
-use Rattle.sessions.specs.Meaning.{Answers, AreSound}
+use Rattle.sessions.specs.Meaning.{Answers, RequestsAreValid}
 use Rattle.sessions.proofs.Executions.{one_answer}
 use Rattle.sessions.specs.declared.command.Command.{Command}
 use Rattle.sessions.specs.declared.command.Command.TheVariants.{Request}
@@ -27,11 +27,11 @@ taken_there (suc n) (d ∷ l) (suc i) c e = taken_there n l i c e
 module _ (l : List Command) (submitted : List Submission) (learnt : List LearntEntry) (replies : List Replied) (answers : List Answered)
     (explains : Explains l submitted learnt replies answers) (valid : BringValid submitted) where
   -- what its requests bring was submitted, and is valid
-  beginning_sound : (n : ℕ) → AreSound (take n l)
+  beginning_sound : (n : ℕ) → RequestsAreValid (take n l)
   beginning_sound n = record {
     each = λ i r there.
         let s : IsSubmitted submitted r = explains.grounded i (Request r) (taken_there n l i (Request r) there) in
-        subst (λ (x : Asked). IsSound x.op) s.carries (valid.each s.submission s.taken);
+        subst (λ (x : Asked). OpIsValid x.op) s.carries (valid.each s.submission s.taken);
   }
 
   pub one_text : (a b : Answered) → Contains answers a → Contains answers b → a.query ≡ b.query → a.position ≡ b.position → a.text ≡ b.text

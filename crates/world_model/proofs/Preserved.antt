@@ -5,7 +5,7 @@ use Rattle.synod.specs.Acts as act
 use Rattle.stable.specs.Script.{Script}
 use Rattle.stable.specs.declared.scripted.Failing.{Failing}
 use Rattle.stable.specs.declared.stable.Stable.{Ghosts}
-use Rattle.store.specs.Operations.{IsSound}
+use Rattle.store.specs.Operations.{OpIsValid}
 use Rattle.store.specs.declared.query.Query.{Query}
 use Rattle.sessions.specs.Asked.{Asked}
 use Rattle.wire.specs.FrameSpelling.{Fits}
@@ -132,7 +132,7 @@ pub record Preserved {S : Type 0} (storages : Ghosts (Script S)) (P : WorldState
   -- it refuses or goes down
   pub fails : (w : WorldState S) (node : ℕ) (i : Input) (taken : Bool) (v : WorldState S) (h : TakesAt storages w node i taken v)
       (f : NodeFault) → h.result ≡ Err f → P w → P (with_node w node h.after)
-  pub submits : (w : WorldState S) (s : Submission) → IsSound s.op → P w → P (record w { submitted = w.submitted ++ s ∷ [] })
+  pub submits : (w : WorldState S) (s : Submission) → OpIsValid s.op → P w → P (record w { submitted = w.submitted ++ s ∷ [] })
   pub unwaits : (w : WorldState S) (k : ℕ) → P w → P (without_wait w k)
   pub says : (w : WorldState S) (o : StepOutcome) → BringsNothing o → P w → P (with_outcome w o)
   pub restarts : (w : WorldState S) (node : ℕ) (v : WorldState S) (h : RestartsAt storages w node v) → P w → P (with_node w node h.after)
@@ -167,7 +167,7 @@ module _ {S : Type 0} {storages : Ghosts (Script S)} {P : WorldState S → Type 
       another new (recorded (with_node old node h.after) node h.result) h.leaves
       (recorded_keeps old node i taken new h h.result refl fits kept)
 
-  submission_keeps : (w : WorldState S) (taken : Bool) (node : ℕ) (r : Asked) → IsSound r.op → P w → P (with_submission w taken node r)
+  submission_keeps : (w : WorldState S) (taken : Bool) (node : ℕ) (r : Asked) → OpIsValid r.op → P w → P (with_submission w taken node r)
   submission_keeps w true node r sound kept = p.submits w (submission_of node r) sound kept
   submission_keeps w false node r sound kept = kept
 

@@ -8,7 +8,7 @@ use Rattle.stable.specs.Script.{Script}
 use Rattle.stable.specs.declared.scripted.Failing.{Failing}
 use Rattle.stable.specs.declared.stable.Stable.{Ghosts}
 use Rattle.stable.specs.Storages.{IsLawful}
-use Rattle.acceptor.specs.Accepting.{Accepting, Write, RecordsSay, records_after}
+use Rattle.acceptor.specs.Accepting.{Accepting, OptionalWrite, RecordsSay, records_after}
 use Rattle.acceptor.proofs.SayingOne.{one_promise}
 use Rattle.events.specs.declared.event.Event.{Event}
 use Rattle.node_model.specs.declared.fault.NodeFault.{NodeFault}
@@ -86,7 +86,7 @@ module _ {S : Type 0} (contents : Script S → Records) where
       (λ m e. was.up m (sym (ap (λ (n : NodeState (Script S)). n.up) same) ∙ e))
 
   -- the write of an input is made
-  keeps_written : (old new : NodeState (Script S)) (m : ReplicaState) (i : Input) (w : Write)
+  keeps_written : (old new : NodeState (Script S)) (m : ReplicaState) (i : Input) (w : OptionalWrite)
       → contents new.storage ≡ records_after (contents old.storage) w → refuses m i ≡ None → Writes m i w → InputFits i
       → HoldsRecords m (contents old.storage)
       → ((k : ReplicaState) → new.up ≡ Some k → HoldsRecords k (records_after (contents old.storage) w)) → Keeps old new
@@ -170,7 +170,7 @@ module _ {S : Type 0} {storages : Ghosts (Script S)} (laws : IsLawful storages)
   up_keeps old new m i (Ok said) up h refused none fits honest was =
       let unrefused_ : refuses m i ≡ None =
       unrefused m i (took said) (refuses m i) refl none (λ g e. absurd (cc)) in
-      let w : Write = h.made.write in
+      let w : OptionalWrite = h.made.write in
       keeps_written storages.contents old new m i w (written_contents laws old.storage new.storage w h.made.leaves honest) unrefused_
       h.made.made fits (was.up m up)
       (λ k e.

@@ -20,7 +20,7 @@ use Rattle.stable.specs.Storages.{IsLawful}
 use Rattle.wire.specs.declared.frames.envelope.Envelope.{Envelope}
 use Rattle.wire.specs.declared.frames.message.Message.{Message}
 use Rattle.wire.specs.declared.frames.message.Message.TheVariants.{Prepare, Accept}
-use Rattle.acceptor.specs.Accepting.{Accepting, Write, RecordsSay, IsAcceptWrite, IsTrimWrite}
+use Rattle.acceptor.specs.Accepting.{Accepting, OptionalWrite, RecordsSay, IsAcceptWrite, IsTrimWrite}
 use Rattle.acceptor.specs.Accepting.{Verdict, Refused, Behind, Taken, verdict, if_taken}
 use Rattle.acceptor.proofs.VerdictLemmas.{judged, refused as is_refused, behind as is_behind, taken as is_taken}
 use Rattle.acceptor.specs.Forms.{CheckpointFits}
@@ -66,15 +66,15 @@ one_node a b e =
 
 -- ---- what an input writes
 -- if a promise is written, it is of one of so many nodes
-abbrev WritesAmong : ℕ → Write → Type 0
+abbrev WritesAmong : ℕ → OptionalWrite → Type 0
 WritesAmong nodes write = (b : Ballot) → write ≡ Some (Sets key.Promise (ballot_bytes b)) → b.node < nodes
 
 -- nothing is written
-none_among : (nodes : ℕ) (write : Write) → write ≡ None → WritesAmong nodes write
+none_among : (nodes : ℕ) (write : OptionalWrite) → write ≡ None → WritesAmong nodes write
 none_among nodes write none b e = absurd (none-some (Sets key.Promise (ballot_bytes b)) (sym none ∙ e))
 
 -- another record is written
-other_among : (nodes : ℕ) (write : Write) (other : Key) (bytes : List ℕ) → (rank other ≡ 1 → ⊥) → write ≡ Some (Sets other bytes)
+other_among : (nodes : ℕ) (write : OptionalWrite) (other : Key) (bytes : List ℕ) → (rank other ≡ 1 → ⊥) → write ≡ Some (Sets other bytes)
     → WritesAmong nodes write
 other_among nodes write other bytes apart is b e =
     absurd (apart (ap (λ (w : script.Write). rank w.0) (same_Some (other, bytes) (key.Promise, ballot_bytes b) (ap put_by (sym is ∙ e)))))
@@ -95,7 +95,7 @@ prepared_among nodes ballot below Taken true = none_among nodes None refl
 prepared_among nodes ballot below Taken false = one_among nodes ballot below
 
 -- on an accept
-cast_among : (nodes : ℕ) (a : Accepting) (v : _) (write : Write) → IsAcceptWrite a v write → WritesAmong nodes write
+cast_among : (nodes : ℕ) (a : Accepting) (v : _) (write : OptionalWrite) → IsAcceptWrite a v write → WritesAmong nodes write
 cast_among nodes a v write h b e =
     let some : write ≡ None → ⊥ = λ none. none-some (Sets key.Promise (ballot_bytes b)) (sym none ∙ e) in
     elim (judged a v.ballot v.slot) [
@@ -107,16 +107,16 @@ cast_among nodes a v write h b e =
     ]
 
 -- a trim puts nothing
-trim_among : (nodes : ℕ) (a : Accepting) (write : Write) → IsTrimWrite a write → WritesAmong nodes write
+trim_among : (nodes : ℕ) (a : Accepting) (write : OptionalWrite) → IsTrimWrite a write → WritesAmong nodes write
 trim_among nodes a None h b e = absurd (none-some (Sets key.Promise (ballot_bytes b)) e)
 trim_among nodes a (Some change) h b e =
     absurd (none-some (key.Promise, ballot_bytes b) (ap (λ (x : Change). put_by (Some x)) (sym h.1) ∙ ap put_by e))
 
 -- on a message that names the run
-message_among : (m : ReplicaState) (message : Message) (write : Write) → names_run m.nodes message ≡ true → WritesOnMessage m message write
+message_among : (m : ReplicaState) (message : Message) (write : OptionalWrite) → names_run m.nodes message ≡ true → WritesOnMessage m message write
     → WritesAmong m.nodes write
 message_among m (Prepare ballot first) write names w =
-    subst (λ (x : Write). WritesAmong m.nodes x) (sym w)
+    subst (λ (x : OptionalWrite). WritesAmong m.nodes x) (sym w)
     (prepared_among m.nodes ballot (ltb-true ballot.node m.nodes names) (verdict m.accepting ballot first)
     (ballots.rank ballot == rank_of m.accepting.promise))
 message_among m (Accept v) write names w = cast_among m.nodes m.accepting v write w
@@ -128,13 +128,13 @@ names_the_run id nodes e h =
     (and_parts (nat_lt e.from nodes) (names_run nodes e.message)
     (and_parts (e.to == id) (nat_lt e.from nodes && names_run nodes e.message) h).1).1
 
-envelope_among : (m : ReplicaState) (e : Envelope) (write : Write) (b : Bool) → is_for_this_run m.id m.nodes e ≡ b → WritesOnEnvelope m e b write
+envelope_among : (m : ReplicaState) (e : Envelope) (write : OptionalWrite) (b : Bool) → is_for_this_run m.id m.nodes e ≡ b → WritesOnEnvelope m e b write
     → WritesAmong m.nodes write
 envelope_among m e write false is w = none_among m.nodes write w
 envelope_among m e write true is w = message_among m e.message write (names_the_run m.id m.nodes e is) w
 
 -- on any input
-input_among : (m : ReplicaState) (i : Input) (write : Write) → Writes m i write → WritesAmong m.nodes write
+input_among : (m : ReplicaState) (i : Input) (write : OptionalWrite) → Writes m i write → WritesAmong m.nodes write
 input_among m (input.Submit client number op) write w = none_among m.nodes write w
 input_among m (input.Message e) write w = envelope_among m e write (is_for_this_run m.id m.nodes e) refl w
 input_among m input.Timeout write w = other_among m.nodes write key.Round _ (λ zero_. absurd (omega arith)) w
@@ -156,7 +156,7 @@ nothing_among nodes = record {
 }
 
 -- what a node that is up puts, as it has promised a ballot of such a node
-puts_among : (records : Records) (m : ReplicaState) (i : Input) (write : Write) → RecordsSay records m.accepting
+puts_among : (records : Records) (m : ReplicaState) (i : Input) (write : OptionalWrite) → RecordsSay records m.accepting
     → ((b : Ballot) → promised m ≡ Some b → b.node < m.nodes) → Writes m i write → PutsAmong m.nodes (put_by write)
 puts_among records m i write says of_run writes = record {
   alone = λ b e. input_among m i write writes b (sets_put write (key.Promise, ballot_bytes b) e);
@@ -202,7 +202,7 @@ module _ {S : Type 0} {storages : Ghosts (Script S)} (laws : IsLawful storages) 
       → ((m : ReplicaState) → old.up ≡ Some m → IsSureOf nodes old m) → (on : NodeGoesOn storages.contents i old new)
       → PutsAmong nodes (put_by on.made)
   made_among id nodes old new i member is on = elim on.writes [
-    | inl none ↦ subst (λ (w : Write). PutsAmong nodes (put_by w)) (sym none) (nothing_among nodes)
+    | inl none ↦ subst (λ (w : OptionalWrite). PutsAmong nodes (put_by w)) (sym none) (nothing_among nodes)
     | inr writer ↦
         let m : ReplicaState = writer.0 in
         let of_all : m.nodes ≡ nodes = (member.up m writer.1).of_all in

@@ -13,7 +13,7 @@ use Rattle.node_model.specs.declared.fault.NodeFault.TheVariants as fault
 use Rattle.node_model.specs.declared.input.Input.TheVariants as input
 use Rattle.world_model.specs.declared.round_end.RoundEnd.{RoundEnd}
 use Rattle.world_model.specs.declared.round_end.RoundEnd.TheVariants.{Refused, Stopped}
-use Rattle.world_model.specs.Rounds.{is_up, is_up_node, IsBehind, FailsToBegin, RefusesToBegin, IsAt, MeetingEnds, at_once}
+use Rattle.world_model.specs.Rounds.{is_up, is_up_node, IsBehind, FailsToBegin, RefusesToBegin, PositionIsAt, MeetingEnds, at_once}
 use Rattle.world_model.specs.Worlds.{WorldState, replica_in, TakesAt, with_node, with_outcome, outcome_of}
 
 -- ---- one node of a list
@@ -103,7 +103,7 @@ full_refuses m full =
 pub slot_stands : {S : Type 0} (w : WorldState S) (node : ℕ) (n : NodeState (Script S)) (slot : Option ℕ) (p : ℕ)
     → slice_get w.nodes node ≡ Some n → is_up w node ≡ true → MatchOption n.up (p ≡ 0) (λ m. p ≡ position m)
     → IsSome slot ↔ (p < SLOTS) → IfSome slot (λ s. s ≡ p)
-    → MatchOption slot (RefusesToBegin w node fault.LogFull) (IsAt w node)
+    → MatchOption slot (RefusesToBegin w node fault.LogFull) (PositionIsAt w node)
 slot_stands w node n None p here up at valid value =
     let replica = replica_of_up w node n here up in
     let stands : p ≡ position replica.0 = subst (λ (o : Option ReplicaState). MatchOption o (p ≡ 0) (λ m. p ≡ position m)) replica.1 at in

@@ -20,11 +20,11 @@ use Rattle.world_model.specs.declared.lists.StepOutcome.{StepOutcome}
 use Rattle.world_model.specs.declared.lists.StepOutcome.TheVariants as outcome
 use Rattle.world_model.specs.declared.round_end.RoundEnd.{RoundEnd}
 use Rattle.world_model.specs.declared.round_end.RoundEnd.TheVariants.{NotAQuorum, Down, Behind, Refused, Stopped, TooLow, Decided}
-use Rattle.world_model.specs.Rounds.{is_up, DeliversTo, nothing, elsewhere, there, GoesDownOn, DeliversPart, NoneRefuses, IsInterrupted}
+use Rattle.world_model.specs.Rounds.{is_up, DeliversTo, nothing, elsewhere, there, GoesDownOn, DeliversPart, NoneRefuses, RoundIsInterrupted}
 use Rattle.world_model.specs.Rounds.{CanMeet}
-use Rattle.world_model.specs.Rounds.{BreaksOff, GoesOn, GoesToItsEnd, MeetingEnds, Phase, begun, asked, answered, voted, heard, receivers_after}
+use Rattle.world_model.specs.Rounds.{RoundBreaksOff, GoesOn, GoesToItsEnd, MeetingEnds, Phase, begun, asked, answered, voted, heard, receivers_after}
 use Rattle.world_model.specs.Rounds.{ComesThrough, begins, asks}
-use Rattle.world_model.specs.Rounds.{answers, votes, hears, GoesDown, at_once, on_the_way, EndsIn, HasBegun, RoundEnds, IsPartOfRound, none}
+use Rattle.world_model.specs.Rounds.{answers, votes, hears, GoesDown, at_once, on_the_way, RoundEndsIn, HasBegun, RoundEnds, IsPartOfRound, none}
 use Rattle.world_model.specs.Rounds.{some}
 use Rattle.world_model.specs.Rounds.{untold}
 use Rattle.world_model.specs.Worlds.{WorldState, TakesAt, ReceivesAt, DeliversFrame, Steps, recorded, with_node, with_outcome, without_wait}
@@ -134,7 +134,7 @@ module _ {S : Type 0} (storages : Ghosts (Script S)) (Kept : WorldState S → Ty
     down_keeps m new (on_the_way phase first between comes down) =
         goes_down_keeps (receivers_after phase node members) between first m new down (comes_keep phase first between comes)
 
-    ends_keep : (end : RoundEnd) (new : WorldState S) → EndsIn storages old node members end new → Kept new
+    ends_keep : (end : RoundEnd) (new : WorldState S) → RoundEndsIn storages old node members end new → Kept new
     ends_keep NotAQuorum new h = same_keeps old new h.1 kept
     ends_keep (Down m) new h = same_keeps old new h.2 kept
     ends_keep (Behind m) new h = same_keeps old new h.3 kept
@@ -239,14 +239,14 @@ module _ {S : Type 0} (storages : Ghosts (Script S)) (node : ℕ) (members : Lis
   decides_by (Ok (Some m)) last at h = λ old comes. down_by storages old node members voted n q m between new (voted_there old comes) from h
 
   pub decides_in_part : (r : Result (Option ℕ) WorldFault) → OnErr r (DeliversPart storages (node ∷ []) between q new)
-      → OnErr r (BreaksOff storages node members answered p now new)
+      → OnErr r (RoundBreaksOff storages node members answered p now new)
   decides_in_part (Ok stopped) h = tt
   decides_in_part (Err f) h = λ old comes. broken_by storages old node members voted n q between new (voted_there old comes) from h
 
 -- ---- of members that can meet
 module _ {S : Type 0} (storages : Ghosts (Script S)) (old : WorldState S) (node : ℕ) (members : List ℕ) where
   meets : (end : RoundEnd) (new : WorldState S) → CanMeet old node members → MeetingEnds storages old node members end new
-      → EndsIn storages old node members end new
+      → RoundEndsIn storages old node members end new
   meets NotAQuorum new can h = absurd h
   meets (Down m) new can h = absurd h
   meets (Behind m) new can h = absurd h
@@ -256,16 +256,16 @@ module _ {S : Type 0} (storages : Ghosts (Script S)) (old : WorldState S) (node 
   meets (Decided slot) new can h = (can, h)
 
   pub meeting_ends : (r : Result RoundEnd WorldFault) (new : WorldState S) → CanMeet old node members
-      → IfOk r (λ end. MeetingEnds storages old node members end new) → IfOk r (λ end. EndsIn storages old node members end new)
+      → IfOk r (λ end. MeetingEnds storages old node members end new) → IfOk r (λ end. RoundEndsIn storages old node members end new)
   meeting_ends (Ok end) new can h = meets end new can h
   meeting_ends (Err f) new can h = h
 
-  meets_in_part : (new : WorldState S) → CanMeet old node members → IsInterrupted storages old node members new
+  meets_in_part : (new : WorldState S) → CanMeet old node members → RoundIsInterrupted storages old node members new
       → IsPartOfRound storages old node members new
   meets_in_part new can (inl same) = none same
   meets_in_part new can (inr begun_) = some can begun_
 
   pub meeting_breaks : (r : Result RoundEnd WorldFault) (new : WorldState S) → CanMeet old node members
-      → OnErr r (IsInterrupted storages old node members new) → OnErr r (IsPartOfRound storages old node members new)
+      → OnErr r (RoundIsInterrupted storages old node members new) → OnErr r (IsPartOfRound storages old node members new)
   meeting_breaks (Ok end) new can h = h
   meeting_breaks (Err f) new can h = meets_in_part new can h

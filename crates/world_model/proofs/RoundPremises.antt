@@ -16,7 +16,7 @@ use Rattle.node_model.specs.Protocol.{ReplicaStands}
 use Rattle.world_model.specs.Memberships.{IsMembership}
 use Rattle.world_model.specs.Progress.{replica_at}
 use Rattle.world_model.specs.Protocol as protocol
-use Rattle.world_model.specs.Safety.{IsSound}
+use Rattle.world_model.specs.Safety.{WorldInvariant}
 use Rattle.world_model.specs.Worlds.{WorldState}
 use Rattle.world_model.proofs.OfTheRun.{node_of, up_at}
 
@@ -26,7 +26,7 @@ nothing_there None h = refl
 nothing_there (Some x) h = absurd (h x refl)
 
 module _ {S : Type 0} (contents : Script S → Records) (w : WorldState S) (membership : IsMembership w.nodes w.frames)
-    (sound : IsSound contents w) where
+    (sound : WorldInvariant contents w) where
   -- the protocol's world that leads there
   abbrev state : synod_runs.World Command
   state = sound.allowed.state

@@ -22,12 +22,12 @@ use Rattle.proposer.specs.Proposing.{next_round}
 use Rattle.node_model.specs.declared.fault.NodeFault.{NodeFault}
 use Rattle.node_model.specs.declared.input.Input.TheVariants as input
 use Rattle.world_model.specs.Memberships.{IsMembership}
-use Rattle.world_model.specs.Progress.{replica_in, replica_at, IsUndisturbed, NoneAbove, IsGreatestAbove, HasLearnt, IsAbove, HasStopped, Progresses}
+use Rattle.world_model.specs.Progress.{replica_in, replica_at, IsUndisturbed, NoneAbove, IsGreatestAbove, NodeHasLearnt, IsAbove, HasStopped, Progresses}
 use Rattle.world_model.specs.Progress.{MakesProgress}
 use Rattle.world_model.specs.Rounds.{is_up, IsBehind, CanMeet, RefusesToBegin, IsGreatestTold, refusal_in}
 use Rattle.world_model.specs.Rounds.{Phase, begun, asked, answered, voted, heard}
-use Rattle.world_model.specs.Rounds.{ComesThrough, begins, asks, answers, votes, hears, IsRefused, IsDecided, EndsIn, RoundEnds}
-use Rattle.world_model.specs.Safety.{IsSound}
+use Rattle.world_model.specs.Rounds.{ComesThrough, begins, asks, answers, votes, hears, RoundIsRefused, SlotIsDecided, RoundEndsIn, RoundEnds}
+use Rattle.world_model.specs.Safety.{WorldInvariant}
 use Rattle.world_model.specs.Worlds.{WorldState, TakesAt}
 use Rattle.world_model.specs.declared.round_end.RoundEnd.{RoundEnd}
 use Rattle.world_model.specs.declared.round_end.RoundEnd.TheVariants.{NotAQuorum, Down, Behind, Refused, Stopped, TooLow, Decided}
@@ -44,7 +44,7 @@ is_there None a e = absurd (cc)
 is_there (Some b) a e = refl
 
 module _ {S : Type 0} (storages : Ghosts (Script S)) (contents : Script S → Records) (old : WorldState S)
-    (membership : IsMembership old.nodes old.frames) (sound : IsSound contents old) (node : ℕ) (members : List ℕ) where
+    (membership : IsMembership old.nodes old.frames) (sound : WorldInvariant contents old) (node : ℕ) (members : List ℕ) where
   pub facts_of : (replica : ReplicaState) (slot : ℕ) (ballot : Ballot) → replica_at old node ≡ Some replica → slot ≡ position replica → slot < SLOTS
       → IsNextBallot replica ballot → CanMeet old node members → Facts old node members slot ballot replica
   facts_of replica slot ballot here at in_log next meets = record {
@@ -101,8 +101,8 @@ module _ {S : Type 0} (storages : Ghosts (Script S)) (contents : Script S → Re
   begins_by replica here _ _ w (hears first between w_ comes delivers) = begins_by replica here voted first between comes
 
   -- ---- decided
-  learnt_by : (slot : ℕ) (new : WorldState S) → CanMeet old node members → IsDecided storages old node members slot new
-      → HasLearnt new node slot
+  learnt_by : (slot : ℕ) (new : WorldState S) → CanMeet old node members → SlotIsDecided storages old node members slot new
+      → NodeHasLearnt new node slot
   learnt_by slot new meets h =
       let replica : ReplicaState = h.at.replica in
       let here : replica_at old node ≡ Some replica = ap (λ (o : Option (NodeState (Script S))). replica_in o) h.at.here ∙ h.at.up in
@@ -205,7 +205,7 @@ module _ {S : Type 0} (storages : Ghosts (Script S)) (contents : Script S → Re
           tells = tells_more greatest j m up.0 one.envelope (before.2 ∙ ap (λ (y : ReplicaState). y.accepting) same) has above one.is;
         }
 
-  above_so : (greatest : Ballot) (new : WorldState S) → CanMeet old node members → IsRefused storages old node members greatest new
+  above_so : (greatest : Ballot) (new : WorldState S) → CanMeet old node members → RoundIsRefused storages old node members greatest new
       → IsAbove new node greatest
   above_so greatest new meets h =
       let m = meets_by asked h.first h.between meets h.comes in
@@ -235,7 +235,7 @@ module _ {S : Type 0} (storages : Ghosts (Script S)) (contents : Script S → Re
         not_refused quiet.replica ballot f (subst (λ (s : ℕ). s < SLOTS) quiet.at quiet.in_log) quiet.next quiet.left
         (ap (λ (m : ReplicaState). refuses m input.Timeout) (sym same) ∙ h.refused)
 
-    not_low : (greatest : Ballot) (new : WorldState S) → NoneAbove old members ballot → IsRefused storages old node members greatest new → ⊥
+    not_low : (greatest : Ballot) (new : WorldState S) → NoneAbove old members ballot → RoundIsRefused storages old node members greatest new → ⊥
     not_low greatest new none h =
         let a = asked_lem storages old node members slot ballot quiet.replica quiet_facts h.first h.between h.comes in
         let t = told_of slot ballot quiet.replica quiet_facts h.first h.between a greatest h.greatest_ in
@@ -244,7 +244,7 @@ module _ {S : Type 0} (storages : Ghosts (Script S)) (contents : Script S → Re
         omega (arith, low, is, t.above)
 
     the_greatest : (greatest told : Ballot) (new : WorldState S) → IsGreatestAbove old members ballot greatest
-        → IsRefused storages old node members told new → told ≡ greatest
+        → RoundIsRefused storages old node members told new → told ≡ greatest
     the_greatest greatest told new g h =
         let a = asked_lem storages old node members slot ballot quiet.replica quiet_facts h.first h.between h.comes in
         let t = told_of slot ballot quiet.replica quiet_facts h.first h.between a told h.greatest_ in
@@ -258,7 +258,7 @@ module _ {S : Type 0} (storages : Ghosts (Script S)) (contents : Script S → Re
 
     -- a member that has promised more lets it not decide
     not_decided : (greatest : Ballot) (other : ℕ) (new : WorldState S) → IsGreatestAbove old members ballot greatest
-        → IsDecided storages old node members other new → ⊥
+        → SlotIsDecided storages old node members other new → ⊥
     not_decided greatest other new g h = decided_not g h.first new h.comes
       where
         refused_there : (first : ℕ) (w : WorldState S) → IsGreatestAbove old members ballot greatest
@@ -278,7 +278,7 @@ module _ {S : Type 0} (storages : Ghosts (Script S)) (contents : Script S → Re
             refused_there first between g (voted_lem storages old node members slot ballot quiet.replica quiet_facts first between comes)
 
     -- the position is what the round began with
-    same_slot : (other : ℕ) (new : WorldState S) → IsDecided storages old node members other new → other ≡ slot
+    same_slot : (other : ℕ) (new : WorldState S) → SlotIsDecided storages old node members other new → other ≡ slot
     same_slot other new h =
         let same : h.at.replica ≡ quiet.replica =
         same_replica h.at.replica quiet.replica (sym (ap (λ (o : Option (NodeState (Script S))). replica_in o) h.at.here ∙ h.at.up) ∙ quiet.here) in
@@ -293,7 +293,7 @@ module _ {S : Type 0} (storages : Ghosts (Script S)) (contents : Script S → Re
       let level = meets.level h.own h.other m among h.here h.there in
       omega (arith, level, h.above)
 
-  pub progresses : (end : RoundEnd) (new : WorldState S) → EndsIn storages old node members end new → Progresses old node members end new
+  pub progresses : (end : RoundEnd) (new : WorldState S) → RoundEndsIn storages old node members end new → Progresses old node members end new
   progresses NotAQuorum new h = record {
     decided = λ slot e. absurd (cc);
     too_low = λ g e. absurd (cc);
@@ -341,7 +341,7 @@ module _ {S : Type 0} (storages : Ghosts (Script S)) (contents : Script S → Re
     tells = λ slot ballot greatest quiet g. inl (ap (λ (b : Ballot). TooLow b) (the_greatest slot ballot quiet greatest told new g h.1));
   }
   progresses (Decided other) new h = record {
-    decided = λ slot e. subst (λ (s : ℕ). HasLearnt new node s) (let same : other ≡ slot = cc in same) (learnt_by other new h.0 h.1);
+    decided = λ slot e. subst (λ (s : ℕ). NodeHasLearnt new node s) (let same : other ≡ slot = cc in same) (learnt_by other new h.0 h.1);
     too_low = λ g e. absurd (cc);
     stopped = λ m e. absurd (cc);
     decides = λ slot ballot quiet none. inl (ap (λ (s : ℕ). Decided s) (same_slot slot ballot quiet other new h.1));

@@ -13,7 +13,7 @@ use Rattle.world_model.specs.Memberships.{IsMembership}
 use Rattle.world_model.specs.Flushing.{IsStart, Delivers}
 use Rattle.node_model.specs.Nodes.{NodeState}
 use Rattle.world_model.specs.Reaching.{AreHonest}
-use Rattle.world_model.specs.Safety.{HasAgreed, IsSafe, IsSound, IsSoundIfHonest}
+use Rattle.world_model.specs.Safety.{HasAgreed, IsSafe, WorldInvariant, IsSoundIfHonest}
 use Rattle.world_model.specs.Worlds.{WorldState, TakesAt, Steps, with_outcome, without_wait}
 use Rattle.events.specs.declared.fault.WorldFault.{WorldFault}
 use Rattle.events.specs.declared.fault.WorldFault.TheVariants as fault
@@ -35,7 +35,7 @@ use Rattle.world_model.proofs.Validity.{start_valid, step_valid}
 use Rattle.world_model.proofs.WorldMoves.{honest_nodes, honest_took, step_allowed}
 
 -- what is sound is safe
-pub sound_is_safe : {S : Type 0} {contents : Script S → Records} (w : WorldState S) → IsSound contents w → IsSafe w
+pub sound_is_safe : {S : Type 0} {contents : Script S → Records} (w : WorldState S) → WorldInvariant contents w → IsSafe w
 sound_is_safe {S} {contents} w sound =
     let agreed : HasAgreed w = allowed_agrees w sound.allowed in
     record {

@@ -3,7 +3,7 @@ use Rattle.std.proofs.Common.{◌≡◌, inl, inr, List, [], ◌∷◌, ◌++◌
 use Rattle.std.proofs.lemmas.List.Elements.{Contains-push_cases}
 use Rattle.stable.specs.Script.{Script}
 use Rattle.stable.specs.declared.stable.Stable.{Ghosts}
-use Rattle.store.specs.Operations.{IsSound}
+use Rattle.store.specs.Operations.{OpIsValid}
 use Rattle.synod.proofs.Thinking.{none_in}
 use Rattle.events.specs.declared.event.Event.{Event}
 use Rattle.world_model.specs.declared.lists.Submission.{Submission}
@@ -12,11 +12,11 @@ use Rattle.world_model.specs.Worlds.{WorldState, Steps}
 use Rattle.world_model.proofs.Preserved.{Preserved, step_keeps}
 
 -- one submission more
-valid_push : (submitted : List Submission) (s : Submission) → BringValid submitted → IsSound s.op → BringValid (submitted ++ s ∷ [])
+valid_push : (submitted : List Submission) (s : Submission) → BringValid submitted → OpIsValid s.op → BringValid (submitted ++ s ∷ [])
 valid_push submitted s valid sound = record {
   each = λ t c. elim (Contains-push_cases submitted s t c) [
     | inl before ↦ valid.each t before
-    | inr same ↦ subst (λ (x : Submission). IsSound x.op) same sound
+    | inr same ↦ subst (λ (x : Submission). OpIsValid x.op) same sound
   ];
 }
 

@@ -5,13 +5,13 @@ use Rattle.std.proofs.lemmas.Option.{none-some}
 use Rattle.synod.specs.Records as synod_records
 use Rattle.synod.specs.Acts as act
 use Rattle.synod.specs.Acts.{Membership, Local, Does, Brings}
-use Rattle.synod.specs.Invariant.{AreSound}
+use Rattle.synod.specs.Invariant.{RecordsAreSound}
 use Rattle.synod.specs.Messages.{Accept}
 use Rattle.synod.specs.declared.vote.Vote.{Vote}
 use Rattle.stable.specs.Records.{Records}
-use Rattle.stable.specs.Script.{Script, Write, Shows}
+use Rattle.stable.specs.Script.{Script, Write, PutShows}
 use Rattle.stable.specs.declared.key.Key.{Key}
-use Rattle.acceptor.specs.Forms.{VoteFits}
+use Rattle.acceptor.specs.Forms.{VoteFitsRecord}
 use Rattle.acceptor.specs.Spelling.{vote_bytes}
 use Rattle.acceptor.proofs.SayingOne.{one_vote}
 use Rattle.sessions.specs.declared.command.Command.{Command}
@@ -26,7 +26,7 @@ if_some None h = tt
 if_some (Some x) h = h x refl
 
 -- a record spells one vote
-one_spelled : (o : Option (Vote Command)) (v : Vote Command) → IfSome o (λ u. u.slot ≡ v.slot) → IfSome o VoteFits → VoteFits v
+one_spelled : (o : Option (Vote Command)) (v : Vote Command) → IfSome o (λ u. u.slot ≡ v.slot) → IfSome o VoteFitsRecord → VoteFitsRecord v
     → option_map vote_bytes o ≡ Some (vote_bytes v) → o ≡ Some v
 one_spelled None v at fit fits e = absurd cc
 one_spelled (Some u) v at fit fits e = (let bytes : vote_bytes u ≡ vote_bytes v = cc in ap Some (one_vote u v fit fits at bytes))
@@ -38,11 +38,11 @@ pub record IsLevel (input : act.Input Command) (made : Option Write) (x y : Loca
 
 module _ {S : Type 0} (contents : Script S → Records) where
   -- what each key holds, as the records that show
-  pub held_shown : (s : Script S) → ((key : Key) → HoldsPut contents s key) → (w : Write) → Shows (contents s) w → TookEffect contents s w
+  pub held_shown : (s : Script S) → ((key : Key) → HoldsPut contents s key) → (w : Write) → PutShows (contents s) w → TookEffect contents s w
   held_shown s held w shows =
       subst (λ (o : Option (List ℕ)). IfSome o (λ bytes. TookEffect contents s (w.0, bytes))) shows (held w.0)
 
-  pub each_held : (s : Script S) → ((w : Write) → Shows (contents s) w → TookEffect contents s w) → (key : Key) → HoldsPut contents s key
+  pub each_held : (s : Script S) → ((w : Write) → PutShows (contents s) w → TookEffect contents s w) → (key : Key) → HoldsPut contents s key
   each_held s shown key = if_some (contents s key) (λ bytes here. shown (key, bytes) here)
 
   -- what a node's records tell of begins where the protocol's do
@@ -52,20 +52,20 @@ module _ {S : Type 0} (contents : Script S → Records) where
 
   -- what a node's records hold at a vote's slot, from the floor on
   vote_shows : (n : NodeState (Script S)) (y : Local Command) → (stands : NodeStands contents n y) → (v : Vote Command)
-      → y.records.floor ≤ v.slot → y.records.vote v.slot ≡ Some v → Shows (contents n.storage) (vote_put v)
+      → y.records.floor ≤ v.slot → y.records.vote v.slot ≡ Some v → PutShows (contents n.storage) (vote_put v)
   vote_shows n y stands v from e =
       let low = from_the_floor n y stands v.slot from in
       stands.records.holds.acceptor.vote_record v.slot ∙ ap (option_map vote_bytes) (sym (stands.records.stands.vote v.slot low) ∙ e)
 
   vote_fits : (n : NodeState (Script S)) (y : Local Command) → (stands : NodeStands contents n y) → (v : Vote Command)
-      → y.records.floor ≤ v.slot → y.records.vote v.slot ≡ Some v → VoteFits v
+      → y.records.floor ≤ v.slot → y.records.vote v.slot ≡ Some v → VoteFitsRecord v
   vote_fits n y stands v from e =
       let low = from_the_floor n y stands v.slot from in
-      subst (λ (o : Option (Vote Command)). IfSome o VoteFits) (sym (stands.records.stands.vote v.slot low) ∙ e)
+      subst (λ (o : Option (Vote Command)). IfSome o VoteFitsRecord) (sym (stands.records.stands.vote v.slot low) ∙ e)
       (stands.records.holds.acceptor.votes_fit v.slot)
 
   vote_stands : (n : NodeState (Script S)) (y : Local Command) → (stands : NodeStands contents n y) → (v : Vote Command)
-      → y.records.floor ≤ v.slot → VoteFits v → Shows (contents n.storage) (vote_put v) → y.records.vote v.slot ≡ Some v
+      → y.records.floor ≤ v.slot → VoteFitsRecord v → PutShows (contents n.storage) (vote_put v) → y.records.vote v.slot ≡ Some v
   vote_stands n y stands v from fits shows =
       let says = stands.records.holds.acceptor in
       let low = from_the_floor n y stands v.slot from in
@@ -76,7 +76,7 @@ module _ {S : Type 0} (contents : Script S → Records) where
   -- what acts of a node make of its votes, and what became of its storage
   pub puts_go_on : (f : Membership Command) (i : ℕ) (input : act.Input Command) (made : Option Write) (x y : Local Command) (a : Script S)
       (n : NodeState (Script S)) → Does f i input x y → IsLevel input made x y → GoesOn contents made a n.storage
-      → NodeStands contents n y → AreSound y.records → PutsStand contents a x.records → PutsStand contents n.storage y.records
+      → NodeStands contents n y → RecordsAreSound y.records → PutsStand contents a x.records → PutsStand contents n.storage y.records
   puts_go_on f i input made x y a n does level goes stands sound puts = record {
     held = each_held n.storage (goes.shown (held_shown a puts.held));
     fit = λ v c. elim (does_casts f i input x y does v c) [
@@ -100,7 +100,7 @@ module _ {S : Type 0} (contents : Script S → Records) where
   pub puts_same : (a b : Script S) (r : synod_records.Records Command) → IsSame contents a b → PutsStand contents a r
       → PutsStand contents b r
   puts_same a b r same puts = record {
-    held = each_held b (λ w shows. same.to w (held_shown a puts.held w (subst (λ (c : Records). Shows c w) same.records shows)));
+    held = each_held b (λ w shows. same.to w (held_shown a puts.held w (subst (λ (c : Records). PutShows c w) same.records shows)));
     fit = puts.fit;
     put = λ v c. same.to (vote_put v) (puts.put v c);
     cast = λ v fits t. puts.cast v fits (same.from (vote_put v) t);

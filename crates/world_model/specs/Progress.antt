@@ -50,7 +50,7 @@ pub record IsGreatestAbove {S : Type 0} (w : WorldState S) (members : List ℕ) 
 
 -- ---- after the round
 -- the node has learnt what the slot holds
-pub record HasLearnt {S : Type 0} (w : WorldState S) (node slot : ℕ) : Type 0 where
+pub record NodeHasLearnt {S : Type 0} (w : WorldState S) (node slot : ℕ) : Type 0 where
   pub replica : ReplicaState
   pub here : replica_at w node ≡ Some replica
   pub learnt : IsSome (learnt_in replica slot)
@@ -69,21 +69,21 @@ pub record HasStopped {S : Type 0} (w : WorldState S) (members : List ℕ) (memb
   pub before : List StepOutcome
   pub told : w.outcomes ≡ before ++ outcome.Stopped member failure ∷ []
 
-abbrev pub IsStopped : RoundEnd → Type 0
-IsStopped end = (m : ℕ) × (end ≡ Stopped m)
+abbrev pub RoundIsStopped : RoundEnd → Type 0
+RoundIsStopped end = (m : ℕ) × (end ≡ Stopped m)
 
 -- ---- what a round that ends so comes to, where its end is told to this world
 pub record Progresses {S : Type 0} (old : WorldState S) (node : ℕ) (members : List ℕ) (end : RoundEnd) (new : WorldState S) : Type 0 where
   -- what is told is so
-  pub decided : (slot : ℕ) → end ≡ Decided slot → HasLearnt new node slot
+  pub decided : (slot : ℕ) → end ≡ Decided slot → NodeHasLearnt new node slot
   pub too_low : (greatest : Ballot) → end ≡ TooLow greatest → IsAbove new node greatest
   pub stopped : (m : ℕ) → end ≡ Stopped m → HasStopped new members m
   -- where nothing disturbs it and no member has promised more, it decides at the node's position; or a member stops
   pub decides : (slot : ℕ) (ballot : Ballot) → IsUndisturbed old node members slot ballot → NoneAbove old members ballot
-      → (end ≡ Decided slot) ⊎ IsStopped end
+      → (end ≡ Decided slot) ⊎ RoundIsStopped end
   -- where a member has promised more, it tells the greatest promise of any; or a member stops
   pub tells : (slot : ℕ) (ballot greatest : Ballot) → IsUndisturbed old node members slot ballot
-      → IsGreatestAbove old members ballot greatest → (end ≡ TooLow greatest) ⊎ IsStopped end
+      → IsGreatestAbove old members ballot greatest → (end ≡ TooLow greatest) ⊎ RoundIsStopped end
 
 -- the round has made progress, up to the world to which its end is told
 pub record MakesProgress {S : Type 0} (old : WorldState S) (node : ℕ) (members : List ℕ) (end : RoundEnd)
@@ -98,22 +98,22 @@ PromisesProgress IsHonest old node members end new = AreHonestInside IsHonest ol
 
 -- ---- later on
 -- the event restarts the node
-abbrev pub Restarts : ℕ → Event → Type 0
-Restarts node (event.Restart i) = i ≡ node
-Restarts node (event.Submit i client number op) = ⊥
-Restarts node (event.Deliver k) = ⊥
-Restarts node (event.Drop k) = ⊥
-Restarts node (event.Timeout i) = ⊥
-Restarts node (event.Tick i) = ⊥
-Restarts node (event.Checkpoint i) = ⊥
-Restarts node (event.Trim i) = ⊥
-Restarts node (event.Fault i failing) = ⊥
-Restarts node (event.Query i query) = ⊥
+abbrev pub RestartsNode : ℕ → Event → Type 0
+RestartsNode node (event.Restart i) = i ≡ node
+RestartsNode node (event.Submit i client number op) = ⊥
+RestartsNode node (event.Deliver k) = ⊥
+RestartsNode node (event.Drop k) = ⊥
+RestartsNode node (event.Timeout i) = ⊥
+RestartsNode node (event.Tick i) = ⊥
+RestartsNode node (event.Checkpoint i) = ⊥
+RestartsNode node (event.Trim i) = ⊥
+RestartsNode node (event.Fault i failing) = ⊥
+RestartsNode node (event.Query i query) = ⊥
 
 -- no step but its restart makes the next ballot of a node lower
 abbrev pub BallotsNeverFall : {S : Type 0} → Ghosts (Script S) → Type 0
 BallotsNeverFall {S} storages = (old : WorldState S) (e : Event) (new : WorldState S) (node : ℕ) → Steps storages old e new
-    → (Restarts node e → ⊥) → (before after : ReplicaState) → replica_at old node ≡ Some before → replica_at new node ≡ Some after
+    → (RestartsNode node e → ⊥) → (before after : ReplicaState) → replica_at old node ≡ Some before → replica_at new node ≡ Some after
     → (b c : Ballot) → IsNextBallot before b → IsNextBallot after c → rank b ≤ rank c
 
 -- one step after the other leads from one world to another

@@ -9,9 +9,9 @@ use Rattle.synod.specs.Runs as synod_runs
 use Rattle.synod.specs.Runs.{HasCome, IsReached}
 use Rattle.synod.specs.declared.vote.Vote.{Vote}
 use Rattle.stable.specs.Records.{Records}
-use Rattle.stable.specs.Script.{Script, Write, Shows}
+use Rattle.stable.specs.Script.{Script, Write, PutShows}
 use Rattle.stable.specs.declared.key.Key.{Key}
-use Rattle.acceptor.specs.Forms.{VoteFits}
+use Rattle.acceptor.specs.Forms.{VoteFitsRecord}
 use Rattle.sessions.specs.declared.command.Command.{Command}
 use Rattle.wire.specs.declared.frames.envelope.Envelope.{Envelope}
 use Rattle.world_model.specs.declared.lists.Submission.{Submission}
@@ -30,7 +30,7 @@ pub record NodeStands {S : Type 0} (contents : Script S → Records) (n : NodeSt
 -- ---- the list of writes
 -- the put took effect: it is listed, or it is the one that is unsure, and the records show it
 abbrev pub TookEffect : {S : Type 0} → (Script S → Records) → Script S → Write → Type 0
-TookEffect contents s write = Contains s.writes write ⊎ ((s.unsure ≡ Some write) × Shows (contents s) write)
+TookEffect contents s write = Contains s.writes write ⊎ ((s.unsure ≡ Some write) × PutShows (contents s) write)
 
 -- what a key holds was put under it
 abbrev pub HoldsPut : {S : Type 0} → (Script S → Records) → Script S → Key → Type 0
@@ -39,9 +39,9 @@ HoldsPut contents s key = IfSome (contents s key) (λ bytes. TookEffect contents
 -- each key holds what was put, and the protocol's votes are those that were put
 pub record PutsStand {S : Type 0} (contents : Script S → Records) (s : Script S) (r : synod_records.Records Command) : Type 0 where
   pub held : (key : Key) → HoldsPut contents s key
-  pub fit : (v : Vote Command) → Contains r.writes (VoteWrite v) → VoteFits v
+  pub fit : (v : Vote Command) → Contains r.writes (VoteWrite v) → VoteFitsRecord v
   pub put : (v : Vote Command) → Contains r.writes (VoteWrite v) → TookEffect contents s (vote_put v)
-  pub cast : (v : Vote Command) → VoteFits v → TookEffect contents s (vote_put v) → Contains r.writes (VoteWrite v)
+  pub cast : (v : Vote Command) → VoteFitsRecord v → TookEffect contents s (vote_put v) → Contains r.writes (VoteWrite v)
 
 -- the protocol's votes are those that the list of writes tells
 abbrev pub VotesAreListed : {S : Type 0} → Script S → synod_records.Records Command → Type 0

@@ -70,7 +70,7 @@ pub record CanMeet {S : Type 0} (w : WorldState S) (node : ℕ) (members : List 
 
 -- ---- the node
 -- its position is this
-pub record IsAt {S : Type 0} (w : WorldState S) (node slot : ℕ) : Type 0 where
+pub record PositionIsAt {S : Type 0} (w : WorldState S) (node slot : ℕ) : Type 0 where
   pub state : NodeState (Script S)
   pub here : slice_get w.nodes node ≡ Some state
   pub replica : ReplicaState
@@ -190,7 +190,7 @@ module _ {S : Type 0} (storages : Ghosts (Script S)) (old : WorldState S) (node 
         → GoesDownOn storages (receivers_after phase node members) between first m new → GoesDown m new
 
   -- the answers have come, and some refuse: this is the greatest promise that they tell
-  pub record IsRefused (greatest : Ballot) (new : WorldState S) : Type 0 where
+  pub record RoundIsRefused (greatest : Ballot) (new : WorldState S) : Type 0 where
     pub first : ℕ
     pub between : WorldState S
     pub comes : ComesThrough asked first between
@@ -198,8 +198,8 @@ module _ {S : Type 0} (storages : Ghosts (Script S)) (old : WorldState S) (node 
     pub delivers : DeliversTo storages (node ∷ []) between first (length between.frames) new
 
   -- all phases are over
-  pub record IsDecided (slot : ℕ) (new : WorldState S) : Type 0 where
-    pub at : IsAt old node slot
+  pub record SlotIsDecided (slot : ℕ) (new : WorldState S) : Type 0 where
+    pub at : PositionIsAt old node slot
     pub first : ℕ
     pub comes : ComesThrough heard first new
 
@@ -211,22 +211,22 @@ module _ {S : Type 0} (storages : Ghosts (Script S)) (old : WorldState S) (node 
   MeetingEnds (Behind m) new = ⊥
   MeetingEnds (Refused f) new = RefusesToBegin old node f × (new ≡ old)
   MeetingEnds (Stopped m) new = GoesDown m new
-  MeetingEnds (TooLow greatest) new = IsRefused greatest new
-  MeetingEnds (Decided slot) new = IsDecided slot new
+  MeetingEnds (TooLow greatest) new = RoundIsRefused greatest new
+  MeetingEnds (Decided slot) new = SlotIsDecided slot new
 
-  abbrev pub EndsIn : RoundEnd → WorldState S → Type 0
-  EndsIn NotAQuorum new = (IsQuorum (length old.nodes) node members → ⊥) × (new ≡ old)
-  EndsIn (Down m) new = IsQuorum (length old.nodes) node members × IsLowestDown old members m × (new ≡ old)
-  EndsIn (Behind m) new = IsQuorum (length old.nodes) node members × AreUp old members × IsLowestBehind old node members m × (new ≡ old)
-  EndsIn (Refused f) new = CanMeet old node members × MeetingEnds (Refused f) new
-  EndsIn (Stopped m) new = CanMeet old node members × MeetingEnds (Stopped m) new
-  EndsIn (TooLow greatest) new = CanMeet old node members × MeetingEnds (TooLow greatest) new
-  EndsIn (Decided slot) new = CanMeet old node members × MeetingEnds (Decided slot) new
+  abbrev pub RoundEndsIn : RoundEnd → WorldState S → Type 0
+  RoundEndsIn NotAQuorum new = (IsQuorum (length old.nodes) node members → ⊥) × (new ≡ old)
+  RoundEndsIn (Down m) new = IsQuorum (length old.nodes) node members × IsLowestDown old members m × (new ≡ old)
+  RoundEndsIn (Behind m) new = IsQuorum (length old.nodes) node members × AreUp old members × IsLowestBehind old node members m × (new ≡ old)
+  RoundEndsIn (Refused f) new = CanMeet old node members × MeetingEnds (Refused f) new
+  RoundEndsIn (Stopped m) new = CanMeet old node members × MeetingEnds (Stopped m) new
+  RoundEndsIn (TooLow greatest) new = CanMeet old node members × MeetingEnds (TooLow greatest) new
+  RoundEndsIn (Decided slot) new = CanMeet old node members × MeetingEnds (Decided slot) new
 
   -- and the end is told
   pub record RoundEnds (end : RoundEnd) (new : WorldState S) : Type 0 where
     pub reached : WorldState S
-    pub ends : EndsIn end reached
+    pub ends : RoundEndsIn end reached
     pub leaves : new ≡ with_outcome reached (outcome.Round node end)
 
   -- ---- where memory is wanting
@@ -242,11 +242,11 @@ module _ {S : Type 0} (storages : Ghosts (Script S)) (old : WorldState S) (node 
   pub data IsPartOfRound (new : WorldState S) : Type 0 where
     none : new ≡ old → IsPartOfRound new
     some : CanMeet old node members → HasBegun new → IsPartOfRound new
-    untold : (end : RoundEnd) → EndsIn end new → IsPartOfRound new
+    untold : (end : RoundEnd) → RoundEndsIn end new → IsPartOfRound new
 
   -- of members that can meet
-  abbrev pub IsInterrupted : WorldState S → Type 0
-  IsInterrupted new = (new ≡ old) ⊎ HasBegun new
+  abbrev pub RoundIsInterrupted : WorldState S → Type 0
+  RoundIsInterrupted new = (new ≡ old) ⊎ HasBegun new
 
 -- ---- a part of a round, whatever led to it
 module _ {S : Type 0} (storages : Ghosts (Script S)) (node : ℕ) (members : List ℕ) (phase : Phase) (first : ℕ) (now : WorldState S) where
@@ -261,6 +261,6 @@ module _ {S : Type 0} (storages : Ghosts (Script S)) (node : ℕ) (members : Lis
       → MeetingEnds storages old node members end new
 
   -- memory is wanting to it
-  abbrev pub BreaksOff : WorldState S → Type 0
-  BreaksOff new = (old : WorldState S) → ComesThrough storages old node members phase first now
+  abbrev pub RoundBreaksOff : WorldState S → Type 0
+  RoundBreaksOff new = (old : WorldState S) → ComesThrough storages old node members phase first now
       → HasBegun storages old node members new

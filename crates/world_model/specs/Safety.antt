@@ -99,7 +99,7 @@ PromisesOfRun {S} contents nodes =
 
 -- moves that the protocol allows lead there, the lists tell what the nodes know, whatever was learnt was learnt at a slot of the log,
 -- what was submitted is valid, and what was promised is of a node of the run
-pub record IsSound {S : Type 0} (contents : Script S → Records) (w : WorldState S) : Type 0 where
+pub record WorldInvariant {S : Type 0} (contents : Script S → Records) (w : WorldState S) : Type 0 where
   pub allowed : IsAllowed contents w.nodes w.frames w.learnt w.submitted
   pub tells : WorldIsBacked contents w
   pub in_log : LearntInLog w.learnt
@@ -115,4 +115,4 @@ honest_inside IsHonest s = IsHonest s.inner × IsSome s.fired
 
 -- where every storage is honest
 pub record IsSoundIfHonest {S : Type 0} (contents : Script S → Records) (IsHonest : Script S → Type 0) (w : WorldState S) : Type 0 where
-  pub sound : AreHonest IsHonest w.nodes → IsSound contents w
+  pub sound : AreHonest IsHonest w.nodes → WorldInvariant contents w

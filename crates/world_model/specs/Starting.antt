@@ -7,19 +7,19 @@ use Rattle.node_model.specs.States.{NodeState}
 
 module _ {S : Type 0} (storages : Ghosts S) where
   -- a key holds a record, or one is stored that is the spelling of none
-  abbrev pub HoldsRecords : S → Type 0
-  HoldsRecords s = storages.HasStrayKey s ⊎ ((key : Key) × IsSome (storages.contents s key))
+  abbrev pub StorageHoldsRecords : S → Type 0
+  StorageHoldsRecords s = storages.HasStrayKey s ⊎ ((key : Key) × IsSome (storages.contents s key))
 
   -- asked for its keys, it told that there are some; or its device failed
-  pub data IsUsed (s : S) : Type 0 where
-    told : (after : S) → storages.reads s after → (storages.IsHonest after → HoldsRecords s) → IsUsed s
-    failed : (after : S) → storages.read_fails s after → IsUsed s
+  pub data StorageIsUsed (s : S) : Type 0 where
+    told : (after : S) → storages.reads s after → (storages.IsHonest after → StorageHoldsRecords s) → StorageIsUsed s
+    failed : (after : S) → storages.read_fails s after → StorageIsUsed s
 
   -- so it is with one of these
   pub record OneIsUsed (stores : List S) : Type 0 where
     pub store : S
     pub listed : Contains stores store
-    pub used : IsUsed store
+    pub used : StorageIsUsed store
 
   -- calls that write nothing made the one of the other
   abbrev pub WasRead : S → S → Type 0

@@ -1,6 +1,6 @@
 -- What nodes took of clients, and which commands that makes.
 use Rattle.std.specs.Prelude.{◌≡◌, ⊤, List, Contains}
-use Rattle.store.specs.Operations.{IsSound}
+use Rattle.store.specs.Operations.{OpIsValid}
 use Rattle.sessions.specs.Asked.{Asked}
 use Rattle.sessions.specs.declared.command.Command.{Command}
 use Rattle.sessions.specs.declared.command.Command.TheVariants.{NoOp, Request}
@@ -26,4 +26,4 @@ IsGrounded submitted (Request r) = IsSubmitted submitted r
 
 -- what the requests bring that nodes took is valid: the sequence of a Put, and the coordinates of an Append
 pub record BringValid (submitted : List Submission) : Type 0 where
-  pub each : (s : Submission) → Contains submitted s → IsSound s.op
+  pub each : (s : Submission) → Contains submitted s → OpIsValid s.op

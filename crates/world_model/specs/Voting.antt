@@ -5,7 +5,7 @@ use Rattle.synod.specs.declared.ballot.Ballot.{Ballot}
 use Rattle.synod.specs.declared.vote.Vote.{Vote}
 use Rattle.stable.specs.Script.{Write}
 use Rattle.stable.specs.declared.key.Key.TheVariants as key
-use Rattle.acceptor.specs.Forms.{VoteFits}
+use Rattle.acceptor.specs.Forms.{VoteFitsRecord}
 use Rattle.acceptor.specs.Spelling.{vote_bytes}
 use Rattle.sessions.specs.declared.command.Command.{Command}
 use Rattle.world_model.specs.declared.lists.LearntEntry.{LearntEntry}
@@ -18,7 +18,7 @@ vote_put v = (key.Vote v.slot, vote_bytes v)
 
 -- the record of the vote was written, whether overwritten since or not; of votes that fit no two are spelled alike
 pub record HasVote (writes : List Write) (v : Vote Command) : Type 0 where
-  pub fits : VoteFits v
+  pub fits : VoteFitsRecord v
   pub written : Contains writes (vote_put v)
 
 -- the command is chosen at the slot, by the list of each node's writes: for one ballot a majority of the nodes have

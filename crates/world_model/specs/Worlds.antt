@@ -6,7 +6,7 @@ use Rattle.stable.specs.declared.scripted.Failing.{Failing}
 use Rattle.stable.specs.declared.stable.Stable.{Ghosts}
 use Rattle.sessions.specs.Asked.{Asked}
 use Rattle.wire.specs.declared.frames.envelope.Envelope.{Envelope}
-use Rattle.store.specs.Operations.{IsSound}
+use Rattle.store.specs.Operations.{OpIsValid}
 use Rattle.store.specs.declared.query.Query.{Query}
 use Rattle.wire.specs.FrameSpelling.{Fits}
 use Rattle.events.specs.declared.event.Event.{Event}
@@ -115,7 +115,7 @@ with_submission w taken node r =
 -- a client's request comes to a node, and what it brings is valid
 pub record SubmitsAt {S : Type 0} (storages : Ghosts (Script S))
     (old : WorldState S) (node : ℕ) (r : Asked) (new : WorldState S) : Type 0 where
-  pub valid : IsSound r.op
+  pub valid : OpIsValid r.op
   pub taken : Bool
   pub between : WorldState S
   pub takes : TakesAt storages old node (input.Submit r.client r.number r.op) taken between

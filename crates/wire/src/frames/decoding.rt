@@ -4,7 +4,7 @@ ghost use Rattle.std.specs.Prelude.{ℕ, List, [], ⊤, ◌++◌, ◌≡◌, ◌
 ghost use Rattle.synod.specs.Ballots.{rank};
 ghost use Rattle.wire.specs.Puts.{TakesMemory, BringsContent, FrameWithContentBegins};
 ghost use Rattle.fields.specs.Reading.{Tells};
-ghost use Rattle.wire.specs.Reading.{Gives, MayWant};
+ghost use Rattle.wire.specs.Reading.{Gives, ReadMayWant};
 ghost use Rattle.wire.specs.FrameReading.{version_at, kind_at, node_at, ends_at, Head, head_at};
 ghost use Rattle.wire.specs.FrameReading.{ballot_above, nack_at, vote_at, prepare_at, decided_at};
 ghost use Rattle.wire.specs.FrameReading.{message_at, envelope_at, frame_in};
@@ -48,7 +48,7 @@ pub fn decode(alloc: Global, bytes: &[u8], nodes: Nodes) -> Result<Envelope, Wir
 #[tactic(auto, unfolding(crate::specs::FrameReading::frame_in))]
 fn read_frame(alloc: Global, bytes: &[u8], nodes: Nodes) -> Result<Envelope, WireFault>
     ensures read { Gives (λ x. x) result (frame_in nodes bytes.now) }
-    ensures memory { IsErrOf result WireFault.Memory → MayWant (λ e. TakesMemory e.message) (frame_in nodes bytes.now) }
+    ensures memory { IsErrOf result WireFault.Memory → ReadMayWant (λ e. TakesMemory e.message) (frame_in nodes bytes.now) }
     ensures not_long { IsErrOf result WireFault.Memory → length bytes.now ≤ LONGEST_FRAME }
     ensures brings { IsErrOf result WireFault.Memory → IsOkAnd (head_at nodes bytes.now) (λ h. BringsContent h.0.kind) }
 {
@@ -67,7 +67,7 @@ fn read_frame(alloc: Global, bytes: &[u8], nodes: Nodes) -> Result<Envelope, Wir
 #[tactic(auto, unfolding(crate::specs::FrameReading::envelope_at))]
 fn read_envelope(alloc: Global, input: &mut Input, nodes: Nodes) -> Result<Envelope, WireFault>
     ensures read { Gives (λ x. (x, input.new)) result (envelope_at nodes input.old) }
-    ensures memory { IsErrOf result WireFault.Memory → MayWant (λ x. TakesMemory x.0.message) (envelope_at nodes input.old) }
+    ensures memory { IsErrOf result WireFault.Memory → ReadMayWant (λ x. TakesMemory x.0.message) (envelope_at nodes input.old) }
     ensures brings { IsErrOf result WireFault.Memory → IsOkAnd (head_at nodes input.old) (λ h. BringsContent h.0.kind) }
 {
     let head = read_head(input, nodes)?;
@@ -155,7 +155,7 @@ fn read_message(
     nodes: Nodes,
 ) -> Result<Message, WireFault>
     ensures read { Gives (λ x. (x, input.new)) result (message_at kind nodes input.old) }
-    ensures memory { IsErrOf result WireFault.Memory → MayWant (λ x. TakesMemory x.0) (message_at kind nodes input.old) }
+    ensures memory { IsErrOf result WireFault.Memory → ReadMayWant (λ x. TakesMemory x.0) (message_at kind nodes input.old) }
     ensures brings { IsErrOf result WireFault.Memory → BringsContent kind }
 {
     match kind {
@@ -215,7 +215,7 @@ fn read_vote(
     nodes: Nodes,
 ) -> Result<Vote<SharedCommand>, WireFault>
     ensures read { Gives (λ x. (x, input.new)) result (vote_at nodes input.old) }
-    ensures memory { IsErrOf result WireFault.Memory → MayWant (λ _. ⊤) (vote_at nodes input.old) }
+    ensures memory { IsErrOf result WireFault.Memory → ReadMayWant (λ _. ⊤) (vote_at nodes input.old) }
 {
     let ballot = read_ballot(input, nodes)?;
     let slot = read_slot(input)?;
@@ -230,7 +230,7 @@ fn read_vote(
 #[tactic(auto, unfolding(crate::specs::FrameReading::decided_at))]
 fn read_decided(alloc: Global, input: &mut Input) -> Result<Message, WireFault>
     ensures read { Gives (λ x. (x, input.new)) result (decided_at input.old) }
-    ensures memory { IsErrOf result WireFault.Memory → MayWant (λ x. TakesMemory x.0) (decided_at input.old) }
+    ensures memory { IsErrOf result WireFault.Memory → ReadMayWant (λ x. TakesMemory x.0) (decided_at input.old) }
 {
     let slot = read_slot(input)?;
     let command = read_held(alloc, input)?;

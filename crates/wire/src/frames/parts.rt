@@ -5,7 +5,7 @@ ghost use Rattle.fields.specs.Reading.{Tells};
 ghost use Rattle.sessions.specs.declared.snapshot.TheConstants.{LONGEST_SNAPSHOT};
 ghost use Rattle.wire.specs.FrameReading.{position_at, part_below, snap_ask_at, total_at, part_bytes_at, piece_at};
 ghost use Rattle.wire.specs.Parts.{IsPosition, offset_of};
-ghost use Rattle.wire.specs.Reading.{Gives, MayWant};
+ghost use Rattle.wire.specs.Reading.{Gives, ReadMayWant};
 
 use super::fault::WireFault;
 use super::message::Message;
@@ -60,7 +60,7 @@ fn read_part_below(input: &mut Input, total: u32) -> Result<PartNumber, WireFaul
 #[tactic(auto, unfolding(crate::specs::FrameReading::piece_at))]
 pub(super) fn read_part(alloc: Global, input: &mut Input) -> Result<Part, WireFault>
     ensures read { Gives (λ x. (x, input.new)) result (piece_at input.old) }
-    ensures memory { IsErrOf result WireFault.Memory → MayWant (λ _. ⊤) (piece_at input.old) }
+    ensures memory { IsErrOf result WireFault.Memory → ReadMayWant (λ _. ⊤) (piece_at input.old) }
 {
     let position = read_position(input)?;
     let total = read_total(input)?;
@@ -93,7 +93,7 @@ fn read_part_bytes(
 ) -> Result<Rc<Vec<u8>>, WireFault>
     requires { offset_of number < total }
     ensures read { Gives (λ x. (x.value.items, input.new)) result (part_bytes_at total number input.old) }
-    ensures memory { IsErrOf result WireFault.Memory → MayWant (λ _. ⊤) (part_bytes_at total number input.old) }
+    ensures memory { IsErrOf result WireFault.Memory → ReadMayWant (λ _. ⊤) (part_bytes_at total number input.old) }
     ensures whole { IfOk result (λ bytes. length bytes.value.items ≡ min PART (total - offset_of number)) }
 {
     let count = input.u16()?;

@@ -4,7 +4,7 @@ ghost use Rattle.std.specs.Prelude.{◌≡◌, ◌<◌, ◌≤◌, ⊤, IfOk, Is
 ghost use Rattle.fields.specs.Reading.{Tells, id_at};
 ghost use Rattle.sessions.specs.Asked.{IsShort};
 ghost use Rattle.wire.specs.Puts.{IsPut, CommandPuts, OpBeginsAsPut, RequestBeginsAsPut, CommandBeginsAsPut};
-ghost use Rattle.wire.specs.Reading.{Gives, MayWant, ballot_of, ballot_at, slot_at, put_at, append_at, remove_at, op_at};
+ghost use Rattle.wire.specs.Reading.{Gives, ReadMayWant, ballot_of, ballot_at, slot_at, put_at, append_at, remove_at, op_at};
 ghost use Rattle.wire.specs.Reading.{request_number_at, request_at, asked_at, command_at};
 
 use super::fault::WireFault;
@@ -56,7 +56,7 @@ pub(super) fn read_slot(input: &mut Input) -> Result<Slot, WireFault>
 #[tactic(auto)]
 pub(super) fn read_held(alloc: Global, input: &mut Input) -> Result<SharedCommand, WireFault>
     ensures read { Gives (λ x. (x, input.new)) result (command_at input.old) }
-    ensures memory { IsErrOf result WireFault.Memory → MayWant (λ _. ⊤) (command_at input.old) }
+    ensures memory { IsErrOf result WireFault.Memory → ReadMayWant (λ _. ⊤) (command_at input.old) }
 {
     let command = read_command(alloc, input)?;
     Ok(SharedCommand::new(alloc, command)?)
@@ -67,7 +67,7 @@ pub(super) fn read_held(alloc: Global, input: &mut Input) -> Result<SharedComman
 #[inline(always)]
 pub(super) fn read_command(alloc: Global, input: &mut Input) -> Result<Command, WireFault>
     ensures read { Gives (λ x. (x, input.new)) result (command_at input.old) }
-    ensures memory { IsErrOf result WireFault.Memory → MayWant (λ x. CommandPuts x.0) (command_at input.old) }
+    ensures memory { IsErrOf result WireFault.Memory → ReadMayWant (λ x. CommandPuts x.0) (command_at input.old) }
     ensures begins { IsErrOf result WireFault.Memory → CommandBeginsAsPut input.old }
 {
     match input.u8()? {
@@ -80,7 +80,7 @@ pub(super) fn read_command(alloc: Global, input: &mut Input) -> Result<Command, 
 #[tactic(auto, unfolding(crate::specs::Reading::asked_at))]
 fn read_asked(alloc: Global, input: &mut Input) -> Result<Command, WireFault>
     ensures read { Gives (λ x. (x, input.new)) result (asked_at input.old) }
-    ensures memory { IsErrOf result WireFault.Memory → MayWant (λ x. CommandPuts x.0) (asked_at input.old) }
+    ensures memory { IsErrOf result WireFault.Memory → ReadMayWant (λ x. CommandPuts x.0) (asked_at input.old) }
     ensures begins { IsErrOf result WireFault.Memory → RequestBeginsAsPut input.old }
 {
     let request = read_request(alloc, input)?;
@@ -90,7 +90,7 @@ fn read_asked(alloc: Global, input: &mut Input) -> Result<Command, WireFault>
 #[tactic(auto, unfolding(crate::specs::Reading::request_at))]
 fn read_request(alloc: Global, input: &mut Input) -> Result<Request, WireFault>
     ensures read { Gives (λ x. (x, input.new)) result (request_at input.old) }
-    ensures memory { IsErrOf result WireFault.Memory → MayWant (λ x. IsPut x.0.op) (request_at input.old) }
+    ensures memory { IsErrOf result WireFault.Memory → ReadMayWant (λ x. IsPut x.0.op) (request_at input.old) }
     ensures begins { IsErrOf result WireFault.Memory → RequestBeginsAsPut input.old }
 {
     let client = input.u8()?;
@@ -118,7 +118,7 @@ fn read_request_number(input: &mut Input) -> Result<Number, WireFault>
 fn read_op(alloc: Global, input: &mut Input) -> Result<Op, WireFault>
     ensures short { IfOk result IsShort }
     ensures read { Gives (λ x. (x, input.new)) result (op_at input.old) }
-    ensures memory { IsErrOf result WireFault.Memory → MayWant (λ x. IsPut x.0) (op_at input.old) }
+    ensures memory { IsErrOf result WireFault.Memory → ReadMayWant (λ x. IsPut x.0) (op_at input.old) }
     ensures begins { IsErrOf result WireFault.Memory → OpBeginsAsPut input.old }
 {
     match input.u8()? {

@@ -4,7 +4,7 @@ ghost use Rattle.std.specs.Prelude.{◌≡◌, ◌+◌, ◌≤◌, ⊤, length, 
 ghost use Rattle.wire.specs.Promises.{AreTold};
 ghost use Rattle.wire.specs.Puts.{SomeTold};
 ghost use Rattle.fields.specs.Reading.{Tells};
-ghost use Rattle.wire.specs.Reading.{Gives, MayWant};
+ghost use Rattle.wire.specs.Reading.{Gives, ReadMayWant};
 ghost use Rattle.wire.specs.FrameReading.{range_at, few_at, slot_within, ballot_up_to, entry_at, entries_at};
 ghost use Rattle.wire.specs.FrameReading.{told_at, promise_at};
 
@@ -26,7 +26,7 @@ pub(super) fn read_promise(
     nodes: Nodes,
 ) -> Result<Promise, WireFault>
     ensures read { Gives (λ x. (x, input.new)) result (promise_at nodes input.old) }
-    ensures memory { IsErrOf result WireFault.Memory → MayWant (λ x. SomeTold x.0.entries) (promise_at nodes input.old) }
+    ensures memory { IsErrOf result WireFault.Memory → ReadMayWant (λ x. SomeTold x.0.entries) (promise_at nodes input.old) }
 {
     let ballot = read_ballot(input, nodes)?;
     let (first, last) = read_range(input)?;
@@ -62,7 +62,7 @@ fn read_told(
     ensures told { IfOk result (λ entries. AreTold ballot first last entries.items) }
     ensures read { Gives (λ x. (x.items, input.new)) result (told_at nodes ballot (first, last) input.old) }
     ensures memory { IsErrOf result WireFault.Memory
-        → MayWant (λ x. SomeTold x.0) (told_at nodes ballot (first, last) input.old) }
+        → ReadMayWant (λ x. SomeTold x.0) (told_at nodes ballot (first, last) input.old) }
 {
     let count = read_few(input)?;
     read_entries(alloc, input, nodes, ballot, first, last, count)
@@ -94,7 +94,7 @@ fn read_entries(
     requires { count ≤ MOST_ENTRIES }
     ensures read { Gives (λ x. (x.items, input.new)) result (entries_at nodes ballot last count first input.old) }
     ensures memory { IsErrOf result WireFault.Memory
-        → MayWant (λ x. SomeTold x.0) (entries_at nodes ballot last count first input.old) }
+        → ReadMayWant (λ x. SomeTold x.0) (entries_at nodes ballot last count first input.old) }
 {
     let mut entries = Vec::with_capacity(alloc, usize::from(count))?;
     let mut from = first.value();
@@ -125,7 +125,7 @@ fn read_entry(
 ) -> Result<Vote<SharedCommand>, WireFault>
     ensures read { Gives (λ x. (x, input.new)) result (entry_at nodes limit from last input.old) }
     ensures memory { IsErrOf result WireFault.Memory
-        → MayWant (λ _. ⊤) (entry_at nodes limit from last input.old) }
+        → ReadMayWant (λ _. ⊤) (entry_at nodes limit from last input.old) }
 {
     let slot = read_slot_within(input, from, last)?;
     let ballot = read_ballot_up_to(input, nodes, limit)?;

@@ -2,7 +2,7 @@ use Rattle.std.proofs.Common.{◌≡◌, ℕ, ℤ, List, length, rules, refl, su
 use Rattle.std.proofs.lemmas.Result.{err_from_is_err_and}
 use Rattle.serde_json.specs.View.{view}
 use Rattle.tpoint.specs.Moving.{Sequence}
-use Rattle.mfjson.specs.Document.{StandsFor}
+use Rattle.mfjson.specs.Document.{IsFeatureValue}
 use Rattle.mfjson.specs.Outline.{AreTogether}
 use Rattle.mfjson.proofs.FeatureLemmas.{has_read, datetime_first, coordinates_first, lengths_first, list_fault_first, feature_stands}
 use Rattle.mfjson.proofs.reading.feature_of.Goals as goal
@@ -54,7 +54,7 @@ returns-in-Ok-new-clause-ok c =
     let all = subst (λ (us : List (ℤ × ℤ)). AreTogether ps ts us) c.deref-2.ensures.value lent in
     let valid = c.in-Ok-new.ensures.valid.0 refl in
     let stands = feature_stands d _ c.in-Ok.outline.1 _ _ ts cs ps c.in-Ok.ensures read all valid in
-    subst (λ (s : Sequence). StandsFor d (record { id = c.in-Ok.outline.0; seq = s })) (sym c.in-Ok-new.ensures.value) stands
+    subst (λ (s : Sequence). IsFeatureValue d (record { id = c.in-Ok.outline.0; seq = s })) (sym c.in-Ok-new.ensures.value) stands
 
 pub returns-clause-err : goal.returns-clause-err
 returns-clause-err c =

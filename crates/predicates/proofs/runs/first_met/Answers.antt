@@ -1,9 +1,9 @@
 use Rattle.std.proofs.Common.{◌+◌, ◌≤◌, rules, arith}
 use Rattle.tpoint.proofs.PlaceLemmas.{stands_at}
 use Rattle.tpoint.specs.Extents.{last_whole}
-use Rattle.tpoint.specs.Pieces.{Piece}
+use Rattle.tpoint.specs.Pieces.{OnPiece}
 use Rattle.tpoint.specs.declared.interp.Interp.TheVariants.{Linear}
-use Rattle.predicates.specs.Questions.{Answers}
+use Rattle.predicates.specs.Questions.{AnswersQuestion}
 use Rattle.predicates.specs.declared.questions.Question.TheVariants.{Ever}
 use Rattle.predicates.specs.declared.questions.Tri.TheVariants.{No}
 use Rattle.predicates.proofs.SequenceLemmas.{passes_by, one_more}
@@ -36,7 +36,7 @@ loop-k-preserved c =
     let f = stands_at ps (k + 1) b (omega arith) c.index-points-k-in-loop-k.is in
     let has = c.last_whole.ensures.has_instant in
     let over : b.t ≤ last_whole p = search rules in
-    one_more (λ j. Answers Ever (Piece Linear ps j) p r No) c.args.from k c.loop-k.invariant
+    one_more (λ j. AnswersQuestion Ever (OnPiece Linear ps j) p r No) c.args.from k c.loop-k.invariant
     (passes_by ps p r c.args.from k a b has c.requires.increasing c.requires.begun (omega arith) e f over
     (told_no c.if-comes_in.false c.comes_in.ensures.1))
 

@@ -1,7 +1,7 @@
 use Rattle.std.proofs.Common.{◌≡◌, IsTrue, rules, true, inr, ◌∙◌}
 use Rattle.sqlite.specs.State.{State}
 use Rattle.sqlite.specs.Held.{state}
-use Rattle.sqlstable.specs.States.{IsSound, IsUsable, table}
+use Rattle.sqlstable.specs.States.{TableIsSound, IsUsable, table}
 use Rattle.sqlstable.proofs.FoundLemmas.{found_sound, listed_is, not_in}
 use Rattle.sqlstable.proofs.survey.survey.Goals as goal
 
@@ -11,7 +11,7 @@ returns g c =
     let after : State = state g.S.Store c.list.new.connection in
     let has = c.requires.ours ∙ listed_is in
     let alone : c.is_autocommit.result ≡ true = search rules in
-    let shown : IsUsable after → IsTrue c.in_ok-are_own.are_own → IsSound after × (table after ≡ table before) =
+    let shown : IsUsable after → IsTrue c.in_ok-are_own.are_own → TableIsSound after × (table after ≡ table before) =
     λ usable own. found_sound before after c.in_ok-rows.rows.items c.as_slice-listed.result.now has (c.in_ok-rows.ensures.listed usable.0 has)
     (c.in_ok-rows.ensures.unchanged usable.0 has) c.requires.live
     (not_in c.is_autocommit.result _ c.is_autocommit.ensures.value alone)

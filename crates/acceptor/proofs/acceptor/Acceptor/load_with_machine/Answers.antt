@@ -1,6 +1,6 @@
 use Rattle.std.proofs.Common.{rules, refl, arith, ◌<◌, ◌∙◌, sym, subst, length, inr, List}
 use Rattle.std.proofs.lemmas.Option.{none-some}
-use Rattle.stable.specs.Records.{IsAscending}
+use Rattle.stable.specs.Records.{KeysAscend}
 use Rattle.stable.specs.declared.key.Key.{Key}
 use Rattle.acceptor.proofs.CheckpointLemmas.{begins_with_none, machine_as_before}
 use Rattle.acceptor.proofs.LoadLemmas.{take_all, says_more, begins_more, forms_at, says_all, begins_all, forms_all}
@@ -62,7 +62,7 @@ loop-key-preserved g c =
           let still = law.reads_honest _ _ c.in_ok-take_in.ensures.reads honest in
           let listed = law.reads_honest _ _ c.loop-key.invariant.0 still in
           let same = law.reads_contents _ _ read still in
-          let sorted = subst (λ (xs : List Key). IsAscending xs) (sym c.deref-key-items.ensures.value)
+          let sorted = subst (λ (xs : List Key). KeysAscend xs) (sym c.deref-key-items.ensures.value)
           (c.in_ok-keys.ensures.ascending listed) in
           says_more _ _ keys i c.key-item.result _ _ sorted lt c.key-item.is same (c.in_ok-take_in.ensures.told honest)
           (c.loop-key.invariant.1 still),
@@ -74,7 +74,7 @@ loop-key-preserved g c =
           let still = law.reads_honest _ _ c.in_ok-take_in.ensures.reads honest in
           let listed = law.reads_honest _ _ c.loop-key.invariant.0 still in
           let same = law.reads_contents _ _ read still in
-          let sorted = subst (λ (xs : List Key). IsAscending xs) (sym c.deref-key-items.ensures.value)
+          let sorted = subst (λ (xs : List Key). KeysAscend xs) (sym c.deref-key-items.ensures.value)
           (c.in_ok-keys.ensures.ascending listed) in
           begins_more _ _ keys i c.key-item.result _ _ sorted lt c.key-item.is same (c.in_ok-take_in.ensures.machine honest)
           (c.loop-key.invariant.3 still),

@@ -1,6 +1,6 @@
 use Rattle.std.proofs.Common.{take}
 use Rattle.acceptor.specs.Accepting.{RecordsSay}
-use Rattle.acceptor.specs.Loading.{records_at, BeginsWith, IsMachineOf}
+use Rattle.acceptor.specs.Loading.{records_at, MachineBeginsWith, IsMachineOf}
 use Rattle.acceptor.specs.State.{accepting_of}
 use Rattle.acceptor.proofs.LoadLemmas.{OfTheirForm}
 use Rattle.acceptor.proofs.acceptor.Acceptor.load_with_machine.Given as goal
@@ -13,5 +13,5 @@ invariant-loop-key g l =
     g.S.Stable.reads l.initial.storage l.storage
     × (g.S.Stable.IsHonest l.storage → RecordsSay (records_at records keys) (accepting_of l.loaded))
     × (g.S.Stable.IsHonest l.storage → OfTheirForm records keys)
-    × (g.S.Stable.IsHonest l.storage → BeginsWith (records_at records keys) l.machine)
+    × (g.S.Stable.IsHonest l.storage → MachineBeginsWith (records_at records keys) l.machine)
     × IsMachineOf (accepting_of l.loaded).text l.machine

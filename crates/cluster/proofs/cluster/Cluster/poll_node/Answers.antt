@@ -6,7 +6,7 @@ use Rattle.world.specs.Seen.{world_of}
 use Rattle.world_model.specs.Worlds.{DeliversFrame}
 use Rattle.cluster.specs.Clusters.{HasPassed, sendings}
 use Rattle.cluster.specs.ClusterViews.{pumped_of, world_in}
-use Rattle.cluster.specs.Lowest.{IsLowest, IsStranger}
+use Rattle.cluster.specs.Lowest.{IsLowestFrame, IsStranger}
 use Rattle.cluster.proofs.Pumping.{polled_nothing, polled_stranger, polled_frame, same_pumped, was_sent}
 use Rattle.cluster.proofs.cluster.Cluster.poll_node.Goals as goal
 
@@ -26,7 +26,7 @@ returns-in_default-2-clause-polls g c =
     c.polled.new.self.transport c.args.node (option_map (λ v. v.items) c.polled.result) c.in-Some.datagram.items c.in_ok-frame.field-0
     (ap (λ o. option_map (λ v. v.items) o) c.in-Some.is)
     (subst (λ w. MatchOption c.in_ok-frame.field-0 (IsStranger w.frames c.args.node c.in-Some.datagram.items)
-    (IsLowest w.frames c.args.node c.in-Some.datagram.items)) worlds c.in_ok-frame.ensures.found)
+    (IsLowestFrame w.frames c.args.node c.in-Some.datagram.items)) worlds c.in_ok-frame.ensures.found)
     c.in_default-2.is
     (same_pumped (world_of c.lowest.new.self.world) (world_in c.args.self.now) c.saturating_add-self.result
     (min (c.args.self.now.strangers + 1) (2 ^ 64 - 1)) (c.in_ok-frame.ensures.world ∙ worlds)
@@ -41,7 +41,7 @@ returns-in_err-step-clause-faults g c =
     let sent = was_sent (scripted in_memory) g.T.Transport (world_of c.lowest.new.self.world).frames c.args.node c.in-Some.datagram.items
     c.in_ok-frame.field-0 c.in-Some-2.frame
     (subst (λ w. MatchOption c.in_ok-frame.field-0 (IsStranger w.frames c.args.node c.in-Some.datagram.items)
-    (IsLowest w.frames c.args.node c.in-Some.datagram.items)) (sym c.in_ok-frame.ensures.world) c.in_ok-frame.ensures.found)
+    (IsLowestFrame w.frames c.args.node c.in-Some.datagram.items)) (sym c.in_ok-frame.ensures.world) c.in_ok-frame.ensures.found)
     c.in-Some-2.is in
     rw (exit.1, exit.2) (elim c.in_err-step.ensures.faults [
       | inl message ↦ absurd (sent (c.in_err-step.ensures.no_frame.0 (ap Err message)))
@@ -60,7 +60,7 @@ returns-clause-polls g c =
     c.in-Some.datagram.items c.in_ok-frame.field-0 c.in-Some-2.frame
     (ap (λ o. option_map (λ v. v.items) o) c.in-Some.is)
     (subst (λ w. MatchOption c.in_ok-frame.field-0 (IsStranger w.frames c.args.node c.in-Some.datagram.items)
-    (IsLowest w.frames c.args.node c.in-Some.datagram.items)) worlds c.in_ok-frame.ensures.found)
+    (IsLowestFrame w.frames c.args.node c.in-Some.datagram.items)) worlds c.in_ok-frame.ensures.found)
     c.in-Some-2.is
     (subst (λ w. DeliversFrame (scripted in_memory) w c.in-Some-2.frame (world_in c.step.new.self)) world c.in_ok-step.ensures.steps)
     (c.in_ok-step.ensures.no_strangers ∙ counts)

@@ -6,7 +6,7 @@ use Rattle.proposer.specs.Proposing.{after_learned}
 use Rattle.proposer.specs.Requests.{is_of}
 use Rattle.sessions.specs.declared.command.Command.TheVariants.{Request}
 use Rattle.conformance.specs.declared.requests.TheConstants.{CLIENT}
-use Rattle.conformance.specs.Leaders.{Submits, executed, waited_number}
+use Rattle.conformance.specs.Leaders.{RequestWaits, executed, waited_number}
 use Rattle.conformance.specs.Requests.{request_of}
 use Rattle.conformance.proofs.Campaigning.{waited_byte}
 use Rattle.conformance.proofs.leader.Leader.propose.Goals as goal
@@ -31,7 +31,7 @@ returns c =
     ∙ ap (λ p. executed p (1 + place)) closed in
     let next : c.from.result + (1 + c.from-number.result) ≡ waiting + (1 + place) =
     omega (arith, c.from.ensures, c.from-number.ensures) in
-    let comes = subst (λ (n : ℕ). Submits c.executed-waited.new.self (request_of n) c.submit.new.proposer) next c.in_ok-submit.ensures in
+    let comes = subst (λ (n : ℕ). RequestWaits c.executed-waited.new.self (request_of n) c.submit.new.proposer) next c.in_ok-submit.ensures in
     let waited = c.executed-waited.ensures.waited ∙ ap (λ (n : ℕ). list_any (is_of CLIENT n) c.on_learned.new.self.waiting) named
     ∙ ap (λ p. list_any (is_of CLIENT (1 + place)) p.waiting) closed in
     let counts = c.from-2.ensures ∙ waited_byte c.executed-waited.result ∙ ap (λ b. waited_number b) waited in
@@ -41,6 +41,6 @@ returns c =
       proposes = c.in_ok-sends.ensures.proposes;
       learned = learned;
       learns = subst (λ r. HearsDecided old place (Request r) learned new) chosen learns;
-      submits = subst (λ p. Submits p (request_of (waiting + (1 + place))) c.submit.new.proposer) done comes;
+      submits = subst (λ p. RequestWaits p (request_of (waiting + (1 + place))) c.submit.new.proposer) done comes;
       told = omega (arith, c.len.ensures, c.in_ok-sends.sends.ok.0, counts);
     }

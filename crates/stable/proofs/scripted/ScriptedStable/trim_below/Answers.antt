@@ -1,7 +1,7 @@
 use Rattle.std.proofs.Common.{◌≡◌, refl, sym, ap, ◌∙◌, inl, inr, Err}
 use Rattle.std.proofs.lemmas.Result.{err_from_is_err_and}
 use Rattle.stable.specs.Records.{Trims}
-use Rattle.stable.specs.Script.{Fails}
+use Rattle.stable.specs.Script.{ScriptFails}
 use Rattle.stable.specs.declared.fault.StableFault.TheVariants.{Device}
 use Rattle.stable.proofs.FaultLemmas.{same_fault, handed_on, device_not_memory, device_not_damaged, no_fault}
 use Rattle.stable.proofs.ListLemmas.{reading_keeps_list, changes_keep_list, failed_change_keeps_list, fails_keep_list}
@@ -14,7 +14,7 @@ pub returns-then-is_armed : goal.returns-then-is_armed
 returns-then-is_armed g c =
     let h = g.met.S.Stable.laws in
     let s = g.S.Stable in
-    let device : Fails s.contents s.IsHonest s.reads s.read_fails s.changes s.fails c.args.self.now (Trims c.args.below)
+    let device : ScriptFails s.contents s.IsHonest s.reads s.read_fails s.changes s.fails c.args.self.now (Trims c.args.below)
     c.fire.new.self =
     inl (record {
       between = c.args.self.now;
@@ -63,7 +63,7 @@ returns-in_err-trim g c =
     let before = c.in_ok-settle.ensures.ok in
     let unarmed = ruled_out _ c.is_armed.ensures.armed c.if-is_armed.false in
     let device : c.in_err-trim.field-0.0 ≡ Device
-    → Fails s.contents s.IsHonest s.reads s.read_fails s.changes s.fails c.args.self.now (Trims c.args.below) c.trim.new.self =
+    → ScriptFails s.contents s.IsHonest s.reads s.read_fails s.changes s.fails c.args.self.now (Trims c.args.below) c.trim.new.self =
     λ is. inr (inr (inl (put_failed_inside _ _ _ s.changes _ _ _ _ (Trims c.args.below) before c.in_ok-settle.ensures.settled
     (λ old. unarmed (sym before.armed ∙ old)) (fails.device (ap Err is)) (fails.raised (ap Err is))))) in
     let list = failed_change_keeps_list s.contents s.IsHonest s.reads s.read_fails s.changes s.fails
@@ -86,7 +86,7 @@ returns-then-is_armed-2 g c =
     let s = g.S.Stable in
     let listed = c.in_ok-trim.ensures.done in
     let unarmed = ruled_out _ c.is_armed.ensures.armed c.if-is_armed.false in
-    let device : Fails s.contents s.IsHonest s.reads s.read_fails s.changes s.fails c.args.self.now (Trims c.args.below)
+    let device : ScriptFails s.contents s.IsHonest s.reads s.read_fails s.changes s.fails c.args.self.now (Trims c.args.below)
     c.fire-then-is_armed-2.new.self =
     inr (inl (put_made_and_failed _ _ _ _ s.fails _ _ _ (Trims c.args.below) c.in_ok-settle.ensures.ok c.in_ok-settle.ensures.settled
     c.trim.new.self

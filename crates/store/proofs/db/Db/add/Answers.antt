@@ -6,7 +6,7 @@ use Rattle.tpoint.specs.Spans.{span_of}
 use Rattle.mfjson.specs.declared.feature.Feature.{Feature}
 use Rattle.timeindex.specs.Entries.{Entry, id_of}
 use Rattle.timeindex.specs.Ascending as ascending
-use Rattle.store.specs.Places.{IsGap}
+use Rattle.store.specs.Places.{IsFeatureGap}
 use Rattle.store.specs.Indexed.{entry_of}
 use Rattle.store.specs.declared.db.TheConstants.{MOST_FEATURES}
 use Rattle.store.proofs.IndexLemmas.{gap_indexed}
@@ -18,7 +18,7 @@ pub insert_at-requires : goal.insert_at-requires
 insert_at-requires c =
     let fs = c.self.inside.features.items in
     let f : Feature = record { id = c.args.id.now; seq = c.args.seq.now } in
-    let gap = subst (λ (gs : List Feature). IsGap gs c.args.id.now c.args.at) (sym c.self.view_is) c.requires.gap in
+    let gap = subst (λ (gs : List Feature). IsFeatureGap gs c.args.id.now c.args.at) (sym c.self.view_is) c.requires.gap in
     subst (λ (es : List Entry). ascending.IsGap id_of es c.args.id.now c.args.at) (sym c.self.invariant.indexed)
     (gap_indexed fs f c.args.at gap)
 
@@ -33,8 +33,8 @@ invariant_of-self-2 c =
     let begins = c.begin.ensures.value ∙ ap (λ (s : Span). s.begin) spans in
     let ends = c.end.ensures.value ∙ ap (λ (s : Span). s.end) spans in
     let entry : e ≡ entry_of f = λ j. record { id = sym (ap (λ (g : Feature). g.id) is) j; first = begins j; last = ends j } in
-    let there = subst (λ (gs : List Feature). IsGap gs c.args.id.now c.args.at) (sym c.self.view_is) c.requires.gap in
-    let gap = subst (λ (id : List ℕ). IsGap fs id c.args.at) (sym (ap (λ (g : Feature). g.id) is)) there in
+    let there = subst (λ (gs : List Feature). IsFeatureGap gs c.args.id.now c.args.at) (sym c.self.view_is) c.requires.gap in
+    let gap = subst (λ (id : List ℕ). IsFeatureGap fs id c.args.at) (sym (ap (λ (g : Feature). g.id) is)) there in
     let room : length fs < MOST_FEATURES = search rules in
     let done : IsOk c.insert.result = search rules in
     let added = rw done at c.insert.ensures.items

@@ -1,7 +1,7 @@
 use Rattle.std.proofs.Common.{List, refl, ◌<◌, length, rules, sym, ap, subst, ◌∙◌, arith}
 use Rattle.std.proofs.lemmas.Grind.{common_steps}
 use Rattle.store.specs.Operations.{is_done}
-use Rattle.store.specs.Places.{IsAt, IsGap}
+use Rattle.store.specs.Places.{FeatureIsAt, IsFeatureGap}
 use Rattle.store.proofs.EffectLemmas.{append_known-reply, append_known-write, append_unknown-reply, append_unknown-effect}
 use Rattle.tpoint.specs.Extents.{Span}
 use Rattle.tpoint.specs.Spans.{span_of}
@@ -12,30 +12,30 @@ use Rattle.store.proofs.db.Db.append.Goals as goal
 -- the id is unknown
 pub returns-in_default-clause-reply : goal.returns-in_default-clause-reply
 returns-in_default-clause-reply c =
-    let gap = subst (λ id. IsGap c.args.self.now id c.in_default.field-0) c.id.ensures c.in_default.ensures.absent in
+    let gap = subst (λ id. IsFeatureGap c.args.self.now id c.in_default.field-0) c.id.ensures c.in_default.ensures.absent in
     sym (append_unknown-reply c.args.self.now c.args.addition.now _ gap)
 
 pub returns-in_default-clause-effect : goal.returns-in_default-clause-effect
 returns-in_default-clause-effect c =
-    let gap = subst (λ id. IsGap c.args.self.now id c.in_default.field-0) c.id.ensures c.in_default.ensures.absent in
+    let gap = subst (λ id. IsFeatureGap c.args.self.now id c.in_default.field-0) c.id.ensures c.in_default.ensures.absent in
     sym (append_unknown-effect c.args.self.now c.args.addition.now _ gap)
 
 -- the id is known, and its feature gets the point, or refuses it
 pub returns-clause-reply : goal.returns-clause-reply
 returns-clause-reply c =
-    let at = subst (λ id. IsAt c.args.self.now id c.in-Ok.at) c.id.ensures c.in-Ok.ensures.found in
+    let at = subst (λ id. FeatureIsAt c.args.self.now id c.in-Ok.at) c.id.ensures c.in-Ok.ensures.found in
     c.in_ok-told.ensures.reply
     ∙ append_known-reply c.args.self.now c.args.addition.now _ at _ _ _ c.self.view_is c.index_mut-held.ensures.value c.point.ensures.value
 
 pub returns-clause-effect : goal.returns-clause-effect
 returns-clause-effect c =
-    let at = subst (λ id. IsAt c.args.self.now id c.in-Ok.at) c.id.ensures c.in-Ok.ensures.found in
+    let at = subst (λ id. FeatureIsAt c.args.self.now id c.in-Ok.at) c.id.ensures c.in-Ok.ensures.found in
     append_known-write c.args.self.now c.args.addition.now _ at _ _ _ _ c.self.view_is c.index_mut-held.ensures.value c.point.ensures.value
     c.in_ok-told.ensures.effect
 
 pub returns-in_err-told-clause-in_place : goal.returns-in_err-told-clause-in_place
 returns-in_err-told-clause-in_place c = λ refused.
-    let at = subst (λ id. IsAt c.args.self.now id c.in-Ok.at) c.id.ensures c.in-Ok.ensures.found in
+    let at = subst (λ id. FeatureIsAt c.args.self.now id c.in-Ok.at) c.id.ensures c.in-Ok.ensures.found in
     let told = append_known-reply c.args.self.now c.args.addition.now _ at _ _ _ c.self.view_is c.index_mut-held.ensures.value
     c.point.ensures.value in
     let kept = c.append.ensures.in_place (ap is_done told ∙ refused) in

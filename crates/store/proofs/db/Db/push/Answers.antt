@@ -7,7 +7,7 @@ use Rattle.tpoint.specs.Spans.{span_of}
 use Rattle.mfjson.specs.declared.feature.Feature.{Feature}
 use Rattle.timeindex.specs.Entries.{Entry, id_of}
 use Rattle.timeindex.specs.Ascending as ascending
-use Rattle.store.specs.Places.{IsGap}
+use Rattle.store.specs.Places.{IsFeatureGap}
 use Rattle.store.specs.Indexed.{entry_of}
 use Rattle.store.specs.declared.db.TheConstants.{MOST_FEATURES}
 use Rattle.store.proofs.IndexLemmas.{gap_indexed}
@@ -19,8 +19,8 @@ pub insert_at-requires : goal.insert_at-requires
 insert_at-requires c =
     let fs = c.self.inside.features.items in
     let f : Feature = record { id = c.args.id; seq = c.args.seq } in
-    let gap : IsGap fs c.args.id (length fs) =
-    subst (λ (gs : List Feature). IsGap gs c.args.id (length gs)) (sym c.self.view_is) c.requires.last in
+    let gap : IsFeatureGap fs c.args.id (length fs) =
+    subst (λ (gs : List Feature). IsFeatureGap gs c.args.id (length gs)) (sym c.self.view_is) c.requires.last in
     let last : c.len.result ≡ length fs = search rules in
     rw last (subst (λ (es : List Entry). ascending.IsGap id_of es c.args.id (length fs)) (sym c.self.invariant.indexed)
     (gap_indexed fs f (length fs) gap))
@@ -36,9 +36,9 @@ invariant_of-self-2 c =
     let begins = c.begin.ensures.value ∙ ap (λ (s : Span). s.begin) spans in
     let ends = c.end.ensures.value ∙ ap (λ (s : Span). s.end) spans in
     let entry : e ≡ entry_of f = λ j. record { id = sym (ap (λ (g : Feature). g.id) is) j; first = begins j; last = ends j } in
-    let there : IsGap fs c.args.id (length fs) =
-    subst (λ (gs : List Feature). IsGap gs c.args.id (length gs)) (sym c.self.view_is) c.requires.last in
-    let gap = subst (λ (id : List ℕ). IsGap fs id (length fs)) (sym (ap (λ (g : Feature). g.id) is)) there in
+    let there : IsFeatureGap fs c.args.id (length fs) =
+    subst (λ (gs : List Feature). IsFeatureGap gs c.args.id (length gs)) (sym c.self.view_is) c.requires.last in
+    let gap = subst (λ (id : List ℕ). IsFeatureGap fs id (length fs)) (sym (ap (λ (g : Feature). g.id) is)) there in
     let room : length fs < MOST_FEATURES = search rules in
     let done : IsOk c.push.result = search rules in
     let pushed = rw done at c.push.ensures.items

@@ -1,7 +1,7 @@
 use Rattle.std.proofs.Common.{sym, subst, ◌∙◌, arith}
 use Rattle.std.proofs.lemmas.Grind.{common_steps}
 use Rattle.store.proofs.EffectLemmas.{remove_known-reply, remove_known-write, remove_unknown-reply, remove_unknown-effect}
-use Rattle.store.specs.Places.{IsAt}
+use Rattle.store.specs.Places.{FeatureIsAt}
 use Rattle.store.proofs.KeptLemmas.{removed_kept}
 use Rattle.store.proofs.db.Db.remove.Goals as goal
 
@@ -23,7 +23,7 @@ returns-clause-effect c =
 
 pub invariant_of-self : goal.invariant_of-self
 invariant_of-self c =
-    let at = subst (λ fs. IsAt fs c.args.id.now c.in-Ok.at) (sym c.self.view_is) c.in-Ok.ensures.found in
+    let at = subst (λ fs. FeatureIsAt fs c.args.id.now c.in-Ok.at) (sym c.self.view_is) c.in-Ok.ensures.found in
     removed_kept c.self.inside.features.items c.remove.new.self.items c.self.inside.index c.remove_at.new.self c.args.id.now c.in-Ok.at
     c.self.invariant at c.remove.ensures.items c.remove_at.ensures.value
 

@@ -1,6 +1,6 @@
 use Rattle.std.proofs.Common.{◌≡◌, ◌⊎◌, ℕ, ◌≤◌, List, Result, Ok, Err, IsOk, IfOk, IsErrOf, refl, subst, arith, inl, inr}
 use Rattle.wire.specs.Puts.{TakesMemory}
-use Rattle.wire.specs.Reading.{Gives, MayWant}
+use Rattle.wire.specs.Reading.{Gives, ReadMayWant}
 use Rattle.wire.specs.FrameReading.{frame_in}
 use Rattle.wire.specs.FrameSpelling.{IsFrame}
 use Rattle.wire.specs.declared.frames.fault.WireFault.{WireFault}
@@ -18,10 +18,10 @@ told nodes few bytes (Err e) fits h = tt
 
 -- no fault is told of a frame, and memory is not wanted where it takes none
 placed : (r read : Result Envelope WireFault) (e : Envelope) → read ≡ Ok e → Gives (λ x. x) r read →
-    (IsErrOf r faults.Memory → MayWant (λ f. TakesMemory f.message) read) → ¬ TakesMemory e.message → IsOk r
+    (IsErrOf r faults.Memory → ReadMayWant (λ f. TakesMemory f.message) read) → ¬ TakesMemory e.message → IsOk r
 placed (Ok x) read e whole gives memory none = refl
 placed (Err faults.Memory) read e whole gives memory none =
-    absurd (none (subst (MayWant (λ f. TakesMemory f.message)) whole (memory refl)))
+    absurd (none (subst (ReadMayWant (λ f. TakesMemory f.message)) whole (memory refl)))
 placed (Err faults.Short) read e whole gives memory none = absurd (cc (whole, gives))
 placed (Err faults.Magic) read e whole gives memory none = absurd (cc (whole, gives))
 placed (Err faults.Version) read e whole gives memory none = absurd (cc (whole, gives))

@@ -1,7 +1,7 @@
 use Rattle.std.proofs.Common.{refl, rules, length, vec_len}
 use Rattle.std.proofs.lemmas.Option.{MatchOption-at_some}
 use Rattle.stable.specs.Storages.{scripted}
-use Rattle.world_model.specs.Rounds.{BreaksOff}
+use Rattle.world_model.specs.Rounds.{RoundBreaksOff}
 use Rattle.world_model.specs.Rounds as rounds
 use Rattle.world.specs.Inner.{inner_of}
 use Rattle.world_model.proofs.RoundLemmas.{on_err, at_none, down_by, broken_by, decides_by, decides_in_part}
@@ -10,7 +10,7 @@ use Rattle.world.proofs.inner.Inner.decide.Goals as goal
 -- the accepts: memory is wanting
 pub returns-in_err-down-clause-part : goal.returns-in_err-down-clause-part
 returns-in_err-down-clause-part g c =
-    let off : BreaksOff (scripted g.S.Stable) c.args.node c.args.members.now rounds.answered c.args.accepts (inner_of c.args.self.now)
+    let off : RoundBreaksOff (scripted g.S.Stable) c.args.node c.args.members.now rounds.answered c.args.accepts (inner_of c.args.self.now)
     (inner_of c.hand_on.new.self) = λ old comes.
     broken_by (scripted g.S.Stable) old c.args.node c.args.members.now rounds.answered c.args.accepts c.args.accepts
     (inner_of c.args.self.now) (inner_of c.hand_on.new.self) comes refl c.in_err-down.ensures.part in

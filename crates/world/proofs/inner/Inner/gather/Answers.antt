@@ -3,7 +3,7 @@ use Rattle.std.proofs.lemmas.Option.{MatchOption-at_some}
 use Rattle.std.proofs.lemmas.Result.{err_from_is_err_and}
 use Rattle.stable.specs.Storages.{scripted}
 use Rattle.wire.specs.declared.frames.envelope.Envelope.{Envelope}
-use Rattle.world_model.specs.Rounds.{BreaksOff, ComesThrough, NoneRefuses, IsGreatestTold}
+use Rattle.world_model.specs.Rounds.{RoundBreaksOff, ComesThrough, NoneRefuses, IsGreatestTold}
 use Rattle.world_model.specs.Rounds as rounds
 use Rattle.world.specs.Inner.{inner_of}
 use Rattle.world_model.proofs.RoundLemmas.{at_none, sliced, moved, asked_by, answered_by, down_by, broken_by}
@@ -16,7 +16,7 @@ from_here fs gs n counted shown = ap length shown ∙ sym counted
 -- the prepares: memory is wanting
 pub returns-in_err-down : goal.returns-in_err-down
 returns-in_err-down g c =
-    let off : BreaksOff (scripted g.S.Stable) c.args.node c.args.members.now rounds.begun c.args.prepares (inner_of c.args.self.now)
+    let off : RoundBreaksOff (scripted g.S.Stable) c.args.node c.args.members.now rounds.begun c.args.prepares (inner_of c.args.self.now)
     (inner_of c.hand_on.new.self) = λ old comes.
     broken_by (scripted g.S.Stable) old c.args.node c.args.members.now rounds.begun c.args.prepares c.args.prepares
     (inner_of c.args.self.now) (inner_of c.hand_on.new.self) comes refl c.in_err-down.ensures.part in
@@ -45,7 +45,7 @@ returns-in-Some g c = record {
 -- what they refuse: memory is wanting
 pub returns-in_err-refusal : goal.returns-in_err-refusal
 returns-in_err-refusal g c =
-    let off : BreaksOff (scripted g.S.Stable) c.args.node c.args.members.now rounds.begun c.args.prepares (inner_of c.args.self.now)
+    let off : RoundBreaksOff (scripted g.S.Stable) c.args.node c.args.members.now rounds.begun c.args.prepares (inner_of c.args.self.now)
     (inner_of c.hand_on.new.self) = λ old comes.
     let st = scripted g.S.Stable in
     let end = vec_len c.args.self.now.frames in
@@ -66,7 +66,7 @@ returns-in_err-refusal g c =
 -- the answers: memory is wanting
 pub returns-in_err-down-2 : goal.returns-in_err-down-2
 returns-in_err-down-2 g c =
-    let off : BreaksOff (scripted g.S.Stable) c.args.node c.args.members.now rounds.begun c.args.prepares (inner_of c.args.self.now)
+    let off : RoundBreaksOff (scripted g.S.Stable) c.args.node c.args.members.now rounds.begun c.args.prepares (inner_of c.args.self.now)
     (inner_of c.hand_on-2.new.self) = λ old comes.
     let st = scripted g.S.Stable in
     let end = vec_len c.args.self.now.frames in
