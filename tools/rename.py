@@ -80,9 +80,11 @@ NAMES = [
     ("tests", "Fleet", "TestNodes"),
     ("tests", "fleet", "nodes_under_test"),
     ("wire acceptor conformance learner node node_model proposer tests world", "Held", "SharedCommand"),
+    ("world_model", r"(?<=learner::)Held|(?<=: )Held|(?<=<)Held", "SharedCommand"),
     ("store", "Held", "StoredFeature"),
     ("timeindex", r"(?<!List\.)Kept", "Entry"),
     ("sessions node_model", "Outcome", "SessionReply"),
+    ("conformance", r"(?<=session_reply\.)Outcome\.\{Outcome\}", "SessionReply.{SessionReply as Outcome}"),
     ("world world_model replay", "Outcome", "StepOutcome"),
     ("world world_model replay", r"(?<!proofs\.)Learnt", "LearntEntry"),
     (NODES + " tests", "Executed", "ReplyOut"),
@@ -121,8 +123,8 @@ NAMES = [
 
 # Parts of words, likewise.
 PARTS = [
-    (NODES, r"Mind(?=s\b|Of\b|Stands\b)", "Replica"),
-    (NODES, r"mind(?=s?(_|\b))", "replica"),
+    (FLEETS, r"Mind(?=s\b|Of\b|Stands\b)", "Replica"),
+    (FLEETS, r"mind(?=s?(_|\b))", "replica"),
     (FLEETS, r"fleet(?=s?(_|\b))", "membership"),
 ]
 
@@ -189,7 +191,7 @@ WORDS = [
     ("sessions.specs.Meaning", "AreSound", "RequestsAreValid"),
     ("sessions.specs.Meaning", "IsLawful", "LabellingIsLawful"),
     ("synod.specs.Invariant", "AreSound", "RecordsAreSound"),
-    ("synod.specs.Invariant", "IsSound", "MindIsSound"),
+    ("synod.specs.Invariant", "IsSound", "ReplicaIsSound"),
     ("synod.specs.Invariant", "IsLawful", "HistoryIsLawful"),
     ("synod.specs.Invariant", "IsUsed", "ProposalIsUsed"),
     ("synod.specs.Invariant", "Told", "VotesWereTold"),
@@ -357,6 +359,8 @@ def with_words(path, text):
         if not re.search(r"\b%s\b" % old, text):
             continue
         text = re.sub(r"(?<=\bRattle\.%s\.)%s\b" % (module.replace(".", r"\."), old), new, text)
+        for alias in re.findall(r"\buse Rattle\.%s as (\w+)" % module.replace(".", r"\."), text):
+            text = re.sub(r"\b%s\.%s\b" % (alias, old), "%s.%s" % (alias, new), text)
         sources = [module] + HANDED.get((module, old), [])
         word = r"(?<![\w.-])%s\b(?!['-])" % old
         home = "crates/%s.antt" % module.replace(".", "/")

@@ -9,7 +9,7 @@ use Rattle.sessions.specs.SessionReplies.{outcome_code}
 use Rattle.sessions.specs.Standing.{RepliesOneMore}
 use Rattle.sessions.specs.declared.command.Command.{Command}
 use Rattle.sessions.specs.declared.command.Command.TheVariants.{Request}
-use Rattle.sessions.specs.declared.session_reply.Outcome.{Outcome}
+use Rattle.sessions.specs.declared.session_reply.SessionReply.{SessionReply as Outcome}
 use Rattle.conformance.specs.declared.execution.TheConstants.{CLIENTS, REPEATED}
 use Rattle.conformance.specs.declared.scene.Scene.{Scene}
 use Rattle.conformance.specs.Fleets.{name_at, next_point, put_of}

@@ -34,35 +34,35 @@ along : {f : Membership Command} {i : ℕ} {input : Input Command} {x : Local Co
 along {f} {i} {input} {x} {c} {learned} {other} {new} {state} e k may =
     subst (λ l. LearnerMayLearn f i input x c other l) k (subst (λ o. LearnerMayLearn f i input x c o new) e may)
 
-module _ (f : Membership Command) (i : ℕ) (x : Local Command) (old : Learning) (stands : LearnerStands old x.mind) where
+module _ (f : Membership Command) (i : ℕ) (x : Local Command) (old : Learning) (stands : LearnerStands old x.replica) where
   -- nothing joins the history
   none_learnt : (input : Input Command) (m : Volatile Command) → Does f i input x (thinks x m)
-      → Does f i input x (record x { mind = m; learnt = x.learnt ++ [] })
-  none_learnt input m does = subst (λ l. Does f i input x (record x { mind = m; learnt = l })) (sym (append-nil x.learnt)) does
+      → Does f i input x (record x { replica = m; learnt = x.learnt ++ [] })
+  none_learnt input m does = subst (λ l. Does f i input x (record x { replica = m; learnt = l })) (sym (append-nil x.learnt)) does
 
   changes_nothing : (input : Input Command) (c : Command) → LearnerMayLearn f i input x c None old
   changes_nothing input c = record {
-    learnt = x.mind.learnt;
-    heard = x.mind.heard;
-    does = none_learnt input x.mind (does_nothing f i input x);
+    learnt = x.replica.learnt;
+    heard = x.replica.heard;
+    does = none_learnt input x.replica (does_nothing f i input x);
     stands = stands;
   }
 
   -- what stands once the slot is learnt, whatever else is heard
-  abbrev learnt_mind : ℕ → Command → List (ℕ × Vote Command) → Volatile Command
-  learnt_mind s c heard = record x.mind { learnt = put x.mind.learnt s (Some c); heard = heard }
+  abbrev learnt_replica : ℕ → Command → List (ℕ × Vote Command) → Volatile Command
+  learnt_replica s c heard = record x.replica { learnt = put x.replica.learnt s (Some c); heard = heard }
 
   stands_learnt : (s : ℕ) (c : Command) (more : List (ℕ × Vote Command))
-      → LearnerStands (with_learnt old s c) (learnt_mind s c (x.mind.heard ++ more))
+      → LearnerStands (with_learnt old s c) (learnt_replica s c (x.replica.heard ++ more))
   stands_learnt s c more = record {
     learnt = λ n. elim (eqb_tells n s) [
       | inl same ↦ rw same.0 refl
       | inr other ↦ rw other.0 (stands.learnt n)
     ];
     heard = λ n a b d below. at_slot old.heard s unheard
-        (λ q h. h b a ≡ Some d → Contains (x.mind.heard ++ more) (a, record { slot = q; ballot = b; command = d }))
+        (λ q h. h b a ≡ Some d → Contains (x.replica.heard ++ more) (a, record { slot = q; ballot = b; command = d }))
         (λ told. absurd (let bad : None ≡ Some d = told in cc))
-        (λ q told. Contains-append_left x.mind.heard more _ (stands.heard q a b d below told)) n;
+        (λ q told. Contains-append_left x.replica.heard more _ (stands.heard q a b d below told)) n;
   }
 
   module _ (from : ℕ) (v : Vote Command) where
@@ -70,7 +70,7 @@ module _ (f : Membership Command) (i : ℕ) (x : Local Command) (old : Learning)
     input = Came from (Accepted v)
 
     abbrev hearing : List (ℕ × Vote Command)
-    hearing = x.mind.heard ++ (from, v) ∷ []
+    hearing = x.replica.heard ++ (from, v) ∷ []
 
     -- what is kept of the slot with the telling has been heard
     heard_of_slot : (a : ℕ) (b : Ballot) (c : Command) → a < old.nodes → told_too (old.heard v.slot) v.ballot from v.command b a ≡ Some c
@@ -83,24 +83,24 @@ module _ (f : Membership Command) (i : ℕ) (x : Local Command) (old : Learning)
           let command : v.command ≡ c = cc in
           let pair : (from, v) ≡ (a, record { slot = v.slot; ballot = b; command = c }) =
           λ p. (sym node p, record { slot = v.slot; ballot = sym ballot p; command = command p }) in
-          subst (Contains hearing) pair (Contains-push x.mind.heard (from, v))
+          subst (Contains hearing) pair (Contains-push x.replica.heard (from, v))
       | inr other ↦
-          Contains-append_left x.mind.heard ((from, v) ∷ []) _ (stands.heard v.slot a b c below (sym (rw other refl) ∙ told))
+          Contains-append_left x.replica.heard ((from, v) ∷ []) _ (stands.heard v.slot a b c below (sym (rw other refl) ∙ told))
     ]
 
-    stands_heard : LearnerStands (with_heard old from v) (record x.mind { heard = hearing })
+    stands_heard : LearnerStands (with_heard old from v) (record x.replica { heard = hearing })
     stands_heard = record {
       learnt = stands.learnt;
       heard = λ s a b c below. at_slot old.heard v.slot (told_too (old.heard v.slot) v.ballot from v.command)
           (λ q h. h b a ≡ Some c → Contains hearing (a, record { slot = q; ballot = b; command = c }))
-          (heard_of_slot a b c below) (λ q told. Contains-append_left x.mind.heard ((from, v) ∷ []) _ (stands.heard q a b c below told)) s;
+          (heard_of_slot a b c below) (λ q told. Contains-append_left x.replica.heard ((from, v) ∷ []) _ (stands.heard q a b c below told)) s;
     }
 
     is_heard : LearnerMayLearn f i input x v.command None (with_heard old from v)
     is_heard = record {
-      learnt = x.mind.learnt;
+      learnt = x.replica.learnt;
       heard = hearing;
-      does = none_learnt input (record x.mind { heard = hearing }) (does_one f i input x (act.Hears from v) refl);
+      does = none_learnt input (record x.replica { heard = hearing }) (does_one f i input x (act.Hears from v) refl);
       stands = stands_heard;
     }
 
@@ -108,7 +108,7 @@ module _ (f : Membership Command) (i : ℕ) (x : Local Command) (old : Learning)
         → LearnerMayLearn f i input x v.command (Some (record { slot = v.slot })) (with_learnt old v.slot v.command)
     is_learnt same most =
         let between : Local Command = acted i x (act.Hears from v) in
-        let may : act.MayLearn f input between.mind v.slot v.command = inl (
+        let may : act.MayLearn f input between.replica v.slot v.command = inl (
           v.ballot,
           subst (λ n. Majority n (λ a. Contains hearing (a, v))) (sym same) (record {
             members = most.members;
@@ -117,7 +117,7 @@ module _ (f : Membership Command) (i : ℕ) (x : Local Command) (old : Learning)
           }),
         ) in
         record {
-          learnt = put x.mind.learnt v.slot (Some v.command);
+          learnt = put x.replica.learnt v.slot (Some v.command);
           heard = hearing;
           does = does_then f i input (does_one f i input x (act.Hears from v) refl)
               (does_one f i input between (act.Learns v.slot v.command) may);
@@ -138,8 +138,8 @@ module _ (f : Membership Command) (i : ℕ) (x : Local Command) (old : Learning)
   allows_decided input s c brings learned new (ignores_decided never e k) = along (sym e) (sym k) (changes_nothing input c)
   allows_decided input s c brings learned new (learns_decided open_ e k) =
       along (sym e) (sym k) (record {
-        learnt = put x.mind.learnt s (Some c);
-        heard = x.mind.heard;
+        learnt = put x.replica.learnt s (Some c);
+        heard = x.replica.heard;
         does = does_one f i input x (act.Learns s c) (inr brings);
-        stands = subst (λ h. LearnerStands (with_learnt old s c) (learnt_mind s c h)) (append-nil x.mind.heard) (stands_learnt s c []);
+        stands = subst (λ h. LearnerStands (with_learnt old s c) (learnt_replica s c h)) (append-nil x.replica.heard) (stands_learnt s c []);
       })

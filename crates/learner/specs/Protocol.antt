@@ -9,7 +9,7 @@ use Rattle.sessions.specs.declared.command.Command.{Command}
 use Rattle.learner.specs.Learning.{Learning}
 use Rattle.learner.specs.declared.learned.Learned.{Learned}
 
--- the protocol's mind has learnt what the learner has, and has heard all that the learner keeps
+-- the protocol's replica has learnt what the learner has, and has heard all that the learner keeps
 pub record LearnerStands (l : Learning) (m : Volatile Command) : Type 0 where
   pub learnt : (s : ℕ) → m.learnt s ≡ l.learnt s
   pub heard : (s a : ℕ) (b : Ballot) (c : Command) → a < l.nodes → l.heard s b a ≡ Some c
@@ -20,14 +20,14 @@ abbrev pub learnt_by : ℕ → Command → Option Learned → List (history.Less
 learnt_by i c None = []
 learnt_by i c (Some learned) = record { node = i; slot = learned.slot; command = c } ∷ []
 
--- from x the node may come to a mind of which the learner's state stands, the command newly learnt, and nothing else
+-- from x the node may come to a replica of which the learner's state stands, the command newly learnt, and nothing else
 -- changes: not its campaign, its position or what waits
 pub record LearnerMayLearn (f : Membership Command) (i : ℕ) (input : Input Command) (x : Local Command) (c : Command)
     (learned : Option Learned) (new : Learning) : Type 0 where
   pub learnt : ℕ → Option Command
   pub heard : List (ℕ × Vote Command)
   pub does : Does f i input x (record x {
-    mind = record x.mind { learnt = learnt; heard = heard };
+    replica = record x.replica { learnt = learnt; heard = heard };
     learnt = x.learnt ++ learnt_by i c learned;
   })
-  pub stands : LearnerStands new (record x.mind { learnt = learnt; heard = heard })
+  pub stands : LearnerStands new (record x.replica { learnt = learnt; heard = heard })

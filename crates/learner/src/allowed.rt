@@ -16,14 +16,14 @@ ghost use Rattle.learner.specs.Protocol.{LearnerStands, LearnerMayLearn};
 /// What a learner makes of the news of a vote that has come is allowed.
 pub fn vote_is_allowed()
     ensures { (f : Membership Command) (i from : ℕ) (x : Local Command) (old new : Learning) (v : Vote Command)
-        (learned : Option Learned) → f.nodes ≡ old.nodes → LearnerStands old x.mind
+        (learned : Option Learned) → f.nodes ≡ old.nodes → LearnerStands old x.replica
         → HearsVote old from v learned new → LearnerMayLearn f i (Came from (Accepted v)) x v.command learned new }
 {}
 
 /// What a learner makes of a decided slot that it is told of is allowed.
 pub fn decided_is_allowed()
     ensures { (f : Membership Command) (i : ℕ) (input : Input Command) (x : Local Command) (old new : Learning) (s : ℕ)
-        (c : Command) (learned : Option Learned) → Brings input (Decided s c) → LearnerStands old x.mind
+        (c : Command) (learned : Option Learned) → Brings input (Decided s c) → LearnerStands old x.replica
         → HearsDecided old s c learned new → LearnerMayLearn f i input x c learned new }
 {}
 
@@ -35,7 +35,7 @@ pub fn prefix_never_falls()
         → HearsDecided old s c learned new → prefix old ≤ prefix new }
 {}
 
-/// A learner may pass over slots for which a snapshot stands: it stands for the same mind then, and its prefix lies at their end or
+/// A learner may pass over slots for which a snapshot stands: it stands for the same replica then, and its prefix lies at their end or
 /// further on.
 pub fn skipping_is_allowed()
     ensures stands { (l : Learning) (m : Volatile Command) (position : ℕ) → LearnerStands l m → LearnerStands (skipped l position) m }

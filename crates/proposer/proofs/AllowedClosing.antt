@@ -41,11 +41,11 @@ module _ (stays : ℕ → Bool) (k : Campaigning) (q : synod_volatile.Campaign C
         (proposed_left stays k.proposals s);
   }
 
-  pub closes : (f : Membership Command) (i : ℕ) (input : Input Command) (x : Local Command) → x.mind.campaign ≡ Some q
-      → ((s : ℕ) → stays s ≡ false → IsSettled x.mind.position x.mind.learnt s)
+  pub closes : (f : Membership Command) (i : ℕ) (input : Input Command) (x : Local Command) → x.replica.campaign ≡ Some q
+      → ((s : ℕ) → stays s ≡ false → IsSettled x.replica.position x.replica.learnt s)
       → Does f i input x (campaigns x (closing stays k q))
   closes f i input x here settled =
-      does_one f i input x (act.Closes q (proposed_at (left stays k.proposals))) (here, may_close x.mind settled)
+      does_one f i input x (act.Closes q (proposed_at (left stays k.proposals))) (here, may_close x.replica settled)
 
 -- ---- a slot that is learnt
 is_other : (slot s : ℕ) → not (s == slot) ≡ false → s ≡ slot
@@ -55,21 +55,21 @@ is_other slot s e = elim (eqb_tells s slot) [
 ]
 
 module _ (f : Membership Command) (i : ℕ) (input : Input Command) (x : Local Command) (p : Proposing) (slot : ℕ)
-    (settled : IsSettled x.mind.position x.mind.learnt slot) (stands : ProposerStands p x) where
+    (settled : IsSettled x.replica.position x.replica.learnt slot) (stands : ProposerStands p x) where
   abbrev other : ℕ → Bool
   other s = not (s == slot)
 
-  learnt_cases : (o : Option Campaigning) → CampaignsStand o x.mind.campaign
+  learnt_cases : (o : Option Campaigning) → CampaignsStand o x.replica.campaign
       → MayHold f i input x (record p { learnt_to = max p.learnt_to (slot + 1); campaign = learnt_in slot o })
   learnt_cases None h = record {
-    campaign = x.mind.campaign;
+    campaign = x.replica.campaign;
     does = does_nothing f i input x;
     stands = record { round = stands.round; campaign = h; waiting = stands.waiting };
   }
   learnt_cases (Some k) h = record {
     campaign = Some (closing other k h.0);
     does = closes other k h.0 h.2 f i input x h.1
-        (λ s e. subst (λ (t : ℕ). IsSettled x.mind.position x.mind.learnt t) (sym (is_other slot s e)) settled);
+        (λ s e. subst (λ (t : ℕ). IsSettled x.replica.position x.replica.learnt t) (sym (is_other slot s e)) settled);
     stands = record {
       round = stands.round;
       campaign = (closing other k h.0, refl, closing_stands other k h.0 h.2);
@@ -85,11 +85,11 @@ is_below : (position s : ℕ) → leb position s ≡ false → s < position
 is_below position s e = grind (arith, nat_tests)
 
 module _ (f : Membership Command) (i : ℕ) (input : Input Command) (x : Local Command) (p : Proposing) (position : ℕ)
-    (reached : position ≤ x.mind.position) (stands : ProposerStands p x) where
-  skipped_cases : (o : Option Campaigning) → CampaignsStand o x.mind.campaign
+    (reached : position ≤ x.replica.position) (stands : ProposerStands p x) where
+  skipped_cases : (o : Option Campaigning) → CampaignsStand o x.replica.campaign
       → MayHold f i input x (record p { campaign = closed_to position o })
   skipped_cases None h = record {
-    campaign = x.mind.campaign;
+    campaign = x.replica.campaign;
     does = does_nothing f i input x;
     stands = record { round = stands.round; campaign = h; waiting = stands.waiting };
   }

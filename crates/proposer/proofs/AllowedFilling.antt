@@ -38,16 +38,16 @@ frames_both i nodes (o ∷ os) more =
 
 module _ (f : Membership Command) (i : ℕ) (input : Input Command) (nodes : ℕ) (some_node : 1 ≤ nodes) (noop : f.noop ≡ NoOp) (k : Campaigning)
     (leads : k.leading ≡ true) (waiting : List Asked) (learnt_to : ℕ) (learnt : ℕ → Option Command) (position : ℕ) where
-  -- the mind holds what a leader goes by
+  -- the replica holds what a leader goes by
   pub record Knows (x : Local Command) : Type 0 where
-    pub position' : x.mind.position ≡ position
-    pub learnt' : (s : ℕ) → x.mind.learnt s ≡ learnt s
-    pub waiting' : (r : Asked) → Contains waiting r → Contains x.mind.waiting (Request r)
+    pub position' : x.replica.position ≡ position
+    pub learnt' : (s : ℕ) → x.replica.learnt s ≡ learnt s
+    pub waiting' : (r : Asked) → Contains waiting r → Contains x.replica.waiting (Request r)
 
   -- its campaign is this one, with these proposals
   pub record Holds (x : Local Command) (old : Filling) : Type 0 where
     pub campaign : synod_volatile.Campaign Command
-    pub here : x.mind.campaign ≡ Some campaign
+    pub here : x.replica.campaign ≡ Some campaign
     pub stands : CampaignStands (record k { proposals = old.proposals }) campaign
 
   -- the window may be filled on from one to another
@@ -64,7 +64,7 @@ module _ (f : Membership Command) (i : ℕ) (input : Input Command) (nodes : ℕ
     sent = [];
     sends = sym (append-nil g.sent);
     does = subst (Does f i input x)
-        (ap (λ (o : Option (synod_volatile.Campaign Command)). record x { mind = record x.mind { campaign = o } }) h.here
+        (ap (λ (o : Option (synod_volatile.Campaign Command)). record x { replica = record x.replica { campaign = o } }) h.here
         ∙ sym (sending_nothing (campaigns x h.campaign))) (does_nothing f i input x);
     stands = h.stands;
   }
@@ -84,8 +84,8 @@ module _ (f : Membership Command) (i : ℕ) (input : Input Command) (nodes : ℕ
     stands = h.stands;
   }
 
-  opens : (n : ℕ) (x : Local Command) (q : synod_volatile.Campaign Command) (s : ℕ) (c : Command) → 1 ≤ n → x.mind.campaign ≡ Some q
-      → MayPropose f x.mind q s c
+  opens : (n : ℕ) (x : Local Command) (q : synod_volatile.Campaign Command) (s : ℕ) (c : Command) → 1 ≤ n → x.replica.campaign ≡ Some q
+      → MayPropose f x.replica q s c
       → Does f i input x (sending (campaigns x (record q { proposals = put q.proposals s (Some c) }))
       (to_first n i (synod.Accept (proposal q s c))))
   opens zero x q s c l here may = absurd (omega (arith, l))
@@ -97,15 +97,15 @@ module _ (f : Membership Command) (i : ℕ) (input : Input Command) (nodes : ℕ
       none : proposed_at g.proposals slot ≡ None
       none = unopened slot g.proposals closed
 
-      may : (c : Command) → choice k waiting learnt_to slot g.proposals ≡ Some c → MayPropose f x.mind h.campaign slot c
+      may : (c : Command) → choice k waiting learnt_to slot g.proposals ≡ Some c → MayPropose f x.replica h.campaign slot c
       may c e = record {
         leads = h.stands.leading ∙ leads;
         from = omega (arith, from, knows.position');
         to = omega (arith, to, h.stands.end_);
         unopened = h.stands.proposals slot ∙ none;
         unlearnt = knows.learnt' slot ∙ none_of (learnt slot) unlearnt;
-        choice = subst (λ told. IsChoice f x.mind told slot c) (sym h.stands.told)
-            (choice_lem f x.mind waiting noop knows.waiting' k learnt_to slot g.proposals c e);
+        choice = subst (λ told. IsChoice f x.replica told slot c) (sym h.stands.told)
+            (choice_lem f x.replica waiting noop knows.waiting' k learnt_to slot g.proposals c e);
       }
 
       opening : (c : Command) → choice k waiting learnt_to slot g.proposals ≡ Some c

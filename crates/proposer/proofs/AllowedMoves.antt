@@ -58,7 +58,7 @@ above_round r round refused b e f = omega arith
 
 module _ (f : Membership Command) (i : ℕ) (input : Input Command) (x : Local Command) where
   timeout_sends : (old new : Proposing) (nodes : ℕ) (sent : Outgoing) → old.id ≡ i → ProposerStands old x
-      → StartsCampaign old x.mind.position new sent → MaySend f i input x new (frames_of i nodes sent)
+      → StartsCampaign old x.replica.position new sent → MaySend f i input x new (frames_of i nodes sent)
   timeout_sends old new nodes sent own stands s =
       let b : Ballot = s.ballot in
       let y : Local Command = acted i x (act.Begins b 65535) in
@@ -68,26 +68,26 @@ module _ (f : Membership Command) (i : ℕ) (input : Input Command) (x : Local C
       does_then f i input first (says_to_first f i input y nodes) in
       let frames : to_first nodes i Plain ≡ frames_of i nodes sent = ap (λ o. frames_of i nodes o) (sym s.asks_all) in
       subst (λ (p : Proposing). MaySend f i input x p (frames_of i nodes sent)) (sym s.leaves)
-      (subst (λ l. MaySend f i input x (record old { round = next_round old; campaign = Some (begun b x.mind.position) }) l) frames
+      (subst (λ l. MaySend f i input x (record old { round = next_round old; campaign = Some (begun b x.replica.position) }) l) frames
       (record {
-        campaign = Some (synod_volatile.begun b x.mind.position 65535);
+        campaign = Some (synod_volatile.begun b x.replica.position 65535);
         records = with_round x.records b.round;
         keeps = (refl, refl, refl);
         does = all;
         stands = record {
           round = s.round;
-          campaign = (synod_volatile.begun b x.mind.position 65535, refl, begun_stands b x.mind.position);
+          campaign = (synod_volatile.begun b x.replica.position 65535, refl, begun_stands b x.replica.position);
           waiting = stands.waiting;
         };
       }))
 
-  pub timeout_lem : (old new : Proposing) (position nodes : ℕ) (sent : Outgoing) → old.id ≡ i → x.mind.position ≡ position
+  pub timeout_lem : (old new : Proposing) (position nodes : ℕ) (sent : Outgoing) → old.id ≡ i → x.replica.position ≡ position
       → ProposerStands old x → StartsCampaign old position new sent → MaySend f i input x new (frames_of i nodes sent)
   timeout_lem old new position nodes sent own at stands s =
       timeout_sends old new nodes sent own stands (subst (λ (q : ℕ). StartsCampaign old q new sent) (sym at) s)
 
   -- ---- a refusal
-  nack_flag : (p : Proposing) (refused : ℕ) (k : Campaigning) (b : Bool) → ProposerStands p x → CampaignsStand (Some k) x.mind.campaign
+  nack_flag : (p : Proposing) (refused : ℕ) (k : Campaigning) (b : Bool) → ProposerStands p x → CampaignsStand (Some k) x.replica.campaign
       → MayHold f i input x (record p { refused = refused; campaign = cond b None (Some k) })
   nack_flag p refused k true stands h = record {
     campaign = None;
@@ -95,15 +95,15 @@ module _ (f : Membership Command) (i : ℕ) (input : Input Command) (x : Local C
     stands = record { round = stands.round; campaign = refl; waiting = stands.waiting };
   }
   nack_flag p refused k false stands h = record {
-    campaign = x.mind.campaign;
+    campaign = x.replica.campaign;
     does = does_nothing f i input x;
     stands = record { round = stands.round; campaign = h; waiting = stands.waiting };
   }
 
-  nack_cases : (p : Proposing) (n : Refused) (o : Option Campaigning) → ProposerStands p x → CampaignsStand o x.mind.campaign
+  nack_cases : (p : Proposing) (n : Refused) (o : Option Campaigning) → ProposerStands p x → CampaignsStand o x.replica.campaign
       → MayHold f i input x (record p { refused = max p.refused n.promised.round; campaign = unless_refused n o })
   nack_cases p n None stands h = record {
-    campaign = x.mind.campaign;
+    campaign = x.replica.campaign;
     does = does_nothing f i input x;
     stands = record { round = stands.round; campaign = h; waiting = stands.waiting };
   }
@@ -116,7 +116,7 @@ module _ (f : Membership Command) (i : ℕ) (input : Input Command) (x : Local C
   pub execution_lem : (p : Proposing) (client number : ℕ) → ProposerStands p x
       → MayHold f i input x (record p { waiting = without client number p.waiting })
   execution_lem p client number stands = record {
-    campaign = x.mind.campaign;
+    campaign = x.replica.campaign;
     does = does_nothing f i input x;
     stands = record {
       round = stands.round;
@@ -126,7 +126,7 @@ module _ (f : Membership Command) (i : ℕ) (input : Input Command) (x : Local C
   }
 
   -- ---- the log is executed, and the node stops
-  pub advance_lem : (p : Proposing) (position : ℕ) → x.mind.position ≤ position → ProposerStands p x
+  pub advance_lem : (p : Proposing) (position : ℕ) → x.replica.position ≤ position → ProposerStands p x
       → MayCome f i input x p (advancing x position)
   advance_lem p position up stands = record {
     does = does_one f i input x (act.Advances position) up;

@@ -54,7 +54,7 @@ module _ (f : Membership Command) (i from : ℕ) (x : Local Command) (p : Propos
   abbrev in' : Input Command
   in' = act.Came from (synod.Promise promise.ballot promise.first promise.last promise.entries)
 
-  module _ (k : Campaigning) (q : synod_volatile.Campaign Command) (here : x.mind.campaign ≡ Some q) (h : CampaignStands k q)
+  module _ (k : Campaigning) (q : synod_volatile.Campaign Command) (here : x.replica.campaign ≡ Some q) (h : CampaignStands k q)
       (counted' : counts k from promise ≡ true) where
     abbrev last' : ℕ
     last' = min k.end promise.last
@@ -149,20 +149,20 @@ module _ (f : Membership Command) (i from : ℕ) (x : Local Command) (p : Propos
           };
         }
 
-  goes_counting : (k : Campaigning) (q : synod_volatile.Campaign Command) → x.mind.campaign ≡ Some q → CampaignStands k q
+  goes_counting : (k : Campaigning) (q : synod_volatile.Campaign Command) → x.replica.campaign ≡ Some q → CampaignStands k q
       → (b : Bool) → counts k from promise ≡ b
       → MayHold f i in' x (record p { campaign = Some (cond b (with_promise p.nodes k from promise) k) })
   goes_counting k q here h true e = counted_flag k q here h e (is_most p.nodes (with_node k.promised from)) refl
   goes_counting k q here h false e = record {
-    campaign = x.mind.campaign;
+    campaign = x.replica.campaign;
     does = does_nothing f i in' x;
     stands = record { round = stands.round; campaign = (q, here, h); waiting = stands.waiting };
   }
 
-  promise_cases : (o : Option Campaigning) → CampaignsStand o x.mind.campaign
+  promise_cases : (o : Option Campaigning) → CampaignsStand o x.replica.campaign
       → MayHold f i in' x (record p { campaign = promised p.nodes from promise o })
   promise_cases None h = record {
-    campaign = x.mind.campaign;
+    campaign = x.replica.campaign;
     does = does_nothing f i in' x;
     stands = record { round = stands.round; campaign = h; waiting = stands.waiting };
   }

@@ -26,34 +26,34 @@ window_within : (position end' : ℕ) → position ≤ end' → position + (wind
 window_within position end' l = omega (arith, l)
 
 module _ (f : Membership Command) (i : ℕ) (input : Input Command) (x : Local Command) (p : Proposing) (l : Learning) (nodes : ℕ)
-    (noop : f.noop ≡ NoOp) (some_node : 1 ≤ nodes) (at : x.mind.position ≡ prefix l) (learner : LearnerStands l x.mind)
+    (noop : f.noop ≡ NoOp) (some_node : 1 ≤ nodes) (at : x.replica.position ≡ prefix l) (learner : LearnerStands l x.replica)
     (stands : ProposerStands p x) where
   abbrev May : Proposing × List Outgoing → Type 0
   May r = MaySend f i input x r.0 (frames_of_all i nodes r.1)
 
   nothing_sent : May (p, [])
   nothing_sent = record {
-    campaign = x.mind.campaign;
+    campaign = x.replica.campaign;
     records = x.records;
     keeps = (refl, refl, refl);
     does = subst (Does f i input x) (sym (sending_nothing x)) (does_nothing f i input x);
     stands = record { round = stands.round; campaign = stands.campaign; waiting = stands.waiting };
   }
 
-  module _ (k : Campaigning) (q : synod_volatile.Campaign Command) (here : x.mind.campaign ≡ Some q) (h : CampaignStands k q)
+  module _ (k : Campaigning) (q : synod_volatile.Campaign Command) (here : x.replica.campaign ≡ Some q) (h : CampaignStands k q)
       (is_leader : k.leading ≡ true) where
     -- ---- further on
     gathering : k.end < prefix l → May (record p { campaign = Some (begun k.ballot (prefix l)) }, prepare k.ballot (prefix l) ∷ [])
     gathering past =
         let y : Local Command = acted i x (act.Gathers q 65535) in
         let one : Does f i input x y = does_one f i input x (act.Gathers q 65535)
-        (here, h.leading ∙ is_leader, (let low : q.end < x.mind.position = omega (arith, past, at, h.end_) in low)) in
+        (here, h.leading ∙ is_leader, (let low : q.end < x.replica.position = omega (arith, past, at, h.end_) in low)) in
         let plain : List (Frame Command) = to_first nodes i Plain in
         let two : Does f i input x (sending y plain) = does_then f i input one (says_to_first f i input y nodes) in
-        let k' = synod_volatile.begun q.ballot x.mind.position 65535 in
+        let k' = synod_volatile.begun q.ballot x.replica.position 65535 in
         let same : CampaignStands (begun k.ballot (prefix l)) k' =
         subst (λ (n : ℕ). CampaignStands (begun k.ballot n) k') at
-        (subst (λ (b : Ballot). CampaignStands (begun b x.mind.position) k') h.ballot (begun_stands q.ballot x.mind.position)) in
+        (subst (λ (b : Ballot). CampaignStands (begun b x.replica.position) k') h.ballot (begun_stands q.ballot x.replica.position)) in
         record {
           campaign = Some k';
           records = x.records;
@@ -76,7 +76,7 @@ module _ (f : Membership Command) (i : ℕ) (input : Input Command) (x : Local C
         let q' = closing stays k q in
         let one : Does f i input x (campaigns x q') =
         closes stays k q h f i input x here
-        (λ s no_. inl (let below : s < x.mind.position = omega (arith, leb-false (prefix l) s no_, at) in below)) in
+        (λ s no_. inl (let below : s < x.replica.position = omega (arith, leb-false (prefix l) s no_, at) in below)) in
         let g : Filling = record { proposals = low.proposals; sent = [] } in
         let n = window_limit (prefix l) k.end - prefix l in
         let filled' = fill_lem f i input nodes some_node noop low is_leader p.waiting p.learnt_to (learnt_at l) (prefix l) n (prefix l)
@@ -98,7 +98,7 @@ module _ (f : Membership Command) (i : ℕ) (input : Input Command) (x : Local C
         (λ past. gather_cases (ltb-true k.end (prefix l) past))
         (λ within. filling (ltb-false k.end (prefix l) within))
 
-  propose_cases : (o : Option Campaigning) → CampaignsStand o x.mind.campaign → May (proposes p o l)
+  propose_cases : (o : Option Campaigning) → CampaignsStand o x.replica.campaign → May (proposes p o l)
   propose_cases None h = nothing_sent
   propose_cases (Some k) h =
       cond_both k.leading (leads p k l) (p, []) May (λ is_leader. leads_cases k h.0 h.1 h.2 is_leader) (λ _. nothing_sent)

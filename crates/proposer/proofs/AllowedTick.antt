@@ -68,7 +68,7 @@ module _ (f : Membership Command) (i : ℕ) (input : Input Command) where
       subst (Does f i input x) (sending_both x (g ∷ []) gs) (does_then f i input one (says (sending x (g ∷ [])) gs h.1))
 
   -- open proposals go to all nodes again
-  repeats : (x : Local Command) (nodes : ℕ) (b : Ballot) (q : synod_volatile.Campaign Command) → x.mind.campaign ≡ Some q → q.ballot ≡ b
+  repeats : (x : Local Command) (nodes : ℕ) (b : Ballot) (q : synod_volatile.Campaign Command) → x.replica.campaign ≡ Some q → q.ballot ≡ b
       → (ps : List Proposal) → ProposalsAreApart ps → ((s : ℕ) (c : Command) → proposed_at ps s ≡ Some c → q.proposals s ≡ Some c)
       → Does f i input x (sending x (frames_of_all i nodes (map (accept b) ps)))
   repeats x nodes b q here same [] apart open' = subst (Does f i input x) (sym (sending_nothing x)) (does_nothing f i input x)
@@ -85,14 +85,14 @@ module _ (f : Membership Command) (i : ℕ) (input : Input Command) where
     -- where it does no more than to send, it holds what it held
     only_sends : (gs : List (Frame Command)) → Does f i input x (sending x gs) → MaySend f i input x p gs
     only_sends gs does = record {
-      campaign = x.mind.campaign;
+      campaign = x.replica.campaign;
       records = x.records;
       keeps = (refl, refl, refl);
       does = does;
       stands = record { round = stands.round; campaign = stands.campaign; waiting = stands.waiting };
     }
 
-    again_flag : (k : Campaigning) (q : synod_volatile.Campaign Command) → x.mind.campaign ≡ Some q → CampaignStands k q → (b : Bool)
+    again_flag : (k : Campaigning) (q : synod_volatile.Campaign Command) → x.replica.campaign ≡ Some q → CampaignStands k q → (b : Bool)
         → Does f i input x (sending x (frames_of_all i nodes (cond b (map (accept k.ballot) k.proposals)
         (campaign.sends_again (record k { leading = false })))))
     again_flag k q here h true =
@@ -103,7 +103,7 @@ module _ (f : Membership Command) (i : ℕ) (input : Input Command) where
         subst (λ l. Does f i input x (sending x l)) (sym (append-nil gs))
         (says x gs (some_plain i asked (to_first nodes i synod.Plain) (all_plain nodes i)))
 
-    again_cases : (o : Option Campaigning) → CampaignsStand o x.mind.campaign
+    again_cases : (o : Option Campaigning) → CampaignsStand o x.replica.campaign
         → Does f i input x (sending x (frames_of_all i nodes (sends_again o)))
     again_cases None h = subst (Does f i input x) (sym (sending_nothing x)) (does_nothing f i input x)
     again_cases (Some k) h = again_flag k h.0 h.1 h.2 k.leading
@@ -120,9 +120,9 @@ module _ (f : Membership Command) (i : ℕ) (input : Input Command) where
         round = stands.round;
         campaign = stands.campaign;
         waiting = λ s c. elim (Contains-push_cases p.waiting r s c) [
-          | inl before ↦ Contains-append_left x.mind.waiting (Request r ∷ []) (Request s) (stands.waiting s before)
-          | inr now ↦ subst (λ (a : Asked). Contains (x.mind.waiting ++ Request r ∷ []) (Request a)) now
-              (Contains-push x.mind.waiting (Request r))
+          | inl before ↦ Contains-append_left x.replica.waiting (Request r ∷ []) (Request s) (stands.waiting s before)
+          | inr now ↦ subst (λ (a : Asked). Contains (x.replica.waiting ++ Request r ∷ []) (Request a)) now
+              (Contains-push x.replica.waiting (Request r))
         ];
       };
     }
@@ -133,6 +133,6 @@ module _ (f : Membership Command) (i : ℕ) (input : Input Command) where
       stands = record {
         round = stands.round;
         campaign = stands.campaign;
-        waiting = λ s c. Contains-append_left x.mind.waiting (Request r ∷ []) (Request s) (stands.waiting s c);
+        waiting = λ s c. Contains-append_left x.replica.waiting (Request r ∷ []) (Request s) (stands.waiting s c);
       };
     }

@@ -44,11 +44,11 @@ abbrev pub CampaignsStand : Option Campaigning → Option (Campaign Command) →
 CampaignsStand None q = q ≡ None
 CampaignsStand (Some k) q = (c : Campaign Command) × (q ≡ Some c) × CampaignStands k c
 
--- the protocol's records and mind say what the proposer holds
+-- the protocol's records and replica say what the proposer holds
 pub record ProposerStands (p : Proposing) (x : Local Command) : Type 0 where
   pub round : x.records.round ≡ p.round
-  pub campaign : CampaignsStand p.campaign x.mind.campaign
-  pub waiting : (r : Asked) → Contains p.waiting r → Contains x.mind.waiting (Request r)
+  pub campaign : CampaignsStand p.campaign x.replica.campaign
+  pub waiting : (r : Asked) → Contains p.waiting r → Contains x.replica.waiting (Request r)
 
 -- the frames of a message from node i of so many
 abbrev pub frames_to : ℕ → ℕ → Recipients → List (Frame Command) → List (Frame Command)
@@ -66,24 +66,24 @@ frames_of_all i nodes (o ∷ os) = frames_of i nodes o ++ frames_of_all i nodes 
 -- from x the node may come to another campaign of which the proposer's state stands, and nothing else changes
 pub record MayHold (f : Membership Command) (i : ℕ) (input : Input Command) (x : Local Command) (p : Proposing) : Type 0 where
   pub campaign : Option (Campaign Command)
-  pub does : Does f i input x (record x { mind = record x.mind { campaign = campaign } })
-  pub stands : ProposerStands p (record x { mind = record x.mind { campaign = campaign } })
+  pub does : Does f i input x (record x { replica = record x.replica { campaign = campaign } })
+  pub stands : ProposerStands p (record x { replica = record x.replica { campaign = campaign } })
 
 -- from x the node may come to records of another round and to another campaign, of which the proposer's state stands, and
 -- have sent these frames, and nothing else changes: of the records the promise, the votes and the floor stay
 pub record MaySend (f : Membership Command) (i : ℕ) (input : Input Command) (x : Local Command) (p : Proposing)
     (frames : List (Frame Command)) : Type 0 where
   pub campaign : Option (Campaign Command)
-  pub records : synod.Records Command
+  pub records : synod.NodeRecords Command
   pub keeps : (records.promise ≡ x.records.promise) × (records.vote ≡ x.records.vote) × (records.floor ≡ x.records.floor)
   pub does : Does f i input x (record x {
     records = records;
-    mind = record x.mind { campaign = campaign };
+    replica = record x.replica { campaign = campaign };
     sent = x.sent ++ frames;
   })
   pub stands : ProposerStands p (record x {
     records = records;
-    mind = record x.mind { campaign = campaign };
+    replica = record x.replica { campaign = campaign };
     sent = x.sent ++ frames;
   })
 
@@ -96,14 +96,14 @@ pub record MayCome (f : Membership Command) (i : ℕ) (input : Input Command) (x
 -- the request is submitted
 abbrev pub submitting : Local Command → Asked → Local Command
 submitting x r = record x {
-  mind = record x.mind { waiting = x.mind.waiting ++ Request r ∷ [] };
+  replica = record x.replica { waiting = x.replica.waiting ++ Request r ∷ [] };
   submitted = x.submitted ++ Request r ∷ [];
 }
 
 -- the log is executed up to here
 abbrev pub advancing : Local Command → ℕ → Local Command
-advancing x position = record x { mind = record x.mind { position = position } }
+advancing x position = record x { replica = record x.replica { position = position } }
 
 -- all but these records is lost
-abbrev pub stopping : Local Command → synod.Records Command → Local Command
-stopping x records = record x { records = records; mind = blank }
+abbrev pub stopping : Local Command → synod.NodeRecords Command → Local Command
+stopping x records = record x { records = records; replica = blank }

@@ -23,7 +23,7 @@ ghost use Rattle.proposer.specs.Protocol.{frames_of_all};
 /// A campaign may start, once its round is written, and its prepares be sent.
 pub fn timeout_is_allowed()
     ensures { (f : Membership Command) (i : ℕ) (input : Input Command) (x : Local Command) (old new : Proposing)
-        (position nodes : ℕ) (sent : Outgoing) → old.id ≡ i → x.mind.position ≡ position → ProposerStands old x
+        (position nodes : ℕ) (sent : Outgoing) → old.id ≡ i → x.replica.position ≡ position → ProposerStands old x
         → StartsCampaign old position new sent → MaySend f i input x new (frames_of i nodes sent) }
 {}
 
@@ -57,7 +57,7 @@ pub fn tick_is_allowed()
 /// Where a slot is learnt, or the log is executed past it, its proposal may be closed.
 pub fn learning_is_allowed()
     ensures { (f : Membership Command) (i : ℕ) (input : Input Command) (x : Local Command) (p : Proposing) (slot : ℕ)
-        → IsSettled x.mind.position x.mind.learnt slot → ProposerStands p x → MayHold f i input x (after_learned p slot) }
+        → IsSettled x.replica.position x.replica.learnt slot → ProposerStands p x → MayHold f i input x (after_learned p slot) }
 {}
 
 /// A promise that has come may be counted, and with a majority the campaign may lead.
@@ -70,18 +70,18 @@ pub fn promise_is_allowed()
         (with_promised p from promise) }
 {}
 
-/// What a proposer proposes may be proposed, and its promises be gathered further on, where the mind's position is the learner's
+/// What a proposer proposes may be proposed, and its promises be gathered further on, where the replica's position is the learner's
 /// prefix and has learnt what the learner has.
 pub fn proposing_is_allowed()
     ensures { (f : Membership Command) (i : ℕ) (input : Input Command) (x : Local Command) (p : Proposing) (l : Learning)
-        (nodes : ℕ) → f.noop ≡ NoOp → 1 ≤ nodes → x.mind.position ≡ prefix l → LearnerStands l x.mind → ProposerStands p x
+        (nodes : ℕ) → f.noop ≡ NoOp → 1 ≤ nodes → x.replica.position ≡ prefix l → LearnerStands l x.replica → ProposerStands p x
         → MaySend f i input x (proposes p p.campaign l).0 (frames_of_all i nodes (proposes p p.campaign l).1) }
 {}
 
 /// The log may be executed further: a proposer's state says nothing of the position, and stands.
 pub fn advance_is_allowed()
     ensures { (f : Membership Command) (i : ℕ) (input : Input Command) (x : Local Command) (p : Proposing) (position : ℕ)
-        → x.mind.position ≤ position → ProposerStands p x → MayCome f i input x p (advancing x position) }
+        → x.replica.position ≤ position → ProposerStands p x → MayCome f i input x p (advancing x position) }
 {}
 
 /// A node may stop at any time, and what is loaded then stands: also where the round of a timeout was written, of which nobody
@@ -97,5 +97,5 @@ pub fn stop_is_allowed()
 /// Where the log is executed past them by a snapshot, the proposals for the slots below may be closed.
 pub fn skipping_is_allowed()
     ensures { (f : Membership Command) (i : ℕ) (input : Input Command) (x : Local Command) (p : Proposing) (position : ℕ)
-        → position ≤ x.mind.position → ProposerStands p x → MayHold f i input x (skipped_to p position) }
+        → position ≤ x.replica.position → ProposerStands p x → MayHold f i input x (skipped_to p position) }
 {}

@@ -56,7 +56,7 @@ abbrev pub local_of : synod_runs.World Command → ℕ → Local Command
 local_of = synod_runs.here
 
 -- a node with such records and such a replica at the beginning of a step
-abbrev begins : synod_records.Records Command → synod_volatile.Volatile Command → Local Command
+abbrev begins : synod_records.NodeRecords Command → synod_volatile.Volatile Command → Local Command
 begins r m = record { records = r; replica = m; sent = []; learnt = []; submitted = [] }
 
 -- where a node has come to with its records and its replica, the rest aside
@@ -88,12 +88,12 @@ begun contents n y h = record { records = h.records; up = begun_up (contents n.s
 
 here_placed : (w : synod_runs.World Command) (i : ℕ) (y : Local Command) → local_of (placed w i y) i ≡ begins y.records y.replica
 here_placed w i y =
-    ap (λ (r : synod_records.Records Command). begins r ((placed w i y).replica i)) (put_same w.past.records i y.records)
+    ap (λ (r : synod_records.NodeRecords Command). begins r ((placed w i y).replica i)) (put_same w.past.records i y.records)
     ∙ ap (λ (m : synod_volatile.Volatile Command). begins y.records m) (put_same w.replica i y.replica)
 
 there_placed : (w : synod_runs.World Command) (i : ℕ) (y : Local Command) (j : ℕ) → (j ≡ i → ⊥) → local_of (placed w i y) j ≡ local_of w j
 there_placed w i y j other =
-    ap (λ (r : synod_records.Records Command). begins r ((placed w i y).replica j)) (put_other w.past.records i y.records j other)
+    ap (λ (r : synod_records.NodeRecords Command). begins r ((placed w i y).replica j)) (put_other w.past.records i y.records j other)
     ∙ ap (λ (m : synod_volatile.Volatile Command). begins (w.past.records j) m) (put_other w.replica i y.replica j other)
 
 come_longer : (w : synod_runs.World Command) (i : ℕ) (y : Local Command) (input : act.Input Command) → HasCome w.past input
@@ -159,7 +159,7 @@ stands_still contents nodes w i n s =
 sound_after : (nodes : ℕ) (w : synod_runs.World Command) (i : ℕ) (input : act.Input Command) (y : Local Command) → IsReached (membership nodes) w
     → HasCome w.past input → Does (membership nodes) i input (local_of w i) y → RecordsAreSound y.records
 sound_after nodes w i input y reached came does =
-    subst (λ (r : synod_records.Records Command). RecordsAreSound r) (put_same w.past.records i y.records)
+    subst (λ (r : synod_records.NodeRecords Command). RecordsAreSound r) (put_same w.past.records i y.records)
     ((reached_holds (membership nodes) (placed w i y) (does_reaches (membership nodes) w i input y came does reached)).past.records i)
 
 -- ---- what an input makes of a node's list of writes

@@ -1,7 +1,7 @@
 //! What a world remembers of its run.
 
 use super::round_end::RoundEnd;
-use learner::Held;
+use learner::SharedCommand;
 use node_model::{AnswerText, NodeFault};
 use sessions::Number;
 use store::{Op, Query};
@@ -22,7 +22,7 @@ pub struct Submission {
 pub struct LearntEntry {
     pub node: NodeId,
     pub slot: Slot,
-    pub command: Held,
+    pub command: SharedCommand,
 }
 
 /// A reply to a request that waited at a node. Its position is one more than the slot at which it was executed.

@@ -19,7 +19,7 @@ insert_at-requires c =
     let fs = c.self.inside.features.items in
     let f : Feature = record { id = c.args.id.now; seq = c.args.seq.now } in
     let gap = subst (λ (gs : List Feature). IsFeatureGap gs c.args.id.now c.args.at) (sym c.self.view_is) c.requires.gap in
-    subst (λ (es : List Entry). ascending.IsGap id_of es c.args.id.now c.args.at) (sym c.self.invariant.indexed)
+    subst (λ (es : List Entry). ascending.IsElementGap id_of es c.args.id.now c.args.at) (sym c.self.invariant.indexed)
     (gap_indexed fs f c.args.at gap)
 
 -- the feature is put in the gap, as its entry is

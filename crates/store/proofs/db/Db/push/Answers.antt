@@ -22,7 +22,7 @@ insert_at-requires c =
     let gap : IsFeatureGap fs c.args.id (length fs) =
     subst (λ (gs : List Feature). IsFeatureGap gs c.args.id (length gs)) (sym c.self.view_is) c.requires.last in
     let last : c.len.result ≡ length fs = search rules in
-    rw last (subst (λ (es : List Entry). ascending.IsGap id_of es c.args.id (length fs)) (sym c.self.invariant.indexed)
+    rw last (subst (λ (es : List Entry). ascending.IsElementGap id_of es c.args.id (length fs)) (sym c.self.invariant.indexed)
     (gap_indexed fs f (length fs) gap))
 
 -- the feature goes last, and so does its entry
