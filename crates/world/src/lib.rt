@@ -6,14 +6,17 @@
 //! reply and every answer at a position is that of one plain database that executed so many of its entries, each request once.
 //! This is an invariant of the type `World`, and the clause `safe` of its calls states it.
 //!
-//! The crate `world_model` defines worlds and events. Here `inner` has the nodes and the lists, `rounds` the manual round.
+//! The crate `world_model` defines worlds and events. Here `inner` has the nodes and the lists, `steps` a function for
+//! each event, `network` the frames that wait, `rounds` the manual round.
 #![tactic(auto)]
 
 mod flags;
 mod inner;
 mod log;
+mod network;
 mod rounds;
 mod start;
+mod steps;
 mod world;
 
 pub use log::{MOST_DELIVERIES, limits};
