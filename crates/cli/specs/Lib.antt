@@ -1,3 +1,3 @@
-pub mod Archives
 pub mod Jobs
+pub mod Outside
 pub mod Words

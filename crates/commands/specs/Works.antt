@@ -61,8 +61,8 @@ module _ {S : Type 0} (storages : Ghosts (Script S)) where
   ReplayStops bytes (failure.Schedule at) = EndsAtLine bytes at
   ReplayStops bytes other = ⊥
 
--- ---- a replay in two parts
--- the replay of the bytes ended as they were read, at this line, with this number, and not for want of memory
+-- ---- bytes that spell no schedule
+-- a run of the bytes ended as they were read, at this line, with this number, and not for want of memory
 pub record IsUnreadAt (bytes : List ℕ) (at : FaultyLine) : Type 0 where
   pub refusal : ParseFault
   pub refused : IsParseRefusal bytes refusal
@@ -123,3 +123,21 @@ module _ {T : Type 0} (transports : Transports T) (transport : T) (plan : Plan) 
   abbrev pub LoopStopsOver : Failure → Type 0
   LoopStopsOver (failure.Schedule at) = LoopStopsAtLine at
   LoopStopsOver other = ⊥
+
+-- one that is bound once the bytes are read, of which it is known what may be bound for so many nodes, and what its calls may do
+module _ {T : Type 0} (binds : ℕ → T → Type 0) (transports : Transports T) where
+  -- the bytes spell a schedule, and the text is that of its run through what was bound for its nodes
+  pub record IsLooped (bytes text : List ℕ) : Type 0 where
+    pub plan : Plan
+    pub spelled : IsScheduleOf bytes plan
+    pub transport : T
+    pub bound : binds plan.nodes transport
+    pub runs : IsLoopedOver transports transport plan text
+
+  -- they spell one whose run ends so
+  pub record LoopStops (bytes : List ℕ) (failure : Failure) : Type 0 where
+    pub plan : Plan
+    pub spelled : IsScheduleOf bytes plan
+    pub transport : T
+    pub bound : binds plan.nodes transport
+    pub stops : LoopStopsOver transports transport plan failure

@@ -4,7 +4,7 @@ ghost use Rattle.std.specs.Prelude.{◌≡◌, ◌≢◌, codes, IfErr, IfOk, Ma
 ghost use Rattle.commands.specs.Failures.{line_text};
 ghost use Rattle.conformance.specs.Outcomes.{EndsWith, IsOutcome, Makes, input_ending, text_ending};
 
-use commands::{Failure, checked, transcript};
+use commands::{Failure, check, replay_in_memory};
 use stable::{MemStable, Scripted, Stable};
 use std::alloc::Global;
 
@@ -60,8 +60,8 @@ fn made(alloc: Global, kind: Kind, bytes: &[u8]) -> Result<Vec<u8>, Failure>
         → EndsWith (⟦<Scripted<MemStable> as Stable>⟧) kind bytes.now failure) }
 {
     match kind {
-        Kind::Schedule => transcript(alloc, bytes),
-        Kind::Document => checked(alloc, bytes),
+        Kind::Schedule => replay_in_memory(alloc, bytes),
+        Kind::Document => check(alloc, bytes),
     }
 }
 

@@ -1,8 +1,10 @@
 //! Schedules over clusters whose nodes have sockets.
 
+ghost use Rattle.std.specs.Prelude.{◌≡◌, ◌⊎◌, IfErr};
+
 use crate::runs::clusters::{REMOVED, asked, has_lines, node, pump_twice};
 use cluster::Transport;
-use commands::{Failure, FaultyLine, looped_over, planned};
+use commands::{Binder, Failure, FaultyLine, loopback};
 use std::alloc::Global;
 use std::net::{IpAddr, Ipv4Addr, SocketAddr, UdpSocket};
 use std::test::Fail;
@@ -27,14 +29,25 @@ const LEARNT_BY_SEVEN: [&str; 8] = [
     "reply 6 7:1 21",
 ];
 
-// The text of a schedule whose nodes have sockets.
-fn looped(rt: &HostRuntime, schedule: &[u8]) -> Result<Vec<u8>, Failure> {
-    let schedule = planned(rt.alloc(), schedule)?;
-    let sockets = bound(rt, schedule.nodes())?;
-    looped_over(rt.alloc(), schedule, sockets)
+// Binds a socket for each node.
+struct LocalSockets;
+
+impl Binder for LocalSockets {
+    type Bound = Sockets;
+
+    fn bind(&self, rt: &HostRuntime, count: Nodes) -> Result<Sockets, Failure> {
+        bound(rt, count)
+    }
 }
 
-fn bound(rt: &HostRuntime, count: Nodes) -> Result<Sockets, Failure> {
+// The text of a schedule whose nodes have sockets.
+fn looped(rt: &HostRuntime, schedule: &[u8]) -> Result<Vec<u8>, Failure> {
+    loopback(rt, &LocalSockets, schedule)
+}
+
+fn bound(rt: &HostRuntime, count: Nodes) -> Result<Sockets, Failure>
+    ensures { IfErr result (λ failure. (failure ≡ Failure.Device) ⊎ (failure ≡ Failure.Memory)) }
+{
     match Sockets::bind(rt, rt.alloc(), count) {
         Ok(sockets) => Ok(sockets),
         Err(_) => Err(Failure::Device),

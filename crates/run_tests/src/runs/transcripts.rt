@@ -4,13 +4,14 @@ use crate::runs::checks::LINE;
 use crate::runs::folders::make_folder;
 use crate::runs::program::{FIRST_LINES, FIRST_RUN};
 use crate::runs::streams::ends_so;
-use commands::{Failure, made_over, planned};
+use commands::{Archive, Failure, replay};
 use sqlite::MemStore;
 use sqlstable::SqlStable;
 use stable::StableFault;
-use std::alloc::Global;
+use std::alloc::{AllocError, Global};
 use std::fs;
 use std::test::Fail;
+use wire::Nodes;
 
 const FOLDER: &str = "transcripts_test";
 
@@ -113,20 +114,45 @@ fn three_tables(alloc: Global) -> Result<Vec<SqlStable<MemStore>>, StableFault> 
     Ok(tables)
 }
 
-// The transcript of a schedule over tables in memory.
-fn told_over_tables(alloc: Global, schedule: &[u8]) -> Result<Vec<u8>, Failure> {
-    let schedule = planned(alloc, schedule)?;
-    let Ok(tables) = three_tables(alloc) else {
-        return Err(Failure::Device);
-    };
-    if tables.len() != usize::from(schedule.nodes().count()) {
-        return Err(Failure::Usage);
+// Hands out three tables in memory, whatever the folder.
+struct Tables;
+
+impl Archive for Tables {
+    type Records = SqlStable<MemStore>;
+
+    fn read(&mut self, _rt: &HostRuntime, _path: &str) -> Result<Vec<u8>, Failure> {
+        Err(Failure::Device)
     }
-    made_over(alloc, schedule, tables)
+
+    fn open(
+        &mut self,
+        rt: &HostRuntime,
+        _folder: &str,
+        count: Nodes,
+    ) -> Result<Vec<SqlStable<MemStore>>, Failure> {
+        let Ok(tables) = three_tables(rt.alloc()) else {
+            return Err(Failure::Device);
+        };
+        if tables.len() != usize::from(count.count()) {
+            return Err(Failure::Device);
+        }
+        Ok(tables)
+    }
+
+    fn has_unmerged_log(
+        &mut self,
+        _rt: &HostRuntime,
+        _folder: &str,
+        _count: Nodes,
+    ) -> Result<bool, AllocError> {
+        Ok(false)
+    }
+
+    fn merge_logs(&mut self, _rt: &HostRuntime, _folder: &str, _count: Nodes) {}
 }
 
-fn is_told(alloc: Global, schedule: &[u8], told: &str) -> bool {
-    match told_over_tables(alloc, schedule) {
+fn is_told(rt: &HostRuntime, schedule: &[u8], told: &str) -> bool {
+    match replay(rt, &mut Tables, FOLDER, schedule) {
         Ok(text) => text.as_slice() == told.as_bytes(),
         Err(_) => false,
     }
@@ -135,11 +161,11 @@ fn is_told(alloc: Global, schedule: &[u8], told: &str) -> bool {
 #[test]
 fn transcripts_over_tables(rt: HostRuntime) -> Result<(), Fail> {
     let alloc = rt.alloc();
-    assert!(rt; is_told(alloc, FIRST_RUN, FIRST_LINES));
-    assert!(rt; is_told(alloc, led_twice(alloc)?.as_bytes(), LED_TWICE_LINES));
+    assert!(rt; is_told(&rt, FIRST_RUN, FIRST_LINES));
+    assert!(rt; is_told(&rt, led_twice(alloc)?.as_bytes(), LED_TWICE_LINES));
     for (schedule, told) in TOLD {
-        assert!(rt; is_told(alloc, schedule.as_bytes(), told), "{schedule}");
+        assert!(rt; is_told(&rt, schedule.as_bytes(), told), "{schedule}");
     }
-    assert!(rt; is_told(alloc, waiting(alloc)?.as_bytes(), FULL_LINES));
+    assert!(rt; is_told(&rt, waiting(alloc)?.as_bytes(), FULL_LINES));
     Ok(())
 }

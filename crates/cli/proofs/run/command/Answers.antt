@@ -67,34 +67,34 @@ returns-in-Ok g c = record {
 -- the failure whose line is written is the one that the run ended with
 pub returns : goal.returns
 returns g c = record {
-  statuses = rw c.told.ensures.status (at_most_three c.in-Err.failure);
-  words_come_first = λ two. c.in-Err.ensures.words_come_first (is_usage _ (sym c.told.ensures.status ∙ two));
+  statuses = rw c.report.ensures.status (at_most_three c.in-Err.failure);
+  words_come_first = λ two. c.in-Err.ensures.words_come_first (is_usage _ (sym c.report.ensures.status ∙ two));
   file_alone = rw (← c.as_slice.ensures.value) c.run.ensures.file_alone;
-  archive_untouched = λ two. c.in-Err.ensures.archive_untouched (is_usage _ (sym c.told.ensures.status ∙ two));
-  done = λ zero. absurd (not_done _ (sym c.told.ensures.status ∙ zero));
-  faulty_unprinted = λ one. c.in-Err.ensures.untouched (is_no_device _ (λ three. omega (arith, c.told.ensures.status)));
-  usage_unprinted = λ two. c.in-Err.ensures.untouched (is_no_device _ (λ three. omega (arith, c.told.ensures.status)));
-  failed_unprinted = λ three. rw (← c.as_slice.ensures.value) (elim (c.in-Err.ensures.unprinted (is_no_usage _ (sym c.told.ensures.status ∙ three))) [
-    | inl unprinted ↦ inl (unprinted.0, c.in-Err.failure, sym c.told.ensures.status ∙ three, unprinted.1, c.told.ensures.line)
+  archive_untouched = λ two. c.in-Err.ensures.archive_untouched (is_usage _ (sym c.report.ensures.status ∙ two));
+  done = λ zero. absurd (not_done _ (sym c.report.ensures.status ∙ zero));
+  faulty_unprinted = λ one. c.in-Err.ensures.untouched (is_no_device _ (λ three. omega (arith, c.report.ensures.status)));
+  usage_unprinted = λ two. c.in-Err.ensures.untouched (is_no_device _ (λ three. omega (arith, c.report.ensures.status)));
+  failed_unprinted = λ three. rw (← c.as_slice.ensures.value) (elim (c.in-Err.ensures.unprinted (is_no_usage _ (sym c.report.ensures.status ∙ three))) [
+    | inl unprinted ↦ inl (unprinted.0, c.in-Err.failure, sym c.report.ensures.status ∙ three, unprinted.1, c.report.ensures.line)
     | inr printed ↦ inr printed
   ]);
-  done_silently = λ zero. absurd (not_done _ (sym c.told.ensures.status ∙ zero));
+  done_silently = λ zero. absurd (not_done _ (sym c.report.ensures.status ∙ zero));
   faulty = λ one. (
     c.in-Err.failure,
-    sym c.told.ensures.status ∙ one,
-    rw (← c.as_slice.ensures.value) (c.in-Err.ensures.faulty (sym c.told.ensures.status ∙ one)),
-    c.told.ensures.line,
+    sym c.report.ensures.status ∙ one,
+    rw (← c.as_slice.ensures.value) (c.in-Err.ensures.faulty (sym c.report.ensures.status ∙ one)),
+    c.report.ensures.line,
   );
-  usage = λ two. rw (← c.as_slice.ensures.value) (c.in-Err.ensures.usage (is_usage _ (sym c.told.ensures.status ∙ two)));
-  usage_told = λ two. rw (is_usage _ (sym c.told.ensures.status ∙ two)) at c.told.ensures.line;
+  usage = λ two. rw (← c.as_slice.ensures.value) (c.in-Err.ensures.usage (is_usage _ (sym c.report.ensures.status ∙ two)));
+  usage_told = λ two. rw (is_usage _ (sym c.report.ensures.status ∙ two)) at c.report.ensures.line;
   no_form = rw (← c.as_slice.ensures.value) (λ none. elim (c.in-Err.ensures.no_form none) [
-    | inl usage ↦ (let e : c.in-Err.failure ≡ Usage = cc in inl (c.told.ensures.status ∙ ap status_of e))
+    | inl usage ↦ (let e : c.in-Err.failure ≡ Usage = cc in inl (c.report.ensures.status ∙ ap status_of e))
     | inr memory ↦ (let e : c.in-Err.failure ≡ Memory = cc in
-        inr (c.told.ensures.status ∙ ap status_of e, rw e at c.told.ensures.line))
+        inr (c.report.ensures.status ∙ ap status_of e, rw e at c.report.ensures.line))
   ]);
   no_form_unread = rw (← c.as_slice.ensures.value) c.run.ensures.no_form_unread;
-  failed_told = λ three. elim (has_failed _ (sym c.told.ensures.status ∙ three)) [
-    | inl device ↦ inl (rw device at c.told.ensures.line)
-    | inr memory ↦ inr (rw memory at c.told.ensures.line)
+  failed_told = λ three. elim (has_failed _ (sym c.report.ensures.status ∙ three)) [
+    | inl device ↦ inl (rw device at c.report.ensures.line)
+    | inr memory ↦ inr (rw memory at c.report.ensures.line)
   ];
 }

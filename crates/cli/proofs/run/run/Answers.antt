@@ -64,7 +64,7 @@ returns-in_err-bytes g c =
         })),
       );
       words_come_first = λ usage. absurd (no_usage _ c.in_err-bytes.ensures.err usage);
-      file_alone = λ other. c.content.ensures.file_alone (no_input _ _ c.in-Ok.ensures.source other);
+      file_alone = λ other. c.read_source.ensures.file_alone (no_input _ _ c.in-Ok.ensures.source other);
       archive_untouched = λ usage. absurd (no_usage _ c.in_err-bytes.ensures.err usage);
     })
 
@@ -82,7 +82,7 @@ returns-in_err-text g c =
         source = c.in-Ok.job.source;
         named = c.in-Ok.ensures.source;
         bytes = c.as_slice.result.now;
-        read = c.content.new.archive;
+        read = c.read_source.new.archive;
         gives = rw c.as_slice.ensures.value c.in_ok-bytes.ensures.gives;
         ends = c.in_err-text.ensures.ends;
       };
@@ -100,13 +100,13 @@ returns-in_err-text g c =
           source = c.in-Ok.job.source;
           named = c.in-Ok.ensures.source;
           bytes = c.as_slice.result.now;
-          read = c.content.new.archive;
+          read = c.read_source.new.archive;
           gives = rw c.as_slice.ensures.value c.in_ok-bytes.ensures.gives;
           ends = c.in_err-text.ensures.ends;
         })),
       );
       words_come_first = λ usage. absurd (c.in_err-text.ensures.no_usage usage);
-      file_alone = λ other. c.content.ensures.file_alone (no_input _ _ c.in-Ok.ensures.source other);
+      file_alone = λ other. c.read_source.ensures.file_alone (no_input _ _ c.in-Ok.ensures.source other);
       archive_untouched = λ usage. absurd (c.in_err-text.ensures.no_usage usage);
     })
 
@@ -123,7 +123,7 @@ returns-in-Ok-print g c = record {
       source = c.in-Ok.job.source;
       named = c.in-Ok.ensures.source;
       bytes = c.as_slice.result.now;
-      read = c.content.new.archive;
+      read = c.read_source.new.archive;
       gives = rw c.as_slice.ensures.value c.in_ok-bytes.ensures.gives;
       made = rw c.as_slice-2.ensures.value c.in_ok-text.ensures.makes;
     },
@@ -136,7 +136,7 @@ returns-in-Ok-print g c = record {
   untouched = tt;
   unprinted = tt;
   words_come_first = tt;
-  file_alone = λ other. c.content.ensures.file_alone (no_input _ _ c.in-Ok.ensures.source other);
+  file_alone = λ other. c.read_source.ensures.file_alone (no_input _ _ c.in-Ok.ensures.source other);
   archive_untouched = tt;
 }
 
@@ -159,13 +159,13 @@ returns g c = record {
       source = c.in-Ok.job.source;
       named = c.in-Ok.ensures.source;
       bytes = c.as_slice.result.now;
-      read = c.content.new.archive;
+      read = c.read_source.new.archive;
       gives = rw c.as_slice.ensures.value c.in_ok-bytes.ensures.gives;
       made = rw c.as_slice-2.ensures.value c.in_ok-text.ensures.makes;
     },
     c.in-Err-print.ensures.err,
   );
   words_come_first = λ usage. absurd (no_usage Device (inl refl) usage);
-  file_alone = λ other. c.content.ensures.file_alone (no_input _ _ c.in-Ok.ensures.source other);
+  file_alone = λ other. c.read_source.ensures.file_alone (no_input _ _ c.in-Ok.ensures.source other);
   archive_untouched = λ usage. absurd (no_usage Device (inl refl) usage);
 }

@@ -1,5 +1,0 @@
-use Rattle.std.proofs.Common.{rules}
-use Rattle.cli.proofs.run.settle_after.Goals as goal
-
-pub returns-then-not-was_left_open : goal.returns-then-not-was_left_open
-returns-then-not-was_left_open g c = search rules

@@ -1,4 +1,0 @@
-use Rattle.cli.proofs.run.told.Goals as goal
-
-pub returns : goal.returns
-returns g c = record { status = c.status.ensures; line = c.tell.ensures }
