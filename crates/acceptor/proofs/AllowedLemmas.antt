@@ -156,7 +156,7 @@ module _ (f : Membership Command) (i : ℕ) (input : Input Command) (x : Local C
   }
 
 -- of the votes that a trim takes out the protocol's records say nothing
-pub trim_stands : (a : Accepting) (round : ℕ) (r : synod_records.Records Command) → RecordsStand a round r
+pub trim_stands : (a : Accepting) (round : ℕ) (r : synod_records.NodeRecords Command) → RecordsStand a round r
     → RecordsStand (after_trim a) round r
 trim_stands a round r stands = record {
   promise = stands.promise;

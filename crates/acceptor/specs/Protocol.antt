@@ -12,7 +12,7 @@ use Rattle.acceptor.specs.Accepting.{Accepting}
 
 -- the protocol's records say what the acceptor holds, of the votes from the floor on, and the round that its node has
 -- begun last
-pub record RecordsStand (a : Accepting) (round : ℕ) (r : synod_records.Records Command) : Type 0 where
+pub record RecordsStand (a : Accepting) (round : ℕ) (r : synod_records.NodeRecords Command) : Type 0 where
   pub promise : r.promise ≡ rank_of a.promise
   pub vote : (s : ℕ) → a.floor ≤ s → r.vote s ≡ a.vote s
   pub round_ : r.round ≡ round
@@ -31,13 +31,13 @@ answer_frames i nodes to (Behind floor) = record { sender = i; receiver = to; me
 -- goes down once the write is made
 pub record MayWrite (f : Membership Command) (i : ℕ) (input : Input Command) (x : Local Command) (a : Accepting)
     (round : ℕ) : Type 0 where
-  pub after : synod_records.Records Command
+  pub after : synod_records.NodeRecords Command
   pub does : Does f i input x (record x { records = after })
   pub stands : RecordsStand a round after
 
 -- from x the node may come to such records and send these frames, and nothing else changes
 pub record MayAnswer (f : Membership Command) (i : ℕ) (input : Input Command) (x : Local Command) (a : Accepting)
     (round : ℕ) (frames : List (Frame Command)) : Type 0 where
-  pub after : synod_records.Records Command
+  pub after : synod_records.NodeRecords Command
   pub does : Does f i input x (record x { records = after; sent = x.sent ++ frames })
   pub stands : RecordsStand a round after

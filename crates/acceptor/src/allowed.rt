@@ -42,7 +42,7 @@ pub fn checkpoint_is_allowed()
     ensures write { (f : Membership Command) (i : ℕ) (input : Input Command) (x : Local Command) (a : Accepting)
         (round position : ℕ) (text : List ℕ) → a.floor ≤ position → RecordsStand a round x.records
         → MayWrite f i input x (after_checkpoint a position text) round }
-    ensures trim { (a : Accepting) (round : ℕ) (r : synod_records.Records Command) → RecordsStand a round r
+    ensures trim { (a : Accepting) (round : ℕ) (r : synod_records.NodeRecords Command) → RecordsStand a round r
         → RecordsStand (after_trim a) round r }
 {}
 

@@ -136,7 +136,7 @@ pub record RecordsHold (records : Records) (a : Accepting) (round : ℕ) : Type 
   pub proposer : SaysRound (records key.Round) round
 
 -- a node's records say what the protocol's do
-pub record RecordsAgree (records : Records) (r : synod_records.Records Command) : Type 0 where
+pub record RecordsAgree (records : Records) (r : synod_records.NodeRecords Command) : Type 0 where
   pub accepting : Accepting
   pub round : ℕ
   pub holds : RecordsHold records accepting round
@@ -148,6 +148,6 @@ HoldsRecords m records = RecordsHold records m.accepting m.proposing.round
 
 -- from x node `id` may go down: its records stand for this then, and nothing is left of its replica
 pub record MayStop (nodes id : ℕ) (input : acts.Input Command) (x : Local Command) (a : Accepting) (round : ℕ) : Type 0 where
-  pub records : synod_records.Records Command
+  pub records : synod_records.NodeRecords Command
   pub does : Does (membership nodes) id input x (stopping x records)
   pub stands : RecordsStand a round records

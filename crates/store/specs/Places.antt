@@ -6,8 +6,8 @@ use Rattle.store.specs.Features.{feature_id}
 
 -- the feature at i has the id
 abbrev pub FeatureIsAt : List Feature → List ℕ → ℕ → Type 0
-FeatureIsAt = by_id.IsAt feature_id
+FeatureIsAt = by_id.ElementIsAt feature_id
 
 -- none has it, and a feature with it would go to the place i
 abbrev pub IsFeatureGap : List Feature → List ℕ → ℕ → Type 0
-IsFeatureGap = by_id.IsGap feature_id
+IsFeatureGap = by_id.IsElementGap feature_id

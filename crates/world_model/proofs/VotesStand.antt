@@ -97,7 +97,7 @@ module _ {S : Type 0} (contents : Script S → Records) where
       above v now = omega (arith, now.above, level.same_floor v now.brought)
 
   -- of a storage that is the same
-  pub puts_same : (a b : Script S) (r : synod_records.Records Command) → IsSame contents a b → PutsStand contents a r
+  pub puts_same : (a b : Script S) (r : synod_records.NodeRecords Command) → IsSame contents a b → PutsStand contents a r
       → PutsStand contents b r
   puts_same a b r same puts = record {
     held = each_held b (λ w shows. same.to w (held_shown a puts.held w (subst (λ (c : Records). PutShows c w) same.records shows)));
@@ -107,7 +107,7 @@ module _ {S : Type 0} (contents : Script S → Records) where
   }
 
   -- where nothing is unsure the list tells all of them
-  pub listed_when_sure : (s : Script S) (r : synod_records.Records Command) → s.unsure ≡ None → PutsStand contents s r → VotesAreListed s r
+  pub listed_when_sure : (s : Script S) (r : synod_records.NodeRecords Command) → s.unsure ≡ None → PutsStand contents s r → VotesAreListed s r
   listed_when_sure s r sure puts v =
       let listed : TookEffect contents s (vote_put v) → Contains s.writes (vote_put v) = λ t. elim t [
         | inl c ↦ c

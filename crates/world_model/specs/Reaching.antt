@@ -37,14 +37,14 @@ abbrev pub HoldsPut : {S : Type 0} → (Script S → Records) → Script S → K
 HoldsPut contents s key = IfSome (contents s key) (λ bytes. TookEffect contents s (key, bytes))
 
 -- each key holds what was put, and the protocol's votes are those that were put
-pub record PutsStand {S : Type 0} (contents : Script S → Records) (s : Script S) (r : synod_records.Records Command) : Type 0 where
+pub record PutsStand {S : Type 0} (contents : Script S → Records) (s : Script S) (r : synod_records.NodeRecords Command) : Type 0 where
   pub held : (key : Key) → HoldsPut contents s key
   pub fit : (v : Vote Command) → Contains r.writes (VoteWrite v) → VoteFitsRecord v
   pub put : (v : Vote Command) → Contains r.writes (VoteWrite v) → TookEffect contents s (vote_put v)
   pub cast : (v : Vote Command) → VoteFitsRecord v → TookEffect contents s (vote_put v) → Contains r.writes (VoteWrite v)
 
 -- the protocol's votes are those that the list of writes tells
-abbrev pub VotesAreListed : {S : Type 0} → Script S → synod_records.Records Command → Type 0
+abbrev pub VotesAreListed : {S : Type 0} → Script S → synod_records.NodeRecords Command → Type 0
 VotesAreListed s r = (v : Vote Command) → Contains r.writes (VoteWrite v) ↔ HasVote s.writes v
 
 -- node i has come to x in the protocol, where it has voted as its list of writes tells. Where a put is unsure the node

@@ -1,6 +1,6 @@
 use Rattle.std.proofs.Common.{◌≡◌, rules}
 use Rattle.sessions.specs.Same.{same_command, same_command_Decides}
-use Rattle.wire.proofs.shared_command.HeldPartialEq.eq.Goals as goal
+use Rattle.wire.proofs.shared_command.SharedCommandPartialEq.eq.Goals as goal
 
 -- the test tells which commands are the same
 pub returns-clause-same : goal.returns-clause-same

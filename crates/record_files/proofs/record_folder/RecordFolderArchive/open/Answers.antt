@@ -1,7 +1,7 @@
 use Rattle.std.proofs.Common.{◌≡◌, length, sym, subst, ◌∙◌, arith}
 use Rattle.record_files.specs.Opening.{path_in}
 use Rattle.record_files.proofs.OpenedLemmas.{none_opened, one_more_opened}
-use Rattle.record_files.proofs.record_folder.FilesArchive.open.Goals as goal
+use Rattle.record_files.proofs.record_folder.RecordFolderArchive.open.Goals as goal
 
 pub loop-number-init : goal.loop-number-init
 loop-number-init g c = record {
