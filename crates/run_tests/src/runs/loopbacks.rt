@@ -143,6 +143,71 @@ fn foreign_datagrams(rt: HostRuntime) -> Result<(), Fail> {
     Ok(())
 }
 
+// Puts of the most points, as many as may wait at a node.
+fn puts_at_once(alloc: Global) -> Result<String, Fail> {
+    let mut times = String::new(alloc);
+    let mut places = String::new(alloc);
+    for second in 0..512u32 {
+        let comma = if second == 0 { "" } else { "," };
+        let (minutes, seconds) = (second / 60, second % 60);
+        let time = format!(in alloc; "{comma}\"2020-01-01T00:{minutes:02}:{seconds:02}Z\"")?;
+        times.push_str(time.as_str())?;
+        let place = format!(in alloc; "{comma}[{second},0]")?;
+        places.push_str(place.as_str())?;
+    }
+    let mut schedule = String::from_str(alloc, "nodes 3\ntimeout 0\nflush\n")?;
+    for number in 1..=64 {
+        let line = format!(in alloc;
+            "submit 0 7 {number} put {{\"type\":\"Feature\",\"id\":\"bus-{number}\",\
+\"temporalGeometry\":{{\"type\":\"MovingPoint\",\"datetimes\":[{times}],\"coordinates\":[{places}],\
+\"interpolation\":\"Linear\"}}}}\n"
+        )?;
+        schedule.push_str(line.as_str())?;
+    }
+    schedule.push_str("flush\n")?;
+    Ok(schedule)
+}
+
+// How many of the lines tell a reply.
+fn replies(text: &[u8]) -> usize {
+    match str::from_utf8(text) {
+        Ok(text) => text
+            .lines()
+            .filter(|line| line.starts_with("reply "))
+            .count(),
+        Err(_) => 0,
+    }
+}
+
+// What is sent between two flushes is more than the system's buffers hold, and each frame comes.
+#[test]
+fn more_than_a_buffer_holds(rt: HostRuntime) -> Result<(), Fail> {
+    let schedule = puts_at_once(rt.alloc())?;
+    let text = looped(&rt, schedule.as_bytes())?;
+    assert_eq!(rt; replies(text.as_slice()), 64);
+    Ok(())
+}
+
+// More than a buffer holds is sent before the first poll. It comes to its own node, once, in the order of sending.
+#[test]
+fn sockets_keep_what_has_come(rt: HostRuntime) -> Result<(), Fail> {
+    let alloc = rt.alloc();
+    let (first, second) = (node(0), node(1));
+    let mut sockets = bound(&rt, Nodes::new(3).unwrap())?;
+    let mut bytes = [0; 10_000];
+    for number in 0..100 {
+        bytes[0] = number;
+        assert!(rt; sockets.send(alloc, first, second, bytes.as_slice()).is_ok());
+    }
+    assert!(rt; matches!(sockets.poll(alloc, first), Ok(None)));
+    for number in 0..100 {
+        let come = sockets.poll(alloc, second)?.ok_or("a datagram")?;
+        assert_eq!(rt; (come.len(), come.first()), (bytes.len(), Some(&number)));
+    }
+    assert!(rt; matches!(sockets.poll(alloc, second), Ok(None)));
+    Ok(())
+}
+
 // There is no node of a number beyond the last, so nothing is sent to it and it has no address.
 #[test]
 fn sockets_of_three(rt: HostRuntime) -> Result<(), Fail> {
