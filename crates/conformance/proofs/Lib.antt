@@ -1,9 +1,3 @@
-pub mod Adding
 pub mod FixLemmas
 pub mod NameLemmas
-pub mod Filling
-pub mod Executing
-pub mod Sending
-pub mod Stepping
-pub mod Indexing
 pub mod Campaigning

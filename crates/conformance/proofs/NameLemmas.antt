@@ -2,17 +2,17 @@
 use Rattle.std.proofs.Common.{◌≢◌, ℕ, List, codes}
 use Rattle.conformance.specs.Tasks.{scene_name, point_name, query_name, apply_name, encode_name, decode_name}
 use Rattle.conformance.specs.Tasks.{name_of, part_name, text_name, log_name}
-use Rattle.conformance.specs.declared.task.Work.{Work}
-use Rattle.conformance.specs.declared.task.Work.TheVariants.{Scene, Part, Text, Log}
-use Rattle.conformance.specs.declared.task.PartWork.{PartWork}
-use Rattle.conformance.specs.declared.task.TextWork.{TextWork}
-use Rattle.conformance.specs.declared.task.LogWork.{LogWork}
-use Rattle.conformance.specs.declared.task.SceneWork.{SceneWork}
-use Rattle.conformance.specs.declared.task.SceneWork.TheVariants.{Point, Query, Apply, Check, Execute, Encode, Decode}
-use Rattle.conformance.specs.declared.task.PointWork.{PointWork}
-use Rattle.conformance.specs.declared.task.QueryWork.{QueryWork}
-use Rattle.conformance.specs.declared.task.ApplyWork.{ApplyWork}
-use Rattle.conformance.specs.declared.task.Sent.{Sent}
+use Rattle.conformance.specs.declared.timing.task.Work.{Work}
+use Rattle.conformance.specs.declared.timing.task.Work.TheVariants.{Scene, Part, Text, Log}
+use Rattle.conformance.specs.declared.timing.task.PartWork.{PartWork}
+use Rattle.conformance.specs.declared.timing.task.TextWork.{TextWork}
+use Rattle.conformance.specs.declared.timing.task.LogWork.{LogWork}
+use Rattle.conformance.specs.declared.timing.task.SceneWork.{SceneWork}
+use Rattle.conformance.specs.declared.timing.task.SceneWork.TheVariants.{Point, Query, Apply, Check, Execute, Encode, Decode}
+use Rattle.conformance.specs.declared.timing.task.PointWork.{PointWork}
+use Rattle.conformance.specs.declared.timing.task.QueryWork.{QueryWork}
+use Rattle.conformance.specs.declared.timing.task.ApplyWork.{ApplyWork}
+use Rattle.conformance.specs.declared.timing.task.Sent.{Sent}
 
 pub none_named : (word : List ℕ) → ((w : PointWork) → word ≢ point_name w) → ((w : QueryWork) → word ≢ query_name w) →
     ((w : ApplyWork) → word ≢ apply_name w) → ((s : Sent) → word ≢ encode_name s) → ((s : Sent) → word ≢ decode_name s) →

@@ -1,5 +1,5 @@
 -- How the program ends where nothing is done.
-use Rattle.std.specs.Prelude.{◌≡◌, ℕ, List, Err}
+use Rattle.std.specs.Prelude.{◌≡◌, ◌⊎◌, ℕ, List, Err}
 use Rattle.hex.specs.declared.error.FromHexError.{FromHexError}
 use Rattle.hex.specs.declared.error.FromHexError.TheVariants as digits
 use Rattle.mfjson.specs.Faults as documents
@@ -63,3 +63,7 @@ IsNoVote bytes fault = fault ≡ Memory
 abbrev pub DocumentIsRefused : List ℕ → Fault → Type 0
 DocumentIsRefused bytes Memory = Unit {0}
 DocumentIsRefused bytes fault = (why : MfFault) × IsFaultOf bytes why × (fault ≡ of_document why)
+
+-- a work is not done: memory is wanting, or it can't be done on so many things
+abbrev pub IsUntimed : Fault → Type 0
+IsUntimed fault = (fault ≡ Memory) ⊎ (fault ≡ Usage)

@@ -1,26 +1,26 @@
 -- What words ask for.
 use Rattle.std.specs.Prelude.{◌≡◌, ℕ, ◌^◌, ◌<◌, List, [], ◌∷◌, codes}
 use Rattle.std.specs.Str.Parse.{IsNumeral, digits_value, without_leading_plus}
-use Rattle.conformance.specs.declared.task.Task.{Task}
-use Rattle.conformance.specs.declared.task.Work.{Work}
-use Rattle.conformance.specs.declared.task.Work.TheVariants.{Scene, Part, Text, Log}
-use Rattle.conformance.specs.declared.task.SceneWork.{SceneWork}
-use Rattle.conformance.specs.declared.task.SceneWork.TheVariants.{Point, Query, Apply, Check, Execute, Encode, Decode}
-use Rattle.conformance.specs.declared.task.PointWork.{PointWork}
-use Rattle.conformance.specs.declared.task.PointWork.TheVariants.{ValueAt, EverMiddle, EverWhole, AlwaysMiddle, AlwaysWhole}
-use Rattle.conformance.specs.declared.task.PointWork.TheVariants.{CutMiddle, CutWhole, Write, Datetimes}
-use Rattle.conformance.specs.declared.task.QueryWork.{QueryWork}
-use Rattle.conformance.specs.declared.task.QueryWork.TheVariants as query_work
-use Rattle.conformance.specs.declared.task.ApplyWork.{ApplyWork}
-use Rattle.conformance.specs.declared.task.ApplyWork.TheVariants as apply_work
-use Rattle.conformance.specs.declared.task.Sent.{Sent}
-use Rattle.conformance.specs.declared.task.Sent.TheVariants as sent
-use Rattle.conformance.specs.declared.task.PartWork.{PartWork}
-use Rattle.conformance.specs.declared.task.PartWork.TheVariants.{Tellings, Promises, Proposals, Overlapping, Flushed, Pumped}
-use Rattle.conformance.specs.declared.task.TextWork.{TextWork}
-use Rattle.conformance.specs.declared.task.TextWork.TheVariants.{Copied, Written, Restored, WrittenAgain}
-use Rattle.conformance.specs.declared.task.LogWork.{LogWork}
-use Rattle.conformance.specs.declared.task.LogWork.TheVariants.{Put, Trimmed, TrimmedAgain}
+use Rattle.conformance.specs.declared.timing.task.Task.{Task}
+use Rattle.conformance.specs.declared.timing.task.Work.{Work}
+use Rattle.conformance.specs.declared.timing.task.Work.TheVariants.{Scene, Part, Text, Log}
+use Rattle.conformance.specs.declared.timing.task.SceneWork.{SceneWork}
+use Rattle.conformance.specs.declared.timing.task.SceneWork.TheVariants.{Point, Query, Apply, Check, Execute, Encode, Decode}
+use Rattle.conformance.specs.declared.timing.task.PointWork.{PointWork}
+use Rattle.conformance.specs.declared.timing.task.PointWork.TheVariants.{ValueAt, EverMiddle, EverWhole, AlwaysMiddle, AlwaysWhole}
+use Rattle.conformance.specs.declared.timing.task.PointWork.TheVariants.{CutMiddle, CutWhole, Write, Datetimes}
+use Rattle.conformance.specs.declared.timing.task.QueryWork.{QueryWork}
+use Rattle.conformance.specs.declared.timing.task.QueryWork.TheVariants as query_work
+use Rattle.conformance.specs.declared.timing.task.ApplyWork.{ApplyWork}
+use Rattle.conformance.specs.declared.timing.task.ApplyWork.TheVariants as apply_work
+use Rattle.conformance.specs.declared.timing.task.Sent.{Sent}
+use Rattle.conformance.specs.declared.timing.task.Sent.TheVariants as sent
+use Rattle.conformance.specs.declared.timing.task.PartWork.{PartWork}
+use Rattle.conformance.specs.declared.timing.task.PartWork.TheVariants.{Tellings, Promises, Proposals, Overlapping, Flushed, Pumped}
+use Rattle.conformance.specs.declared.timing.task.TextWork.{TextWork}
+use Rattle.conformance.specs.declared.timing.task.TextWork.TheVariants.{Copied, Written, Restored, WrittenAgain}
+use Rattle.conformance.specs.declared.timing.task.LogWork.{LogWork}
+use Rattle.conformance.specs.declared.timing.task.LogWork.TheVariants.{Put, Trimmed, TrimmedAgain}
 
 -- the word for a work
 abbrev pub point_name : PointWork → List ℕ

@@ -1,4 +1,4 @@
-//! Timed loops over queries, documents, commands, frames and the parts of a node; vectors from outside; and every example.
+//! Every example, vectors from outside, and timed loops over queries, documents, commands, frames and the parts of a node.
 //!
 //! `conformance WORK SIZE ROUNDS` does one work so many times, on a moving point of so many points or a part of a node with so
 //! many entries, and prints the sum of the answers, which is the same on every machine. It reads no clock: the scripts in
@@ -7,52 +7,27 @@
 //! is answered with the canonical document; each with its fault where it has one. A line `examples` runs every example of the
 //! folder.
 //!
-//! `task` parses the words, `scene` makes a moving point and what is asked of it. `numbers`, `queries`, `operations`,
-//! `documents`, `execution` and `messages` turn answers into numbers, and `rounds` adds these up. `learners`, `acceptors`,
-//! `leader` and `indexes` do so for the parts of a node, with `requests`, and `parts` adds these up. `texts` has the snapshot text
-//! of a machine, and `logs` the votes in a storage in memory.
+//! `examples` runs the examples, and `outcome` says what each comes to. `vectors` has frames, votes and documents from outside,
+//! and `timing` the loops.
 #![tactic(auto)]
 
-mod acceptors;
-mod carrying;
-mod documents;
 mod examples;
-mod execution;
 mod fault;
-mod fleet;
-mod indexes;
-mod leader;
-mod learners;
-mod logs;
-mod messages;
-mod numbers;
-mod operations;
 mod outcome;
-mod outside;
-mod parts;
-mod queries;
-mod requests;
-mod rounds;
-mod scene;
-mod task;
-mod texts;
+mod timing;
+mod vectors;
 
-ghost use Rattle.std.specs.Prelude.{◌≡◌, ◌≢◌, IfOk, map, string_bytes};
+ghost use Rattle.std.specs.Prelude.{◌≡◌, ◌≢◌, IfErr, IfOk, map, string_bytes};
 ghost use Rattle.std.specs.IoError.{error_kind};
 ghost use Rattle.std.specs.Process.{exit_status};
-ghost use Rattle.conformance.specs.Faults.{status_of};
-ghost use Rattle.conformance.specs.Rounds.{IsSumOf};
+ghost use Rattle.conformance.specs.Faults.{IsUntimed, status_of};
 ghost use Rattle.conformance.specs.Tasks.{AsksForTask};
+ghost use Rattle.conformance.specs.declared.timing.task.Task.{Task};
 
 use crate::examples::run_examples;
 use crate::fault::Fault;
-use crate::logs::log_total;
-use crate::outside::{document_again, frame_again, vote_again};
-use crate::parts::part_total;
-use crate::rounds::scene_total;
-use crate::scene::Scene;
-use crate::task::{Task, Work, task_of};
-use crate::texts::text_total;
+use crate::timing::{sum, task_of};
+use crate::vectors::{document_again, frame_again, vote_again};
 use std::alloc::Global;
 use std::env;
 use std::fmt::Display;
@@ -147,12 +122,14 @@ fn answer(rt: &HostRuntime, line: &str) -> Result<u64, Fault> {
 
 /// The sum of the task that the words ask for.
 fn sum_of(rt: &HostRuntime, words: &[String]) -> Result<u64, Fault>
-    ensures { IfOk result (λ n. (task : Task) × AsksForTask (map string_bytes words.now) task × IsSumOf task n) }
+    ensures asks { IfOk result (λ _. (task : Task) × AsksForTask (map string_bytes words.now) task) }
+    ensures err { IfErr result IsUntimed }
 {
-    match task_of(words) {
-        Some(task) => sum(rt, task),
-        None => Err(Fault::Usage),
-    }
+    let Some(task) = task_of(words) else {
+        return Err(Fault::Usage);
+    };
+    let total = sum(rt.alloc(), task)?;
+    Ok(total)
 }
 
 /// What words that can't be had are to the program: those that are no text ask for nothing.
@@ -163,21 +140,6 @@ fn words_fault(error: &io::Error) -> Fault
     match error.kind() {
         ErrorKind::OutOfMemory => Fault::Memory,
         _ => Fault::Usage,
-    }
-}
-
-/// The sum of what the task's rounds answer.
-fn sum(rt: &HostRuntime, task: Task) -> Result<u64, Fault>
-    ensures { IfOk result (IsSumOf task) }
-{
-    match task.work {
-        Work::Scene(work) => {
-            let scene = Scene::new(rt.alloc(), task.size)?;
-            scene_total(rt.alloc(), work, &scene, task.rounds)
-        }
-        Work::Part(work) => part_total(rt.alloc(), work, task.size, task.rounds),
-        Work::Text(work) => text_total(rt.alloc(), work, task.size, task.rounds),
-        Work::Log(work) => log_total(rt.alloc(), work, task.size, task.rounds),
     }
 }
 

@@ -1,6 +1,0 @@
-use Rattle.conformance.specs.Parts.{IsCarried}
-use Rattle.conformance.specs.Sums.{SumsTo}
-use Rattle.conformance.proofs.parts.pumped_total.Given as goal
-
-abbrev pub invariant-loop : goal.invariant-loop
-invariant-loop l = SumsTo (IsCarried l.requests) l.counter l.total

@@ -1,7 +1,0 @@
-use Rattle.conformance.specs.Rounds.{SceneAnswers}
-use Rattle.conformance.specs.declared.task.SceneWork.TheVariants.{Query}
-use Rattle.conformance.specs.Sums.{SumsTo}
-use Rattle.conformance.proofs.rounds.query_total.Given as goal
-
-abbrev pub invariant-loop-round : goal.invariant-loop-round
-invariant-loop-round l = SumsTo (SceneAnswers (Query l.work) l.scene) l.round l.total

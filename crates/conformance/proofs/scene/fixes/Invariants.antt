@@ -1,5 +1,0 @@
-use Rattle.conformance.specs.Scenes.{AreFixes}
-use Rattle.conformance.proofs.scene.fixes.Given as goal
-
-abbrev pub invariant-loop-k : goal.invariant-loop-k
-invariant-loop-k l = AreFixes l.k l.points.items
