@@ -13,6 +13,10 @@ use wire::NodeId;
 pub struct TransportFault;
 
 impl fmt::Display for TransportFault {
+    ghost use Rattle.std.specs.Prelude.{Some, codes};
+
+    ghost output = { λ _. Some (codes "the transport failed") };
+
     fn fmt<W: fmt::Write>(&self, f: &mut fmt::Formatter<W>) -> fmt::Result {
         f.write_str("the transport failed")
     }

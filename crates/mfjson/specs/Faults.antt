@@ -1,6 +1,7 @@
 -- Why bytes are no document: for each fault the rule that is broken, and which fault is told.
-use Rattle.std.specs.Prelude.{◌≡◌, ◌≢◌, ◌⊎◌, ℕ, ◌+◌, ◌<◌, ◌≤◌, ℤ, List, [], ◌∷◌, length, codes, slice_get, Option, Some, None, IsSome}
+use Rattle.std.specs.Prelude.{◌≡◌, ◌≢◌, ◌⊎◌, ℕ, ◌+◌, ◌<◌, ◌≤◌, ℤ, List, [], ◌∷◌, ◌++◌, length, codes, slice_get, Option, Some, None, IsSome}
 use Rattle.std.specs.Prelude.{unwrap_or}
+use Rattle.std.specs.Fmt.{decimal}
 use Rattle.serde_json.specs.Data.{Data, Num, null, number, string, array, Items, no_items, item}
 use Rattle.serde_json.specs.Find.{get, as_array, as_i64}
 use Rattle.tpoint.specs.declared.interp.Interp.{Interp}
@@ -152,6 +153,22 @@ index_of (Datetime i) = Some i
 index_of (Coordinates i) = Some i
 index_of (Order i) = Some i
 index_of _ = None
+
+-- what is printed of a fault
+abbrev pub fault_text : MfFault → List ℕ
+fault_text NotJson = codes "the bytes are no JSON text"
+fault_text Members = codes "the value hasn't exactly a feature's members"
+fault_text NotFeature = codes "the type is not Feature"
+fault_text Id = codes "the id is no id"
+fault_text Geometry = codes "the geometry is no moving point's"
+fault_text Interpolation = codes "the interpolation is unknown"
+fault_text (Datetime i) = codes "datetime " ++ (decimal i ++ codes " is none")
+fault_text (Coordinates i) = codes "coordinates " ++ (decimal i ++ codes " are no whole numbers in range")
+fault_text Lengths = codes "there are not as many datetimes as coordinates"
+fault_text Empty = codes "there are no datetimes"
+fault_text TooMany = codes "there are too many datetimes"
+fault_text (Order i) = codes "datetime " ++ (decimal i ++ codes " is not later than the one before it")
+fault_text Memory = codes "out of memory"
 
 abbrev pub place_of : MfFault → ℕ
 place_of fault = unwrap_or (index_of fault) 0

@@ -76,34 +76,36 @@ impl MfFault {
             _ => None,
         }
     }
-
-    /// Its text; or where it tells of an element, what stands before the index and what behind it.
-    fn words(self) -> (&'static str, &'static str) {
-        match self {
-            MfFault::NotJson => ("the bytes are no JSON text", ""),
-            MfFault::Members => ("the value hasn't exactly a feature's members", ""),
-            MfFault::NotFeature => ("the type is not Feature", ""),
-            MfFault::Id => ("the id is no id", ""),
-            MfFault::Geometry => ("the geometry is no moving point's", ""),
-            MfFault::Interpolation => ("the interpolation is unknown", ""),
-            MfFault::Datetime(_) => ("datetime", "is none"),
-            MfFault::Coordinates(_) => ("coordinates", "are no whole numbers in range"),
-            MfFault::Lengths => ("there are not as many datetimes as coordinates", ""),
-            MfFault::Empty => ("there are no datetimes", ""),
-            MfFault::TooMany => ("there are too many datetimes", ""),
-            MfFault::Order(_) => ("datetime", "is not later than the one before it"),
-            MfFault::Memory => ("out of memory", ""),
-        }
-    }
 }
 
 impl fmt::Display for MfFault {
+    ghost use Rattle.std.specs.Prelude.{Some};
+    ghost use Rattle.mfjson.specs.Faults.{fault_text};
+
+    ghost output = { λ fault. Some (fault_text fault) };
+
     fn fmt<W: fmt::Write>(&self, f: &mut fmt::Formatter<W>) -> fmt::Result {
-        let (text, behind) = self.words();
-        match self.index() {
-            Some(index) => write!(f, "{text} {index} {behind}"),
-            None => f.write_str(text),
-        }
+        f.write_str(match *self {
+            MfFault::NotJson => "the bytes are no JSON text",
+            MfFault::Members => "the value hasn't exactly a feature's members",
+            MfFault::NotFeature => "the type is not Feature",
+            MfFault::Id => "the id is no id",
+            MfFault::Geometry => "the geometry is no moving point's",
+            MfFault::Interpolation => "the interpolation is unknown",
+            MfFault::Datetime(i) => return write!(f, "datetime {i} is none"),
+            MfFault::Coordinates(i) => return write!(
+                f,
+                "coordinates {i} are no whole numbers in range"
+            ),
+            MfFault::Lengths => "there are not as many datetimes as coordinates",
+            MfFault::Empty => "there are no datetimes",
+            MfFault::TooMany => "there are too many datetimes",
+            MfFault::Order(i) => return write!(
+                f,
+                "datetime {i} is not later than the one before it"
+            ),
+            MfFault::Memory => "out of memory",
+        })
     }
 }
 

@@ -1,5 +1,5 @@
--- The numbers of faults.
-use Rattle.std.specs.Prelude.{ℕ, Bool, true, false}
+-- The numbers and the texts of faults.
+use Rattle.std.specs.Prelude.{ℕ, Bool, true, false, List, codes}
 use Rattle.proposer.specs.declared.fault.SubmitFault.{SubmitFault}
 use Rattle.proposer.specs.declared.fault.SubmitFault.TheVariants as submit_fault
 use Rattle.proposer.specs.declared.fault.TimeoutFault.{TimeoutFault}
@@ -47,3 +47,15 @@ abbrev pub of_timeout : TimeoutFault → NodeFault
 of_timeout timeout_fault.RoundsUsedUp = RoundsUsedUp
 of_timeout timeout_fault.Device = Device
 of_timeout timeout_fault.Memory = Memory
+
+-- ---- what is printed
+abbrev pub fault_text : NodeFault → List ℕ
+fault_text Down = codes "the node is down"
+fault_text LogFull = codes "the whole log is executed"
+fault_text RoundsUsedUp = codes "no round is left"
+fault_text QueueFull = codes "as many requests wait as may"
+fault_text TooLong = codes "the sequence is too long for a request"
+fault_text NothingNew = codes "nothing was executed since the last checkpoint"
+fault_text Device = codes "the storage failed"
+fault_text Memory = codes "out of memory"
+fault_text Damaged = codes "a record is damaged"

@@ -64,6 +64,11 @@ impl NodeFault {
 }
 
 impl fmt::Display for NodeFault {
+    ghost use Rattle.std.specs.Prelude.{Some};
+    ghost use Rattle.node_model.specs.Faults.{fault_text};
+
+    ghost output = { λ fault. Some (fault_text fault) };
+
     fn fmt<W: fmt::Write>(&self, f: &mut fmt::Formatter<W>) -> fmt::Result {
         f.write_str(match self {
             NodeFault::Down => "the node is down",

@@ -15,6 +15,11 @@ pub enum SubmitFault {
 }
 
 impl fmt::Display for SubmitFault {
+    ghost use Rattle.std.specs.Prelude.{Some};
+    ghost use Rattle.proposer.specs.Faults.{submit_text};
+
+    ghost output = { λ fault. Some (submit_text fault) };
+
     fn fmt<W: fmt::Write>(&self, f: &mut fmt::Formatter<W>) -> fmt::Result {
         f.write_str(match self {
             SubmitFault::QueueFull => "as many requests wait as may",
@@ -48,6 +53,11 @@ pub enum TimeoutFault {
 }
 
 impl fmt::Display for TimeoutFault {
+    ghost use Rattle.std.specs.Prelude.{Some};
+    ghost use Rattle.proposer.specs.Faults.{timeout_text};
+
+    ghost output = { λ fault. Some (timeout_text fault) };
+
     fn fmt<W: fmt::Write>(&self, f: &mut fmt::Formatter<W>) -> fmt::Result {
         f.write_str(match self {
             TimeoutFault::RoundsUsedUp => "no round is left",

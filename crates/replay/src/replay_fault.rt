@@ -42,6 +42,11 @@ impl ReplayCause {
 }
 
 impl fmt::Display for ReplayCause {
+    ghost use Rattle.std.specs.Prelude.{Some};
+    ghost use Rattle.replay.specs.Causes.{cause_text};
+
+    ghost output = { λ cause. Some (cause_text cause) };
+
     fn fmt<W: fmt::Write>(&self, f: &mut fmt::Formatter<W>) -> fmt::Result {
         f.write_str(match self {
             ReplayCause::Schedule(fault) => return fault.fmt(f),
@@ -79,6 +84,11 @@ pub struct ReplayFault {
 }
 
 impl fmt::Display for ReplayFault {
+    ghost use Rattle.std.specs.Prelude.{Some};
+    ghost use Rattle.replay.specs.Causes.{replay_text};
+
+    ghost output = { λ fault. Some (replay_text fault) };
+
     fn fmt<W: fmt::Write>(&self, f: &mut fmt::Formatter<W>) -> fmt::Result {
         write!(f, "line {}: {}", self.line, self.cause)
     }

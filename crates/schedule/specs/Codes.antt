@@ -1,5 +1,9 @@
--- The numbers of the faults.
-use Rattle.std.specs.Prelude.{ℕ, ◌≤◌}
+-- The numbers and the texts of the faults.
+use Rattle.std.specs.Prelude.{ℕ, ◌≤◌, List, ◌++◌, codes}
+use Rattle.std.specs.Fmt.{decimal}
+use Rattle.schedule.specs.declared.fault.LineFault.{LineFault}
+use Rattle.schedule.specs.declared.fault.ParseFault.{ParseFault}
+use Rattle.schedule.specs.declared.fault.ParseFault.TheVariants as parse_fault
 use Rattle.schedule.specs.declared.fault.ScheduleFault.{ScheduleFault}
 use Rattle.schedule.specs.declared.fault.ScheduleFault.TheVariants.{NotPrintable, UnknownWord, NodesLine, WordCount, WordForm, Document}
 
@@ -15,3 +19,23 @@ code_of Document = 6
 pub record IsLowestFault (Has : ScheduleFault → Type 0) (fault : ScheduleFault) : Type 0 where
   pub is_there : Has fault
   pub lowest : (other : ScheduleFault) → Has other → code_of fault ≤ code_of other
+
+-- ---- what is printed
+abbrev pub fault_text : ScheduleFault → List ℕ
+fault_text NotPrintable = codes "a byte is not printable"
+fault_text UnknownWord = codes "no line begins so"
+fault_text NodesLine = codes "the line `nodes` is missing, or isn't right"
+fault_text WordCount = codes "too few or too many words"
+fault_text WordForm = codes "a word isn't what its place wants"
+fault_text Document = codes "the document stands for no feature"
+
+-- a line's number, and what is wrong with it
+abbrev pub at_line : ℕ → List ℕ → List ℕ
+at_line line text = codes "line " ++ (decimal line ++ (codes ": " ++ text))
+
+abbrev pub line_fault_text : LineFault → List ℕ
+line_fault_text at = at_line at.line (fault_text at.fault)
+
+abbrev pub parse_fault_text : ParseFault → List ℕ
+parse_fault_text (parse_fault.Line at) = line_fault_text at
+parse_fault_text (parse_fault.Memory line) = at_line line (codes "out of memory")

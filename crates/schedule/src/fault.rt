@@ -40,6 +40,11 @@ impl ScheduleFault {
 }
 
 impl fmt::Display for ScheduleFault {
+    ghost use Rattle.std.specs.Prelude.{Some};
+    ghost use Rattle.schedule.specs.Codes.{fault_text};
+
+    ghost output = { λ fault. Some (fault_text fault) };
+
     fn fmt<W: fmt::Write>(&self, f: &mut fmt::Formatter<W>) -> fmt::Result {
         f.write_str(match self {
             ScheduleFault::NotPrintable => "a byte is not printable",
@@ -63,6 +68,11 @@ pub struct LineFault {
 }
 
 impl fmt::Display for LineFault {
+    ghost use Rattle.std.specs.Prelude.{Some};
+    ghost use Rattle.schedule.specs.Codes.{line_fault_text};
+
+    ghost output = { λ fault. Some (line_fault_text fault) };
+
     fn fmt<W: fmt::Write>(&self, f: &mut fmt::Formatter<W>) -> fmt::Result {
         write!(f, "line {}: {}", self.line, self.fault)
     }
@@ -80,6 +90,11 @@ pub enum ParseFault {
 }
 
 impl fmt::Display for ParseFault {
+    ghost use Rattle.std.specs.Prelude.{Some};
+    ghost use Rattle.schedule.specs.Codes.{parse_fault_text};
+
+    ghost output = { λ fault. Some (parse_fault_text fault) };
+
     fn fmt<W: fmt::Write>(&self, f: &mut fmt::Formatter<W>) -> fmt::Result {
         match self {
             ParseFault::Line(fault) => fault.fmt(f),

@@ -30,6 +30,11 @@ impl SnapFault {
 }
 
 impl fmt::Display for SnapFault {
+    ghost use Rattle.std.specs.Prelude.{Some};
+    ghost use Rattle.sessions.specs.SessionReplies.{fault_text};
+
+    ghost output = { λ fault. Some (fault_text fault) };
+
     fn fmt<W: fmt::Write>(&self, f: &mut fmt::Formatter<W>) -> fmt::Result {
         match self {
             SnapFault::Damaged => f.write_str("the bytes are the snapshot text of no machine"),

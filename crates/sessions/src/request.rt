@@ -39,6 +39,11 @@ impl Drop for Request {
 pub struct TooLong;
 
 impl fmt::Display for TooLong {
+    ghost use Rattle.std.specs.Prelude.{Some};
+    ghost use Rattle.sessions.specs.SessionReplies.{too_long_text};
+
+    ghost output = { λ _. Some too_long_text };
+
     fn fmt<W: fmt::Write>(&self, f: &mut fmt::Formatter<W>) -> fmt::Result {
         write!(f, "the sequence has more than {MOST_PUT_POINTS} instants")
     }

@@ -1,5 +1,6 @@
 -- Why points are refused.
-use Rattle.std.specs.Prelude.{◌≡◌, ℕ, ◌+◌, ◌-◌, ◌<◌, ◌≤◌, List, length, Option, Some, None}
+use Rattle.std.specs.Prelude.{◌≡◌, ℕ, ◌+◌, ◌-◌, ◌<◌, ◌≤◌, List, ◌++◌, length, codes, Option, Some, None}
+use Rattle.std.specs.Fmt.{decimal}
 use Rattle.tpoint.specs.Places.{EachAt}
 use Rattle.tpoint.specs.Moving.{Rises, InBounds}
 use Rattle.tpoint.specs.declared.point.Point.{Point}
@@ -42,6 +43,13 @@ seq_fault_code seq_fault.TooMany = 2
 seq_fault_code (seq_fault.NotIncreasing i) = 3
 seq_fault_code (seq_fault.Range i) = 4
 
+-- what is printed of it
+abbrev pub seq_fault_text : SeqFault → List ℕ
+seq_fault_text seq_fault.Empty = codes "there is no point"
+seq_fault_text seq_fault.TooMany = codes "there are too many points"
+seq_fault_text (seq_fault.NotIncreasing i) = codes "point " ++ (decimal i ++ codes " is not later than the one before it")
+seq_fault_text (seq_fault.Range i) = codes "point " ++ (decimal i ++ codes " has a coordinate out of range")
+
 -- ---- a point that is not appended
 -- it is later than the last point
 pub record IsLater (ps : List Point) (p : Point) : Type 0 where
@@ -65,3 +73,10 @@ append_fault_code append_fault.NotLater = Some 22
 append_fault_code append_fault.Full = Some 23
 append_fault_code append_fault.Range = Some 4
 append_fault_code append_fault.Memory = None
+
+-- what is printed of it
+abbrev pub append_fault_text : AppendFault → List ℕ
+append_fault_text append_fault.NotLater = codes "the point is not later than the last one"
+append_fault_text append_fault.Full = codes "the sequence has no room for a point more"
+append_fault_text append_fault.Range = codes "the point has a coordinate out of range"
+append_fault_text append_fault.Memory = codes "out of memory"

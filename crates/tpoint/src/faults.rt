@@ -38,6 +38,11 @@ impl SeqFault {
 }
 
 impl fmt::Display for SeqFault {
+    ghost use Rattle.std.specs.Prelude.{Some};
+    ghost use Rattle.tpoint.specs.Faults.{seq_fault_text};
+
+    ghost output = { λ fault. Some (seq_fault_text fault) };
+
     fn fmt<W: fmt::Write>(&self, f: &mut fmt::Formatter<W>) -> fmt::Result {
         match *self {
             SeqFault::Empty => f.write_str("there is no point"),
@@ -84,6 +89,11 @@ impl AppendFault {
 }
 
 impl fmt::Display for AppendFault {
+    ghost use Rattle.std.specs.Prelude.{Some};
+    ghost use Rattle.tpoint.specs.Faults.{append_fault_text};
+
+    ghost output = { λ fault. Some (append_fault_text fault) };
+
     fn fmt<W: fmt::Write>(&self, f: &mut fmt::Formatter<W>) -> fmt::Result {
         f.write_str(match self {
             AppendFault::NotLater => "the point is not later than the last one",
