@@ -12,6 +12,5 @@ mod run;
 mod sockets;
 mod words;
 
-pub use commands::Archive;
 pub use process::program;
 pub use run::command;

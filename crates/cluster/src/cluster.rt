@@ -15,10 +15,12 @@ ghost use Rattle.cluster.specs.Pumps.{PumpBreaksOff, IsPass, OnlyDelivers, Polls
 
 use super::indexed_world::IndexedWorld;
 use super::transport::Transport;
+use events::{Event, WorldFault};
 use stable::{MemStable, Scripted, Stable};
 use std::alloc::{AllocError, Global};
 use wire::{LONGEST_FRAME, NodeId};
-use world::{Event, RoundEnd, World, WorldFault};
+use world::World;
+use world_model::RoundEnd;
 
 /// So many passes in a row without a Deliver end a pump.
 pub const MOST_IDLE_PASSES: u32 = 100;

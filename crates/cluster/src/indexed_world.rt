@@ -10,11 +10,13 @@ ghost use Rattle.world_model.specs.Worlds.{Steps};
 ghost use Rattle.cluster.specs.Indexes.{Indexes, number_of, spellings};
 ghost use Rattle.cluster.specs.Lowest.{IsLowestFrame, IsStranger};
 
+use events::{Event, WorldFault};
 use stable::{MemStable, Scripted, Stable};
 use std::alloc::{AllocError, Global};
 use std::collections::HashMap;
 use wire::NodeId;
-use world::{Event, RoundEnd, World, WorldFault};
+use world::World;
+use world_model::RoundEnd;
 
 /// A world, and of the frames that it has sent the lowest with each spelling.
 ///

@@ -8,12 +8,12 @@ ghost use Rattle.world_model.specs.Staying.{IsSafeOver};
 ghost use Rattle.commands.specs.Loops.{IsDone, IsRefused, RunFails, RunsTo, strangers_line, text_of};
 
 use cluster::{Cluster, Transport};
+use events::WorldFault;
 use replay::{ReplayCause, ReplayFault, transcript};
 use schedule::{Action, Schedule, ScheduleLine};
 use stable::{MemStable, Scripted, Stable};
 use std::alloc::{AllocError, Global};
 use std::io::{self, Write};
-use world::WorldFault;
 
 /// The transcript of all that happened in the cluster's world once the schedule's lines are done, and behind it how many strangers
 /// came.

@@ -5,6 +5,7 @@ ghost use Rattle.conformance.specs.Faults.{status_of, of_document, of_submit, of
 ghost use Rattle.conformance.specs.declared.fault.Fault.TheVariants.{Usage, Memory};
 
 use commands::Failure;
+use events::WorldFault;
 use hex::FromHexError;
 use mfjson::MfFault;
 use proposer::{SubmitFault, TimeoutFault};
@@ -14,7 +15,6 @@ use std::alloc::{AllocError, AllocFailed};
 use thiserror::Error;
 use tpoint::SeqFault;
 use wire::WireFault;
-use world::WorldFault;
 
 /// Why a task is not done.
 #[derive(Clone, Copy, Debug, Drop, Error)]

@@ -17,4 +17,3 @@ pub use allowed::{decided_is_allowed, prefix_never_falls, skipping_is_allowed, v
 pub use learned::Learned;
 pub use learner::Learner;
 pub use prefixes::prefix_is_first_unlearnt;
-pub use wire::SharedCommand;

@@ -11,5 +11,3 @@ mod sends;
 mod snapshots;
 
 pub use node::Node;
-pub use node_model::{AnswerText, Input, LearntCommand, MOST_SENDS, NodeFault, Outputs, ReplyOut};
-pub use proposer::MOST_WAITING;

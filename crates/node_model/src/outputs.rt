@@ -3,12 +3,11 @@
 ghost use Rattle.std.specs.Prelude.{◌≡◌};
 ghost use Rattle.node_model.specs.Outputs.{sent, silence};
 
-use learner::SharedCommand;
 use sessions::Number;
 use std::alloc::Global;
 use std::marker::Model;
 use synod::Slot;
-use wire::{Frame, Position};
+use wire::{Frame, Position, SharedCommand};
 
 /// At most this many messages are sent on an input: eight proposals to each of seven nodes, and a question to six of them.
 pub const MOST_SENDS: usize = 62;

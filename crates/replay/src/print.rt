@@ -4,10 +4,11 @@ ghost use Rattle.std.specs.Prelude.{◌≡◌, ◌++◌, OnOk, flat_map};
 ghost use Rattle.replay.specs.Transcripts.{answer_line, learn_line, refuse_line, reply_line, restore_line, round_line, stop_line};
 
 use super::entry_lines::{add_answer, add_learn, add_reply};
+use node_model::NodeFault;
 use sessions::Command;
 use std::io::{self, Write};
 use wire::{NodeId, Position};
-use world::{Answered, LearntEntry, NodeFault, Replied, RoundEnd};
+use world_model::{Answered, LearntEntry, Replied, RoundEnd};
 
 /// Adds the lines of what nodes learnt.
 pub(crate) fn print_learnt(text: &mut Vec<u8>, entries: &[LearntEntry]) -> io::Result<()>

@@ -3,10 +3,10 @@
 ghost use Rattle.std.specs.Prelude.{◌≡◌};
 ghost use Rattle.replay.specs.Causes.{cause_code, cause_of, fault_of};
 
+use events::WorldFault;
 use schedule::{ParseFault, ScheduleFault};
 use std::error::Error;
 use std::fmt;
-use world::WorldFault;
 
 /// Why a line of a run was not done.
 #[derive(Clone, Copy, Debug, PartialEq, Eq)]

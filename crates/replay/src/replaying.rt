@@ -12,10 +12,11 @@ ghost use Rattle.replay.specs.Runs.{RunsTo, told_of};
 use super::replay_fault::{ReplayCause, ReplayFault};
 use super::replayed::Replayed;
 use super::report::transcript;
+use events::WorldFault;
 use schedule::{Action, Schedule, ScheduleLine, parse_schedule};
 use stable::{MemStable, Scripted, Stable};
 use std::alloc::{AllocError, Global};
-use world::{World, WorldFault, fresh_stores};
+use world::{World, fresh_stores};
 
 /// The run that the bytes spell, over records in memory: its transcript, and the world in which it ends.
 ///

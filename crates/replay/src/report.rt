@@ -10,7 +10,7 @@ use super::print::{
 use std::alloc::{AllocError, Global};
 use std::io;
 use std::marker::Model;
-use world::{Answered, LearntEntry, Replied, StepOutcome};
+use world_model::{Answered, LearntEntry, Replied, StepOutcome};
 
 /// The transcript of a run: the lines of its outcomes, in order, each ended by a line feed.
 ///

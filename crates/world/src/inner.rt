@@ -15,14 +15,16 @@ ghost use Rattle.world_model.specs.Worlds.{came_of};
 ghost use Rattle.world_model.specs.Waiting.{NoneWaitsBelow};
 
 use super::start::start_nodes;
-use learner::SharedCommand;
-use node::{Input, LearntCommand, MOST_SENDS, MOST_WAITING, Node, NodeFault, Outputs, ReplyOut};
+use events::WorldFault;
+use node::Node;
+use node_model::{Input, LearntCommand, MOST_SENDS, NodeFault, Outputs, ReplyOut};
+use proposer::MOST_WAITING;
 use slot_table::SlotTable;
 use stable::{Scripted, Stable};
 use std::alloc::Global;
 use synod::{MOST_NODES, Slot};
-use wire::{Frame, NodeId, Nodes, Position};
-use world_model::{Answered, LearntEntry, Replied, RoundEnd, StepOutcome, Submission, WorldFault};
+use wire::{Frame, NodeId, Nodes, Position, SharedCommand};
+use world_model::{Answered, LearntEntry, Replied, RoundEnd, StepOutcome, Submission};
 
 /// All nodes of a run, over storages of one kind.
 #[derive(Drop)]

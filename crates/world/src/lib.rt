@@ -22,7 +22,3 @@ mod world;
 pub use log::{MOST_DELIVERIES, limits};
 pub use start::fresh_stores;
 pub use world::World;
-pub use world_model::{
-    AnswerText, Answered, Event, LearntEntry, NodeFault, Replied, RoundEnd, StepOutcome,
-    Submission, WorldFault,
-};

@@ -11,10 +11,11 @@ ghost use Rattle.world_model.specs.Waiting.{NoneWaits, OneWaits, IsLowestWaiting
 use super::flags::first_set;
 use super::inner::{Inner, QUIET};
 use super::log::MOST_DELIVERIES;
+use events::WorldFault;
 use stable::{Scripted, Stable};
 use std::alloc::Global;
 use wire::{Envelope, NodeId};
-use world_model::{StepOutcome, WorldFault};
+use world_model::StepOutcome;
 
 impl<S: Stable> Inner<S> {
     ghost use Rattle.world_model.specs.Worlds.{TakesAt, ReceivesAt};

@@ -7,12 +7,13 @@ ghost use Rattle.world_model.specs.Rounds.{IsGreatestTold, IsQuorum, NoneRefuses
 ghost use Rattle.world_model.specs.declared.round_end.RoundEnd.TheVariants as end;
 
 use super::inner::Inner;
-use node::NodeFault;
+use events::WorldFault;
+use node_model::NodeFault;
 use stable::{Scripted, Stable};
 use std::alloc::Global;
 use synod::{Ballot, Slot};
 use wire::{Envelope, Frame, Message, NodeId};
-use world_model::{RoundEnd, WorldFault};
+use world_model::RoundEnd;
 
 impl<S: Stable> Inner<S> {
     ghost use Rattle.world.specs.Inner.{inner_of};

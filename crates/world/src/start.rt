@@ -7,12 +7,12 @@ ghost use Rattle.stable.specs.Records.{no_records};
 ghost use Rattle.world_model.specs.Flushing.{IsStarted, HaveStarted};
 ghost use Rattle.world_model.specs.Starting.{AreOver, StorageIsUsed, OneIsUsed, WasRead};
 
+use events::WorldFault;
 use node::Node;
 use stable::{MemStable, Scripted, Stable, StableFault};
 use std::alloc::{AllocError, Global};
 use synod::MOST_NODES;
 use wire::{NodeId, Nodes};
-use world_model::WorldFault;
 
 /// Empty records in memory, for so many nodes.
 pub fn fresh_stores(alloc: Global, count: Nodes) -> Result<Vec<MemStable>, AllocError>

@@ -5,13 +5,14 @@ ghost use Rattle.std.specs.Prelude.{OnOk, OnErr, IsErrOf, ◌⊎◌, Bool, IfErr
 ghost use Rattle.store.specs.Operations.{OpIsValid};
 
 use super::inner::{Inner, QUIET};
-use node::{AnswerText, Input};
+use events::{Event, WorldFault};
+use node_model::{AnswerText, Input};
 use sessions::Number;
 use stable::{Failing, Scripted, Stable};
 use std::alloc::Global;
 use store::{Op, Query};
 use wire::NodeId;
-use world_model::{Answered, Event, StepOutcome, Submission, WorldFault};
+use world_model::{Answered, StepOutcome, Submission};
 
 impl<S: Stable> Inner<S> {
     ghost use Rattle.world_model.specs.Worlds.{TakesAt, SubmitsAt, ArmsAt, AsksAt};

@@ -9,13 +9,12 @@ ghost use Rattle.world_model.specs.Fired.{HasFewFaults};
 use super::inner::Inner;
 use super::log::MOST_DELIVERIES;
 use super::start::fresh_stores;
+use events::{Event, WorldFault};
 use stable::{MemStable, Put, Scripted, Stable};
 use std::alloc::Global;
 use synod::MOST_NODES;
 use wire::{Frame, NodeId, Nodes};
-use world_model::{
-    Answered, Event, LearntEntry, Replied, RoundEnd, StepOutcome, Submission, WorldFault,
-};
+use world_model::{Answered, LearntEntry, Replied, RoundEnd, StepOutcome, Submission};
 
 /// All nodes of a run, over storages of one kind.
 ///

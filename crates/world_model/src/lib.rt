@@ -9,12 +9,10 @@ mod laws;
 mod lists;
 mod round_end;
 
-pub use events::{Event, WorldFault};
 pub use explaining::{one_log_explains, start_keeps_lists, steps_keep_lists};
 pub use laws::{
     answers_are_one, armed_reads_fire, ballots_never_fall, lists_are_as_told, promises_never_fall,
     replies_are_one,
 };
 pub use lists::{Answered, LearntEntry, Replied, StepOutcome, Submission};
-pub use node_model::{AnswerText, NodeFault};
 pub use round_end::RoundEnd;

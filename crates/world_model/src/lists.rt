@@ -1,12 +1,11 @@
 //! What a world remembers of its run.
 
 use super::round_end::RoundEnd;
-use learner::SharedCommand;
 use node_model::{AnswerText, NodeFault};
 use sessions::Number;
 use store::{Op, Query};
 use synod::Slot;
-use wire::{NodeId, Position};
+use wire::{NodeId, Position, SharedCommand};
 
 /// A request that a node took.
 #[derive(Drop)]

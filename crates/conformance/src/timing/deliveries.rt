@@ -6,12 +6,13 @@ use super::fleet::name;
 use super::requests::CLIENT;
 use crate::fault::Fault;
 use cluster::{Cluster, Queues};
+use events::Event;
 use sessions::Number;
 use stable::MemStable;
 use std::alloc::Global;
 use store::Op;
 use wire::{NodeId, Nodes};
-use world::{Event, World};
+use world::World;
 
 /// So many requests of the client are made at a time, as many as may wait.
 const BATCH: u16 = 64;

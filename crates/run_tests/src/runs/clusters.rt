@@ -4,6 +4,7 @@ ghost use Rattle.std.specs.Prelude.{[], ◌<◌};
 
 use crate::runs::transcripts::ROUND_LINES;
 use cluster::{Cluster, Queues, Transport, TransportFault};
+use events::{Event, WorldFault};
 use replay::transcript;
 use sessions::Number;
 use stable::MemStable;
@@ -13,7 +14,8 @@ use store::Op;
 use synod::Slot;
 use tpoint::Id;
 use wire::{NodeId, Nodes};
-use world::{Event, RoundEnd, World, WorldFault};
+use world::World;
+use world_model::RoundEnd;
 
 pub(crate) fn node(value: u8) -> NodeId
     requires { value < 7 }

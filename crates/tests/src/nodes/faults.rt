@@ -2,7 +2,7 @@
 
 use super::tables_hold;
 use super::test_nodes::{Member, TestNodes};
-use node::NodeFault;
+use node_model::NodeFault;
 use stable::{Key, MemStable, Stable};
 use std::alloc::Global;
 use std::test::Fail;

@@ -2,7 +2,7 @@
 
 use super::test_nodes::TestNodes;
 use super::{rows_follow, tables_hold};
-use node::NodeFault;
+use node_model::NodeFault;
 use std::alloc::Global;
 use std::test::Fail;
 use synod::SLOTS;

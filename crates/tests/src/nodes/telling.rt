@@ -1,6 +1,6 @@
 //! What nodes tell, as text: one thing after another, parted by semicolons.
 
-use node::{LearntCommand, NodeFault, ReplyOut};
+use node_model::{LearntCommand, NodeFault, ReplyOut};
 use sessions::Command;
 use stable::{Key, Put};
 use std::alloc::{AllocError, Global};

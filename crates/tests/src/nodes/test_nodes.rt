@@ -14,7 +14,8 @@ use super::letters::{envelope, node_id, number, numbers, removal, small};
 use super::telling::{
     tell_fault, tell_learnt, tell_replies, tell_restored, tell_sends, tell_writes,
 };
-use node::{Input, Node, NodeFault, Outputs};
+use node::Node;
+use node_model::{Input, NodeFault, Outputs};
 use stable::{Failing, MemStable, Scripted};
 use std::alloc::{AllocError, Global};
 use std::fmt::Write;
