@@ -14,7 +14,7 @@ use Rattle.events.specs.declared.fault.WorldFault.TheVariants as fault
 use Rattle.world_model.specs.declared.round_end.RoundEnd.{RoundEnd}
 use Rattle.world_model.specs.Rounds.{RoundEnds, IsPartOfRound}
 use Rattle.world_model.specs.Worlds.{WorldState, Steps}
-use Rattle.world_model.proofs.FramesGrow.{BeginWith, step_grows, round_grows}
+use Rattle.world_model.proofs.Progress.FramesGrow.{BeginWith, step_grows, round_grows}
 use Rattle.cluster.specs.Clusters.{HasPassed, sending}
 use Rattle.cluster.specs.Passages.{Passage, Sent}
 use Rattle.cluster.specs.declared.transport.Transport.{Ghosts as Transports}

@@ -21,8 +21,8 @@ use Rattle.events.specs.declared.fault.WorldFault.TheVariants as fault
 use Rattle.world_model.specs.declared.round_end.RoundEnd.{RoundEnd}
 use Rattle.world_model.specs.Rounds.{RoundEnds, IsPartOfRound}
 use Rattle.world_model.specs.Worlds.{WorldState, Steps}
-use Rattle.world_model.proofs.FramesGrow.{BeginWith, step_grows, round_grows}
-use Rattle.world_model.proofs.Handing.{within_more}
+use Rattle.world_model.proofs.Progress.FramesGrow.{BeginWith, step_grows, round_grows}
+use Rattle.world_model.proofs.Progress.Handing.{within_more}
 use Rattle.cluster.specs.Indexes.{Indexes, IsFirstSpelled, NoneBelow, number_of, spellings}
 use Rattle.cluster.specs.Lowest.{GoesAs, IsLowestFrame, IsStranger}
 

@@ -13,8 +13,8 @@ use Rattle.node_model.specs.Outputs.{Response}
 use Rattle.node.specs.declared.node.Node.{Node}
 use Rattle.node.specs.Seen.{state_of}
 use Rattle.world_model.specs.Memberships.{IsMembership}
-use Rattle.world_model.proofs.MembershipLemmas.{NodeLeaves, node_leaves}
-use Rattle.world_model.proofs.MembershipSteps.{membership_with}
+use Rattle.world_model.proofs.Steps.MembershipLemmas.{NodeLeaves, node_leaves}
+use Rattle.world_model.proofs.Steps.MembershipSteps.{membership_with}
 use Rattle.world.proofs.WorldLemmas.{lent_at, shown_set}
 
 module _ {S : Type 0} where

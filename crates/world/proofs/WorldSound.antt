@@ -21,11 +21,11 @@ use Rattle.world_model.specs.Safety.{IsSafe, IsSoundIfHonest, contents_inside, h
 use Rattle.world_model.specs.Staying.{StaysSafe}
 use Rattle.world_model.specs.Worlds.{WorldState, Steps}
 use Rattle.world.specs.Inner.{inner_of}
-use Rattle.world_model.proofs.FiredLemmas.{honest_outside}
-use Rattle.world_model.proofs.ListedPuts.{script_puts}
+use Rattle.world_model.proofs.Progress.FiredLemmas.{honest_outside}
+use Rattle.world_model.proofs.OneNode.ListedPuts.{script_puts}
 use Rattle.world_model.specs.Rounds.{RoundEnds, IsPartOfRound}
 use Rattle.world_model.specs.declared.round_end.RoundEnd.{RoundEnd}
-use Rattle.world_model.proofs.RoundsProgress.{makes_progress}
+use Rattle.world_model.proofs.Progress.RoundsProgress.{makes_progress}
 use Rattle.world_model.proofs.SoundSteps.{start_sound, safe_if_honest, step_sound, delivers_sound, round_sound}
 
 abbrev failed : WorldFault → Result ℕ WorldFault

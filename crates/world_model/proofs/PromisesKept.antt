@@ -28,15 +28,15 @@ use Rattle.node_model.proofs.RefusalLemmas.{refusal_goes_on}
 use Rattle.world_model.specs.Progress.{StepsAll, PromisesNeverFall}
 use Rattle.world_model.specs.Reaching.{AreHonest, IsAllowed}
 use Rattle.world_model.specs.Worlds.{WorldState, TakesAt, with_node, without_wait}
-use Rattle.world_model.proofs.MembershipSteps.{set_at}
-use Rattle.world_model.proofs.FloorLemmas.{promise_after}
-use Rattle.world_model.proofs.ListedPuts.{KeepsPuts}
-use Rattle.world_model.proofs.OfTheRun.{node_of, held}
-use Rattle.world_model.proofs.Preserved.{HoldsOf, step_holds, recorded_nodes, submission_nodes, answered_nodes}
-use Rattle.world_model.proofs.RestartLemmas.{loads_or_down, restart_contents}
+use Rattle.world_model.proofs.Steps.MembershipSteps.{set_at}
+use Rattle.world_model.proofs.OneNode.FloorLemmas.{promise_after}
+use Rattle.world_model.proofs.OneNode.ListedPuts.{KeepsPuts}
+use Rattle.world_model.proofs.Refinement.OfTheRun.{node_of, held}
+use Rattle.world_model.proofs.Steps.Preserved.{HoldsOf, step_holds, recorded_nodes, submission_nodes, answered_nodes}
+use Rattle.world_model.proofs.OneNode.RestartLemmas.{loads_or_down, restart_contents}
 use Rattle.world_model.proofs.SoundSteps.{was_honest}
-use Rattle.world_model.proofs.StorageLaws.{written_contents, failed_contents}
-use Rattle.world_model.proofs.WorldMoves.{set_there}
+use Rattle.world_model.proofs.OneNode.StorageLaws.{written_contents, failed_contents}
+use Rattle.world_model.proofs.Refinement.WorldMoves.{set_there}
 
 -- what is to be refused stops no node, and is not taken
 pub unrefused : (m : ReplicaState) (i : Input) (r : Result Response NodeFault) (o : Option NodeFault) → refuses m i ≡ o

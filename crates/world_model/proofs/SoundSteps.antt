@@ -20,19 +20,19 @@ use Rattle.events.specs.declared.fault.WorldFault.TheVariants as fault
 use Rattle.world_model.specs.declared.lists.StepOutcome.{StepOutcome}
 use Rattle.world_model.specs.declared.round_end.RoundEnd.{RoundEnd}
 use Rattle.world_model.specs.Rounds.{RoundEnds, IsPartOfRound}
-use Rattle.world_model.proofs.RoundLemmas.{call_keeps}
-use Rattle.world_model.proofs.Explained.{explained}
-use Rattle.world_model.proofs.MembershipSteps.{step_membership}
-use Rattle.world_model.proofs.InLog.{start_in_log, step_in_log}
-use Rattle.world_model.proofs.ListedPuts.{KeepsPuts}
-use Rattle.world_model.proofs.Preserved.{HoldsOf, step_holds, submission_nodes, answered_nodes}
-use Rattle.world_model.proofs.PromisesStand.{start_promises, step_promises}
-use Rattle.world_model.proofs.RestartLemmas.{restart_honest}
-use Rattle.world_model.proofs.SafetyLemmas.{allowed_agrees, has_chosen, learnt_agree, learnt_grounded, start_allowed}
-use Rattle.world_model.proofs.Tellings.{steps_keep_lists, start_tells}
-use Rattle.world_model.proofs.Texts.{texts_explained, parts_explained, nodes_explained}
-use Rattle.world_model.proofs.Validity.{start_valid, step_valid}
-use Rattle.world_model.proofs.WorldMoves.{honest_nodes, honest_took, step_allowed}
+use Rattle.world_model.proofs.Progress.RoundLemmas.{call_keeps}
+use Rattle.world_model.proofs.OneLog.Explained.{explained}
+use Rattle.world_model.proofs.Steps.MembershipSteps.{step_membership}
+use Rattle.world_model.proofs.OneLog.InLog.{start_in_log, step_in_log}
+use Rattle.world_model.proofs.OneNode.ListedPuts.{KeepsPuts}
+use Rattle.world_model.proofs.Steps.Preserved.{HoldsOf, step_holds, submission_nodes, answered_nodes}
+use Rattle.world_model.proofs.Refinement.PromisesStand.{start_promises, step_promises}
+use Rattle.world_model.proofs.OneNode.RestartLemmas.{restart_honest}
+use Rattle.world_model.proofs.Refinement.SafetyLemmas.{allowed_agrees, has_chosen, learnt_agree, learnt_grounded, start_allowed}
+use Rattle.world_model.proofs.OneLog.Tellings.{steps_keep_lists, start_tells}
+use Rattle.world_model.proofs.OneLog.Texts.{texts_explained, parts_explained, nodes_explained}
+use Rattle.world_model.proofs.OneLog.Validity.{start_valid, step_valid}
+use Rattle.world_model.proofs.Refinement.WorldMoves.{honest_nodes, honest_took, step_allowed}
 
 -- what is sound is safe
 pub sound_is_safe : {S : Type 0} {contents : Script S → Records} (w : WorldState S) → WorldInvariant contents w → IsSafe w

@@ -12,7 +12,7 @@ ghost use Rattle.sessions.specs.SessionReplies.{outcome_code};
 use stable::{Scripted, Stable};
 
 /// As many learnt slots, replies and answers are listed as outcomes tell of: at the start, and after every step.
-#[tactic(auto, using(crate::proofs::TallyLemmas::steps_tally))]
+#[tactic(auto, using(crate::proofs::OneLog::TallyLemmas::steps_tally))]
 pub fn lists_are_as_told<S: Stable>()
     ensures { StepsTally (⟦<Scripted<S> as Stable>⟧) }
 {}

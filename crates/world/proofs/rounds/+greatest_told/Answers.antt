@@ -1,5 +1,5 @@
 use Rattle.std.proofs.Common.{sym, ap, subst, ◌∙◌, MatchOption}
-use Rattle.world_model.proofs.RoundMembers.{told_first}
+use Rattle.world_model.proofs.Progress.RoundMembers.{told_first}
 use Rattle.world_model.specs.Rounds.{refusal_in, NoneRefuses, IsGreatestTold}
 use Rattle.world.proofs.rounds.+greatest_told.Goals as goal
 

@@ -1,5 +1,5 @@
 use Rattle.std.proofs.Common.{◌≡◌, true, false}
-use Rattle.world_model.proofs.RoundMembers.{no_more}
+use Rattle.world_model.proofs.Progress.RoundMembers.{no_more}
 use Rattle.world.proofs.rounds.+has_repeats.Goals as goal
 
 pub returns-else-is_among : goal.returns-else-is_among

@@ -1,4 +1,4 @@
-use Rattle.world_model.proofs.Explained.{explained}
+use Rattle.world_model.proofs.OneLog.Explained.{explained}
 use Rattle.world_model.proofs.explaining.one_log_explains.Goals as goal
 
 pub returns : goal.returns

@@ -1,5 +1,5 @@
 use Rattle.stable.specs.Storages.{scripted}
-use Rattle.world_model.proofs.Tellings.{start_tells}
+use Rattle.world_model.proofs.OneLog.Tellings.{start_tells}
 use Rattle.world_model.proofs.explaining.start_keeps_lists.Goals as goal
 
 pub returns : goal.returns

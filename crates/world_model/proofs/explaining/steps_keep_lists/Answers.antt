@@ -1,8 +1,8 @@
 use Rattle.std.proofs.Common.{refl}
 use Rattle.stable.specs.ScriptLaws.{scripted_laws}
-use Rattle.world_model.proofs.ListedPuts.{script_puts}
-use Rattle.world_model.proofs.SafetyLemmas.{allowed_agrees, learnt_agree}
-use Rattle.world_model.proofs.Tellings.{steps_keep_lists}
+use Rattle.world_model.proofs.OneNode.ListedPuts.{script_puts}
+use Rattle.world_model.proofs.Refinement.SafetyLemmas.{allowed_agrees, learnt_agree}
+use Rattle.world_model.proofs.OneLog.Tellings.{steps_keep_lists}
 use Rattle.world_model.proofs.explaining.steps_keep_lists.Goals as goal
 
 pub returns : goal.returns

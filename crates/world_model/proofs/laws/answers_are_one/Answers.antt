@@ -1,4 +1,4 @@
-use Rattle.world_model.proofs.OneAnswer.{answers_one}
+use Rattle.world_model.proofs.OneLog.OneAnswer.{answers_one}
 use Rattle.world_model.proofs.laws.answers_are_one.Goals as goal
 
 pub returns : goal.returns

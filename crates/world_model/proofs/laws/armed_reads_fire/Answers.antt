@@ -1,4 +1,4 @@
-use Rattle.world_model.proofs.ArmedReads.{armed_reads_fire}
+use Rattle.world_model.proofs.OneNode.ArmedReads.{armed_reads_fire}
 use Rattle.world_model.proofs.laws.armed_reads_fire.Goals as goal
 
 pub returns : goal.returns

@@ -1,4 +1,4 @@
-use Rattle.world_model.proofs.NextBallots.{ballots_never_fall}
+use Rattle.world_model.proofs.Progress.NextBallots.{ballots_never_fall}
 use Rattle.world_model.proofs.laws.ballots_never_fall.Goals as goal
 
 pub returns : goal.returns

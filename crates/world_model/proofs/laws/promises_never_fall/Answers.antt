@@ -1,6 +1,6 @@
 use Rattle.std.proofs.Common.{refl}
 use Rattle.stable.specs.ScriptLaws.{scripted_laws}
-use Rattle.world_model.proofs.ListedPuts.{script_puts}
+use Rattle.world_model.proofs.OneNode.ListedPuts.{script_puts}
 use Rattle.world_model.proofs.PromisesKept.{promises_never_fall}
 use Rattle.world_model.proofs.laws.promises_never_fall.Goals as goal
 

@@ -1,4 +1,4 @@
-use Rattle.world_model.proofs.OneReply.{replies_one}
+use Rattle.world_model.proofs.OneLog.OneReply.{replies_one}
 use Rattle.world_model.proofs.laws.replies_are_one.Goals as goal
 
 pub returns : goal.returns

@@ -2,7 +2,7 @@ use Rattle.std.proofs.Common.{◌≡◌, refl, rules, ap, ◌∙◌, vec_len}
 use Rattle.node.specs.Seen.{state_of}
 use Rattle.world_model.specs.Worlds.{quiet, with_node}
 use Rattle.world.specs.Inner.{inner_of}
-use Rattle.world_model.proofs.MembershipSteps.{armed_member}
+use Rattle.world_model.proofs.Steps.MembershipSteps.{armed_member}
 use Rattle.world.proofs.Lent.{lent_membership}
 use Rattle.world.proofs.WorldLemmas.{lent_at, left_by}
 use Rattle.world.proofs.inner.Inner.arm_node.Goals as goal

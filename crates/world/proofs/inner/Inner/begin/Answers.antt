@@ -5,7 +5,7 @@ use Rattle.node.specs.Seen.{state_of}
 use Rattle.node_model.specs.declared.input.Input.TheVariants as input
 use Rattle.world_model.specs.Worlds.{with_node, with_outcome, outcome_of}
 use Rattle.world.specs.Inner.{inner_of}
-use Rattle.world_model.proofs.RoundBeginnings.{fails_to_begin, refuses_to_begin}
+use Rattle.world_model.proofs.Progress.RoundBeginnings.{fails_to_begin, refuses_to_begin}
 use Rattle.world.proofs.Takings.{takes_lent, lent_keeps_membership, lent_sends_between}
 use Rattle.world.proofs.WorldLemmas.{lent_at, left_by}
 use Rattle.world.proofs.inner.Inner.begin.Goals as goal

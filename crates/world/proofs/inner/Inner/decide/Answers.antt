@@ -4,7 +4,7 @@ use Rattle.stable.specs.Storages.{scripted}
 use Rattle.world_model.specs.Rounds.{RoundBreaksOff}
 use Rattle.world_model.specs.Rounds as rounds
 use Rattle.world.specs.Inner.{inner_of}
-use Rattle.world_model.proofs.RoundLemmas.{on_err, at_none, down_by, broken_by, decides_by, decides_in_part}
+use Rattle.world_model.proofs.Progress.RoundLemmas.{on_err, at_none, down_by, broken_by, decides_by, decides_in_part}
 use Rattle.world.proofs.inner.Inner.decide.Goals as goal
 
 -- the accepts: memory is wanting

@@ -1,6 +1,6 @@
 use Rattle.std.proofs.Common.{◌≡◌, rules, vec_len, true}
 use Rattle.node.specs.Seen.{state_of}
-use Rattle.world_model.proofs.NodeComes.{none_is_not_some}
+use Rattle.world_model.proofs.OneNode.NodeComes.{none_is_not_some}
 use Rattle.world.proofs.WorldLemmas.{lent_at}
 use Rattle.world.proofs.inner.Inner.deliver_to.Goals as goal
 

@@ -6,7 +6,7 @@ use Rattle.wire.specs.declared.frames.envelope.Envelope.{Envelope}
 use Rattle.world_model.specs.Rounds.{RoundBreaksOff, ComesThrough, NoneRefuses, IsGreatestTold}
 use Rattle.world_model.specs.Rounds as rounds
 use Rattle.world.specs.Inner.{inner_of}
-use Rattle.world_model.proofs.RoundLemmas.{at_none, sliced, moved, asked_by, answered_by, down_by, broken_by}
+use Rattle.world_model.proofs.Progress.RoundLemmas.{at_none, sliced, moved, asked_by, answered_by, down_by, broken_by}
 use Rattle.world.proofs.inner.Inner.gather.Goals as goal
 
 -- as many frames are lent as there are

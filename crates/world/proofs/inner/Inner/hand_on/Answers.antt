@@ -6,7 +6,7 @@ use Rattle.stable.specs.Storages.{scripted}
 use Rattle.wire.specs.declared.frames.envelope.Envelope.{Envelope}
 use Rattle.world_model.specs.Rounds.{DeliversTo, nothing}
 use Rattle.world.specs.Inner.{inner_of}
-use Rattle.world_model.proofs.RoundLemmas.{passed_by, came, delivered_frames}
+use Rattle.world_model.proofs.Progress.RoundLemmas.{passed_by, came, delivered_frames}
 use Rattle.world.proofs.Missing.{only_memory}
 use Rattle.world.proofs.inner.Inner.hand_on.Goals.{then-is_among+in_ok-deliver+else-not-is_up, else-is_among}
 use Rattle.world.proofs.inner.Inner.hand_on.Goals as goal

@@ -9,8 +9,8 @@ use Rattle.world_model.specs.Rounds.{GoesOn, GoesToItsEnd}
 use Rattle.world_model.specs.Rounds as rounds
 use Rattle.world_model.specs.declared.round_end.RoundEnd.TheVariants.{Stopped}
 use Rattle.world.specs.Inner.{inner_of}
-use Rattle.world_model.proofs.RoundLemmas.{at_none, begun_by, taken_frames}
-use Rattle.world_model.proofs.RoundBeginnings.{without}
+use Rattle.world_model.proofs.Progress.RoundLemmas.{at_none, begun_by, taken_frames}
+use Rattle.world_model.proofs.Progress.RoundBeginnings.{without}
 use Rattle.world.proofs.inner.Inner.hold.Goals as goal
 
 -- as many frames show as the world has that is the same

@@ -2,7 +2,7 @@ use Rattle.std.proofs.Common.{◌≡◌, ◌<◌, None, length, map, slice_get, 
 use Rattle.std.proofs.lemmas.Grind.{elements}
 use Rattle.node.specs.Seen.{state_of}
 use Rattle.world.specs.Inner.{inner_of}
-use Rattle.world_model.proofs.RoundBeginnings.{behind_where, behind_nobody}
+use Rattle.world_model.proofs.Progress.RoundBeginnings.{behind_where, behind_nobody}
 use Rattle.world.proofs.WorldLemmas.{lent_at}
 use Rattle.world.proofs.inner.Inner.is_behind.Goals as goal
 

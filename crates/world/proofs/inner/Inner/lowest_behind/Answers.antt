@@ -4,7 +4,7 @@ use Rattle.std.proofs.lemmas.List.Elements.{All-contains}
 use Rattle.node.specs.Seen.{state_of}
 use Rattle.world_model.specs.Rounds.{IsBehind}
 use Rattle.world.specs.Inner.{inner_of}
-use Rattle.world_model.proofs.RoundMembers.{next_member}
+use Rattle.world_model.proofs.Progress.RoundMembers.{next_member}
 use Rattle.world.proofs.inner.Inner.lowest_behind.Goals.{in-Some+else-is_among, else-is_among-via-then-is_among+else-is_behind}
 use Rattle.world.proofs.inner.Inner.lowest_behind.Goals.{else-is_among-via-else-is_among, in_default}
 use Rattle.world.proofs.inner.Inner.lowest_behind.Goals as goal

@@ -1,7 +1,7 @@
 use Rattle.std.proofs.Common.{◌≡◌, ℕ, true, rules, arith}
 use Rattle.world_model.specs.Rounds.{is_up}
 use Rattle.world.specs.Inner.{inner_of}
-use Rattle.world_model.proofs.RoundMembers.{next_member}
+use Rattle.world_model.proofs.Progress.RoundMembers.{next_member}
 use Rattle.world.proofs.inner.Inner.lowest_down.Goals.{in-Some+else-is_among, else-is_among-via-then-is_among+else-not-is_up}
 use Rattle.world.proofs.inner.Inner.lowest_down.Goals.{else-is_among-via-else-is_among, in_default}
 use Rattle.world.proofs.inner.Inner.lowest_down.Goals as goal

@@ -2,8 +2,8 @@ use Rattle.std.proofs.Common.{refl, rules, subst}
 use Rattle.stable.specs.Storages.{scripted}
 use Rattle.world_model.specs.Rounds.{IsQuorum, CanMeet}
 use Rattle.world.specs.Inner.{inner_of}
-use Rattle.world_model.proofs.RoundLemmas.{at_none, meeting_ends, meeting_breaks}
-use Rattle.world_model.proofs.RoundMembers.{can_meet}
+use Rattle.world_model.proofs.Progress.RoundLemmas.{at_none, meeting_ends, meeting_breaks}
+use Rattle.world_model.proofs.Progress.RoundMembers.{can_meet}
 use Rattle.world.proofs.inner.Inner.meet.Goals as goal
 
 pub returns-clause-ends : goal.returns-clause-ends

@@ -3,7 +3,7 @@ use Rattle.node_model.specs.declared.fault.NodeFault.{NodeFault}
 use Rattle.node.specs.Seen.{state_of}
 use Rattle.world_model.specs.Worlds.{with_outcome, restart_outcome}
 use Rattle.world.specs.Inner.{inner_of}
-use Rattle.world_model.proofs.MembershipLemmas.{restart_leaves}
+use Rattle.world_model.proofs.Steps.MembershipLemmas.{restart_leaves}
 use Rattle.world.proofs.Lent.{lent_membership}
 use Rattle.world.proofs.WorldLemmas.{lent_at, left_by}
 use Rattle.world.proofs.inner.Inner.restart_node.Goals as goal

@@ -1,7 +1,7 @@
 use Rattle.std.proofs.Common.{rules, vec_len}
 use Rattle.node.specs.Seen.{state_of}
 use Rattle.world.specs.Inner.{inner_of}
-use Rattle.world_model.proofs.RoundBeginnings.{slot_stands}
+use Rattle.world_model.proofs.Progress.RoundBeginnings.{slot_stands}
 use Rattle.world.proofs.WorldLemmas.{lent_at}
 use Rattle.world.proofs.inner.Inner.slot_of.Goals as goal
 

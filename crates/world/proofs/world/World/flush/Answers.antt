@@ -1,7 +1,7 @@
 use Rattle.std.proofs.Common.{rules}
 use Rattle.world.specs.Inner.{inner_of}
 use Rattle.world.specs.declared.log.TheConstants.{MOST_DELIVERIES}
-use Rattle.world_model.proofs.FiredLemmas.{flush_keeps_few}
+use Rattle.world_model.proofs.Progress.FiredLemmas.{flush_keeps_few}
 use Rattle.world.proofs.WorldSound.{flush_kept, stays_safe}
 use Rattle.world.proofs.world.World.flush.Goals as goal
 

@@ -1,6 +1,6 @@
 use Rattle.std.proofs.Common.{rules}
 use Rattle.world.specs.Inner.{inner_of}
-use Rattle.world_model.proofs.FiredLemmas.{round_keeps_few}
+use Rattle.world_model.proofs.Progress.FiredLemmas.{round_keeps_few}
 use Rattle.world.proofs.WorldSound.{round_kept, round_progress, stays_safe}
 use Rattle.world.proofs.world.World.round.Goals as goal
 

@@ -1,6 +1,6 @@
 use Rattle.std.proofs.Common.{rules}
 use Rattle.world.specs.Inner.{inner_of}
-use Rattle.world_model.proofs.FiredLemmas.{step_keeps_few}
+use Rattle.world_model.proofs.Progress.FiredLemmas.{step_keeps_few}
 use Rattle.world.proofs.WorldSound.{step_kept, stays_safe}
 use Rattle.world.proofs.world.World.step.Goals as goal
 

@@ -1,7 +1,7 @@
 use Rattle.std.proofs.Common.{rules}
 use Rattle.stable.specs.Storages.{scripted}
 use Rattle.world.specs.Inner.{inner_of}
-use Rattle.world_model.proofs.FiredLemmas.{start_few}
+use Rattle.world_model.proofs.Progress.FiredLemmas.{start_few}
 use Rattle.world.proofs.WorldSound.{started, stays_safe}
 use Rattle.world.proofs.world.World.with.Goals as goal
 

@@ -1,0 +1,19 @@
+-- Rounds by hand, phase by phase, and what grows in them.
+pub mod RoundMembers
+pub mod RoundBeginnings
+pub mod RoundLemmas
+pub mod RoundPremises
+pub mod Handing
+pub mod Leading
+pub mod Hearing
+pub mod RoundAsked
+pub mod RoundAnswered
+pub mod RoundVoted
+pub mod RoundHeard
+pub mod RoundDecides
+pub mod RefusedGrows
+pub mod NextBallots
+pub mod RoundProgress
+pub mod RoundsProgress
+pub mod FiredLemmas
+pub mod FramesGrow
