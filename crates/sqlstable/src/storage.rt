@@ -108,7 +108,7 @@ impl<S: Alter> Stable for SqlStable<S> {
 
     ghost HasStrayKey = { λ s. HasStray (rows_of S.Store s) };
 
-    ghost TableIsSettled = { λ _. Unit {0} };
+    ghost IsSettled = { λ _. Unit {0} };
 
     ghost reads = { TableReads S.Store };
 

@@ -140,8 +140,8 @@ impl<S: Stable> Inner<S> {
         }
     }
 
-    // A frame waits no more.
-    fn drop_frame(&mut self, frame: u64) -> Result<(), WorldFault>
+    /// A frame waits no more.
+    pub fn drop_frame(&mut self, frame: u64) -> Result<(), WorldFault>
         ensures drops { OnOk result (inner_of self.new ≡ quiet (without_wait (inner_of self.old) frame)) }
         ensures err { OnErr result (inner_of self.new ≡ inner_of self.old) }
         ensures no_frame { IsErrOf result WorldFault.NoSuchFrame

@@ -2,7 +2,7 @@
 
 use super::round_end::RoundEnd;
 use node_model::{AnswerText, NodeFault};
-use sessions::Number;
+use sessions::{Number, SessionReply};
 use store::{Op, Query};
 use synod::Slot;
 use wire::{NodeId, Position, SharedCommand};
@@ -30,7 +30,7 @@ pub struct Replied {
     pub node: NodeId,
     pub client: u8,
     pub number: Number,
-    pub reply: sessions::StepOutcome,
+    pub reply: SessionReply,
     pub position: u32,
 }
 
