@@ -10,3 +10,5 @@ pub mod ValidLemmas
 pub mod DatabaseLemmas
 pub mod IndexLemmas
 pub mod KeptLemmas
+pub mod BoundsLemmas
+pub mod GaplessLemmas

@@ -6,3 +6,4 @@ pub mod Operations
 pub mod Places
 pub mod Answers
 pub mod Indexed
+pub mod Bounds

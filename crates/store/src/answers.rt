@@ -12,7 +12,7 @@ use crate::line::{LONGEST_FIX, write_fix, write_place};
 use crate::stored_feature::StoredFeature;
 use itoa::Buffer;
 use mfjson::Feature;
-use predicates::{Tri, ever};
+use predicates::Tri;
 use restrict::{Cut, cut};
 use std::alloc::{AllocError, Global};
 use textbuf::write_text;
@@ -212,12 +212,13 @@ fn ids_within(
 {
     let mut ids = Vec::new(alloc);
     for place in 0..features.len() {
-        let feature = features[place].feature();
+        let held = &features[place];
+        let feature = held.feature();
         feature.seq.values_lie_in_its_span();
         if !index.overlaps(place, period) {
             continue;
         }
-        if !is_within(feature, period, area) {
+        if !is_within(held, period, area) {
             continue;
         }
         ids.push(feature.id)?;
@@ -226,10 +227,13 @@ fn ids_within(
 }
 
 /// Whether the feature is ever in a rectangle.
-fn is_within(feature: &Feature, period: &Period, area: &Rect) -> bool
-    ensures { IsTrue result ↔ IsEver feature.now.seq period.now area.now Tri.Yes }
+fn is_within(held: &StoredFeature, period: &Period, area: &Rect) -> bool
+    ensures { IsTrue result ↔ IsEver held.now.seq period.now area.now Tri.Yes }
 {
-    match ever(&feature.seq, period, area) {
+    if held.stays_out_of(area) {
+        return false;
+    }
+    match held.ever(period, area) {
         Tri::Yes => true,
         Tri::No | Tri::None => false,
     }

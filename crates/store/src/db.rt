@@ -13,7 +13,6 @@ use crate::query::Query;
 use crate::reply::Reply;
 use crate::stored_feature::StoredFeature;
 use mfjson::Feature;
-use predicates::{always, ever};
 use std::alloc::{AllocError, Global};
 use std::marker::Model;
 use timeindex::TimeIndex;
@@ -91,15 +90,11 @@ impl Db {
             Query::At(id, t) => at_text(alloc, self.found(id), *t),
             Query::Cut(id, period) => cut_text(alloc, self.found(id), period),
             Query::Ever(id, period, area) => {
-                let answer = self
-                    .found(id)
-                    .map(|feature| ever(&feature.seq, period, area));
+                let answer = self.held(id).map(|held| held.ever(period, area));
                 tri_answer(alloc, b"ever ", answer)
             }
             Query::Always(id, period, area) => {
-                let answer = self
-                    .found(id)
-                    .map(|feature| always(&feature.seq, period, area));
+                let answer = self.held(id).map(|held| held.always(period, area));
                 tri_answer(alloc, b"always ", answer)
             }
             Query::Within(period, area) => {
@@ -231,8 +226,18 @@ impl Db {
     fn found(&self, id: &Id) -> Option<&Feature>
         ensures { option_copied result ≡ feature_of self.now id.now }
     {
+        match self.held(id) {
+            Some(held) => Some(held.feature()),
+            None => None,
+        }
+    }
+
+    /// What is held with the id.
+    fn held(&self, id: &Id) -> Option<&StoredFeature>
+        ensures { option_copied result ≡ feature_of self.now id.now }
+    {
         match self.place(id) {
-            Ok(at) => Some(self.features[at].feature()),
+            Ok(at) => Some(&self.features[at]),
             Err(_) => None,
         }
     }

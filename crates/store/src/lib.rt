@@ -5,9 +5,12 @@
 //! `specs/Answers.antt` the text, by values, cuts, ever and always. After an error a database is unchanged.
 //!
 //! A feature is found by binary search. `Query::Within` asks the features that the time index finds in its period, and no other.
+//! A feature keeps the least rectangle that has its positions. Where that is apart from a query's rectangle, or inside it, the answer
+//! takes no look at the points of steps or legs.
 #![tactic(auto)]
 
 mod answers;
+mod bounds;
 mod db;
 mod laws;
 mod line;

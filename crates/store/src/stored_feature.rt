@@ -1,27 +1,37 @@
 //! A feature as a database holds it.
 
-ghost use Rattle.std.specs.Prelude.{◌≡◌, false, IsOk, IfOk, OnOk, OnErr};
-ghost use Rattle.tpoint.specs.Moving.{InBounds};
+ghost use Rattle.std.specs.Prelude.{◌≡◌, ◌≤◌, ◌↔◌, false, IsTrue, IsOk, IfOk, OnOk, OnErr};
+ghost use Rattle.tpoint.specs.Moving.{At, InBounds};
+ghost use Rattle.tpoint.specs.Extents.{HasInstant, Shares, first_whole, last_whole};
+ghost use Rattle.predicates.specs.Predicates.{IsEver, IsAlways};
 ghost use Rattle.store.specs.Operations.{append_reply, append_effect, is_done};
+ghost use Rattle.store.specs.Bounds.{StaysIn, StaysOutOf};
 
+use crate::bounds::Bounds;
 use crate::reply::Reply;
 use mfjson::Feature;
+use predicates::{Tri, always, ever};
 use std::alloc::{AllocError, Global};
 use std::marker::Model;
-use tpoint::{AppendFault, Id, Point, Seq};
+use tpoint::{AppendFault, Id, Interp, Period, Point, Rect, Seq};
 
 /// A feature. It lies apart, so that little is moved where one makes room for another.
 #[derive(Drop)]
 pub(crate) struct StoredFeature {
     feature: Box<Feature>,
+    /// The least rectangle that has its listed positions. It may tell with no look at them.
+    bounds: Bounds,
 }
 
 impl Model for StoredFeature {
     ghost use Rattle.mfjson.specs.declared.feature.Feature.{Feature};
+    ghost use Rattle.store.specs.Bounds.{HoldsAll};
 
     ghost Value = { Feature };
 
     ghost view = { λ held. held.feature.value };
+
+    ghost invariant = { λ held. HoldsAll held.bounds held.feature.value.seq.points };
 }
 
 impl StoredFeature {
@@ -36,8 +46,9 @@ impl StoredFeature {
     pub fn holding(alloc: Global, id: Id, seq: Seq) -> Result<StoredFeature, AllocError>
         ensures { IfOk result (λ held. held ≡ record { id = id; seq = seq }) }
     {
+        let bounds = Bounds::of(seq.points());
         let feature = Box::new(alloc, Feature { id, seq })?;
-        Ok(StoredFeature { feature })
+        Ok(StoredFeature { feature, bounds })
     }
 
     /// What is held.
@@ -47,10 +58,64 @@ impl StoredFeature {
         &self.feature
     }
 
+    /// Whether it is ever in a rectangle.
+    pub fn ever(&self, period: &Period, area: &Rect) -> Tri
+        ensures { IsEver self.now.seq period.now area.now result }
+    {
+        let seq = &self.feature().seq;
+        if seq.interp() == Interp::Discrete {
+            return ever(seq, period, area);
+        }
+        if !is_there(seq, period) {
+            return Tri::None;
+        }
+        if self.stays_out_of(area) {
+            return Tri::No;
+        }
+        if self.stays_in(area) {
+            return Tri::Yes;
+        }
+        ever(seq, period, area)
+    }
+
+    /// Whether it is always in a rectangle.
+    pub fn always(&self, period: &Period, area: &Rect) -> Tri
+        ensures { IsAlways self.now.seq period.now area.now result }
+    {
+        let seq = &self.feature().seq;
+        if seq.interp() == Interp::Discrete || !self.stays_in(area) {
+            return always(seq, period, area);
+        }
+        if is_there(seq, period) {
+            Tri::Yes
+        } else {
+            Tri::None
+        }
+    }
+
+    /// Whether its bounds tell that it is never in a rectangle.
+    pub fn stays_out_of(&self, area: &Rect) -> bool
+        ensures { IsTrue result → StaysOutOf self.now.seq area.now }
+    {
+        // Read, so that its sequence is known to be valid.
+        let _points = self.feature.seq.points();
+        self.bounds.is_apart(area)
+    }
+
+    /// Whether its bounds tell that it never leaves a rectangle.
+    fn stays_in(&self, area: &Rect) -> bool
+        ensures { IsTrue result → StaysIn self.now.seq area.now }
+    {
+        // Read, so that its sequence is known to be valid.
+        let _points = self.feature.seq.points();
+        self.bounds.is_inside(area)
+    }
+
     /// The feature has another sequence.
     pub fn set_seq(&mut self, seq: Seq)
         ensures { self.new ≡ record self.old { seq = seq } }
     {
+        self.bounds = Bounds::of(seq.points());
         self.feature.seq = seq;
     }
 
@@ -63,11 +128,34 @@ impl StoredFeature {
         ensures in_place { is_done (append_reply self.old.seq.points point) ≡ false → IsOk result }
     {
         match self.feature.seq.append(point) {
-            Ok(()) => Ok(Reply::Done),
+            Ok(()) => {
+                self.bounds = self.bounds.with(&point);
+                Ok(Reply::Done)
+            }
             Err(AppendFault::NotLater) => Ok(Reply::NotLater),
             Err(AppendFault::Full) => Ok(Reply::Full),
             Err(AppendFault::Memory) => Err(AllocError),
             Err(AppendFault::Range) => unreachable!(),
         }
     }
+}
+
+/// Whether a sequence that has a value at each instant of its span has one in the period.
+fn is_there(seq: &Seq, period: &Period) -> bool
+    requires { ¬ (seq.now.interp ≡ Interp.Discrete) }
+    ensures { IsTrue result ↔ Shares (At seq.now) period.now }
+{
+    // Read, so that the sequence is known to be valid.
+    let _points = seq.points();
+    seq.values_lie_in_its_span();
+    overlap(period, &seq.span())
+}
+
+/// Whether a period has an instant of a span.
+fn overlap(period: &Period, span: &Period) -> bool
+    ensures overlap { IsTrue result
+        ↔ ((first_whole period.now ≤ span.now.end) × (span.now.begin ≤ last_whole period.now)) }
+    ensures has_instant { HasInstant period.now }
+{
+    period.first_whole() <= span.end() && span.begin() <= period.last_whole()
 }

@@ -8,6 +8,7 @@ mod documents;
 mod frames;
 mod lines;
 mod records;
+mod rectangles;
 mod snapshots;
 mod tour;
 mod values;

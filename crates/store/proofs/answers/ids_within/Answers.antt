@@ -32,7 +32,9 @@ loop-place-preserved-then-not-is_within c =
     c.index-features-place.is in
     are_ids_skip (λ f. IsEver f.seq c.args.period.now c.args.area.now Yes) c.args.features.now c.loop-place.place
     c.feature-feature.result.now _ (omega arith) is c.loop-place.invariant
-    (λ holds. let within : c.is_within.result ≡ true = c.is_within.ensures.1 holds in absurd (search rules))
+    (λ holds.
+    let held = subst (λ (f : Feature). IsEver f.seq c.args.period.now c.args.area.now Yes) c.feature-feature.ensures holds in
+    let within : c.is_within.result ≡ true = c.is_within.ensures.1 held in absurd (search rules))
 
 -- its id is added
 pub loop-place-preserved : goal.loop-place-preserved
@@ -41,7 +43,9 @@ loop-place-preserved c =
     let f = c.feature-feature.result.now in
     let fs = c.args.features.now in
     let is = here fs l.place f c.index-features-place.result c.feature-feature.ensures c.index-features-place.is in
-    let holds : IsEver f.seq c.args.period.now c.args.area.now Yes = c.is_within.ensures.0 (search rules) in
+    let holds : IsEver f.seq c.args.period.now c.args.area.now Yes =
+    subst (λ (g : Feature). IsEver g.seq c.args.period.now c.args.area.now Yes) (sym c.feature-feature.ensures)
+    (c.is_within.ensures.0 (search rules)) in
     subst (AreIdsOf (λ f. IsEver f.seq c.args.period.now c.args.area.now Yes) (take (l.place + 1) fs)) (sym c.in_ok-push.ensures.items)
     (are_ids_more (λ f. IsEver f.seq c.args.period.now c.args.area.now Yes) fs l.place f _
     (omega arith) is l.invariant holds)

@@ -1,6 +1,5 @@
 use Rattle.std.proofs.Common.{◌≡◌, ◌++◌, ◌∷◌, [], List, ℕ, ap, sym, subst, ◌∙◌, rules, length, ◌<◌}
 use Rattle.std.specs.Prelude.{IsOk}
-use Rattle.std.specs.List.{insert}
 use Rattle.std.proofs.lemmas.List.Edits.{insert_end}
 use Rattle.tpoint.specs.Extents.{Span}
 use Rattle.tpoint.specs.Spans.{span_of}
