@@ -115,6 +115,7 @@ fn three_tables(alloc: Global) -> Result<Vec<SqlStable<MemStore>>, StableFault> 
 }
 
 // Hands out three tables in memory, whatever the folder.
+#[derive(Drop)]
 struct Tables;
 
 impl Archive for Tables {
