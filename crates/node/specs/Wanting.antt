@@ -3,10 +3,10 @@ use Rattle.std.specs.Prelude.{◌≡◌, ◌≢◌, ⊤, ℕ, [], true}
 use Rattle.acceptor.specs.Accepting.{HasVoteBelow}
 use Rattle.learner.specs.Learning.{learnt_at}
 use Rattle.wire.specs.declared.frames.message.Message.{Message}
-use Rattle.wire.specs.declared.frames.message.Message.TheVariants.{Nack, Ask, SnapPart, Behind}
+use Rattle.wire.specs.declared.frames.message.Message.TheVariants.{Nack, Ask, SnapAsk, SnapPart, Behind}
 use Rattle.node_model.specs.Fetching.{wants}
 use Rattle.node_model.specs.Replicas.{ReplicaState, position}
-use Rattle.node_model.specs.Sending.{decided_sends}
+use Rattle.node_model.specs.Sending.{decided_sends, snapshot_sends}
 use Rattle.node_model.specs.Taking.{is_ahead}
 use Rattle.node_model.specs.declared.input.Input.{Input}
 use Rattle.node_model.specs.declared.input.Input.TheVariants as input
@@ -25,6 +25,7 @@ IsForRecords input.Trim = ⊤
 abbrev pub MayWantOn : ReplicaState → ℕ → Message → Type 0
 MayWantOn m from (Nack n) = ⊥
 MayWantOn m from (Ask slot) = decided_sends m.id from slot m.accepting.floor (learnt_at m.learning slot) ≢ []
+MayWantOn m from (SnapAsk position number) = snapshot_sends m.accepting m.id from position number ≢ []
 MayWantOn m from (SnapPart p) = wants m.fetching (position m) p ≡ true
 MayWantOn m from (Behind floor) = is_ahead m floor ≡ true
 MayWantOn m from other = ⊤

@@ -1,6 +1,6 @@
 //! A node that fetches the text of a checkpoint from others, and one that serves its own.
 
-ghost use Rattle.std.specs.Prelude.{◌≡◌, ◌<◌, ◌++◌, ℕ, not, true, Some, None, IfOk, OnOk, OnErr, IfErr};
+ghost use Rattle.std.specs.Prelude.{◌≡◌, ◌≢◌, ◌<◌, ◌++◌, [], ℕ, not, true, Some, None, IfOk, OnOk, OnErr, IfErr};
 ghost use Rattle.node_model.specs.Fetching.{still_fetched, is_above_target, wants};
 ghost use Rattle.node_model.specs.Replicas.{ReplicaState, position};
 ghost use Rattle.node_model.specs.Sending.{to_one, part_sends, snapshot_sends};
@@ -62,6 +62,7 @@ impl Replica {
         ensures takes { IfOk result (λ said.
             TakesMessage (replica_of self.old) from (message.SnapAsk position number) (replica_of self.new) said) }
         ensures err { IfErr result (λ fault. fault ≡ NodeFault.Memory) }
+        ensures wanted { OnErr result (snapshot_sends (replica_of self.old).accepting (replica_of self.old).id from position number ≢ []) }
     {
         let mut sends = self.take_send_buffer(alloc);
         self.tell_snapshot(alloc, &mut sends, from, position, number)?;
@@ -77,8 +78,9 @@ impl Replica {
         position: Position,
         number: PartNumber,
     ) -> Result<(), AllocError>
-        ensures { OnOk result (sends.new.items ≡ sends.old.items
+        ensures told { OnOk result (sends.new.items ≡ sends.old.items
             ++ snapshot_sends (replica_of self.now).accepting (replica_of self.now).id to position number) }
+        ensures wanted { OnErr result (snapshot_sends (replica_of self.now).accepting (replica_of self.now).id to position number ≢ []) }
     {
         let floor = self.floor();
         if floor == position.value() {
@@ -99,8 +101,10 @@ impl Replica {
         position: Position,
         number: PartNumber,
     ) -> Result<(), AllocError>
-        ensures { OnOk result (sends.new.items ≡ sends.old.items
+        ensures told { OnOk result (sends.new.items ≡ sends.old.items
             ++ part_sends (replica_of self.now).id to (piece_of position (replica_of self.now).accepting.text number)) }
+        ensures wanted { OnErr result (part_sends (replica_of self.now).id to
+            (piece_of position (replica_of self.now).accepting.text number) ≢ []) }
     {
         match Part::of(alloc, position, self.acceptor.text(), number)? {
             Some(part) => send(alloc, sends, self.id, to, &Message::SnapPart(part)),

@@ -1,8 +1,8 @@
 //! Parts of a snapshot text.
 
 ghost use Rattle.std.specs.Prelude.{◌≡◌, ◌↔◌, ◌<◌, ◌≤◌, ◌-◌, ℕ, min, List, length, take, drop, slice_get};
-ghost use Rattle.std.specs.Prelude.{Option, Some, IsSome, IfSome, IfOk};
-ghost use Rattle.wire.specs.Parts.{IsPartNumber, Piece, IsPiece, offset_of, piece, piece_of, parts_in, joined};
+ghost use Rattle.std.specs.Prelude.{Option, Some, IsSome, IfSome, IfOk, OnErr, true};
+ghost use Rattle.wire.specs.Parts.{IsPartNumber, Piece, IsPiece, offset_of, has_part, piece, piece_of, parts_in, joined};
 
 use super::position::Position;
 use sessions::LONGEST_SNAPSHOT;
@@ -98,7 +98,8 @@ impl Part {
         text: &[u8],
         number: PartNumber,
     ) -> Result<Option<Part>, AllocError>
-        ensures { IfOk result (λ part. part ≡ piece_of position text.now number) }
+        ensures of_the_text { IfOk result (λ part. part ≡ piece_of position text.now number) }
+        ensures wanted { OnErr result (has_part text.now number ≡ true) }
     {
         let offset = number.offset() as usize;
         if text.len() < 4 || text.len() > LONGEST_SNAPSHOT || offset >= text.len() {

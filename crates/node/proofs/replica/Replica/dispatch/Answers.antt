@@ -138,7 +138,7 @@ returns-in-SnapAsk g c = rw c.in-SnapAsk.is (record {
   err = memory_of_two c.on_snap_ask.result c.on_snap_ask.ensures.err;
   device = λ is. absurd (memory_alone c.on_snap_ask.result c.on_snap_ask.ensures.err is);
   memory = λ _. inl (g.met.S.Stable.laws.reads_none _);
-  wanted = IfErr-weaker c.on_snap_ask.result _ _ (λ _ _. tt) c.on_snap_ask.ensures.err;
+  wanted = on_err c.on_snap_ask.result _ c.on_snap_ask.ensures.wanted;
 })
 
 pub returns-in-SnapPart : goal.returns-in-SnapPart

@@ -1,4 +1,5 @@
-use Rattle.std.proofs.Common.{◌≡◌, ◌++◌, List, ap, ◌∙◌, subst}
+use Rattle.std.proofs.Common.{◌≡◌, ◌≢◌, ◌++◌, List, [], ap, ◌∙◌, subst}
+use Rattle.std.proofs.lemmas.Result.{err_from_is_err_and}
 use Rattle.wire.specs.declared.frames.envelope.Envelope.{Envelope}
 use Rattle.node_model.specs.Replicas.{ReplicaState}
 use Rattle.node_model.specs.Outputs.{sent}
@@ -12,5 +13,12 @@ returns-clause-takes c =
     let told : ReplicaState → List Envelope = λ m. snapshot_sends m.accepting m.id c.args.from c.args.position c.args.number in
     let now : ReplicaState = replica_of c.take_send_buffer-sends.new.self in
     let said : c.of_frames.result ≡ sent (told now) =
-    c.of_frames.ensures ∙ ap sent (c.in_ok-tell_snapshot.ensures ∙ ap (λ (es : List Envelope). es ++ told now) c.take_send_buffer-sends.ensures.empty) in
+    c.of_frames.ensures ∙ ap sent (c.in_ok-tell_snapshot.ensures.told ∙ ap (λ (es : List Envelope). es ++ told now) c.take_send_buffer-sends.ensures.empty) in
     (c.take_send_buffer-sends.ensures.same, subst (λ (m : ReplicaState). c.of_frames.result ≡ sent (told m)) c.take_send_buffer-sends.ensures.same said)
+
+-- only an answer wants memory
+pub returns-in_err-tell_snapshot-clause-wanted : goal.returns-in_err-tell_snapshot-clause-wanted
+returns-in_err-tell_snapshot-clause-wanted c =
+    let told : ReplicaState → List Envelope = λ m. snapshot_sends m.accepting m.id c.args.from c.args.position c.args.number in
+    let exit = err_from_is_err_and c.from_residual.result c.from_residual.ensures.1 in
+    rw exit.1 (subst (λ (m : ReplicaState). told m ≢ []) c.take_send_buffer-sends.ensures.same c.in_err-tell_snapshot.ensures.wanted)
