@@ -8,15 +8,15 @@ use Rattle.world.proofs.world.World.with.Goals as goal
 -- a run begins sound, and no fault has come
 pub invariant_of-result : goal.invariant_of-result
 invariant_of-result g c = record {
-  sound = started c.args.count (inner_of c.in_ok-inner.inner') c.in_ok-inner.ensures.start;
-  few_faults = start_few (scripted g.S.Stable) c.args.count (inner_of c.in_ok-inner.inner') c.in_ok-inner.ensures.start;
+  sound = started c.args.count (inner_of c.in_ok-inner.inner) c.in_ok-inner.ensures.start;
+  few_faults = start_few (scripted g.S.Stable) c.args.count (inner_of c.in_ok-inner.inner) c.in_ok-inner.ensures.start;
 }
 
 pub returns-clause-safe : goal.returns-clause-safe
 returns-clause-safe g c =
-    stays_safe g.S.Stable c.in_ok-inner.inner' (start_few (scripted g.S.Stable) c.args.count
-    (inner_of c.in_ok-inner.inner') c.in_ok-inner.ensures.start)
-    (started c.args.count (inner_of c.in_ok-inner.inner') c.in_ok-inner.ensures.start)
+    stays_safe g.S.Stable c.in_ok-inner.inner (start_few (scripted g.S.Stable) c.args.count
+    (inner_of c.in_ok-inner.inner) c.in_ok-inner.ensures.start)
+    (started c.args.count (inner_of c.in_ok-inner.inner) c.in_ok-inner.ensures.start)
 
 -- each node is over its own of the storages that were given
 pub returns-clause-over : goal.returns-clause-over
