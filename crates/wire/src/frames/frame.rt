@@ -1,10 +1,11 @@
 //! A frame: a message on its way, as bytes.
 
-ghost use Rattle.std.specs.Prelude.{◌≡◌, ◌≤◌, Some, IfOk, vec_capacity};
+ghost use Rattle.std.specs.Prelude.{◌≡◌, ◌≤◌, Some, IfOk, IsOk, vec_capacity};
 ghost use Rattle.sessions.specs.declared.command.Command.{Command};
 ghost use Rattle.synod.specs.declared.vote.Vote.{Vote};
 ghost use Rattle.wire.specs.FrameSpelling.{IsFrame, Fits, VoteFits, vote_bytes};
 ghost use Rattle.wire.specs.Framing.{readdressed, voted_slot};
+ghost use Rattle.wire.specs.Puts.{TakesMemory};
 ghost use Rattle.wire.specs.declared.frames.message.Message.TheVariants as message;
 
 use super::decoding::decode;
@@ -171,6 +172,7 @@ impl Frame {
     pub fn open(&self, alloc: Global) -> Result<Envelope, AllocError>
         ensures envelope { IfOk result (λ envelope. envelope ≡ self.now) }
         ensures fits { IfOk result (Fits 7) }
+        ensures in_place { ¬ TakesMemory self.now.message → IsOk result }
     {
         match decode(alloc, self.spelled.bytes(), largest_run()) {
             Ok(mut envelope) => {
