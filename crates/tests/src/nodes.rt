@@ -8,6 +8,7 @@ mod faults;
 mod foreign;
 mod letters;
 mod limits;
+mod longest_snapshot;
 mod losses;
 mod news;
 mod promises;
