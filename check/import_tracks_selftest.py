@@ -152,6 +152,10 @@ READABLE = (
     Case("csv without ids", {"bus.csv": csv("time,x,y", "1714550400123,1,2")}, "", {"bus": linear((0.123, 1000, 2000))},
          ["times that are numbers, taken as milliseconds since 1970: 1"]),
     Case("lon and lat", {"day.csv": DAY}, "", {"a": BERLIN}, [ROUNDED % (1, "0.253")]),
+    Case("lon and lat, one of them far away", {"day.csv": csv("id,time,lat,lon", *("a,%d,52.52,%s" % (EIGHT // 1000 + second, lon)
+                                                                                 for second, lon in enumerate((13.405, 13.405, 30))))},
+         "", {"a": linear((0, 391779259, 5820072159), (1, 391779259, 5820072159), (2, 1514651669, 5925337257))},
+         [SECONDS % 3, "positions outside of the UTM zone 33, where distances become too long: 1 (day.csv:4)", ROUNDED % (3, "0.253")]),
     Case("lon and lat of another zone", {"day.csv": DAY}, "--to EPSG:32632", {"a": linear((0, 798812803, 5827999900))},
          ["positions outside of the UTM zone 32, where distances become too long: 1 (day.csv:2)", ROUNDED % (1, "0.429")]),
     Case("south of the equator, past the last meridian",
@@ -227,6 +231,8 @@ UNUSABLE = (
          ["day.csv:2: a time before 1970 or after 9999: 1969-12-31T23:59:59Z"]),
     Case("no longitude", {"day.csv": csv("id,time,lon,lat", "a,1714550400,391779,5820072")}, "", None,
          ["day.csv:2: no longitude and latitude: 391779 5820072"]),
+    Case("no latitude", {"day.csv": csv("id,time,lon,lat", "a,1714550400,13,90.1")}, "", None,
+         ["day.csv:2: no longitude and latitude: 13 90.1"]),
     Case("no column of times", {"day.csv": csv("id,x,y", "a,1,2")}, "", None,
          ["day.csv:1: no column of times (time, timestamp, datetime, date_time, utc, fixtime, gps_time, t, date): name it with --columns "
           "time=NAME"]),
