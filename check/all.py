@@ -32,6 +32,7 @@ def fixed(mfpx, seed):
     return (
         ("one_log_selftest.py", None, [EXAMPLES, "--longest", "40", "--changes", "1", "--seed", str(seed)]),
         ("why_selftest.py", None, ["--runs", "1000", "--seed", str(seed)]),
+        ("import_tracks_selftest.py", None, [mfpx] if os.path.exists(mfpx) else []),
         ("storage_faults.py", mfpx, [mfpx]),
         ("refuse_memory.py", mfpx, [mfpx]),
         ("transfers.py", mfpx, [mfpx, "--orders", "20", "--seed", str(seed)]),
@@ -53,7 +54,7 @@ def fuzzers(mfpx, conformance, seed, seconds):
 def is_right(script, needs, words):
     """Runs a check, prints its last line, and all of its lines where it fails; None where its program isn't there."""
     if needs and not os.path.exists(needs):
-        print("%-20s left out: there is no %s" % (script, os.path.relpath(needs)), flush=True)
+        print("%-25s left out: there is no %s" % (script, os.path.relpath(needs)), flush=True)
         return None
     begun = time.monotonic()
     folder = {"TMPDIR": MEMORY} if os.path.isdir(MEMORY) else {}
@@ -62,7 +63,7 @@ def is_right(script, needs, words):
     lines = done.stdout.splitlines() or [""]
     if done.returncode != 0:
         print(done.stdout, end="")
-    print("%-20s %4.0f s  %s" % (script, time.monotonic() - begun, lines[-1]), flush=True)
+    print("%-25s %4.0f s  %s" % (script, time.monotonic() - begun, lines[-1]), flush=True)
     return done.returncode == 0
 
 
