@@ -6,10 +6,11 @@ ghost use Rattle.wire.specs.Puts.{TakesMemory, BringsContent, FrameWithContentBe
 ghost use Rattle.fields.specs.Reading.{Tells};
 ghost use Rattle.wire.specs.Reading.{Gives, ReadMayWant};
 ghost use Rattle.wire.specs.FrameReading.{version_at, kind_at, node_at, ends_at, Head, head_at};
-ghost use Rattle.wire.specs.FrameReading.{ballot_above, nack_at, vote_at, prepare_at, decided_at};
+ghost use Rattle.wire.specs.FrameReading.{ballot_above, nack_at, vote_at};
 ghost use Rattle.wire.specs.FrameReading.{message_at, envelope_at, frame_in};
 ghost use Rattle.wire.specs.FrameSpelling.{IsFrame};
 ghost use Rattle.wire.specs.declared.frames.envelope.Envelope.{Envelope};
+ghost use Rattle.wire.specs.declared.frames.kind.Kind.TheVariants as kind;
 
 use super::envelope::{Envelope, LONGEST_FRAME, MAGIC};
 use super::fault::WireFault;
@@ -176,9 +177,9 @@ fn read_message(
     }
 }
 
-#[tactic(auto, unfolding(crate::specs::FrameReading::prepare_at))]
+#[tactic(auto, unfolding(crate::specs::FrameReading::message_at))]
 fn read_prepare(input: &mut Input, nodes: Nodes) -> Result<Message, WireFault>
-    ensures { Tells (λ x. (x, input.new)) result (prepare_at nodes input.old) }
+    ensures { Tells (λ x. (x, input.new)) result (message_at kind.Prepare nodes input.old) }
 {
     let ballot = read_ballot(input, nodes)?;
     let first = read_slot(input)?;
@@ -227,10 +228,11 @@ fn read_vote(
     })
 }
 
-#[tactic(auto, unfolding(crate::specs::FrameReading::decided_at))]
+#[tactic(auto, unfolding(crate::specs::FrameReading::message_at))]
 fn read_decided(alloc: Global, input: &mut Input) -> Result<Message, WireFault>
-    ensures read { Gives (λ x. (x, input.new)) result (decided_at input.old) }
-    ensures memory { IsErrOf result WireFault.Memory → ReadMayWant (λ x. TakesMemory x.0) (decided_at input.old) }
+    ensures read { (nodes : ℕ) → Gives (λ x. (x, input.new)) result (message_at kind.Decided nodes input.old) }
+    ensures memory { (nodes : ℕ) → IsErrOf result WireFault.Memory
+        → ReadMayWant (λ x. TakesMemory x.0) (message_at kind.Decided nodes input.old) }
 {
     let slot = read_slot(input)?;
     let command = read_held(alloc, input)?;

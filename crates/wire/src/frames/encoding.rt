@@ -4,8 +4,8 @@ ghost use Rattle.std.specs.Prelude.{◌≡◌, ℕ, ◌+◌, ◌*◌, ◌<◌, �
 ghost use Rattle.std.specs.List.{flat_map, AllByRecursion};
 ghost use Rattle.byteorder.specs.Endian.{big_bytes};
 ghost use Rattle.wire.specs.FrameSpelling.{IsFrame, MessageFits, VoteFits, PromiseFits, head_bytes, body_bytes};
-ghost use Rattle.wire.specs.FrameSpelling.{vote_bytes, entry_bytes, promise_bytes, part_asked_bytes, piece_bytes, spelling};
-ghost use Rattle.wire.specs.Parts.{IsPiece, IsPosition, IsPartNumber};
+ghost use Rattle.wire.specs.FrameSpelling.{vote_bytes, entry_bytes, promise_bytes, piece_bytes, spelling};
+ghost use Rattle.wire.specs.Parts.{IsPiece};
 ghost use Rattle.wire.specs.declared.frames.message.Message.TheVariants as message;
 
 use super::entry::Entry;
@@ -113,8 +113,8 @@ fn push_part_asked(
     position: Position,
     number: PartNumber,
 ) -> Result<(), AllocError>
-    ensures spelled { OnOk result (out.new.items ≡ out.old.items ++ part_asked_bytes position number) }
-    ensures fits { OnOk result (IsPosition position × IsPartNumber number) }
+    ensures spelled { OnOk result (out.new.items ≡ out.old.items ++ body_bytes (message.SnapAsk position number)) }
+    ensures fits { OnOk result (MessageFits 7 (message.SnapAsk position number)) }
 {
     push_u32(out, position.value())?;
     push_u32(out, number.offset())

@@ -7,7 +7,8 @@ use Rattle.wire.specs.declared.frames.fault.WireFault.{WireFault}
 use Rattle.wire.specs.declared.frames.fault.WireFault.TheVariants as faults
 use Rattle.wire.specs.declared.frames.envelope.Envelope.{Envelope}
 use Rattle.fields.proofs.FieldLemmas.{IsBytes}
-use Rattle.wire.proofs.FrameLaws.{frame_found, frame_only, head_begins}
+use Rattle.wire.proofs.FrameLaws.{frame_found, frame_only}
+use Rattle.wire.proofs.HeadLaws.{head_begins}
 use Rattle.wire.proofs.FrameLengths.{frame_most}
 use Rattle.wire.proofs.frames.decoding.decode.Goals as goal
 

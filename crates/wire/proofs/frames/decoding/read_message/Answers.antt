@@ -1,4 +1,6 @@
-use Rattle.wire.proofs.InPlaceLemmas.{prepare_never, nack_never, slot_never, position_never, snap_ask_never, hands_on, tells_other}
+use Rattle.std.proofs.Common.{refl}
+use Rattle.wire.specs.declared.frames.kind.Kind.TheVariants as kind
+use Rattle.wire.proofs.InPlaceLemmas.{nack_never, slot_never, position_never, message_never, hands_on, tells_other}
 use Rattle.wire.proofs.frames.decoding.read_message.Goals as goal
 
 -- the bodies that bring nothing
@@ -14,11 +16,11 @@ returns-in_err-read_slot-in-Ask-clause-brings c = λ wanted.
 
 pub returns-in-Prepare-clause-brings : goal.returns-in-Prepare-clause-brings
 returns-in-Prepare-clause-brings c = λ wanted.
-    absurd (tells_other _ c.read_prepare.result _ (prepare_never _ _) c.read_prepare.ensures wanted)
+    absurd (tells_other _ c.read_prepare.result _ (message_never kind.Prepare refl _ _) c.read_prepare.ensures wanted)
 
 pub returns-in-SnapAsk-clause-brings : goal.returns-in-SnapAsk-clause-brings
 returns-in-SnapAsk-clause-brings c = λ wanted.
-    absurd (tells_other _ c.read_snap_ask.result _ (snap_ask_never _) c.read_snap_ask.ensures wanted)
+    absurd (tells_other _ c.read_snap_ask.result _ (message_never kind.SnapAsk refl c.args.nodes _) (c.read_snap_ask.ensures c.args.nodes) wanted)
 
 pub returns-in_err-read_position-in-Behind-clause-brings : goal.returns-in_err-read_position-in-Behind-clause-brings
 returns-in_err-read_position-in-Behind-clause-brings c = λ wanted.
