@@ -103,5 +103,5 @@ message_takes k nodes few bytes x fits e =
 pub message_again : (nodes : ℕ) (m : Message) (rest : List ℕ) → MessageFits nodes m → message_at (kind_of m) nodes (body_bytes m ++ rest)
     ≡ Ok (m, rest)
 unfolding message_at
-message_again nodes (Promise p) rest fits = fields_again nodes (fields_of kind.Promise) Promise p rest fits
+message_again nodes (Promise p) rest fits = fields_again nodes (fields_of kind.Promise) (message_with kind.Promise) p rest fits
 message_again nodes m rest fits = fields_again nodes (fields_of (kind_of m)) (message_with (kind_of m)) (values_of m) rest fits

@@ -23,7 +23,6 @@ use Rattle.wire.specs.declared.frames.fault.WireFault.TheVariants as fault
 use Rattle.wire.specs.declared.frames.kind.Kind.{Kind}
 use Rattle.wire.specs.declared.frames.kind.Kind.TheVariants as kind
 use Rattle.wire.specs.declared.frames.message.Message.{Message}
-use Rattle.wire.specs.declared.frames.message.Message.TheVariants.{Promise}
 use Rattle.wire.specs.declared.frames.promise.TheConstants.{MOST_ENTRIES}
 
 -- ---- the head
@@ -211,7 +210,7 @@ fields_at nodes (field ∷ next ∷ others) make bytes = do
 
 -- a body by the fields that the table has for the kind. One kind is named, so that each of the others is taken by itself.
 unfoldable pub message_at : Kind → ℕ → List ℕ → Read Message
-message_at kind.Promise nodes bytes = fields_at nodes (a_promise ∷ []) Promise bytes
+message_at kind.Promise nodes bytes = fields_at nodes (fields_of kind.Promise) (message_with kind.Promise) bytes
 message_at k nodes bytes = fields_at nodes (fields_of k) (message_with k) bytes
 
 -- ---- frames

@@ -12,6 +12,7 @@ use Rattle.wire.specs.Promises.{Promised, IsPromise, Refused, IsRefusal}
 use Rattle.wire.specs.declared.frames.envelope.Envelope.{Envelope}
 use Rattle.wire.specs.declared.frames.envelope.TheConstants.{MAGIC}
 use Rattle.wire.specs.declared.frames.kind.Kind.{Kind}
+use Rattle.wire.specs.declared.frames.kind.Kind.TheVariants as kind
 use Rattle.wire.specs.declared.frames.message.Message.{Message}
 use Rattle.wire.specs.declared.frames.message.Message.TheVariants.{Promise}
 
@@ -61,7 +62,7 @@ fields_bytes (field ∷ next ∷ others) values = field_bytes field values.0 ++ 
 
 -- the fields that the table has for its kind. One message is named, so that each of the others is taken by itself.
 abbrev pub body_bytes : Message → List ℕ
-body_bytes (Promise p) = promise_bytes p
+body_bytes (Promise p) = fields_bytes (fields_of kind.Promise) p
 body_bytes m = fields_bytes (fields_of (kind_of m)) (values_of m)
 
 -- ---- envelopes
@@ -109,7 +110,7 @@ FieldsFit nodes (field ∷ next ∷ others) values = FieldFits nodes field value
 
 -- one message is named here as well
 abbrev pub MessageFits : ℕ → Message → Type 0
-MessageFits nodes (Promise p) = PromiseFits nodes p
+MessageFits nodes (Promise p) = FieldsFit nodes (fields_of kind.Promise) p
 MessageFits nodes m = FieldsFit nodes (fields_of (kind_of m)) (values_of m)
 
 pub record Fits (nodes : ℕ) (e : Envelope) : Type 0 where

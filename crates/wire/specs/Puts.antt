@@ -13,6 +13,7 @@ use Rattle.wire.specs.FrameSpelling.{head_bytes}
 use Rattle.wire.specs.Kinds.{BodyField, a_command, a_vote, a_promise, a_part, Value, Values, fields_of, kind_of, values_of}
 use Rattle.wire.specs.declared.frames.envelope.TheConstants.{LONGEST_FRAME}
 use Rattle.wire.specs.declared.frames.kind.Kind.{Kind}
+use Rattle.wire.specs.declared.frames.kind.Kind.TheVariants as kind
 use Rattle.wire.specs.declared.frames.message.Message.{Message}
 use Rattle.wire.specs.declared.frames.message.Message.TheVariants.{Promise}
 
@@ -54,7 +55,7 @@ FieldsTake (field ∷ next ∷ others) values = MatchBool (brings_content field)
 
 -- one message is named, so that each of the others is taken by itself
 abbrev pub TakesMemory : Message → Type 0
-TakesMemory (Promise p) = SomeTold p.entries
+TakesMemory (Promise p) = FieldsTake (fields_of kind.Promise) p
 TakesMemory m = FieldsTake (fields_of (kind_of m)) (values_of m)
 
 -- ---- bytes for which memory may be asked, whatever follows them
