@@ -10,14 +10,14 @@
 mod fault;
 mod input;
 mod laws;
-mod reading;
-mod spelling;
+mod reader;
+mod writer;
 
 pub use fault::FieldFault;
 pub use input::Input;
 pub use laws::{ids_are_read_back, sequences_are_read_back, triples_are_read_back};
-pub use reading::{read_id, read_sequence, read_triple};
-pub use spelling::{
+pub use reader::{read_id, read_sequence, read_triple};
+pub use writer::{
     TRIPLE_LEN, id_len, push_id, push_sequence, push_triple, push_u16, push_u32, push_u64,
     sequence_len,
 };

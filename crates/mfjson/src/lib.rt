@@ -8,13 +8,13 @@ mod datetime;
 mod fault;
 mod feature;
 mod laws;
-mod reading;
+mod reader;
 mod tokens;
-mod writing;
+mod writer;
 
 pub use datetime::{datetime_read, datetime_text};
 pub use fault::MfFault;
 pub use feature::Feature;
 pub use laws::a_document_is_of_one_feature;
-pub use reading::read;
-pub use writing::{write, write_after};
+pub use reader::read;
+pub use writer::{write, write_after};

@@ -12,7 +12,7 @@ ghost use Rattle.mfjson.specs.Faults.{SaysCoordinate, SaysCoordinates};
 ghost use Rattle.mfjson.specs.Outline.{SaysThisId, AreTogether};
 ghost use Rattle.mfjson.specs.Tokens.{TokensSay, SaysEach, IsReadEach, SaysCourse, HasMember, HasMembers, IsText, IsWhole};
 
-use crate::reading::points_of;
+use crate::reader::points_of;
 use crate::{Feature, datetime_read};
 use fast_float::Numeral;
 use json::{Element, Scratch, Tape};

@@ -11,8 +11,8 @@ use Rattle.wire.specs.FrameSpelling.{spelling}
 use Rattle.fields.specs.Reading.{id_at}
 use Rattle.wire.specs.Reading.{ballot_of, ballot_at, slot_at, command_at, asked_at, request_at, request_number_at, op_at, remove_at}
 use Rattle.wire.specs.FrameReading.{version_at, kind_at, node_at, ends_at, head_at, range_at, few_at, entries_at, told_at, promise_at}
-use Rattle.wire.specs.FrameReading.{ballot_above, nack_at, vote_at, prepare_at, decided_at, message_at, envelope_at, frame_in}
-use Rattle.wire.specs.FrameReading.{position_at, part_below, snap_ask_at, total_at, part_bytes_at, piece_at}
+use Rattle.wire.specs.FrameReading.{ballot_above, nack_at, vote_at, message_at, envelope_at, frame_in}
+use Rattle.wire.specs.FrameReading.{position_at, part_below, total_at, part_bytes_at, piece_at}
 
 -- an envelope, its bytes, and what three nodes read in them
 record Vector (e : Envelope) (bytes : List ℕ) : Type 0 where
@@ -21,7 +21,7 @@ record Vector (e : Envelope) (bytes : List ℕ) : Type 0 where
 
 prepare_vector : Vector (record { from = 0; to = 1; message = Prepare (ballot_of 1 0) 0 })
     (0x4D ∷ 0x50 ∷ 1 ∷ 1 ∷ 0 ∷ 1 ∷ 0 ∷ 0 ∷ 0 ∷ 0 ∷ 0 ∷ 0 ∷ 0 ∷ 1 ∷ 0 ∷ 0 ∷ 0 ∷ 0 ∷ 0 ∷ [])
-unfolding frame_in envelope_at head_at version_at kind_at ends_at node_at message_at prepare_at ballot_at ballot_of slot_at
+unfolding frame_in envelope_at head_at version_at kind_at ends_at node_at message_at ballot_at ballot_of slot_at
 prepare_vector = record { spelled = refl; read = refl }
 
 promise_vector : Vector (record {
@@ -57,13 +57,13 @@ ask_vector = record { spelled = refl; read = refl }
 
 decided_vector : Vector (record { from = 1; to = 0; message = Decided 0 removal })
     (0x4D ∷ 0x50 ∷ 1 ∷ 7 ∷ 1 ∷ 0 ∷ 0 ∷ 0 ∷ 0 ∷ 0 ∷ 1 ∷ 7 ∷ 0 ∷ 0 ∷ 0 ∷ 0 ∷ 0 ∷ 0 ∷ 0 ∷ 1 ∷ 3 ∷ 5 ∷ 0x62 ∷ 0x75 ∷ 0x73 ∷ 0x2D ∷ 0x37 ∷ [])
-unfolding removal frame_in envelope_at head_at version_at kind_at ends_at node_at message_at decided_at slot_at command_at asked_at
+unfolding removal frame_in envelope_at head_at version_at kind_at ends_at node_at message_at slot_at command_at asked_at
     request_at request_number_at op_at remove_at id_at
 decided_vector = record { spelled = refl; read = refl }
 
 snap_ask_vector : Vector (record { from = 2; to = 0; message = SnapAsk 1 0 })
     (0x4D ∷ 0x50 ∷ 2 ∷ 8 ∷ 2 ∷ 0 ∷ 0 ∷ 0 ∷ 0 ∷ 1 ∷ 0 ∷ 0 ∷ 0 ∷ 0 ∷ [])
-unfolding frame_in envelope_at head_at version_at kind_at ends_at node_at message_at snap_ask_at position_at part_below
+unfolding frame_in envelope_at head_at version_at kind_at ends_at node_at message_at position_at part_below
 snap_ask_vector = record { spelled = refl; read = refl }
 
 -- the whole text of an empty database

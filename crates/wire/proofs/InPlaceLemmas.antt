@@ -3,7 +3,7 @@ use Rattle.std.proofs.Common.{◌≡◌, ℕ, Bool, true, false, cond, ltb, ◌|
 use Rattle.std.proofs.Common.{Result, Ok, Err, IsErrAnd, refl}
 use Rattle.wire.specs.Faults.{widened}
 use Rattle.std.specs.Prelude.{◌==◌}
-use Rattle.std.specs.List.{list_all}
+use Rattle.std.specs.List.{list_any, list_all}
 use Rattle.synod.specs.declared.ballot.Ballot.{Ballot}
 use Rattle.tpoint.specs.Ids.{is_id_byte}
 use Rattle.tpoint.specs.declared.id.TheConstants.{LONGEST_ID}
@@ -13,11 +13,15 @@ use Rattle.fields.specs.Reading.{◌>>=◌, Tells, number_at, byte_at, text_at, 
 use Rattle.wire.specs.declared.frames.fault.WireFault.{WireFault}
 use Rattle.wire.specs.declared.frames.fault.WireFault.TheVariants.{Magic, Version, Field, Memory}
 use Rattle.wire.specs.declared.frames.kind.Kind.{Kind}
-use Rattle.wire.specs.FrameSpelling.{kinds}
+use Rattle.wire.specs.declared.frames.kind.Kind.TheVariants as kind
+use Rattle.wire.specs.Kinds.{BodyField, a_ballot, a_slot, a_command, a_vote, a_refusal, a_promise, a_position, a_part_number, a_part}
+use Rattle.wire.specs.Kinds.{Values, kinds, fields_of, message_with}
+use Rattle.wire.specs.Puts.{brings_content}
 use Rattle.wire.specs.Reading.{wide, ballot_at, slot_at, append_at, remove_at, request_number_at}
-use Rattle.wire.specs.FrameReading.{version_at, known, found_among, kind_at, node_at, ends_at, head_at, ballot_above, nack_at, prepare_at}
-use Rattle.wire.specs.FrameReading.{position_at, part_below, snap_ask_at}
+use Rattle.wire.specs.FrameReading.{version_at, known, found_among, kind_at, node_at, ends_at, head_at, ballot_above, nack_at}
+use Rattle.wire.specs.FrameReading.{position_at, part_below, field_at, fields_at, message_at}
 use Rattle.sessions.specs.declared.snapshot.TheConstants.{LONGEST_SNAPSHOT}
+use Rattle.wire.proofs.WideLemmas.{neither}
 
 -- reading doesn't fail by this fault
 abbrev pub Never : {A F : Type 0} → F → Result A F → Type 0
@@ -152,12 +156,6 @@ head_never nodes bytes =
     (λ kind. two_steps Memory (ends_at nodes kind.1) _ (ends_never nodes kind.1) (λ ends. done Memory _)))
 
 -- ---- bodies
-pub prepare_never : (nodes : ℕ) (bytes : List ℕ) → Never Memory (prepare_at nodes bytes)
-unfolding prepare_at
-prepare_never nodes bytes =
-    two_steps Memory (ballot_at nodes bytes) _ (ballot_never nodes bytes)
-    (λ ballot. two_steps Memory (slot_at ballot.1) _ (slot_never ballot.1) (λ first. done Memory _))
-
 above_never : (nodes : ℕ) (refused : Ballot) (bytes : List ℕ) → Never Memory (ballot_above nodes refused bytes)
 unfolding ballot_above
 above_never nodes refused bytes =
@@ -179,12 +177,33 @@ unfolding part_below
 below_never total bytes =
     two_steps Memory (wide (number_at 4 bytes)) _ (wide_number 4 bytes) (λ offset. tested Memory Field _ _ (λ e. cc) (done Memory _))
 
-pub snap_ask_never : (bytes : List ℕ) → Never Memory (snap_ask_at bytes)
-unfolding snap_ask_at
-snap_ask_never bytes =
-    two_steps Memory (position_at bytes) _ (position_never bytes)
-    (λ position. two_steps Memory (part_below LONGEST_SNAPSHOT position.1) _ (below_never LONGEST_SNAPSHOT position.1)
-    (λ number. done Memory _))
+-- a field that brings no content, and a body of such fields
+field_never : (nodes : ℕ) (field : BodyField) (bytes : List ℕ) → brings_content field ≡ false → Never Memory (field_at nodes field bytes)
+field_never nodes a_ballot bytes none = ballot_never nodes bytes
+field_never nodes a_slot bytes none = slot_never bytes
+field_never nodes a_command bytes none = absurd cc
+field_never nodes a_vote bytes none = absurd cc
+field_never nodes a_refusal bytes none = nack_never nodes bytes
+field_never nodes a_promise bytes none = absurd cc
+field_never nodes a_position bytes none = position_never bytes
+field_never nodes a_part_number bytes none = below_never LONGEST_SNAPSHOT bytes
+field_never nodes a_part bytes none = absurd cc
+
+fields_never : {A : Type 0} (nodes : ℕ) (fields : List BodyField) (make : Values fields → A) (bytes : List ℕ)
+    → list_any brings_content fields ≡ false → Never Memory (fields_at nodes fields make bytes)
+fields_never nodes [] make bytes none = done Memory (make tt, bytes)
+fields_never nodes (field ∷ []) make bytes none =
+    two_steps Memory (field_at nodes field bytes) _ (field_never nodes field bytes (neither _ _ none).0) (λ value. done Memory _)
+fields_never nodes (field ∷ next ∷ others) make bytes none =
+    let n = neither (brings_content field) (list_any brings_content (next ∷ others)) none in
+    two_steps Memory (field_at nodes field bytes) _ (field_never nodes field bytes n.0)
+    (λ value. fields_never nodes (next ∷ others) (λ values. make (value.0, values)) value.1 n.1)
+
+pub message_never : (k : Kind) → list_any brings_content (fields_of k) ≡ false → (nodes : ℕ) (bytes : List ℕ)
+    → Never Memory (message_at k nodes bytes)
+unfolding message_at
+message_never kind.Promise none nodes bytes = absurd cc
+message_never k none nodes bytes = fields_never nodes (fields_of k) (message_with k) bytes none
 
 -- ---- what is returned
 -- a fault that a field without memory hands on

@@ -1,5 +1,6 @@
 pub mod BallotLaws
 pub mod BallotLemmas
+pub mod BodyLaws
 pub mod CommandExamples
 pub mod CommandLaws
 pub mod EntryLemmas
@@ -7,8 +8,11 @@ pub mod FrameExamples
 pub mod FrameLaws
 pub mod FrameLengths
 pub mod FrameSeen
+pub mod HeadLaws
 pub mod InPlaceLemmas
+pub mod KindLaws
 pub mod PartLaws
+pub mod PromiseLaws
 pub mod PushLemmas
 pub mod RecordLaws
 pub mod WantLemmas

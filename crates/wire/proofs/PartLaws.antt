@@ -15,11 +15,9 @@ use Rattle.fields.specs.Reading.{number_at, bytes_at}
 use Rattle.fields.proofs.FieldLemmas.{IsBytes, IsBytes-drop, bind_ok, guard_ok, ok_is, Takes, Takes-then, Took, number_takes, number_again}
 use Rattle.fields.proofs.FieldLemmas.{back2, back4, from_zero, below, at_most, is_number}
 use Rattle.wire.specs.declared.frames.fault.WireFault.TheVariants.{Field}
-use Rattle.wire.specs.declared.frames.message.Message.{Message}
-use Rattle.wire.specs.declared.frames.message.Message.TheVariants.{SnapAsk}
 use Rattle.wire.specs.declared.frames.part.TheConstants.{PART}
-use Rattle.wire.specs.FrameReading.{position_at, part_below, snap_ask_at, total_at, part_bytes_at, piece_at}
-use Rattle.wire.specs.FrameSpelling.{part_asked_bytes, piece_bytes}
+use Rattle.wire.specs.FrameReading.{position_at, part_below, total_at, part_bytes_at, piece_at}
+use Rattle.wire.specs.FrameSpelling.{offset_bytes, piece_bytes}
 use Rattle.wire.specs.Parts.{IsPosition, IsPartNumber, Piece, IsPiece, offset_of, is_total, piece, parts_in, joined}
 use Rattle.wire.proofs.WideLemmas.{bind_wide, wide_ok, neither, both_hold}
 
@@ -46,9 +44,6 @@ position_again n rest fits =
     rw (first, one, two) refl
 
 -- ---- where a part begins
-abbrev offset_bytes : ℕ → List ℕ
-offset_bytes number = big_bytes 4 (offset_of number)
-
 abbrev Begins : ℕ → ℕ → Type 0
 Begins total number = offset_of number < total
 
@@ -85,30 +80,16 @@ number_within total number most low = omega (arith, most, low)
 begins_within : (number : ℕ) → IsPartNumber number → offset_of number < LONGEST_SNAPSHOT
 begins_within number low = omega (arith, low)
 
--- ---- what is asked for
--- the position and the number that were read, and the message that they are
-pub snap_ask_takes : (bytes : List ℕ) (x : Message × List ℕ) → IsBytes bytes → snap_ask_at bytes ≡ Ok x
-    → (y : (ℕ × ℕ) × List ℕ) × ((SnapAsk y.0.0 y.0.1, y.1) ≡ x)
-    × Took (λ (a : ℕ × ℕ). part_asked_bytes a.0 a.1) (λ (a : ℕ × ℕ). IsPosition a.0 × IsPartNumber a.1) bytes y
-unfolding snap_ask_at
-snap_ask_takes bytes x fits e =
-    let p = bind_ok (position_at bytes) _ x e in
-    let tp = position_takes bytes p.0 fits p.1 in
-    let n = bind_ok (part_below LONGEST_SNAPSHOT p.0.1) _ x p.2 in
-    let tn = part_takes LONGEST_SNAPSHOT p.0.1 n.0 tp.takes.rest_fits n.1 in
-    let both = Takes-then bytes (big_bytes 4 p.0.0) p.0.1 (offset_bytes n.0.0) n.0.1 tp.takes tn.takes in
-    let number : IsPartNumber n.0.0 = number_within LONGEST_SNAPSHOT n.0.0 (omega arith) tn.fits in
-    (((p.0.0, n.0.0), n.0.1), ok_is _ _ n.2, record { takes = both; fits = (tp.fits, number) })
+-- of the longest text
+pub part_number_takes : (bytes : List ℕ) (x : ℕ × List ℕ) → IsBytes bytes → part_below LONGEST_SNAPSHOT bytes ≡ Ok x
+    → Took offset_bytes IsPartNumber bytes x
+part_number_takes bytes x fits e =
+    let t = part_takes LONGEST_SNAPSHOT bytes x fits e in
+    record { takes = t.takes; fits = number_within LONGEST_SNAPSHOT x.0 (omega arith) t.fits }
 
-pub snap_ask_again : (position number : ℕ) (rest : List ℕ) → IsPosition position → IsPartNumber number
-    → snap_ask_at (part_asked_bytes position number ++ rest) ≡ Ok (SnapAsk position number, rest)
-unfolding snap_ask_at
-snap_ask_again position number rest fits low =
-    ap snap_ask_at (append_assoc (big_bytes 4 position) (offset_bytes number) rest)
-    ∙ rw (
-      position_again position (offset_bytes number ++ rest) fits,
-      part_again LONGEST_SNAPSHOT number rest (omega arith) (begins_within number low),
-    ) refl
+pub part_number_again : (number : ℕ) (rest : List ℕ) → IsPartNumber number
+    → part_below LONGEST_SNAPSHOT (offset_bytes number ++ rest) ≡ Ok (number, rest)
+part_number_again number rest low = part_again LONGEST_SNAPSHOT number rest (omega arith) (begins_within number low)
 
 -- ---- how many bytes a text has
 record TotalFits (total : ℕ) : Type 0 where

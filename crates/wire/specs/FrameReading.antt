@@ -6,7 +6,8 @@ use Rattle.synod.specs.Ballots.{rank}
 use Rattle.synod.specs.declared.ballot.Ballot.{Ballot}
 use Rattle.synod.specs.declared.vote.Vote.{Vote}
 use Rattle.sessions.specs.declared.command.Command.{Command}
-use Rattle.wire.specs.FrameSpelling.{versions, version_of, byte_of, kinds}
+use Rattle.wire.specs.Kinds.{BodyField, a_ballot, a_slot, a_command, a_vote, a_refusal, a_promise, a_position, a_part_number, a_part}
+use Rattle.wire.specs.Kinds.{Value, Values, version_of, byte_of, fields_of, kinds, message_with}
 use Rattle.synod.specs.declared.slot.TheConstants.{SLOTS}
 use Rattle.sessions.specs.declared.snapshot.TheConstants.{LONGEST_SNAPSHOT}
 use Rattle.wire.specs.Parts.{Piece, is_total, offset_of}
@@ -22,13 +23,12 @@ use Rattle.wire.specs.declared.frames.fault.WireFault.TheVariants as fault
 use Rattle.wire.specs.declared.frames.kind.Kind.{Kind}
 use Rattle.wire.specs.declared.frames.kind.Kind.TheVariants as kind
 use Rattle.wire.specs.declared.frames.message.Message.{Message}
-use Rattle.wire.specs.declared.frames.message.Message.TheVariants.{Prepare, Promise, Nack, Accept, Accepted, Ask, Decided, SnapAsk, SnapPart, Behind}
 use Rattle.wire.specs.declared.frames.promise.TheConstants.{MOST_ENTRIES}
 
 -- ---- the head
--- frames may have this version
+-- frames may have this version: a kind has it
 abbrev pub is_version : ℕ → Bool
-is_version version = list_any (λ v. version == v) versions
+is_version version = list_any (λ k. version == version_of k) kinds
 
 -- the first two bytes, which are tested together, and the version that follows
 unfoldable pub version_at : List ℕ → Read ℕ
@@ -133,7 +133,7 @@ promise_at nodes bytes = do
   told ← told_at nodes ballot.0 range.0 range.1
   Ok (record { ballot = ballot.0; first = range.0.0; last = range.0.1; entries = told.0 }, told.1)
 
--- ---- the other bodies
+-- ---- refusals and votes
 -- a ballot that is above another
 unfoldable pub ballot_above : ℕ → Ballot → List ℕ → Read Ballot
 ballot_above nodes refused bytes = do
@@ -153,18 +153,6 @@ vote_at nodes bytes = do
   command ← command_at slot.1
   Ok (record { slot = slot.0; ballot = ballot.0; command = command.0 }, command.1)
 
-unfoldable pub prepare_at : ℕ → List ℕ → Read Message
-prepare_at nodes bytes = do
-  ballot ← ballot_at nodes bytes
-  first ← slot_at ballot.1
-  Ok (Prepare ballot.0 first.0, first.1)
-
-unfoldable pub decided_at : List ℕ → Read Message
-decided_at bytes = do
-  slot ← slot_at bytes
-  command ← command_at slot.1
-  Ok (Decided slot.0 command.0, command.1)
-
 -- ---- what carries a snapshot
 -- the position of a checkpoint
 unfoldable pub position_at : List ℕ → Read ℕ
@@ -177,12 +165,6 @@ unfoldable pub part_below : ℕ → List ℕ → Read ℕ
 part_below total bytes = do
   offset ← wide (number_at 4 bytes)
   if not (offset.0 % PART == 0) || nat_le total offset.0 then Err Field else Ok (offset.0 / PART, offset.1)
-
-unfoldable pub snap_ask_at : List ℕ → Read Message
-snap_ask_at bytes = do
-  position ← position_at bytes
-  number ← part_below LONGEST_SNAPSHOT position.1
-  Ok (SnapAsk position.0 number.0, number.1)
 
 -- how many bytes a whole text has
 unfoldable pub total_at : List ℕ → Read ℕ
@@ -204,23 +186,34 @@ piece_at bytes = do
   text ← part_bytes_at total.0 number.0 number.1
   Ok (record { position = position.0; total = total.0; number = number.0; bytes = text.0 }, text.1)
 
--- a value as a message
-abbrev pub as_message : {A : Type 0} → (A → Message) → A × List ℕ → Read Message
-as_message f x = Ok (f x.0, x.1)
+-- ---- bodies
+abbrev pub field_at : ℕ → (field : BodyField) → List ℕ → Read (Value field)
+field_at nodes a_ballot bytes = ballot_at nodes bytes
+field_at nodes a_slot bytes = slot_at bytes
+field_at nodes a_command bytes = command_at bytes
+field_at nodes a_vote bytes = vote_at nodes bytes
+field_at nodes a_refusal bytes = nack_at nodes bytes
+field_at nodes a_promise bytes = promise_at nodes bytes
+field_at nodes a_position bytes = position_at bytes
+field_at nodes a_part_number bytes = part_below LONGEST_SNAPSHOT bytes
+field_at nodes a_part bytes = piece_at bytes
+
+-- the fields one after the other, and what their values make
+abbrev pub fields_at : {A : Type 0} → ℕ → (fields : List BodyField) → (Values fields → A) → List ℕ → Read A
+fields_at nodes [] make bytes = Ok (make tt, bytes)
+fields_at nodes (field ∷ []) make bytes = do
+  value ← field_at nodes field bytes
+  Ok (make value.0, value.1)
+fields_at nodes (field ∷ next ∷ others) make bytes = do
+  value ← field_at nodes field bytes
+  fields_at nodes (next ∷ others) (λ values. make (value.0, values)) value.1
+
+-- a body by the fields that the table has for the kind. One kind is named, so that each of the others is taken by itself.
+unfoldable pub message_at : Kind → ℕ → List ℕ → Read Message
+message_at kind.Promise nodes bytes = fields_at nodes (fields_of kind.Promise) (message_with kind.Promise) bytes
+message_at k nodes bytes = fields_at nodes (fields_of k) (message_with k) bytes
 
 -- ---- frames
-unfoldable pub message_at : Kind → ℕ → List ℕ → Read Message
-message_at kind.Prepare nodes bytes = prepare_at nodes bytes
-message_at kind.Promise nodes bytes = promise_at nodes bytes >>= as_message Promise
-message_at kind.Nack nodes bytes = nack_at nodes bytes >>= as_message Nack
-message_at kind.Accept nodes bytes = vote_at nodes bytes >>= as_message Accept
-message_at kind.Accepted nodes bytes = vote_at nodes bytes >>= as_message Accepted
-message_at kind.Ask nodes bytes = slot_at bytes >>= as_message Ask
-message_at kind.Decided nodes bytes = decided_at bytes
-message_at kind.SnapAsk nodes bytes = snap_ask_at bytes
-message_at kind.SnapPart nodes bytes = piece_at bytes >>= as_message SnapPart
-message_at kind.Behind nodes bytes = position_at bytes >>= as_message Behind
-
 -- what a frame begins with
 unfoldable pub envelope_at : ℕ → List ℕ → Read Envelope
 envelope_at nodes bytes = do

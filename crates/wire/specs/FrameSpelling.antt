@@ -5,6 +5,8 @@ use Rattle.byteorder.specs.Endian.{big_bytes}
 use Rattle.synod.specs.declared.vote.Vote.{Vote}
 use Rattle.sessions.specs.declared.command.Command.{Command}
 use Rattle.wire.specs.Spelling.{ballot_bytes, BallotFits, slot_bytes, SlotFits, command_bytes, CommandFits}
+use Rattle.wire.specs.Kinds.{BodyField, a_ballot, a_slot, a_command, a_vote, a_refusal, a_promise, a_position, a_part_number, a_part}
+use Rattle.wire.specs.Kinds.{Value, Values, version_of, byte_of, fields_of, kind_of, values_of}
 use Rattle.wire.specs.Parts.{Piece, IsPiece, IsPosition, IsPartNumber, offset_of}
 use Rattle.wire.specs.Promises.{Promised, IsPromise, Refused, IsRefusal}
 use Rattle.wire.specs.declared.frames.envelope.Envelope.{Envelope}
@@ -12,54 +14,7 @@ use Rattle.wire.specs.declared.frames.envelope.TheConstants.{MAGIC}
 use Rattle.wire.specs.declared.frames.kind.Kind.{Kind}
 use Rattle.wire.specs.declared.frames.kind.Kind.TheVariants as kind
 use Rattle.wire.specs.declared.frames.message.Message.{Message}
-use Rattle.wire.specs.declared.frames.message.Message.TheVariants.{Prepare, Promise, Nack, Accept, Accepted, Ask, Decided, SnapAsk, SnapPart, Behind}
-
--- ---- kinds
--- the versions of frames
-abbrev pub versions : List ℕ
-versions = 1 ∷ 2 ∷ []
-
--- The table of kinds: each has a version and a byte. Reading and spelling both take them from here, so that later
--- kinds are lines more.
-abbrev pub version_of : Kind → ℕ
-version_of kind.Prepare = 1
-version_of kind.Promise = 1
-version_of kind.Nack = 1
-version_of kind.Accept = 1
-version_of kind.Accepted = 1
-version_of kind.Ask = 1
-version_of kind.Decided = 1
-version_of kind.SnapAsk = 2
-version_of kind.SnapPart = 2
-version_of kind.Behind = 2
-
-abbrev pub byte_of : Kind → ℕ
-byte_of kind.Prepare = 1
-byte_of kind.Promise = 2
-byte_of kind.Nack = 3
-byte_of kind.Accept = 4
-byte_of kind.Accepted = 5
-byte_of kind.Ask = 6
-byte_of kind.Decided = 7
-byte_of kind.SnapAsk = 8
-byte_of kind.SnapPart = 9
-byte_of kind.Behind = 10
-
-abbrev pub kinds : List Kind
-kinds = kind.Prepare ∷ kind.Promise ∷ kind.Nack ∷ kind.Accept ∷ kind.Accepted ∷ kind.Ask ∷ kind.Decided ∷ kind.SnapAsk
-    ∷ kind.SnapPart ∷ kind.Behind ∷ []
-
-abbrev pub kind_of : Message → Kind
-kind_of (Prepare ballot first) = kind.Prepare
-kind_of (Promise p) = kind.Promise
-kind_of (Nack n) = kind.Nack
-kind_of (Accept v) = kind.Accept
-kind_of (Accepted v) = kind.Accepted
-kind_of (Ask slot) = kind.Ask
-kind_of (Decided slot command) = kind.Decided
-kind_of (SnapAsk position number) = kind.SnapAsk
-kind_of (SnapPart p) = kind.SnapPart
-kind_of (Behind floor) = kind.Behind
+use Rattle.wire.specs.declared.frames.message.Message.TheVariants.{Promise}
 
 -- ---- bodies
 -- what is proposed or was voted for: the ballot, the slot, the command
@@ -75,26 +30,40 @@ abbrev pub promise_bytes : Promised → List ℕ
 promise_bytes p = ballot_bytes p.ballot ++ ((slot_bytes p.first ++ slot_bytes p.last)
     ++ (length p.entries ∷ flat_map entry_bytes p.entries))
 
--- the position and the place in the text at which a part begins, in four bytes each
-abbrev pub part_asked_bytes : ℕ → ℕ → List ℕ
-part_asked_bytes position number = big_bytes 4 position ++ big_bytes 4 (offset_of number)
+-- both ballots
+abbrev pub refusal_bytes : Refused → List ℕ
+refusal_bytes n = ballot_bytes n.ballot ++ ballot_bytes n.promised
+
+-- a part by the place in the text at which it begins, in four bytes
+abbrev pub offset_bytes : ℕ → List ℕ
+offset_bytes number = big_bytes 4 (offset_of number)
 
 -- the position, how many bytes the whole text has, the place in it, how many bytes follow in two bytes, and these
 abbrev pub piece_bytes : Piece → List ℕ
-piece_bytes p = big_bytes 4 p.position ++ (big_bytes 4 p.total ++ (big_bytes 4 (offset_of p.number)
+piece_bytes p = big_bytes 4 p.position ++ (big_bytes 4 p.total ++ (offset_bytes p.number
     ++ (big_bytes 2 (length p.bytes) ++ p.bytes)))
 
+abbrev pub field_bytes : (field : BodyField) → Value field → List ℕ
+field_bytes a_ballot b = ballot_bytes b
+field_bytes a_slot slot = slot_bytes slot
+field_bytes a_command c = command_bytes c
+field_bytes a_vote v = vote_bytes v
+field_bytes a_refusal n = refusal_bytes n
+field_bytes a_promise p = promise_bytes p
+field_bytes a_position position = big_bytes 4 position
+field_bytes a_part_number number = offset_bytes number
+field_bytes a_part p = piece_bytes p
+
+-- one field behind the other
+abbrev pub fields_bytes : (fields : List BodyField) → Values fields → List ℕ
+fields_bytes [] values = []
+fields_bytes (field ∷ []) value = field_bytes field value
+fields_bytes (field ∷ next ∷ others) values = field_bytes field values.0 ++ fields_bytes (next ∷ others) values.1
+
+-- the fields that the table has for its kind. One message is named, so that each of the others is taken by itself.
 abbrev pub body_bytes : Message → List ℕ
-body_bytes (Prepare ballot first) = ballot_bytes ballot ++ slot_bytes first
-body_bytes (Promise p) = promise_bytes p
-body_bytes (Nack n) = ballot_bytes n.ballot ++ ballot_bytes n.promised
-body_bytes (Accept v) = vote_bytes v
-body_bytes (Accepted v) = vote_bytes v
-body_bytes (Ask slot) = slot_bytes slot
-body_bytes (Decided slot command) = slot_bytes slot ++ command_bytes command
-body_bytes (SnapAsk position number) = part_asked_bytes position number
-body_bytes (SnapPart p) = piece_bytes p
-body_bytes (Behind floor) = big_bytes 4 floor
+body_bytes (Promise p) = fields_bytes (fields_of kind.Promise) p
+body_bytes m = fields_bytes (fields_of (kind_of m)) (values_of m)
 
 -- ---- envelopes
 -- two bytes that begin each frame, the version, the kind, who sends, who receives
@@ -123,17 +92,26 @@ pub record NackFits (nodes : ℕ) (n : Refused) : Type 0 where
   pub promised : BallotFits nodes n.promised
   pub refusal : IsRefusal n
 
+abbrev pub FieldFits : ℕ → (field : BodyField) → Value field → Type 0
+FieldFits nodes a_ballot b = BallotFits nodes b
+FieldFits nodes a_slot slot = SlotFits slot
+FieldFits nodes a_command c = CommandFits c
+FieldFits nodes a_vote v = VoteFits nodes v
+FieldFits nodes a_refusal n = NackFits nodes n
+FieldFits nodes a_promise p = PromiseFits nodes p
+FieldFits nodes a_position position = IsPosition position
+FieldFits nodes a_part_number number = IsPartNumber number
+FieldFits nodes a_part p = IsPiece p
+
+abbrev pub FieldsFit : ℕ → (fields : List BodyField) → Values fields → Type 0
+FieldsFit nodes [] values = Unit {0}
+FieldsFit nodes (field ∷ []) value = FieldFits nodes field value
+FieldsFit nodes (field ∷ next ∷ others) values = FieldFits nodes field values.0 × FieldsFit nodes (next ∷ others) values.1
+
+-- one message is named here as well
 abbrev pub MessageFits : ℕ → Message → Type 0
-MessageFits nodes (Prepare ballot first) = BallotFits nodes ballot × SlotFits first
-MessageFits nodes (Promise p) = PromiseFits nodes p
-MessageFits nodes (Nack n) = NackFits nodes n
-MessageFits nodes (Accept v) = VoteFits nodes v
-MessageFits nodes (Accepted v) = VoteFits nodes v
-MessageFits nodes (Ask slot) = SlotFits slot
-MessageFits nodes (Decided slot command) = SlotFits slot × CommandFits command
-MessageFits nodes (SnapAsk position number) = IsPosition position × IsPartNumber number
-MessageFits nodes (SnapPart p) = IsPiece p
-MessageFits nodes (Behind floor) = IsPosition floor
+MessageFits nodes (Promise p) = FieldsFit nodes (fields_of kind.Promise) p
+MessageFits nodes m = FieldsFit nodes (fields_of (kind_of m)) (values_of m)
 
 pub record Fits (nodes : ℕ) (e : Envelope) : Type 0 where
   pub from : e.from < nodes

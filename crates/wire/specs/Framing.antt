@@ -6,7 +6,7 @@ use Rattle.wire.specs.declared.frames.fault.WireFault.{WireFault}
 use Rattle.wire.specs.declared.frames.spelled.Spelled.{Spelled}
 use Rattle.wire.specs.declared.frames.spelled.Spelled.TheVariants.{Alone, Shared}
 use Rattle.wire.specs.declared.frames.message.Message.{Message}
-use Rattle.wire.specs.declared.frames.message.Message.TheVariants.{Prepare, Promise, Nack, Accept, Accepted, Ask, Decided, SnapAsk, SnapPart, Behind}
+use Rattle.wire.specs.declared.frames.message.Message.TheVariants.{Accepted, Ask}
 
 -- the bytes of a frame, its own or shared
 abbrev pub bytes_in : Spelled → List ℕ
@@ -29,12 +29,4 @@ readdressed e to = record e { to = to }
 -- the slot of the vote of which a message tells that it was cast
 abbrev pub voted_slot : Message → Option ℕ
 voted_slot (Accepted v) = Some v.slot
-voted_slot (Prepare ballot first) = None
-voted_slot (Promise p) = None
-voted_slot (Nack n) = None
-voted_slot (Accept v) = None
-voted_slot (Ask slot) = None
-voted_slot (Decided slot command) = None
-voted_slot (SnapAsk position number) = None
-voted_slot (SnapPart p) = None
-voted_slot (Behind floor) = None
+voted_slot _ = None

@@ -1,6 +1,7 @@
 -- What is read into memory that is asked for: the points of a sequence, a command that lies apart, the votes that a promise tells, and
 -- the bytes of a part.
-use Rattle.std.specs.Prelude.{◌≡◌, ⊤, ℕ, ◌<◌, ◌≤◌, List, [], ◌∷◌, ◌++◌, length, IsOk, IsOkAnd}
+use Rattle.std.specs.Prelude.{◌≡◌, ◌⊎◌, ⊤, ℕ, ◌<◌, ◌≤◌, Bool, true, false, List, [], ◌∷◌, ◌++◌, length, MatchBool, IsOk, IsOkAnd}
+use Rattle.std.specs.List.{list_any}
 use Rattle.fields.specs.Reading.{byte_at, id_at}
 use Rattle.synod.specs.declared.vote.Vote.{Vote}
 use Rattle.store.specs.declared.op.Op.{Op}
@@ -9,11 +10,12 @@ use Rattle.sessions.specs.declared.command.Command.{Command}
 use Rattle.sessions.specs.declared.command.Command.TheVariants.{NoOp, Request}
 use Rattle.wire.specs.Reading.{ballot_at, request_number_at}
 use Rattle.wire.specs.FrameSpelling.{head_bytes}
+use Rattle.wire.specs.Kinds.{BodyField, a_command, a_vote, a_promise, a_part, Value, Values, fields_of, kind_of, values_of}
 use Rattle.wire.specs.declared.frames.envelope.TheConstants.{LONGEST_FRAME}
 use Rattle.wire.specs.declared.frames.kind.Kind.{Kind}
 use Rattle.wire.specs.declared.frames.kind.Kind.TheVariants as kind
 use Rattle.wire.specs.declared.frames.message.Message.{Message}
-use Rattle.wire.specs.declared.frames.message.Message.TheVariants.{Prepare, Promise, Nack, Accept, Accepted, Ask, Decided, SnapAsk, SnapPart, Behind}
+use Rattle.wire.specs.declared.frames.message.Message.TheVariants.{Promise}
 
 abbrev pub IsPut : Op → Type 0
 IsPut (Put id seq) = ⊤
@@ -29,31 +31,37 @@ abbrev pub SomeTold : List (Vote Command) → Type 0
 SomeTold [] = ⊥
 SomeTold (v ∷ vs) = ⊤
 
+-- ---- bodies
+-- the field brings a command, votes, or a part of a text
+abbrev pub brings_content : BodyField → Bool
+brings_content a_command = true
+brings_content a_vote = true
+brings_content a_promise = true
+brings_content a_part = true
+brings_content _ = false
+
+-- memory is taken for the value of a field that brings content: for a promise only where it tells votes
+abbrev pub FieldTakes : (field : BodyField) → Value field → Type 0
+FieldTakes a_promise p = SomeTold p.entries
+FieldTakes _ value = ⊤
+
+-- it is taken for one of the fields
+abbrev pub FieldsTake : (fields : List BodyField) → Values fields → Type 0
+FieldsTake [] values = ⊥
+FieldsTake (field ∷ []) value = MatchBool (brings_content field) (FieldTakes field value) ⊥
+FieldsTake (field ∷ next ∷ others) values = MatchBool (brings_content field)
+    (FieldTakes field values.0 ⊎ FieldsTake (next ∷ others) values.1)
+    (FieldsTake (next ∷ others) values.1)
+
+-- one message is named, so that each of the others is taken by itself
 abbrev pub TakesMemory : Message → Type 0
-TakesMemory (Prepare ballot first) = ⊥
-TakesMemory (Promise p) = SomeTold p.entries
-TakesMemory (Nack n) = ⊥
-TakesMemory (Accept v) = ⊤
-TakesMemory (Accepted v) = ⊤
-TakesMemory (Ask slot) = ⊥
-TakesMemory (Decided slot command) = ⊤
-TakesMemory (SnapAsk position number) = ⊥
-TakesMemory (SnapPart p) = ⊤
-TakesMemory (Behind floor) = ⊥
+TakesMemory (Promise p) = FieldsTake (fields_of kind.Promise) p
+TakesMemory m = FieldsTake (fields_of (kind_of m)) (values_of m)
 
 -- ---- bytes for which memory may be asked, whatever follows them
 -- messages of this kind bring a command, tell votes, or bring a part of a text
 abbrev pub BringsContent : Kind → Type 0
-BringsContent kind.Prepare = ⊥
-BringsContent kind.Promise = ⊤
-BringsContent kind.Nack = ⊥
-BringsContent kind.Accept = ⊤
-BringsContent kind.Accepted = ⊤
-BringsContent kind.Ask = ⊥
-BringsContent kind.Decided = ⊤
-BringsContent kind.SnapAsk = ⊥
-BringsContent kind.SnapPart = ⊤
-BringsContent kind.Behind = ⊥
+BringsContent k = MatchBool (list_any brings_content (fields_of k)) ⊤ ⊥
 
 -- the bytes are not too many for a frame, and begin as one of such a kind, from one node to another
 pub record FrameWithContentBegins (nodes : ℕ) (bytes : List ℕ) : Type 0 where

@@ -1,8 +1,8 @@
 //! Frames: what one node says to another, as bytes.
 
 mod checkpoint;
-mod decoding;
-mod encoding;
+mod decoder;
+mod encoder;
 mod entry;
 mod envelope;
 mod fault;
@@ -14,15 +14,15 @@ mod part;
 mod parts;
 mod position;
 mod promise;
-mod reading;
+mod promise_reader;
 mod records;
 mod spelled;
-mod spelling;
-mod telling;
+mod value_reader;
+mod value_writer;
 
 pub use checkpoint::Checkpoint;
-pub use decoding::{decode, no_frame_begins_another};
-pub use encoding::encode;
+pub use decoder::{decode, no_frame_begins_another};
+pub use encoder::encode;
 pub use entry::Entry;
 pub use envelope::{Envelope, LONGEST_FRAME, MAGIC};
 pub use fault::WireFault;

@@ -1,7 +1,7 @@
 //! Messages between nodes: who is there, what they say, and the frames that carry it.
 //!
-//! Every value of these types fits a frame between seven nodes. `specs/FrameSpelling.antt` defines the bytes of a frame, and
-//! `specs/FrameReading.antt` the fault of bytes that are none.
+//! Every value of these types fits a frame between seven nodes. `specs/Kinds.antt` has the table of kinds of messages,
+//! `specs/FrameSpelling.antt` defines the bytes of a frame, and `specs/FrameReading.antt` the fault of bytes that are none.
 #![tactic(auto)]
 
 mod frames;

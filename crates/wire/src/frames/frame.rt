@@ -8,13 +8,13 @@ ghost use Rattle.wire.specs.Framing.{readdressed, voted_slot};
 ghost use Rattle.wire.specs.Puts.{TakesMemory};
 ghost use Rattle.wire.specs.declared.frames.message.Message.TheVariants as message;
 
-use super::decoding::decode;
-use super::encoding::{spell, spell_decided};
+use super::decoder::decode;
+use super::encoder::{spell, spell_decided};
 use super::envelope::{Envelope, LONGEST_FRAME};
 use super::kind::Kind;
 use super::message::Message;
-use super::reading::read_slot;
 use super::spelled::Spelled;
+use super::value_reader::read_slot;
 use crate::{NodeId, Nodes, Slot};
 use fields::Input;
 use sessions::Command;

@@ -1,7 +1,7 @@
 //! The kinds of messages.
 
 ghost use Rattle.std.specs.Prelude.{◌≡◌};
-ghost use Rattle.wire.specs.FrameSpelling.{version_of, byte_of, kinds};
+ghost use Rattle.wire.specs.Kinds.{version_of, byte_of, kinds};
 ghost use Rattle.wire.specs.FrameReading.{found_among};
 
 /// What kind of message it is. Each kind has a version and a byte, which stand in the head of its frame.

@@ -1,7 +1,7 @@
 //! What nodes say to one another.
 
 ghost use Rattle.std.specs.Prelude.{◌≡◌};
-ghost use Rattle.wire.specs.FrameSpelling.{kind_of};
+ghost use Rattle.wire.specs.Kinds.{kind_of};
 
 use super::kind::Kind;
 use super::nack::Nack;

@@ -1,11 +1,12 @@
 //! What carries a snapshot, read with the first fault that is met.
 
-ghost use Rattle.std.specs.Prelude.{◌≡◌, ◌-◌, ◌<◌, ◌≤◌, ⊤, min, length, IfOk, IsErrOf};
+ghost use Rattle.std.specs.Prelude.{◌≡◌, ℕ, ◌-◌, ◌<◌, ◌≤◌, ⊤, min, length, IfOk, IsErrOf};
 ghost use Rattle.fields.specs.Reading.{Tells};
 ghost use Rattle.sessions.specs.declared.snapshot.TheConstants.{LONGEST_SNAPSHOT};
-ghost use Rattle.wire.specs.FrameReading.{position_at, part_below, snap_ask_at, total_at, part_bytes_at, piece_at};
+ghost use Rattle.wire.specs.FrameReading.{position_at, part_below, total_at, part_bytes_at, piece_at, message_at};
 ghost use Rattle.wire.specs.Parts.{IsPosition, offset_of};
 ghost use Rattle.wire.specs.Reading.{Gives, ReadMayWant};
+ghost use Rattle.wire.specs.declared.frames.kind.Kind.TheVariants as kind;
 
 use super::fault::WireFault;
 use super::message::Message;
@@ -30,9 +31,9 @@ pub(super) fn read_position(input: &mut Input) -> Result<Position, WireFault>
 }
 
 /// Which part of which checkpoint's text is asked for.
-#[tactic(auto, unfolding(crate::specs::FrameReading::snap_ask_at))]
+#[tactic(auto, unfolding(crate::specs::FrameReading::message_at))]
 pub(super) fn read_snap_ask(input: &mut Input) -> Result<Message, WireFault>
-    ensures { Tells (λ x. (x, input.new)) result (snap_ask_at input.old) }
+    ensures { (nodes : ℕ) → Tells (λ x. (x, input.new)) result (message_at kind.SnapAsk nodes input.old) }
 {
     let position = read_position(input)?;
     let number = read_part_below(input, LONGEST_SNAPSHOT as u32)?;

@@ -13,8 +13,8 @@ ghost use Rattle.wire.specs.Spelling.{BallotFits};
 
 use super::checkpoint::Checkpoint;
 use super::fault::WireFault;
-use super::reading::{read_ballot, read_command};
-use super::spelling::{command_len, push_ballot, push_command};
+use super::value_reader::{read_ballot, read_command};
+use super::value_writer::{command_len, push_ballot, push_command};
 use crate::Nodes;
 use byteorder::{BigEndian, ByteOrder};
 use fields::{Input, push_u32};

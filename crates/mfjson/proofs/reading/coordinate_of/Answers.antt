@@ -1,8 +1,0 @@
-use Rattle.std.proofs.Common.{rules}
-use Rattle.mfjson.proofs.reading.coordinate_of.Goals as goal
-
-pub returns-then-is_coordinate : goal.returns-then-is_coordinate
-returns-then-is_coordinate c = search rules
-
-pub returns-else-is_coordinate : goal.returns-else-is_coordinate
-returns-else-is_coordinate c = search rules

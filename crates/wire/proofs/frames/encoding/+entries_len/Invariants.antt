@@ -1,5 +1,0 @@
-use Rattle.std.proofs.Common.{length}
-use Rattle.wire.proofs.frames.encoding.+entries_len.Given as goal
-
-abbrev pub decreases-entries_len : goal.decreases-entries_len
-decreases-entries_len l = length l.entries.now

@@ -1,5 +1,0 @@
-use Rattle.std.proofs.Common.{length}
-use Rattle.wire.proofs.frames.encoding.+push_entries.Given as goal
-
-abbrev pub decreases-push_entries : goal.decreases-push_entries
-decreases-push_entries l = length l.entries.now
