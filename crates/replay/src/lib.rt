@@ -4,14 +4,14 @@
 //! continues in a world that has begun. `specs/Runs.antt` defines a run, `specs/Transcripts.antt` the bytes of its transcript.
 #![tactic(auto)]
 
+mod cluster_run;
 mod entry_lines;
 mod print;
-mod replay_fault;
 mod replayed;
 mod replaying;
 mod report;
 
-pub use replay_fault::{ReplayCause, ReplayFault};
+pub use cluster_run::run_through;
 pub use replayed::Replayed;
 pub use replaying::{replay, run, run_lines};
 pub use report::transcript;

@@ -5,15 +5,13 @@ ghost use Rattle.world_model.specs.Flushing.{IsStart};
 ghost use Rattle.world.specs.Seen.{world_of};
 ghost use Rattle.world_model.specs.Starting.{AreOver};
 ghost use Rattle.world_model.specs.Staying.{StaysSafe};
-ghost use Rattle.replay.specs.Causes.{cause_of};
 ghost use Rattle.replay.specs.Runs.{EndsAt, EndsOver, ActionIsDone, ActionIsRefused, IsReplay, IsRunOver, RunIsStopped, Leads, ReplayEnds, RunFails};
 ghost use Rattle.replay.specs.Runs.{RunsTo, told_of};
 
-use super::replay_fault::{ReplayCause, ReplayFault};
 use super::replayed::Replayed;
 use super::report::transcript;
 use events::WorldFault;
-use schedule::{Action, Schedule, ScheduleLine, parse_schedule};
+use schedule::{Action, ReplayCause, ReplayFault, Schedule, ScheduleLine, parse_schedule};
 use stable::{MemStable, Scripted, Stable};
 use std::alloc::{AllocError, Global};
 use world::{World, fresh_stores};
@@ -35,7 +33,7 @@ pub fn replay(alloc: Global, bytes: &[u8]) -> Result<Replayed<MemStable>, Replay
         (replay : IsReplay (⟦<Scripted<MemStable> as Stable>⟧) bytes.now replayed.text.items)
         × (replay.end ≡ world_of replayed.world)) }
     ensures fault { IfErr result (ReplayEnds (⟦<Scripted<MemStable> as Stable>⟧) bytes.now) }
-    ensures nodes_are_there { IfErr result (λ fault. fault.cause ≢ ReplayCause.NoSuchNode) }
+    ensures nodes_are_there { IfErr result (λ fault. fault.cause ≢ ReplayCause.World WorldFault.NoSuchNode) }
 {
     let schedule = parse_schedule(alloc, bytes)?;
     let stores = match fresh_stores(alloc, schedule.nodes()) {
@@ -43,7 +41,7 @@ pub fn replay(alloc: Global, bytes: &[u8]) -> Result<Replayed<MemStable>, Replay
         Err(_) => {
             return Err(ReplayFault {
                 line: schedule.first(),
-                cause: ReplayCause::Memory,
+                cause: ReplayCause::World(WorldFault::Memory),
             });
         }
     };
@@ -87,7 +85,7 @@ fn start<S: Stable + Drop>(
         Ok(world) => Ok(world),
         Err(fault) => Err(ReplayFault {
             line: schedule.first(),
-            cause: ReplayCause::from(fault),
+            cause: ReplayCause::World(fault),
         }),
     }
 }
@@ -116,7 +114,7 @@ pub fn run_lines<S: Stable + Drop>(
         Ok(text) => Ok(Replayed { text, world }),
         Err(_) => Err(ReplayFault {
             line: last,
-            cause: ReplayCause::Memory,
+            cause: ReplayCause::World(WorldFault::Memory),
         }),
     }
 }
@@ -168,7 +166,7 @@ fn do_line<S: Stable>(
         Ok(()) => Ok(()),
         Err(fault) => Err(ReplayFault {
             line: number,
-            cause: ReplayCause::from(fault),
+            cause: ReplayCause::World(fault),
         }),
     }
 }
@@ -177,8 +175,7 @@ fn do_line<S: Stable>(
 fn act<S: Stable>(alloc: Global, world: &mut World<S>, action: Action) -> Result<(), WorldFault>
     ensures done { MatchResult result
         (λ _. ActionIsDone (⟦<Scripted<S> as Stable>⟧) action (world_of world.old) (world_of world.new))
-        (λ fault. ActionIsRefused (⟦<Scripted<S> as Stable>⟧) action (world_of world.old) (cause_of fault)
-        (world_of world.new)) }
+        (λ fault. ActionIsRefused (⟦<Scripted<S> as Stable>⟧) action (world_of world.old) fault (world_of world.new)) }
     ensures safe { StaysSafe (⟦<Scripted<S> as Stable>⟧) S.IsHonest (world_of world.new) }
 {
     match action {

@@ -10,7 +10,7 @@ use Rattle.replay.proofs.replaying.replay.Goals as goal
 pub returns-in_err-schedule-clause-fault : goal.returns-in_err-schedule-clause-fault
 returns-in_err-schedule-clause-fault c =
     let p = err_from_is_err_and c.from_residual.result c.from_residual.ensures.1 in
-    rw (p.1) (not_read _ c.in_err-schedule.ensures.refused p.2)
+    rw (p.1, p.2) (not_read c.in_err-schedule.ensures.refused)
 
 -- records in memory are always honest
 pub returns-clause-transcript : goal.returns-clause-transcript

@@ -11,5 +11,4 @@ returns-in-Ok-clause-started g c =
 
 pub returns-in-Err-clause-fault : goal.returns-in-Err-clause-fault
 returns-in-Err-clause-fault g c =
-    begins_none g.S.Stable c.args.stores.items c.args.schedule.now c.in-Err.fault c.from.result c.first.result c.from.ensures
-    c.first.ensures c.in-Err.ensures.used c.in-Err.ensures.faults
+    begins_none g.S.Stable c.args.stores.items c.args.schedule.now c.in-Err.fault c.first.result c.first.ensures c.in-Err.ensures.used c.in-Err.ensures.faults

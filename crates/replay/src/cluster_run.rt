@@ -2,15 +2,14 @@
 
 ghost use Rattle.std.specs.Prelude.{◌≡◌, ◌++◌, IfErr, IfOk, MatchResult, OnErr, OnOk};
 ghost use Rattle.cluster.specs.ClusterViews.{cluster_of, world_in};
-ghost use Rattle.replay.specs.Causes.{cause_of};
 ghost use Rattle.replay.specs.LineByLine.{AllDone, LineStops, StopsAtOne};
 ghost use Rattle.world_model.specs.Staying.{IsSafeOver};
-ghost use Rattle.commands.specs.Loops.{IsDone, IsRefused, RunFails, RunsTo, strangers_line, text_of};
+ghost use Rattle.replay.specs.ClusterRuns.{DoneThrough, FailsThrough, RefusedThrough, RunsThrough, strangers_line, text_of};
 
+use super::report::transcript;
 use cluster::{Cluster, Transport};
 use events::WorldFault;
-use replay::{ReplayCause, ReplayFault, transcript};
-use schedule::{Action, Schedule, ScheduleLine};
+use schedule::{Action, ReplayCause, ReplayFault, Schedule, ScheduleLine};
 use stable::{MemStable, Scripted, Stable};
 use std::alloc::{AllocError, Global};
 use std::io::{self, Write};
@@ -30,18 +29,18 @@ pub fn run_through<T: Transport>(
     schedule: Schedule,
     cluster: &mut Cluster<T>,
 ) -> Result<Vec<u8>, ReplayFault>
-    ensures text { IfOk result (λ text. RunsTo (⟦<T as Transport>⟧) schedule
+    ensures text { IfOk result (λ text. RunsThrough (⟦<T as Transport>⟧) schedule
         (cluster_of cluster.old) text.items (cluster_of cluster.new)) }
-    ensures fault { IfErr result (λ fault. RunFails (⟦<T as Transport>⟧) schedule
+    ensures fault { IfErr result (λ fault. FailsThrough (⟦<T as Transport>⟧) schedule
         (cluster_of cluster.old) fault (cluster_of cluster.new)) }
 {
     let last = schedule.last();
-    do_lines(alloc, cluster, schedule.into_lines())?;
+    do_lines_through(alloc, cluster, schedule.into_lines())?;
     match cluster_text(alloc, cluster) {
         Ok(text) => Ok(text),
         Err(_) => Err(ReplayFault {
             line: last,
-            cause: ReplayCause::Memory,
+            cause: ReplayCause::World(WorldFault::Memory),
         }),
     }
 }
@@ -74,53 +73,53 @@ fn print_strangers(text: &mut Vec<u8>, count: u64) -> io::Result<()>
 }
 
 /// Does the lines in order, up to the first that can't be done.
-fn do_lines<T: Transport>(
+fn do_lines_through<T: Transport>(
     alloc: Global,
     cluster: &mut Cluster<T>,
     lines: Vec<ScheduleLine>,
 ) -> Result<(), ReplayFault>
     ensures ends { MatchResult result
-        (λ _. AllDone (IsDone (⟦<T as Transport>⟧)) lines.items (cluster_of cluster.old) (cluster_of cluster.new))
-        (λ fault. StopsAtOne (IsDone (⟦<T as Transport>⟧)) (IsRefused (⟦<T as Transport>⟧))
+        (λ _. AllDone (DoneThrough (⟦<T as Transport>⟧)) lines.items (cluster_of cluster.old) (cluster_of cluster.new))
+        (λ fault. StopsAtOne (DoneThrough (⟦<T as Transport>⟧)) (RefusedThrough (⟦<T as Transport>⟧))
         lines.items (cluster_of cluster.old) fault (cluster_of cluster.new)) }
     ensures safe { OnErr result (IsSafeOver (⟦<Scripted<MemStable> as Stable>⟧) (world_in cluster.new)) }
 {
     for line in lines {
-        do_line(alloc, cluster, line)?;
+        do_line_through(alloc, cluster, line)?;
     }
     Ok(())
 }
 
 /// Does one line, if it can be done.
-fn do_line<T: Transport>(
+fn do_line_through<T: Transport>(
     alloc: Global,
     cluster: &mut Cluster<T>,
     line: ScheduleLine,
 ) -> Result<(), ReplayFault>
     ensures done { MatchResult result
-        (λ _. IsDone (⟦<T as Transport>⟧) line.action (cluster_of cluster.old) (cluster_of cluster.new))
-        (λ fault. LineStops (IsRefused (⟦<T as Transport>⟧)) line (cluster_of cluster.old) fault (cluster_of cluster.new)) }
+        (λ _. DoneThrough (⟦<T as Transport>⟧) line.action (cluster_of cluster.old) (cluster_of cluster.new))
+        (λ fault. LineStops (RefusedThrough (⟦<T as Transport>⟧)) line (cluster_of cluster.old) fault (cluster_of cluster.new)) }
     ensures safe { IsSafeOver (⟦<Scripted<MemStable> as Stable>⟧) (world_in cluster.new) }
 {
     let ScheduleLine { number, action } = line;
-    match act(alloc, cluster, action) {
+    match act_through(alloc, cluster, action) {
         Ok(()) => Ok(()),
         Err(fault) => Err(ReplayFault {
             line: number,
-            cause: ReplayCause::from(fault),
+            cause: ReplayCause::World(fault),
         }),
     }
 }
 
 /// Does what a line asks for.
-fn act<T: Transport>(
+fn act_through<T: Transport>(
     alloc: Global,
     cluster: &mut Cluster<T>,
     action: Action,
 ) -> Result<(), WorldFault>
     ensures done { MatchResult result
-        (λ _. IsDone (⟦<T as Transport>⟧) action (cluster_of cluster.old) (cluster_of cluster.new))
-        (λ fault. IsRefused (⟦<T as Transport>⟧) action (cluster_of cluster.old) (cause_of fault) (cluster_of cluster.new)) }
+        (λ _. DoneThrough (⟦<T as Transport>⟧) action (cluster_of cluster.old) (cluster_of cluster.new))
+        (λ fault. RefusedThrough (⟦<T as Transport>⟧) action (cluster_of cluster.old) fault (cluster_of cluster.new)) }
     ensures safe { IsSafeOver (⟦<Scripted<MemStable> as Stable>⟧) (world_in cluster.new) }
 {
     match action {
