@@ -12,7 +12,7 @@ use super::action::Action;
 use super::fault::ScheduleFault;
 use super::lines::{Line, Lines};
 use super::pending_line::finish_line;
-use super::reading::{later_line, nodes_line};
+use super::one_line::{later_line, nodes_line};
 use super::replay_fault::{ReplayCause, ReplayFault};
 use super::schedule::{Schedule, ScheduleLine};
 use events::{Event, WorldFault};

@@ -3,7 +3,7 @@ use Rattle.std.proofs.lemmas.Result.{err_from_is_err_and}
 use Rattle.stable.specs.Storages.{scripted}
 use Rattle.world.specs.Seen.{world_of}
 use Rattle.replay.proofs.Running.{flush_refused, round_done, round_refused}
-use Rattle.replay.proofs.replaying.act.Goals as goal
+use Rattle.replay.proofs.world_run.act.Goals as goal
 
 -- the flush met its limit, or memory was wanting
 pub returns-in_err-_delivered-in-Flush-clause-done : goal.returns-in_err-_delivered-in-Flush-clause-done

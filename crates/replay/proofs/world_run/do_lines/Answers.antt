@@ -2,7 +2,7 @@ use Rattle.std.proofs.lemmas.Result.{err_from_is_err_and}
 use Rattle.stable.specs.contracts.scripted.ScriptedStable.TheImpl as scripted
 use Rattle.replay.specs.Runs.{ActionIsDone, ActionIsRefused}
 use Rattle.replay.proofs.LineByLine.{all_taken, one_more_taken, stops_here}
-use Rattle.replay.proofs.replaying.do_lines.Goals as goal
+use Rattle.replay.proofs.world_run.do_lines.Goals as goal
 
 pub loop-line-preserved : goal.loop-line-preserved
 loop-line-preserved g c =

@@ -3,7 +3,7 @@ use Rattle.stable.specs.contracts.scripted.ScriptedStable.TheImpl as scripted
 use Rattle.world.specs.Seen.{world_of}
 use Rattle.replay.specs.Runs.{ActionIsDone}
 use Rattle.replay.proofs.LineByLine.{DoneSoFar}
-use Rattle.replay.proofs.replaying.do_lines.Given as goal
+use Rattle.replay.proofs.world_run.do_lines.Given as goal
 
 -- the lines that were taken are done, and the others are left
 abbrev pub invariant-loop-line : goal.invariant-loop-line

@@ -5,7 +5,7 @@ use Rattle.world.proofs.UsedStorages.{none_used}
 use Rattle.replay.specs.Runs.{not_read, not_begun}
 use Rattle.replay.proofs.NodeCount.{replay_ends_by_other}
 use Rattle.replay.proofs.Running.{over_ended, over_ends, over_replayed}
-use Rattle.replay.proofs.replaying.replay.Goals as goal
+use Rattle.replay.proofs.world_run.replay.Goals as goal
 
 pub returns-in_err-schedule-clause-fault : goal.returns-in_err-schedule-clause-fault
 returns-in_err-schedule-clause-fault c =

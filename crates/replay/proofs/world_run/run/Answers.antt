@@ -1,7 +1,7 @@
 use Rattle.std.proofs.lemmas.Result.{err_from_is_err_and}
 use Rattle.world.specs.Seen.{world_of}
 use Rattle.replay.proofs.Running.{ended_over, fails_over, runs_over}
-use Rattle.replay.proofs.replaying.run.Goals as goal
+use Rattle.replay.proofs.world_run.run.Goals as goal
 
 pub returns-in_err-world-clause-fault : goal.returns-in_err-world-clause-fault
 returns-in_err-world-clause-fault g c =

@@ -1,7 +1,7 @@
 use Rattle.std.proofs.lemmas.Result.{err_from_is_err_and}
 use Rattle.stable.specs.contracts.scripted.ScriptedStable.TheImpl as scripted
 use Rattle.replay.proofs.Running.{runs_to, run_ends_at, run_ends_last}
-use Rattle.replay.proofs.replaying.run_lines.Goals as goal
+use Rattle.replay.proofs.world_run.run_lines.Goals as goal
 
 pub returns-in_err-do_lines-clause-fault : goal.returns-in_err-do_lines-clause-fault
 returns-in_err-do_lines-clause-fault g c =

@@ -1,6 +1,6 @@
 use Rattle.schedule.proofs.Told.{err_told}
 use Rattle.schedule.proofs.RowLemmas.{no_words}
-use Rattle.schedule.proofs.reading.any_row.Goals as goal
+use Rattle.schedule.proofs.one_line.any_row.Goals as goal
 
 pub returns-in_err-first : goal.returns-in_err-first
 returns-in_err-first c =

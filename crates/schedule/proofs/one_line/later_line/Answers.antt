@@ -1,5 +1,5 @@
 use Rattle.schedule.proofs.Spelled.{line_read}
-use Rattle.schedule.proofs.reading.later_line.Goals as goal
+use Rattle.schedule.proofs.one_line.later_line.Goals as goal
 
 pub returns : goal.returns
 returns c =

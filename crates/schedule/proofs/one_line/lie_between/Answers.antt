@@ -1,7 +1,7 @@
 use Rattle.std.proofs.Common.{◌≡◌, rules, get_or, inl, inr, ◌∙◌, arith}
 use Rattle.std.proofs.lemmas.Bool.{cases_lt}
 use Rattle.std.proofs.lemmas.List.{get_or_default}
-use Rattle.schedule.proofs.reading.lie_between.Goals as goal
+use Rattle.schedule.proofs.one_line.lie_between.Goals as goal
 
 -- the bytes before this one lie between what were the least and the greatest, and this one is taken into account
 pub loop-byte-preserved : goal.loop-byte-preserved

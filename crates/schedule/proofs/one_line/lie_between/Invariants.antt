@@ -1,6 +1,6 @@
 use Rattle.std.proofs.Common.{◌≤◌}
 use Rattle.std.specs.List.{AllWithin}
-use Rattle.schedule.proofs.reading.lie_between.Given as goal
+use Rattle.schedule.proofs.one_line.lie_between.Given as goal
 
 -- each byte before this one lies between the least and the greatest
 abbrev pub invariant-loop-byte : goal.invariant-loop-byte

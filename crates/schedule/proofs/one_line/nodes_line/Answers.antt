@@ -1,5 +1,5 @@
 use Rattle.schedule.proofs.Spelled.{given_first}
-use Rattle.schedule.proofs.reading.nodes_line.Goals as goal
+use Rattle.schedule.proofs.one_line.nodes_line.Goals as goal
 
 pub returns-in_default-later_line : goal.returns-in_default-later_line
 returns-in_default-later_line c =

@@ -4,7 +4,7 @@ use Rattle.schedule.specs.Keywords.{text_of}
 use Rattle.schedule.specs.declared.keyword.Keyword.{Keyword}
 use Rattle.schedule.specs.declared.keyword.Keyword.TheVariants.{Deliver, Drop, Flush, Timeout, Tick, Checkpoint, Trim, Restart, Fault}
 use Rattle.schedule.proofs.RowLemmas.{refused_row}
-use Rattle.schedule.proofs.reading.row.Goals as goal
+use Rattle.schedule.proofs.one_line.row.Goals as goal
 
 pub returns-in-Nodes : goal.returns-in-Nodes
 returns-in-Nodes c = (c.args.words, ap (λ (k : Keyword). text_of k ∷ c.args.words) c.in-Nodes.is)

@@ -1,6 +1,6 @@
 use Rattle.std.proofs.Common.{rules}
 use Rattle.schedule.proofs.FirstLines.{nodes_of, of_three, of_five, of_seven, seven_bytes}
-use Rattle.schedule.proofs.reading.run_size.Goals as goal
+use Rattle.schedule.proofs.one_line.run_size.Goals as goal
 
 -- the text is `nodes 3`
 pub returns-in-110 : goal.returns-in-110
