@@ -46,8 +46,7 @@ pub fn command<R: Read, O: Write, E: Write, A: Archive>(
     // What goes to `out`: the whole text, or nothing. Of what a stream that fails took no clause speaks.
     ensures done { result ≡ 0 → (text : List ℕ) × IsAnswer (around A.Archive A.Records.Stable) (map string_bytes words.items)
         (R.remaining input.old.inner) archive.old text archive.new × Takes O.contents out.old out.new text }
-    ensures faulty_unprinted { result ≡ 1 → out.new ≡ out.old }
-    ensures usage_unprinted { result ≡ 2 → out.new ≡ out.old }
+    ensures unprinted { (result ≡ 1) ⊎ (result ≡ 2) → out.new ≡ out.old }
     ensures failed_unprinted { result ≡ 3 → ((out.new ≡ out.old) × (failure : Failure) × (status_of failure ≡ 3)
         × IsCutShort (around A.Archive A.Records.Stable) (map string_bytes words.items) (R.remaining input.old.inner)
         input.new.has_failed archive.old failure archive.new × Tells E.contents err.old err.new (line_text failure))

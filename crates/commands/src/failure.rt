@@ -6,37 +6,21 @@ ghost use Rattle.std.specs.IoError.{error_kind};
 ghost use Rattle.commands.specs.Failures.{line_text, status_of};
 ghost use Rattle.commands.specs.declared.failure.Failure.TheVariants.{Memory};
 
+use mfjson::MfFault;
+use schedule::ReplayFault;
 use std::alloc::{AllocError, AllocFailed};
 use std::io::{self, ErrorKind, Write};
 use thiserror::Error;
-
-/// Where a schedule is wrong, or what its World refused there.
-#[derive(Clone, Copy, Debug, PartialEq, Eq)]
-pub struct FaultyLine {
-    /// Which line of the file it is, counted from 1.
-    pub line: u64,
-    /// The number of the fault.
-    pub fault: u8,
-}
-
-/// What is wrong with a document.
-#[derive(Clone, Copy, Debug, PartialEq, Eq)]
-pub struct FaultyDocument {
-    /// The number of the fault.
-    pub fault: u8,
-    /// The element that it tells of, counted from 0, where it tells of one.
-    pub index: Option<usize>,
-}
 
 /// Why a run ends with nothing printed.
 #[derive(Clone, Copy, Debug, Drop, PartialEq, Eq, Error)]
 pub enum Failure {
     /// The schedule is none, or can't be run to its end.
-    #[error("fault {} at line {}", .0.fault, .0.line)]
-    Schedule(FaultyLine),
+    #[error("{0}")]
+    Schedule(ReplayFault),
     /// The document is none.
-    #[error("fault {} of the document", .0.fault)]
-    Document(FaultyDocument),
+    #[error("{0}")]
+    Document(MfFault),
     /// A storage over which the schedule was to run holds a record already.
     #[error("records are there already")]
     NotEmpty,
@@ -70,8 +54,15 @@ impl Failure {
             (line_text self)) }
     {
         match self {
-            Failure::Schedule(at) => { write!(err, "mfpx: line {} fault {}\n", at.line, at.fault) }
-            Failure::Document(at) => at.tell(err),
+            Failure::Schedule(fault) => {
+                write!(
+                    err,
+                    "mfpx: line {} fault {}\n",
+                    fault.line,
+                    fault.cause.code()
+                )
+            }
+            Failure::Document(fault) => tell_document(fault, err),
             Failure::NotEmpty => err.write_all(b"mfpx: fault 55\n"),
             Failure::Usage => err.write_all(b"mfpx: usage\n"),
             Failure::Device => err.write_all(b"mfpx: device\n"),
@@ -80,16 +71,14 @@ impl Failure {
     }
 }
 
-impl FaultyDocument {
-    /// Writes its line of standard error.
-    fn tell<E: Write>(self, err: &mut E) -> io::Result<()>
-        ensures { OnOk result (Appends (E.contents err.old) (E.contents err.new)
-            (line_text (Failure.Document self))) }
-    {
-        match self.index {
-            Some(i) => write!(err, "mfpx: document fault {} at {}\n", self.fault, i),
-            None => write!(err, "mfpx: document fault {}\n", self.fault),
-        }
+/// Writes the line of standard error that tells what is wrong with a document.
+fn tell_document<E: Write>(fault: MfFault, err: &mut E) -> io::Result<()>
+    ensures { OnOk result (Appends (E.contents err.old) (E.contents err.new)
+        (line_text (Failure.Document fault))) }
+{
+    match fault.index() {
+        Some(index) => write!(err, "mfpx: document fault {} at {}\n", fault.code(), index),
+        None => write!(err, "mfpx: document fault {}\n", fault.code()),
     }
 }
 

@@ -2,7 +2,7 @@
 //!
 //! `replay`, `replay_in_memory`, `loopback` and `check` do one command each, or return how the run ends. A replay's records may be those
 //! that an `Archive` opens, and a loopback's frames go through what a `Binder` binds; both are handed in, and asked once the schedule is
-//! parsed. `run_through` does a schedule's lines to any cluster. `specs/Works.antt` and `specs/Archives.antt` define what they produce.
+//! parsed. `specs/Works.antt` and `specs/Archives.antt` define what they produce.
 //!
 //! A `Failure` says why nothing is printed, and has one status and one line. A `CheckedStream` remembers whether it failed, so that a
 //! contract can tell a line that was not written from one that couldn't be, and a file that can't be read from a body that doesn't read
@@ -12,7 +12,6 @@
 mod archive;
 mod binder;
 mod checked_stream;
-mod cluster_run;
 mod documents;
 mod failure;
 mod failures;
@@ -22,8 +21,7 @@ mod replays;
 pub use archive::Archive;
 pub use binder::Binder;
 pub use checked_stream::CheckedStream;
-pub use cluster_run::run_through;
 pub use documents::check;
-pub use failure::{Failure, FaultyDocument, FaultyLine, device_failure};
+pub use failure::{Failure, device_failure};
 pub use loopbacks::loopback;
 pub use replays::{replay, replay_in_memory};

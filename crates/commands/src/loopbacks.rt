@@ -4,11 +4,11 @@ ghost use Rattle.std.specs.Prelude.{◌≡◌, ◌≢◌, ◌⊎◌, IfErr, IfOk
 ghost use Rattle.cluster.specs.ClusterViews.{cluster_of};
 ghost use Rattle.commands.specs.Works.{IsJoined, IsLooped, IsLoopedOver, IsUnread, LoopStops, LoopStopsOver};
 
-use crate::cluster_run::run_through;
 use crate::failures::replay_failure;
 use crate::replays::read_schedule;
 use crate::{Binder, Failure};
 use cluster::{Cluster, Transport};
+use replay::run_through;
 use schedule::Schedule;
 use std::alloc::Global;
 use wire::Nodes;

@@ -8,7 +8,7 @@ ghost use Rattle.commands.specs.Works.{IsUnread, ReplayStops, StopsOver};
 
 use crate::failures::{replay_failure, run_failure};
 use crate::{Archive, Failure};
-use replay::{ReplayFault, Replayed, run};
+use replay::{Replayed, run};
 use schedule::{Schedule, parse_schedule};
 use stable::{MemStable, Scripted, Stable};
 use std::alloc::Global;
@@ -71,7 +71,7 @@ pub(crate) fn read_schedule(alloc: Global, bytes: &[u8]) -> Result<Schedule, Fai
 {
     match parse_schedule(alloc, bytes) {
         Ok(schedule) => Ok(schedule),
-        Err(fault) => Err(replay_failure(ReplayFault::from(fault))),
+        Err(fault) => Err(replay_failure(fault)),
     }
 }
 

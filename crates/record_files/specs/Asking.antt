@@ -5,10 +5,10 @@ use Rattle.stable.specs.declared.fault.StableFault.{StableFault}
 use Rattle.stable.specs.declared.fault.StableFault.TheVariants as fault
 use Rattle.stable.specs.declared.key.Key.{Key}
 use Rattle.stable.specs.declared.stable.Stable.{Ghosts}
-use Rattle.record_files.specs.declared.asking.Answer.{Answer}
-use Rattle.record_files.specs.declared.asking.Answer.TheVariants as answer
-use Rattle.record_files.specs.declared.asking.Asked.{Asked}
-use Rattle.record_files.specs.declared.asking.Asked.TheVariants as asked
+use Rattle.record_files.specs.declared.asked.Answer.{Answer}
+use Rattle.record_files.specs.declared.asked.Answer.TheVariants as answer
+use Rattle.record_files.specs.declared.asked.Asked.{Asked}
+use Rattle.record_files.specs.declared.asked.Asked.TheVariants as asked
 
 module _ {S : Type 0} (g : Ghosts S) (a : S) where
   -- what becomes of it where it answers with a fault other than Damaged

@@ -6,7 +6,7 @@
 #![tactic(auto)]
 
 mod access;
-mod asking;
+mod asked;
 mod record_file;
 mod record_folder;
 

@@ -5,7 +5,7 @@ ghost use Rattle.sqlite.specs.Files.{over_files};
 ghost use Rattle.sqlstable.specs.Keys.{HasStray, records_in};
 ghost use Rattle.sqlstable.specs.Storage.{TableChanges, HasCleanStore, IsSqlHonest, IsUnfailed, TableReadFails, TableReads, failures_of, rows_of};
 
-use crate::asking::{Answer, Asked, ask, leave};
+use crate::asked::{Answer, Asked, ask, leave};
 use sqlite::{File, FileStore};
 use sqlstable::SqlStable;
 use stable::{Key, Stable, StableFault};

@@ -1,3 +1,4 @@
+pub mod ClusterRunning
 pub mod LineByLine
 pub mod NodeCount
 pub mod Running

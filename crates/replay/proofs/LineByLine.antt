@@ -1,26 +1,16 @@
 -- Doing line by line, whatever is done to.
 use Rattle.std.proofs.Common.{◌≡◌, ℕ, ◌+◌, List, [], ◌∷◌, ◌++◌, length, refl, sym, ap, ◌∙◌, subst, append_assoc, append-nil, arith}
 use Rattle.replay.specs.LineByLine.{AllDone, EndsWithout, LineStops, StopsAtOne, at_a_line, at_the_last}
+use Rattle.events.specs.declared.fault.WorldFault.{WorldFault}
+use Rattle.schedule.specs.Causes.{memory}
 use Rattle.schedule.specs.Schedules.{Plan, last_number}
 use Rattle.schedule.specs.declared.action.Action.{Action}
 use Rattle.schedule.specs.declared.schedule.ScheduleLine.{ScheduleLine}
-use Rattle.replay.specs.declared.replay_fault.ReplayCause.{ReplayCause}
-use Rattle.replay.specs.declared.replay_fault.ReplayCause.TheVariants.{Memory}
-use Rattle.replay.specs.declared.replay_fault.ReplayFault.{ReplayFault}
+use Rattle.schedule.specs.declared.replay_fault.ReplayFault.{ReplayFault}
 
 pub nothing_left : {T : Type 0} (l : List T) → length l ≡ 0 → l ≡ []
 nothing_left [] h = refl
 nothing_left (x ∷ xs) h = absurd (omega arith)
-
-module _ {W : Type 0} (IsRefused : Action → W → ReplayCause → W → Type 0) where
-  -- a line is stopped for the cause for which what it asks for is refused
-  pub line_stops : (line : ScheduleLine) (old new : W) (told cause : ReplayCause) → told ≡ cause
-      → IsRefused line.action old cause new
-      → LineStops IsRefused line old (record { line = line.number; cause = told }) new
-  line_stops line old new told cause same refused = record {
-    number = refl;
-    refused = subst (λ (why : ReplayCause). IsRefused line.action old why new) (sym same) refused;
-  }
 
 module _ {W : Type 0} (IsDone : Action → W → W → Type 0) where
   -- one line more
@@ -56,7 +46,7 @@ module _ {W : Type 0} (IsDone : Action → W → W → Type 0) where
       let whole : taken ≡ lines = sym (append-nil taken) ∙ rw empty at so_far.parts ∙ same in
       subst (λ (ls : List ScheduleLine). AllDone IsDone ls start now) whole so_far.led
 
-module _ {W : Type 0} (IsDone : Action → W → W → Type 0) (IsRefused : Action → W → ReplayCause → W → Type 0) where
+module _ {W : Type 0} (IsDone : Action → W → W → Type 0) (IsRefused : Action → W → WorldFault → W → Type 0) where
   -- a line that isn't done, after those that are
   pub stops_here : (lines all taken left rest : List ScheduleLine) (line : ScheduleLine) (count : ℕ) (start now new : W)
       (fault : ReplayFault) → all ≡ lines → DoneSoFar IsDone all taken left count start now → left ≡ line ∷ rest
@@ -80,6 +70,6 @@ module _ {W : Type 0} (IsDone : Action → W → W → Type 0) (IsRefused : Acti
   -- there is no text after all lines
   pub ends_at_the_last : (plan : Plan) (lines : List ScheduleLine) (start end : W) (last : ℕ)
       → lines ≡ plan.lines → AllDone IsDone lines start end → last ≡ last_number plan
-      → EndsWithout IsDone IsRefused plan start (record { line = last; cause = Memory }) end
+      → EndsWithout IsDone IsRefused plan start (record { line = last; cause = memory }) end
   ends_at_the_last plan lines start end last same led is_last =
       at_the_last (subst (λ (ls : List ScheduleLine). AllDone IsDone ls start end) same led) refl is_last

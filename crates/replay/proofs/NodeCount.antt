@@ -19,22 +19,25 @@ use Rattle.world_model.specs.declared.round_end.RoundEnd.TheVariants.{NotAQuorum
 use Rattle.world_model.specs.Worlds.{WorldState, Steps, TakesAt, ReceivesAt, DeliversFrame, recorded, answered, with_submission}
 use Rattle.events.specs.declared.event.Event.{Event}
 use Rattle.events.specs.declared.event.Event.TheVariants.{Submit, Deliver, Drop, Timeout, Tick, Checkpoint, Trim, Restart, Fault, Query}
+use Rattle.events.specs.declared.fault.WorldFault.{WorldFault}
+use Rattle.events.specs.declared.fault.WorldFault.TheVariants.{NoSuchNode}
 use Rattle.node_model.specs.declared.fault.NodeFault.{NodeFault}
 use Rattle.node_model.specs.declared.input.Input.{Input}
 use Rattle.schedule.specs.Lines.{NumberedText}
 use Rattle.replay.specs.LineByLine.{at_a_line, at_the_last}
 use Rattle.replay.specs.Runs.{ActionIsDone, ActionIsRefused, Leads, RunEnds, ReplayEnds, not_read, not_begun, not_run}
+use Rattle.schedule.specs.Causes.{WhyUnread}
 use Rattle.schedule.specs.Schedules.{Plan, SpellEach}
 use Rattle.schedule.specs.Spelling.{Spells, SpellsRound, WordsSpell}
 use Rattle.schedule.specs.Table.{NameEach}
 use Rattle.schedule.specs.Words.{words_of}
 use Rattle.schedule.specs.declared.action.Action.{Action}
 use Rattle.schedule.specs.declared.action.Action.TheVariants.{Step, Flush, Round}
-use Rattle.schedule.specs.declared.fault.ParseFault.TheVariants.{Line, Memory}
+use Rattle.schedule.specs.declared.fault.ScheduleFault.{ScheduleFault}
 use Rattle.schedule.specs.declared.schedule.ScheduleLine.{ScheduleLine}
-use Rattle.replay.specs.declared.replay_fault.ReplayCause.{ReplayCause}
-use Rattle.replay.specs.declared.replay_fault.ReplayCause.TheVariants.{NoSuchNode}
-use Rattle.replay.specs.declared.replay_fault.ReplayFault.{ReplayFault}
+use Rattle.schedule.specs.declared.replay_fault.ReplayCause.{ReplayCause}
+use Rattle.schedule.specs.declared.replay_fault.ReplayCause.TheVariants.{Schedule, World}
+use Rattle.schedule.specs.declared.replay_fault.ReplayFault.{ReplayFault}
 
 -- how many nodes a world has
 abbrev size : {S : Type 0} → WorldState S → ℕ
@@ -193,26 +196,32 @@ module _ {S : Type 0} (storages : Ghosts (Script S)) where
 
   ends_otherwise : (plan : Plan) (texts : List NumberedText) (start end : WorldState S) (fault : ReplayFault)
       → SpellEach plan.nodes texts plan.lines → size start ≡ plan.nodes → RunEnds storages plan start fault end
-      → fault.cause ≢ NoSuchNode
+      → fault.cause ≢ World NoSuchNode
   ends_otherwise plan texts start end fault each same (at_a_line e) is =
       let spelled = line_spelled plan.nodes texts e.before e.after e.line
       (subst (λ (ls : List ScheduleLine). SpellEach plan.nodes texts ls) e.parts each) in
+      let stopped = e.stopped in
+      let why : stopped.why ≡ NoSuchNode = let both = sym stopped.cause ∙ is in cc in
       refused_otherwise e.reached end plan.nodes (words_of spelled.0.text) e.line.action
       (led_keeps storages e.before start e.reached e.led ∙ same) spelled.1.words
-      (subst (λ (cause : ReplayCause). ActionIsRefused storages e.line.action e.reached cause end) is e.stopped.refused)
+      (subst (λ (f : WorldFault). ActionIsRefused storages e.line.action e.reached f end) why stopped.refused)
   ends_otherwise plan texts start end fault each same (at_the_last led memory last) is = let e = sym memory ∙ is in cc
 
+  -- nor does the reading of bytes
+  read_otherwise : (Has : ScheduleFault → Type 0) (OnMemory : Type 0) (cause : ReplayCause) → WhyUnread Has OnMemory cause
+      → cause ≢ World NoSuchNode
+  read_otherwise Has OnMemory (Schedule fault) why is = cc
+  read_otherwise Has OnMemory (World NoSuchNode) why is = absurd why
+  read_otherwise Has OnMemory (World other) why is = cc
+
   -- a replay never ends for want of a node
-  pub replay_ends_otherwise : (bytes : List ℕ) (fault : ReplayFault) → ReplayEnds storages bytes fault → fault.cause ≢ NoSuchNode
-  replay_ends_otherwise bytes fault (not_read (Line at) refused same) is =
-      let e = sym (ap (λ (f : ReplayFault). f.cause) same) ∙ is in cc
-  replay_ends_otherwise bytes fault (not_read (Memory number) refused same) is =
-      let e = sym (ap (λ (f : ReplayFault). f.cause) same) ∙ is in cc
-  replay_ends_otherwise bytes fault (not_begun plan spelled memory first) is = let e = sym memory ∙ is in cc
-  replay_ends_otherwise bytes fault (not_run plan spelled start end starts ends safe) is =
-      ends_otherwise plan spelled.others start end fault spelled.spelled starts.nodes.all ends is
+  pub replay_ends_otherwise : (bytes : List ℕ) (fault : ReplayFault) → ReplayEnds storages bytes fault → fault.cause ≢ World NoSuchNode
+  replay_ends_otherwise bytes fault (not_read refused) = read_otherwise _ _ fault.cause refused
+  replay_ends_otherwise bytes fault (not_begun plan spelled memory first) = λ is. let e = sym memory ∙ is in cc
+  replay_ends_otherwise bytes fault (not_run plan spelled start end starts ends safe) =
+      ends_otherwise plan spelled.others start end fault spelled.spelled starts.nodes.all ends
 
   pub replay_ends_by_other : {T : Type 0} (bytes : List ℕ) (result : Result T ReplayFault)
-      → IfErr result (ReplayEnds storages bytes) → IfErr result (λ fault. fault.cause ≢ NoSuchNode)
+      → IfErr result (ReplayEnds storages bytes) → IfErr result (λ fault. fault.cause ≢ World NoSuchNode)
   replay_ends_by_other bytes (Ok x) ends = ends
   replay_ends_by_other bytes (Err fault) ends = replay_ends_otherwise bytes fault ends

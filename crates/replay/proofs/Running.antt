@@ -15,16 +15,15 @@ use Rattle.world.specs.Seen.{world_of}
 use Rattle.world_model.specs.Starting.{AreOver, OneIsUsed}
 use Rattle.world_model.specs.Staying.{StaysSafe}
 use Rattle.world_model.specs.Worlds.{WorldState}
-use Rattle.replay.specs.Causes.{cause_of}
+use Rattle.schedule.specs.Causes.{memory}
 use Rattle.schedule.specs.declared.action.Action.TheVariants.{Flush, Round}
 use Rattle.replay.proofs.LineByLine.{ends_at_a_line, ends_at_the_last}
 use Rattle.replay.specs.Runs.{ActionIsDone, ActionIsRefused, Leads, EndsAt, RunsTo, RunFails, IsReplay, ReplayEnds}
 use Rattle.replay.specs.Runs.{not_begun, not_run, told_of, IsRunOver, EndsOver, is_used, no_world, no_end}
 use Rattle.schedule.specs.Schedules.{Plan, IsScheduleOf, last_number}
 use Rattle.schedule.specs.declared.schedule.ScheduleLine.{ScheduleLine}
-use Rattle.replay.specs.declared.replay_fault.ReplayCause.{ReplayCause}
-use Rattle.replay.specs.declared.replay_fault.ReplayFault.{ReplayFault}
-use Rattle.replay.specs.declared.replay_fault.ReplayCause.TheVariants.{Memory}
+use Rattle.schedule.specs.declared.replay_fault.ReplayCause.TheVariants.{World}
+use Rattle.schedule.specs.declared.replay_fault.ReplayFault.{ReplayFault}
 use Rattle.replay.specs.declared.replayed.Replayed.{Replayed}
 
 abbrev failed : WorldFault → Result ℕ WorldFault
@@ -39,12 +38,12 @@ module _ {S : Type 0} (storages : Ghosts (Script S)) where
       → (IsErrOf (failed fault) world_fault.FlushLimit → Delivers storages old MOST_DELIVERIES new)
       → (IsErrOf (failed fault) world_fault.Memory → DeliversSome storages old MOST_DELIVERIES new)
       → OneWaits new.waiting → (fault ≡ world_fault.FlushLimit) ⊎ (fault ≡ world_fault.Memory)
-      → ActionIsRefused storages Flush old (cause_of fault) new
+      → ActionIsRefused storages Flush old fault new
   flush_refused old new fault limit memory waits (inl e) =
-      subst (λ (f : WorldFault). ActionIsRefused storages Flush old (cause_of f) new) (sym e)
+      subst (λ (f : WorldFault). ActionIsRefused storages Flush old f new) (sym e)
       (record { delivers = limit (ap failed e); one_waits = waits })
   flush_refused old new fault limit memory waits (inr e) =
-      subst (λ (f : WorldFault). ActionIsRefused storages Flush old (cause_of f) new) (sym e)
+      subst (λ (f : WorldFault). ActionIsRefused storages Flush old f new) (sym e)
       (record { delivers = memory (ap failed e); one_waits = waits })
 
   -- a round of the members that it was handed
@@ -59,12 +58,12 @@ module _ {S : Type 0} (storages : Ghosts (Script S)) where
       → (IsErrOf (broken_off fault) world_fault.NoSuchNode → new ≡ old)
       → (IsErrOf (broken_off fault) world_fault.Memory → IsPartOfRound storages old node handed new)
       → (fault ≡ world_fault.NoSuchNode) ⊎ (fault ≡ world_fault.Memory)
-      → ActionIsRefused storages (Round node members) old (cause_of fault) new
+      → ActionIsRefused storages (Round node members) old fault new
   round_refused old new node handed members fault same no_node unchanged memory (inl e) =
-      subst (λ (f : WorldFault). ActionIsRefused storages (Round node members) old (cause_of f) new) (sym e)
+      subst (λ (f : WorldFault). ActionIsRefused storages (Round node members) old f new) (sym e)
       (subst (λ (ms : List ℕ). NamesNoMember (length old.nodes) node ms) same (no_node (ap broken_off e)), unchanged (ap broken_off e))
   round_refused old new node handed members fault same no_node unchanged memory (inr e) =
-      subst (λ (f : WorldFault). ActionIsRefused storages (Round node members) old (cause_of f) new) (sym e)
+      subst (λ (f : WorldFault). ActionIsRefused storages (Round node members) old f new) (sym e)
       (subst (λ (ms : List ℕ). IsPartOfRound storages old node ms new) same (memory (ap broken_off e)))
 
   -- the transcript after all lines, and the world
@@ -114,7 +113,7 @@ module _ {S : Type 0} (storages : Ghosts (Script S)) where
   -- there is no text after all lines
   pub run_ends_last : (IsHonest : S → Type 0) (plan : Plan) (lines : List ScheduleLine) (start end : WorldState S) (last : ℕ)
       → lines ≡ plan.lines → Leads storages lines start end → last ≡ last_number plan → StaysSafe storages IsHonest end
-      → RunFails storages IsHonest plan start (record { line = last; cause = Memory })
+      → RunFails storages IsHonest plan start (record { line = last; cause = memory })
   run_ends_last IsHonest plan lines start end last same led is_last safe = record {
     end = end;
     ends = ends_at_the_last (ActionIsDone storages) (ActionIsRefused storages) plan lines start end last same led is_last;
@@ -133,11 +132,11 @@ module _ {S : Type 0} (storages : Ghosts (Script S)) where
 -- ---- runs over storages that are handed over
 module _ {S : Type 0} (storages : Ghosts S) (stores : List S) (plan : Plan) where
   -- why no run begins
-  pub begins_none : (fault : WorldFault) (cause : ReplayCause) (line : ℕ) → cause ≡ cause_of fault → line ≡ plan.first
+  pub begins_none : (fault : WorldFault) (line : ℕ) → line ≡ plan.first
       → (fault ≡ world_fault.NotEmpty → OneIsUsed storages stores) → (fault ≡ world_fault.NotEmpty) ⊎ (fault ≡ world_fault.Memory)
-      → EndsOver storages stores plan (record { line = line; cause = cause })
-  begins_none fault cause line same first used (inl e) = is_used (used e) (same ∙ ap cause_of e) first
-  begins_none fault cause line same first used (inr e) = no_world (same ∙ ap cause_of e) first
+      → EndsOver storages stores plan (record { line = line; cause = World fault })
+  begins_none fault line first used (inl e) = is_used (used e) (ap World e) first
+  begins_none fault line first used (inr e) = no_world (ap World e) first
 
   -- a run from where these storages lead
   pub runs_over : (start : WorldState S) (result : Result (Replayed S storages) ReplayFault) → IsStart (scripted storages) plan.nodes start

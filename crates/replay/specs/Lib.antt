@@ -1,4 +1,4 @@
-pub mod Causes
+pub mod ClusterRuns
 pub mod LineByLine
 pub mod Runs
 pub mod Transcripts

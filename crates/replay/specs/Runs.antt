@@ -11,19 +11,19 @@ use Rattle.world_model.specs.Starting.{AreOver, OneIsUsed}
 use Rattle.world_model.specs.Staying.{IsSafeOver, StaysSafe}
 use Rattle.world_model.specs.Worlds.{WorldState, Steps}
 use Rattle.events.specs.declared.event.Event.{Event}
+use Rattle.events.specs.declared.fault.WorldFault.{WorldFault}
+use Rattle.events.specs.declared.fault.WorldFault.TheVariants.{NoSuchFrame, NoSuchNode, FlushLimit, Memory, NotEmpty}
 use Rattle.world_model.specs.declared.round_end.RoundEnd.{RoundEnd}
 use Rattle.world.specs.declared.log.TheConstants.{MOST_DELIVERIES}
-use Rattle.replay.specs.Causes.{fault_of}
 use Rattle.replay.specs.LineByLine.{AllDone, EndsWithout, LineStops, StopsAtOne}
+use Rattle.schedule.specs.Causes.{memory}
 use Rattle.schedule.specs.Schedules.{Plan, IsScheduleOf, IsParseRefusal}
 use Rattle.replay.specs.Transcripts.{transcript_of}
 use Rattle.schedule.specs.declared.action.Action.{Action}
 use Rattle.schedule.specs.declared.action.Action.TheVariants.{Step, Flush, Round}
-use Rattle.schedule.specs.declared.fault.ParseFault.{ParseFault}
 use Rattle.schedule.specs.declared.schedule.ScheduleLine.{ScheduleLine}
-use Rattle.replay.specs.declared.replay_fault.ReplayCause.{ReplayCause}
-use Rattle.replay.specs.declared.replay_fault.ReplayCause.TheVariants.{NoSuchFrame, NoSuchNode, FlushLimit, Memory, NotEmpty}
-use Rattle.replay.specs.declared.replay_fault.ReplayFault.{ReplayFault}
+use Rattle.schedule.specs.declared.replay_fault.ReplayCause.TheVariants.{World}
+use Rattle.schedule.specs.declared.replay_fault.ReplayFault.{ReplayFault}
 
 -- the transcript of all that happened in a world
 abbrev pub told_of : {S : Type 0} → WorldState S → List ℕ
@@ -62,7 +62,7 @@ module _ {S : Type 0} (storages : Ghosts (Script S)) where
 
   -- why a world does not do what a line asks for, and what it is then: as it was, but for the frames that a flush has
   -- delivered, and the steps that a round has made
-  abbrev pub ActionIsRefused : Action → WorldState S → ReplayCause → WorldState S → Type 0
+  abbrev pub ActionIsRefused : Action → WorldState S → WorldFault → WorldState S → Type 0
   ActionIsRefused (Step event) old NoSuchFrame new = NamesNoFrame (length old.frames) event × (new ≡ old)
   ActionIsRefused (Step event) old NoSuchNode new = NamesNoNode (length old.nodes) event × (new ≡ old)
   ActionIsRefused (Step event) old Memory new = NamesWhatIsThere old event × (new ≡ old)
@@ -116,8 +116,8 @@ module _ {S : Type 0} (storages : Ghosts (Script S)) where
   -- why there is no transcript of the bytes: they were not read as a schedule, or memory was wanting, told at their first
   -- line, as it is where no world can be made, or the run ended, in a world as safe as that of a transcript
   pub data ReplayEnds (bytes : List ℕ) (fault : ReplayFault) : Type 0 where
-    not_read : (refusal : ParseFault) → IsParseRefusal bytes refusal → fault ≡ fault_of refusal → ReplayEnds bytes fault
-    not_begun : (plan : Plan) → IsScheduleOf bytes plan → fault.cause ≡ Memory → fault.line ≡ plan.first
+    not_read : IsParseRefusal bytes fault → ReplayEnds bytes fault
+    not_begun : (plan : Plan) → IsScheduleOf bytes plan → fault.cause ≡ memory → fault.line ≡ plan.first
         → ReplayEnds bytes fault
     not_run : (plan : Plan) → IsScheduleOf bytes plan → (start end : WorldState S)
         → IsStart storages plan.nodes start → RunEnds plan start fault end → IsSafeOver storages end
@@ -135,7 +135,7 @@ module _ {S : Type 0} (storages : Ghosts S) where
   -- why there is no transcript: a storage holds a record already, or memory was wanting, as where no world can be made, which
   -- are both told at the first line, or the run ended
   pub data EndsOver (stores : List S) (plan : Plan) (fault : ReplayFault) : Type 0 where
-    is_used : OneIsUsed storages stores → fault.cause ≡ NotEmpty → fault.line ≡ plan.first → EndsOver stores plan fault
-    no_world : fault.cause ≡ Memory → fault.line ≡ plan.first → EndsOver stores plan fault
+    is_used : OneIsUsed storages stores → fault.cause ≡ World NotEmpty → fault.line ≡ plan.first → EndsOver stores plan fault
+    no_world : fault.cause ≡ memory → fault.line ≡ plan.first → EndsOver stores plan fault
     no_end : (start : WorldState S) → IsStart (scripted storages) plan.nodes start → AreOver storages stores start.nodes
         → RunFails (scripted storages) storages.IsHonest plan start fault → EndsOver stores plan fault

@@ -1,17 +1,18 @@
-//! Runs of schedules: each line is done in a world, and the transcript reports the result.
+//! Runs of schedules: each line is done in a world, or in one behind a transport, and the transcript reports the result.
 //!
 //! `replay` parses a schedule and runs it over records in memory, `run` takes a parsed one and any storages, and `run_lines`
-//! continues in a world that has begun. `specs/Runs.antt` defines a run, `specs/Transcripts.antt` the bytes of its transcript.
+//! continues in a world that has begun. `run_through` does the lines over a cluster. `specs/Runs.antt` defines a run in a world,
+//! `specs/ClusterRuns.antt` one over a cluster, `specs/Transcripts.antt` the bytes of a transcript.
 #![tactic(auto)]
 
+mod cluster_run;
 mod entry_lines;
 mod print;
-mod replay_fault;
 mod replayed;
-mod replaying;
 mod report;
+mod world_run;
 
-pub use replay_fault::{ReplayCause, ReplayFault};
+pub use cluster_run::run_through;
 pub use replayed::Replayed;
-pub use replaying::{replay, run, run_lines};
 pub use report::transcript;
+pub use world_run::{replay, run, run_lines};

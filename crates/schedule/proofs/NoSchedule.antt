@@ -4,14 +4,16 @@ use Rattle.std.specs.List.{All, list_all}
 use Rattle.std.proofs.lemmas.List.Sums.{AllPass-from_list_all}
 use Rattle.std.proofs.lemmas.Bool.Decides.{nat_tests}
 use Rattle.schedule.specs.Lines.{NumberedText}
-use Rattle.schedule.specs.Schedules.{Plan, SpellEach, IsScheduleOf, IsFirstFault, no_line, first_line, later_line, IsParseRefusal, IsNoSchedule}
+use Rattle.schedule.specs.Schedules.{Plan, SpellEach, IsScheduleOf, IsFirstFault, no_line, first_line, later_line, IsNumberReached, IsParseRefusal, IsNoSchedule}
 use Rattle.schedule.specs.Spelling.{Spells}
 use Rattle.schedule.specs.Table.{HasFirstFault, HasItsWords, IsNodesLine, IsPrintable, line_of, places}
 use Rattle.schedule.specs.Words.{words_of}
 use Rattle.schedule.specs.declared.action.Action.{Action}
 use Rattle.schedule.specs.declared.keyword.Keyword.TheVariants.{Nodes}
-use Rattle.schedule.specs.declared.fault.ParseFault.{ParseFault}
-use Rattle.schedule.specs.declared.fault.ParseFault.TheVariants.{Line, Memory}
+use Rattle.schedule.specs.Causes.{WhyUnread}
+use Rattle.schedule.specs.declared.replay_fault.ReplayCause.{ReplayCause}
+use Rattle.schedule.specs.declared.replay_fault.ReplayCause.TheVariants.{Schedule, World}
+use Rattle.schedule.specs.declared.replay_fault.ReplayFault.{ReplayFault}
 use Rattle.schedule.specs.declared.fault.ScheduleFault.{ScheduleFault}
 use Rattle.schedule.specs.declared.fault.ScheduleFault.TheVariants.{NotPrintable, UnknownWord, NodesLine, WordCount, WordForm, Document}
 use Rattle.schedule.specs.declared.schedule.ScheduleLine.{ScheduleLine}
@@ -79,7 +81,11 @@ faulty_is_none bytes number fault plan (later_line n line reached at lowest) s =
     let spelled = spelled_at n reached.next.before reached.next.after line plan.lines each_part in
     spelled_faultless n line.text spelled.0 spelled.1 fault lowest.is_there
 
--- a refusal that tells a line tells that there is no schedule
-pub refused_is_none : (bytes : List ℕ) (fault : ParseFault) → IsParseRefusal bytes fault → IsNoSchedule bytes fault
-refused_is_none bytes (Line at) r = λ plan s. faulty_is_none bytes at.line at.fault plan r s
-refused_is_none bytes (Memory number) r = tt
+-- a refusal that tells a faulty line tells that there is no schedule
+none_for : (bytes : List ℕ) (line : ℕ) (cause : ReplayCause) → WhyUnread (IsFirstFault bytes line) (IsNumberReached bytes line) cause
+    → IsNoSchedule bytes cause
+none_for bytes line (Schedule fault) r = λ plan s. faulty_is_none bytes line fault plan r s
+none_for bytes line (World fault) r = tt
+
+pub refused_is_none : (bytes : List ℕ) (fault : ReplayFault) → IsParseRefusal bytes fault → IsNoSchedule bytes fault.cause
+refused_is_none bytes fault r = none_for bytes fault.line fault.cause r

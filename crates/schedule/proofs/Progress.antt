@@ -3,13 +3,16 @@ use Rattle.std.proofs.Common.{◌≡◌, ℕ, List, [], ◌∷◌, ◌++◌, app
 use Rattle.std.specs.List.{All}
 use Rattle.std.proofs.lemmas.List.Elements.{All-cons, All-nil}
 use Rattle.schedule.specs.Lines.{NumberedText, lines_of}
-use Rattle.schedule.specs.Reading.{LinesAreRead, IsLineRefusal, IsLaterRefusal}
-use Rattle.schedule.specs.Schedules.{SpellEach, IsFaultless, later_line, IsParseRefusal}
+use Rattle.schedule.specs.Reading.{LinesAreRead, IsLineRefusal, IsLaterRefusal, IsUnreadFor}
+use Rattle.schedule.specs.Schedules.{SpellEach, IsFaultless, IsFirstFault, IsNumberReached, IsParseRefusal, LineIsReached, later_line}
 use Rattle.schedule.specs.Spelling.{Spells}
 use Rattle.schedule.specs.Table.{IsNodesLine}
 use Rattle.schedule.specs.declared.action.Action.{Action}
-use Rattle.schedule.specs.declared.fault.ParseFault.{ParseFault}
-use Rattle.schedule.specs.declared.fault.ParseFault.TheVariants.{Line, Memory}
+use Rattle.events.specs.declared.fault.WorldFault.TheVariants as world_fault
+use Rattle.schedule.specs.Causes.{WhyUnread, memory}
+use Rattle.schedule.specs.declared.replay_fault.ReplayCause.{ReplayCause}
+use Rattle.schedule.specs.declared.replay_fault.ReplayCause.TheVariants.{Schedule, World}
+use Rattle.schedule.specs.declared.replay_fault.ReplayFault.{ReplayFault}
 use Rattle.schedule.specs.declared.schedule.ScheduleLine.{ScheduleLine}
 use Rattle.schedule.proofs.Spelled.{spelled_faultless}
 
@@ -39,7 +42,7 @@ read_faultless n (t ∷ ts) (r ∷ rs) each =
     All-cons (IsFaultless n) t ts (spelled_faultless n t.text r.action each.1) (read_faultless n ts rs each.2)
 
 pub stops_there : (n : ℕ) (lines left more : List NumberedText) (line : NumberedText) (read : List ScheduleLine)
-    (fault : ParseFault) → LinesAreRead n lines left read → left ≡ line ∷ more → IsLineRefusal n line fault
+    (fault : ReplayFault) → LinesAreRead n lines left read → left ≡ line ∷ more → IsLineRefusal n line fault
     → IsLaterRefusal n lines fault
 stops_there n lines left more line read fault r next refusal = (
   line,
@@ -53,15 +56,22 @@ stops_there n lines left more line read fault r next refusal = (
 )
 
 pub stops_for_memory : (n : ℕ) (lines left more : List NumberedText) (line : NumberedText) (read : List ScheduleLine)
-    (fault : ParseFault) → LinesAreRead n lines left read → left ≡ line ∷ more → fault ≡ Memory line.number
+    (fault : ReplayFault) → LinesAreRead n lines left read → left ≡ line ∷ more → fault ≡ record { line = line.number; cause = memory }
     → IsLaterRefusal n lines fault
 stops_for_memory n lines left more line read fault r next same =
-    rw same (stops_there n lines left more line read (Memory line.number) r next refl)
+    rw same (stops_there n lines left more line read (record { line = line.number; cause = memory }) r next
+    (record { number = refl; why = tt }))
 
 -- a later line's refusal is the file's
-pub refused_later : (bytes : List ℕ) (n : ℕ) (first : NumberedText) (others : List NumberedText) (fault : ParseFault)
+refused_at : (bytes : List ℕ) (n number : ℕ) (line : NumberedText) (cause : ReplayCause) → LineIsReached bytes n line
+    → number ≡ line.number → IsUnreadFor n line.text cause
+    → WhyUnread (IsFirstFault bytes number) (IsNumberReached bytes number) cause
+refused_at bytes n number line (Schedule fault) reached same why = later_line n line reached same why
+refused_at bytes n number line (World world_fault.Memory) reached same why = (n, line, same, reached)
+refused_at bytes n number line (World other) reached same why = absurd why
+
+pub refused_later : (bytes : List ℕ) (n : ℕ) (first : NumberedText) (others : List NumberedText) (fault : ReplayFault)
     → lines_of bytes ≡ first ∷ others → IsNodesLine first.text n → IsLaterRefusal n others fault → IsParseRefusal bytes fault
-refused_later bytes n first others (Line at) lines nodes (line, next, (same, lowest)) =
-    later_line n line (record { first = first; others = others; lines = lines; nodes_line = nodes; next = next }) same lowest
-refused_later bytes n first others (Memory number) lines nodes (line, next, same) =
-    (n, line, same, record { first = first; others = others; lines = lines; nodes_line = nodes; next = next })
+refused_later bytes n first others fault lines nodes (line, next, refusal) =
+    refused_at bytes n fault.line line fault.cause
+    (record { first = first; others = others; lines = lines; nodes_line = nodes; next = next }) refusal.number refusal.why

@@ -9,24 +9,25 @@ use Rattle.mfjson.specs.declared.fault.MfFault.TheVariants as mf_fault
 use Rattle.mfjson.specs.declared.feature.Feature.{Feature}
 use Rattle.store.specs.declared.op.Op.TheVariants as op
 use Rattle.schedule.specs.Codes.{code_of, IsLowestFault}
-use Rattle.schedule.specs.Lines.{NumberedText}
-use Rattle.schedule.specs.Reading.{IsLineRefusal}
+use Rattle.schedule.specs.Reading.{IsUnreadFor}
 use Rattle.schedule.specs.Rows.{IsWordsFault, in_first_line}
 use Rattle.schedule.specs.Spelling.{Spells, SpellsOp, SpellsRound, WordsSpell}
 use Rattle.schedule.specs.Table.{line_of, submit_of, HasFault, HasFirstFault, HasUnknownWord}
 use Rattle.schedule.specs.Table.{HasWrongDocument, IsPrintable, SayEach}
 use Rattle.schedule.specs.Table.{places}
-use Rattle.schedule.specs.PendingLines.{Becomes, LineGives, IsNotRead, Puts, WordsGive}
+use Rattle.schedule.specs.PendingLines.{Becomes, DocumentWasRefused, IsNoList, IsNotRead, LineGives, Puts, WordsGive}
 use Rattle.schedule.specs.Words.{blank, words_of}
 use Rattle.schedule.specs.declared.action.Action.{Action}
-use Rattle.schedule.specs.declared.fault.ParseFault.{ParseFault}
-use Rattle.schedule.specs.declared.fault.ParseFault.TheVariants.{Line, Memory}
+use Rattle.events.specs.declared.fault.WorldFault.TheVariants as world_fault
+use Rattle.schedule.specs.declared.replay_fault.ReplayCause.{ReplayCause}
+use Rattle.schedule.specs.declared.replay_fault.ReplayCause.TheVariants.{Schedule, World}
 use Rattle.schedule.specs.declared.fault.ScheduleFault.{ScheduleFault}
 use Rattle.schedule.specs.declared.fault.ScheduleFault.TheVariants.{NotPrintable, UnknownWord, NodesLine, WordCount, WordForm, Document}
 use Rattle.schedule.specs.declared.keyword.Keyword.TheVariants as keyword
 use Rattle.schedule.specs.declared.keyword.Operation.TheVariants as operation
 use Rattle.schedule.specs.declared.pending_line.PendingLine.{PendingLine}
 use Rattle.schedule.specs.declared.pending_line.PendingLine.TheVariants as given
+use Rattle.schedule.specs.declared.pending_line.PendingRound.{PendingRound}
 use Rattle.schedule.specs.declared.pending_line.Putting.{Putting}
 use Rattle.schedule.proofs.Faults.{IsRowOf, document_lowest, from_two, from_three, lowest_unprintable}
 use Rattle.schedule.proofs.Faults.{prints_throughout, row_faultless}
@@ -130,34 +131,44 @@ line_spells n text (given.Round r) action gives (members, named, same) =
     rw same (record { prints = gives.prints; words = (_, leads.words_are, spells) })
 
 -- or it has a wrong one, or memory was wanting
-pub line_refused : (n : ℕ) (line : NumberedText) (unread : PendingLine) (fault : ParseFault) → LineGives n line.text unread
-    → IsNotRead n line.number unread fault → IsLineRefusal n line fault
-line_refused n line (given.Whole whole) fault gives not = absurd not
-line_refused n line (given.Put p) (Memory number) gives not = not
-line_refused n line (given.Put p) (Line at) gives not =
+wrong_document : (n : ℕ) (text : List ℕ) (p : Putting) (cause : ReplayCause) → LineGives n text (given.Put p)
+    → DocumentWasRefused p.document.now cause → IsUnreadFor n text cause
+wrong_document n text p (World world_fault.Memory) gives not = tt
+wrong_document n text p (World other) gives not = absurd not
+wrong_document n text p (Schedule fault) gives not =
     let s = gives.words.0 in
-    let wrong : HasWrongDocument (words_of line.text) = record {
+    let wrong : HasWrongDocument (words_of text) = record {
       node = s.node_word;
       client = s.client_word;
       number = s.number_word;
       document = p.document.now;
       words_are = rw (← gives.words.1) s.words_are;
-      stands_for_none = not.2;
+      stands_for_none = not.1;
     } in
-    let lowest = document_lowest n line.text gives.prints (put_row_of n (words_of line.text) p gives.words) wrong in
-    (not.0, subst (IsLowestFault (HasFault n line.text)) (sym not.1) lowest)
-line_refused n line (given.Round r) (Memory number) gives not = not
-line_refused n line (given.Round r) (Line at) gives not =
-    let leads = gives.words in
-    let wrong : IsWordsFault n (words_of line.text) WordForm =
-    rw leads.words_are (members_fault n leads.node_word r.members.now not.2) in
-    (not.0, subst (IsLowestFault (HasFault n line.text)) (sym not.1) (words_fault_lowest n line.text WordForm gives.prints wrong))
+    let lowest = document_lowest n text gives.prints (put_row_of n (words_of text) p gives.words) wrong in
+    subst (IsLowestFault (HasFault n text)) (sym not.0) lowest
 
-pub line_result : (n : ℕ) (line : NumberedText) (unread : PendingLine) (read : Result Action ParseFault) → LineGives n line.text unread
-    → MatchResult read (Becomes n unread) (IsNotRead n line.number unread)
-    → MatchResult read (Spells n line.text) (IsLineRefusal n line)
-line_result n line unread (Ok action) gives becomes = line_spells n line.text unread action gives becomes
-line_result n line unread (Err fault) gives not = line_refused n line unread fault gives not
+wrong_list : (n : ℕ) (text : List ℕ) (r : PendingRound) (cause : ReplayCause) → LineGives n text (given.Round r)
+    → IsNoList n r.members.now cause → IsUnreadFor n text cause
+wrong_list n text r (World world_fault.Memory) gives not = tt
+wrong_list n text r (World other) gives not = absurd not
+wrong_list n text r (Schedule fault) gives not =
+    let leads = gives.words in
+    let wrong : IsWordsFault n (words_of text) WordForm =
+    rw leads.words_are (members_fault n leads.node_word r.members.now not.1) in
+    subst (IsLowestFault (HasFault n text)) (sym not.0) (words_fault_lowest n text WordForm gives.prints wrong)
+
+pub line_refused : (n : ℕ) (text : List ℕ) (unread : PendingLine) (cause : ReplayCause) → LineGives n text unread
+    → IsNotRead n unread cause → IsUnreadFor n text cause
+line_refused n text (given.Whole whole) cause gives not = absurd not
+line_refused n text (given.Put p) cause gives not = wrong_document n text p cause gives not
+line_refused n text (given.Round r) cause gives not = wrong_list n text r cause gives not
+
+pub line_result : (n : ℕ) (text : List ℕ) (unread : PendingLine) (read : Result Action ReplayCause) → LineGives n text unread
+    → MatchResult read (Becomes n unread) (IsNotRead n unread)
+    → MatchResult read (Spells n text) (IsUnreadFor n text)
+line_result n text unread (Ok action) gives becomes = line_spells n text unread action gives becomes
+line_result n text unread (Err cause) gives not = line_refused n text unread cause gives not
 
 -- ---- first lines
 -- a first line that would do as a later one

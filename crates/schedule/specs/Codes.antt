@@ -1,9 +1,6 @@
 -- The numbers and the texts of the faults.
 use Rattle.std.specs.Prelude.{ℕ, ◌≤◌, List, ◌++◌, codes}
 use Rattle.std.specs.Fmt.{decimal}
-use Rattle.schedule.specs.declared.fault.LineFault.{LineFault}
-use Rattle.schedule.specs.declared.fault.ParseFault.{ParseFault}
-use Rattle.schedule.specs.declared.fault.ParseFault.TheVariants as parse_fault
 use Rattle.schedule.specs.declared.fault.ScheduleFault.{ScheduleFault}
 use Rattle.schedule.specs.declared.fault.ScheduleFault.TheVariants.{NotPrintable, UnknownWord, NodesLine, WordCount, WordForm, Document}
 
@@ -32,10 +29,3 @@ fault_text Document = codes "the document stands for no feature"
 -- a line's number, and what is wrong with it
 abbrev pub at_line : ℕ → List ℕ → List ℕ
 at_line line text = codes "line " ++ (decimal line ++ (codes ": " ++ text))
-
-abbrev pub line_fault_text : LineFault → List ℕ
-line_fault_text at = at_line at.line (fault_text at.fault)
-
-abbrev pub parse_fault_text : ParseFault → List ℕ
-parse_fault_text (parse_fault.Line at) = line_fault_text at
-parse_fault_text (parse_fault.Memory line) = at_line line (codes "out of memory")

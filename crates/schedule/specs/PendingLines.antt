@@ -4,19 +4,20 @@ use Rattle.mfjson.specs.Document.{IsDocumentOf}
 use Rattle.mfjson.specs.declared.feature.Feature.{Feature}
 use Rattle.store.specs.declared.op.Op.TheVariants as op
 use Rattle.events.specs.declared.event.Event.TheVariants as event
+use Rattle.schedule.specs.Causes.{WhyUnread}
 use Rattle.schedule.specs.Spelling.{SubmitsRequest, WordsSpell}
 use Rattle.schedule.specs.Table.{IsNode, IsPrintable, NameEach}
 use Rattle.schedule.specs.Words.{words_of}
 use Rattle.schedule.specs.declared.action.Action.{Action}
 use Rattle.schedule.specs.declared.action.Action.TheVariants as act
-use Rattle.schedule.specs.declared.fault.ParseFault.{ParseFault}
-use Rattle.schedule.specs.declared.fault.ParseFault.TheVariants.{Line, Memory}
+use Rattle.schedule.specs.declared.fault.ScheduleFault.{ScheduleFault}
 use Rattle.schedule.specs.declared.fault.ScheduleFault.TheVariants.{Document, WordForm}
 use Rattle.schedule.specs.declared.keyword.Operation.TheVariants as operation
 use Rattle.schedule.specs.declared.pending_line.PendingLine.{PendingLine}
 use Rattle.schedule.specs.declared.pending_line.PendingLine.TheVariants.{Whole, Put, Round}
 use Rattle.schedule.specs.declared.pending_line.Putting.{Putting}
 use Rattle.schedule.specs.declared.pending_line.PendingRound.{PendingRound}
+use Rattle.schedule.specs.declared.replay_fault.ReplayCause.{ReplayCause}
 
 -- the words put the document, whatever it stands for
 abbrev pub Puts : ℕ → List (List ℕ) → Putting → Type 0
@@ -52,22 +53,24 @@ Becomes n (Put p) action =
 Becomes n (Round r) action =
     (members : List ℕ) × NameEach n (words_of r.members.now) members × (action ≡ act.Round r.node members)
 
--- why a document was not read, at the line of this number: it stands for no feature, or a growth
--- was refused
-abbrev pub DocumentWasRefused : ℕ → List ℕ → ParseFault → Type 0
-DocumentWasRefused number document (Line at) = (at.line ≡ number) × (at.fault ≡ Document)
-    × ((feature : Feature) → ¬ (IsDocumentOf document feature))
-DocumentWasRefused number document (Memory line) = line ≡ number
+-- the document stands for no feature
+abbrev pub IsWrongDocument : List ℕ → ScheduleFault → Type 0
+IsWrongDocument document fault = (fault ≡ Document) × ((feature : Feature) → ¬ (IsDocumentOf document feature))
 
--- why a list of nodes was not read, at the line of this number: its words don't name nodes of the run, or a growth
--- was refused
-abbrev pub IsNoList : ℕ → ℕ → List ℕ → ParseFault → Type 0
-IsNoList n number list (Line at) = (at.line ≡ number) × (at.fault ≡ WordForm)
-    × ((nodes : List ℕ) → ¬ (NameEach n (words_of list) nodes))
-IsNoList n number list (Memory line) = line ≡ number
+-- why a document was not read
+abbrev pub DocumentWasRefused : List ℕ → ReplayCause → Type 0
+DocumentWasRefused document = WhyUnread (IsWrongDocument document) (Unit {0})
+
+-- the words of the list don't name nodes of the run
+abbrev pub IsWrongList : ℕ → List ℕ → ScheduleFault → Type 0
+IsWrongList n list fault = (fault ≡ WordForm) × ((nodes : List ℕ) → ¬ (NameEach n (words_of list) nodes))
+
+-- why a list of nodes was not read
+abbrev pub IsNoList : ℕ → List ℕ → ReplayCause → Type 0
+IsNoList n list = WhyUnread (IsWrongList n list) (Unit {0})
 
 -- why the line is no action
-abbrev pub IsNotRead : ℕ → ℕ → PendingLine → ParseFault → Type 0
-IsNotRead n number (Put p) fault = DocumentWasRefused number p.document.now fault
-IsNotRead n number (Round r) fault = IsNoList n number r.members.now fault
-IsNotRead n number (Whole whole) fault = ⊥
+abbrev pub IsNotRead : ℕ → PendingLine → ReplayCause → Type 0
+IsNotRead n (Put p) cause = DocumentWasRefused p.document.now cause
+IsNotRead n (Round r) cause = IsNoList n r.members.now cause
+IsNotRead n (Whole whole) cause = ⊥

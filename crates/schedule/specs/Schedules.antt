@@ -1,13 +1,15 @@
 -- Which bytes are the spelling of a schedule, and where else the first fault is.
 use Rattle.std.specs.Prelude.{◌≡◌, ℕ, ◌-◌, Option, Some, None, List, [], ◌∷◌, ◌++◌, length, slice_get, All}
+use Rattle.schedule.specs.Causes.{WhyUnread}
 use Rattle.schedule.specs.Codes.{IsLowestFault}
 use Rattle.schedule.specs.Lines.{NumberedText, lines_of}
 use Rattle.schedule.specs.Spelling.{Spells}
 use Rattle.schedule.specs.Table.{HasFault, HasFirstFault, IsNodesLine}
 use Rattle.schedule.specs.declared.fault.ScheduleFault.{ScheduleFault}
 use Rattle.schedule.specs.declared.fault.ScheduleFault.TheVariants.{NodesLine}
-use Rattle.schedule.specs.declared.fault.ParseFault.{ParseFault}
-use Rattle.schedule.specs.declared.fault.ParseFault.TheVariants.{Line, Memory}
+use Rattle.schedule.specs.declared.replay_fault.ReplayCause.{ReplayCause}
+use Rattle.schedule.specs.declared.replay_fault.ReplayCause.TheVariants.{Schedule, World}
+use Rattle.schedule.specs.declared.replay_fault.ReplayFault.{ReplayFault}
 use Rattle.schedule.specs.declared.schedule.ScheduleLine.{ScheduleLine}
 
 -- a run of so many nodes, as its first line says, and its lines after that, in order
@@ -78,11 +80,10 @@ IsNumberReached bytes number =
     (n : ℕ) × (line : NumberedText) × (number ≡ line.number) × LineIsReached bytes n line
 
 -- why the bytes were not read as a schedule
-abbrev pub IsParseRefusal : List ℕ → ParseFault → Type 0
-IsParseRefusal bytes (Line at) = IsFirstFault bytes at.line at.fault
-IsParseRefusal bytes (Memory number) = IsNumberReached bytes number
+abbrev pub IsParseRefusal : List ℕ → ReplayFault → Type 0
+IsParseRefusal bytes fault = WhyUnread (IsFirstFault bytes fault.line) (IsNumberReached bytes fault.line) fault.cause
 
 -- where a faulty line is told, the bytes are no schedule's
-abbrev pub IsNoSchedule : List ℕ → ParseFault → Type 0
-IsNoSchedule bytes (Line at) = (plan : Plan) → ¬ (IsScheduleOf bytes plan)
-IsNoSchedule bytes (Memory number) = Unit {0}
+abbrev pub IsNoSchedule : List ℕ → ReplayCause → Type 0
+IsNoSchedule bytes (Schedule fault) = (plan : Plan) → ¬ (IsScheduleOf bytes plan)
+IsNoSchedule bytes (World fault) = Unit {0}

@@ -1,4 +1,4 @@
-//! Why a file is no schedule.
+//! What is wrong with a line of a schedule.
 
 ghost use Rattle.std.specs.Prelude.{◌≡◌};
 ghost use Rattle.schedule.specs.Codes.{code_of};
@@ -58,49 +58,3 @@ impl fmt::Display for ScheduleFault {
 }
 
 impl Error for ScheduleFault {}
-
-/// The first faulty line, and the lowest of its faults.
-#[derive(Clone, Copy, Debug, PartialEq, Eq)]
-pub struct LineFault {
-    /// Which line of the file it is, counted from 1.
-    pub line: u64,
-    pub fault: ScheduleFault,
-}
-
-impl fmt::Display for LineFault {
-    ghost use Rattle.std.specs.Prelude.{Some};
-    ghost use Rattle.schedule.specs.Codes.{line_fault_text};
-
-    ghost output = { λ fault. Some (line_fault_text fault) };
-
-    fn fmt<W: fmt::Write>(&self, f: &mut fmt::Formatter<W>) -> fmt::Result {
-        write!(f, "line {}: {}", self.line, self.fault)
-    }
-}
-
-impl Error for LineFault {}
-
-/// Why no schedule was read.
-#[derive(Clone, Copy, Debug, PartialEq, Eq)]
-pub enum ParseFault {
-    /// The file is none.
-    Line(LineFault),
-    /// A growth was refused at the line of this number, before which no line is faulty.
-    Memory(u64),
-}
-
-impl fmt::Display for ParseFault {
-    ghost use Rattle.std.specs.Prelude.{Some};
-    ghost use Rattle.schedule.specs.Codes.{parse_fault_text};
-
-    ghost output = { λ fault. Some (parse_fault_text fault) };
-
-    fn fmt<W: fmt::Write>(&self, f: &mut fmt::Formatter<W>) -> fmt::Result {
-        match self {
-            ParseFault::Line(fault) => fault.fmt(f),
-            ParseFault::Memory(line) => write!(f, "line {line}: out of memory"),
-        }
-    }
-}
-
-impl Error for ParseFault {}

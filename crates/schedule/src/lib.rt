@@ -2,7 +2,7 @@
 //!
 //! `parse_schedule` returns the schedule that the bytes spell, or the first faulty line and the lowest of its faults.
 //! `specs/Schedules.antt` defines which bytes spell which schedule, over `specs/Spelling.antt` and `specs/Table.antt`; no bytes
-//! spell two. Nothing runs here: the crate `replay` does the lines.
+//! spell two. Nothing runs here: the crate `replay` does the lines. A `ReplayFault` says at which line there is no replay, and why.
 #![tactic(auto)]
 
 mod action;
@@ -13,18 +13,20 @@ mod keyword;
 mod laws;
 mod lines;
 mod members;
+mod one_line;
 mod parse;
 mod pending_line;
 mod queries;
-mod reading;
+mod replay_fault;
 mod rows;
 mod schedule;
 mod submits;
 mod words;
 
 pub use action::Action;
-pub use fault::{LineFault, ParseFault, ScheduleFault};
+pub use fault::ScheduleFault;
 pub use laws::{faulty_is_no_schedule, first_faults_are_one, schedules_are_one};
 pub use members::Members;
 pub use parse::parse_schedule;
+pub use replay_fault::{ReplayCause, ReplayFault};
 pub use schedule::{Schedule, ScheduleLine};

@@ -1,48 +1,50 @@
 //! Reading a whole schedule.
 
 ghost use Rattle.std.specs.Prelude.{◌≡◌, [], ◌∷◌, ◌++◌, filter, IfOk, IfErr, MatchResult};
+ghost use Rattle.schedule.specs.Causes.{memory};
 ghost use Rattle.schedule.specs.Lines.{is_filled};
-ghost use Rattle.schedule.specs.Reading.{IsLaterRefusal, IsLineRefusal};
+ghost use Rattle.schedule.specs.Reading.{IsLaterRefusal, IsLineRefusal, IsUnreadFor};
 ghost use Rattle.schedule.specs.Entries.{entry_of};
 ghost use Rattle.schedule.specs.Schedules.{IsScheduleOf, IsParseRefusal, IsNoSchedule, SpellEach};
 ghost use Rattle.schedule.specs.Spelling.{Spells};
 
 use super::action::Action;
-use super::fault::{LineFault, ParseFault, ScheduleFault};
+use super::fault::ScheduleFault;
 use super::lines::{Line, Lines};
 use super::pending_line::finish_line;
-use super::reading::{later_line, nodes_line};
+use super::one_line::{later_line, nodes_line};
+use super::replay_fault::{ReplayCause, ReplayFault};
 use super::schedule::{Schedule, ScheduleLine};
-use events::Event;
+use events::{Event, WorldFault};
 use std::alloc::Global;
 use store::Op;
 use wire::Nodes;
 
 /// The schedule that the bytes spell; else the first faulty line and the lowest of its faults.
 ///
-/// `Memory` comes where a growth was refused, and tells the line that was reached: no line before
+/// `WorldFault::Memory` comes where a growth was refused, and tells the line that was reached: no line before
 /// it is faulty. The bytes are read once, from the front.
-pub fn parse_schedule(alloc: Global, bytes: &[u8]) -> Result<Schedule, ParseFault>
+pub fn parse_schedule(alloc: Global, bytes: &[u8]) -> Result<Schedule, ReplayFault>
     ensures spelled { IfOk result (IsScheduleOf bytes.now) }
     ensures refused { IfErr result (IsParseRefusal bytes.now) }
-    ensures no_schedule { IfErr result (IsNoSchedule bytes.now) }
+    ensures no_schedule { IfErr result (λ fault. IsNoSchedule bytes.now fault.cause) }
 {
     let mut lines = Lines::of(bytes);
     let Some(first) = lines.next() else {
-        return Err(ParseFault::Line(LineFault {
+        return Err(ReplayFault {
             line: 1,
-            fault: ScheduleFault::NodesLine,
-        }));
+            cause: ReplayCause::Schedule(ScheduleFault::NodesLine),
+        });
     };
     match nodes_line(first.text) {
         Ok(nodes) => {
             let later = later_lines(alloc, nodes, lines)?;
             Ok(Schedule::new(first.number, nodes, later))
         }
-        Err(fault) => Err(ParseFault::Line(LineFault {
+        Err(fault) => Err(ReplayFault {
             line: first.number,
-            fault,
-        })),
+            cause: ReplayCause::Schedule(fault),
+        }),
     }
 }
 
@@ -51,7 +53,7 @@ fn later_lines(
     alloc: Global,
     nodes: Nodes,
     mut lines: Lines,
-) -> Result<Vec<ScheduleLine>, ParseFault>
+) -> Result<Vec<ScheduleLine>, ReplayFault>
     ensures { MatchResult result (λ read. SpellEach nodes (filter is_filled lines.entry) read.items)
         (IsLaterRefusal nodes (filter is_filled lines.entry)) }
 {
@@ -70,29 +72,42 @@ fn later_lines(
 }
 
 /// The action that the line spells.
-fn action_of(alloc: Global, nodes: Nodes, line: Line) -> Result<Action, ParseFault>
+fn action_of(alloc: Global, nodes: Nodes, line: Line) -> Result<Action, ReplayFault>
     ensures { MatchResult result (Spells nodes line.entry.text.now)
         (IsLineRefusal nodes (entry_of line.entry)) }
 {
-    match later_line(nodes, line.text) {
-        Ok(unread) => finish_line(alloc, nodes, line.number, unread),
-        Err(fault) => Err(ParseFault::Line(LineFault {
+    match read_action(alloc, nodes, line.text) {
+        Ok(action) => Ok(action),
+        Err(cause) => Err(ReplayFault {
             line: line.number,
-            fault,
-        })),
+            cause,
+        }),
+    }
+}
+
+/// The action that the text of a line spells.
+fn read_action(alloc: Global, nodes: Nodes, text: &[u8]) -> Result<Action, ReplayCause>
+    ensures { MatchResult result (Spells nodes text.now) (IsUnreadFor nodes text.now) }
+{
+    match later_line(nodes, text) {
+        Ok(unread) => finish_line(alloc, nodes, unread),
+        Err(fault) => Err(ReplayCause::Schedule(fault)),
     }
 }
 
 /// Adds the line.
-fn keep(read: &mut Vec<ScheduleLine>, line: ScheduleLine) -> Result<(), ParseFault>
+fn keep(read: &mut Vec<ScheduleLine>, line: ScheduleLine) -> Result<(), ReplayFault>
     ensures { MatchResult result (λ _. read.new.items ≡ read.old.items ++ line ∷ [])
-        (λ fault. fault ≡ ParseFault.Memory line.number) }
+        (λ fault. fault ≡ record { line = line.number; cause = memory }) }
 {
     let number = line.number;
     // What a line holds, by name: without it `push` gets no proof at this type.
     let _within: Option<(Action, Event, Op)> = None;
     match read.push(line) {
         Ok(()) => Ok(()),
-        Err(_) => Err(ParseFault::Memory(number)),
+        Err(_) => Err(ReplayFault {
+            line: number,
+            cause: ReplayCause::World(WorldFault::Memory),
+        }),
     }
 }

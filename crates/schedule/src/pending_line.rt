@@ -7,11 +7,12 @@ ghost use Rattle.schedule.specs.PendingLines.{Becomes, DocumentWasRefused, IsNoL
 ghost use Rattle.schedule.specs.Words.{words_of};
 
 use super::action::Action;
-use super::fault::{LineFault, ParseFault, ScheduleFault};
+use super::fault::ScheduleFault;
 use super::forms::node;
 use super::members::Members;
+use super::replay_fault::ReplayCause;
 use super::words::Words;
-use events::Event;
+use events::{Event, WorldFault};
 use mfjson::{Feature, MfFault};
 use sessions::Number;
 use std::alloc::Global;
@@ -45,68 +46,59 @@ pub(crate) enum PendingLine<'a> {
     Round(PendingRound<'a>),
 }
 
-/// The action, with its document or its members read. The line of a fault is the one of this number.
+/// The action, with its document or its members read.
 pub(crate) fn finish_line(
     alloc: Global,
     nodes: Nodes,
-    number: u64,
     unread: PendingLine,
-) -> Result<Action, ParseFault>
-    ensures { MatchResult result (Becomes nodes unread.entry) (IsNotRead nodes number unread.entry) }
+) -> Result<Action, ReplayCause>
+    ensures { MatchResult result (Becomes nodes unread.entry) (IsNotRead nodes unread.entry) }
 {
     match unread {
         PendingLine::Whole(action) => Ok(action),
-        PendingLine::Put(putting) => match feature_of(alloc, number, putting.document) {
+        PendingLine::Put(putting) => match feature_of(alloc, putting.document) {
             Ok(feature) => Ok(Action::Step(Event::Submit {
                 node: putting.node,
                 client: putting.client,
                 number: putting.number,
                 op: Op::Put(feature.id, feature.seq),
             })),
-            Err(fault) => Err(fault),
+            Err(cause) => Err(cause),
         },
-        PendingLine::Round(rounding) => match members_of(alloc, nodes, number, rounding.members) {
+        PendingLine::Round(rounding) => match members_of(alloc, nodes, rounding.members) {
             Ok(members) => Ok(Action::Round {
                 node: rounding.node,
                 members,
             }),
-            Err(fault) => Err(fault),
+            Err(cause) => Err(cause),
         },
     }
 }
 
-/// The feature that the document stands for, at the line of this number.
-fn feature_of(alloc: Global, number: u64, document: &[u8]) -> Result<Feature, ParseFault>
-    ensures { MatchResult result (IsDocumentOf document.now) (DocumentWasRefused number document.now) }
+/// The feature that the document stands for.
+fn feature_of(alloc: Global, document: &[u8]) -> Result<Feature, ReplayCause>
+    ensures { MatchResult result (IsDocumentOf document.now) (DocumentWasRefused document.now) }
 {
     match mfjson::read(alloc, document) {
         Ok(feature) => Ok(feature),
         Err(fault) => match fault {
-            MfFault::Memory => Err(ParseFault::Memory(number)),
-            _ => Err(ParseFault::Line(LineFault {
-                line: number,
-                fault: ScheduleFault::Document,
-            })),
+            MfFault::Memory => Err(ReplayCause::World(WorldFault::Memory)),
+            _ => Err(ReplayCause::Schedule(ScheduleFault::Document)),
         },
     }
 }
 
-/// The members that the words of the list name, at the line of this number.
-fn members_of(alloc: Global, nodes: Nodes, number: u64, list: &[u8]) -> Result<Members, ParseFault>
-    ensures { MatchResult result (NameEach nodes (words_of list.now)) (IsNoList nodes number list.now) }
+/// The members that the words of the list name.
+fn members_of(alloc: Global, nodes: Nodes, list: &[u8]) -> Result<Members, ReplayCause>
+    ensures { MatchResult result (NameEach nodes (words_of list.now)) (IsNoList nodes list.now) }
 {
     let mut words = Words::of(list);
     let mut members = Vec::new(alloc);
     while let Some(word) = words.next() {
         let Some(member) = node(nodes, word) else {
-            return Err(ParseFault::Line(LineFault {
-                line: number,
-                fault: ScheduleFault::WordForm,
-            }));
+            return Err(ReplayCause::Schedule(ScheduleFault::WordForm));
         };
-        if let Err(_) = members.push(member) {
-            return Err(ParseFault::Memory(number));
-        }
+        members.push(member)?;
     }
     Ok(Members::new(members))
 }

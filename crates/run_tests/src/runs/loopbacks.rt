@@ -4,7 +4,9 @@ ghost use Rattle.std.specs.Prelude.{◌≡◌, ◌⊎◌, IfErr};
 
 use crate::runs::clusters::{REMOVED, asked, has_lines, node, pump_twice};
 use cluster::Transport;
-use commands::{Binder, Failure, FaultyLine, loopback};
+use commands::{Binder, Failure, loopback};
+use events::WorldFault;
+use schedule::{ReplayCause, ReplayFault, ScheduleFault};
 use std::alloc::Global;
 use std::net::{IpAddr, Ipv4Addr, SocketAddr, UdpSocket};
 use std::test::Fail;
@@ -105,14 +107,22 @@ fn schedules_through_sockets(rt: HostRuntime) {
 // Bytes that are no schedule, and a line that can't be done.
 #[test]
 fn loopbacks_that_stop(rt: HostRuntime) {
-    for (schedule, line, fault) in [
-        (b"nodes 4\n".as_slice(), 1, 3),
-        (b"nodes 3\n\ndeliver 0\n", 3, 51),
+    for (schedule, line, cause) in [
+        (
+            b"nodes 4\n".as_slice(),
+            1,
+            ReplayCause::Schedule(ScheduleFault::NodesLine),
+        ),
+        (
+            b"nodes 3\n\ndeliver 0\n",
+            3,
+            ReplayCause::World(WorldFault::NoSuchFrame),
+        ),
     ] {
         let failure = looped(&rt, schedule).err();
         assert_eq!(rt;
             failure,
-            Some(Failure::Schedule(FaultyLine { line, fault }))
+            Some(Failure::Schedule(ReplayFault { line, cause }))
         );
     }
 }

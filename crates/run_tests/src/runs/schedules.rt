@@ -1,9 +1,11 @@
 //! Lines of schedules with their faults, and a run over records. Schedules with their transcripts are the examples.
 
 use crate::runs::worlds::three_storages;
-use replay::{ReplayCause, ReplayFault, run};
+use events::WorldFault;
+use replay::run;
 use schedule::{
-    ParseFault, faulty_is_no_schedule, first_faults_are_one, parse_schedule, schedules_are_one,
+    ReplayCause, ReplayFault, faulty_is_no_schedule, first_faults_are_one, parse_schedule,
+    schedules_are_one,
 };
 use stable::MemStable;
 use std::alloc::Global;
@@ -207,8 +209,8 @@ const FILES: [(&[u8], u64, u8); 33] = [
 
 fn refusal(alloc: Global, bytes: &[u8]) -> Option<(u64, u8)> {
     match parse_schedule(alloc, bytes) {
-        Err(ParseFault::Line(at)) => Some((at.line, at.fault.code())),
-        _ => None,
+        Err(fault) => Some((fault.line, fault.cause.code())),
+        Ok(_) => None,
     }
 }
 
@@ -274,7 +276,7 @@ fn runs_over_records(rt: HostRuntime) -> Result<(), Fail> {
     assert_eq!(rt; is_told_over(alloc, three_storages(alloc, 3)?), Ok(true));
     let not_empty = ReplayFault {
         line: 1,
-        cause: ReplayCause::NotEmpty,
+        cause: ReplayCause::World(WorldFault::NotEmpty),
     };
     assert_eq!(rt;
         is_told_over(alloc, three_storages(alloc, 2)?),

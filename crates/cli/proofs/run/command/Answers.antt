@@ -51,8 +51,7 @@ returns-in-Ok g c = record {
   file_alone = rw (← c.as_slice.ensures.value) c.run.ensures.file_alone;
   archive_untouched = λ two. absurd (omega arith);
   done = λ zero. rw (← c.as_slice.ensures.value) c.in-Ok.ensures.done;
-  faulty_unprinted = λ one. absurd (omega arith);
-  usage_unprinted = λ two. absurd (omega arith);
+  unprinted = λ either. absurd (elim either [ | inl one ↦ omega arith | inr two ↦ omega arith ]);
   failed_unprinted = λ three. absurd (omega arith);
   done_silently = λ zero. refl;
   faulty = λ one. absurd (omega arith);
@@ -72,8 +71,10 @@ returns g c = record {
   file_alone = rw (← c.as_slice.ensures.value) c.run.ensures.file_alone;
   archive_untouched = λ two. c.in-Err.ensures.archive_untouched (is_usage _ (sym c.report.ensures.status ∙ two));
   done = λ zero. absurd (not_done _ (sym c.report.ensures.status ∙ zero));
-  faulty_unprinted = λ one. c.in-Err.ensures.untouched (is_no_device _ (λ three. omega (arith, c.report.ensures.status)));
-  usage_unprinted = λ two. c.in-Err.ensures.untouched (is_no_device _ (λ three. omega (arith, c.report.ensures.status)));
+  unprinted = λ either. c.in-Err.ensures.untouched (is_no_device _ (λ three. elim either [
+    | inl one ↦ omega (arith, c.report.ensures.status)
+    | inr two ↦ omega (arith, c.report.ensures.status)
+  ]));
   failed_unprinted = λ three. rw (← c.as_slice.ensures.value) (elim (c.in-Err.ensures.unprinted (is_no_usage _ (sym c.report.ensures.status ∙ three))) [
     | inl unprinted ↦ inl (unprinted.0, c.in-Err.failure, sym c.report.ensures.status ∙ three, unprinted.1, c.report.ensures.line)
     | inr printed ↦ inr printed

@@ -8,7 +8,6 @@ use Rattle.schedule.proofs.pending_line.members_of.Goals as goal
 pub returns-in_default-node : goal.returns-in_default-node
 returns-in_default-node c = (
   refl,
-  refl,
   stranger c.args.nodes (words_of c.args.list.now) _ _ c.in-Some.word.now _ c.loop-word.invariant c.in-Some.ensures
       c.in_default-node.ensures,
 )
@@ -16,4 +15,4 @@ returns-in_default-node c = (
 pub loop-word-preserved : goal.loop-word-preserved
 loop-word-preserved c =
     one_named c.args.nodes (words_of c.args.list.now) _ _ c.in-Some.word.now _ _ c.in-Some-node.member
-    c.loop-word.invariant c.in-Some.ensures c.in-Some-node.ensures c.in_default-push.ensures.items
+    c.loop-word.invariant c.in-Some.ensures c.in-Some-node.ensures c.in_ok-push.ensures.items

@@ -1,0 +1,12 @@
+use Rattle.std.specs.Vec.Iter.{into_iter_items, into_iter_len}
+use Rattle.stable.specs.contracts.scripted.ScriptedStable.TheImpl as scripted
+use Rattle.world.specs.Seen.{world_of}
+use Rattle.replay.specs.Runs.{ActionIsDone}
+use Rattle.replay.proofs.LineByLine.{DoneSoFar}
+use Rattle.replay.proofs.world_run.do_lines.Given as goal
+
+-- the lines that were taken are done, and the others are left
+abbrev pub invariant-loop-line : goal.invariant-loop-line
+invariant-loop-line g l =
+    DoneSoFar (ActionIsDone (scripted.ghosts g.row.S g.S.Stable g.S.Stable-dict)) (into_iter_items l.initial.line-iterator) l.yielded
+    (into_iter_items l.line-iterator) (into_iter_len l.line-iterator) (world_of l.fn.world) (world_of l.world)
