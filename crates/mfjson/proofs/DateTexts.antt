@@ -69,6 +69,15 @@ date_exact text year month day long r civil m e n = (
   },
 )
 
+pub date_of_one_day : (text : List ℕ) (day : ℕ) → IsDateText text day → (n : ℕ) → IsDateText text n ↔ (Some day ≡ Some n)
+date_of_one_day text day is n = (
+  λ other.
+      let same : pos day ≡ pos n =
+      sym is.day_number ∙ (is_civil text is.year is.month is.day (date_numbers text day is) n other).1 in
+      ap Some cc,
+  λ e. subst (IsDateText text) (same_Some day n e) is,
+)
+
 -- ---- what the code casts
 pub year_cast : (n : ℕ) → n < 10000 → to_z w16 n ≡ pos n
 year_cast n h = omega (arith, signed_casts, h)

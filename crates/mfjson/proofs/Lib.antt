@@ -19,6 +19,7 @@ pub mod PartLemmas
 pub mod FeatureLemmas
 pub mod NeverBroken
 pub mod Named
+pub mod SmallNumbers
 pub mod WholeNumbers
 pub mod TokenLemmas
 pub mod Objects

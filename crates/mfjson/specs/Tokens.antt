@@ -1,5 +1,7 @@
 -- What a value says whose tokens stand at some place of a text.
-use Rattle.std.specs.Prelude.{◌≡◌, ℕ, ◌≤◌, ℤ, List, [], ◌∷◌, codes, Option, Some, length}
+use Rattle.std.specs.Prelude.{◌≡◌, ℕ, ◌≤◌, ℤ, Bool, List, [], ◌∷◌, codes, Option, Some, length, FitsSigned}
+use Rattle.std.specs.Int.{w64}
+use Rattle.fast_float.specs.Text.{Parts, IsInteger, digits_of, with_sign}
 use Rattle.json.specs.Token.{Token}
 use Rattle.json.specs.Json as json
 use Rattle.json.specs.Tree as tree
@@ -50,6 +52,12 @@ pub record IsWhole (number : Option Num) (z : ℤ) : Type 0 where
   pub n : Num
   pub is_number : number ≡ Some n
   pub whole : as_i64 n ≡ Some z
+
+-- the numeral is whole digits, and z their number with this sign, which fits 64 bits
+pub record IsSigned (minus : Bool) (p : Parts) (z : ℤ) : Type 0 where
+  pub integer : IsInteger p
+  pub fits : FitsSigned w64 (with_sign minus (digits_of p))
+  pub value : z ≡ with_sign minus (digits_of p)
 
 -- an array whose elements say these, one after another
 pub record SaysEach {X : Type 0} (R : Data → X → Type 0) (d : Data) (xs : List X) : Type 0 where

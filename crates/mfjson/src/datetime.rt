@@ -31,21 +31,95 @@ pub fn datetime_text(t: Instant) -> [u8; 24]
 pub fn datetime_read(text: &[u8]) -> Option<Instant>
     ensures { (t : ℕ) → ReadsAs text.now t ↔ (result ≡ Some t) }
 {
-    match text.len() {
-        20 => {
-            if text[19] != b'Z' {
-                return None;
-            }
-            instant(second_of(&text[0..19])?, 0)
+    LastDay::new().datetime_read(text)
+}
+
+/// A date `YYYY-MM-DD` and its day, counted from 1970-01-01: those of the datetime that was read last.
+///
+/// Most datetimes in a row are of one day. Where the bytes of the date are the same no calendar is asked.
+#[derive(Drop)]
+pub(crate) struct LastDay {
+    date: [u8; 10],
+    day: u32,
+    ghost bound: { day ≤ 2932896 },
+}
+
+impl LastDay {
+    /// The first day of all.
+    pub(crate) fn new() -> LastDay
+        ensures { IsDateText result.date result.day }
+    {
+        LastDay {
+            date: *b"1970-01-01",
+            day: 0,
         }
-        24 => {
-            if text[19] != b'.' || text[23] != b'Z' {
-                return None;
+    }
+
+    /// The instant of a datetime text, as `datetime_read` says.
+    pub(crate) fn datetime_read(&mut self, text: &[u8]) -> Option<Instant>
+        requires { IsDateText self.old.date self.old.day }
+        ensures exact { (t : ℕ) → ReadsAs text.now t ↔ (result ≡ Some t) }
+        ensures last { IsDateText self.new.date self.new.day }
+    {
+        match text.len() {
+            20 => {
+                if text[19] != b'Z' {
+                    return None;
+                }
+                instant(self.second_of(&text[0..19])?, 0)
             }
-            let second = second_of(&text[0..19])?;
-            instant(second, number(&text[20..23])?)
+            24 => {
+                if text[19] != b'.' || text[23] != b'Z' {
+                    return None;
+                }
+                let second = self.second_of(&text[0..19])?;
+                instant(second, number(&text[20..23])?)
+            }
+            _ => None,
         }
-        _ => None,
+    }
+
+    /// The second, counted from 1970-01-01T00:00:00Z, of a text `YYYY-MM-DDThh:mm:ss`.
+    fn second_of(&mut self, text: &[u8]) -> Option<u64>
+        requires length { length text.now ≡ 19 }
+        requires last { IsDateText self.old.date self.old.day }
+        ensures exact { (second : ℕ) → IsSecondText text.now second ↔ (result ≡ Some second) }
+        ensures bound { IfSome result (λ second. second < 253402300800) }
+        ensures last { IsDateText self.new.date self.new.day }
+    {
+        if text[10] != b'T' {
+            return None;
+        }
+        let day = self.day_of(&text[0..10])?;
+        let second = second_of_day(&text[11..19])?;
+        Some(u64::from(day) * 86_400 + u64::from(second))
+    }
+
+    /// The day of a date, which is the last one from then on.
+    fn day_of(&mut self, date: &[u8]) -> Option<u32>
+        requires length { length date.now ≡ 10 }
+        requires last { IsDateText self.old.date self.old.day }
+        ensures exact { (day : ℕ) → IsDateText date.now day ↔ (result ≡ Some day) }
+        ensures bound { IfSome result (λ day. day ≤ 2932896) }
+        ensures last { IsDateText self.new.date self.new.day }
+    {
+        if date == self.date.as_slice() {
+            return Some(self.day);
+        }
+        let day = day_number(date)?;
+        *self = LastDay::of(date, day);
+        Some(day)
+    }
+
+    fn of(text: &[u8], day: u32) -> LastDay
+        requires length { length text.now ≡ 10 }
+        requires bound { day ≤ 2932896 }
+        ensures date { result.date ≡ text.now }
+        ensures day { result.day ≡ day }
+    {
+        let mut date = [0; 10];
+        date.copy_from_slice(text);
+        LastDay { date, day }
     }
 }
 
@@ -56,20 +130,6 @@ fn instant(second: u64, milli: u32) -> Option<Instant>
     ensures { result ≡ Some (second * 1000 + milli) }
 {
     Instant::new((second * 1000 + u64::from(milli)) as i64)
-}
-
-/// The second, counted from 1970-01-01T00:00:00Z, of a text `YYYY-MM-DDThh:mm:ss`.
-fn second_of(text: &[u8]) -> Option<u64>
-    requires { length text.now ≡ 19 }
-    ensures exact { (second : ℕ) → IsSecondText text.now second ↔ (result ≡ Some second) }
-    ensures bound { IfSome result (λ second. second < 253402300800) }
-{
-    if text[10] != b'T' {
-        return None;
-    }
-    let day = day_number(&text[0..10])?;
-    let second = second_of_day(&text[11..19])?;
-    Some(u64::from(day) * 86_400 + u64::from(second))
 }
 
 /// The date of a day, counted from 1970-01-01.

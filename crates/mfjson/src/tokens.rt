@@ -2,22 +2,28 @@
 //!
 //! What this way doesn't read is left to the tree, which tells each fault: a member that comes twice is read there too.
 
-ghost use Rattle.std.specs.Prelude.{◌≡◌, ◌==◌, ◌<◌, codes, length, slice_index, Some, IsTrue, IfSome};
+ghost use Rattle.std.specs.Prelude.{◌≡◌, ◌==◌, ◌<◌, ◌≤◌, ◌^◌, codes, length, slice_index, Some, IsTrue, IfSome};
 ghost use Rattle.std.specs.Fn.{FnReturnsAt};
+ghost use Rattle.fast_float.specs.Text.{scan, digits_of, IsInteger};
 ghost use Rattle.serde_json.specs.Read.{number_of};
 ghost use Rattle.tpoint.specs.Interps.{interp_name};
 ghost use Rattle.tpoint.specs.Moving.{IsValid};
+ghost use Rattle.mfjson.specs.Datetime.{IsDateText};
 ghost use Rattle.mfjson.specs.Document.{IsDocumentOf, IsFeatureValue, SaysInstant};
 ghost use Rattle.mfjson.specs.Faults.{SaysCoordinate, SaysCoordinates};
 ghost use Rattle.mfjson.specs.Outline.{SaysThisId, AreTogether};
-ghost use Rattle.mfjson.specs.Tokens.{TokensSay, SaysEach, IsReadEach, SaysCourse, HasMember, HasMembers, IsText, IsWhole};
+ghost use Rattle.mfjson.specs.Tokens.{TokensSay, SaysEach, IsReadEach, SaysCourse, HasMember, HasMembers, IsText, IsWhole, IsSigned};
 
+use crate::Feature;
+use crate::datetime::LastDay;
 use crate::reader::points_of;
-use crate::{Feature, datetime_read};
 use fast_float::Numeral;
 use json::{Element, Scratch, Tape};
 use std::alloc::Global;
 use tpoint::{Id, Instant, Interp, Seq, is_coordinate};
+
+/// Of so many digits each number fits 64 bits, with either sign.
+const SMALL_DIGITS: usize = 18;
 
 /// Where a moving point was, and when.
 #[derive(Drop)]
@@ -171,14 +177,32 @@ fn each_in<T: Drop, F: Fn(&Element<'_, '_>) -> Option<T>>(
 fn instants_in(alloc: Global, geometry: &Element<'_, '_>) -> Option<Vec<Instant>>
     ensures { IfSome result (λ ts. HasMember 1 (SaysEach SaysInstant) (codes "datetimes") geometry.now ts.items) }
 {
-    each_in(alloc, &geometry.get("datetimes")?, instant_in)
+    each_instant_in(alloc, &geometry.get("datetimes")?)
+}
+
+/// The instants that the elements of an array are datetimes of.
+fn each_instant_in(alloc: Global, list: &Element<'_, '_>) -> Option<Vec<Instant>>
+    ensures { IfSome result (λ ts. IsReadEach (λ item t. TokensSay 0 SaysInstant item t) list.now ts.items) }
+{
+    let mut items = list.items()?;
+    let mut instants = Vec::new(alloc);
+    let mut last = LastDay::new();
+    while let Some(item) = items.next() {
+        let instant = instant_in(&mut last, &item)?;
+        let Ok(()) = instants.push(instant) else {
+            return None;
+        };
+    }
+    Some(instants)
 }
 
 /// The instant that the value is a datetime of.
-fn instant_in(value: &Element<'_, '_>) -> Option<Instant>
-    ensures { IfSome result (λ t. TokensSay 0 SaysInstant value.now t) }
+fn instant_in(last: &mut LastDay, value: &Element<'_, '_>) -> Option<Instant>
+    requires { IsDateText last.old.date last.old.day }
+    ensures value { IfSome result (λ t. TokensSay 0 SaysInstant value.now t) }
+    ensures last { IsDateText last.new.date last.new.day }
 {
-    datetime_read(text_in(value)?.as_bytes())
+    last.datetime_read(text_in(value)?.as_bytes())
 }
 
 /// The x and the y of each of a geometry's coordinates.
@@ -214,10 +238,41 @@ fn whole_of(text: &[u8]) -> Option<i64>
     ensures { IfSome result (λ z. IsWhole (number_of text.now) z) }
 {
     if !has_minus(text) {
-        return Numeral::scan(text).to_i64(false);
+        return signed_of(false, text);
     }
-    let z = Numeral::scan(&text[1..]).to_i64(true)?;
+    let z = signed_of(true, &text[1..])?;
     if z < 0 { Some(z) } else { None }
+}
+
+/// The number that the digits spell, with its sign.
+#[inline(always)]
+fn signed_of(negative: bool, digits: &[u8]) -> Option<i64>
+    ensures { IfSome result (λ z. IsSigned negative (scan digits.now) z) }
+{
+    if digits.len() > SMALL_DIGITS {
+        return Numeral::scan(digits).to_i64(negative);
+    }
+    let size = small_number(digits)? as i64;
+    Some(if negative { -size } else { size })
+}
+
+/// The number that so few digits spell. It has no need of tests against overflow.
+#[inline(always)]
+fn small_number(digits: &[u8]) -> Option<u64>
+    requires { length digits.now ≤ SMALL_DIGITS }
+    ensures { IfSome result (λ n. IsInteger (scan digits.now) × (n ≡ digits_of (scan digits.now)) × (n < 10 ^ SMALL_DIGITS)) }
+{
+    if digits.is_empty() {
+        return None;
+    }
+    let mut n = 0;
+    for byte in digits {
+        if !byte.is_ascii_digit() {
+            return None;
+        }
+        n = n * 10 + u64::from(*byte - b'0');
+    }
+    Some(n)
 }
 
 fn has_minus(text: &[u8]) -> bool

@@ -57,9 +57,7 @@ pub fn settled(question: Question) -> Tri
 pub fn miss(a: &Point, b: &Point, area: &Rect) -> bool
     ensures { IsTrue result ↔ Miss a.now b.now area.now }
 {
-    let across = are_beyond(a.x, b.x, area.x0(), area.x1());
-    let along = are_beyond(a.y, b.y, area.y0(), area.y1());
-    across || along
+    are_beyond(a.x, b.x, area.x0(), area.x1()) || are_beyond(a.y, b.y, area.y0(), area.y1())
 }
 
 /// Whether both numbers are below the lower of two bounds, or both are above the upper.

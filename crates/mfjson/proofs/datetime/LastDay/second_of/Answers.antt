@@ -1,6 +1,6 @@
 use Rattle.mfjson.proofs.DigitsLemmas.{none_exact, none_without}
 use Rattle.mfjson.proofs.SecondTexts.{second_parts, second_exact}
-use Rattle.mfjson.proofs.datetime.second_of.Goals as goal
+use Rattle.mfjson.proofs.datetime.LastDay.second_of.Goals as goal
 
 pub returns-then-text-ne84-clause-exact : goal.returns-then-text-ne84-clause-exact
 returns-then-text-ne84-clause-exact c n = none_exact _ n (λ is. c.if-text-ne84.true (second_parts c.args.text.now n is).mark)
@@ -16,5 +16,5 @@ returns-in_err-second-clause-exact c n =
 
 pub returns-clause-exact : goal.returns-clause-exact
 returns-clause-exact c n =
-    rw (c.from.ensures, c.from-2.ensures) (second_exact c.args.text.now _ _ c.requires
+    rw (c.from.ensures, c.from-2.ensures) (second_exact c.args.text.now _ _ c.requires.length
     c.if-text-ne84.false c.in_ok-second.ensures.bound c.in_ok-day.ensures.exact c.in_ok-second.ensures.exact n)
