@@ -19,7 +19,7 @@ use Rattle.node_model.proofs.AllowedCases.{idle_case, prepare_case, accept_case,
 use Rattle.node_model.proofs.AllowedCases.{snap_ask_case, behind_case, submit_case, timeout_case, tick_case, checkpoint_case, trim_case}
 use Rattle.node_model.proofs.AllowedLearning.{vote_case, decided_case}
 use Rattle.node_model.proofs.AllowedRestoring.{part_case}
-use Rattle.node_model.proofs.Between.{from_the_run}
+use Rattle.node_model.proofs.Saying.{from_the_run}
 
 module _ (old new : ReplicaState) (said : Response) (x : Local Command) (few : old.nodes ≤ 7) (there : old.id < old.nodes)
     (own : IsReplicaOf old.id old.nodes old) (stands : ReplicaStands old x) where

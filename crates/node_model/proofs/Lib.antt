@@ -15,6 +15,8 @@ pub mod PastVotes
 -- a node stays the node that it is
 pub mod Campaigns
 pub mod Members
+-- what is said, in few shapes
+pub mod Saying
 -- what is sent
 pub mod SendLemmas
 pub mod Between
