@@ -2,6 +2,8 @@
 pub mod Commands
 pub mod Executions
 pub mod Replying
+-- what a node says, in few shapes
+pub mod Saying
 -- what a node's learner hears, and keeps
 pub mod Hearings
 pub mod Keeping
@@ -15,8 +17,6 @@ pub mod PastVotes
 -- a node stays the node that it is
 pub mod Campaigns
 pub mod Members
--- what is said, in few shapes
-pub mod Saying
 -- what is sent
 pub mod SendLemmas
 pub mod Between
