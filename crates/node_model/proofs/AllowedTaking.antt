@@ -1,5 +1,5 @@
 -- Whatever a node makes of an input that it takes is allowed.
-use Rattle.std.proofs.Common.{◌≡◌, ℕ, ◌<◌, ◌≤◌, List, sym, subst, arith}
+use Rattle.std.proofs.Common.{ℕ, ◌<◌, ◌≤◌, List, sym, subst, arith}
 use Rattle.synod.specs.Acts as act
 use Rattle.synod.specs.Acts.{Local}
 use Rattle.sessions.specs.declared.command.Command.{Command}

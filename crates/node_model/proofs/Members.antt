@@ -1,10 +1,9 @@
 -- A node stays the node that it is.
-use Rattle.std.proofs.Common.{◌≡◌, ℕ, ◌≤◌, nat_lt, max, Bool, true, false, List, [], Option, Some, None, Result, Ok, Err, IfSome, IfOk}
+use Rattle.std.proofs.Common.{◌≡◌, ℕ, ◌≤◌, nat_lt, Bool, true, false, List, [], Option, Some, None, Result, Ok, Err, IfSome, IfOk}
 use Rattle.std.proofs.Common.{IfErr, MatchBool, refl, sym, ap, ◌∙◌, subst, arith, le_refl}
 use Rattle.std.proofs.lemmas.Bool.{cond_both}
 use Rattle.synod.specs.Acts as act
 use Rattle.stable.specs.declared.stable.Stable.{Ghosts}
-use Rattle.sessions.specs.Asked.{Asked}
 use Rattle.sessions.specs.Machines.{MachineState}
 use Rattle.sessions.specs.declared.command.Command.{Command}
 use Rattle.acceptor.specs.Accepting.{Accepting}
@@ -22,7 +21,7 @@ use Rattle.node_model.specs.Nodes.{NodeState, NodeSteps, TakesInput, StopsOnInpu
 use Rattle.node_model.specs.Outputs.{Response}
 use Rattle.node_model.specs.Protocol.{accepting_after, round_after}
 use Rattle.node_model.specs.Taking.{Takes, Hears, Restores, after_counting, with_request, proposer_of, proposed, execution}
-use Rattle.node_model.specs.Taking.{restored, executed_to_the_end}
+use Rattle.node_model.specs.Taking.{executed_to_the_end}
 use Rattle.node_model.proofs.Campaigns.{KeepsRest, proposes_keeps, counting_keeps}
 use Rattle.node_model.proofs.Keeping.{vote_keeps, decided_keeps}
 use Rattle.node_model.proofs.Saying.{IsInput, Proposes, Says, says_of}

@@ -1,6 +1,6 @@
 -- What a node says on an input has few shapes, and this is the one file with a case for each input and each kind of message. What
 -- concerns none of them in particular goes by the shapes.
-use Rattle.std.proofs.Common.{◌≡◌, ◌⊎◌, inl, inr, ◌==◌, ◌&&◌, ◌||◌, not, ℕ, ◌<◌, nat_lt, Bool, true, false, List, [], ◌∷◌, ◌++◌}
+use Rattle.std.proofs.Common.{◌≡◌, ◌==◌, ◌&&◌, ℕ, ◌<◌, nat_lt, Bool, true, false, List, [], ◌∷◌, ◌++◌}
 use Rattle.std.proofs.Common.{Option, Some, None, if◌then◌else◌, refl, sym, ap, ◌∙◌, append-nil}
 use Rattle.std.proofs.lemmas.Bool.{and_parts, cond_both, ltb-true, eqb-true}
 use Rattle.synod.specs.Acts as act
@@ -30,7 +30,7 @@ use Rattle.node_model.specs.Inputs.{names_run, is_for_this_run}
 use Rattle.node_model.specs.Outputs.{Response, sent, silence}
 use Rattle.node_model.specs.Protocol.{message_of, coming, input_of, submissions, accepting_on, accepting_if, accepting_after, round_after}
 use Rattle.node_model.specs.Replicas.{ReplicaState, position, asked}
-use Rattle.node_model.specs.Sending.{to_one, to_others, envelopes_of, answer_sends, decided_sends, ask_sends, ask_others, part_sends, snapshot_sends}
+use Rattle.node_model.specs.Sending.{to_one, to_others, envelopes_of, answer_sends, decided_sends, ask_sends, part_sends, snapshot_sends}
 use Rattle.node_model.specs.Taking.{Takes, TakesEnvelope, TakesMessage, HearsOfVote, HearsOfDecided, HearsOfFloor, TakesPart, PartCounts}
 use Rattle.node_model.specs.Taking.{RestoresText, Restores, IsMachineOfText, with_proposer, proposer_sends, after_promise, after_submit, is_ahead}
 use Rattle.node_model.specs.Taking.{asks_for, asks_again}

@@ -1,5 +1,5 @@
 -- Which parts of a text a node sends: those of its acceptor's, to a node that asks for one.
-use Rattle.std.proofs.Common.{◌≡◌, ◌||◌, ℕ, zero, suc, ◌+◌, ◌-◌, nat_lt, nat_le, Bool, true, false, not, map, is_some, List, []}
+use Rattle.std.proofs.Common.{◌≡◌, ◌||◌, ℕ, zero, suc, ◌+◌, ◌-◌, nat_lt, nat_le, Bool, not, map, is_some, List, []}
 use Rattle.std.proofs.Common.{◌∷◌, ◌++◌, All, length, Option, Some, None, IfSome, refl, sym, ap, subst}
 use Rattle.std.specs.List.{list_any}
 use Rattle.std.proofs.lemmas.Bool.{cond_both}

@@ -15,11 +15,11 @@ use Rattle.learner.specs.Learning.HearsVote.{ignores, hears, learns}
 use Rattle.wire.specs.declared.frames.envelope.Envelope.{Envelope}
 use Rattle.wire.specs.declared.frames.message.Message.TheVariants.{Accepted}
 use Rattle.node_model.specs.declared.input.Input.TheVariants as input
-use Rattle.node_model.specs.Inputs.{role_of, is_for_this_run}
+use Rattle.node_model.specs.Inputs.{role_of}
 use Rattle.node_model.specs.Inputs.Role.{Learner, Fetcher}
 use Rattle.node_model.specs.Replicas.{ReplicaState}
 use Rattle.node_model.specs.Outputs.{Response}
-use Rattle.node_model.specs.Taking.{Takes, TakesEnvelope, TakesMessage}
+use Rattle.node_model.specs.Taking.{Takes, TakesMessage}
 use Rattle.node_model.proofs.Hearings.{learns_nothing}
 use Rattle.node_model.proofs.Keeping.{KeepsLearnt, vote_keeps, heard_learner, takes_keeps}
 use Rattle.world_model.proofs.Progress.Leading.{members_counted}

@@ -1,15 +1,9 @@
 -- The greatest round of any refusal that a node was told is forgotten by a restart alone.
-use Rattle.std.proofs.Common.{◌≡◌, inl, inr, ℕ, ◌+◌, ◌<◌, ◌≤◌, List, [], ◌∷◌, Contains, Bool, true, false, Option, Some, None, refl, sym}
+use Rattle.std.proofs.Common.{◌≡◌, inl, inr, ℕ, ◌+◌, ◌<◌, ◌≤◌, List, [], ◌∷◌, Contains, true, Some, refl, sym}
 use Rattle.std.proofs.Common.{ap, subst, ◌∙◌, arith, le_refl}
 use Rattle.std.specs.Prelude.{max}
 use Rattle.synod.specs.declared.ballot.Ballot.{Ballot}
-use Rattle.sessions.specs.declared.command.Command.{Command}
-use Rattle.learner.specs.Learning.{Learning}
-use Rattle.learner.specs.declared.learned.Learned.{Learned}
-use Rattle.proposer.specs.Proposing.{Proposing, with_promised, next_round}
-use Rattle.proposer.specs.declared.outgoing.Outgoing.{Outgoing}
 use Rattle.proposer.proofs.Votes.{in_cons, in_head, in_none}
-use Rattle.wire.specs.Parts.{Piece}
 use Rattle.wire.specs.Promises.{Refused}
 use Rattle.wire.specs.declared.frames.envelope.Envelope.{Envelope}
 use Rattle.wire.specs.declared.frames.message.Message.{Message}
