@@ -13,12 +13,9 @@ use Rattle.node_model.specs.declared.input.Input.TheVariants as input
 
 -- all that the input asks for is a write: a checkpoint or a trim
 abbrev pub IsForRecords : Input → Type 0
-IsForRecords (input.Submit client number op) = ⊥
-IsForRecords (input.Message e) = ⊥
-IsForRecords input.Timeout = ⊥
-IsForRecords input.Tick = ⊥
 IsForRecords input.Checkpoint = ⊤
 IsForRecords input.Trim = ⊤
+IsForRecords other = ⊥
 
 -- something may be wanted for the message from a node: for a question only where it is answered, for a floor only where it is further
 -- than what is there, for a part only where it counts, and for a refusal never
@@ -32,9 +29,6 @@ MayWantOn m from other = ⊤
 
 -- .. and for the input: for a trim only where a vote stands below the floor
 abbrev pub MayWant : ReplicaState → Input → Type 0
-MayWant m (input.Submit client number op) = ⊤
 MayWant m (input.Message e) = MayWantOn m e.from e.message
-MayWant m input.Timeout = ⊤
-MayWant m input.Tick = ⊤
-MayWant m input.Checkpoint = ⊤
 MayWant m input.Trim = HasVoteBelow m.accepting
+MayWant m other = ⊤

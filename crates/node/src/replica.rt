@@ -6,7 +6,6 @@ ghost use Rattle.sessions.specs.declared.command.Command.{Command};
 ghost use Rattle.byteorder.specs.Endian.{big_bytes};
 ghost use Rattle.stable.specs.declared.key.Key.TheVariants as key;
 ghost use Rattle.sessions.specs.Standing.{AnswersAll};
-ghost use Rattle.acceptor.specs.Accepting.{OptionalWrite, HasWritten, HasFailed, prepare_write, IsAcceptWrite};
 ghost use Rattle.learner.specs.Learning.{learnt_at};
 ghost use Rattle.learner.specs.Prefixes.{IsPrefix};
 ghost use Rattle.proposer.specs.Proposing.{next_round};
@@ -69,14 +68,13 @@ impl Drop for Replica {
 impl Replica {
     ghost use Rattle.node_model.specs.Loading.{IsBaseOf, IsLoaded, IsFresh, IsDamaged, IsReplicaOf};
     ghost use Rattle.acceptor.specs.Loading.{IsMachineOf};
-    ghost use Rattle.node_model.specs.Inputs.{is_for_this_run};
-    ghost use Rattle.node_model.specs.Replicas.{ReplicaState, ReplicaIsSmall, position, asked, waits, refuses, refuses_submit, refuses_timeout, refuses_checkpoint, Ignores};
+    ghost use Rattle.node_model.specs.Replicas.{ReplicaState, ReplicaIsSmall, position, asked, waits, refuses_submit};
     ghost use Rattle.node.specs.Replica.{replica_of};
     ghost use Rattle.node.specs.Wanting.{IsForRecords, MayWant, MayWantOn};
-    ghost use Rattle.node_model.specs.Nodes.{HasMade, HasFailedToMake};
+    ghost use Rattle.node_model.specs.Nodes.{Made, ReplicaSteps};
     ghost use Rattle.node_model.specs.Outputs.{sent, silence};
     ghost use Rattle.node_model.specs.Sending.{to_one, ask_sends, decided_sends};
-    ghost use Rattle.node_model.specs.Taking.{Writes, WritesOnMessage, Takes, TakesMessage, Learns, with_proposer, proposer_sends, proposed};
+    ghost use Rattle.node_model.specs.Taking.{WritesOnMessage, Takes, TakesMessage, Learns, with_proposer, proposer_sends, proposed};
     ghost use Rattle.node_model.specs.Taking.{executing_of, with_executing, learnt_from};
 
     /// What the records leave of a node.
@@ -184,25 +182,9 @@ impl Replica {
         storage: &mut S,
         input: Input,
     ) -> Result<Outputs, NodeFault>
-        ensures takes { IfOk result (λ said. Takes (replica_of self.old) input (replica_of self.new) said) }
-        ensures written { OnOk result (HasMade S.Stable storage.old storage.new
-            (Writes (replica_of self.old) input)) }
+        ensures steps { ReplicaSteps S.Stable storage.old (replica_of self.old) input result (replica_of self.new) storage.new }
 
-        // What is refused, and only that.
-        ensures refuses { IfSome (refuses (replica_of self.old) input) (λ fault. (result ≡ Err fault)
-            × (replica_of self.new ≡ replica_of self.old) × (storage.new ≡ storage.old)) }
-        ensures err { IfErr result (λ fault. (fault ≡ NodeFault.Device) ⊎ (fault ≡ NodeFault.Memory)
-            ⊎ (refuses (replica_of self.old) input ≡ Some fault)) }
-
-        // Of what is ignored nothing comes.
-        ensures ignores { Ignores (replica_of self.old) input → (result ≡ Ok silence)
-            × (replica_of self.new ≡ replica_of self.old) × (storage.new ≡ storage.old) }
-
-        // What a failure leaves.
-        ensures device { IsErrOf result NodeFault.Device
-            → HasFailedToMake S.Stable storage.old storage.new (Writes (replica_of self.old) input) }
-        ensures memory { IsErrOf result NodeFault.Memory → S.reads storage.old storage.new
-            ⊎ HasMade S.Stable storage.old storage.new (Writes (replica_of self.old) input) }
+        // When memory may be wanting.
         ensures unwritten { IsErrOf result NodeFault.Memory → IsForRecords input → S.reads storage.old storage.new }
         ensures wanted { IfErr result (λ _. MayWant (replica_of self.old) input) }
     {
@@ -247,18 +229,7 @@ impl Replica {
 
     /// Its patience ends.
     fn timeout<S: Stable>(&mut self, alloc: Global, storage: &mut S) -> Result<Outputs, NodeFault>
-        ensures takes { IfOk result (λ said.
-            Takes (replica_of self.old) input.Timeout (replica_of self.new) said) }
-        ensures written { OnOk result (HasMade S.Stable storage.old storage.new
-            (Writes (replica_of self.old) input.Timeout)) }
-        ensures refuses { IfSome (refuses_timeout (replica_of self.old)) (λ fault. (result ≡ Err fault)
-            × (replica_of self.new ≡ replica_of self.old) × (storage.new ≡ storage.old)) }
-        ensures err { IfErr result (λ fault. (fault ≡ NodeFault.Device) ⊎ (fault ≡ NodeFault.Memory)
-            ⊎ (refuses_timeout (replica_of self.old) ≡ Some fault)) }
-        ensures device { IsErrOf result NodeFault.Device
-            → HasFailedToMake S.Stable storage.old storage.new (Writes (replica_of self.old) input.Timeout) }
-        ensures memory { IsErrOf result NodeFault.Memory → S.reads storage.old storage.new
-            ⊎ HasMade S.Stable storage.old storage.new (Writes (replica_of self.old) input.Timeout) }
+        ensures { ReplicaSteps S.Stable storage.old (replica_of self.old) input.Timeout result (replica_of self.new) storage.new }
     {
         if self.position() >= SLOTS {
             return Err(NodeFault::LogFull);
@@ -289,16 +260,8 @@ impl Replica {
         alloc: Global,
         storage: &mut S,
     ) -> Result<Outputs, NodeFault>
-        ensures takes { IfOk result (λ said.
-            Takes (replica_of self.old) input.Checkpoint (replica_of self.new) said) }
-        ensures written { OnOk result (HasMade S.Stable storage.old storage.new
-            (Writes (replica_of self.old) input.Checkpoint)) }
-        ensures refuses { IfSome (refuses_checkpoint (replica_of self.old)) (λ fault. (result ≡ Err fault)
-            × (replica_of self.new ≡ replica_of self.old) × (storage.new ≡ storage.old)) }
-        ensures err { IfErr result (λ fault. (fault ≡ NodeFault.Device) ⊎ (fault ≡ NodeFault.Memory)
-            ⊎ (refuses_checkpoint (replica_of self.old) ≡ Some fault)) }
-        ensures device { IsErrOf result NodeFault.Device
-            → HasFailedToMake S.Stable storage.old storage.new (Writes (replica_of self.old) input.Checkpoint) }
+        ensures steps { ReplicaSteps S.Stable storage.old (replica_of self.old) input.Checkpoint result (replica_of self.new)
+            storage.new }
         ensures memory { IsErrOf result NodeFault.Memory → S.reads storage.old storage.new }
     {
         let position = self.position();
@@ -312,13 +275,7 @@ impl Replica {
 
     /// The votes below the floor are taken out.
     fn trim<S: Stable>(&mut self, alloc: Global, storage: &mut S) -> Result<Outputs, NodeFault>
-        ensures takes { IfOk result (λ said.
-            Takes (replica_of self.old) input.Trim (replica_of self.new) said) }
-        ensures written { OnOk result (HasMade S.Stable storage.old storage.new
-            (Writes (replica_of self.old) input.Trim)) }
-        ensures err { IfErr result (λ fault. (fault ≡ NodeFault.Device) ⊎ (fault ≡ NodeFault.Memory)) }
-        ensures device { IsErrOf result NodeFault.Device
-            → HasFailedToMake S.Stable storage.old storage.new (Writes (replica_of self.old) input.Trim) }
+        ensures steps { ReplicaSteps S.Stable storage.old (replica_of self.old) input.Trim result (replica_of self.new) storage.new }
         ensures memory { IsErrOf result NodeFault.Memory → S.reads storage.old storage.new }
         ensures wanted { IfErr result (λ _. MayWant (replica_of self.old) input.Trim) }
     {
@@ -334,17 +291,8 @@ impl Replica {
         storage: &mut S,
         envelope: &Envelope,
     ) -> Result<Outputs, NodeFault>
-        ensures takes { IfOk result (λ said.
-            Takes (replica_of self.old) (input.Message envelope.now) (replica_of self.new) said) }
-        ensures ignores { is_for_this_run self.old.id self.old.nodes envelope.now ≡ false → (result ≡ Ok silence)
-            × (replica_of self.new ≡ replica_of self.old) × (storage.new ≡ storage.old) }
-        ensures written { OnOk result (HasMade S.Stable storage.old storage.new
-            (Writes (replica_of self.old) (input.Message envelope.now))) }
-        ensures err { IfErr result (λ fault. (fault ≡ NodeFault.Device) ⊎ (fault ≡ NodeFault.Memory)) }
-        ensures device { IsErrOf result NodeFault.Device
-            → HasFailedToMake S.Stable storage.old storage.new (Writes (replica_of self.old) (input.Message envelope.now)) }
-        ensures memory { IsErrOf result NodeFault.Memory → S.reads storage.old storage.new
-            ⊎ HasMade S.Stable storage.old storage.new (Writes (replica_of self.old) (input.Message envelope.now)) }
+        ensures steps { ReplicaSteps S.Stable storage.old (replica_of self.old) (input.Message envelope.now) result
+            (replica_of self.new) storage.new }
         ensures wanted { IfErr result (λ _. MayWantOn (replica_of self.old) envelope.now.from envelope.now.message) }
     {
         if !is_for_this_run(self.id, self.nodes, envelope) {
@@ -364,13 +312,8 @@ impl Replica {
     ) -> Result<Outputs, NodeFault>
         ensures takes { IfOk result (λ said.
             TakesMessage (replica_of self.old) from message.now (replica_of self.new) said) }
-        ensures written { OnOk result (HasMade S.Stable storage.old storage.new
-            (WritesOnMessage (replica_of self.old) message.now)) }
+        ensures made { Made S.Stable storage.old result storage.new (WritesOnMessage (replica_of self.old) message.now) }
         ensures err { IfErr result (λ fault. (fault ≡ NodeFault.Device) ⊎ (fault ≡ NodeFault.Memory)) }
-        ensures device { IsErrOf result NodeFault.Device
-            → HasFailedToMake S.Stable storage.old storage.new (WritesOnMessage (replica_of self.old) message.now) }
-        ensures memory { IsErrOf result NodeFault.Memory → S.reads storage.old storage.new
-            ⊎ HasMade S.Stable storage.old storage.new (WritesOnMessage (replica_of self.old) message.now) }
         ensures wanted { IfErr result (λ _. MayWantOn (replica_of self.old) from message.now) }
     {
         match message {
@@ -404,14 +347,8 @@ impl Replica {
     ) -> Result<Outputs, NodeFault>
         ensures takes { IfOk result (λ said.
             TakesMessage (replica_of self.old) from (message.Prepare ballot first) (replica_of self.new) said) }
-        ensures written { OnOk result (HasWritten S.reads S.changes storage.old storage.new
-            (prepare_write (replica_of self.old).accepting ballot first)) }
-        ensures device { IsErrOf result NodeFault.Device
-            → HasFailed S.fails storage.old storage.new
-            (prepare_write (replica_of self.old).accepting ballot first) }
-        ensures memory { IsErrOf result NodeFault.Memory → S.reads storage.old storage.new
-            ⊎ HasWritten S.reads S.changes storage.old storage.new
-            (prepare_write (replica_of self.old).accepting ballot first) }
+        ensures made { Made S.Stable storage.old result storage.new
+            (WritesOnMessage (replica_of self.old) (message.Prepare ballot first)) }
         ensures err { IfErr result (λ fault. (fault ≡ NodeFault.Device) ⊎ (fault ≡ NodeFault.Memory)) }
     {
         let answer = self.acceptor.on_prepare(alloc, storage, ballot, first)?;
@@ -430,14 +367,8 @@ impl Replica {
     ) -> Result<Outputs, NodeFault>
         ensures takes { IfOk result (λ said.
             TakesMessage (replica_of self.old) from (message.Accept vote) (replica_of self.new) said) }
-        ensures written { OnOk result ((w : OptionalWrite) × IsAcceptWrite (replica_of self.old).accepting vote w
-            × HasWritten S.reads S.changes storage.old storage.new w) }
-        ensures device { IsErrOf result NodeFault.Device
-            → (w : OptionalWrite) × IsAcceptWrite (replica_of self.old).accepting vote w
-            × HasFailed S.fails storage.old storage.new w }
-        ensures memory { IsErrOf result NodeFault.Memory → S.reads storage.old storage.new
-            ⊎ ((w : OptionalWrite) × IsAcceptWrite (replica_of self.old).accepting vote w
-            × HasWritten S.reads S.changes storage.old storage.new w) }
+        ensures made { Made S.Stable storage.old result storage.new
+            (WritesOnMessage (replica_of self.old) (message.Accept vote)) }
         ensures err { IfErr result (λ fault. (fault ≡ NodeFault.Device) ⊎ (fault ≡ NodeFault.Memory)) }
     {
         let answer = self.acceptor.on_accept(alloc, storage, vote)?;

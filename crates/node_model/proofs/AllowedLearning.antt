@@ -1,5 +1,5 @@
 -- What a node makes of news by which it may learn a command is allowed.
-use Rattle.std.proofs.Common.{◌≡◌, ℕ, suc, ◌≤◌, List, [], ◌∷◌, ◌++◌, map, inr, Option, Some, None, refl, sym, ap, ◌∙◌, subst, append-nil}
+use Rattle.std.proofs.Common.{◌≡◌, ℕ, suc, ◌<◌, ◌≤◌, List, [], ◌∷◌, ◌++◌, map, inr, Option, Some, None, refl, sym, ap, ◌∙◌, subst, append-nil}
 use Rattle.std.proofs.Common.{arith}
 use Rattle.std.proofs.lemmas.List.{map-append}
 use Rattle.synod.specs.declared.vote.Vote.{Vote}
@@ -30,10 +30,11 @@ use Rattle.node_model.specs.Replicas.{ReplicaState, position}
 use Rattle.node_model.specs.Outputs.{Response, silence}
 use Rattle.node_model.specs.Protocol.{membership, message_of, frame_of, ReplicaStands, MayComeTo}
 use Rattle.node_model.specs.Sending.{ask_sends}
-use Rattle.node_model.specs.Taking.{TakesMessage, Hears, Learns, executing_of, execution, news, proposer_of, after_news, proposer_sends}
-use Rattle.node_model.proofs.AllowedSends.{ArePlainFrom, proposer_frames, ask_plain, says_sends}
+use Rattle.node_model.specs.Taking.{HearsOfVote, HearsOfDecided, Hears, Learns, executing_of, execution, news, proposer_of, after_news, proposer_sends}
+use Rattle.node_model.proofs.AllowedSends.{ArePlainFrom, proposer_frames, are_plain, says_sends}
 use Rattle.node_model.proofs.AllowedGoing.{MayGo, machine_changed, fetching_changed, goes_then, goes_saying, goes_holding}
 use Rattle.node_model.proofs.AllowedCases.{goes_proposing}
+use Rattle.node_model.proofs.Saying.{asks_one}
 
 -- ---- what is executed waits no more
 module _ (f : Membership Command) (i : ℕ) (in' : act.Input Command) (p : Proposing) where
@@ -193,7 +194,7 @@ module _ (old : ReplicaState) (some_node : 1 ≤ old.nodes) (in' : act.Input Com
 
 -- ---- each news
 module _ (old new : ReplicaState) (said : Response) (x : Local Command) (stands : ReplicaStands old x) (some_node : 1 ≤ old.nodes) where
-  pub vote_case : (from : ℕ) (v : Vote Command) → old.nodes ≡ old.learning.nodes → TakesMessage old from (Accepted v) new said
+  pub vote_case : (from : ℕ) (v : Vote Command) → old.nodes ≡ old.learning.nodes → HearsOfVote old from v new said
       → MayComeTo old.nodes old.id (act.Came from (message_of (Accepted v))) [] x new said
   vote_case from v of_all (learned, l, hears_, k) =
       let in' : act.Input Command = act.Came from (message_of (Accepted v)) in
@@ -202,11 +203,11 @@ module _ (old new : ReplicaState) (said : Response) (x : Local Command) (stands 
       (allows_vote (membership old.nodes) old.id x old.learning stands.learner from v of_all learned l hears_))
       (λ n is. vote_there old.learning l from v n (subst (λ (o : Option Learned). HearsVote old.learning from v o l) is hears_)) k
 
-  pub decided_case : (from slot : ℕ) (c : Command) → TakesMessage old from (Decided slot c) new said
+  pub decided_case : (from slot : ℕ) (c : Command) → from < old.nodes → HearsOfDecided old from slot c new said
       → MayComeTo old.nodes old.id (act.Came from (message_of (Decided slot c))) [] x new said
-  decided_case from slot c (learned, l, hears_, k) =
+  decided_case from slot c sender (learned, l, hears_, k) =
       let in' : act.Input Command = act.Came from (message_of (Decided slot c)) in
-      hears_lem old some_node in' x l c (ask_sends old.id from (prefix l)) (ask_plain old.id from (prefix l)) new said learned
+      hears_lem old some_node in' x l c (ask_sends old.id from (prefix l)) (are_plain old _ (asks_one old from (prefix l) sender)) new said learned
       (heard_lem old.nodes old.id in' x old l c learned stands (decided_grows old.learning l slot c learned hears_)
       (allows_decided (membership old.nodes) old.id x old.learning stands.learner in' slot c refl learned l hears_))
       (λ n is. decided_there old.learning l slot c n (subst (λ (o : Option Learned). HearsDecided old.learning slot c o l) is hears_)) k

@@ -1,4 +1,4 @@
--- What a node makes of a part of a snapshot text is allowed, also where it restores the whole text.
+-- What a node makes of a whole snapshot text is allowed.
 use Rattle.std.proofs.Common.{◌≡◌, ℕ, ◌<◌, ◌≤◌, ◌-◌, ◌⊎◌, inl, inr, List, [], ◌++◌, map, Some, None, refl, sym, ap, ◌∙◌, subst}
 use Rattle.std.proofs.Common.{append-nil, arith}
 use Rattle.std.proofs.lemmas.List.{map-append}
@@ -14,22 +14,20 @@ use Rattle.learner.proofs.PrefixLemmas.{prefix_is, skipped_grows}
 use Rattle.proposer.specs.Protocol.{frames_of_all}
 use Rattle.proposer.proofs.AllowedClosing.{skipped_lem}
 use Rattle.proposer.proofs.AllowedMoves.{advance_lem}
-use Rattle.wire.specs.Parts.{Piece}
-use Rattle.wire.specs.declared.frames.message.Message.TheVariants.{SnapAsk}
+use Rattle.node_model.specs.declared.input.Input.{Input}
 use Rattle.node_model.specs.Replicas.{ReplicaState, position}
 use Rattle.node_model.specs.Outputs.{Response}
 use Rattle.node_model.specs.Protocol.{membership, frame_of, ReplicaStands, MayComeTo}
-use Rattle.node_model.specs.Sending.{to_one, ask_sends}
-use Rattle.node_model.specs.Taking.{TakesPart, RestoresText, Restores, restored, executing_of, execution_from, executed_to_the_end, learnt_from}
+use Rattle.node_model.specs.Sending.{ask_sends}
+use Rattle.node_model.specs.Taking.{Restores, restored, executing_of, execution_from, executed_to_the_end, learnt_from}
 use Rattle.node_model.specs.Taking.{proposed, proposer_sends, with_proposer}
-use Rattle.node_model.specs.Taking.TakesPart.{passes, keeps, completes}
-use Rattle.node_model.specs.Taking.RestoresText.{restores, gives_up}
-use Rattle.node_model.proofs.AllowedSends.{proposer_frames, ask_plain, one_plain, says_sends}
+use Rattle.node_model.proofs.AllowedSends.{proposer_frames, are_plain, says_sends}
 use Rattle.node_model.proofs.AllowedGoing.{MayGo, goes_then, goes_saying, goes_holding}
-use Rattle.node_model.proofs.AllowedCases.{goes_proposing, idle_case, plain_case}
+use Rattle.node_model.proofs.AllowedCases.{goes_proposing}
 use Rattle.node_model.proofs.AllowedLearning.{execution_holds}
 use Rattle.node_model.proofs.Hearings.{of_the_target}
 use Rattle.node_model.proofs.Keeping.{skipped_is}
+use Rattle.node_model.proofs.Saying.{MakesText, asks_one}
 
 -- ---- the learner
 -- one that keeps no slot of the log has its prefix there
@@ -53,7 +51,7 @@ skipped_from l target above =
 
 -- ---- the machine of a text takes the place of the node's
 module _ (old : ReplicaState) (some_node : 1 ≤ old.nodes) (in' : act.Input Command) (x : Local Command) (stands : ReplicaStands old x)
-    (from target : ℕ) (machine : MachineState) (ahead : position old < target) where
+    (from target : ℕ) (machine : MachineState) (ahead : position old < target) (sender : from < old.nodes) where
   abbrev l : Learning
   l = skipped old.learning target
 
@@ -114,7 +112,7 @@ module _ (old : ReplicaState) (some_node : 1 ≤ old.nodes) (in' : act.Input Com
       let asks = ask_sends old.id from (prefix l) in
       let asking : MayGo old.nodes old.id in' proposing.after left (map frame_of asks) =
       goes_saying old.nodes old.id in' proposing.after left (map frame_of asks) proposing.stands
-      (says_sends (membership old.nodes) old.id in' proposing.after asks (ask_plain old.id from (prefix l))) in
+      (says_sends (membership old.nodes) old.id in' proposing.after asks (are_plain old asks (asks_one old from (prefix l) sender))) in
       goes_then old.nodes old.id in' x _ _ [] _ skips
       (goes_then old.nodes old.id in' skips.after _ _ [] _ closed
       (goes_then old.nodes old.id in' closed.after _ _ [] _ ended
@@ -152,19 +150,11 @@ module _ (old : ReplicaState) (some_node : 1 ≤ old.nodes) (in' : act.Input Com
       subst (λ (n : ReplicaState). MayComeTo old.nodes old.id in' [] x n said) (sym leaves)
       (subst (MayComeTo old.nodes old.id in' [] x left) (sym says) comes_to)
 
--- ---- a part has come
+-- ---- a text is whole
 module _ (old new : ReplicaState) (said : Response) (x : Local Command) (stands : ReplicaStands old x) (some_node : 1 ≤ old.nodes)
-    (in' : act.Input Command) where
-  text_case : (from target : ℕ) (text : List ℕ) → position old < target → RestoresText old from target text new said
-      → MayComeTo old.nodes old.id in' [] x new said
-  text_case from target text ahead (restores machine has k) = restores_lem old some_node in' x stands from target machine ahead new said k
-  text_case from target text ahead (gives_up none leaves says) = plain_case old new said x stands in' None [] tt leaves says
-
-  pub part_case : (from : ℕ) (p : Piece) → TakesPart old from p new said → MayComeTo old.nodes old.id in' [] x new said
-  part_case from p (passes unwanted leaves says) = idle_case old new said x stands in' leaves says
-  part_case from p (keeps f counts number is leaves says) =
-      plain_case old new said x stands in' (Some f) (to_one old.id from (SnapAsk f.target number))
-      (one_plain old.id from (SnapAsk f.target number) refl) leaves says
-  part_case from p (completes f counts none k) =
-      let at = of_the_target old new said p f counts in
-      text_case from f.target _ (subst (λ (n : ℕ). position old < n) (sym at.1) at.0) k
+    (in' : act.Input Command) (i : Input) where
+  pub text_case : MakesText old i new said → MayComeTo old.nodes old.id in' [] x new said
+  text_case h =
+      let at = of_the_target old new said h.p h.fetched h.counts_ in
+      restores_lem old some_node in' x stands h.from h.fetched.target h.machine (subst (λ (n : ℕ). position old < n) (sym at.1) at.0)
+      h.sender new said h.restored

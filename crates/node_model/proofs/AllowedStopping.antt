@@ -70,12 +70,11 @@ module _ (m : ReplicaState) (x : Local Command) (stands : ReplicaStands m x) whe
   envelope_stops e true = message_stops e.from e.message
 
   stops : (i : Input) → m.proposing.id ≡ m.id → m.id < 7 → May (input_of m.id m.nodes i) (accepting_after m i) (round_after m i)
-  stops (input.Submit client number op) own a_node = stops_at_once act.Nothing
   stops (input.Message e) own a_node = envelope_stops e (is_for_this_run m.id m.nodes e)
   stops input.Timeout own a_node = stops_begun own a_node
-  stops input.Tick own a_node = stops_at_once act.Nothing
   stops input.Checkpoint own a_node = stops_written act.Nothing _ (checkpoint_written m.nodes m.id act.Nothing x m stands)
   stops input.Trim own a_node = stops_written act.Nothing _ (trim_written m.nodes m.id act.Nothing x m stands)
+  stops other own a_node = stops_at_once act.Nothing
 
 -- the number of the node and that of all nodes are its own
 pub unwritten_allowed : (nodes id : ℕ) (m : ReplicaState) (in' : act.Input Command) (x : Local Command) → IsReplicaOf id nodes m → ReplicaStands m x

@@ -7,7 +7,7 @@ use Rattle.node_model.specs.declared.fault.NodeFault.{NodeFault}
 use Rattle.node_model.specs.declared.fault.NodeFault.TheVariants.{Device, Memory}
 use Rattle.node_model.specs.declared.input.Input.{Input}
 use Rattle.node_model.specs.Replicas.{ReplicaState, refuses}
-use Rattle.node_model.specs.Nodes.{HasMade}
+use Rattle.node_model.specs.Nodes.{HasMade, Made}
 use Rattle.node_model.proofs.RefusalLemmas.{refusal_goes_on}
 
 -- the faults are told apart
@@ -51,3 +51,12 @@ pub storage_too : {T M S : Type 0} (r : Result T NodeFault) (old new : M) (stora
     → IfSome refused (λ f. (r ≡ Err f) × (new ≡ old)) → IfSome refused (λ f. (r ≡ Err f) × (new ≡ old) × (storage ≡ storage))
 storage_too r old new storage None is = tt
 storage_too r old new storage (Some f) is = (is.0, is.1, refl)
+
+-- memory was wanting at most, and nothing is to be written
+pub made_nothing : {S T : Type 0} (storages : Ghosts S) (old : S) (r : Result T NodeFault) (Writes : OptionalWrite → Type 0)
+    → storages.reads old old → Writes None → IfErr r (λ f. f ≡ Memory) → Made storages old r old Writes
+made_nothing storages old r Writes reads none alone = record {
+  written = on_ok r (made_none storages old old Writes reads none);
+  device = λ is. absurd (memory_alone r alone is);
+  memory = λ _. inl reads;
+}

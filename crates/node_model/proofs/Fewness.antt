@@ -1,7 +1,7 @@
 -- What a node says on one input is not much.
 use Rattle.std.proofs.Common.{◌≡◌, ◌||◌, ℕ, zero, suc, ◌+◌, ◌-◌, ◌*◌, ◌<◌, ◌≤◌, nat_lt, nat_le, min, Bool, true, false, cond, not, List, []}
-use Rattle.std.proofs.Common.{◌∷◌, length, filter, map, Option, Some, None, Result, Ok, Err, IfOk, IfSome, refl, sym, ap, ◌∙◌, subst}
-use Rattle.std.proofs.Common.{◌==◌, if◌then◌else◌, arith, is_some, ◌⊎◌, inl, inr}
+use Rattle.std.proofs.Common.{◌∷◌, ◌++◌, length, filter, map, Option, Some, None, Result, Ok, Err, IfOk, IfSome, refl, sym, ap, ◌∙◌, subst}
+use Rattle.std.proofs.Common.{arith, is_some, ◌⊎◌, inl, inr}
 use Rattle.std.specs.List.{list_any}
 use Rattle.std.proofs.Math.Nat.{min-le_left}
 use Rattle.std.proofs.lemmas.Bool.{cond_both}
@@ -9,13 +9,12 @@ use Rattle.std.proofs.lemmas.Bool.Decides.{eqb_tells}
 use Rattle.std.proofs.lemmas.List.{length-append, length-map}
 use Rattle.std.proofs.lemmas.List.Elements.{filter-append}
 use Rattle.std.proofs.lemmas.List.Sums.{length-filter, count_by-le-length}
+use Rattle.synod.specs.Acts as act
 use Rattle.synod.specs.declared.ballot.Ballot.{Ballot}
-use Rattle.synod.specs.declared.slot.TheConstants.{SLOTS}
 use Rattle.sessions.specs.Asked.{Asked}
 use Rattle.sessions.specs.Machines.{MachineState}
 use Rattle.sessions.specs.declared.command.Command.{Command}
 use Rattle.sessions.specs.declared.command.Command.TheVariants.{NoOp, Request}
-use Rattle.acceptor.specs.Accepting.{Accepting, accept_answer}
 use Rattle.acceptor.specs.declared.answer.Answer.{Answer}
 use Rattle.acceptor.specs.declared.answer.Answer.TheVariants as answer
 use Rattle.learner.specs.Learning.{Learning, prefix, learnt_at}
@@ -29,25 +28,22 @@ use Rattle.proposer.specs.declared.outgoing.Recipients.{Recipients}
 use Rattle.proposer.specs.declared.outgoing.Recipients.TheVariants.{All, Others}
 use Rattle.proposer.specs.declared.window.TheConstants.{MOST_OPEN}
 use Rattle.wire.specs.NodeSets.{has_node, no_nodes, with_node}
-use Rattle.wire.specs.Parts.{Piece, piece_of}
 use Rattle.wire.specs.declared.frames.envelope.Envelope.{Envelope}
 use Rattle.wire.specs.declared.frames.message.Message.{Message}
-use Rattle.wire.specs.declared.frames.message.Message.TheVariants.{Prepare, Promise, Nack, Accept, Accepted, Ask, Decided, SnapAsk, SnapPart, Behind}
+use Rattle.wire.specs.declared.frames.message.Message.TheVariants.{Prepare, Accepted}
 use Rattle.node_model.specs.declared.fault.NodeFault.{NodeFault}
 use Rattle.node_model.specs.declared.input.Input.{Input}
-use Rattle.node_model.specs.declared.input.Input.TheVariants as input
 use Rattle.node_model.specs.Executing.{Executing, executing, executed, reply_at}
-use Rattle.node_model.specs.Fetching.{Fetching, next_part}
-use Rattle.node_model.specs.Inputs.{is_for_this_run}
-use Rattle.node_model.specs.Replicas.{ReplicaState, ReplicaIsSmall, position, asked, waits}
+use Rattle.node_model.specs.Replicas.{ReplicaState, ReplicaIsSmall, position, waits}
 use Rattle.node_model.specs.Outputs.{Response, IsFew}
-use Rattle.node_model.specs.Sending.{to_one, to_all, to_recipients, envelopes_of, envelopes, answer_sends, decided_sends, ask_sends}
-use Rattle.node_model.specs.Taking.{Takes, TakesEnvelope, TakesMessage, Hears, begins_to_lead, after_counting, with_request, after_submit}
-use Rattle.node_model.specs.Sending.{to_others, part_sends, snapshot_sends}
-use Rattle.node_model.specs.Taking.{executing_of, execution, after_news, after_promise, news, proposer_of, executed_to_the_end, learnt_from}
-use Rattle.node_model.specs.Taking.{execution_from, HearsOfFloor, TakesPart, RestoresText, Restores, is_ahead, asks_for, asks_again}
-use Rattle.node_model.specs.Taking.TakesPart.{passes as part_passes, keeps, completes}
-use Rattle.node_model.specs.Taking.RestoresText.{restores, gives_up}
+use Rattle.node_model.specs.Sending.{to_one, to_all, to_recipients, to_others, envelopes_of, envelopes, answer_sends, ask_sends}
+use Rattle.node_model.specs.Taking.{Takes, Hears, Restores, begins_to_lead, after_counting, with_request, after_submit, after_news, proposer_of}
+use Rattle.node_model.specs.Taking.{executing_of, execution, news, executed_to_the_end, learnt_from, execution_from}
+use Rattle.node_model.proofs.Saying.{PlainSends, asks_one, Proposes, Says, says_of}
+use Rattle.node_model.proofs.Saying.PlainSends.{to_nobody, to_node, to_the_rest, brings_part}
+use Rattle.node_model.proofs.Saying.Proposes.{counts, gives_way, is_asked, campaigns, repeats}
+use Rattle.node_model.proofs.Saying.Says.{tells, reports, answers as acceptor_answers, writes, proposes as proposes_, hears_vote}
+use Rattle.node_model.proofs.Saying.Says.{hears_decided, makes_text}
 
 -- ---- messages to nodes
 to_all-length : (from n : ℕ) (m : Message) → length (to_all from n m) ≡ n
@@ -85,28 +81,6 @@ answers_few from n to (answer.Promise p) few = omega arith
 answers_few from n to (answer.Accepted v) few = omega (arith, few, to_all-length from n (Accepted v))
 answers_few from n to (answer.Nack v) few = omega arith
 answers_few from n to (answer.Behind floor) few = omega arith
-
--- a message to one node where a test holds
-one_few : (b : Bool) (from to : ℕ) (m : Message) → length (if b then to_one from to m else []) ≤ 1
-one_few b from to m =
-    cond_both b (to_one from to m) [] (λ (es : List Envelope). length es ≤ 1) (λ _. omega arith) (λ _. omega arith)
-
-tells_few : (from to slot floor : ℕ) (o : Option Command) → length (decided_sends from to slot floor o) ≤ 1
-tells_few from to slot floor None = one_few (nat_lt slot floor) from to (Behind floor)
-tells_few from to slot floor (Some c) = omega arith
-
-asks_few : (from to slot : ℕ) → length (ask_sends from to slot) ≤ 1
-asks_few from to slot = one_few (nat_lt slot SLOTS) from to (Ask slot)
-
-part_few : (from to : ℕ) (o : Option Piece) → length (part_sends from to o) ≤ 1
-part_few from to None = omega arith
-part_few from to (Some p) = omega arith
-
-snapshot_few : (a : Accepting) (from to target number : ℕ) → length (snapshot_sends a from to target number) ≤ 1
-snapshot_few a from to target number =
-    cond_both (a.floor == target) (part_sends from to (piece_of target a.text number))
-    (if nat_lt target a.floor then to_one from to (Behind a.floor) else []) (λ (es : List Envelope). length es ≤ 1)
-    (λ _. part_few from to (piece_of target a.text number)) (λ _. one_few (nat_lt target a.floor) from to (Behind a.floor))
 
 -- ---- messages to all nodes but one
 itself : (id : ℕ) → id < 7 → has_node (with_node no_nodes id) id ≡ true
@@ -159,12 +133,6 @@ others_few id n m number few = elim (six_or_seven n few) [
   | inr seven ↦ (let some = one_fewer (with_node no_nodes id) id id m (itself id number) n (omega (arith, number, seven)) in
       omega (arith, few, some))
 ]
-
-again_asks_few : (id n slot : ℕ) (o : Option Fetching) → id < 7 → n ≤ 7 → length (asks_for id n slot o) ≤ 6
-again_asks_few id n slot None number few =
-    cond_both (nat_lt slot SLOTS) (to_others id n (Ask slot)) [] (λ (es : List Envelope). length es ≤ 6)
-    (λ _. others_few id n (Ask slot) number few) (λ _. omega arith)
-again_asks_few id n slot (Some f) number few = others_few id n (SnapAsk f.target (next_part f)) number few
 
 -- ---- a proposer
 -- a slot of the window is gone through, and a message at most is sent
@@ -277,7 +245,7 @@ restored_few : (m : ReplicaState) (target : ℕ) → length (execution_from m ta
 restored_few m target =
     let all = executed_few (executing_of m []) target (learnt_from m target) in omega (arith, all)
 
--- ---- each input
+-- ---- each shape
 module _ (old new : ReplicaState) (said : Response) (small : ReplicaIsSmall old) where
   few_sends : (r : Response) → said ≡ r → r.replies ≡ [] → length r.sends ≤ 62 → IsFew said
   few_sends r e none few = subst IsFew (sym e) (record {
@@ -285,96 +253,67 @@ module _ (old new : ReplicaState) (said : Response) (small : ReplicaIsSmall old)
     replies = (let n : length r.replies ≡ 0 = ap length none in omega (arith, n));
   })
 
-  abbrev sends_of : List Outgoing → List Envelope
-  sends_of os = envelopes old.id old.nodes os
+  -- questions, and what answers them
+  plain_few : (es : List Envelope) → PlainSends old es → length es ≤ 6
+  plain_few _ to_nobody = omega arith
+  plain_few _ (to_node to m there plain) = omega arith
+  plain_few _ (to_the_rest m plain) = others_few old.id old.nodes m small.number small.of_all
+  plain_few _ (brings_part to p there is) = omega arith
 
-  few_outgoing : (os : List Outgoing) → length os ≤ 8 → length (sends_of os) ≤ 56
-  few_outgoing os few = let all = envelopes_few old.id old.nodes os small.of_all in omega (arith, few, all)
+  -- a proposer, and then questions
+  goes_on_few : (os : List Outgoing) (asks : List Envelope) → length os ≤ 8 → PlainSends old asks
+      → length (envelopes old.id old.nodes os ++ asks) ≤ 62
+  goes_on_few os asks few plain =
+      let both = length-append (envelopes old.id old.nodes os) asks in
+      let all = envelopes_few old.id old.nodes os small.of_all in
+      let last = plain_few asks plain in
+      omega (arith, few, both, all, last)
 
-  hears_few : (c : Command) (o : Option Learned) (l : Learning) (last : List Envelope) → length last ≤ 1
-      → Hears old c o l last new said → IsFew said
-  hears_few c None l last few k = few_sends _ k.1 refl (omega arith)
-  hears_few c (Some learned) l last few k =
+  hears_few : (c : Command) (o : Option Learned) (l : Learning) (asks : List Envelope) → PlainSends old asks
+      → Hears old c o l asks new said → IsFew said
+  hears_few c None l asks plain k = few_sends _ k.1 refl (omega arith)
+  hears_few c (Some learned) l asks plain k =
       let p : Proposing = proposer_of old learned.slot (execution old l) in
-      let x : Proposing × List Outgoing = after_news old learned.slot l in
-      let both = length-append (sends_of x.1) last in
-      let proposals = few_outgoing x.1 (proposes_few p p.campaign l) in
       let replies_ = execution_few old l in
       subst IsFew (sym k.says) (record {
-        sends = omega (arith, both, proposals, few);
+        sends = goes_on_few (after_news old learned.slot l).1 asks (proposes_few p p.campaign l) plain;
         replies = omega (arith, replies_, small.waiting);
       })
 
-  floor_few : (floor : ℕ) (b : Bool) → HearsOfFloor old floor b new said → IsFew said
-  floor_few floor false k = few_sends _ k.1 refl (omega arith)
-  floor_few floor true k =
-      few_sends _ k.1 refl (let n = others_few old.id old.nodes (SnapAsk floor 0) small.number small.of_all in omega (arith, n))
-
-  restores_few : (from target : ℕ) (machine : MachineState) → Restores old from target machine new said → IsFew said
-  restores_few from target machine k =
+  restores_few : (from target : ℕ) (machine : MachineState) → from < old.nodes → Restores old from target machine new said → IsFew said
+  restores_few from target machine sender k =
       let p : Proposing = (executed_to_the_end k.m target).proposing in
-      let x : Proposing × List Outgoing = proposes p p.campaign k.m.learning in
-      let both = length-append (sends_of x.1) (ask_sends old.id from (position k.m)) in
-      let proposals = few_outgoing x.1 (proposes_few p p.campaign k.m.learning) in
-      let asks = asks_few old.id from (position k.m) in
       let replies_ = restored_few k.m target in
       let waited : length k.m.proposing.waiting ≡ length old.proposing.waiting = ap (λ (m : ReplicaState). length m.proposing.waiting) k.begins in
       subst IsFew (sym k.says) (record {
-        sends = omega (arith, both, proposals, asks);
+        sends = goes_on_few (proposes p p.campaign k.m.learning).1 (ask_sends old.id from (position k.m))
+            (proposes_few p p.campaign k.m.learning) (asks_one old from (position k.m) sender);
         replies = omega (arith, replies_, waited, small.waiting);
       })
 
-  text_few : (from target : ℕ) (text : List ℕ) → RestoresText old from target text new said → IsFew said
-  text_few from target text (restores machine has k) = restores_few from target machine k
-  text_few from target text (gives_up none leaves e) = few_sends _ e refl (omega arith)
+  proposer_few : (in' : act.Input Command) (submits : List Command) (round : ℕ) (p : Proposing × List Outgoing)
+      → Proposes old in' submits round p → Eight p
+  proposer_few _ _ _ _ (counts from p sender) = counting_few old.proposing (with_promised old.proposing from p) old.learning
+  proposer_few _ _ _ _ (gives_way from n) = omega arith
+  proposer_few _ _ _ _ (is_asked r) = submit_few old r
+  proposer_few _ _ _ _ (campaigns p prepare starts) = omega arith
+  proposer_few _ _ _ _ repeats = again_few old.proposing.campaign small.proposals
 
-  part_taken_few : (from : ℕ) (p : Piece) → TakesPart old from p new said → IsFew said
-  part_taken_few from p (part_passes unwanted leaves e) = few_sends _ e refl (omega arith)
-  part_taken_few from p (keeps f counts number is leaves e) = few_sends _ e refl (omega arith)
-  part_taken_few from p (completes f counts none k) = text_few from f.target _ k
-
-  message_few : (from : ℕ) (message : Message) → TakesMessage old from message new said → IsFew said
-  message_few from (Prepare ballot first) (a, answers_, leaves, e) =
-      few_sends _ e refl (let n = answers_few old.id old.nodes from a small.of_all in omega (arith, n))
-  message_few from (Promise p) k =
-      few_sends _ k.1 refl
-      (let n = few_outgoing (after_promise old from p).1
-      (counting_few old.proposing (with_promised old.proposing from p) old.learning) in
-      omega (arith, n))
-  message_few from (Nack n) k = few_sends _ k.1 refl (omega arith)
-  message_few from (Accept v) k =
-      few_sends _ k.1 refl (let n = answers_few old.id old.nodes from (accept_answer old.accepting v) small.of_all in omega (arith, n))
-  message_few from (Accepted v) (o, l, heard, k) = hears_few v.command o l [] (omega arith) k
-  message_few from (Ask slot) k =
-      few_sends _ k.1 refl (let n = tells_few old.id from slot old.accepting.floor (learnt_at old.learning slot) in omega (arith, n))
-  message_few from (Decided slot c) (o, l, heard, k) = hears_few c o l _ (asks_few old.id from (prefix l)) k
-  message_few from (SnapAsk target number) k =
-      few_sends _ k.1 refl (let n = snapshot_few old.accepting old.id from target number in omega (arith, n))
-  message_few from (SnapPart p) k = part_taken_few from p k
-  message_few from (Behind floor) k = floor_few floor (is_ahead old floor) k
-
-  envelope_few : (e : Envelope) (b : Bool) → TakesEnvelope old e b new said → IsFew said
-  envelope_few e false k = few_sends _ k.1 refl (omega arith)
-  envelope_few e true k = message_few e.from e.message k
-
-  pub takes_few : (i : Input) → Takes old i new said → IsFew said
-  takes_few (input.Submit client number op) k =
-      few_sends _ k.1 refl
-      (let n = few_outgoing (after_submit old (asked client number op)).1 (submit_few old (asked client number op)) in omega (arith, n))
-  takes_few (input.Message e) k = envelope_few e (is_for_this_run old.id old.nodes e) k
-  takes_few input.Timeout (prepare_, starts, leaves, e) =
-      few_sends _ e refl (let n = outgoing_few old.id old.nodes prepare_ small.of_all in omega (arith, n))
-  takes_few input.Tick k =
-      few_sends _ k.1 refl
-      (let both = length-append (sends_of (sends_again old.proposing.campaign)) (asks_again old) in
-      let again = few_outgoing (sends_again old.proposing.campaign) (again_few old.proposing.campaign small.proposals) in
-      let others = again_asks_few old.id old.nodes (position old) old.fetching small.number small.of_all in
-      omega (arith, both, again, others))
-  -- nothing is said
-  takes_few other k = few_sends _ k.1 refl (omega arith)
+  says_few : (i : Input) → Says old i new said → IsFew said
+  says_few i (tells in' f sends is fetched plain leaves e) = few_sends _ e refl (let n = plain_few sends plain in omega (arith, n))
+  says_few i (reports in' to slot c is there learnt leaves e) = few_sends _ e refl (omega arith)
+  says_few i (acceptor_answers in' to a answer_ is there h leaves e) =
+      few_sends _ e refl (let n = answers_few old.id old.nodes to answer_ small.of_all in omega (arith, n))
+  says_few i (writes a is h leaves e) = few_sends _ e refl (omega arith)
+  says_few i (proposes_ in' submits round p asks is h plain leaves e) =
+      few_sends _ e refl (goes_on_few p.1 asks (proposer_few in' submits round p h) plain)
+  says_few i (hears_vote from to v comes is (o, l, heard, k)) = hears_few v.command o l [] to_nobody k
+  says_few i (hears_decided from to slot c comes is sender (o, l, heard, k)) =
+      hears_few c o l _ (asks_one old from (prefix l) sender) k
+  says_few i (makes_text in' is h) = restores_few h.from h.fetched.target h.machine h.sender h.restored
 
 -- what a node says that took an input
 pub said_few : (i : Input) (old new : ReplicaState) (r : Result Response NodeFault) → ReplicaIsSmall old
     → IfOk r (λ said. Takes old i new said) → IfOk r IsFew
-said_few i old new (Ok said) small k = takes_few old new said small i k
+said_few i old new (Ok said) small k = says_few old new said small i (says_of old new said i k)
 said_few i old new (Err f) small k = tt

@@ -1,25 +1,23 @@
 -- What an input is to a node's learner: news of a vote, news that a slot is decided, a text that is whole, or nothing.
-use Rattle.std.proofs.Common.{◌≡◌, ◌≢◌, ℕ, ◌<◌, ◌==◌, ◌&&◌, not, nat_lt, Bool, true, false, List, [], Option, None, Some, refl, sym, ap, ◌∙◌, subst}
+use Rattle.std.proofs.Common.{◌≡◌, ◌≢◌, ℕ, ◌<◌, ◌==◌, ◌&&◌, not, nat_lt, true, List, [], Option, None, Some, refl, sym, ap, ◌∙◌, subst}
 use Rattle.std.proofs.lemmas.Bool.{and_parts, ltb-true, eqb-true}
 use Rattle.synod.specs.declared.vote.Vote.{Vote}
 use Rattle.sessions.specs.Machines.{MachineState}
 use Rattle.sessions.specs.declared.command.Command.{Command}
 use Rattle.wire.specs.Parts.{Piece, joined}
 use Rattle.wire.specs.declared.frames.envelope.Envelope.{Envelope}
-use Rattle.wire.specs.declared.frames.message.Message.{Message}
-use Rattle.wire.specs.declared.frames.message.Message.TheVariants.{Prepare, Accepted, Decided, SnapPart, Behind}
+use Rattle.wire.specs.declared.frames.message.Message.TheVariants.{Accepted, Decided, SnapPart}
 use Rattle.node_model.specs.declared.input.Input.{Input}
 use Rattle.node_model.specs.declared.input.Input.TheVariants as input
 use Rattle.node_model.specs.Fetching.{Fetching, wants, is_wanted, is_as_long, is_held, text_with}
-use Rattle.node_model.specs.Inputs.{role_of, is_for_this_run}
+use Rattle.node_model.specs.Inputs.{Role, role_of}
 use Rattle.node_model.specs.Inputs.Role.{Learner, Fetcher}
 use Rattle.node_model.specs.Replicas.{ReplicaState, position}
 use Rattle.node_model.specs.Nodes.{fetched_text}
 use Rattle.node_model.specs.Outputs.{Response, sent}
-use Rattle.node_model.specs.Taking.{Takes, TakesEnvelope, TakesMessage, HearsOfVote, HearsOfDecided, HearsOfFloor, TakesPart, RestoresText}
-use Rattle.node_model.specs.Taking.{PartCounts, Restores, IsMachineOfText, is_ahead}
-use Rattle.node_model.specs.Taking.TakesPart.{passes, keeps, completes}
-use Rattle.node_model.specs.Taking.RestoresText.{restores, gives_up}
+use Rattle.node_model.specs.Taking.{Takes, HearsOfVote, HearsOfDecided, PartCounts, Restores, IsMachineOfText}
+use Rattle.node_model.proofs.Saying.{MakesText, Says, says_of}
+use Rattle.node_model.proofs.Saying.Says.{tells, reports, answers, writes, proposes, hears_vote, hears_decided, makes_text}
 
 -- the learner and the machine stay, nothing is told as learnt or restored, and nobody is replied to
 pub record LearnsNothing (old new : ReplicaState) (said : Response) : Type 0 where
@@ -50,6 +48,10 @@ pub data Hearing (old : ReplicaState) (i : Input) (new : ReplicaState) (said : R
   of_text : HearsText old i new said → Hearing old i new said
   of_nothing : LearnsNothing old new said → Hearing old i new said
 
+-- for which role a message is
+role_is : (e f : Envelope) (role : Role) → input.Message e ≡ input.Message f → role_of f.message ≡ role → role_of e.message ≡ role
+role_is e f role same is = (let here : e ≡ f = cc in ap (λ (g : Envelope). role_of g.message) here ∙ is)
+
 module _ (old new : ReplicaState) (said : Response) where
   -- it says no more than what it sends, and comes to a replica of the same learner and machine
   so : (then : ReplicaState) (sends : List Envelope) → new ≡ then → said ≡ sent sends → then.learning ≡ old.learning
@@ -61,20 +63,6 @@ module _ (old new : ReplicaState) (said : Response) where
     learnt = ap (λ (r : Response). r.learnt) says;
     replies = ap (λ (r : Response). r.replies) says;
   }
-
-  -- a message for another role is nothing to the learner, unless it brings a part of a text
-  pub learns_nothing : (from : ℕ) (message : Message) → role_of message ≢ Learner → role_of message ≢ Fetcher
-      → TakesMessage old from message new said → LearnsNothing old new said
-  learns_nothing from (Prepare ballot first) other apart k = so _ _ k.2 k.3 refl refl
-  learns_nothing from (Accepted v) other apart k = absurd (other refl)
-  learns_nothing from (Decided slot c) other apart k = absurd (other refl)
-  learns_nothing from (SnapPart p) other apart k = absurd (apart refl)
-  learns_nothing from (Behind floor) other apart k = absurd (apart refl)
-  learns_nothing from message other apart k = so _ _ k.0 k.1 refl refl
-
-  pub floor_nothing : (floor : ℕ) (b : Bool) → HearsOfFloor old floor b new said → LearnsNothing old new said
-  floor_nothing floor false k = so _ _ k.0 k.1 refl refl
-  floor_nothing floor true k = so _ _ k.0 k.1 refl refl
 
   -- ---- a part has come
   -- of which checkpoint it is, where it counts
@@ -91,44 +79,45 @@ module _ (old new : ReplicaState) (said : Response) where
         ap (λ (h : Fetching). h.target) counts.is ∙ sym at,
       )
 
-  text_heard : (from to : ℕ) (p : Piece) (f : Fetching) → PartCounts old p f → RestoresText old from f.target (joined f.held) new said
-      → Hearing old (input.Message (record { from = from; to = to; message = SnapPart p })) new said
-  text_heard from to p f counts (restores machine has whole) =
-      let at = of_the_target p f counts in
-      let text : joined f.held ≡ text_with old.fetching (SnapPart p) =
-      ap (λ (h : Fetching). joined h.held) counts.is
-      ∙ sym (ap (λ (o : Option Fetching). text_with o (SnapPart p)) counts.fetching_) in
-      of_text (record {
-        from = from;
-        to = to;
-        part = p;
-        is = refl;
+  text_heard : (i : Input) → MakesText old i new said → HearsText old i new said
+  text_heard i h =
+      let at = of_the_target h.p h.fetched h.counts_ in
+      let text : joined h.fetched.held ≡ fetched_text old i =
+      ap (λ (f : Fetching). joined f.held) h.counts_.is
+      ∙ sym (ap (λ (o : Option Fetching). text_with o (SnapPart h.p)) h.counts_.fetching_)
+      ∙ sym (ap (fetched_text old) h.is) in
+      record {
+        from = h.from;
+        to = h.to;
+        part = h.p;
+        is = h.is;
         ahead = at.0;
-        machine = machine;
-        text = subst (λ (t : List ℕ). IsMachineOfText t machine) text has;
-        whole = subst (λ (n : ℕ). Restores old from n machine new said) at.1 whole;
-      })
-  text_heard from to p f counts (gives_up none leaves says) = of_nothing (so _ _ leaves says refl refl)
+        machine = h.machine;
+        text = subst (λ (t : List ℕ). IsMachineOfText t h.machine) text h.text;
+        whole = subst (λ (n : ℕ). Restores old h.from n h.machine new said) at.1 h.restored;
+      }
 
-  part_heard : (from to : ℕ) (p : Piece) → TakesPart old from p new said
-      → Hearing old (input.Message (record { from = from; to = to; message = SnapPart p })) new said
-  part_heard from to p (passes unwanted leaves says) = of_nothing (so _ _ leaves says refl refl)
-  part_heard from to p (keeps f counts number is leaves says) = of_nothing (so _ _ leaves says refl refl)
-  part_heard from to p (completes f counts none k) = text_heard from to p f counts k
-
-  message_heard : (from to : ℕ) (message : Message) → TakesMessage old from message new said
-      → Hearing old (input.Message (record { from = from; to = to; message = message })) new said
-  message_heard from to (Accepted v) k = of_vote from to v refl k
-  message_heard from to (Decided slot c) k = of_decision from to slot c refl k
-  message_heard from to (SnapPart p) k = part_heard from to p k
-  message_heard from to (Behind floor) k = of_nothing (floor_nothing floor (is_ahead old floor) k)
-  message_heard from to other k = of_nothing (learns_nothing from other (λ e. cc) (λ e. cc) k)
-
-  envelope_heard : (e : Envelope) (b : Bool) → TakesEnvelope old e b new said → Hearing old (input.Message e) new said
-  envelope_heard e false k = of_nothing (so _ _ k.0 k.1 refl refl)
-  envelope_heard e true k = message_heard e.from e.to e.message k
+  says_heard : (i : Input) → Says old i new said → Hearing old i new said
+  says_heard i (hears_vote from to v comes is k) = of_vote from to v comes k
+  says_heard i (hears_decided from to slot c comes is sender k) = of_decision from to slot c comes k
+  says_heard i (makes_text in' is h) = of_text (text_heard i h)
+  says_heard i (tells in' f sends is fetches plain leaves says) = of_nothing (so _ _ leaves says refl refl)
+  says_heard i (reports in' to slot c is there learnt leaves says) = of_nothing (so _ _ leaves says refl refl)
+  says_heard i (answers in' to a answer is there h leaves says) = of_nothing (so _ _ leaves says refl refl)
+  says_heard i (writes a is h leaves says) = of_nothing (so _ _ leaves says refl refl)
+  says_heard i (proposes in' submits round p asks is h plain leaves says) = of_nothing (so _ _ leaves says refl refl)
 
   pub heard_of : (i : Input) → Takes old i new said → Hearing old i new said
-  heard_of (input.Message e) k = envelope_heard e (is_for_this_run old.id old.nodes e) k
-  heard_of input.Timeout k = of_nothing (so _ _ k.2 k.3 refl refl)
-  heard_of other k = of_nothing (so _ _ k.0 k.1 refl refl)
+  heard_of i k = says_heard i (says_of old new said i k)
+
+  -- a message for another role is nothing to the learner, unless it brings a part of a text
+  other_role : (e : Envelope) → role_of e.message ≢ Learner → role_of e.message ≢ Fetcher → Hearing old (input.Message e) new said
+      → LearnsNothing old new said
+  other_role e other apart (of_vote from to v is k) = absurd (other (role_is e _ Learner is refl))
+  other_role e other apart (of_decision from to slot c is k) = absurd (other (role_is e _ Learner is refl))
+  other_role e other apart (of_text h) = absurd (apart (role_is e _ Fetcher h.is refl))
+  other_role e other apart (of_nothing none) = none
+
+  pub learns_nothing : (e : Envelope) → role_of e.message ≢ Learner → role_of e.message ≢ Fetcher → Takes old (input.Message e) new said
+      → LearnsNothing old new said
+  learns_nothing e other apart k = other_role e other apart (heard_of (input.Message e) k)

@@ -2,6 +2,8 @@
 pub mod Commands
 pub mod Executions
 pub mod Replying
+-- what a node says, in few shapes
+pub mod Saying
 -- what a node's learner hears, and keeps
 pub mod Hearings
 pub mod Keeping

@@ -1,134 +1,158 @@
 -- A node stays the node that it is.
-use Rattle.std.proofs.Common.{◌≡◌, ℕ, nat_lt, Bool, true, false, List, Option, Some, None, Result, Ok, Err, IfSome, IfOk}
-use Rattle.std.proofs.Common.{IfErr, MatchBool, refl, sym, ap, ◌∙◌, subst}
+use Rattle.std.proofs.Common.{◌≡◌, ℕ, ◌≤◌, nat_lt, Bool, true, false, List, [], Option, Some, None, Result, Ok, Err, IfSome, IfOk}
+use Rattle.std.proofs.Common.{IfErr, MatchBool, refl, sym, ap, ◌∙◌, subst, arith, le_refl}
 use Rattle.std.proofs.lemmas.Bool.{cond_both}
+use Rattle.synod.specs.Acts as act
 use Rattle.stable.specs.declared.stable.Stable.{Ghosts}
 use Rattle.sessions.specs.Machines.{MachineState}
 use Rattle.sessions.specs.declared.command.Command.{Command}
+use Rattle.acceptor.specs.Accepting.{Accepting}
 use Rattle.learner.specs.Learning.{Learning, skipped, prefix}
 use Rattle.learner.specs.declared.learned.Learned.{Learned}
 use Rattle.proposer.specs.Proposing.{Proposing, with_promised}
-use Rattle.wire.specs.Parts.{Piece}
 use Rattle.proposer.specs.declared.outgoing.Outgoing.{Outgoing}
 use Rattle.wire.specs.declared.frames.envelope.Envelope.{Envelope}
-use Rattle.wire.specs.declared.frames.message.Message.{Message}
-use Rattle.wire.specs.declared.frames.message.Message.TheVariants.{Prepare, Promise, Accepted, Decided, SnapPart, Behind}
 use Rattle.node_model.specs.declared.fault.NodeFault.{NodeFault}
 use Rattle.node_model.specs.declared.input.Input.{Input}
-use Rattle.node_model.specs.declared.input.Input.TheVariants as input
 use Rattle.node_model.specs.Faults.{is_stop_fault}
-use Rattle.node_model.specs.Inputs.{is_for_this_run}
 use Rattle.node_model.specs.Loading.{IsReplicaOf, IsMember}
-use Rattle.node_model.specs.Replicas.{ReplicaState, waits, asked}
+use Rattle.node_model.specs.Replicas.{ReplicaState, waits}
 use Rattle.node_model.specs.Nodes.{NodeState, NodeSteps, TakesInput, StopsOnInput, RefusesInput}
 use Rattle.node_model.specs.Outputs.{Response}
-use Rattle.node_model.specs.Taking.{Takes, TakesEnvelope, TakesMessage, Hears, after_counting, with_request, proposer_of, proposed}
-use Rattle.node_model.specs.Taking.{execution, HearsOfFloor, TakesPart, RestoresText, Restores, restored, executed_to_the_end, is_ahead}
-use Rattle.node_model.specs.Taking.TakesPart.{passes, keeps, completes}
-use Rattle.node_model.specs.Taking.RestoresText.{restores, gives_up}
+use Rattle.node_model.specs.Protocol.{accepting_after, round_after}
+use Rattle.node_model.specs.Taking.{Takes, Hears, Restores, after_counting, with_request, proposer_of, proposed, execution}
+use Rattle.node_model.specs.Taking.{executed_to_the_end}
 use Rattle.node_model.proofs.Campaigns.{KeepsRest, proposes_keeps, counting_keeps}
 use Rattle.node_model.proofs.Keeping.{vote_keeps, decided_keeps}
+use Rattle.node_model.proofs.Saying.{IsInput, Proposes, Says, says_of}
+use Rattle.node_model.proofs.Saying.Proposes.{counts, gives_way, is_asked, campaigns, repeats}
+use Rattle.node_model.proofs.Saying.Says.{tells, reports, answers, writes, proposes, hears_vote, hears_decided, makes_text}
 
 -- ---- a proposer
-pub record KeepsOwn (old new : Proposing) : Type 0 where
+-- it is of the same node, has begun this round by now, and was refused in none that is lower
+pub record GoesOn (old : Proposing) (round : ℕ) (new : Proposing) : Type 0 where
   pub id_ : new.id ≡ old.id
   pub nodes_ : new.nodes ≡ old.nodes
+  pub round_ : new.round ≡ round
+  pub refused_ : old.refused ≤ new.refused
 
-own : (p : Proposing) → KeepsOwn p p
-own p = record { id_ = refl; nodes_ = refl }
+as_it_is : (p : Proposing) → GoesOn p p.round p
+as_it_is p = record { id_ = refl; nodes_ = refl; round_ = refl; refused_ = le_refl p.refused }
 
--- one of the same node that proposes then
-then_own : (p q : Proposing) (x : Proposing × List Outgoing) → KeepsOwn p q → KeepsRest q x → KeepsOwn p x.0
-then_own p q x h k = record {
+-- then it proposes
+proposes_then : (p : Proposing) (round : ℕ) (q : Proposing) (x : Proposing × List Outgoing) → GoesOn p round q → KeepsRest q x
+    → GoesOn p round x.0
+proposes_then p round q x h k = record {
   id_ = ap (λ (r : Proposing). r.id) k ∙ h.id_;
   nodes_ = ap (λ (r : Proposing). r.nodes) k ∙ h.nodes_;
+  round_ = ap (λ (r : Proposing). r.round) k ∙ h.round_;
+  refused_ = (let same : x.0.refused ≡ q.refused = ap (λ (r : Proposing). r.refused) k in omega (arith, same, h.refused_));
 }
 
 -- ---- a node
-module _ (id nodes : ℕ) (old : ReplicaState) (is : IsReplicaOf id nodes old) where
-  -- it is the same node as the replica that it comes to
-  changes : (new then : ReplicaState) → new ≡ then → then.id ≡ old.id → then.nodes ≡ old.nodes → then.learning.nodes ≡ old.learning.nodes
-      → KeepsOwn old.proposing then.proposing → IsReplicaOf id nodes new
-  changes new then e number of_all learning proposing = subst (λ (m : ReplicaState). IsReplicaOf id nodes m) (sym e) (record {
-    number = number ∙ is.number;
-    of_all = of_all ∙ is.of_all;
-    learning = learning ∙ is.learning;
-    proposing = (proposing.id_ ∙ is.proposing.0, proposing.nodes_ ∙ is.proposing.1);
+-- it is the same node, and its acceptor and its round are those that the input leaves
+pub record StaysItself (old : ReplicaState) (i : Input) (new : ReplicaState) : Type 0 where
+  pub id_ : new.id ≡ old.id
+  pub nodes_ : new.nodes ≡ old.nodes
+  pub learner_ : new.learning.nodes ≡ old.learning.nodes
+  pub acceptor_ : new.accepting ≡ accepting_after old i
+  pub proposer_ : GoesOn old.proposing (round_after old i) new.proposing
+
+module _ (old new : ReplicaState) (said : Response) (i : Input) where
+  -- it comes to such a replica
+  comes_to : {in' : act.Input Command} {submits : List Command} (a : Accepting) (round : ℕ) (then : ReplicaState)
+      → IsInput old i in' submits a round → new ≡ then → then.id ≡ old.id → then.nodes ≡ old.nodes
+      → then.learning.nodes ≡ old.learning.nodes → then.accepting ≡ a → GoesOn old.proposing round then.proposing → StaysItself old i new
+  comes_to a round then is e number of_all learner acceptor proposer = subst (λ (m : ReplicaState). StaysItself old i m) (sym e) (record {
+    id_ = number;
+    nodes_ = of_all;
+    learner_ = learner;
+    acceptor_ = acceptor ∙ sym is.acceptor_;
+    proposer_ = subst (λ (r : ℕ). GoesOn old.proposing r then.proposing) (sym is.round_) proposer;
   })
 
-  -- a learner has heard some news
-  learner_changes : (l : Learning) (learned : Option Learned) (c : Command) (asks : List Envelope) (new : ReplicaState) (said : Response)
-      → l.nodes ≡ old.learning.nodes → Hears old c learned l asks new said → IsReplicaOf id nodes new
-  learner_changes l None c asks new said e k = changes new _ k.0 refl refl e (own old.proposing)
-  learner_changes l (Some learned) c asks new said e k =
-      let p : Proposing = proposer_of old learned.slot (execution old l) in
-      changes new _ k.leaves refl refl e
-      (then_own old.proposing p (proposed p l) (record { id_ = refl; nodes_ = refl }) (proposes_keeps p p.campaign l))
+  proposer_goes_on : (in' : act.Input Command) (submits : List Command) (round : ℕ) (p : Proposing × List Outgoing)
+      → Proposes old in' submits round p → GoesOn old.proposing round p.0
+  proposer_goes_on _ _ _ _ (counts from p sender) =
+      let q : Proposing = with_promised old.proposing from p in
+      proposes_then old.proposing old.proposing.round q (after_counting old.proposing q old.learning)
+      (record { id_ = refl; nodes_ = refl; round_ = refl; refused_ = le_refl old.proposing.refused })
+      (counting_keeps old.proposing q old.learning)
+  proposer_goes_on _ _ _ _ (gives_way from n) =
+      record { id_ = refl; nodes_ = refl; round_ = refl; refused_ = omega arith }
+  proposer_goes_on _ _ _ _ (is_asked r) =
+      cond_both (waits old r.client r.number) _ _ (λ (x : Proposing × List Outgoing). GoesOn old.proposing old.proposing.round x.0)
+      (λ _. as_it_is old.proposing)
+      (λ _. let p : Proposing = with_request old.proposing r in
+      proposes_then old.proposing old.proposing.round p (proposed p old.learning)
+      (record { id_ = refl; nodes_ = refl; round_ = refl; refused_ = le_refl old.proposing.refused })
+      (proposes_keeps p p.campaign old.learning))
+  proposer_goes_on _ _ _ _ (campaigns p prepare starts) = record {
+    id_ = ap (λ (q : Proposing). q.id) starts.leaves;
+    nodes_ = ap (λ (q : Proposing). q.nodes) starts.leaves;
+    round_ = ap (λ (q : Proposing). q.round) starts.leaves;
+    refused_ = (let same : p.refused ≡ old.proposing.refused = ap (λ (q : Proposing). q.refused) starts.leaves in omega (arith, same));
+  }
+  proposer_goes_on _ _ _ _ repeats = as_it_is old.proposing
 
-  floor_own : (floor : ℕ) (b : Bool) (new : ReplicaState) (said : Response) → HearsOfFloor old floor b new said → IsReplicaOf id nodes new
-  floor_own floor false new said k = changes new old k.0 refl refl refl (own old.proposing)
-  floor_own floor true new said k = changes new _ k.0 refl refl refl (record { id_ = refl; nodes_ = refl })
+  -- a learner has heard some news
+  hears_stays : {in' : act.Input Command} (c : Command) (learned : Option Learned) (l : Learning) (asks : List Envelope)
+      → IsInput old i in' [] old.accepting old.proposing.round → l.nodes ≡ old.learning.nodes → Hears old c learned l asks new said
+      → StaysItself old i new
+  hears_stays c None l asks is same k = comes_to old.accepting old.proposing.round _ is k.0 refl refl same refl (as_it_is old.proposing)
+  hears_stays c (Some learned) l asks is same k =
+      let p : Proposing = proposer_of old learned.slot (execution old l) in
+      comes_to old.accepting old.proposing.round _ is k.leaves refl refl same refl
+      (proposes_then old.proposing old.proposing.round p (proposed p l)
+      (record { id_ = refl; nodes_ = refl; round_ = refl; refused_ = le_refl old.proposing.refused }) (proposes_keeps p p.campaign l))
 
   skipped_nodes : (l : Learning) (target : ℕ) → (skipped l target).nodes ≡ l.nodes
   skipped_nodes l target =
       cond_both (nat_lt (prefix l) target) (record l { first = target }) l (λ (x : Learning). x.nodes ≡ l.nodes) (λ _. refl) (λ _. refl)
 
   -- the machine of a text is restored
-  restored_own : (from target : ℕ) (machine : MachineState) (new : ReplicaState) (said : Response) → Restores old from target machine new said
-      → IsReplicaOf id nodes new
-  restored_own from target machine new said k =
+  restored_stays : {in' : act.Input Command} (from target : ℕ) (machine : MachineState)
+      → IsInput old i in' [] old.accepting old.proposing.round → Restores old from target machine new said → StaysItself old i new
+  restored_stays from target machine is k =
       let p : Proposing = (executed_to_the_end k.m target).proposing in
-      let of : (m : ReplicaState) → m ≡ restored old target machine → KeepsOwn old.proposing m.proposing =
-      λ m e. subst (λ (n : ReplicaState). KeepsOwn old.proposing n.proposing) (sym e) (record { id_ = refl; nodes_ = refl }) in
-      changes new _ k.leaves (ap (λ (m : ReplicaState). m.id) k.begins) (ap (λ (m : ReplicaState). m.nodes) k.begins)
+      let begun : GoesOn old.proposing old.proposing.round k.m.proposing =
+      subst (λ (n : ReplicaState). GoesOn old.proposing old.proposing.round n.proposing) (sym k.begins)
+      (record { id_ = refl; nodes_ = refl; round_ = refl; refused_ = le_refl old.proposing.refused }) in
+      comes_to old.accepting old.proposing.round _ is k.leaves (ap (λ (m : ReplicaState). m.id) k.begins)
+      (ap (λ (m : ReplicaState). m.nodes) k.begins)
       (ap (λ (m : ReplicaState). m.learning.nodes) k.begins ∙ skipped_nodes old.learning target)
-      (then_own old.proposing p (proposed p k.m.learning)
-      (let h = of k.m k.begins in record { id_ = h.id_; nodes_ = h.nodes_ })
+      (ap (λ (m : ReplicaState). m.accepting) k.begins)
+      (proposes_then old.proposing old.proposing.round p (proposed p k.m.learning)
+      (record { id_ = begun.id_; nodes_ = begun.nodes_; round_ = begun.round_; refused_ = begun.refused_ })
       (proposes_keeps p p.campaign k.m.learning))
 
-  text_own : (from target : ℕ) (text : List ℕ) (new : ReplicaState) (said : Response) → RestoresText old from target text new said
-      → IsReplicaOf id nodes new
-  text_own from target text new said (restores machine has k) = restored_own from target machine new said k
-  text_own from target text new said (gives_up none leaves says) =
-      changes new _ leaves refl refl refl (record { id_ = refl; nodes_ = refl })
+  says_stays : Says old i new said → StaysItself old i new
+  says_stays (tells in' f sends is fetched plain leaves says) = comes_to _ _ _ is leaves refl refl refl refl (as_it_is old.proposing)
+  says_stays (reports in' to slot c is there learnt leaves says) = comes_to _ _ old is leaves refl refl refl refl (as_it_is old.proposing)
+  says_stays (answers in' to a answer is there h leaves says) = comes_to a _ _ is leaves refl refl refl refl (as_it_is old.proposing)
+  says_stays (writes a is h leaves says) = comes_to a _ _ is leaves refl refl refl refl (as_it_is old.proposing)
+  says_stays (proposes in' submits round p asks is h plain leaves says) =
+      comes_to _ round _ is leaves refl refl refl refl (proposer_goes_on in' submits round p h)
+  says_stays (hears_vote from to v comes is (learned, l, heard, k)) =
+      hears_stays v.command learned l [] is (vote_keeps old.learning l from v learned heard).nodes_ k
+  says_stays (hears_decided from to slot c comes is sender (learned, l, heard, k)) =
+      hears_stays c learned l _ is (decided_keeps old.learning l slot c learned heard).nodes_ k
+  says_stays (makes_text in' is h) = restored_stays h.from h.fetched.target h.machine is h.restored
 
-  part_own : (from : ℕ) (p : Piece) (new : ReplicaState) (said : Response) → TakesPart old from p new said → IsReplicaOf id nodes new
-  part_own from p new said (passes unwanted leaves says) = changes new old leaves refl refl refl (own old.proposing)
-  part_own from p new said (keeps f counts number is leaves says) =
-      changes new _ leaves refl refl refl (record { id_ = refl; nodes_ = refl })
-  part_own from p new said (completes f counts none k) = text_own from f.target _ new said k
+-- whatever it takes
+pub takes_stays : (old : ReplicaState) (i : Input) (new : ReplicaState) (said : Response) → Takes old i new said → StaysItself old i new
+takes_stays old i new said k = says_stays old new said i (says_of old new said i k)
 
-  message_own : (from : ℕ) (message : Message) (new : ReplicaState) (said : Response) → TakesMessage old from message new said
-      → IsReplicaOf id nodes new
-  message_own from (Prepare ballot first) new said k = changes new _ k.2 refl refl refl (own old.proposing)
-  message_own from (Promise p) new said k = changes new _ k.0 refl refl refl
-      (then_own old.proposing (with_promised old.proposing from p)
-      (after_counting old.proposing (with_promised old.proposing from p) old.learning) (record { id_ = refl; nodes_ = refl })
-      (counting_keeps old.proposing (with_promised old.proposing from p) old.learning))
-  message_own from (Accepted v) new said (learned, l, heard, k) =
-      learner_changes l learned v.command _ new said (vote_keeps old.learning l from v learned heard).nodes_ k
-  message_own from (Decided slot c) new said (learned, l, heard, k) =
-      learner_changes l learned c _ new said (decided_keeps old.learning l slot c learned heard).nodes_ k
-  message_own from (SnapPart p) new said k = part_own from p new said k
-  message_own from (Behind floor) new said k = floor_own floor (is_ahead old floor) new said k
-  message_own from other new said k = changes new _ k.0 refl refl refl (record { id_ = refl; nodes_ = refl })
-
-  envelope_own : (e : Envelope) (b : Bool) (new : ReplicaState) (said : Response) → TakesEnvelope old e b new said → IsReplicaOf id nodes new
-  envelope_own e false new said k = changes new old k.0 refl refl refl (own old.proposing)
-  envelope_own e true new said k = message_own e.from e.message new said k
-
-  pub takes_own : (i : Input) (new : ReplicaState) (said : Response) → Takes old i new said → IsReplicaOf id nodes new
-  takes_own (input.Submit client number op) new said k = changes new _ k.0 refl refl refl
-      (cond_both (waits old client number) _ _ (λ (x : Proposing × List Outgoing). KeepsOwn old.proposing x.0) (λ _. own old.proposing)
-      (λ _. let p : Proposing = with_request old.proposing (asked client number op) in
-      then_own old.proposing p (proposed p old.learning) (record { id_ = refl; nodes_ = refl })
-      (proposes_keeps p p.campaign old.learning)))
-  takes_own (input.Message e) new said k = envelope_own e (is_for_this_run old.id old.nodes e) new said k
-  takes_own input.Timeout new said k = changes new _ k.2 refl refl refl (record {
-    id_ = ap (λ (p : Proposing). p.id) k.1.leaves;
-    nodes_ = ap (λ (p : Proposing). p.nodes) k.1.leaves;
-  })
-  takes_own other new said k = changes new _ k.0 refl refl refl (own old.proposing)
+pub takes_own : (id nodes : ℕ) (old : ReplicaState) → IsReplicaOf id nodes old → (i : Input) (new : ReplicaState) (said : Response)
+    → Takes old i new said → IsReplicaOf id nodes new
+takes_own id nodes old is i new said k =
+    let h = takes_stays old i new said k in
+    record {
+      number = h.id_ ∙ is.number;
+      of_all = h.nodes_ ∙ is.of_all;
+      learning = h.learner_ ∙ is.learning;
+      proposing = (h.proposer_.id_ ∙ is.proposing.0, h.proposer_.nodes_ ∙ is.proposing.1);
+    }
 
 -- ---- a step of it
 module _ {S : Type 0} (storages : Ghosts S) (id nodes : ℕ) (old new : NodeState S) (i : Input) (is : IsMember id nodes old) where

@@ -1,7 +1,7 @@
 -- Records go on saying what a node holds.
-use Rattle.std.proofs.Common.{◌≡◌, ◌≤◌, ℕ, ◌^◌, List, [], Option, Some, None, Bool, true, false, nat_le}
+use Rattle.std.proofs.Common.{◌≡◌, ◌≤◌, ℕ, ◌^◌, List, Option, Some, None, Bool, true, false, nat_le}
 use Rattle.std.proofs.Common.{refl, sym, ap, ◌∙◌, subst, arith}
-use Rattle.std.proofs.lemmas.Bool.{cond_both, leb-false}
+use Rattle.std.proofs.lemmas.Bool.{leb-false}
 use Rattle.std.proofs.lemmas.Option.{none-some, same_Some}
 use Rattle.byteorder.specs.Endian.{big_bytes}
 use Rattle.stable.specs.Records.{Records, Change, Sets, Trims, changed}
@@ -11,33 +11,22 @@ use Rattle.acceptor.proofs.FloorLemmas.{checkpoint_kept, trim_kept, prepare_cove
 use Rattle.acceptor.proofs.RecordLemmas.{prepare_kept, accept_kept, RecordsSay-round, prepare_leaves_round, accept_leaves_round}
 use Rattle.acceptor.proofs.VerdictLemmas.{floor_prepared, floor_accepted}
 use Rattle.acceptor.proofs.VoteLemmas.{other_key, promise_is_no_vote, cast_above}
-use Rattle.learner.specs.Learning.{Learning}
-use Rattle.learner.specs.declared.learned.Learned.{Learned}
-use Rattle.proposer.specs.Proposing.{Proposing, next_round, with_promised}
-use Rattle.proposer.specs.declared.outgoing.Outgoing.{Outgoing}
-use Rattle.sessions.specs.Asked.{Asked}
-use Rattle.sessions.specs.Machines.{MachineState}
+use Rattle.proposer.specs.Proposing.{next_round}
 use Rattle.sessions.specs.Snapshots.{snapshot_bytes}
-use Rattle.sessions.specs.declared.command.Command.{Command}
 use Rattle.wire.specs.FrameSpelling.{MessageFits}
-use Rattle.wire.specs.Parts.{Piece}
 use Rattle.wire.specs.RecordForms.{IsRoundRecord}
 use Rattle.wire.specs.declared.frames.envelope.Envelope.{Envelope}
 use Rattle.wire.specs.declared.frames.message.Message.{Message}
-use Rattle.wire.specs.declared.frames.message.Message.TheVariants.{Prepare, Promise, Accept, Accepted, Decided, SnapPart, Behind}
+use Rattle.wire.specs.declared.frames.message.Message.TheVariants.{Prepare, Accept}
 use Rattle.node_model.specs.declared.fault.NodeFault.TheVariants as fault
 use Rattle.node_model.specs.declared.input.Input.{Input}
 use Rattle.node_model.specs.declared.input.Input.TheVariants as input
 use Rattle.node_model.specs.Inputs.{is_for_this_run}
-use Rattle.node_model.specs.Replicas.{ReplicaState, position, is_full, refuses, asked, waits}
+use Rattle.node_model.specs.Replicas.{ReplicaState, position, is_full, refuses}
 use Rattle.node_model.specs.Outputs.{Response}
 use Rattle.node_model.specs.Protocol.{InputFits, accepting_on, accepting_if, accepting_after, round_after, RecordsHold, SaysRound}
-use Rattle.node_model.specs.Taking.{Writes, WritesOnEnvelope, WritesOnMessage, WritesCheckpoint, Takes, TakesMessage, TakesEnvelope, Hears}
-use Rattle.node_model.specs.Taking.{proposed, after_promise, after_submit, with_request, proposer_of, execution}
-use Rattle.node_model.specs.Taking.{HearsOfFloor, TakesPart, RestoresText, Restores, executed_to_the_end, is_ahead}
-use Rattle.node_model.specs.Taking.TakesPart.{passes, keeps, completes}
-use Rattle.node_model.specs.Taking.RestoresText.{restores, gives_up}
-use Rattle.node_model.proofs.Campaigns.{proposes_keeps, counting_keeps}
+use Rattle.node_model.specs.Taking.{Writes, WritesOnEnvelope, WritesOnMessage, WritesCheckpoint, Takes}
+use Rattle.node_model.proofs.Members.{takes_stays}
 
 -- ---- what the records say once the write is made
 no_write : (records : Records) (w : OptionalWrite) (a : Accepting) (round : ℕ) → w ≡ None → RecordsHold records a round
@@ -107,7 +96,6 @@ trim_holds m records w is both = record {
 
 pub written_holds : (m : ReplicaState) (i : Input) (records : Records) (w : OptionalWrite) → refuses m i ≡ None → Writes m i w → InputFits i
     → RecordsHold records m.accepting m.proposing.round → RecordsHold (records_after records w) (accepting_after m i) (round_after m i)
-written_holds m (input.Submit client number op) records w none e fits both = no_write records w m.accepting m.proposing.round e both
 written_holds m (input.Message e) records w none writes fits both = envelope_holds m e (is_for_this_run m.id m.nodes e) records w writes fits both
 written_holds m input.Timeout records w none e fits both =
     subst (λ (x : OptionalWrite). RecordsHold (records_after records x) m.accepting (next_round m.proposing)) (sym e) (record {
@@ -115,9 +103,9 @@ written_holds m input.Timeout records w none e fits both =
       covered = both.covered;
       proposer = drawn m none;
     })
-written_holds m input.Tick records w none e fits both = no_write records w m.accepting m.proposing.round e both
 written_holds m input.Checkpoint records w none writes fits both = checkpoint_holds m records w writes both
 written_holds m input.Trim records w none is fits both = trim_holds m records w is both
+written_holds m other records w none e fits both = no_write records w m.accepting m.proposing.round e both
 
 -- ---- the floor
 -- no message changes it
@@ -150,106 +138,20 @@ trim_is_no_vote a (Some change) is slot bytes e = (let bad : Trims a.floor ≡ S
 
 pub vote_above : (m : ReplicaState) (i : Input) (w : OptionalWrite) → Writes m i w → (slot : ℕ) (bytes : List ℕ) → w ≡ Some (Sets (key.Vote slot) bytes)
     → m.accepting.floor ≤ slot
-vote_above m (input.Submit client number op) w none slot bytes e = absurd (none-some (Sets (key.Vote slot) bytes) (sym none ∙ e))
 vote_above m (input.Message e) w writes slot bytes is = vote_above_if m e (is_for_this_run m.id m.nodes e) w writes slot bytes is
 vote_above m input.Timeout w round slot bytes e =
     absurd (other_key key.Round slot (big_bytes 8 (next_round m.proposing)) bytes (λ same. omega (arith, same)) (sym round ∙ e))
-vote_above m input.Tick w none slot bytes e = absurd (none-some (Sets (key.Vote slot) bytes) (sym none ∙ e))
 vote_above m input.Checkpoint w writes slot bytes e =
     absurd (other_key key.Checkpoint slot _ bytes (λ same. omega (arith, same)) (sym writes.is ∙ e))
 vote_above m input.Trim w is slot bytes e = absurd (trim_is_no_vote m.accepting w is slot bytes e)
+vote_above m other w none slot bytes e = absurd (none-some (Sets (key.Vote slot) bytes) (sym none ∙ e))
 
 -- ---- that is what the node holds then
--- a proposer proposes under the round that it has
-proposed_round : (p : Proposing) (l : Learning) → (proposed p l).0.round ≡ p.round
-proposed_round p l = ap (λ (q : Proposing). q.round) (proposes_keeps p p.campaign l)
-
-promised_round : (m : ReplicaState) (from : ℕ) (p : _) → (after_promise m from p).0.round ≡ m.proposing.round
-promised_round m from p =
-    ap (λ (q : Proposing). q.round) (counting_keeps m.proposing (with_promised m.proposing from p) m.learning)
-
-submitted_round : (m : ReplicaState) (r : Asked) → (after_submit m r).0.round ≡ m.proposing.round
-submitted_round m r =
-    let then : Proposing = with_request m.proposing r in
-    cond_both (waits m r.client r.number) (m.proposing, []) (proposed then m.learning)
-    (λ (q : Proposing × List Outgoing). q.0.round ≡ m.proposing.round) (λ _. refl) (λ _. proposed_round then m.learning)
-
--- the acceptor and the round are these
-pub record HoldsRecords (new : ReplicaState) (a : Accepting) (round : ℕ) : Type 0 where
-  pub accepting_ : new.accepting ≡ a
-  pub round_ : new.proposing.round ≡ round
-
--- it is as this replica
-held_as : (new m : ReplicaState) → new ≡ m → HoldsRecords new m.accepting m.proposing.round
-held_as new m e = record { accepting_ = ap (λ (n : ReplicaState). n.accepting) e; round_ = ap (λ (n : ReplicaState). n.proposing.round) e }
-
--- and this replica has that round
-with_its_round : (new : ReplicaState) (a : Accepting) (p q : ℕ) → HoldsRecords new a p → p ≡ q → HoldsRecords new a q
-with_its_round new a p q h e = record { accepting_ = h.accepting_; round_ = h.round_ ∙ e }
-
-held_after_news : (m : ReplicaState) (c : Command) (learned : Option Learned) (l : Learning) (asks : List Envelope) (new : ReplicaState) (said : Response)
-    → Hears m c learned l asks new said → HoldsRecords new m.accepting m.proposing.round
-held_after_news m c None l asks new said h = held_as new (record m { learning = l }) h.0
-held_after_news m c (Some n) l asks new said h =
-    let then : Proposing = proposer_of m n.slot (execution m l) in
-    with_its_round new m.accepting _ _ (held_as new _ h.leaves) (proposed_round then l)
-
-held_after_floor : (m : ReplicaState) (floor : ℕ) (b : Bool) (new : ReplicaState) (said : Response) → HearsOfFloor m floor b new said
-    → HoldsRecords new m.accepting m.proposing.round
-held_after_floor m floor false new said h = held_as new m h.0
-held_after_floor m floor true new said h = held_as new _ h.0
-
-held_restored : (m : ReplicaState) (from target : ℕ) (machine : MachineState) (new : ReplicaState) (said : Response)
-    → Restores m from target machine new said → HoldsRecords new m.accepting m.proposing.round
-held_restored m from target machine new said h =
-    let then : Proposing = (executed_to_the_end h.m target).proposing in
-    record {
-      accepting_ = ap (λ (n : ReplicaState). n.accepting) h.leaves ∙ ap (λ (n : ReplicaState). n.accepting) h.begins;
-      round_ = ap (λ (n : ReplicaState). n.proposing.round) h.leaves ∙ proposed_round then h.m.learning
-          ∙ ap (λ (n : ReplicaState). n.proposing.round) h.begins;
-    }
-
-held_after_text : (m : ReplicaState) (from target : ℕ) (text : List ℕ) (new : ReplicaState) (said : Response) → RestoresText m from target text new said
-    → HoldsRecords new m.accepting m.proposing.round
-held_after_text m from target text new said (restores machine has h) = held_restored m from target machine new said h
-held_after_text m from target text new said (gives_up none leaves says) = held_as new _ leaves
-
-held_after_part : (m : ReplicaState) (from : ℕ) (p : Piece) (new : ReplicaState) (said : Response) → TakesPart m from p new said
-    → HoldsRecords new m.accepting m.proposing.round
-held_after_part m from p new said (passes unwanted leaves says) = held_as new m leaves
-held_after_part m from p new said (keeps f counts number is leaves says) = held_as new _ leaves
-held_after_part m from p new said (completes f counts none h) = held_after_text m from f.target _ new said h
-
-held_after_message : (m : ReplicaState) (from : ℕ) (message : Message) (new : ReplicaState) (said : Response) → TakesMessage m from message new said
-    → HoldsRecords new (accepting_on m message) m.proposing.round
-held_after_message m from (Prepare ballot first) new said h = held_as new _ h.2
-held_after_message m from (Promise p) new said h = with_its_round new m.accepting _ _ (held_as new _ h.0) (promised_round m from p)
-held_after_message m from (Accepted v) new said h = held_after_news m v.command h.0 h.1 [] new said h.3
-held_after_message m from (Decided slot command) new said h = held_after_news m command h.0 h.1 _ new said h.3
-held_after_message m from (SnapPart p) new said h = held_after_part m from p new said h
-held_after_message m from (Behind floor) new said h = held_after_floor m floor (is_ahead m floor) new said h
-held_after_message m from other new said h = held_as new _ h.0
-
-held_after_envelope : (m : ReplicaState) (e : Envelope) (b : Bool) (new : ReplicaState) (said : Response) → TakesEnvelope m e b new said
-    → HoldsRecords new (accepting_if m e b) m.proposing.round
-held_after_envelope m e false new said h = held_as new m h.0
-held_after_envelope m e true new said h = held_after_message m e.from e.message new said h
-
-held_after : (m : ReplicaState) (i : Input) (new : ReplicaState) (said : Response) → Takes m i new said
-    → HoldsRecords new (accepting_after m i) (round_after m i)
-held_after m (input.Submit client number op) new said h =
-    with_its_round new m.accepting _ _ (held_as new _ h.0) (submitted_round m (asked client number op))
-held_after m (input.Message e) new said h = held_after_envelope m e (is_for_this_run m.id m.nodes e) new said h
-held_after m input.Timeout new said h =
-    with_its_round new m.accepting _ _ (held_as new (record m { proposing = new.proposing }) h.2)
-    (ap (λ (p : Proposing). p.round) h.1.leaves)
-held_after m other new said h = held_as new _ h.0
-
 pub taken_holds : (m : ReplicaState) (i : Input) (new : ReplicaState) (said : Response) (records : Records) (w : OptionalWrite) → refuses m i ≡ None
     → Takes m i new said → Writes m i w → InputFits i → RecordsHold records m.accepting m.proposing.round
     → RecordsHold (records_after records w) new.accepting new.proposing.round
 taken_holds m i new said records w none takes writes fits both =
-    let held = held_after m i new said takes in
-    subst (λ (a : Accepting). RecordsHold (records_after records w) a new.proposing.round) (sym held.accepting_)
-    (subst (λ (n : ℕ). RecordsHold (records_after records w) (accepting_after m i) n) (sym held.round_)
+    let stays = takes_stays m i new said takes in
+    subst (λ (a : Accepting). RecordsHold (records_after records w) a new.proposing.round) (sym stays.acceptor_)
+    (subst (λ (n : ℕ). RecordsHold (records_after records w) (accepting_after m i) n) (sym stays.proposer_.round_)
     (written_holds m i records w none writes fits both))

@@ -1,5 +1,5 @@
 -- One node: its records, and what it holds while it is up.
-use Rattle.std.specs.Prelude.{◌≡◌, ℕ, ◌⊎◌, List, [], length, Some, None, Result, Ok, Err, IfSome, IfOk, IfErr, MatchBool}
+use Rattle.std.specs.Prelude.{◌≡◌, ℕ, ◌⊎◌, List, [], length, Some, None, Result, Ok, Err, IfSome, IfOk, IfErr, OnOk, IsErrOf, MatchBool}
 use Rattle.stable.specs.declared.stable.Stable.{Ghosts}
 use Rattle.store.specs.Answers.{IsAnswer}
 use Rattle.store.specs.declared.query.Query.{Query}
@@ -31,6 +31,26 @@ pub record HasFailedToMake {S : Type 0} (storages : Ghosts S) (old new : S) (Wri
   pub write : OptionalWrite
   pub made : Writes write
   pub leaves : HasFailed storages.fails old new write
+
+-- what a call that makes such a write leaves of the storage, by its result: the write is made, the device failed on it, or memory was
+-- wanting, before the write or after it
+pub record Made {S T : Type 0} (storages : Ghosts S) (old : S) (result : Result T NodeFault) (new : S)
+    (Writes : OptionalWrite → Type 0) : Type 0 where
+  pub written : OnOk result (HasMade storages old new Writes)
+  pub device : IsErrOf result fault.Device → HasFailedToMake storages old new Writes
+  pub memory : IsErrOf result fault.Memory → storages.reads old new ⊎ HasMade storages old new Writes
+
+-- ---- an input comes to what a node holds while it is up
+-- what that and the storage are then; after a failure of the device or of memory it is dropped
+pub record ReplicaSteps {S : Type 0} (storages : Ghosts S) (old : S) (m : ReplicaState) (input : Input)
+    (result : Result Response NodeFault) (n : ReplicaState) (new : S) : Type 0 where
+  pub takes : IfOk result (λ said. Takes m input n said)
+  pub made : Made storages old result new (Writes m input)
+  -- what is to be refused is refused, and then nothing changes
+  pub refused : IfSome (refuses m input) (λ f. (result ≡ Err f) × (n ≡ m) × (new ≡ old))
+  pub err : IfErr result (λ f. (f ≡ fault.Device) ⊎ (f ≡ fault.Memory) ⊎ (refuses m input ≡ Some f))
+  -- nothing comes of what is to be ignored
+  pub ignored : Ignores m input → (result ≡ Ok silence) × (n ≡ m) × (new ≡ old)
 
 -- ---- an input comes to a node that is up
 -- it is taken, and the one write that it makes is made

@@ -39,21 +39,13 @@ coming e true = acts.Came e.from (message_of e.message)
 
 -- what an input is to node `id` of so many
 abbrev pub input_of : ℕ → ℕ → Input → acts.Input Command
-input_of id nodes (input.Submit client number op) = acts.Nothing
 input_of id nodes (input.Message e) = coming e (is_for_this_run id nodes e)
-input_of id nodes input.Timeout = acts.Nothing
-input_of id nodes input.Tick = acts.Nothing
-input_of id nodes input.Checkpoint = acts.Nothing
-input_of id nodes input.Trim = acts.Nothing
+input_of id nodes other = acts.Nothing
 
 -- the commands that it submits
 abbrev pub submissions : Input → List Command
 submissions (input.Submit client number op) = Request (asked client number op) ∷ []
-submissions (input.Message e) = []
-submissions input.Timeout = []
-submissions input.Tick = []
-submissions input.Checkpoint = []
-submissions input.Trim = []
+submissions other = []
 
 -- what node `id` learnt
 abbrev pub learnings : ℕ → Option LearntCommand → List (history.Lesson Command)
@@ -89,12 +81,8 @@ MayTake nodes id input x new said = MayComeTo nodes id (input_of id nodes input)
 -- ---- what is written
 -- what comes may stand in a frame of the largest run, as whatever is read from one does
 abbrev pub InputFits : Input → Type 0
-InputFits (input.Submit client number op) = ⊤
 InputFits (input.Message e) = MessageFits 7 e.message
-InputFits input.Timeout = ⊤
-InputFits input.Tick = ⊤
-InputFits input.Checkpoint = ⊤
-InputFits input.Trim = ⊤
+InputFits other = ⊤
 
 -- what the acceptor holds once the write of a message, and of an input, is made
 abbrev pub accepting_on : ReplicaState → Message → Accepting
@@ -107,21 +95,15 @@ accepting_if m e false = m.accepting
 accepting_if m e true = accepting_on m e.message
 
 abbrev pub accepting_after : ReplicaState → Input → Accepting
-accepting_after m (input.Submit client number op) = m.accepting
 accepting_after m (input.Message e) = accepting_if m e (is_for_this_run m.id m.nodes e)
-accepting_after m input.Timeout = m.accepting
-accepting_after m input.Tick = m.accepting
 accepting_after m input.Checkpoint = after_checkpoint m.accepting (position m) (snapshot_bytes m.machine)
 accepting_after m input.Trim = after_trim m.accepting
+accepting_after m other = m.accepting
 
 -- the round that the proposer has begun last, once the write of an input is made
 abbrev pub round_after : ReplicaState → Input → ℕ
-round_after m (input.Submit client number op) = m.proposing.round
-round_after m (input.Message e) = m.proposing.round
 round_after m input.Timeout = next_round m.proposing
-round_after m input.Tick = m.proposing.round
-round_after m input.Checkpoint = m.proposing.round
-round_after m input.Trim = m.proposing.round
+round_after m other = m.proposing.round
 
 -- what the record of a round says: without one it is 0
 abbrev pub SaysRound : Option (List ℕ) → ℕ → Type 0

@@ -101,18 +101,13 @@ refuses_checkpoint m = if nat_le (position m) m.accepting.floor then Some fault.
 
 abbrev pub refuses : ReplicaState → Input → Option NodeFault
 refuses m (input.Submit client number op) = refuses_submit m (asked client number op)
-refuses m (input.Message e) = None
 refuses m input.Timeout = refuses_timeout m
-refuses m input.Tick = None
 refuses m input.Checkpoint = refuses_checkpoint m
-refuses m input.Trim = None
+refuses m other = None
 
 -- ---- of which inputs nothing comes, and nothing is written: a request that waits already, and an envelope that doesn't concern
 -- the node
 abbrev pub Ignores : ReplicaState → Input → Type 0
 Ignores m (input.Submit client number op) = (refuses_submit m (asked client number op) ≡ None) × (waits m client number ≡ true)
 Ignores m (input.Message e) = is_for_this_run m.id m.nodes e ≡ false
-Ignores m input.Timeout = ⊥
-Ignores m input.Tick = ⊥
-Ignores m input.Checkpoint = ⊥
-Ignores m input.Trim = ⊥
+Ignores m other = ⊥

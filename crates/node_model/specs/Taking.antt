@@ -53,12 +53,11 @@ pub record WritesCheckpoint (m : ReplicaState) (write : OptionalWrite) : Type 0 
   pub is : write ≡ Some (checkpoint_change m.accepting (position m) (snapshot_bytes m.machine))
 
 abbrev pub Writes : ReplicaState → Input → OptionalWrite → Type 0
-Writes m (input.Submit client number op) write = write ≡ None
 Writes m (input.Message e) write = WritesOnEnvelope m e (is_for_this_run m.id m.nodes e) write
 Writes m input.Timeout write = write ≡ Some (Sets key.Round (big_bytes 8 (next_round m.proposing)))
-Writes m input.Tick write = write ≡ None
 Writes m input.Checkpoint write = WritesCheckpoint m write
 Writes m input.Trim write = IsTrimWrite m.accepting write
+Writes m other write = write ≡ None
 
 -- ---- a proposer's part
 -- what a node holds and says where its proposer comes to this, and sends this

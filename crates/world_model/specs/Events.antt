@@ -5,16 +5,9 @@ use Rattle.events.specs.declared.event.Event.TheVariants as event
 
 -- of so many frames, the event names one that was never sent
 abbrev pub NamesNoFrame : ℕ → Event → Type 0
-NamesNoFrame frames (event.Submit node client number op) = ⊥
 NamesNoFrame frames (event.Deliver k) = frames ≤ k
 NamesNoFrame frames (event.Drop k) = frames ≤ k
-NamesNoFrame frames (event.Timeout node) = ⊥
-NamesNoFrame frames (event.Tick node) = ⊥
-NamesNoFrame frames (event.Checkpoint node) = ⊥
-NamesNoFrame frames (event.Trim node) = ⊥
-NamesNoFrame frames (event.Restart node) = ⊥
-NamesNoFrame frames (event.Fault node failing) = ⊥
-NamesNoFrame frames (event.Query node query) = ⊥
+NamesNoFrame frames other = ⊥
 
 -- of so many nodes, the event names one that the run doesn't have
 abbrev pub NamesNoNode : ℕ → Event → Type 0

@@ -100,15 +100,7 @@ PromisesProgress IsHonest old node members end new = AreHonestInside IsHonest ol
 -- the event restarts the node
 abbrev pub RestartsNode : ℕ → Event → Type 0
 RestartsNode node (event.Restart i) = i ≡ node
-RestartsNode node (event.Submit i client number op) = ⊥
-RestartsNode node (event.Deliver k) = ⊥
-RestartsNode node (event.Drop k) = ⊥
-RestartsNode node (event.Timeout i) = ⊥
-RestartsNode node (event.Tick i) = ⊥
-RestartsNode node (event.Checkpoint i) = ⊥
-RestartsNode node (event.Trim i) = ⊥
-RestartsNode node (event.Fault i failing) = ⊥
-RestartsNode node (event.Query i query) = ⊥
+RestartsNode node other = ⊥
 
 -- no step but its restart makes the next ballot of a node lower
 abbrev pub BallotsNeverFall : {S : Type 0} → Ghosts (Script S) → Type 0

@@ -70,7 +70,8 @@ use Rattle.world_model.proofs.Refinement.OfTheRun.{up_at}
 use Rattle.world_model.proofs.Steps.Preserved.{HoldsOf, step_holds, recorded_nodes, submission_nodes}
 use Rattle.world_model.proofs.OneNode.RestartLemmas.{loads_or_down}
 use Rattle.world_model.proofs.Refinement.SafetyLemmas.{none_put}
-use Rattle.world_model.proofs.Parts.SentParts.{IsPartOf, Brings, part_in, takes_sends}
+use Rattle.node_model.proofs.Saying.{IsPartOf}
+use Rattle.world_model.proofs.Parts.SentParts.{Brings, part_in, takes_sends}
 use Rattle.world_model.proofs.OneNode.VotesStand.{held_shown}
 use Rattle.world_model.proofs.Refinement.WorldMoves.{set_there}
 

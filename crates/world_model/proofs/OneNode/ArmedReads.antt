@@ -1,5 +1,5 @@
 -- A restart over an armed reading: it looks, or its device fails; and no look passes over what is armed.
-use Rattle.std.proofs.Common.{◌≡◌, Some, None, Result, Ok, Err, IsErrOf, ap, sym, subst, inl, inr, ◌∙◌}
+use Rattle.std.proofs.Common.{◌≡◌, Some, None, Result, Ok, Err, ap, sym, subst, inl, inr, ◌∙◌}
 use Rattle.std.proofs.lemmas.Option.{same_Some}
 use Rattle.stable.specs.Script.{Script}
 use Rattle.stable.specs.Storages.{scripted}
@@ -10,7 +10,7 @@ use Rattle.node_model.specs.States.{NodeState}
 use Rattle.node_model.specs.declared.fault.NodeFault.{NodeFault}
 use Rattle.node_model.specs.declared.fault.NodeFault.TheVariants as fault
 use Rattle.world_model.specs.Progress.{ArmedReadsFire}
-use Rattle.world_model.specs.Worlds.{WorldState, with_node, with_outcome, restart_outcome}
+use Rattle.world_model.specs.Worlds.{with_node, with_outcome, restart_outcome}
 use Rattle.world_model.proofs.OneNode.RestartLemmas.{failed_with}
 
 module _ {S : Type 0} (storages : Ghosts S) where

@@ -23,12 +23,9 @@ use Rattle.node_model.proofs.RecordsGoOn.{floor_if, written_holds, taken_holds}
 -- ---- the floor
 -- no input but a checkpoint changes it
 pub floor_left : (m : ReplicaState) (i : Input) → (i ≡ input.Checkpoint) ⊎ ((accepting_after m i).floor ≡ m.accepting.floor)
-floor_left m (input.Submit client number op) = inr refl
 floor_left m (input.Message e) = inr (floor_if m e (is_for_this_run m.id m.nodes e))
-floor_left m input.Timeout = inr refl
-floor_left m input.Tick = inr refl
 floor_left m input.Checkpoint = inl refl
-floor_left m input.Trim = inr refl
+floor_left m other = inr refl
 
 -- ---- the promise
 promise_prepared : (a : Accepting) (b : Ballot) (first : ℕ) → rank_of a.promise ≤ rank_of (after_prepare a b first).promise
@@ -58,12 +55,8 @@ promise_if m e true = promise_on m e.message
 
 -- no input lowers it
 pub promise_after : (m : ReplicaState) (i : Input) → rank_of m.accepting.promise ≤ rank_of (accepting_after m i).promise
-promise_after m (input.Submit client number op) = le_refl _
 promise_after m (input.Message e) = promise_if m e (is_for_this_run m.id m.nodes e)
-promise_after m input.Timeout = le_refl _
-promise_after m input.Tick = le_refl _
-promise_after m input.Checkpoint = le_refl _
-promise_after m input.Trim = le_refl _
+promise_after m other = le_refl _
 
 -- ---- where an input is taken, the records say both what is held then and what was to be held
 module _ (m : ReplicaState) (i : Input) (new : ReplicaState) (said : Response) (records : Records) (w : OptionalWrite) (none : refuses m i ≡ None)

@@ -110,15 +110,14 @@ checkpoint_written r m w says writes c fits e =
 -- whatever checkpoint an input puts is that
 pub checkpoint_put : (r : Records) (m : ReplicaState) (i : Input) (w : OptionalWrite) → RecordsSay r m.accepting → Writes m i w → (c : Checkpointed)
     → CheckpointFits c → put_by w ≡ Some (key.Checkpoint, checkpoint_bytes c) → IsCheckpointOfNode m c
-checkpoint_put r m (input.Submit client number op) w says writes c fits e = absurd (puts_none w writes (key.Checkpoint, checkpoint_bytes c) e)
 checkpoint_put r m (input.Message e) w says writes c fits put =
     let high : 1 ≤ 0 = on_envelope m e (is_for_this_run m.id m.nodes e) w writes (key.Checkpoint, checkpoint_bytes c) put in
     absurd (omega (arith, high))
 checkpoint_put r m input.Timeout w says writes c fits e =
     let high : 1 ≤ 0 = other_put w key.Round _ (omega arith) writes (key.Checkpoint, checkpoint_bytes c) e in
     absurd (omega (arith, high))
-checkpoint_put r m input.Tick w says writes c fits e = absurd (puts_none w writes (key.Checkpoint, checkpoint_bytes c) e)
 checkpoint_put r m input.Checkpoint w says writes c fits e = checkpoint_written r m w says writes c fits e
 checkpoint_put r m input.Trim w says writes c fits e =
     let high : 1 ≤ 0 = on_trim m.accepting w writes (key.Checkpoint, checkpoint_bytes c) e in
     absurd (omega (arith, high))
+checkpoint_put r m other w says writes c fits e = absurd (puts_none w writes (key.Checkpoint, checkpoint_bytes c) e)

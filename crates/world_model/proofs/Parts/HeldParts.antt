@@ -18,20 +18,19 @@ use Rattle.wire.proofs.PartLaws.{parts_make}
 use Rattle.wire.specs.Parts.{Piece, IsPiece, piece, parts_in, joined}
 use Rattle.wire.specs.declared.frames.envelope.Envelope.{Envelope}
 use Rattle.wire.specs.declared.frames.message.Message.{Message}
-use Rattle.wire.specs.declared.frames.message.Message.TheVariants.{Prepare, Promise, Nack, Accept, Accepted, Ask, Decided, SnapAsk}
-use Rattle.wire.specs.declared.frames.message.Message.TheVariants.{SnapPart, Behind}
+use Rattle.wire.specs.declared.frames.message.Message.TheVariants.{SnapPart}
 use Rattle.wire.specs.declared.frames.part.TheConstants.{PART}
 use Rattle.node_model.specs.declared.input.Input.{Input}
 use Rattle.node_model.specs.declared.input.Input.TheVariants as input
 use Rattle.node_model.specs.Fetching.{Fetching, nothing_of, still_fetched, is_as_long, is_held, is_wanted, wants, places, with_part}
 use Rattle.node_model.specs.Fetching.{first_missing, missing, text_with}
-use Rattle.node_model.specs.Inputs.{is_for_this_run}
 use Rattle.node_model.specs.Replicas.{ReplicaState, position}
 use Rattle.node_model.specs.Nodes.{fetched_text}
-use Rattle.node_model.specs.Outputs.{Response}
-use Rattle.node_model.specs.Taking.{Takes, TakesEnvelope, TakesMessage, Hears, HearsOfFloor, TakesPart, RestoresText, PartCounts, is_ahead}
-use Rattle.node_model.specs.Taking.TakesPart.{passes, keeps, completes}
-use Rattle.node_model.specs.Taking.RestoresText.{restores, gives_up}
+use Rattle.node_model.specs.Outputs.{Response, sent}
+use Rattle.node_model.specs.Taking.{Takes, Hears, PartCounts}
+use Rattle.node_model.proofs.Saying.{FetchesNext, Says, says_of}
+use Rattle.node_model.proofs.Saying.FetchesNext.{as_before, aims as comes_to_aim, holds as comes_to_hold, ends as comes_to_end}
+use Rattle.node_model.proofs.Saying.Says.{tells, reports, answers, writes, proposes, hears_vote, hears_decided, makes_text}
 use Rattle.world_model.specs.declared.lists.LearntEntry.{LearntEntry}
 use Rattle.world_model.specs.Explaining.{LearntAgree}
 use Rattle.world_model.specs.Telling.{WasLearnt, WereLearnt, TellsText, TellsPiece, HoldsToldParts}
@@ -131,52 +130,32 @@ module _ (old new : ReplicaState) (said : Response) where
   hears_fetches i c (Some learned) l asks k =
       reaches (prefix l) (ap (λ (x : ReplicaState). x.fetching) k.leaves) (unrestored _ k.says refl)
 
-  floor_fetches : (i : Input) (floor : ℕ) (b : Bool) → HearsOfFloor old floor b new said → Fetches old i new said
-  floor_fetches i floor false k = same i _ _ k.0 k.1 refl refl
-  floor_fetches i floor true k = aims floor (ap (λ (x : ReplicaState). x.fetching) k.0) (unrestored _ k.1 refl)
+  next_fetches : (i : Input) (f : Option Fetching) (sends : List Envelope) → FetchesNext old i f → new ≡ record old { fetching = f }
+      → said ≡ sent sends → Fetches old i new said
+  next_fetches i _ sends as_before leaves says = same i _ _ leaves says refl refl
+  next_fetches i _ sends (comes_to_aim floor) leaves says =
+      aims floor (ap (λ (x : ReplicaState). x.fetching) leaves) (unrestored _ says refl)
+  next_fetches i _ sends (comes_to_hold from to p f comes counts) leaves says =
+      holds p f (record { frame = record { from = from; to = to; message = SnapPart p }; is = comes; brings = refl; counts = counts })
+      (ap (λ (x : ReplicaState). x.fetching) leaves) (unrestored _ says refl)
+  next_fetches i _ sends comes_to_end leaves says = ends (ap (λ (x : ReplicaState). x.fetching) leaves) (unrestored _ says refl)
 
-  module _ (e : Envelope) (p : Piece) (brings : e.message ≡ SnapPart p) where
-    comes : (f : Fetching) → PartCounts old p f → PartComes old (input.Message e) p f
-    comes f counts = record { frame = e; is = refl; brings = brings; counts = counts }
-
-    text_fetches : (f : Fetching) → PartCounts old p f → missing f ≡ None → (text : List ℕ)
-        → RestoresText old e.from f.target text new said → Fetches old (input.Message e) new said
-    text_fetches f counts none text (restores machine has k) =
-        makes p f (comes f counts) none (ap (λ (x : ReplicaState). x.fetching) k.leaves ∙ ap (λ (x : ReplicaState). x.fetching) k.begins)
-        (ap (λ (r : Response). r.restored) k.says)
-    text_fetches f counts none text (gives_up none_has leaves says) =
-        ends (ap (λ (x : ReplicaState). x.fetching) leaves) (unrestored _ says refl)
-
-    part_fetches : TakesPart old e.from p new said → Fetches old (input.Message e) new said
-    part_fetches (passes unwanted leaves says) = same (input.Message e) _ _ leaves says refl refl
-    part_fetches (keeps f counts number is leaves says) =
-        holds p f (comes f counts) (ap (λ (x : ReplicaState). x.fetching) leaves) (unrestored _ says refl)
-    part_fetches (completes f counts none k) = text_fetches f counts none _ k
-
-  message_fetches : (e : Envelope) (message : Message) → e.message ≡ message → TakesMessage old e.from message new said
-      → Fetches old (input.Message e) new said
-  message_fetches e (Prepare ballot first) is k = same (input.Message e) _ _ k.2 k.3 refl refl
-  message_fetches e (Promise p) is k = same (input.Message e) _ _ k.0 k.1 refl refl
-  message_fetches e (Nack n) is k = same (input.Message e) _ _ k.0 k.1 refl refl
-  message_fetches e (Accept v) is k = same (input.Message e) _ _ k.0 k.1 refl refl
-  message_fetches e (Accepted v) is (o, l, heard, k) = hears_fetches (input.Message e) v.command o l [] k
-  message_fetches e (Ask slot) is k = same (input.Message e) _ _ k.0 k.1 refl refl
-  message_fetches e (Decided slot c) is (o, l, heard, k) = hears_fetches (input.Message e) c o l _ k
-  message_fetches e (SnapAsk target number) is k = same (input.Message e) _ _ k.0 k.1 refl refl
-  message_fetches e (SnapPart p) is k = part_fetches e p is k
-  message_fetches e (Behind floor) is k = floor_fetches (input.Message e) floor (is_ahead old floor) k
-
-  envelope_fetches : (e : Envelope) (b : Bool) → TakesEnvelope old e b new said → Fetches old (input.Message e) new said
-  envelope_fetches e false k = same (input.Message e) _ _ k.0 k.1 refl refl
-  envelope_fetches e true k = message_fetches e e.message refl k
+  says_fetches : (i : Input) → Says old i new said → Fetches old i new said
+  says_fetches i (tells in' f sends is fetches plain leaves says) = next_fetches i f sends fetches leaves says
+  says_fetches i (reports in' to slot c is there learnt leaves says) = same i _ _ leaves says refl refl
+  says_fetches i (answers in' to a answer is there h leaves says) = same i _ _ leaves says refl refl
+  says_fetches i (writes a is h leaves says) = same i _ _ leaves says refl refl
+  says_fetches i (proposes in' submits round p asks is h plain leaves says) = same i _ _ leaves says refl refl
+  says_fetches i (hears_vote from to v comes is (o, l, heard, k)) = hears_fetches i v.command o l [] k
+  says_fetches i (hears_decided from to slot c comes is sender (o, l, heard, k)) = hears_fetches i c o l _ k
+  says_fetches i (makes_text in' is h) =
+      makes h.p h.fetched
+      (record { frame = record { from = h.from; to = h.to; message = SnapPart h.p }; is = h.is; brings = refl; counts = h.counts_ }) h.whole
+      (ap (λ (x : ReplicaState). x.fetching) h.restored.leaves ∙ ap (λ (x : ReplicaState). x.fetching) h.restored.begins)
+      (ap (λ (r : Response). r.restored) h.restored.says)
 
   pub fetches_of : (i : Input) → Takes old i new said → Fetches old i new said
-  fetches_of (input.Submit client number op) k = same (input.Submit client number op) _ _ k.0 k.1 refl refl
-  fetches_of (input.Message e) k = envelope_fetches e (is_for_this_run old.id old.nodes e) k
-  fetches_of input.Timeout k = same input.Timeout _ _ k.2 k.3 refl refl
-  fetches_of input.Tick k = same input.Tick _ _ k.0 k.1 refl refl
-  fetches_of input.Checkpoint k = same input.Checkpoint _ _ k.0 k.1 refl refl
-  fetches_of input.Trim k = same input.Trim _ _ k.0 k.1 refl refl
+  fetches_of i k = says_fetches i (says_of old new said i k)
 
 -- ---- a part more
 -- no part stands among places that are empty

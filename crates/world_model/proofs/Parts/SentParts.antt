@@ -1,14 +1,13 @@
 -- Which parts of a text a node sends: those of its acceptor's, to a node that asks for one.
-use Rattle.std.proofs.Common.{◌≡◌, ◌==◌, ◌||◌, ℕ, zero, suc, ◌+◌, ◌-◌, nat_lt, nat_le, Bool, true, false, not, map, is_some, List, []}
-use Rattle.std.proofs.Common.{◌∷◌, ◌++◌, All, length, Option, Some, None, IfSome, if◌then◌else◌, refl, sym, ap, subst}
+use Rattle.std.proofs.Common.{◌≡◌, ◌||◌, ℕ, zero, suc, ◌+◌, ◌-◌, nat_lt, nat_le, Bool, not, map, is_some, List, []}
+use Rattle.std.proofs.Common.{◌∷◌, ◌++◌, All, length, Option, Some, None, IfSome, refl, sym, ap, subst}
 use Rattle.std.specs.List.{list_any}
-use Rattle.std.proofs.lemmas.Bool.{cond_both, eqb-true}
+use Rattle.std.proofs.lemmas.Bool.{cond_both}
 use Rattle.std.proofs.lemmas.List.Elements.{All-nil, All-append, All-push, All-filter}
 use Rattle.synod.specs.declared.ballot.Ballot.{Ballot}
-use Rattle.synod.specs.declared.slot.TheConstants.{SLOTS}
+use Rattle.synod.specs.Acts as act
 use Rattle.sessions.specs.Asked.{Asked}
 use Rattle.sessions.specs.declared.command.Command.{Command}
-use Rattle.acceptor.specs.Accepting.{Accepting, accept_answer}
 use Rattle.acceptor.specs.declared.answer.Answer.{Answer}
 use Rattle.acceptor.specs.declared.answer.Answer.TheVariants as answer
 use Rattle.learner.specs.Learning.{Learning, prefix, learnt_at}
@@ -23,24 +22,21 @@ use Rattle.proposer.specs.declared.outgoing.Recipients.TheVariants.{All as ToAll
 use Rattle.proposer.specs.declared.window.Proposal.{Proposal}
 use Rattle.proposer.specs.declared.window.TheConstants.{MOST_OPEN}
 use Rattle.wire.specs.NodeSets.{has_node, no_nodes, with_node}
-use Rattle.wire.specs.Parts.{Piece, piece, has_part, piece_of}
+use Rattle.wire.specs.Parts.{Piece}
 use Rattle.wire.specs.declared.frames.envelope.Envelope.{Envelope}
 use Rattle.wire.specs.declared.frames.message.Message.{Message}
-use Rattle.wire.specs.declared.frames.message.Message.TheVariants.{Prepare, Promise, Nack, Accept, Accepted, Ask, Decided, SnapAsk}
-use Rattle.wire.specs.declared.frames.message.Message.TheVariants.{SnapPart, Behind}
+use Rattle.wire.specs.declared.frames.message.Message.TheVariants.{Prepare, SnapPart}
 use Rattle.node_model.specs.declared.input.Input.{Input}
-use Rattle.node_model.specs.declared.input.Input.TheVariants as input
-use Rattle.node_model.specs.Fetching.{Fetching, next_part}
-use Rattle.node_model.specs.Inputs.{is_for_this_run}
-use Rattle.node_model.specs.Replicas.{ReplicaState, position, asked, waits}
+use Rattle.node_model.specs.Replicas.{ReplicaState, position, waits}
 use Rattle.node_model.specs.Outputs.{Response}
-use Rattle.node_model.specs.Sending.{to_one, to_all, to_recipients, envelopes_of, envelopes, answer_sends, decided_sends, ask_sends}
-use Rattle.node_model.specs.Sending.{ask_others, to_others, part_sends, snapshot_sends}
-use Rattle.node_model.specs.Taking.{Takes, TakesEnvelope, TakesMessage, Hears, HearsOfFloor, TakesPart, RestoresText, is_ahead, asks_for}
-use Rattle.node_model.specs.Taking.{after_counting, begins_to_lead, after_promise, after_submit, with_request, after_news, proposer_of}
+use Rattle.node_model.specs.Sending.{to_one, to_all, to_others, to_recipients, envelopes_of, envelopes, answer_sends}
+use Rattle.node_model.specs.Taking.{Takes, Hears, after_counting, begins_to_lead, after_submit, with_request, after_news, proposer_of}
 use Rattle.node_model.specs.Taking.{execution, executed_to_the_end}
-use Rattle.node_model.specs.Taking.TakesPart.{passes, keeps, completes}
-use Rattle.node_model.specs.Taking.RestoresText.{restores, gives_up}
+use Rattle.node_model.proofs.Saying.{IsPartOf, PlainSends, asks_one, Proposes, Says, says_of}
+use Rattle.node_model.proofs.Saying.PlainSends.{to_nobody, to_node, to_the_rest, brings_part}
+use Rattle.node_model.proofs.Saying.Proposes.{counts, gives_way, is_asked, campaigns, repeats}
+use Rattle.node_model.proofs.Saying.Says.{tells, reports, answers as acceptor_answers, writes, proposes as proposes_, hears_vote}
+use Rattle.node_model.proofs.Saying.Says.{hears_decided, makes_text}
 
 -- the part that a message brings, if it brings one
 abbrev pub part_in : Message → Option Piece
@@ -50,12 +46,6 @@ part_in other = None
 -- what holds of the part that an envelope brings, if it brings one
 abbrev pub Brings : (Piece → Type 0) → Envelope → Type 0
 Brings P e = IfSome (part_in e.message) P
-
--- it is the part of this number of the acceptor's text, which has it
-pub record IsPartOf (a : Accepting) (p : Piece) : Type 0 where
-  pub at : a.floor ≡ p.position
-  pub has : has_part a.text p.number ≡ true
-  pub is : p ≡ piece p.position a.text p.number
 
 -- ---- what a proposer sends
 -- no message brings a part
@@ -166,53 +156,23 @@ module _ (P : Piece → Type 0) (id nodes : ℕ) where
       All-append (Brings P) (envelopes_of id nodes o) (envelopes id nodes os) (outgoing o h.0) (all_outgoing os h.1)
 
   answers : (to : ℕ) (a : Answer) → Parts (answer_sends id nodes to a)
-  answers to (answer.Promise p) = one to (Promise p) tt
-  answers to (answer.Accepted v) = each nodes (Accepted v) refl
-  answers to (answer.Nack n) = one to (Nack n) tt
-  answers to (answer.Behind floor) = one to (Behind floor) tt
-
-  -- a message is sent to one node where a test holds
-  one_if : (b : Bool) (to : ℕ) (message : Message) → part_in message ≡ None → Parts (if b then to_one id to message else [])
-  one_if b to message is = cond_both b (to_one id to message) [] Parts (λ _. one to message (without message is)) (λ _. none)
-
-  tells : (to slot floor : ℕ) (o : Option Command) → Parts (decided_sends id to slot floor o)
-  tells to slot floor None = one_if (nat_lt slot floor) to (Behind floor) refl
-  tells to slot floor (Some c) = one to (Decided slot c) tt
-
-  asks : (to position : ℕ) → Parts (ask_sends id to position)
-  asks to position = one_if (nat_lt position SLOTS) to (Ask position) refl
+  answers to (answer.Accepted v) = each nodes _ refl
+  answers to (answer.Promise p) = one to _ tt
+  answers to (answer.Nack n) = one to _ tt
+  answers to (answer.Behind floor) = one to _ tt
 
   others : (message : Message) → part_in message ≡ None → Parts (to_others id nodes message)
   others message is = some_of (Others (with_node no_nodes id)) (to_all id nodes message) (each nodes message is)
 
-  asks_others : (position : ℕ) → Parts (ask_others id nodes position)
-  asks_others position =
-      cond_both (nat_lt position SLOTS) (to_others id nodes (Ask position)) [] Parts (λ _. others (Ask position) refl) (λ _. none)
-
-  again : (position : ℕ) (o : Option Fetching) → Parts (asks_for id nodes position o)
-  again position None = asks_others position
-  again position (Some f) = others (SnapAsk f.target (next_part f)) refl
-
   both : (xs ys : List Envelope) → Parts xs → Parts ys → Parts (xs ++ ys)
   both = All-append (Brings P)
 
--- a node that asks for a part has it
-part_told : (a : Accepting) (id nodes to target number : ℕ) → a.floor ≡ target
-    → Parts (IsPartOf a) id nodes (part_sends id to (piece_of target a.text number))
-part_told a id nodes to target number at =
-    cond_both (has_part a.text number) (Some (piece target a.text number)) None
-    (λ (o : Option Piece). Parts (IsPartOf a) id nodes (part_sends id to o))
-    (λ has. one (IsPartOf a) id nodes to (SnapPart (piece target a.text number)) (record { at = at; has = has; is = refl }))
-    (λ _. none (IsPartOf a) id nodes)
+-- ---- each shape of what a node says
+-- a message that brings no part
+none_in : (m : Message) → ((p : Piece) → m ≡ SnapPart p → ⊥) → part_in m ≡ None
+none_in (SnapPart p) no_part = absurd (no_part p refl)
+none_in other no_part = refl
 
-part_tells : (a : Accepting) (id nodes to target number : ℕ) → Parts (IsPartOf a) id nodes (snapshot_sends a id to target number)
-part_tells a id nodes to target number =
-    cond_both (a.floor == target) (part_sends id to (piece_of target a.text number))
-    (if nat_lt target a.floor then to_one id to (Behind a.floor) else []) (Parts (IsPartOf a) id nodes)
-    (λ e. part_told a id nodes to target number (eqb-true a.floor target e))
-    (λ _. one_if (IsPartOf a) id nodes (nat_lt target a.floor) to (Behind a.floor) refl)
-
--- ---- each input
 module _ (old new : ReplicaState) (said : Response) where
   abbrev P : Piece → Type 0
   P = IsPartOf old.accepting
@@ -226,61 +186,46 @@ module _ (old new : ReplicaState) (said : Response) where
   silent : Sends []
   silent = none P old.id old.nodes
 
-  proposed_sends : (os : List Outgoing) → BringNone os → Sends (envelopes old.id old.nodes os)
-  proposed_sends = all_outgoing P old.id old.nodes
+  plain_sends : (es : List Envelope) → PlainSends old es → Sends es
+  plain_sends _ to_nobody = silent
+  plain_sends _ (to_node to m there is) = one P old.id old.nodes to m (without P old.id old.nodes m (none_in m is.no_part))
+  plain_sends _ (to_the_rest m is) = others P old.id old.nodes m (none_in m is.no_part)
+  plain_sends _ (brings_part to p there is) = one P old.id old.nodes to (SnapPart p) is
 
-  hears_sends : (c : Command) (o : Option Learned) (l : Learning) (last : List Envelope) → Sends last
-      → Hears old c o l last new said → Sends said.sends
-  hears_sends c None l last h k = says _ k.1 silent
-  hears_sends c (Some learned) l last h k =
+  -- a proposer, and then questions
+  goes_on : (os : List Outgoing) (asks : List Envelope) → BringNone os → PlainSends old asks → Sends (envelopes old.id old.nodes os ++ asks)
+  goes_on os asks none_ plain =
+      both P old.id old.nodes (envelopes old.id old.nodes os) asks (all_outgoing P old.id old.nodes os none_) (plain_sends asks plain)
+
+  hears_sends : (c : Command) (o : Option Learned) (l : Learning) (asks : List Envelope) → PlainSends old asks
+      → Hears old c o l asks new said → Sends said.sends
+  hears_sends c None l asks plain k = says _ k.1 silent
+  hears_sends c (Some learned) l asks plain k =
       let p : Proposing = proposer_of old learned.slot (execution old l) in
-      says _ k.says
-      (both P old.id old.nodes _ last (proposed_sends (after_news old learned.slot l).1 (proposes_none p p.campaign l)) h)
+      says _ k.says (goes_on (after_news old learned.slot l).1 asks (proposes_none p p.campaign l) plain)
 
-  floor_sends : (floor : ℕ) (b : Bool) → HearsOfFloor old floor b new said → Sends said.sends
-  floor_sends floor false k = says _ k.1 silent
-  floor_sends floor true k = says _ k.1 (others P old.id old.nodes (SnapAsk floor 0) refl)
+  proposer_brings_none : (in' : act.Input Command) (submits : List Command) (round : ℕ) (p : Proposing × List Outgoing)
+      → Proposes old in' submits round p → NoneOf p
+  proposer_brings_none _ _ _ _ (counts from p sender) = counting_none old.proposing (with_promised old.proposing from p) old.learning
+  proposer_brings_none _ _ _ _ (gives_way from n) = tt
+  proposer_brings_none _ _ _ _ (is_asked r) = submit_none old r
+  proposer_brings_none _ _ _ _ (campaigns p prepare starts) = (ap (λ (o : Outgoing). part_in o.message) starts.asks_all, tt)
+  proposer_brings_none _ _ _ _ repeats = again_none old.proposing.campaign
 
-  text_sends : (from target : ℕ) (text : List ℕ) → RestoresText old from target text new said → Sends said.sends
-  text_sends from target text (restores machine has k) =
-      let p : Proposing = (executed_to_the_end k.m target).proposing in
-      says _ k.says
-      (both P old.id old.nodes _ _ (proposed_sends (proposes p p.campaign k.m.learning).1 (proposes_none p p.campaign k.m.learning))
-      (asks P old.id old.nodes from (position k.m)))
-  text_sends from target text (gives_up none_has leaves e) = says _ e silent
-
-  part_sends_ : (from : ℕ) (p : Piece) → TakesPart old from p new said → Sends said.sends
-  part_sends_ from p (passes unwanted leaves e) = says _ e silent
-  part_sends_ from p (keeps f counts number is leaves e) = says _ e (one P old.id old.nodes from (SnapAsk f.target number) tt)
-  part_sends_ from p (completes f counts all k) = text_sends from f.target _ k
-
-  message_sends : (from : ℕ) (message : Message) → TakesMessage old from message new said → Sends said.sends
-  message_sends from (Prepare ballot first) (a, answers_, leaves, e) = says _ e (answers P old.id old.nodes from a)
-  message_sends from (Promise p) k =
-      says _ k.1 (proposed_sends (after_promise old from p).1
-      (counting_none old.proposing (with_promised old.proposing from p) old.learning))
-  message_sends from (Nack n) k = says _ k.1 silent
-  message_sends from (Accept v) k = says _ k.1 (answers P old.id old.nodes from (accept_answer old.accepting v))
-  message_sends from (Accepted v) (o, l, heard, k) = hears_sends v.command o l [] silent k
-  message_sends from (Ask slot) k = says _ k.1 (tells P old.id old.nodes from slot old.accepting.floor (learnt_at old.learning slot))
-  message_sends from (Decided slot c) (o, l, heard, k) = hears_sends c o l _ (asks P old.id old.nodes from (prefix l)) k
-  message_sends from (SnapAsk target number) k = says _ k.1 (part_tells old.accepting old.id old.nodes from target number)
-  message_sends from (SnapPart p) k = part_sends_ from p k
-  message_sends from (Behind floor) k = floor_sends floor (is_ahead old floor) k
-
-  envelope_sends : (e : Envelope) (b : Bool) → TakesEnvelope old e b new said → Sends said.sends
-  envelope_sends e false k = says _ k.1 silent
-  envelope_sends e true k = message_sends e.from e.message k
+  says_sends : (i : Input) → Says old i new said → Sends said.sends
+  says_sends i (tells in' f sends is fetches plain leaves e) = says _ e (plain_sends sends plain)
+  says_sends i (reports in' to slot c is there learnt leaves e) = says _ e (one P old.id old.nodes to _ tt)
+  says_sends i (acceptor_answers in' to a answer is there h leaves e) = says _ e (answers P old.id old.nodes to answer)
+  says_sends i (writes a is h leaves e) = says _ e silent
+  says_sends i (proposes_ in' submits round p asks is h plain leaves e) =
+      says _ e (goes_on p.1 asks (proposer_brings_none in' submits round p h) plain)
+  says_sends i (hears_vote from to v comes is (o, l, heard, k)) = hears_sends v.command o l [] to_nobody k
+  says_sends i (hears_decided from to slot c comes is sender (o, l, heard, k)) = hears_sends c o l _ (asks_one old from (prefix l) sender) k
+  says_sends i (makes_text in' is h) =
+      let m : ReplicaState = h.restored.m in
+      let p : Proposing = (executed_to_the_end m h.fetched.target).proposing in
+      says _ h.restored.says
+      (goes_on (proposes p p.campaign m.learning).1 _ (proposes_none p p.campaign m.learning) (asks_one old h.from (position m) h.sender))
 
   pub takes_sends : (i : Input) → Takes old i new said → Sends said.sends
-  takes_sends (input.Submit client number op) k =
-      says _ k.1 (proposed_sends (after_submit old (asked client number op)).1 (submit_none old (asked client number op)))
-  takes_sends (input.Message e) k = envelope_sends e (is_for_this_run old.id old.nodes e) k
-  takes_sends input.Timeout (prepare, starts, leaves, e) =
-      says _ e (outgoing P old.id old.nodes prepare (ap (λ (o : Outgoing). part_in o.message) starts.asks_all))
-  takes_sends input.Tick k =
-      says _ k.1 (both P old.id old.nodes _ _
-      (proposed_sends (sends_again old.proposing.campaign) (again_none old.proposing.campaign))
-      (again P old.id old.nodes (position old) old.fetching))
-  -- nothing is sent
-  takes_sends other k = says _ k.1 silent
+  takes_sends i k = says_sends i (says_of old new said i k)

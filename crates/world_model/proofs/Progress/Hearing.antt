@@ -15,11 +15,11 @@ use Rattle.learner.specs.Learning.HearsVote.{ignores, hears, learns}
 use Rattle.wire.specs.declared.frames.envelope.Envelope.{Envelope}
 use Rattle.wire.specs.declared.frames.message.Message.TheVariants.{Accepted}
 use Rattle.node_model.specs.declared.input.Input.TheVariants as input
-use Rattle.node_model.specs.Inputs.{role_of, is_for_this_run}
+use Rattle.node_model.specs.Inputs.{role_of}
 use Rattle.node_model.specs.Inputs.Role.{Learner, Fetcher}
 use Rattle.node_model.specs.Replicas.{ReplicaState}
 use Rattle.node_model.specs.Outputs.{Response}
-use Rattle.node_model.specs.Taking.{Takes, TakesEnvelope, TakesMessage}
+use Rattle.node_model.specs.Taking.{Takes, TakesMessage}
 use Rattle.node_model.proofs.Hearings.{learns_nothing}
 use Rattle.node_model.proofs.Keeping.{KeepsLearnt, vote_keeps, heard_learner, takes_keeps}
 use Rattle.world_model.proofs.Progress.Leading.{members_counted}
@@ -175,14 +175,9 @@ hears_of_vote old from v new said (learned, l, heard, k) = (
 )
 
 -- its learner is as it was, where the message is for another role, and brings no part of a text
-same_by_envelope : (old : ReplicaState) (e : Envelope) (b : Bool) (new : ReplicaState) (said : Response) → role_of e.message ≢ Learner
-    → role_of e.message ≢ Fetcher → TakesEnvelope old e b new said → new.learning ≡ old.learning
-same_by_envelope old e false new said other apart h = ap (λ (m : ReplicaState). m.learning) h.0
-same_by_envelope old e true new said other apart h = (learns_nothing old new said e.from e.message other apart h).learner
-
 pub same_learner : (old : ReplicaState) (e : Envelope) (new : ReplicaState) (said : Response) → role_of e.message ≢ Learner
     → role_of e.message ≢ Fetcher → Takes old (input.Message e) new said → new.learning ≡ old.learning
-same_learner old e new said other apart h = same_by_envelope old e (is_for_this_run old.id old.nodes e) new said other apart h
+same_learner old e new said other apart h = (learns_nothing old new said e other apart h).learner
 
 -- ---- whatever message comes
 -- what is learnt stays learnt

@@ -135,12 +135,11 @@ envelope_among m e write true is w = message_among m e.message write (names_the_
 
 -- on any input
 input_among : (m : ReplicaState) (i : Input) (write : OptionalWrite) → Writes m i write → WritesAmong m.nodes write
-input_among m (input.Submit client number op) write w = none_among m.nodes write w
 input_among m (input.Message e) write w = envelope_among m e write (is_for_this_run m.id m.nodes e) refl w
 input_among m input.Timeout write w = other_among m.nodes write key.Round _ (λ zero_. absurd (omega arith)) w
-input_among m input.Tick write w = none_among m.nodes write w
 input_among m input.Checkpoint write w = other_among m.nodes write key.Checkpoint _ (λ zero_. absurd (omega arith)) w.is
 input_among m input.Trim write w = trim_among m.nodes m.accepting write w
+input_among m other write w = none_among m.nodes write w
 
 -- ---- what is put
 -- a promise that is put, alone or in a checkpoint, is of one of so many nodes

@@ -72,16 +72,8 @@ news_listed node (Err f) = refl
 taken_listed : (node : ℕ) (i : Input) (r : Result Response NodeFault) → submitted_of i r ≡ map command_of (taken_of node i (is_ok r))
 taken_listed node (input.Submit client number op) (Ok told) = refl
 taken_listed node (input.Submit client number op) (Err f) = refl
-taken_listed node (input.Message e) (Ok told) = refl
-taken_listed node (input.Message e) (Err f) = refl
-taken_listed node input.Timeout (Ok told) = refl
-taken_listed node input.Timeout (Err f) = refl
-taken_listed node input.Tick (Ok told) = refl
-taken_listed node input.Tick (Err f) = refl
-taken_listed node input.Checkpoint (Ok told) = refl
-taken_listed node input.Checkpoint (Err f) = refl
-taken_listed node input.Trim (Ok told) = refl
-taken_listed node input.Trim (Err f) = refl
+taken_listed node other (Ok told) = refl
+taken_listed node other (Err f) = refl
 
 module _ {S : Type 0} {storages : Ghosts (Script S)} (laws : IsLawful storages)
     (armed_honest : (s : Script S) (f : Failing) → storages.IsHonest (record s { armed = Some f }) → storages.IsHonest s)

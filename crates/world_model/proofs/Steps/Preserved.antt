@@ -31,12 +31,7 @@ use Rattle.world_model.specs.Worlds.{restart_outcome}
 -- what is submitted to a node by an input, where it takes it
 abbrev pub taken_of : ℕ → Input → Bool → List Submission
 taken_of node (input.Submit client number op) true = submission_of node (asked client number op) ∷ []
-taken_of node (input.Submit client number op) false = []
-taken_of node (input.Message e) b = []
-taken_of node input.Timeout b = []
-taken_of node input.Tick b = []
-taken_of node input.Checkpoint b = []
-taken_of node input.Trim b = []
+taken_of node other b = []
 
 -- an input that is the node's own: nobody submits, and no frame comes
 pub record IsItsOwn (i : Input) : Type 0 where

@@ -1,4 +1,4 @@
-use Rattle.std.proofs.Common.{inl, inr, ◌≡◌, Option, Some, None, IfSome, IfErr, option_map, ap, sym, subst}
+use Rattle.std.proofs.Common.{◌≡◌, Option, Some, None, IfSome, IfErr, option_map, ap, sym, subst}
 use Rattle.std.proofs.lemmas.Result.{IfOk-weaker, IfErr-weaker}
 use Rattle.node_model.specs.Replicas.{ReplicaState}
 use Rattle.node.specs.Seen.{state_of}
@@ -19,26 +19,19 @@ returns g c =
     let r = c.receive-result.result in
     let up : (state_of c.args.self.now).up ≡ Some m = ap (λ o. option_map replica_of o) c.in-Some.is in
     record {
-      steps = steps_up _ (state_of c.args.self.now) c.receive-result.new.storage m n (input.Message c.args.envelope.now) r _ up (record {
-        takes = c.receive-result.ensures.takes;
-        written = c.receive-result.ensures.written;
-        refused = tt;
-        err = IfErr-weaker r _ _ (λ _ w. elim w [ inl device ↦ inl device | inr memory ↦ inr (inl memory) ]) c.receive-result.ensures.err;
-        ignored = c.receive-result.ensures.ignores;
-        device = c.receive-result.ensures.device;
-        memory = c.receive-result.ensures.memory;
-      })
+      steps = steps_up _ (state_of c.args.self.now) c.receive-result.new.storage m n (input.Message c.args.envelope.now) r _ up
+          c.receive-result.ensures.steps
           (IfOk-weaker r _ _ (λ _ same. ap state_of same) c.stop_after.ensures.ok)
           (IfErr-weaker r _ _ (λ _ same up. ap state_of (same up)) c.stop_after.ensures.goes_on) c.stop_after.ensures.stops;
       meaning = record {
         goes_on = λ base. meaning_stays base (input.Message c.args.envelope.now) _ _ m n r _ up c.stop_after.ensures.ok
             (λ same. ap (λ n. (state_of n).up) same)
-            c.receive-result.ensures.takes;
+            c.receive-result.ensures.steps.takes;
         restores = λ base. meaning_restored base (input.Message c.args.envelope.now) _ _ m n r _ up c.stop_after.ensures.ok
             (λ same. ap (λ n. (state_of n).up) same)
-            c.receive-result.ensures.takes;
+            c.receive-result.ensures.steps.takes;
       };
-      few = said_few (input.Message c.args.envelope.now) m n r c.recall_bounds.ensures c.receive-result.ensures.takes;
+      few = said_few (input.Message c.args.envelope.now) m n r c.recall_bounds.ensures c.receive-result.ensures.steps.takes;
       wanted = subst (λ (o : Option ReplicaState). IfSome o (λ m. IfErr r (λ _. MayWantOn m c.args.envelope.now.from c.args.envelope.now.message)))
           (sym up) c.receive-result.ensures.wanted;
     }

@@ -18,25 +18,17 @@ returns g c =
     let r = c.take-result.result in
     let up : (state_of c.args.self.now).up ≡ Some m = ap (λ o. option_map replica_of o) c.in-Some.is in
     record {
-      steps = steps_up _ (state_of c.args.self.now) c.take-result.new.storage m n c.args.input r _ up (record {
-        takes = c.take-result.ensures.takes;
-        written = c.take-result.ensures.written;
-        refused = c.take-result.ensures.refuses;
-        err = c.take-result.ensures.err;
-        ignored = c.take-result.ensures.ignores;
-        device = c.take-result.ensures.device;
-        memory = c.take-result.ensures.memory;
-      })
+      steps = steps_up _ (state_of c.args.self.now) c.take-result.new.storage m n c.args.input r _ up c.take-result.ensures.steps
           (IfOk-weaker r _ _ (λ _ same. ap state_of same) c.stop_after.ensures.ok)
           (IfErr-weaker r _ _ (λ _ same up. ap state_of (same up)) c.stop_after.ensures.goes_on) c.stop_after.ensures.stops;
       meaning = record {
         goes_on = λ base. meaning_stays base c.args.input _ _ m n r _ up c.stop_after.ensures.ok (λ same. ap (λ n. (state_of n).up) same)
-            c.take-result.ensures.takes;
+            c.take-result.ensures.steps.takes;
         restores = λ base. meaning_restored base c.args.input _ _ m n r _ up c.stop_after.ensures.ok
             (λ same. ap (λ n. (state_of n).up) same)
-            c.take-result.ensures.takes;
+            c.take-result.ensures.steps.takes;
       };
-      few = said_few c.args.input m n r c.recall_bounds.ensures c.take-result.ensures.takes;
+      few = said_few c.args.input m n r c.recall_bounds.ensures c.take-result.ensures.steps.takes;
       unwritten = λ memory alone. subst (λ s. g.S.Stable.reads c.args.self.now.storage s) (sym c.stop_after.ensures.storage)
           (c.take-result.ensures.unwritten memory alone);
       wanted = subst (λ (o : Option ReplicaState). IfSome o (λ m. IfErr r (λ _. MayWant m c.args.input))) (sym up) c.take-result.ensures.wanted;

@@ -1,9 +1,12 @@
-use Rattle.std.proofs.Common.{rules}
+use Rattle.std.proofs.Common.{rules, inr}
 use Rattle.node.proofs.replica.Replica.on_accept.Goals as goal
 
--- the device did not fail
-pub returns-clause-device : goal.returns-clause-device
-returns-clause-device g c = λ device. absurd (search (rules, device))
-
-pub returns-in_err-send_answer-clause-device : goal.returns-in_err-send_answer-clause-device
-returns-in_err-send_answer-clause-device g c = λ device. absurd (search (rules, device))
+-- the vote was cast, and the device did not fail
+pub returns-in_err-send_answer-clause-made : goal.returns-in_err-send_answer-clause-made
+returns-in_err-send_answer-clause-made g c =
+    let w = c.in_ok-answer.ensures.written in
+    record {
+      written = search rules;
+      device = λ device. absurd (search (rules, device));
+      memory = λ _. inr (record { write = w.0; made = w.1; leaves = w.2 });
+    }
