@@ -10,9 +10,9 @@ abbrev pub replica_of : Replica → ReplicaState
 replica_of r = record {
   id = r.id;
   nodes = r.nodes;
-  accepting = accepting_of r.acceptor;
-  learning = learning_of r.learner;
-  proposing = r.proposer;
+  acceptor = accepting_of r.acceptor;
+  learner = learning_of r.learner;
+  proposer = r.proposer;
   machine = r.machine;
   fetching = option_map fetching_of r.fetching;
 }

@@ -21,8 +21,8 @@ IsForRecords other = ⊥
 -- than what is there, for a part only where it counts, and for a refusal never
 abbrev pub MayWantOn : ReplicaState → ℕ → Message → Type 0
 MayWantOn m from (Nack n) = ⊥
-MayWantOn m from (Ask slot) = decided_sends m.id from slot m.accepting.floor (learnt_at m.learning slot) ≢ []
-MayWantOn m from (SnapAsk position number) = snapshot_sends m.accepting m.id from position number ≢ []
+MayWantOn m from (Ask slot) = decided_sends m.id from slot m.acceptor.floor (learnt_at m.learner slot) ≢ []
+MayWantOn m from (SnapAsk position number) = snapshot_sends m.acceptor m.id from position number ≢ []
 MayWantOn m from (SnapPart p) = wants m.fetching (position m) p ≡ true
 MayWantOn m from (Behind floor) = is_ahead m floor ≡ true
 MayWantOn m from other = ⊤
@@ -30,5 +30,5 @@ MayWantOn m from other = ⊤
 -- .. and for the input: for a trim only where a vote stands below the floor
 abbrev pub MayWant : ReplicaState → Input → Type 0
 MayWant m (input.Message e) = MayWantOn m e.from e.message
-MayWant m input.Trim = HasVoteBelow m.accepting
+MayWant m input.Trim = HasVoteBelow m.acceptor
 MayWant m other = ⊤

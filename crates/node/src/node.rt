@@ -44,8 +44,8 @@ impl<S: Stable> Node<S> {
         ensures settled { IsSome (state_of result).up → S.IsSettled (state_of result).storage }
         ensures meaning { S.IsHonest (state_of result).storage → IfSome (state_of result).up (λ m.
             (base : List Command) → IsBaseOf (S.contents storage) base → IsMeaningOf base m) }
-        ensures position { IfSome (state_of result).up (λ m. position m ≡ m.learning.first) }
-        ensures restored { IfSome (state_of result).up (λ m. IsMachineOf m.accepting.text m.machine) }
+        ensures position { IfSome (state_of result).up (λ m. position m ≡ m.learner.first) }
+        ensures restored { IfSome (state_of result).up (λ m. IsMachineOf m.acceptor.text m.machine) }
         ensures up { IsSome (state_of result).up → S.looks storage (state_of result).storage }
         ensures down { (state_of result).up ≡ None → S.looks storage (state_of result).storage
             ⊎ S.read_fails storage (state_of result).storage }
@@ -72,8 +72,8 @@ impl<S: Stable> Node<S> {
         ensures restarts { Restarts S.Stable (state_of self.old) result (state_of self.new) }
         ensures meaning { S.IsHonest (state_of self.new).storage → IfSome (state_of self.new).up (λ m.
             (base : List Command) → IsBaseOf (S.contents (state_of self.old).storage) base → IsMeaningOf base m) }
-        ensures position { IfSome (state_of self.new).up (λ m. position m ≡ m.learning.first) }
-        ensures restored { IfSome (state_of self.new).up (λ m. IsMachineOf m.accepting.text m.machine) }
+        ensures position { IfSome (state_of self.new).up (λ m. position m ≡ m.learner.first) }
+        ensures restored { IfSome (state_of self.new).up (λ m. IsMachineOf m.acceptor.text m.machine) }
         ensures settled { OnOk result (S.IsSettled (state_of self.new).storage) }
     {
         self.stop();
@@ -92,7 +92,7 @@ impl<S: Stable> Node<S> {
     /// The first slot that it hasn't learnt; 0 while it is down.
     pub fn position(&self) -> u32
         ensures value { MatchOption (state_of self.now).up (result ≡ 0) (λ m. result ≡ position m) }
-        ensures first { IfSome (state_of self.now).up (λ m. IsPrefix m.learning.learnt m.learning.first (position m)) }
+        ensures first { IfSome (state_of self.now).up (λ m. IsPrefix m.learner.learnt m.learner.first (position m)) }
     {
         match &self.replica {
             Some(replica) => replica.position(),
@@ -102,7 +102,7 @@ impl<S: Stable> Node<S> {
 
     /// The first slot of which its acceptor may speak; 0 while it is down.
     pub fn floor(&self) -> u32
-        ensures { MatchOption (state_of self.now).up (result ≡ 0) (λ m. result ≡ m.accepting.floor) }
+        ensures { MatchOption (state_of self.now).up (result ≡ 0) (λ m. result ≡ m.acceptor.floor) }
     {
         match &self.replica {
             Some(replica) => replica.floor(),

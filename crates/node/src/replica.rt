@@ -90,8 +90,8 @@ impl Replica {
         ensures fresh { IfOk result (λ replica. IsFresh id nodes (replica_of replica)) }
         ensures meaning { S.IsHonest storage.new → IfOk result (λ replica.
             (base : List Command) → IsBaseOf (S.contents storage.old) base → IsMeaningOf base (replica_of replica)) }
-        ensures position { IfOk result (λ replica. position (replica_of replica) ≡ (replica_of replica).learning.first) }
-        ensures restored { IfOk result (λ replica. IsMachineOf (replica_of replica).accepting.text (replica_of replica).machine) }
+        ensures position { IfOk result (λ replica. position (replica_of replica) ≡ (replica_of replica).learner.first) }
+        ensures restored { IfOk result (λ replica. IsMachineOf (replica_of replica).acceptor.text (replica_of replica).machine) }
         ensures sound { S.IsHonest storage.new → OnOk result (¬ (IsDamaged S.Stable storage.old)) }
         ensures looks { OnOk result (S.looks storage.old storage.new) }
         ensures settled { OnOk result (S.IsSettled storage.new) }
@@ -121,14 +121,14 @@ impl Replica {
     /// The first slot that isn't learnt.
     pub fn position(&self) -> u32
         ensures value { result ≡ position (replica_of self.now) }
-        ensures counted { IsPrefix (replica_of self.now).learning.learnt (replica_of self.now).learning.first (position (replica_of self.now)) }
+        ensures counted { IsPrefix (replica_of self.now).learner.learnt (replica_of self.now).learner.first (position (replica_of self.now)) }
     {
         self.learner.prefix()
     }
 
     /// The first slot of which its acceptor may speak.
     pub fn floor(&self) -> u32
-        ensures { result ≡ (replica_of self.now).accepting.floor }
+        ensures { result ≡ (replica_of self.now).acceptor.floor }
     {
         self.acceptor.floor()
     }
@@ -449,8 +449,8 @@ impl Replica {
         ensures takes { IfOk result (λ said.
             TakesMessage (replica_of self.old) from (message.Ask slot) (replica_of self.new) said) }
         ensures err { IfErr result (λ fault. fault ≡ NodeFault.Memory) }
-        ensures wanted { OnErr result (decided_sends (replica_of self.old).id from slot (replica_of self.old).accepting.floor
-            (learnt_at (replica_of self.old).learning slot) ≢ []) }
+        ensures wanted { OnErr result (decided_sends (replica_of self.old).id from slot (replica_of self.old).acceptor.floor
+            (learnt_at (replica_of self.old).learner slot) ≢ []) }
     {
         let mut sends = self.take_send_buffer(alloc);
         self.answer_ask(alloc, &mut sends, from, slot)?;
@@ -466,10 +466,10 @@ impl Replica {
         slot: Slot,
     ) -> Result<(), AllocError>
         ensures told { OnOk result (sends.new.items ≡ sends.old.items
-            ++ decided_sends (replica_of self.now).id to slot (replica_of self.now).accepting.floor
-            (learnt_at (replica_of self.now).learning slot)) }
-        ensures wanted { OnErr result (decided_sends (replica_of self.now).id to slot (replica_of self.now).accepting.floor
-            (learnt_at (replica_of self.now).learning slot) ≢ []) }
+            ++ decided_sends (replica_of self.now).id to slot (replica_of self.now).acceptor.floor
+            (learnt_at (replica_of self.now).learner slot)) }
+        ensures wanted { OnErr result (decided_sends (replica_of self.now).id to slot (replica_of self.now).acceptor.floor
+            (learnt_at (replica_of self.now).learner slot) ≢ []) }
     {
         if let Some(command) = self.learner.get(slot) {
             return send_decided(alloc, sends, self.id, to, slot, command);
@@ -487,13 +487,13 @@ impl Replica {
         from: u32,
         learned: Learned,
     ) -> Result<Outputs, AllocError>
-        requires learnt { IsSome (learnt_at (replica_of self.old).learning learned.slot) }
-        requires kept { (replica_of self.old).learning.first ≤ from }
+        requires learnt { IsSome (learnt_at (replica_of self.old).learner learned.slot) }
+        requires kept { (replica_of self.old).learner.first ≤ from }
         ensures { IfOk result (λ said. (before : ReplicaState) (command : Command)
-            → replica_of self.old ≡ record before { learning = (replica_of self.old).learning }
+            → replica_of self.old ≡ record before { learner = (replica_of self.old).learner }
             → from ≡ position before
-            → learnt_at (replica_of self.old).learning learned.slot ≡ Some command
-            → Learns before learned.slot command (replica_of self.old).learning [] (replica_of self.new) said) }
+            → learnt_at (replica_of self.old).learner learned.slot ≡ Some command
+            → Learns before learned.slot command (replica_of self.old).learner [] (replica_of self.new) said) }
     {
         let slot = learned.slot;
         let Some(held) = self.learner.held(slot) else {
@@ -514,7 +514,7 @@ impl Replica {
 
     /// Executes what is learnt, from a slot to the position: the replies to requests that waited.
     pub(super) fn execute(&mut self, alloc: Global, from: u32) -> Result<Vec<ReplyOut>, AllocError>
-        requires kept { (replica_of self.old).learning.first ≤ from }
+        requires kept { (replica_of self.old).learner.first ≤ from }
         ensures executes { IfOk result (λ replies. executing_of (replica_of self.new) replies.items
             ≡ executed (executing_of (replica_of self.old) []) from (learnt_from (replica_of self.old) from)) }
         ensures only { OnOk result (replica_of self.new ≡ with_executing (replica_of self.old) (executing_of (replica_of self.new) [])) }
@@ -535,12 +535,12 @@ impl Replica {
     fn execute_at(&mut self, slot: Slot, replies: &mut Vec<ReplyOut>) -> Result<(), AllocError>
         ensures executes { OnOk result (executing_of (replica_of self.new) replies.new.items
             ≡ executed (executing_of (replica_of self.old) replies.old.items) slot
-            (with_command (learnt_at (replica_of self.old).learning slot) [])) }
+            (with_command (learnt_at (replica_of self.old).learner slot) [])) }
         ensures only { OnOk result (replica_of self.new ≡ with_executing (replica_of self.old) (executing_of (replica_of self.new) [])) }
         ensures stands { OnOk result (StandsForMore (replica_of self.old).machine (replica_of self.new).machine
-            (with_command (learnt_at (replica_of self.old).learning slot) [])) }
+            (with_command (learnt_at (replica_of self.old).learner slot) [])) }
         ensures replies { OnOk result (AddsReplies (replica_of self.old).machine slot
-            (with_command (learnt_at (replica_of self.old).learning slot) []) replies.old.items replies.new.items) }
+            (with_command (learnt_at (replica_of self.old).learner slot) []) replies.old.items replies.new.items) }
     {
         let Some(command) = self.learner.get(slot) else {
             return Ok(());
@@ -564,9 +564,9 @@ impl Replica {
     /// The proposer proposes what it may: what is sent.
     pub(super) fn propose(&mut self, alloc: Global) -> Result<Vec<Frame>, AllocError>
         ensures state { OnOk result (replica_of self.new ≡ with_proposer (replica_of self.old)
-            (proposed (replica_of self.old).proposing (replica_of self.old).learning)) }
+            (proposed (replica_of self.old).proposer (replica_of self.old).learner)) }
         ensures sends { IfOk result (λ sends. sends.items ≡ proposer_sends (replica_of self.old)
-            (proposed (replica_of self.old).proposing (replica_of self.old).learning)) }
+            (proposed (replica_of self.old).proposer (replica_of self.old).learner)) }
     {
         let messages = self.proposer.propose(alloc, &self.learner)?;
         let mut sends = self.take_send_buffer(alloc);

@@ -62,7 +62,7 @@ impl Replica {
         ensures takes { IfOk result (λ said.
             TakesMessage (replica_of self.old) from (message.SnapAsk position number) (replica_of self.new) said) }
         ensures err { IfErr result (λ fault. fault ≡ NodeFault.Memory) }
-        ensures wanted { OnErr result (snapshot_sends (replica_of self.old).accepting (replica_of self.old).id from position number ≢ []) }
+        ensures wanted { OnErr result (snapshot_sends (replica_of self.old).acceptor (replica_of self.old).id from position number ≢ []) }
     {
         let mut sends = self.take_send_buffer(alloc);
         self.tell_snapshot(alloc, &mut sends, from, position, number)?;
@@ -79,8 +79,8 @@ impl Replica {
         number: PartNumber,
     ) -> Result<(), AllocError>
         ensures told { OnOk result (sends.new.items ≡ sends.old.items
-            ++ snapshot_sends (replica_of self.now).accepting (replica_of self.now).id to position number) }
-        ensures wanted { OnErr result (snapshot_sends (replica_of self.now).accepting (replica_of self.now).id to position number ≢ []) }
+            ++ snapshot_sends (replica_of self.now).acceptor (replica_of self.now).id to position number) }
+        ensures wanted { OnErr result (snapshot_sends (replica_of self.now).acceptor (replica_of self.now).id to position number ≢ []) }
     {
         let floor = self.floor();
         if floor == position.value() {
@@ -102,9 +102,9 @@ impl Replica {
         number: PartNumber,
     ) -> Result<(), AllocError>
         ensures told { OnOk result (sends.new.items ≡ sends.old.items
-            ++ part_sends (replica_of self.now).id to (piece_of position (replica_of self.now).accepting.text number)) }
+            ++ part_sends (replica_of self.now).id to (piece_of position (replica_of self.now).acceptor.text number)) }
         ensures wanted { OnErr result (part_sends (replica_of self.now).id to
-            (piece_of position (replica_of self.now).accepting.text number) ≢ []) }
+            (piece_of position (replica_of self.now).acceptor.text number) ≢ []) }
     {
         match Part::of(alloc, position, self.acceptor.text(), number)? {
             Some(part) => send(alloc, sends, self.id, to, &Message::SnapPart(part)),
@@ -119,9 +119,9 @@ impl Replica {
         sends: &mut Vec<Frame>,
         to: NodeId,
     ) -> Result<(), AllocError>
-        requires { 0 < (replica_of self.now).accepting.floor }
+        requires { 0 < (replica_of self.now).acceptor.floor }
         ensures { OnOk result (sends.new.items ≡ sends.old.items
-            ++ to_one (replica_of self.now).id to (message.Behind (replica_of self.now).accepting.floor)) }
+            ++ to_one (replica_of self.now).id to (message.Behind (replica_of self.now).acceptor.floor)) }
     {
         let floor = Position::new(self.floor()).unwrap();
         send(alloc, sends, self.id, to, &Message::Behind { floor })

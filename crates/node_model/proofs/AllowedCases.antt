@@ -41,11 +41,11 @@ use Rattle.node_model.proofs.Saying.Proposes.{counts, gives_way, is_asked, campa
 
 -- ---- a proposer proposes
 pub goes_proposing : (nodes i : ℕ) (in' : act.Input Command) (x : Local Command) (m : ReplicaState) → 1 ≤ nodes → ReplicaStands m x
-    → MayGo nodes i in' x (record m { proposing = (proposed m.proposing m.learning).0 })
-    (frames_of_all i nodes (proposed m.proposing m.learning).1)
+    → MayGo nodes i in' x (record m { proposer = (proposed m.proposer m.learner).0 })
+    (frames_of_all i nodes (proposed m.proposer m.learner).1)
 goes_proposing nodes i in' x m some_node s =
-    goes_sending nodes i in' x m (proposed m.proposing m.learning).0 (frames_of_all i nodes (proposed m.proposing m.learning).1) s
-    (propose_lem (membership nodes) i in' x m.proposing m.learning nodes refl some_node s.position_ s.learner s.proposer)
+    goes_sending nodes i in' x m (proposed m.proposer m.learner).0 (frames_of_all i nodes (proposed m.proposer m.learner).1) s
+    (propose_lem (membership nodes) i in' x m.proposer m.learner nodes refl some_node s.position_ s.learner s.proposer)
 
 module _ (old new : ReplicaState) (said : Response) (x : Local Command) (stands : ReplicaStands old x) where
   abbrev May : act.Input Command → Type 0
@@ -62,7 +62,7 @@ module _ (old new : ReplicaState) (said : Response) (x : Local Command) (stands 
       (says_sends (membership old.nodes) old.id in' x sends (are_plain old sends plain))))
 
   -- what is learnt may be reported
-  pub reports_case : (in' : act.Input Command) (to slot : ℕ) (c : Command) → learnt_at old.learning slot ≡ Some c → new ≡ old
+  pub reports_case : (in' : act.Input Command) (to slot : ℕ) (c : Command) → learnt_at old.learner slot ≡ Some c → new ≡ old
       → said ≡ sent (to_one old.id to (Decided slot c)) → May in'
   reports_case in' to slot c learnt leaves says =
       goes_to old.nodes old.id in' x old new said (to_one old.id to (Decided slot c)) _ leaves says refl
@@ -71,29 +71,29 @@ module _ (old new : ReplicaState) (said : Response) (x : Local Command) (stands 
 
   -- ---- the acceptor
   pub answers_case : (in' : act.Input Command) (to : ℕ) (a : Accepting) (answer : Answer) → Answers old to in' a answer
-      → new ≡ record old { accepting = a } → said ≡ sent (answer_sends old.id old.nodes to answer) → May in'
+      → new ≡ record old { acceptor = a } → said ≡ sent (answer_sends old.id old.nodes to answer) → May in'
   answers_case in' to a answer h leaves says =
-      goes_to old.nodes old.id in' x (record old { accepting = a }) new said (answer_sends old.id old.nodes to answer) _ leaves says
+      goes_to old.nodes old.id in' x (record old { acceptor = a }) new said (answer_sends old.id old.nodes to answer) _ leaves says
       (answered_frames old.id old.nodes to answer) (goes in' a answer h)
     where
       goes : (in' : act.Input Command) (a : Accepting) (answer : Answer) → Answers old to in' a answer
-          → MayGo old.nodes old.id in' x (record old { accepting = a }) (answer_frames old.id old.nodes to answer)
+          → MayGo old.nodes old.id in' x (record old { acceptor = a }) (answer_frames old.id old.nodes to answer)
       goes in' a answer (to_prepare ballot first _ h) =
-          goes_answering old.nodes old.id in' x old a _ stands (floor_prepared old.accepting ballot first)
-          (prepare_answers (membership old.nodes) old.id in' x old.accepting old.proposing.round stands.records old.nodes to first ballot
+          goes_answering old.nodes old.id in' x old a _ stands (floor_prepared old.acceptor ballot first)
+          (prepare_answers (membership old.nodes) old.id in' x old.acceptor old.proposer.round stands.records old.nodes to first ballot
           answer h)
       goes in' a answer (to_accept v) =
-          goes_answering old.nodes old.id in' x old a _ stands (floor_accepted old.accepting v)
-          (accept_answers (membership old.nodes) old.id in' x old.accepting old.proposing.round stands.records old.nodes to v refl)
+          goes_answering old.nodes old.id in' x old a _ stands (floor_accepted old.acceptor v)
+          (accept_answers (membership old.nodes) old.id in' x old.acceptor old.proposer.round stands.records old.nodes to v refl)
 
   -- it writes, and nothing is said
-  silent_case : (a : Accepting) → new ≡ record old { accepting = a } → said ≡ silence → a.floor ≤ position old
-      → MayWrite (membership old.nodes) old.id act.Nothing x a old.proposing.round → May act.Nothing
+  silent_case : (a : Accepting) → new ≡ record old { acceptor = a } → said ≡ silence → a.floor ≤ position old
+      → MayWrite (membership old.nodes) old.id act.Nothing x a old.proposer.round → May act.Nothing
   silent_case a leaves says low h =
       goes_to old.nodes old.id act.Nothing x _ new said [] [] leaves says refl
       (goes_writing old.nodes old.id act.Nothing x old a stands low h)
 
-  pub writes_case : (a : Accepting) → WritesAlone old a → new ≡ record old { accepting = a } → said ≡ silence → May act.Nothing
+  pub writes_case : (a : Accepting) → WritesAlone old a → new ≡ record old { acceptor = a } → said ≡ silence → May act.Nothing
   writes_case a checkpoint leaves says =
       silent_case a leaves says (le_refl (position old)) (checkpoint_written old.nodes old.id act.Nothing x old stands)
   writes_case a trim leaves says =
@@ -106,41 +106,41 @@ module _ (old new : ReplicaState) (said : Response) (x : Local Command) (stands 
 
   -- it comes to this from the one local, and sends this
   abbrev GoesTo : act.Input Command → Local Command → Proposing × List Outgoing → Type 0
-  GoesTo in' y p = MayGo old.nodes old.id in' y (record old { proposing = p.0 }) (frames_of_all old.id old.nodes p.1)
+  GoesTo in' y p = MayGo old.nodes old.id in' y (record old { proposer = p.0 }) (frames_of_all old.id old.nodes p.1)
 
   proposed_so : (in' : act.Input Command) (p : Proposing × List Outgoing) → GoesTo in' x p → Proposed in' [] p
   proposed_so in' p g =
       goes_to old.nodes old.id in' x (with_proposer old p) (with_proposer old p) (sent (proposer_sends old p)) (proposer_sends old p) _
       refl refl (proposer_frames old.id old.nodes p.1) g
 
-  module _ (some_node : 1 ≤ old.nodes) (few : old.nodes ≤ 7) (own : old.proposing.id ≡ old.id) (of_all : old.nodes ≡ old.proposing.nodes)
+  module _ (some_node : 1 ≤ old.nodes) (few : old.nodes ≤ 7) (own : old.proposer.id ≡ old.id) (of_all : old.nodes ≡ old.proposer.nodes)
     where
       counts_goes : (in' : act.Input Command) (from : ℕ) (p : Promised) → from < old.nodes → in' ≡ act.Came from (message_of (Promise p))
           → GoesTo in' x (after_promise old from p)
       counts_goes in' from p sender is =
-          let q : Proposing = with_promised old.proposing from p in
-          let first : MayGo old.nodes old.id in' x (record old { proposing = q }) [] =
+          let q : Proposing = with_promised old.proposer from p in
+          let first : MayGo old.nodes old.id in' x (record old { proposer = q }) [] =
           goes_holding old.nodes old.id in' x old q stands
           (subst (λ (j : act.Input Command). MayHold (membership old.nodes) old.id j x q) (sym is)
-          (promise_lem (membership old.nodes) old.id from x old.proposing p of_all (omega (arith, few, sender)) stands.proposer)) in
-          cond_both (begins_to_lead old.proposing q) (proposed q old.learning) (q, []) (GoesTo in' x)
-          (λ _. goes_then old.nodes old.id in' x (record old { proposing = q }) _ [] _ first
-          (goes_proposing old.nodes old.id in' first.after (record old { proposing = q }) some_node first.stands))
+          (promise_lem (membership old.nodes) old.id from x old.proposer p of_all (omega (arith, few, sender)) stands.proposer)) in
+          cond_both (begins_to_lead old.proposer q) (proposed q old.learner) (q, []) (GoesTo in' x)
+          (λ _. goes_then old.nodes old.id in' x (record old { proposer = q }) _ [] _ first
+          (goes_proposing old.nodes old.id in' first.after (record old { proposer = q }) some_node first.stands))
           (λ _. first)
 
       is_asked_goes : (r : Asked) → Proposed act.Nothing (Request r ∷ []) (after_submit old r)
       is_asked_goes r =
           let y : Local Command = submitting x r in
-          let again = submit_again_lem (membership old.nodes) old.id act.Nothing x old.proposing r stands.proposer in
-          let last = submit_last_lem (membership old.nodes) old.id act.Nothing x old.proposing r stands.proposer in
-          let more : ReplicaState = record old { proposing = with_request old.proposing r } in
+          let again = submit_again_lem (membership old.nodes) old.id act.Nothing x old.proposer r stands.proposer in
+          let last = submit_last_lem (membership old.nodes) old.id act.Nothing x old.proposer r stands.proposer in
+          let more : ReplicaState = record old { proposer = with_request old.proposer r } in
           let both : GoesTo act.Nothing y (after_submit old r) =
-          cond_both (waits old r.client r.number) (old.proposing, []) (proposed (with_request old.proposing r) old.learning)
+          cond_both (waits old r.client r.number) (old.proposer, []) (proposed (with_request old.proposer r) old.learner)
           (GoesTo act.Nothing y)
           (λ _. stays old.nodes old.id act.Nothing y old
-          (proposer_changed old x old.proposing y stands again.stands refl refl refl refl refl refl))
+          (proposer_changed old x old.proposer y stands again.stands refl refl refl refl refl refl))
           (λ _. goes_proposing old.nodes old.id act.Nothing y more some_node
-          (proposer_changed old x (with_request old.proposing r) y stands last.stands refl refl refl refl refl refl)) in
+          (proposer_changed old x (with_request old.proposer r) y stands last.stands refl refl refl refl refl refl)) in
           record {
             after = both.after;
             does = does_then (membership old.nodes) old.id act.Nothing again.does both.does;
@@ -150,14 +150,14 @@ module _ (old new : ReplicaState) (said : Response) (x : Local Command) (stands 
             submitted = both.submitted;
           }
 
-      campaign_goes : (p : Proposing) (prepare : Outgoing) → StartsCampaign old.proposing (position old) p prepare
+      campaign_goes : (p : Proposing) (prepare : Outgoing) → StartsCampaign old.proposer (position old) p prepare
           → Proposed act.Nothing [] (p, prepare ∷ [])
       campaign_goes p prepare starts =
           let sends : List Envelope = envelopes_of old.id old.nodes prepare in
           goes_to old.nodes old.id act.Nothing x _ _ _ (sends ++ []) (frames_of old.id old.nodes prepare) refl refl
           (ap (map frame_of) (append-nil sends) ∙ outgoing_frames old.id old.nodes prepare)
           (goes_sending old.nodes old.id act.Nothing x old p (frames_of old.id old.nodes prepare) stands
-          (timeout_lem (membership old.nodes) old.id act.Nothing x old.proposing p (position old) old.nodes prepare own stands.position_
+          (timeout_lem (membership old.nodes) old.id act.Nothing x old.proposer p (position old) old.nodes prepare own stands.position_
           stands.proposer starts))
 
       goes_on : (in' : act.Input Command) (submits : List Command) (round : ℕ) (p : Proposing × List Outgoing)
@@ -165,14 +165,14 @@ module _ (old new : ReplicaState) (said : Response) (x : Local Command) (stands 
       goes_on in' submits round p (counts from promise sender) =
           proposed_so in' p (counts_goes in' from promise sender refl)
       goes_on in' submits round p (gives_way from n) =
-          proposed_so in' p (goes_holding old.nodes old.id in' x old (after_nack old.proposing n) stands
-          (nack_lem (membership old.nodes) old.id in' x old.proposing n stands.proposer))
+          proposed_so in' p (goes_holding old.nodes old.id in' x old (after_nack old.proposer n) stands
+          (nack_lem (membership old.nodes) old.id in' x old.proposer n stands.proposer))
       goes_on in' submits round p (is_asked r) = is_asked_goes r
       goes_on in' submits round p (campaigns q prepare starts) = campaign_goes q prepare starts
       goes_on in' submits round p repeats =
-          let again : List Outgoing = sends_again old.proposing.campaign in
-          proposed_so in' p (goes_sending old.nodes old.id in' x old old.proposing (frames_of_all old.id old.nodes again) stands
-          (tick_lem (membership old.nodes) old.id in' x old.proposing stands.proposer old.nodes))
+          let again : List Outgoing = sends_again old.proposer.campaign in
+          proposed_so in' p (goes_sending old.nodes old.id in' x old old.proposer (frames_of_all old.id old.nodes again) stands
+          (tick_lem (membership old.nodes) old.id in' x old.proposer stands.proposer old.nodes))
 
       -- questions may follow
       asks_too : (in' : act.Input Command) (submits : List Command) (m : ReplicaState) (sends asks : List Envelope) → PlainSends old asks

@@ -32,7 +32,7 @@ pub record MayGo (nodes i : ℕ) (input : act.Input Command) (x : Local Command)
 pub proposer_changed : (m : ReplicaState) (x : Local Command) (p : Proposing) (y : Local Command) → ReplicaStands m x → ProposerStands p y
     → y.records.promise ≡ x.records.promise → y.records.vote ≡ x.records.vote → y.records.floor ≡ x.records.floor
     → y.replica.learnt ≡ x.replica.learnt → y.replica.heard ≡ x.replica.heard → y.replica.position ≡ x.replica.position
-    → ReplicaStands (record m { proposing = p }) y
+    → ReplicaStands (record m { proposer = p }) y
 proposer_changed m x p y s h promise vote floor learnt heard at = record {
   records = record {
     promise = promise ∙ s.records.promise;
@@ -91,7 +91,7 @@ module _ (nodes i : ℕ) (input : act.Input Command) where
   goes_saying x m frames s does = record {
     after = sending x frames;
     does = does;
-    stands = proposer_changed m x m.proposing (sending x frames) s
+    stands = proposer_changed m x m.proposer (sending x frames) s
         (record { round = s.proposer.round; campaign = s.proposer.campaign; waiting = s.proposer.waiting })
         refl refl refl refl refl refl;
     sent_ = refl;
@@ -113,8 +113,8 @@ module _ (nodes i : ℕ) (input : act.Input Command) where
 
   -- its acceptor answers, and has the floor that it had
   pub goes_answering : (x : Local Command) (m : ReplicaState) (a : Accepting) (frames : List (Frame Command)) → ReplicaStands m x
-      → a.floor ≡ m.accepting.floor → MayAnswer (membership nodes) i input x a m.proposing.round frames
-      → MayGo nodes i input x (record m { accepting = a }) frames
+      → a.floor ≡ m.acceptor.floor → MayAnswer (membership nodes) i input x a m.proposer.round frames
+      → MayGo nodes i input x (record m { acceptor = a }) frames
   goes_answering x m a frames s same h = record {
     after = record x { records = h.after; sent = x.sent ++ frames };
     does = h.does;
@@ -132,7 +132,7 @@ module _ (nodes i : ℕ) (input : act.Input Command) where
 
   -- its acceptor writes and nothing is said, and its floor is no further than the position
   pub goes_writing : (x : Local Command) (m : ReplicaState) (a : Accepting) → ReplicaStands m x → a.floor ≤ position m
-      → MayWrite (membership nodes) i input x a m.proposing.round → MayGo nodes i input x (record m { accepting = a }) []
+      → MayWrite (membership nodes) i input x a m.proposer.round → MayGo nodes i input x (record m { acceptor = a }) []
   goes_writing x m a s low h = record {
     after = record x { records = h.after };
     does = h.does;
@@ -150,22 +150,22 @@ module _ (nodes i : ℕ) (input : act.Input Command) where
 
   -- it may write a checkpoint
   pub checkpoint_written : (x : Local Command) (m : ReplicaState) → ReplicaStands m x
-      → MayWrite (membership nodes) i input x (after_checkpoint m.accepting (position m) (snapshot_bytes m.machine)) m.proposing.round
+      → MayWrite (membership nodes) i input x (after_checkpoint m.acceptor (position m) (snapshot_bytes m.machine)) m.proposer.round
   checkpoint_written x m s =
-      checkpoint_writes (membership nodes) i input x m.accepting m.proposing.round s.records (position m) (snapshot_bytes m.machine) s.level
+      checkpoint_writes (membership nodes) i input x m.acceptor m.proposer.round s.records (position m) (snapshot_bytes m.machine) s.level
 
   -- and trim its votes, which is nothing to the protocol
   pub trim_written : (x : Local Command) (m : ReplicaState) → ReplicaStands m x
-      → MayWrite (membership nodes) i input x (after_trim m.accepting) m.proposing.round
+      → MayWrite (membership nodes) i input x (after_trim m.acceptor) m.proposer.round
   trim_written x m s = record {
     after = x.records;
     does = does_nothing (membership nodes) i input x;
-    stands = trim_stands m.accepting m.proposing.round x.records s.records;
+    stands = trim_stands m.acceptor m.proposer.round x.records s.records;
   }
 
   -- its proposer comes to another campaign
   pub goes_holding : (x : Local Command) (m : ReplicaState) (p : Proposing) → ReplicaStands m x → MayHold (membership nodes) i input x p
-      → MayGo nodes i input x (record m { proposing = p }) []
+      → MayGo nodes i input x (record m { proposer = p }) []
   goes_holding x m p s h = record {
     after = record x { replica = record x.replica { campaign = h.campaign } };
     does = h.does;
@@ -177,7 +177,7 @@ module _ (nodes i : ℕ) (input : act.Input Command) where
 
   -- and sends
   pub goes_sending : (x : Local Command) (m : ReplicaState) (p : Proposing) (frames : List (Frame Command)) → ReplicaStands m x
-      → MaySend (membership nodes) i input x p frames → MayGo nodes i input x (record m { proposing = p }) frames
+      → MaySend (membership nodes) i input x p frames → MayGo nodes i input x (record m { proposer = p }) frames
   goes_sending x m p frames s h =
       let y : Local Command = record x {
         records = h.records;

@@ -66,7 +66,7 @@ pub record HasHeard (nodes i : ℕ) (in' : act.Input Command) (x : Local Command
     (learned : Option Learned) : Type 0 where
   pub after : Local Command
   pub does : Does (membership nodes) i in' x after
-  pub stands : ReplicaStands (record old { learning = l }) after
+  pub stands : ReplicaStands (record old { learner = l }) after
   pub sent : after.sent ≡ x.sent
   pub learnt : after.learnt ≡ x.learnt ++ learnt_by i c learned
   pub submitted : after.submitted ≡ x.submitted
@@ -78,10 +78,10 @@ heard_lem nodes i in' x old l c learned s grows h =
       replica = record x.replica { learnt = h.learnt; heard = h.heard };
       learnt = x.learnt ++ learnt_by i c learned;
     } in
-    let proposer : ProposerStands old.proposing y =
+    let proposer : ProposerStands old.proposer y =
     record { round = s.proposer.round; campaign = s.proposer.campaign; waiting = s.proposer.waiting } in
     let up : y.replica.position ≤ prefix l = subst (λ (n : ℕ). n ≤ prefix l) (sym s.position_) grows in
-    let next = advance_lem (membership nodes) i in' y old.proposing (prefix l) up proposer in
+    let next = advance_lem (membership nodes) i in' y old.proposer (prefix l) up proposer in
     record {
       after = record y { replica = record y.replica { position = prefix l } };
       does = does_then (membership nodes) i in' h.does next.does;
@@ -117,35 +117,35 @@ decided_there old l slot c n (learns_decided open' is same) =
 module _ (old : ReplicaState) (some_node : 1 ≤ old.nodes) (in' : act.Input Command) (x : Local Command) (l : Learning) (c : Command)
     (asks : List Envelope) (plain : ArePlainFrom old.id asks) (new : ReplicaState) (said : Response) where
   abbrev with_news : ReplicaState
-  with_news = record old { learning = l }
+  with_news = record old { learner = l }
 
   -- the slot's proposal is closed, what was executed waits no more, the proposer proposes, and questions are asked
   abbrev Goes : Local Command → ℕ → Type 0
   Goes y slot =
-      MayGo old.nodes old.id in' y (record with_news { proposing = (after_news old slot l).0 })
+      MayGo old.nodes old.id in' y (record with_news { proposer = (after_news old slot l).0 })
       (frames_of_all old.id old.nodes (after_news old slot l).1 ++ map frame_of asks)
 
   goes_on : (y : Local Command) (slot : ℕ) → ReplicaStands with_news y → l.learnt slot ≡ Some c → Goes y slot
   goes_on y slot s there =
-      let closed : Proposing = after_learned old.proposing slot in
-      let first : MayGo old.nodes old.id in' y (record with_news { proposing = closed }) [] =
+      let closed : Proposing = after_learned old.proposer slot in
+      let first : MayGo old.nodes old.id in' y (record with_news { proposer = closed }) [] =
       goes_holding old.nodes old.id in' y with_news closed s
-      (learned_lem (membership old.nodes) old.id in' y old.proposing slot (inr (c, s.learner.learnt slot ∙ there)) s.proposer) in
+      (learned_lem (membership old.nodes) old.id in' y old.proposer slot (inr (c, s.learner.learnt slot ∙ there)) s.proposer) in
       let then : Proposing = proposer_of old slot (execution old l) in
-      let next : MayGo old.nodes old.id in' first.after (record with_news { proposing = then }) [] =
-      goes_holding old.nodes old.id in' first.after (record with_news { proposing = closed }) then first.stands
+      let next : MayGo old.nodes old.id in' first.after (record with_news { proposer = then }) [] =
+      goes_holding old.nodes old.id in' first.after (record with_news { proposer = closed }) then first.stands
       (execution_holds (membership old.nodes) old.id in' closed (news old l) (executing_of old []) (position old) first.after
       first.stands.proposer) in
-      let proposing : MayGo old.nodes old.id in' next.after (record with_news { proposing = (after_news old slot l).0 })
+      let proposer : MayGo old.nodes old.id in' next.after (record with_news { proposer = (after_news old slot l).0 })
       (frames_of_all old.id old.nodes (after_news old slot l).1) =
-      goes_proposing old.nodes old.id in' next.after (record with_news { proposing = then }) some_node next.stands in
-      let asking : MayGo old.nodes old.id in' proposing.after (record with_news { proposing = (after_news old slot l).0 })
+      goes_proposing old.nodes old.id in' next.after (record with_news { proposer = then }) some_node next.stands in
+      let asking : MayGo old.nodes old.id in' proposer.after (record with_news { proposer = (after_news old slot l).0 })
       (map frame_of asks) =
-      goes_saying old.nodes old.id in' proposing.after _ (map frame_of asks) proposing.stands
-      (says_sends (membership old.nodes) old.id in' proposing.after asks plain) in
+      goes_saying old.nodes old.id in' proposer.after _ (map frame_of asks) proposer.stands
+      (says_sends (membership old.nodes) old.id in' proposer.after asks plain) in
       goes_then old.nodes old.id in' y _ _ [] _ first
       (goes_then old.nodes old.id in' first.after _ _ [] _ next
-      (goes_then old.nodes old.id in' next.after _ _ _ _ proposing asking))
+      (goes_then old.nodes old.id in' next.after _ _ _ _ proposer asking))
 
   -- a command is newly learnt
   learns_lem : (n : Learned) → HasHeard old.nodes old.id in' x old l c (Some n) → l.learnt n.slot ≡ Some c
@@ -158,15 +158,15 @@ module _ (old : ReplicaState) (some_node : 1 ≤ old.nodes) (in' : act.Input Com
       ∙ ap (λ fs. fs ++ map frame_of asks) (proposer_frames old.id old.nodes (after_news old n.slot l).1) in
       subst (λ (m : ReplicaState). MayComeTo old.nodes old.id in' [] x m said) (sym k.leaves)
       (subst (MayComeTo old.nodes old.id in' [] x (record old {
-        learning = l;
-        proposing = (after_news old n.slot l).0;
+        learner = l;
+        proposer = (after_news old n.slot l).0;
         machine = (execution old l).machine;
         fetching = still_fetched (prefix l) old.fetching;
       })) (sym k.says) (record {
         after = g.after;
         does = does_then (membership old.nodes) old.id in' h.does g.does;
         stands = fetching_changed _ g.after (still_fetched (prefix l) old.fetching)
-            (machine_changed (record with_news { proposing = (after_news old n.slot l).0 }) g.after (execution old l).machine g.stands);
+            (machine_changed (record with_news { proposer = (after_news old n.slot l).0 }) g.after (execution old l).machine g.stands);
         sent = g.sent_ ∙ ap (λ fs. fs ++ frames) h.sent ∙ ap (λ fs. x.sent ++ fs) (sym same);
         learnt = g.learnt ∙ h.learnt;
         submitted = g.submitted ∙ h.submitted ∙ sym (append-nil x.submitted);
@@ -194,20 +194,20 @@ module _ (old : ReplicaState) (some_node : 1 ≤ old.nodes) (in' : act.Input Com
 
 -- ---- each news
 module _ (old new : ReplicaState) (said : Response) (x : Local Command) (stands : ReplicaStands old x) (some_node : 1 ≤ old.nodes) where
-  pub vote_case : (from : ℕ) (v : Vote Command) → old.nodes ≡ old.learning.nodes → HearsOfVote old from v new said
+  pub vote_case : (from : ℕ) (v : Vote Command) → old.nodes ≡ old.learner.nodes → HearsOfVote old from v new said
       → MayComeTo old.nodes old.id (act.Came from (message_of (Accepted v))) [] x new said
   vote_case from v of_all (learned, l, hears_, k) =
       let in' : act.Input Command = act.Came from (message_of (Accepted v)) in
       hears_lem old some_node in' x l v.command [] tt new said learned
-      (heard_lem old.nodes old.id in' x old l v.command learned stands (vote_grows old.learning l from v learned hears_)
-      (allows_vote (membership old.nodes) old.id x old.learning stands.learner from v of_all learned l hears_))
-      (λ n is. vote_there old.learning l from v n (subst (λ (o : Option Learned). HearsVote old.learning from v o l) is hears_)) k
+      (heard_lem old.nodes old.id in' x old l v.command learned stands (vote_grows old.learner l from v learned hears_)
+      (allows_vote (membership old.nodes) old.id x old.learner stands.learner from v of_all learned l hears_))
+      (λ n is. vote_there old.learner l from v n (subst (λ (o : Option Learned). HearsVote old.learner from v o l) is hears_)) k
 
   pub decided_case : (from slot : ℕ) (c : Command) → from < old.nodes → HearsOfDecided old from slot c new said
       → MayComeTo old.nodes old.id (act.Came from (message_of (Decided slot c))) [] x new said
   decided_case from slot c sender (learned, l, hears_, k) =
       let in' : act.Input Command = act.Came from (message_of (Decided slot c)) in
       hears_lem old some_node in' x l c (ask_sends old.id from (prefix l)) (are_plain old _ (asks_one old from (prefix l) sender)) new said learned
-      (heard_lem old.nodes old.id in' x old l c learned stands (decided_grows old.learning l slot c learned hears_)
-      (allows_decided (membership old.nodes) old.id x old.learning stands.learner in' slot c refl learned l hears_))
-      (λ n is. decided_there old.learning l slot c n (subst (λ (o : Option Learned). HearsDecided old.learning slot c o l) is hears_)) k
+      (heard_lem old.nodes old.id in' x old l c learned stands (decided_grows old.learner l slot c learned hears_)
+      (allows_decided (membership old.nodes) old.id x old.learner stands.learner in' slot c refl learned l hears_))
+      (λ n is. decided_there old.learner l slot c n (subst (λ (o : Option Learned). HearsDecided old.learner slot c o l) is hears_)) k

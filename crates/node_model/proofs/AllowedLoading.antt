@@ -67,29 +67,29 @@ covered_too records a b says_a says_b covered = λ s v low there.
     (covered s v (omega (arith, low, floor)) held)
 
 module _ (records : Records) (id nodes : ℕ) (m : ReplicaState) (loads : IsLoaded records id nodes m) where
-  round_loaded : SaysRound (records key.Round) m.proposing.round × (m.proposing ≡ loaded id nodes m.proposing.round)
-  round_loaded = loads_round (records key.Round) id nodes m.proposing loads.proposing
+  round_loaded : SaysRound (records key.Round) m.proposer.round × (m.proposer ≡ loaded id nodes m.proposer.round)
+  round_loaded = loads_round (records key.Round) id nodes m.proposer loads.proposer
 
   -- that its votes are covered it can't see, but the records are those of a run
-  pub loaded_holds : (a : Accepting) (round : ℕ) → RecordsHold records a round → RecordsHold records m.accepting m.proposing.round
+  pub loaded_holds : (a : Accepting) (round : ℕ) → RecordsHold records a round → RecordsHold records m.acceptor m.proposer.round
   loaded_holds a round holds = record {
-    acceptor = loads.accepting;
-    covered = covered_too records a m.accepting holds.acceptor loads.accepting holds.covered;
+    acceptor = loads.acceptor;
+    covered = covered_too records a m.acceptor holds.acceptor loads.acceptor holds.covered;
     proposer = round_loaded.0;
   }
 
   module _ (a : Accepting) (round : ℕ) (x : Local Command) (holds : RecordsHold records a round) (stands : RecordsStand a round x.records)
       (none : x.replica ≡ blank_at (position m)) where
-    floors_one : a.floor ≡ m.accepting.floor
-    floors_one = one_floor records a m.accepting holds.acceptor loads.accepting
+    floors_one : a.floor ≡ m.acceptor.floor
+    floors_one = one_floor records a m.acceptor holds.acceptor loads.acceptor
 
-    records_stand : RecordsStand m.accepting m.proposing.round x.records
+    records_stand : RecordsStand m.acceptor m.proposer.round x.records
     records_stand = record {
-      promise = stands.promise ∙ one_promise records a m.accepting holds.acceptor loads.accepting;
+      promise = stands.promise ∙ one_promise records a m.acceptor holds.acceptor loads.acceptor;
       vote = λ s from.
           let also : a.floor ≤ s = omega (arith, floors_one, from) in
-          stands.vote s also ∙ one_vote_each records a m.accepting holds.acceptor loads.accepting s;
-      round_ = stands.round_ ∙ one_round (records key.Round) round m.proposing.round holds.proposer round_loaded.0;
+          stands.vote s also ∙ one_vote_each records a m.acceptor holds.acceptor loads.acceptor s;
+      round_ = stands.round_ ∙ one_round (records key.Round) round m.proposer.round holds.proposer round_loaded.0;
       floor_ = stands.floor_ ∙ floors_one;
     }
 
@@ -97,11 +97,11 @@ module _ (records : Records) (id nodes : ℕ) (m : ReplicaState) (loads : IsLoad
     pub loaded_stands : ReplicaStands m x
     loaded_stands = record {
       records = records_stand;
-      learner = subst (LearnerStands m.learning) (sym none)
-          (subst (λ (l : Learning). LearnerStands l (blank_at (position m))) (sym loads.learning)
-          (unlearnt_stands nodes m.accepting.floor (position m)));
+      learner = subst (LearnerStands m.learner) (sym none)
+          (subst (λ (l : Learning). LearnerStands l (blank_at (position m))) (sym loads.learner)
+          (unlearnt_stands nodes m.acceptor.floor (position m)));
       proposer = subst (λ (p : Proposing). ProposerStands p x) (sym round_loaded.1)
-          (idle_stands id nodes m.proposing.round (position m) x records_stand.round_ none);
+          (idle_stands id nodes m.proposer.round (position m) x records_stand.round_ none);
       position_ = ap (λ (s : Volatile Command). s.position) none;
       level = (let at = loaded_begins records id nodes m loads in omega (arith, at));
     }

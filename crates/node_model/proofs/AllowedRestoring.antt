@@ -53,7 +53,7 @@ skipped_from l target above =
 module _ (old : ReplicaState) (some_node : 1 ≤ old.nodes) (in' : act.Input Command) (x : Local Command) (stands : ReplicaStands old x)
     (from target : ℕ) (machine : MachineState) (ahead : position old < target) (sender : from < old.nodes) where
   abbrev l : Learning
-  l = skipped old.learning target
+  l = skipped old.learner target
 
   abbrev m : ReplicaState
   m = restored old target machine
@@ -62,21 +62,21 @@ module _ (old : ReplicaState) (some_node : 1 ≤ old.nodes) (in' : act.Input Com
   then = executed_to_the_end m target
 
   abbrev left : ReplicaState
-  left = with_proposer then (proposed then.proposing l)
+  left = with_proposer then (proposed then.proposer l)
 
   -- the position rises
-  skips : MayGo old.nodes old.id in' x (record old { learning = l }) []
+  skips : MayGo old.nodes old.id in' x (record old { learner = l }) []
   skips =
-      let grows : position old ≤ prefix l = skipped_grows old.learning target in
+      let grows : position old ≤ prefix l = skipped_grows old.learner target in
       let up : x.replica.position ≤ prefix l = omega (arith, grows, stands.position_) in
-      let next = advance_lem (membership old.nodes) old.id in' x old.proposing (prefix l) up stands.proposer in
+      let next = advance_lem (membership old.nodes) old.id in' x old.proposer (prefix l) up stands.proposer in
       record {
         after = record x { replica = record x.replica { position = prefix l } };
         does = next.does;
         stands = record {
           records = stands.records;
           learner = subst (λ (k : Learning). LearnerStands k (record x.replica { position = prefix l }))
-              (sym (skipped_is old.learning target ahead)) (record { learnt = stands.learner.learnt; heard = stands.learner.heard });
+              (sym (skipped_is old.learner target ahead)) (record { learnt = stands.learner.learnt; heard = stands.learner.heard });
           proposer = next.stands;
           position_ = refl;
           level = omega (arith, stands.level, grows);
@@ -88,17 +88,17 @@ module _ (old : ReplicaState) (some_node : 1 ≤ old.nodes) (in' : act.Input Com
 
   -- proposals below the target are closed, what is executed waits no more, the proposer proposes, and the next slot is asked for
   goes_on : MayGo old.nodes old.id in' x left
-      (frames_of_all old.id old.nodes (proposed then.proposing l).1 ++ map frame_of (ask_sends old.id from (prefix l)))
+      (frames_of_all old.id old.nodes (proposed then.proposer l).1 ++ map frame_of (ask_sends old.id from (prefix l)))
   goes_on =
-      let skipping : ReplicaState = record old { learning = l } in
+      let skipping : ReplicaState = record old { learner = l } in
       let reached : target ≤ skips.after.replica.position =
-      subst (λ (n : ℕ). target ≤ n) (sym skips.stands.position_) (skipped_from old.learning target ahead) in
-      let closed : MayGo old.nodes old.id in' skips.after (record skipping { proposing = m.proposing }) [] =
-      goes_holding old.nodes old.id in' skips.after skipping m.proposing skips.stands
-      (skipped_lem (membership old.nodes) old.id in' skips.after old.proposing target reached skips.stands.proposer) in
-      let ended : MayGo old.nodes old.id in' closed.after (record skipping { proposing = then.proposing }) [] =
-      goes_holding old.nodes old.id in' closed.after (record skipping { proposing = m.proposing }) then.proposing closed.stands
-      (execution_holds (membership old.nodes) old.id in' m.proposing (learnt_from m target) (executing_of m []) target closed.after
+      subst (λ (n : ℕ). target ≤ n) (sym skips.stands.position_) (skipped_from old.learner target ahead) in
+      let closed : MayGo old.nodes old.id in' skips.after (record skipping { proposer = m.proposer }) [] =
+      goes_holding old.nodes old.id in' skips.after skipping m.proposer skips.stands
+      (skipped_lem (membership old.nodes) old.id in' skips.after old.proposer target reached skips.stands.proposer) in
+      let ended : MayGo old.nodes old.id in' closed.after (record skipping { proposer = then.proposer }) [] =
+      goes_holding old.nodes old.id in' closed.after (record skipping { proposer = m.proposer }) then.proposer closed.stands
+      (execution_holds (membership old.nodes) old.id in' m.proposer (learnt_from m target) (executing_of m []) target closed.after
       closed.stands.proposer) in
       let here : ReplicaStands then ended.after = record {
         records = ended.stands.records;
@@ -107,16 +107,16 @@ module _ (old : ReplicaState) (some_node : 1 ≤ old.nodes) (in' : act.Input Com
         position_ = ended.stands.position_;
         level = ended.stands.level;
       } in
-      let proposing : MayGo old.nodes old.id in' ended.after left (frames_of_all old.id old.nodes (proposed then.proposing l).1) =
+      let proposer : MayGo old.nodes old.id in' ended.after left (frames_of_all old.id old.nodes (proposed then.proposer l).1) =
       goes_proposing old.nodes old.id in' ended.after then some_node here in
       let asks = ask_sends old.id from (prefix l) in
-      let asking : MayGo old.nodes old.id in' proposing.after left (map frame_of asks) =
-      goes_saying old.nodes old.id in' proposing.after left (map frame_of asks) proposing.stands
-      (says_sends (membership old.nodes) old.id in' proposing.after asks (are_plain old asks (asks_one old from (prefix l) sender))) in
+      let asking : MayGo old.nodes old.id in' proposer.after left (map frame_of asks) =
+      goes_saying old.nodes old.id in' proposer.after left (map frame_of asks) proposer.stands
+      (says_sends (membership old.nodes) old.id in' proposer.after asks (are_plain old asks (asks_one old from (prefix l) sender))) in
       goes_then old.nodes old.id in' x _ _ [] _ skips
       (goes_then old.nodes old.id in' skips.after _ _ [] _ closed
       (goes_then old.nodes old.id in' closed.after _ _ [] _ ended
-      (goes_then old.nodes old.id in' ended.after _ _ _ _ proposing asking)))
+      (goes_then old.nodes old.id in' ended.after _ _ _ _ proposer asking)))
 
   -- what it says of it
   abbrev says_of : ReplicaState → Response
@@ -124,12 +124,12 @@ module _ (old : ReplicaState) (some_node : 1 ≤ old.nodes) (in' : act.Input Com
     restored = Some target;
     learnt = None;
     replies = (execution_from n target).replies;
-    sends = proposer_sends old (proposed (executed_to_the_end n target).proposing n.learning) ++ ask_sends old.id from (position n);
+    sends = proposer_sends old (proposed (executed_to_the_end n target).proposer n.learner) ++ ask_sends old.id from (position n);
   }
 
   comes_to : MayComeTo old.nodes old.id in' [] x left (says_of m)
   comes_to =
-      let p = proposed then.proposing l in
+      let p = proposed then.proposer l in
       let asks = ask_sends old.id from (prefix l) in
       let same : map frame_of (proposer_sends old p ++ asks) ≡ frames_of_all old.id old.nodes p.1 ++ map frame_of asks =
       map-append frame_of (proposer_sends old p) asks ∙ ap (λ fs. fs ++ map frame_of asks) (proposer_frames old.id old.nodes p.1) in
@@ -145,7 +145,7 @@ module _ (old : ReplicaState) (some_node : 1 ≤ old.nodes) (in' : act.Input Com
   restores_lem : (new : ReplicaState) (said : Response) → Restores old from target machine new said → MayComeTo old.nodes old.id in' [] x new said
   restores_lem new said k =
       let leaves : new ≡ left = k.leaves
-      ∙ ap (λ (n : ReplicaState). with_proposer (executed_to_the_end n target) (proposed (executed_to_the_end n target).proposing n.learning)) k.begins in
+      ∙ ap (λ (n : ReplicaState). with_proposer (executed_to_the_end n target) (proposed (executed_to_the_end n target).proposer n.learner)) k.begins in
       let says : said ≡ says_of m = k.says ∙ ap says_of k.begins in
       subst (λ (n : ReplicaState). MayComeTo old.nodes old.id in' [] x n said) (sym leaves)
       (subst (MayComeTo old.nodes old.id in' [] x left) (sym says) comes_to)

@@ -27,16 +27,16 @@ module _ (m : ReplicaState) (x : Local Command) (stands : ReplicaStands m x) whe
   May in' a round = MayStop m.nodes m.id in' x a round
 
   -- nothing was written
-  pub stops_at_once : (in' : act.Input Command) → May in' m.accepting m.proposing.round
+  pub stops_at_once : (in' : act.Input Command) → May in' m.acceptor m.proposer.round
   stops_at_once in' = record {
     records = x.records;
-    does = (stop_lem (membership m.nodes) m.id in' x m.proposing stands.proposer).does;
+    does = (stop_lem (membership m.nodes) m.id in' x m.proposer stands.proposer).does;
     stands = stands.records;
   }
 
   -- the acceptor's write was made
-  stops_written : (in' : act.Input Command) (a : Accepting) → MayWrite (membership m.nodes) m.id in' x a m.proposing.round
-      → May in' a m.proposing.round
+  stops_written : (in' : act.Input Command) (a : Accepting) → MayWrite (membership m.nodes) m.id in' x a m.proposer.round
+      → May in' a m.proposer.round
   stops_written in' a w = record {
     records = w.after;
     does = does_then (membership m.nodes) m.id in' w.does (does_one (membership m.nodes) m.id in' (record x { records = w.after }) act.Forgets tt);
@@ -44,10 +44,10 @@ module _ (m : ReplicaState) (x : Local Command) (stands : ReplicaStands m x) whe
   }
 
   -- the round was written
-  stops_begun : m.proposing.id ≡ m.id → m.id < 7 → May act.Nothing m.accepting (next_round m.proposing)
+  stops_begun : m.proposer.id ≡ m.id → m.id < 7 → May act.Nothing m.acceptor (next_round m.proposer)
   stops_begun own a_node = record {
-    records = with_round x.records (next_round m.proposing);
-    does = (stop_written_lem (membership m.nodes) m.id act.Nothing x m.proposing own (omega (arith, own, a_node)) stands.proposer).does;
+    records = with_round x.records (next_round m.proposer);
+    does = (stop_written_lem (membership m.nodes) m.id act.Nothing x m.proposer own (omega (arith, own, a_node)) stands.proposer).does;
     stands = record {
       promise = stands.records.promise;
       vote = stands.records.vote;
@@ -56,20 +56,20 @@ module _ (m : ReplicaState) (x : Local Command) (stands : ReplicaStands m x) whe
     };
   }
 
-  message_stops : (from : ℕ) (message : Message) → May (act.Came from (message_of message)) (accepting_on m message) m.proposing.round
+  message_stops : (from : ℕ) (message : Message) → May (act.Came from (message_of message)) (accepting_on m message) m.proposer.round
   message_stops from (Prepare ballot first) =
       let in' : act.Input Command = act.Came from (message_of (Prepare ballot first)) in
-      stops_written in' _ (prepare_writes (membership m.nodes) m.id in' x m.accepting m.proposing.round stands.records ballot first)
+      stops_written in' _ (prepare_writes (membership m.nodes) m.id in' x m.acceptor m.proposer.round stands.records ballot first)
   message_stops from (Accept v) =
       let in' : act.Input Command = act.Came from (message_of (Accept v)) in
-      stops_written in' _ (accept_writes (membership m.nodes) m.id in' x m.accepting m.proposing.round stands.records v refl)
+      stops_written in' _ (accept_writes (membership m.nodes) m.id in' x m.acceptor m.proposer.round stands.records v refl)
   message_stops from other = stops_at_once _
 
-  envelope_stops : (e : Envelope) (b : Bool) → May (coming e b) (accepting_if m e b) m.proposing.round
+  envelope_stops : (e : Envelope) (b : Bool) → May (coming e b) (accepting_if m e b) m.proposer.round
   envelope_stops e false = stops_at_once act.Nothing
   envelope_stops e true = message_stops e.from e.message
 
-  stops : (i : Input) → m.proposing.id ≡ m.id → m.id < 7 → May (input_of m.id m.nodes i) (accepting_after m i) (round_after m i)
+  stops : (i : Input) → m.proposer.id ≡ m.id → m.id < 7 → May (input_of m.id m.nodes i) (accepting_after m i) (round_after m i)
   stops (input.Message e) own a_node = envelope_stops e (is_for_this_run m.id m.nodes e)
   stops input.Timeout own a_node = stops_begun own a_node
   stops input.Checkpoint own a_node = stops_written act.Nothing _ (checkpoint_written m.nodes m.id act.Nothing x m stands)
@@ -78,14 +78,14 @@ module _ (m : ReplicaState) (x : Local Command) (stands : ReplicaStands m x) whe
 
 -- the number of the node and that of all nodes are its own
 pub unwritten_allowed : (nodes id : ℕ) (m : ReplicaState) (in' : act.Input Command) (x : Local Command) → IsReplicaOf id nodes m → ReplicaStands m x
-    → MayStop nodes id in' x m.accepting m.proposing.round
+    → MayStop nodes id in' x m.acceptor m.proposer.round
 unwritten_allowed nodes id m in' x own stands =
-    subst (λ (n : ℕ). MayStop n id in' x m.accepting m.proposing.round) own.of_all
-    (subst (λ (i : ℕ). MayStop m.nodes i in' x m.accepting m.proposing.round) own.number (stops_at_once m x stands in'))
+    subst (λ (n : ℕ). MayStop n id in' x m.acceptor m.proposer.round) own.of_all
+    (subst (λ (i : ℕ). MayStop m.nodes i in' x m.acceptor m.proposer.round) own.number (stops_at_once m x stands in'))
 
 pub written_allowed : (nodes id : ℕ) (m : ReplicaState) (i : Input) (x : Local Command) → id < 7 → IsReplicaOf id nodes m → ReplicaStands m x
     → MayStop nodes id (input_of id nodes i) x (accepting_after m i) (round_after m i)
 written_allowed nodes id m i x a_node own stands =
     subst (λ (n : ℕ). MayStop n id (input_of id n i) x (accepting_after m i) (round_after m i)) own.of_all
     (subst (λ (k : ℕ). MayStop m.nodes k (input_of k m.nodes i) x (accepting_after m i) (round_after m i)) own.number
-    (stops m x stands i (own.proposing.0 ∙ sym own.number) (omega (arith, a_node, own.number))))
+    (stops m x stands i (own.proposer.0 ∙ sym own.number) (omega (arith, a_node, own.number))))

@@ -38,9 +38,9 @@ module _ (old new : ReplicaState) (said : Response) (x : Local Command) (few : o
   says_allowed (writes a is h leaves says) = taken_as _ _ _ _ is (writes_case old new said x stands a h leaves says)
   says_allowed (proposes in' submits round p asks is h plain leaves says) =
       taken_as in' submits _ _ is
-      (proposes_case old new said x stands some_node few own.proposing.0 (sym own.proposing.1) in' submits round p asks h plain leaves says)
+      (proposes_case old new said x stands some_node few own.proposer.0 (sym own.proposer.1) in' submits round p asks h plain leaves says)
   says_allowed (hears_vote from to v comes is k) =
-      taken_as _ _ _ _ is (vote_case old new said x stands some_node from v (sym own.learning) k)
+      taken_as _ _ _ _ is (vote_case old new said x stands some_node from v (sym own.learner) k)
   says_allowed (hears_decided from to slot c comes is of_run k) =
       taken_as _ _ _ _ is (decided_case old new said x stands some_node from slot c of_run k)
   says_allowed (makes_text in' is h) = taken_as in' _ _ _ is (text_case old new said x stands some_node in' i h)

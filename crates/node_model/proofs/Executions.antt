@@ -26,18 +26,18 @@ commands_from learnt slot p h =
     ap (λ (n : ℕ). commands learnt slot n) (let e : p - slot ≡ suc (p - suc slot) = omega (arith, h) in e)
 
 -- nothing is done yet
-pub stands_begun : (m : ReplicaState) (from : ℕ) → StandsForMore m.machine m.machine (commands m.learning.learnt from (from - from))
+pub stands_begun : (m : ReplicaState) (from : ℕ) → StandsForMore m.machine m.machine (commands m.learner.learnt from (from - from))
 unfolding commands
 stands_begun m from =
     let none : from - from ≡ 0 = omega arith in
-    subst (λ (n : ℕ). StandsForMore m.machine m.machine (commands m.learning.learnt from n)) (sym none) (stands_for_none m.machine)
+    subst (λ (n : ℕ). StandsForMore m.machine m.machine (commands m.learner.learnt from n)) (sym none) (stands_for_none m.machine)
 
-pub replies_begun : (m : ReplicaState) (from : ℕ) → RepliesToMore m.machine from (commands m.learning.learnt from (from - from)) []
+pub replies_begun : (m : ReplicaState) (from : ℕ) → RepliesToMore m.machine from (commands m.learner.learnt from (from - from)) []
 replies_begun m from = record { replies_ = λ l s at e there. absurd (search (rules, there)) }
 
-module _ (m : ReplicaState) (from : ℕ) (is : IsPrefix m.learning.learnt m.learning.first (position m)) (kept : m.learning.first ≤ from) where
+module _ (m : ReplicaState) (from : ℕ) (is : IsPrefix m.learner.learnt m.learner.first (position m)) (kept : m.learner.first ≤ from) where
   abbrev learnt : ℕ → Option Command
-  learnt = m.learning.learnt
+  learnt = m.learner.learnt
 
   -- what is to be done from a slot on, once the slot is done
   pub rest_done : (number : ℕ) (e f : Executing) → from ≤ number → number < position m
@@ -86,5 +86,5 @@ module _ (m : ReplicaState) (from : ℕ) (is : IsPrefix m.learning.learnt m.lear
   only_done cur next only then = then ∙ ap (λ (x : ReplicaState). with_executing x (executing_of next [])) only
 
   pub learnt_there : (cur : ReplicaState) (slot number : ℕ) → slot ≡ number → cur ≡ with_executing m (executing_of cur [])
-      → cur.learning.learnt slot ≡ learnt number
-  learnt_there cur slot number at only = ap (λ (x : ReplicaState). x.learning.learnt slot) only ∙ ap learnt at
+      → cur.learner.learnt slot ≡ learnt number
+  learnt_there cur slot number at only = ap (λ (x : ReplicaState). x.learner.learnt slot) only ∙ ap learnt at

@@ -195,8 +195,8 @@ counting_few p q l = cond_both (begins_to_lead p q) _ _ Eight (λ _. proposes_fe
 
 submit_few : (m : ReplicaState) (r : Asked) → Eight (after_submit m r)
 submit_few m r =
-    let p : Proposing = with_request m.proposing r in
-    cond_both (waits m r.client r.number) _ _ Eight (λ _. omega arith) (λ _. proposes_few p p.campaign m.learning)
+    let p : Proposing = with_request m.proposer r in
+    cond_both (waits m r.client r.number) _ _ Eight (λ _. omega arith) (λ _. proposes_few p p.campaign m.learner)
 
 again_few : (o : Option Campaigning) → IfSome o (λ (k : Campaigning). length k.proposals ≤ 8) → length (sends_again o) ≤ 8
 again_few None few = omega arith
@@ -236,12 +236,12 @@ executed_few e slot (c ∷ cs) =
     let more = executed_few (executing e slot c) (suc slot) cs in
     omega (arith, one, more)
 
-execution_few : (m : ReplicaState) (l : Learning) → length (execution m l).replies ≤ length m.proposing.waiting
+execution_few : (m : ReplicaState) (l : Learning) → length (execution m l).replies ≤ length m.proposer.waiting
 execution_few m l =
     let all = executed_few (executing_of m []) (position m) (news m l) in omega (arith, all)
 
 -- a node that has restored a text replies to no more requests than waited
-restored_few : (m : ReplicaState) (target : ℕ) → length (execution_from m target).replies ≤ length m.proposing.waiting
+restored_few : (m : ReplicaState) (target : ℕ) → length (execution_from m target).replies ≤ length m.proposer.waiting
 restored_few m target =
     let all = executed_few (executing_of m []) target (learnt_from m target) in omega (arith, all)
 
@@ -282,22 +282,22 @@ module _ (old new : ReplicaState) (said : Response) (small : ReplicaIsSmall old)
 
   restores_few : (from target : ℕ) (machine : MachineState) → from < old.nodes → Restores old from target machine new said → IsFew said
   restores_few from target machine sender k =
-      let p : Proposing = (executed_to_the_end k.m target).proposing in
+      let p : Proposing = (executed_to_the_end k.m target).proposer in
       let replies_ = restored_few k.m target in
-      let waited : length k.m.proposing.waiting ≡ length old.proposing.waiting = ap (λ (m : ReplicaState). length m.proposing.waiting) k.begins in
+      let waited : length k.m.proposer.waiting ≡ length old.proposer.waiting = ap (λ (m : ReplicaState). length m.proposer.waiting) k.begins in
       subst IsFew (sym k.says) (record {
-        sends = goes_on_few (proposes p p.campaign k.m.learning).1 (ask_sends old.id from (position k.m))
-            (proposes_few p p.campaign k.m.learning) (asks_one old from (position k.m) sender);
+        sends = goes_on_few (proposes p p.campaign k.m.learner).1 (ask_sends old.id from (position k.m))
+            (proposes_few p p.campaign k.m.learner) (asks_one old from (position k.m) sender);
         replies = omega (arith, replies_, waited, small.waiting);
       })
 
   proposer_few : (in' : act.Input Command) (submits : List Command) (round : ℕ) (p : Proposing × List Outgoing)
       → Proposes old in' submits round p → Eight p
-  proposer_few _ _ _ _ (counts from p sender) = counting_few old.proposing (with_promised old.proposing from p) old.learning
+  proposer_few _ _ _ _ (counts from p sender) = counting_few old.proposer (with_promised old.proposer from p) old.learner
   proposer_few _ _ _ _ (gives_way from n) = omega arith
   proposer_few _ _ _ _ (is_asked r) = submit_few old r
   proposer_few _ _ _ _ (campaigns p prepare starts) = omega arith
-  proposer_few _ _ _ _ repeats = again_few old.proposing.campaign small.proposals
+  proposer_few _ _ _ _ repeats = again_few old.proposer.campaign small.proposals
 
   says_few : (i : Input) → Says old i new said → IsFew said
   says_few i (tells in' f sends is fetched plain leaves e) = few_sends _ e refl (let n = plain_few sends plain in omega (arith, n))

@@ -21,7 +21,7 @@ use Rattle.node_model.proofs.Saying.Says.{tells, reports, answers, writes, propo
 
 -- the learner and the machine stay, nothing is told as learnt or restored, and nobody is replied to
 pub record LearnsNothing (old new : ReplicaState) (said : Response) : Type 0 where
-  pub learner : new.learning ≡ old.learning
+  pub learner : new.learner ≡ old.learner
   pub machine : new.machine ≡ old.machine
   pub restored : said.restored ≡ None
   pub learnt : said.learnt ≡ None
@@ -54,10 +54,10 @@ role_is e f role same is = (let here : e ≡ f = cc in ap (λ (g : Envelope). ro
 
 module _ (old new : ReplicaState) (said : Response) where
   -- it says no more than what it sends, and comes to a replica of the same learner and machine
-  so : (then : ReplicaState) (sends : List Envelope) → new ≡ then → said ≡ sent sends → then.learning ≡ old.learning
+  so : (then : ReplicaState) (sends : List Envelope) → new ≡ then → said ≡ sent sends → then.learner ≡ old.learner
       → then.machine ≡ old.machine → LearnsNothing old new said
   so then sends leaves says learner machine = record {
-    learner = ap (λ (m : ReplicaState). m.learning) leaves ∙ learner;
+    learner = ap (λ (m : ReplicaState). m.learner) leaves ∙ learner;
     machine = ap (λ (m : ReplicaState). m.machine) leaves ∙ machine;
     restored = ap (λ (r : Response). r.restored) says;
     learnt = ap (λ (r : Response). r.learnt) says;

@@ -86,31 +86,31 @@ skipped_is l target above =
 -- ---- a node
 -- one that has restored the machine of a text
 pub restored_learner : (old new : ReplicaState) (said : Response) (from target : ℕ) (machine : MachineState)
-    → Restores old from target machine new said → new.learning ≡ skipped old.learning target
+    → Restores old from target machine new said → new.learner ≡ skipped old.learner target
 restored_learner old new said from target machine k =
-    ap (λ (m : ReplicaState). m.learning) k.leaves ∙ ap (λ (m : ReplicaState). m.learning) k.begins
+    ap (λ (m : ReplicaState). m.learner) k.leaves ∙ ap (λ (m : ReplicaState). m.learner) k.begins
 
 module _ (old new : ReplicaState) (said : Response) where
   -- its learner is the one that has heard the news
   pub heard_learner : (c : Command) (learned : Option Learned) (l : Learning) (asks : List Envelope)
-      → Hears old c learned l asks new said → new.learning ≡ l
-  heard_learner c None l asks h = ap (λ (m : ReplicaState). m.learning) h.0
-  heard_learner c (Some learned) l asks h = ap (λ (m : ReplicaState). m.learning) h.leaves
+      → Hears old c learned l asks new said → new.learner ≡ l
+  heard_learner c None l asks h = ap (λ (m : ReplicaState). m.learner) h.0
+  heard_learner c (Some learned) l asks h = ap (λ (m : ReplicaState). m.learner) h.leaves
 
-  hearing_keeps : (i : Input) → Hearing old i new said → KeepsLearnt old.learning new.learning
+  hearing_keeps : (i : Input) → Hearing old i new said → KeepsLearnt old.learner new.learner
   hearing_keeps i (of_vote from to v is (learned, l, heard, k)) =
-      subst (KeepsLearnt old.learning) (sym (heard_learner v.command learned l _ k)) (vote_keeps old.learning l from v learned heard)
+      subst (KeepsLearnt old.learner) (sym (heard_learner v.command learned l _ k)) (vote_keeps old.learner l from v learned heard)
   hearing_keeps i (of_decision from to slot c is (learned, l, heard, k)) =
-      subst (KeepsLearnt old.learning) (sym (heard_learner c learned l _ k)) (decided_keeps old.learning l slot c learned heard)
+      subst (KeepsLearnt old.learner) (sym (heard_learner c learned l _ k)) (decided_keeps old.learner l slot c learned heard)
   hearing_keeps i (of_text h) =
       let target : ℕ = h.part.position in
-      let same : new.learning ≡ skipped old.learning target = restored_learner old new said h.from target h.machine h.whole in
-      kept_as old.learning new.learning (record old.learning { first = target }) (same ∙ skipped_is old.learning target h.ahead) refl
+      let same : new.learner ≡ skipped old.learner target = restored_learner old new said h.from target h.machine h.whole in
+      kept_as old.learner new.learner (record old.learner { first = target }) (same ∙ skipped_is old.learner target h.ahead) refl
       (λ _ _. refl)
-      (subst (λ (l : Learning). prefix old.learning ≤ prefix l) (sym same) (skipped_grows old.learning target))
+      (subst (λ (l : Learning). prefix old.learner ≤ prefix l) (sym same) (skipped_grows old.learner target))
   hearing_keeps i (of_nothing none) =
-      kept_as old.learning new.learning old.learning none.learner refl (λ _ _. refl)
-      (subst (λ (l : Learning). prefix old.learning ≤ prefix l) (sym none.learner) (omega arith))
+      kept_as old.learner new.learner old.learner none.learner refl (λ _ _. refl)
+      (subst (λ (l : Learning). prefix old.learner ≤ prefix l) (sym none.learner) (omega arith))
 
-  pub takes_keeps : (i : Input) → Takes old i new said → KeepsLearnt old.learning new.learning
+  pub takes_keeps : (i : Input) → Takes old i new said → KeepsLearnt old.learner new.learner
   takes_keeps i k = hearing_keeps i (heard_of old new said i k)

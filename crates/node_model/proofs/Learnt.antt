@@ -44,7 +44,7 @@ entry slot c = record { slot = slot; command = c }
 
 module _ (old new : ReplicaState) (said : Response) where
   -- nothing is learnt
-  tells_nothing : new.learning.learnt ≡ old.learning.learnt → said.learnt ≡ None → Tells old new said
+  tells_nothing : new.learner.learnt ≡ old.learner.learnt → said.learnt ≡ None → Tells old new said
   tells_nothing same none = record {
     told = λ slot c there. inl (ap (λ (f : ℕ → Option Command). f slot) (sym same) ∙ there);
     news = λ e says. absurd (let clash : None ≡ Some e = sym none ∙ says in cc);
@@ -52,18 +52,18 @@ module _ (old new : ReplicaState) (said : Response) where
 
   module _ (l : Learning) (c : Command) (asks : List Envelope) where
     -- a slot is newly learnt
-    learns_tells : (slot : ℕ) → old.learning.learnt slot ≡ None → l ≡ with_learnt old.learning slot c
+    learns_tells : (slot : ℕ) → old.learner.learnt slot ≡ None → l ≡ with_learnt old.learner slot c
         → Learns old slot c l asks new said → Tells old new said
     learns_tells slot vacant same k =
-        let learnt : new.learning.learnt ≡ put old.learning.learnt slot (Some c) =
-        ap (λ (m : ReplicaState). m.learning.learnt) k.leaves ∙ ap (λ (x : Learning). x.learnt) same in
+        let learnt : new.learner.learnt ≡ put old.learner.learnt slot (Some c) =
+        ap (λ (m : ReplicaState). m.learner.learnt) k.leaves ∙ ap (λ (x : Learning). x.learnt) same in
         let says : said.learnt ≡ Some (entry slot c) = ap (λ (r : Response). r.learnt) k.says in
-        let there : new.learning.learnt slot ≡ Some c =
-        ap (λ (f : ℕ → Option Command). f slot) learnt ∙ put_same old.learning.learnt slot (Some c) in
+        let there : new.learner.learnt slot ≡ Some c =
+        ap (λ (f : ℕ → Option Command). f slot) learnt ∙ put_same old.learner.learnt slot (Some c) in
         record {
           told = λ s d here. put_cases
               (λ (o : Option Command). o ≡ Some d → (learnt_in old s ≡ Some d) ⊎ (said.learnt ≡ Some (entry s d)))
-              old.learning.learnt slot (Some c) s
+              old.learner.learnt slot (Some c) s
               (λ at e. inr (says ∙ ap (λ (i : ℕ). Some (entry i c)) (sym at)
               ∙ ap (λ (x : Command). Some (entry s x)) (same_Some c d e)))
               (λ other e. inl e)
@@ -72,20 +72,20 @@ module _ (old new : ReplicaState) (said : Response) where
               (same_Some (entry slot c) e (sym says ∙ told)) (there, vacant);
         }
 
-    hears_tells : (o : Option Learned) (slot : ℕ) → o ≡ Some (record { slot = slot }) → old.learning.learnt slot ≡ None
-        → l ≡ with_learnt old.learning slot c → Hears old c o l asks new said → Tells old new said
+    hears_tells : (o : Option Learned) (slot : ℕ) → o ≡ Some (record { slot = slot }) → old.learner.learnt slot ≡ None
+        → l ≡ with_learnt old.learner slot c → Hears old c o l asks new said → Tells old new said
     hears_tells None slot e vacant same k = absurd (cc)
     hears_tells (Some learned) slot e vacant same k =
         let at : learned.slot ≡ slot = ap (λ (x : Learned). x.slot) (same_Some learned (record { slot = slot }) e) in
         learns_tells slot vacant same (subst (λ (s : ℕ). Learns old s c l asks new said) at k)
 
-    hears_nothing : (o : Option Learned) → o ≡ None → l.learnt ≡ old.learning.learnt → Hears old c o l asks new said
+    hears_nothing : (o : Option Learned) → o ≡ None → l.learnt ≡ old.learner.learnt → Hears old c o l asks new said
         → Tells old new said
     hears_nothing None e same k =
-        tells_nothing (ap (λ (m : ReplicaState). m.learning.learnt) k.0 ∙ same) (ap (λ (r : Response). r.learnt) k.1)
+        tells_nothing (ap (λ (m : ReplicaState). m.learner.learnt) k.0 ∙ same) (ap (λ (r : Response). r.learnt) k.1)
     hears_nothing (Some learned) e same k = absurd (cc)
 
-  vote_tells : (from : ℕ) (v : Vote Command) (o : Option Learned) (l : Learning) → HearsVote old.learning from v o l
+  vote_tells : (from : ℕ) (v : Vote Command) (o : Option Learned) (l : Learning) → HearsVote old.learner from v o l
       → Hears old v.command o l [] new said → Tells old new said
   vote_tells from v o l (ignores never none same) k = hears_nothing l v.command [] o none (ap (λ (x : Learning). x.learnt) same) k
   vote_tells from v o l (hears counts undecided none same) k =
@@ -94,7 +94,7 @@ module _ (old new : ReplicaState) (said : Response) where
       hears_tells l v.command [] o v.slot some counts.in_time.unlearnt same k
 
   decided_tells : (slot : ℕ) (c : Command) (asks : List Envelope) (o : Option Learned) (l : Learning)
-      → HearsDecided old.learning slot c o l → Hears old c o l asks new said → Tells old new said
+      → HearsDecided old.learner slot c o l → Hears old c o l asks new said → Tells old new said
   decided_tells slot c asks o l (ignores_decided never none same) k =
       hears_nothing l c asks o none (ap (λ (x : Learning). x.learnt) same) k
   decided_tells slot c asks o l (learns_decided opened some same) k = hears_tells l c asks o slot some opened.unlearnt same k
@@ -106,7 +106,7 @@ module _ (old new : ReplicaState) (said : Response) where
       let target : ℕ = h.part.position in
       tells_nothing
       (ap (λ (l : Learning). l.learnt)
-      (restored_learner old new said h.from target h.machine h.whole ∙ skipped_is old.learning target h.ahead))
+      (restored_learner old new said h.from target h.machine h.whole ∙ skipped_is old.learner target h.ahead))
       (ap (λ (r : Response). r.learnt) h.whole.says)
   hearing_tells i (of_nothing none) = tells_nothing (ap (λ (l : Learning). l.learnt) none.learner) none.learnt
 
@@ -166,20 +166,20 @@ learnt_there learnt slot (suc n) (suc i) c all h =
 pub learnt_behind : (base : List Command) (m : ReplicaState) → IsMeaningOf base m → (slot : ℕ) (c : Command) → length base ≤ slot
     → slice_get (executed_from base m) slot ≡ Some c → learnt_in m slot ≡ Some c
 learnt_behind base m h slot c above there =
-    let first : ℕ = m.learning.first in
+    let first : ℕ = m.learner.first in
     let n : ℕ = position m - first in
     let at : first + (slot - length base) ≡ slot = omega (arith, h.begun, above) in
-    ap m.learning.learnt (sym at)
-    ∙ learnt_there m.learning.learnt first n (slot - length base) c (learnt_below base m h)
-    (sym (get_behind base (commands m.learning.learnt first n) slot above) ∙ there)
+    ap m.learner.learnt (sym at)
+    ∙ learnt_there m.learner.learnt first n (slot - length base) c (learnt_below base m h)
+    (sym (get_behind base (commands m.learner.learnt first n) slot above) ∙ there)
 
 -- one that has just begun has learnt nothing
 pub fresh_has_learnt_nothing : (id nodes : ℕ) (m : ReplicaState) → IsFresh id nodes m → (slot : ℕ) → learnt_in m slot ≡ None
-fresh_has_learnt_nothing id nodes m h slot = ap (λ (l : Learning). l.learnt slot) h.learning
+fresh_has_learnt_nothing id nodes m h slot = ap (λ (l : Learning). l.learnt slot) h.learner
 
 -- so its position is the first slot that it keeps
-pub fresh_begins : (id nodes : ℕ) (m : ReplicaState) → IsFresh id nodes m → position m ≡ m.learning.first
-fresh_begins id nodes m h = ap prefix h.learning ∙ sym (unlearnt_prefix nodes m.learning.first h.first_in_log)
+pub fresh_begins : (id nodes : ℕ) (m : ReplicaState) → IsFresh id nodes m → position m ≡ m.learner.first
+fresh_begins id nodes m h = ap prefix h.learner ∙ sym (unlearnt_prefix nodes m.learner.first h.first_in_log)
 
 -- the floor that records say is a slot of the log, or its end
 checkpoint_in_log : (c : Option Checkpointed) → IfSome c CheckpointFits → floor_of c ≤ SLOTS
@@ -191,9 +191,9 @@ floor_in_log records a says =
     let low = checkpoint_in_log says.checkpointed says.checkpoint_fits in omega (arith, low, says.floor)
 
 -- one that has loaded its records begins at its acceptor's floor
-pub loaded_begins : (records : Records) (id nodes : ℕ) (m : ReplicaState) → IsLoaded records id nodes m → position m ≡ m.accepting.floor
+pub loaded_begins : (records : Records) (id nodes : ℕ) (m : ReplicaState) → IsLoaded records id nodes m → position m ≡ m.acceptor.floor
 loaded_begins records id nodes m h =
-    ap prefix h.learning ∙ sym (unlearnt_prefix nodes m.accepting.floor (floor_in_log records m.accepting h.accepting))
+    ap prefix h.learner ∙ sym (unlearnt_prefix nodes m.acceptor.floor (floor_in_log records m.acceptor h.acceptor))
 
 -- a list with which a node may begin is as long as its acceptor's floor says: the record is that of one checkpoint
 base_is_as_long : (found : Option (List ℕ)) (c : Option Checkpointed) (base : List Command) → found ≡ option_map checkpoint_bytes c
@@ -216,5 +216,5 @@ base_reaches records a base says is = (
 pub loaded_means : (records : Records) (id nodes : ℕ) (m : ReplicaState) (base : List Command) → IsLoaded records id nodes m
     → IsBaseOf records base → IsMeaningOf base m
 loaded_means records id nodes m base h is =
-    let reaches = base_reaches records m.accepting base h.accepting is in
-    meaning_begun base m nodes m.accepting.floor h.learning reaches.0 reaches.1 (h.machine.stands base is)
+    let reaches = base_reaches records m.acceptor base h.acceptor is in
+    meaning_begun base m nodes m.acceptor.floor h.learner reaches.0 reaches.1 (h.machine.stands base is)

@@ -37,10 +37,10 @@ module _ (old new : ReplicaState) (said : Response) where
   hearing_in_log i fits (of_vote from to v is (o, l, news, k)) =
       let message : MessageFits 7 (Accepted v) = subst InputFits is fits in
       heard v.command o l _
-      (λ learned e. subst (λ s. s < SLOTS) (sym (vote_news old.learning l from v o learned news e).at) message.slot) k
+      (λ learned e. subst (λ s. s < SLOTS) (sym (vote_news old.learner l from v o learned news e).at) message.slot) k
   hearing_in_log i fits (of_decision from to slot c is (o, l, news, k)) =
       let message : MessageFits 7 (Decided slot c) = subst InputFits is fits in
-      heard c o l _ (λ learned e. subst (λ s. s < SLOTS) (sym (decided_news old.learning l slot c o learned news e).at) message.0) k
+      heard c o l _ (λ learned e. subst (λ s. s < SLOTS) (sym (decided_news old.learner l slot c o learned news e).at) message.0) k
   hearing_in_log i fits (of_text h) = says_none (ap (λ (x : Response). x.learnt) h.whole.says)
   hearing_in_log i fits (of_nothing none) = says_none none.learnt
 

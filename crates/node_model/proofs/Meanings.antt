@@ -31,18 +31,18 @@ use Rattle.node_model.proofs.Keeping.{KeepsLearnt, vote_keeps, decided_keeps, vo
 -- ---- nothing is learnt
 -- where neither what is learnt nor the machine changes, and there is no reply
 pub goes_on_same : (base : List Command) (old new : ReplicaState) (said : Response) → IsMeaningOf base old
-    → new.learning ≡ old.learning → new.machine ≡ old.machine → said.replies ≡ [] → GoesOnFrom base old new said
-goes_on_same base old new said h learning machine none = record {
+    → new.learner ≡ old.learner → new.machine ≡ old.machine → said.replies ≡ [] → GoesOnFrom base old new said
+goes_on_same base old new said h learner machine none = record {
   meaning = record {
-    begun = h.begun ∙ ap (λ (l : Learning). l.first) (sym learning);
-    in_log = subst (λ (l : Learning). l.first ≤ SLOTS) (sym learning) h.in_log;
-    stands = subst (λ (l : Learning). StandsFor new.machine (base ++ commands l.learnt l.first (prefix l - l.first))) (sym learning)
+    begun = h.begun ∙ ap (λ (l : Learning). l.first) (sym learner);
+    in_log = subst (λ (l : Learning). l.first ≤ SLOTS) (sym learner) h.in_log;
+    stands = subst (λ (l : Learning). StandsFor new.machine (base ++ commands l.learnt l.first (prefix l - l.first))) (sym learner)
         (subst (λ m. StandsFor m (executed_from base old)) (sym machine) h.stands);
   };
-  position_ = subst (λ (l : Learning). prefix old.learning ≤ prefix l) (sym learning) (omega arith);
+  position_ = subst (λ (l : Learning). prefix old.learner ≤ prefix l) (sym learner) (omega arith);
   more = (
     [],
-    ap (λ (l : Learning). base ++ commands l.learnt l.first (prefix l - l.first)) learning ∙ sym (append-nil (executed_from base old)),
+    ap (λ (l : Learning). base ++ commands l.learnt l.first (prefix l - l.first)) learner ∙ sym (append-nil (executed_from base old)),
   );
   replies_ = λ e there. absurd (let none_there : Contains [] e = subst (λ es. Contains es e) none there in search (rules, none_there));
 }
@@ -54,87 +54,87 @@ same_prefix a b learnt first = rw learnt (rw first refl)
 
 -- ---- as many commands as the position
 module _ (base : List Command) (m : ReplicaState) (h : IsMeaningOf base m) where
-  pub meaning_prefix : IsPrefix m.learning.learnt m.learning.first (position m)
-  meaning_prefix = prefix_is m.learning h.in_log
+  pub meaning_prefix : IsPrefix m.learner.learnt m.learner.first (position m)
+  meaning_prefix = prefix_is m.learner h.in_log
 
-  pub learnt_below : (s : ℕ) → m.learning.first ≤ s → s < m.learning.first + (position m - m.learning.first) → IsSome (m.learning.learnt s)
+  pub learnt_below : (s : ℕ) → m.learner.first ≤ s → s < m.learner.first + (position m - m.learner.first) → IsSome (m.learner.learnt s)
   learnt_below s from to = meaning_prefix.learnt_to.below s from (omega (arith, to, meaning_prefix.learnt_to.from))
 
   pub as_many : length (executed_from base m) ≡ position m
   as_many =
-      let there : length (commands m.learning.learnt m.learning.first (position m - m.learning.first)) ≡ position m - m.learning.first =
-      commands_length m.learning.learnt m.learning.first (position m - m.learning.first) learnt_below in
+      let there : length (commands m.learner.learnt m.learner.first (position m - m.learner.first)) ≡ position m - m.learner.first =
+      commands_length m.learner.learnt m.learner.first (position m - m.learner.first) learnt_below in
       let both : length (executed_from base m)
-      ≡ length base + length (commands m.learning.learnt m.learning.first (position m - m.learning.first)) =
+      ≡ length base + length (commands m.learner.learnt m.learner.first (position m - m.learner.first)) =
       length-append base _ in
       omega (arith, there, both, h.begun, meaning_prefix.learnt_to.from)
 
 -- ---- what is learnt by now is what was learnt, and the news
-module _ (base : List Command) (old : ReplicaState) (l : Learning) (h : IsMeaningOf base old) (keeps : KeepsLearnt old.learning l)
-    (first : l.first ≡ old.learning.first) where
+module _ (base : List Command) (old : ReplicaState) (l : Learning) (h : IsMeaningOf base old) (keeps : KeepsLearnt old.learner l)
+    (first : l.first ≡ old.learner.first) where
   abbrev before : ℕ
   before = position old
 
-  is_prefix : IsPrefix old.learning.learnt old.learning.first before
+  is_prefix : IsPrefix old.learner.learnt old.learner.first before
   is_prefix = meaning_prefix base old h
 
   abbrev old_commands : List Command
-  old_commands = commands old.learning.learnt old.learning.first (before - old.learning.first)
+  old_commands = commands old.learner.learnt old.learner.first (before - old.learner.first)
 
   grown : base ++ commands l.learnt l.first (prefix l - l.first) ≡ executed_from base old ++ news old l
   grown =
-      let n : prefix l - old.learning.first ≡ (before - old.learning.first) + (prefix l - before) =
+      let n : prefix l - old.learner.first ≡ (before - old.learner.first) + (prefix l - before) =
       omega (arith, keeps.grows, is_prefix.learnt_to.from) in
-      let at : old.learning.first + (before - old.learning.first) ≡ before = omega (arith, is_prefix.learnt_to.from) in
-      let same : commands l.learnt old.learning.first (before - old.learning.first) ≡ old_commands =
-      commands_same l.learnt old.learning.learnt old.learning.first (before - old.learning.first)
+      let at : old.learner.first + (before - old.learner.first) ≡ before = omega (arith, is_prefix.learnt_to.from) in
+      let same : commands l.learnt old.learner.first (before - old.learner.first) ≡ old_commands =
+      commands_same l.learnt old.learner.learnt old.learner.first (before - old.learner.first)
       (λ s from to. keeps.still s (learnt_below base old h s from to)) in
       let all : commands l.learnt l.first (prefix l - l.first) ≡ old_commands ++ news old l =
       ap (λ (i : ℕ). commands l.learnt i (prefix l - i)) first
-      ∙ ap (λ (k : ℕ). commands l.learnt old.learning.first k) n
-      ∙ commands_append l.learnt old.learning.first (before - old.learning.first) (prefix l - before)
-      ∙ ap (λ (cs : List Command). cs ++ commands l.learnt (old.learning.first + (before - old.learning.first)) (prefix l - before)) same
+      ∙ ap (λ (k : ℕ). commands l.learnt old.learner.first k) n
+      ∙ commands_append l.learnt old.learner.first (before - old.learner.first) (prefix l - before)
+      ∙ ap (λ (cs : List Command). cs ++ commands l.learnt (old.learner.first + (before - old.learner.first)) (prefix l - before)) same
       ∙ ap (λ (i : ℕ). old_commands ++ commands l.learnt i (prefix l - before)) at in
       ap (λ (cs : List Command). base ++ cs) all ∙ sym (append_assoc base old_commands (news old l))
 
   pub goes_on_learning : (slot : ℕ) (c : Command) (asks : List Envelope) (new : ReplicaState) (said : Response)
       → Learns old slot c l asks new said → GoesOnFrom base old new said
   goes_on_learning slot c asks new said k =
-      let learning : new.learning ≡ l = ap (λ (m : ReplicaState). m.learning) k.leaves in
+      let learner : new.learner ≡ l = ap (λ (m : ReplicaState). m.learner) k.leaves in
       let whole : executed_from base new ≡ executed_from base old ++ news old l =
-      ap (λ (x : Learning). base ++ commands x.learnt x.first (prefix x - x.first)) learning ∙ grown in
+      ap (λ (x : Learning). base ++ commands x.learnt x.first (prefix x - x.first)) learner ∙ grown in
       record {
         meaning = record {
-          begun = h.begun ∙ sym first ∙ ap (λ (x : Learning). x.first) (sym learning);
-          in_log = subst (λ (x : Learning). x.first ≤ SLOTS) (sym learning) (subst (λ (n : ℕ). n ≤ SLOTS) (sym first) h.in_log);
+          begun = h.begun ∙ sym first ∙ ap (λ (x : Learning). x.first) (sym learner);
+          in_log = subst (λ (x : Learning). x.first ≤ SLOTS) (sym learner) (subst (λ (n : ℕ). n ≤ SLOTS) (sym first) h.in_log);
           stands = rw whole (k.stands.stands (executed_from base old) h.stands);
         };
-        position_ = subst (λ (x : Learning). before ≤ prefix x) (sym learning) keeps.grows;
+        position_ = subst (λ (x : Learning). before ≤ prefix x) (sym learner) keeps.grows;
         more = (news old l, whole);
         replies_ = λ e there. rw whole (k.replies.replies_ (executed_from base old) h.stands (as_many base old h) e there);
       }
 
   -- nothing is newly learnt, so the position stays
   pub goes_on_hearing : (learned : Option Learned) (c : Command) (asks : List Envelope) (new : ReplicaState) (said : Response)
-      → (learned ≡ None → l.learnt ≡ old.learning.learnt) → Hears old c learned l asks new said → GoesOnFrom base old new said
+      → (learned ≡ None → l.learnt ≡ old.learner.learnt) → Hears old c learned l asks new said → GoesOnFrom base old new said
   goes_on_hearing (Some learned) c asks new said same k = goes_on_learning learned.slot c asks new said k
   goes_on_hearing None c asks new said same k =
-      let learning : new.learning ≡ l = ap (λ (m : ReplicaState). m.learning) k.0 in
+      let learner : new.learner ≡ l = ap (λ (m : ReplicaState). m.learner) k.0 in
       let machine : new.machine ≡ old.machine = ap (λ (m : ReplicaState). m.machine) k.0 in
-      let learnt : l.learnt ≡ old.learning.learnt = same refl in
-      let at : prefix l ≡ prefix old.learning = same_prefix l old.learning learnt first in
+      let learnt : l.learnt ≡ old.learner.learnt = same refl in
+      let at : prefix l ≡ prefix old.learner = same_prefix l old.learner learnt first in
       let whole : executed_from base new ≡ executed_from base old =
-      ap (λ (x : Learning). base ++ commands x.learnt x.first (prefix x - x.first)) learning
+      ap (λ (x : Learning). base ++ commands x.learnt x.first (prefix x - x.first)) learner
       ∙ ap (λ (f : ℕ → Option Command). base ++ commands f l.first (prefix l - l.first)) learnt
-      ∙ ap (λ (i : ℕ). base ++ commands old.learning.learnt i (prefix l - i)) first
-      ∙ ap (λ (p : ℕ). base ++ commands old.learning.learnt old.learning.first (p - old.learning.first)) at in
+      ∙ ap (λ (i : ℕ). base ++ commands old.learner.learnt i (prefix l - i)) first
+      ∙ ap (λ (p : ℕ). base ++ commands old.learner.learnt old.learner.first (p - old.learner.first)) at in
       record {
         meaning = record {
-          begun = h.begun ∙ sym first ∙ ap (λ (x : Learning). x.first) (sym learning);
-          in_log = subst (λ (x : Learning). x.first ≤ SLOTS) (sym learning) (subst (λ (n : ℕ). n ≤ SLOTS) (sym first) h.in_log);
+          begun = h.begun ∙ sym first ∙ ap (λ (x : Learning). x.first) (sym learner);
+          in_log = subst (λ (x : Learning). x.first ≤ SLOTS) (sym learner) (subst (λ (n : ℕ). n ≤ SLOTS) (sym first) h.in_log);
           stands = rw whole (subst (λ m. StandsFor m (executed_from base old)) (sym machine) h.stands);
         };
-        position_ = subst (λ (x : Learning). before ≤ prefix x) (sym learning) keeps.grows;
+        position_ = subst (λ (x : Learning). before ≤ prefix x) (sym learner) keeps.grows;
         more = ([], whole ∙ sym (append-nil (executed_from base old)));
         replies_ = λ e there. absurd (let none : said.replies ≡ [] = ap (λ (r : Response). r.replies) k.1 in
             let none_there : Contains [] e = subst (λ es. Contains es e) none there in search (rules, none_there));
@@ -144,22 +144,22 @@ module _ (base : List Command) (old : ReplicaState) (l : Learning) (h : IsMeanin
 module _ (base : List Command) (old new : ReplicaState) (said : Response) (h : IsMeaningOf base old) where
   vote_goes_on : (from : ℕ) (v : Vote Command) → HearsOfVote old from v new said → GoesOnFrom base old new said
   vote_goes_on from v (learned, l, hears_, k) =
-      goes_on_hearing base old l h (vote_keeps old.learning l from v learned hears_) (vote_first old.learning l from v learned hears_)
+      goes_on_hearing base old l h (vote_keeps old.learner l from v learned hears_) (vote_first old.learner l from v learned hears_)
       learned v.command [] new said (unlearnt_by_vote l learned from v hears_) k
     where
-      unlearnt_by_vote : (l : Learning) (learned : Option Learned) (from : ℕ) (v : Vote Command) → HearsVote old.learning from v learned l
-          → learned ≡ None → l.learnt ≡ old.learning.learnt
+      unlearnt_by_vote : (l : Learning) (learned : Option Learned) (from : ℕ) (v : Vote Command) → HearsVote old.learner from v learned l
+          → learned ≡ None → l.learnt ≡ old.learner.learnt
       unlearnt_by_vote l learned from v (ignores never none same) e = ap (λ (x : Learning). x.learnt) same
       unlearnt_by_vote l learned from v (hears counts undecided none same) e = ap (λ (x : Learning). x.learnt) same
       unlearnt_by_vote l learned from v (learns counts decided some same) e = absurd (cc)
 
   decided_goes_on : (from slot : ℕ) (c : Command) → HearsOfDecided old from slot c new said → GoesOnFrom base old new said
   decided_goes_on from slot c (learned, l, hears_, k) =
-      goes_on_hearing base old l h (decided_keeps old.learning l slot c learned hears_) (decided_first old.learning l slot c learned hears_)
+      goes_on_hearing base old l h (decided_keeps old.learner l slot c learned hears_) (decided_first old.learner l slot c learned hears_)
       learned c _ new said (unlearnt_by_decided l learned slot c hears_) k
     where
-      unlearnt_by_decided : (l : Learning) (learned : Option Learned) (slot : ℕ) (c : Command) → HearsDecided old.learning slot c learned l
-          → learned ≡ None → l.learnt ≡ old.learning.learnt
+      unlearnt_by_decided : (l : Learning) (learned : Option Learned) (slot : ℕ) (c : Command) → HearsDecided old.learner slot c learned l
+          → learned ≡ None → l.learnt ≡ old.learner.learnt
       unlearnt_by_decided l learned slot c (ignores_decided never none same) e = ap (λ (x : Learning). x.learnt) same
       unlearnt_by_decided l learned slot c (learns_decided opened some same) e = absurd (cc)
 
@@ -175,12 +175,12 @@ module _ (base : List Command) (old new : ReplicaState) (said : Response) (h : I
 
 -- ---- a node
 -- one that has just begun with a list, and has learnt nothing
-pub meaning_begun : (base : List Command) (m : ReplicaState) (nodes first : ℕ) → m.learning ≡ unlearnt_from nodes first → length base ≡ first
+pub meaning_begun : (base : List Command) (m : ReplicaState) (nodes first : ℕ) → m.learner ≡ unlearnt_from nodes first → length base ≡ first
     → first ≤ SLOTS → StandsFor m.machine base → IsMeaningOf base m
 meaning_begun base m nodes first e many within h =
-    let none : commands m.learning.learnt m.learning.first (position m - m.learning.first) ≡ [] =
-    ap (λ (l : Learning). commands l.learnt m.learning.first (position m - m.learning.first)) e
-    ∙ commands_none m.learning.first (position m - m.learning.first) in
+    let none : commands m.learner.learnt m.learner.first (position m - m.learner.first) ≡ [] =
+    ap (λ (l : Learning). commands l.learnt m.learner.first (position m - m.learner.first)) e
+    ∙ commands_none m.learner.first (position m - m.learner.first) in
     record {
       begun = many ∙ sym (ap (λ (l : Learning). l.first) e);
       in_log = subst (λ (l : Learning). l.first ≤ SLOTS) (sym e) within;

@@ -54,57 +54,57 @@ proposes_then p round q x h k = record {
 pub record StaysItself (old : ReplicaState) (i : Input) (new : ReplicaState) : Type 0 where
   pub id_ : new.id ≡ old.id
   pub nodes_ : new.nodes ≡ old.nodes
-  pub learner_ : new.learning.nodes ≡ old.learning.nodes
-  pub acceptor_ : new.accepting ≡ accepting_after old i
-  pub proposer_ : GoesOn old.proposing (round_after old i) new.proposing
+  pub learner_ : new.learner.nodes ≡ old.learner.nodes
+  pub acceptor_ : new.acceptor ≡ accepting_after old i
+  pub proposer_ : GoesOn old.proposer (round_after old i) new.proposer
 
 module _ (old new : ReplicaState) (said : Response) (i : Input) where
   -- it comes to such a replica
   comes_to : {in' : act.Input Command} {submits : List Command} (a : Accepting) (round : ℕ) (then : ReplicaState)
       → IsInput old i in' submits a round → new ≡ then → then.id ≡ old.id → then.nodes ≡ old.nodes
-      → then.learning.nodes ≡ old.learning.nodes → then.accepting ≡ a → GoesOn old.proposing round then.proposing → StaysItself old i new
+      → then.learner.nodes ≡ old.learner.nodes → then.acceptor ≡ a → GoesOn old.proposer round then.proposer → StaysItself old i new
   comes_to a round then is e number of_all learner acceptor proposer = subst (λ (m : ReplicaState). StaysItself old i m) (sym e) (record {
     id_ = number;
     nodes_ = of_all;
     learner_ = learner;
     acceptor_ = acceptor ∙ sym is.acceptor_;
-    proposer_ = subst (λ (r : ℕ). GoesOn old.proposing r then.proposing) (sym is.round_) proposer;
+    proposer_ = subst (λ (r : ℕ). GoesOn old.proposer r then.proposer) (sym is.round_) proposer;
   })
 
   proposer_goes_on : (in' : act.Input Command) (submits : List Command) (round : ℕ) (p : Proposing × List Outgoing)
-      → Proposes old in' submits round p → GoesOn old.proposing round p.0
+      → Proposes old in' submits round p → GoesOn old.proposer round p.0
   proposer_goes_on _ _ _ _ (counts from p sender) =
-      let q : Proposing = with_promised old.proposing from p in
-      proposes_then old.proposing old.proposing.round q (after_counting old.proposing q old.learning)
-      (record { id_ = refl; nodes_ = refl; round_ = refl; refused_ = le_refl old.proposing.refused })
-      (counting_keeps old.proposing q old.learning)
+      let q : Proposing = with_promised old.proposer from p in
+      proposes_then old.proposer old.proposer.round q (after_counting old.proposer q old.learner)
+      (record { id_ = refl; nodes_ = refl; round_ = refl; refused_ = le_refl old.proposer.refused })
+      (counting_keeps old.proposer q old.learner)
   proposer_goes_on _ _ _ _ (gives_way from n) =
       record { id_ = refl; nodes_ = refl; round_ = refl; refused_ = omega arith }
   proposer_goes_on _ _ _ _ (is_asked r) =
-      cond_both (waits old r.client r.number) _ _ (λ (x : Proposing × List Outgoing). GoesOn old.proposing old.proposing.round x.0)
-      (λ _. as_it_is old.proposing)
-      (λ _. let p : Proposing = with_request old.proposing r in
-      proposes_then old.proposing old.proposing.round p (proposed p old.learning)
-      (record { id_ = refl; nodes_ = refl; round_ = refl; refused_ = le_refl old.proposing.refused })
-      (proposes_keeps p p.campaign old.learning))
+      cond_both (waits old r.client r.number) _ _ (λ (x : Proposing × List Outgoing). GoesOn old.proposer old.proposer.round x.0)
+      (λ _. as_it_is old.proposer)
+      (λ _. let p : Proposing = with_request old.proposer r in
+      proposes_then old.proposer old.proposer.round p (proposed p old.learner)
+      (record { id_ = refl; nodes_ = refl; round_ = refl; refused_ = le_refl old.proposer.refused })
+      (proposes_keeps p p.campaign old.learner))
   proposer_goes_on _ _ _ _ (campaigns p prepare starts) = record {
     id_ = ap (λ (q : Proposing). q.id) starts.leaves;
     nodes_ = ap (λ (q : Proposing). q.nodes) starts.leaves;
     round_ = ap (λ (q : Proposing). q.round) starts.leaves;
-    refused_ = (let same : p.refused ≡ old.proposing.refused = ap (λ (q : Proposing). q.refused) starts.leaves in omega (arith, same));
+    refused_ = (let same : p.refused ≡ old.proposer.refused = ap (λ (q : Proposing). q.refused) starts.leaves in omega (arith, same));
   }
-  proposer_goes_on _ _ _ _ repeats = as_it_is old.proposing
+  proposer_goes_on _ _ _ _ repeats = as_it_is old.proposer
 
   -- a learner has heard some news
   hears_stays : {in' : act.Input Command} (c : Command) (learned : Option Learned) (l : Learning) (asks : List Envelope)
-      → IsInput old i in' [] old.accepting old.proposing.round → l.nodes ≡ old.learning.nodes → Hears old c learned l asks new said
+      → IsInput old i in' [] old.acceptor old.proposer.round → l.nodes ≡ old.learner.nodes → Hears old c learned l asks new said
       → StaysItself old i new
-  hears_stays c None l asks is same k = comes_to old.accepting old.proposing.round _ is k.0 refl refl same refl (as_it_is old.proposing)
+  hears_stays c None l asks is same k = comes_to old.acceptor old.proposer.round _ is k.0 refl refl same refl (as_it_is old.proposer)
   hears_stays c (Some learned) l asks is same k =
       let p : Proposing = proposer_of old learned.slot (execution old l) in
-      comes_to old.accepting old.proposing.round _ is k.leaves refl refl same refl
-      (proposes_then old.proposing old.proposing.round p (proposed p l)
-      (record { id_ = refl; nodes_ = refl; round_ = refl; refused_ = le_refl old.proposing.refused }) (proposes_keeps p p.campaign l))
+      comes_to old.acceptor old.proposer.round _ is k.leaves refl refl same refl
+      (proposes_then old.proposer old.proposer.round p (proposed p l)
+      (record { id_ = refl; nodes_ = refl; round_ = refl; refused_ = le_refl old.proposer.refused }) (proposes_keeps p p.campaign l))
 
   skipped_nodes : (l : Learning) (target : ℕ) → (skipped l target).nodes ≡ l.nodes
   skipped_nodes l target =
@@ -112,31 +112,31 @@ module _ (old new : ReplicaState) (said : Response) (i : Input) where
 
   -- the machine of a text is restored
   restored_stays : {in' : act.Input Command} (from target : ℕ) (machine : MachineState)
-      → IsInput old i in' [] old.accepting old.proposing.round → Restores old from target machine new said → StaysItself old i new
+      → IsInput old i in' [] old.acceptor old.proposer.round → Restores old from target machine new said → StaysItself old i new
   restored_stays from target machine is k =
-      let p : Proposing = (executed_to_the_end k.m target).proposing in
-      let begun : GoesOn old.proposing old.proposing.round k.m.proposing =
-      subst (λ (n : ReplicaState). GoesOn old.proposing old.proposing.round n.proposing) (sym k.begins)
-      (record { id_ = refl; nodes_ = refl; round_ = refl; refused_ = le_refl old.proposing.refused }) in
-      comes_to old.accepting old.proposing.round _ is k.leaves (ap (λ (m : ReplicaState). m.id) k.begins)
+      let p : Proposing = (executed_to_the_end k.m target).proposer in
+      let begun : GoesOn old.proposer old.proposer.round k.m.proposer =
+      subst (λ (n : ReplicaState). GoesOn old.proposer old.proposer.round n.proposer) (sym k.begins)
+      (record { id_ = refl; nodes_ = refl; round_ = refl; refused_ = le_refl old.proposer.refused }) in
+      comes_to old.acceptor old.proposer.round _ is k.leaves (ap (λ (m : ReplicaState). m.id) k.begins)
       (ap (λ (m : ReplicaState). m.nodes) k.begins)
-      (ap (λ (m : ReplicaState). m.learning.nodes) k.begins ∙ skipped_nodes old.learning target)
-      (ap (λ (m : ReplicaState). m.accepting) k.begins)
-      (proposes_then old.proposing old.proposing.round p (proposed p k.m.learning)
+      (ap (λ (m : ReplicaState). m.learner.nodes) k.begins ∙ skipped_nodes old.learner target)
+      (ap (λ (m : ReplicaState). m.acceptor) k.begins)
+      (proposes_then old.proposer old.proposer.round p (proposed p k.m.learner)
       (record { id_ = begun.id_; nodes_ = begun.nodes_; round_ = begun.round_; refused_ = begun.refused_ })
-      (proposes_keeps p p.campaign k.m.learning))
+      (proposes_keeps p p.campaign k.m.learner))
 
   says_stays : Says old i new said → StaysItself old i new
-  says_stays (tells in' f sends is fetched plain leaves says) = comes_to _ _ _ is leaves refl refl refl refl (as_it_is old.proposing)
-  says_stays (reports in' to slot c is there learnt leaves says) = comes_to _ _ old is leaves refl refl refl refl (as_it_is old.proposing)
-  says_stays (answers in' to a answer is there h leaves says) = comes_to a _ _ is leaves refl refl refl refl (as_it_is old.proposing)
-  says_stays (writes a is h leaves says) = comes_to a _ _ is leaves refl refl refl refl (as_it_is old.proposing)
+  says_stays (tells in' f sends is fetched plain leaves says) = comes_to _ _ _ is leaves refl refl refl refl (as_it_is old.proposer)
+  says_stays (reports in' to slot c is there learnt leaves says) = comes_to _ _ old is leaves refl refl refl refl (as_it_is old.proposer)
+  says_stays (answers in' to a answer is there h leaves says) = comes_to a _ _ is leaves refl refl refl refl (as_it_is old.proposer)
+  says_stays (writes a is h leaves says) = comes_to a _ _ is leaves refl refl refl refl (as_it_is old.proposer)
   says_stays (proposes in' submits round p asks is h plain leaves says) =
       comes_to _ round _ is leaves refl refl refl refl (proposer_goes_on in' submits round p h)
   says_stays (hears_vote from to v comes is (learned, l, heard, k)) =
-      hears_stays v.command learned l [] is (vote_keeps old.learning l from v learned heard).nodes_ k
+      hears_stays v.command learned l [] is (vote_keeps old.learner l from v learned heard).nodes_ k
   says_stays (hears_decided from to slot c comes is sender (learned, l, heard, k)) =
-      hears_stays c learned l _ is (decided_keeps old.learning l slot c learned heard).nodes_ k
+      hears_stays c learned l _ is (decided_keeps old.learner l slot c learned heard).nodes_ k
   says_stays (makes_text in' is h) = restored_stays h.from h.fetched.target h.machine is h.restored
 
 -- whatever it takes
@@ -150,8 +150,8 @@ takes_own id nodes old is i new said k =
     record {
       number = h.id_ ∙ is.number;
       of_all = h.nodes_ ∙ is.of_all;
-      learning = h.learner_ ∙ is.learning;
-      proposing = (h.proposer_.id_ ∙ is.proposing.0, h.proposer_.nodes_ ∙ is.proposing.1);
+      learner = h.learner_ ∙ is.learner;
+      proposer = (h.proposer_.id_ ∙ is.proposer.0, h.proposer_.nodes_ ∙ is.proposer.1);
     }
 
 -- ---- a step of it

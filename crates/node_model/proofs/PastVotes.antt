@@ -28,12 +28,12 @@ counts_no_more : (l : Learning) (p from : ℕ) (v : Vote Command) → IsPrefix l
 counts_no_more l p from v is below counts =
     none_is_not_some (l.learnt v.slot) counts.in_time.unlearnt (is.learnt_to.below v.slot counts.in_time.kept below)
 
-module _ (m : ReplicaState) (counted : IsPrefix m.learning.learnt m.learning.first (position m)) where
+module _ (m : ReplicaState) (counted : IsPrefix m.learner.learnt m.learner.first (position m)) where
   message_passes : (from : ℕ) (message : Message) → is_stale_vote m message ≡ true → TakesMessage m from message m silence
   message_passes from (Accepted v) past = (
     None,
-    m.learning,
-    ignores (counts_no_more m.learning (position m) from v counted (ltb-true v.slot (position m) past)) refl refl,
+    m.learner,
+    ignores (counts_no_more m.learner (position m) from v counted (ltb-true v.slot (position m) past)) refl refl,
     (refl, refl),
   )
   message_passes from other past = absurd (cc)
@@ -55,7 +55,7 @@ module _ (m : ReplicaState) (counted : IsPrefix m.learning.learnt m.learning.fir
 
 -- a node that is up steps so, and is as it was
 pub steps_past : {S : Type 0} (storages : Ghosts S) (reads_none : (a : S) → storages.reads a a) (n : NodeState S) (m : ReplicaState) (e : Envelope)
-    → n.up ≡ Some m → IsPrefix m.learning.learnt m.learning.first (position m) → is_stale_vote m e.message ≡ true
+    → n.up ≡ Some m → IsPrefix m.learner.learnt m.learner.first (position m) → is_stale_vote m e.message ≡ true
     → NodeSteps storages n (input.Message e) (Ok silence) n
 steps_past storages reads_none n m e up counted past = record {
   down = λ down. absurd (let bad : Some m ≡ None = sym up ∙ down in cc);
@@ -75,7 +75,7 @@ steps_past storages reads_none n m e up counted past = record {
 }
 
 pub stays_past : {S : Type 0} (n : NodeState S) (m : ReplicaState) (e : Envelope)
-    → n.up ≡ Some m → IsPrefix m.learning.learnt m.learning.first (position m) → is_stale_vote m e.message ≡ true
+    → n.up ≡ Some m → IsPrefix m.learner.learnt m.learner.first (position m) → is_stale_vote m e.message ≡ true
     → StaysMeaning n (input.Message e) (Ok silence) n
 stays_past n m e up counted past = record {
   goes_on = λ base. meaning_stays base (input.Message e) n.up n.up m m (Ok silence) (n.up ≡ Some m) up up (λ still. still)

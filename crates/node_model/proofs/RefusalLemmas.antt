@@ -28,7 +28,7 @@ tested b g o up rest = cond_both b (Some g) o GoesOn (λ _. goes_on_with g up) (
 
 submit_goes_on : (m : ReplicaState) (r : Asked) → GoesOn (refuses_submit m r)
 submit_goes_on m r =
-    let full = nat_le MOST_WAITING (length m.proposing.waiting) in
+    let full = nat_le MOST_WAITING (length m.proposer.waiting) in
     let queue : Option NodeFault = if full then Some fault.QueueFull else None in
     let waiting : Option NodeFault = if waits m r.client r.number then None else queue in
     tested (is_full m) fault.LogFull (if not (is_short r.op) then Some fault.TooLong else waiting) refl
@@ -38,12 +38,12 @@ submit_goes_on m r =
 
 timeout_goes_on : (m : ReplicaState) → GoesOn (refuses_timeout m)
 timeout_goes_on m =
-    let used = nat_le (2 ^ 64) (next_round m.proposing) in
+    let used = nat_le (2 ^ 64) (next_round m.proposer) in
     tested (is_full m) fault.LogFull (if used then Some fault.RoundsUsedUp else None) refl
     (tested used fault.RoundsUsedUp None refl goes_on_without)
 
 checkpoint_goes_on : (m : ReplicaState) → GoesOn (refuses_checkpoint m)
-checkpoint_goes_on m = tested (nat_le (position m) m.accepting.floor) fault.NothingNew None refl goes_on_without
+checkpoint_goes_on m = tested (nat_le (position m) m.acceptor.floor) fault.NothingNew None refl goes_on_without
 
 pub refusal_goes_on : (m : ReplicaState) (i : Input) (f : NodeFault) → refuses m i ≡ Some f → is_stop_fault f ≡ false
 refusal_goes_on m (input.Submit client number op) = submit_goes_on m (asked client number op)

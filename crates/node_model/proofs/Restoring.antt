@@ -33,21 +33,21 @@ module _ (base : List Command) (old new : ReplicaState) (said : Response) where
   pub restores_meaning : (from target : ℕ) (machine : MachineState) → position old < target → length base ≡ target
       → StandsFor machine base → Restores old from target machine new said → RestoresFrom base old new said
   restores_meaning from target machine ahead many stands k =
-      let l : Learning = skipped old.learning target in
-      let learning : new.learning ≡ l = restored_learner old new said from target machine k in
-      let there : k.m.learning ≡ l = ap (λ (m : ReplicaState). m.learning) k.begins in
-      let first : l.first ≡ target = skipped_first old.learning target ahead in
+      let l : Learning = skipped old.learner target in
+      let learner : new.learner ≡ l = restored_learner old new said from target machine k in
+      let there : k.m.learner ≡ l = ap (λ (m : ReplicaState). m.learner) k.begins in
+      let first : l.first ≡ target = skipped_first old.learner target ahead in
       let whole : executed_from base new ≡ base ++ learnt_from k.m target =
-      ap (λ (x : Learning). base ++ commands x.learnt x.first (prefix x - x.first)) learning
+      ap (λ (x : Learning). base ++ commands x.learnt x.first (prefix x - x.first)) learner
       ∙ ap (λ (n : ℕ). base ++ commands l.learnt n (prefix l - n)) first
       ∙ ap (λ (x : Learning). base ++ commands x.learnt target (prefix x - target)) (sym there) in
       record {
         meaning = record {
-          begun = many ∙ sym first ∙ ap (λ (x : Learning). x.first) (sym learning);
-          in_log = subst (λ (n : ℕ). n ≤ SLOTS) (sym first ∙ ap (λ (x : Learning). x.first) (sym learning)) k.in_log;
+          begun = many ∙ sym first ∙ ap (λ (x : Learning). x.first) (sym learner);
+          in_log = subst (λ (n : ℕ). n ≤ SLOTS) (sym first ∙ ap (λ (x : Learning). x.first) (sym learner)) k.in_log;
           stands = rw whole (k.stands.stands base stands);
         };
-        position_ = subst (λ (x : Learning). prefix old.learning ≤ prefix x) (sym learning) (skipped_grows old.learning target);
+        position_ = subst (λ (x : Learning). prefix old.learner ≤ prefix x) (sym learner) (skipped_grows old.learner target);
         replies_ = λ e there. rw whole (k.replies.replies_ base stands many e there);
       }
 

@@ -64,7 +64,7 @@ pub data PlainSends (old : ReplicaState) : List Envelope → Type 0 where
   to_nobody : PlainSends old []
   to_node : (to : ℕ) (m : Message) → to < old.nodes → IsPlain m → PlainSends old (to_one old.id to m)
   to_the_rest : (m : Message) → IsPlain m → PlainSends old (to_others old.id old.nodes m)
-  brings_part : (to : ℕ) (p : Piece) → to < old.nodes → IsPartOf old.accepting p → PlainSends old (to_one old.id to (SnapPart p))
+  brings_part : (to : ℕ) (p : Piece) → to < old.nodes → IsPartOf old.acceptor p → PlainSends old (to_one old.id to (SnapPart p))
 
 -- ---- what each role makes of it
 -- what the node fetches then, where it doesn't restore
@@ -78,26 +78,26 @@ pub data FetchesNext (old : ReplicaState) (i : Input) : Option Fetching → Type
 
 -- what its acceptor holds then, and answers
 pub data Answers (old : ReplicaState) (from : ℕ) : act.Input Command → Accepting → Answer → Type 0 where
-  to_prepare : (ballot : Ballot) (first : ℕ) (a : Answer) → AnswersPrepare old.accepting ballot first a
-      → Answers old from (act.Came from (message_of (Prepare ballot first))) (after_prepare old.accepting ballot first) a
+  to_prepare : (ballot : Ballot) (first : ℕ) (a : Answer) → AnswersPrepare old.acceptor ballot first a
+      → Answers old from (act.Came from (message_of (Prepare ballot first))) (after_prepare old.acceptor ballot first) a
   to_accept : (v : Vote Command)
-      → Answers old from (act.Came from (message_of (Accept v))) (after_accept old.accepting v) (accept_answer old.accepting v)
+      → Answers old from (act.Came from (message_of (Accept v))) (after_accept old.acceptor v) (accept_answer old.acceptor v)
 
 -- what its acceptor holds that writes on the node's own account
 pub data WritesAlone (old : ReplicaState) : Accepting → Type 0 where
-  checkpoint : WritesAlone old (after_checkpoint old.accepting (position old) (snapshot_bytes old.machine))
-  trim : WritesAlone old (after_trim old.accepting)
+  checkpoint : WritesAlone old (after_checkpoint old.acceptor (position old) (snapshot_bytes old.machine))
+  trim : WritesAlone old (after_trim old.acceptor)
 
 -- what its proposer comes to, and sends; by now it has begun this round, and was submitted these commands
 pub data Proposes (old : ReplicaState) : act.Input Command → List Command → ℕ → Proposing × List Outgoing → Type 0 where
   counts : (from : ℕ) (p : Promised) → from < old.nodes
-      → Proposes old (act.Came from (message_of (Promise p))) [] old.proposing.round (after_promise old from p)
+      → Proposes old (act.Came from (message_of (Promise p))) [] old.proposer.round (after_promise old from p)
   gives_way : (from : ℕ) (n : Refused)
-      → Proposes old (act.Came from (message_of (Nack n))) [] old.proposing.round (after_nack old.proposing n, [])
-  is_asked : (r : Asked) → Proposes old act.Nothing (Request r ∷ []) old.proposing.round (after_submit old r)
-  campaigns : (p : Proposing) (prepare : Outgoing) → StartsCampaign old.proposing (position old) p prepare
-      → Proposes old act.Nothing [] (next_round old.proposing) (p, prepare ∷ [])
-  repeats : Proposes old act.Nothing [] old.proposing.round (old.proposing, sends_again old.proposing.campaign)
+      → Proposes old (act.Came from (message_of (Nack n))) [] old.proposer.round (after_nack old.proposer n, [])
+  is_asked : (r : Asked) → Proposes old act.Nothing (Request r ∷ []) old.proposer.round (after_submit old r)
+  campaigns : (p : Proposing) (prepare : Outgoing) → StartsCampaign old.proposer (position old) p prepare
+      → Proposes old act.Nothing [] (next_round old.proposer) (p, prepare ∷ [])
+  repeats : Proposes old act.Nothing [] old.proposer.round (old.proposer, sends_again old.proposer.campaign)
 
 -- the last part that was missing has come, and the text is this machine's
 pub record MakesText (old : ReplicaState) (i : Input) (new : ReplicaState) (said : Response) : Type 0 where
@@ -117,32 +117,32 @@ pub record MakesText (old : ReplicaState) (i : Input) (new : ReplicaState) (said
 pub data Says (old : ReplicaState) (i : Input) (new : ReplicaState) (said : Response) : Type 0 where
   -- it asks, or answers a question, and nothing changes but what it fetches
   tells : (in' : act.Input Command) (f : Option Fetching) (sends : List Envelope)
-      → IsInput old i in' [] old.accepting old.proposing.round → FetchesNext old i f → PlainSends old sends
+      → IsInput old i in' [] old.acceptor old.proposer.round → FetchesNext old i f → PlainSends old sends
       → new ≡ record old { fetching = f } → said ≡ sent sends → Says old i new said
   -- what is learnt at a slot is reported to one that asked
-  reports : (in' : act.Input Command) (to slot : ℕ) (c : Command) → IsInput old i in' [] old.accepting old.proposing.round
-      → to < old.nodes → learnt_at old.learning slot ≡ Some c
+  reports : (in' : act.Input Command) (to slot : ℕ) (c : Command) → IsInput old i in' [] old.acceptor old.proposer.round
+      → to < old.nodes → learnt_at old.learner slot ≡ Some c
       → new ≡ old → said ≡ sent (to_one old.id to (Decided slot c)) → Says old i new said
   -- its acceptor answers
-  answers : (in' : act.Input Command) (to : ℕ) (a : Accepting) (answer : Answer) → IsInput old i in' [] a old.proposing.round
+  answers : (in' : act.Input Command) (to : ℕ) (a : Accepting) (answer : Answer) → IsInput old i in' [] a old.proposer.round
       → to < old.nodes → Answers old to in' a answer
-      → new ≡ record old { accepting = a } → said ≡ sent (answer_sends old.id old.nodes to answer) → Says old i new said
+      → new ≡ record old { acceptor = a } → said ≡ sent (answer_sends old.id old.nodes to answer) → Says old i new said
   -- its acceptor writes, and nothing is said
-  writes : (a : Accepting) → IsInput old i act.Nothing [] a old.proposing.round → WritesAlone old a
-      → new ≡ record old { accepting = a } → said ≡ silence → Says old i new said
+  writes : (a : Accepting) → IsInput old i act.Nothing [] a old.proposer.round → WritesAlone old a
+      → new ≡ record old { acceptor = a } → said ≡ silence → Says old i new said
   -- its proposer goes on, and questions may follow
   proposes : (in' : act.Input Command) (submits : List Command) (round : ℕ) (p : Proposing × List Outgoing) (asks : List Envelope)
-      → IsInput old i in' submits old.accepting round → Proposes old in' submits round p → PlainSends old asks
+      → IsInput old i in' submits old.acceptor round → Proposes old in' submits round p → PlainSends old asks
       → new ≡ with_proposer old p → said ≡ sent (proposer_sends old p ++ asks) → Says old i new said
   -- its learner hears of a vote, or of what is decided at a slot
   hears_vote : (from to : ℕ) (v : Vote Command) → i ≡ input.Message (record { from = from; to = to; message = Accepted v })
-      → IsInput old i (act.Came from (message_of (Accepted v))) [] old.accepting old.proposing.round
+      → IsInput old i (act.Came from (message_of (Accepted v))) [] old.acceptor old.proposer.round
       → HearsOfVote old from v new said → Says old i new said
   hears_decided : (from to slot : ℕ) (c : Command) → i ≡ input.Message (record { from = from; to = to; message = Decided slot c })
-      → IsInput old i (act.Came from (message_of (Decided slot c))) [] old.accepting old.proposing.round → from < old.nodes
+      → IsInput old i (act.Came from (message_of (Decided slot c))) [] old.acceptor old.proposer.round → from < old.nodes
       → HearsOfDecided old from slot c new said → Says old i new said
   -- it restores a text
-  makes_text : (in' : act.Input Command) → IsInput old i in' [] old.accepting old.proposing.round → MakesText old i new said
+  makes_text : (in' : act.Input Command) → IsInput old i in' [] old.acceptor old.proposer.round → MakesText old i new said
       → Says old i new said
 
 -- ---- who asks and who is told
@@ -171,18 +171,18 @@ module _ (old : ReplicaState) where
   asks_others slot (Some f) = to_the_rest (SnapAsk f.target (next_part f)) (part_ask_is_plain f.target (next_part f))
 
   -- a node that asks for a part has it, or is told where the floor is
-  gives_part : (to target number : ℕ) → to < old.nodes → old.accepting.floor ≡ target
-      → PlainSends old (part_sends old.id to (piece_of target old.accepting.text number))
+  gives_part : (to target number : ℕ) → to < old.nodes → old.acceptor.floor ≡ target
+      → PlainSends old (part_sends old.id to (piece_of target old.acceptor.text number))
   gives_part to target number there at =
-      cond_both (has_part old.accepting.text number) (Some (piece target old.accepting.text number)) None
+      cond_both (has_part old.acceptor.text number) (Some (piece target old.acceptor.text number)) None
       (λ (o : Option Piece). PlainSends old (part_sends old.id to o))
-      (λ has. brings_part to (piece target old.accepting.text number) there (record { at = at; has = has; is = refl }))
+      (λ has. brings_part to (piece target old.acceptor.text number) there (record { at = at; has = has; is = refl }))
       (λ _. to_nobody)
 
-  answers_part : (to target number : ℕ) → to < old.nodes → PlainSends old (snapshot_sends old.accepting old.id to target number)
+  answers_part : (to target number : ℕ) → to < old.nodes → PlainSends old (snapshot_sends old.acceptor old.id to target number)
   answers_part to target number there =
-      let floor : ℕ = old.accepting.floor in
-      cond_both (floor == target) (part_sends old.id to (piece_of target old.accepting.text number))
+      let floor : ℕ = old.acceptor.floor in
+      cond_both (floor == target) (part_sends old.id to (piece_of target old.acceptor.text number))
       (if nat_lt target floor then to_one old.id to (Behind floor) else []) (PlainSends old)
       (λ e. gives_part to target number there (eqb-true floor target e))
       (λ _. one_if (nat_lt target floor) to (Behind floor) there (floor_is_plain floor))
@@ -209,7 +209,7 @@ module _ (old new : ReplicaState) (said : Response) where
     Concerns m = is_for_this_run old.id old.nodes (came m) ≡ true
 
     as_message : (m : Message) → Concerns m
-        → IsInput old (input.Message (came m)) (act.Came from (message_of m)) [] (accepting_on old m) old.proposing.round
+        → IsInput old (input.Message (came m)) (act.Came from (message_of m)) [] (accepting_on old m) old.proposer.round
     as_message m is = record {
       input_ = ap (coming (came m)) is;
       submits_ = refl;
@@ -217,10 +217,10 @@ module _ (old new : ReplicaState) (said : Response) where
       round_ = refl;
     }
 
-    slot_says : (slot : ℕ) (o : Option Command) → Concerns (Ask slot) → learnt_at old.learning slot ≡ o → new ≡ old
-        → said ≡ sent (decided_sends old.id from slot old.accepting.floor o) → Says old (input.Message (came (Ask slot))) new said
+    slot_says : (slot : ℕ) (o : Option Command) → Concerns (Ask slot) → learnt_at old.learner slot ≡ o → new ≡ old
+        → said ≡ sent (decided_sends old.id from slot old.acceptor.floor o) → Says old (input.Message (came (Ask slot))) new said
     slot_says slot None is at leaves says =
-        let floor : ℕ = old.accepting.floor in
+        let floor : ℕ = old.acceptor.floor in
         tells _ old.fetching _ (as_message (Ask slot) is) as_before (one_if old (nat_lt slot floor) from (Behind floor) there (floor_is_plain old floor))
         leaves says
     slot_says slot (Some c) is at leaves says = reports _ from slot c (as_message (Ask slot) is) there at leaves says
@@ -263,11 +263,11 @@ module _ (old new : ReplicaState) (said : Response) where
         proposes _ [] _ (after_promise old from p) [] (as_message (Promise p) is) (counts from p there) to_nobody leaves
         (none_last (after_promise old from p) says)
     message_says (Nack n) is (leaves, says) =
-        proposes _ [] _ (after_nack old.proposing n, []) [] (as_message (Nack n) is) (gives_way from n) to_nobody leaves says
+        proposes _ [] _ (after_nack old.proposer n, []) [] (as_message (Nack n) is) (gives_way from n) to_nobody leaves says
     message_says (Accept v) is (leaves, says) =
         answers _ from _ _ (as_message (Accept v) is) there (to_accept v) leaves says
     message_says (Accepted v) is k = hears_vote from to v refl (as_message (Accepted v) is) k
-    message_says (Ask slot) is (leaves, says) = slot_says slot (learnt_at old.learning slot) is refl leaves says
+    message_says (Ask slot) is (leaves, says) = slot_says slot (learnt_at old.learner slot) is refl leaves says
     message_says (Decided slot c) is k = hears_decided from to slot c refl (as_message (Decided slot c) is) there k
     message_says (SnapAsk target number) is (leaves, says) =
         tells _ old.fetching _ (as_message (SnapAsk target number) is) as_before (answers_part old from target number there) leaves says
@@ -295,11 +295,11 @@ module _ (old new : ReplicaState) (said : Response) where
       (none_last (after_submit old r) says)
   says_of (input.Message e) k = envelope_says e (is_for_this_run old.id old.nodes e) refl k
   says_of input.Timeout (prepare, starts, leaves, says) =
-      proposes act.Nothing [] _ (new.proposing, prepare ∷ []) [] (own_input input.Timeout _ refl refl refl)
-      (campaigns new.proposing prepare starts) to_nobody leaves
-      (none_last (new.proposing, prepare ∷ []) (says ∙ ap sent (sym (append-nil (envelopes_of old.id old.nodes prepare)))))
+      proposes act.Nothing [] _ (new.proposer, prepare ∷ []) [] (own_input input.Timeout _ refl refl refl)
+      (campaigns new.proposer prepare starts) to_nobody leaves
+      (none_last (new.proposer, prepare ∷ []) (says ∙ ap sent (sym (append-nil (envelopes_of old.id old.nodes prepare)))))
   says_of input.Tick (leaves, says) =
-      proposes act.Nothing [] _ (old.proposing, sends_again old.proposing.campaign) (asks_again old)
+      proposes act.Nothing [] _ (old.proposer, sends_again old.proposer.campaign) (asks_again old)
       (own_input input.Tick _ refl refl refl) repeats (asks_others old (position old) old.fetching) leaves says
   says_of input.Checkpoint (leaves, says) = writes _ (own_input input.Checkpoint _ refl refl refl) checkpoint leaves says
   says_of input.Trim (leaves, says) = writes _ (own_input input.Trim _ refl refl refl) trim leaves says

@@ -40,12 +40,12 @@ pub record AddsReplies (m : MachineState) (slot : ℕ) (cs : List Command) (old 
 -- ---- a node
 -- the commands of which it is the meaning: those with which it began, and those that it has learnt from its first slot on
 abbrev pub executed_from : List Command → ReplicaState → List Command
-executed_from base m = base ++ commands m.learning.learnt m.learning.first (position m - m.learning.first)
+executed_from base m = base ++ commands m.learner.learnt m.learner.first (position m - m.learner.first)
 
 -- the node is their meaning; they are as many as its position, as the law `meanings_are_as_long_as_positions` says
 pub record IsMeaningOf (base : List Command) (m : ReplicaState) : Type 0 where
-  pub begun : length base ≡ m.learning.first
-  pub in_log : m.learning.first ≤ SLOTS
+  pub begun : length base ≡ m.learner.first
+  pub in_log : m.learner.first ≤ SLOTS
   pub stands : StandsFor m.machine (executed_from base m)
 
 -- a node that is the meaning of a list and of what it has learnt is so after an input that it took, its position hasn't fallen,

@@ -21,14 +21,14 @@ use Rattle.node_model.specs.declared.fault.NodeFault.TheVariants as fault
 pub record IsReplicaOf (id nodes : ℕ) (m : ReplicaState) : Type 0 where
   pub number : m.id ≡ id
   pub of_all : m.nodes ≡ nodes
-  pub learning : m.learning.nodes ≡ nodes
-  pub proposing : (m.proposing.id ≡ id) × (m.proposing.nodes ≡ nodes)
+  pub learner : m.learner.nodes ≡ nodes
+  pub proposer : (m.proposer.id ≡ id) × (m.proposer.nodes ≡ nodes)
 
 -- nothing is learnt, nothing waits, no campaign is on its way, and nothing is fetched
 pub record IsFresh (id nodes : ℕ) (m : ReplicaState) : Type 0 where
-  pub learning : m.learning ≡ unlearnt_from nodes m.learning.first
-  pub first_in_log : m.learning.first ≤ SLOTS
-  pub proposing : m.proposing ≡ loaded id nodes m.proposing.round
+  pub learner : m.learner ≡ unlearnt_from nodes m.learner.first
+  pub first_in_log : m.learner.first ≤ SLOTS
+  pub proposer : m.proposer ≡ loaded id nodes m.proposer.round
   pub fetching : m.fetching ≡ None
 
 -- a proposer that has just loaded the record of its round, if there is one
@@ -40,9 +40,9 @@ LoadsRound (Some bytes) id nodes p = IsRoundRecord bytes p.round × (p ≡ loade
 pub record IsLoaded (records : Records) (id nodes : ℕ) (m : ReplicaState) : Type 0 where
   pub number : m.id ≡ id
   pub of_all : m.nodes ≡ nodes
-  pub accepting : RecordsSay records m.accepting
-  pub learning : m.learning ≡ unlearnt_from nodes m.accepting.floor
-  pub proposing : LoadsRound (records key.Round) id nodes m.proposing
+  pub acceptor : RecordsSay records m.acceptor
+  pub learner : m.learner ≡ unlearnt_from nodes m.acceptor.floor
+  pub proposer : LoadsRound (records key.Round) id nodes m.proposer
   pub machine : MachineBeginsWith records m.machine
   pub fetching : m.fetching ≡ None
 

@@ -56,11 +56,11 @@ learnings id (Some e) = record { node = id; slot = e.slot; command = e.command }
 -- the protocol's records and replica say what each role of the node holds, and how far the node has executed; its acceptor's floor
 -- is no further
 pub record ReplicaStands (m : ReplicaState) (x : Local Command) : Type 0 where
-  pub records : RecordsStand m.accepting m.proposing.round x.records
-  pub learner : LearnerStands m.learning x.replica
-  pub proposer : ProposerStands m.proposing x
+  pub records : RecordsStand m.acceptor m.proposer.round x.records
+  pub learner : LearnerStands m.learner x.replica
+  pub proposer : ProposerStands m.proposer x
   pub position_ : x.replica.position ≡ position m
-  pub level : m.accepting.floor ≤ position m
+  pub level : m.acceptor.floor ≤ position m
 
 -- ---- what a node does
 -- from x node `id` may come to what stands for the new replica, by acts that are allowed on this input, and submit these commands
@@ -86,24 +86,24 @@ InputFits other = ⊤
 
 -- what the acceptor holds once the write of a message, and of an input, is made
 abbrev pub accepting_on : ReplicaState → Message → Accepting
-accepting_on m (Prepare ballot first) = after_prepare m.accepting ballot first
-accepting_on m (Accept v) = after_accept m.accepting v
-accepting_on m other = m.accepting
+accepting_on m (Prepare ballot first) = after_prepare m.acceptor ballot first
+accepting_on m (Accept v) = after_accept m.acceptor v
+accepting_on m other = m.acceptor
 
 abbrev pub accepting_if : ReplicaState → Envelope → Bool → Accepting
-accepting_if m e false = m.accepting
+accepting_if m e false = m.acceptor
 accepting_if m e true = accepting_on m e.message
 
 abbrev pub accepting_after : ReplicaState → Input → Accepting
 accepting_after m (input.Message e) = accepting_if m e (is_for_this_run m.id m.nodes e)
-accepting_after m input.Checkpoint = after_checkpoint m.accepting (position m) (snapshot_bytes m.machine)
-accepting_after m input.Trim = after_trim m.accepting
-accepting_after m other = m.accepting
+accepting_after m input.Checkpoint = after_checkpoint m.acceptor (position m) (snapshot_bytes m.machine)
+accepting_after m input.Trim = after_trim m.acceptor
+accepting_after m other = m.acceptor
 
 -- the round that the proposer has begun last, once the write of an input is made
 abbrev pub round_after : ReplicaState → Input → ℕ
-round_after m input.Timeout = next_round m.proposing
-round_after m other = m.proposing.round
+round_after m input.Timeout = next_round m.proposer
+round_after m other = m.proposer.round
 
 -- what the record of a round says: without one it is 0
 abbrev pub SaysRound : Option (List ℕ) → ℕ → Type 0
@@ -119,14 +119,14 @@ pub record RecordsHold (records : Records) (a : Accepting) (round : ℕ) : Type 
 
 -- a node's records say what the protocol's do
 pub record RecordsAgree (records : Records) (r : synod_records.NodeRecords Command) : Type 0 where
-  pub accepting : Accepting
+  pub acceptor : Accepting
   pub round : ℕ
-  pub holds : RecordsHold records accepting round
-  pub stands : RecordsStand accepting round r
+  pub holds : RecordsHold records acceptor round
+  pub stands : RecordsStand acceptor round r
 
 -- a node that is up holds what its records say
 abbrev pub HoldsRecords : ReplicaState → Records → Type 0
-HoldsRecords m records = RecordsHold records m.accepting m.proposing.round
+HoldsRecords m records = RecordsHold records m.acceptor m.proposer.round
 
 -- from x node `id` may go down: its records stand for this then, and nothing is left of its replica
 pub record MayStop (nodes id : ℕ) (input : acts.Input Command) (x : Local Command) (a : Accepting) (round : ℕ) : Type 0 where

@@ -28,27 +28,27 @@ use Rattle.node_model.specs.declared.input.Input.TheVariants as input
 pub record ReplicaState : Type 0 where
   pub id : ℕ
   pub nodes : ℕ
-  pub accepting : Accepting
-  pub learning : Learning
-  pub proposing : Proposing
+  pub acceptor : Accepting
+  pub learner : Learning
+  pub proposer : Proposing
   pub machine : MachineState
   pub fetching : Option Fetching
 
 -- the first slot that isn't learnt, of those that are kept
 abbrev pub position : ReplicaState → ℕ
-position m = prefix m.learning
+position m = prefix m.learner
 
 -- what the node has learnt at a slot
 abbrev pub learnt_in : ReplicaState → ℕ → Option Command
-learnt_in m slot = m.learning.learnt slot
+learnt_in m slot = m.learner.learnt slot
 
 -- what it has promised
 abbrev pub promised : ReplicaState → Option Ballot
-promised m = m.accepting.promise
+promised m = m.acceptor.promise
 
 -- the ballot under which its next campaign is to begin
 pub record IsNextBallot (m : ReplicaState) (ballot : Ballot) : Type 0 where
-  pub round : ballot.round ≡ next_round m.proposing
+  pub round : ballot.round ≡ next_round m.proposer
   pub own : ballot.node ≡ m.id
 
 -- the whole log is executed
@@ -61,14 +61,14 @@ asked client number op = record { client = client; number = number; op = op }
 
 -- the request of this client and number waits
 abbrev pub waits : ReplicaState → ℕ → ℕ → Bool
-waits m client number = list_any (is_of client number) m.proposing.waiting
+waits m client number = list_any (is_of client number) m.proposer.waiting
 
 -- it is one of seven nodes at most, few requests wait, and few proposals are open
 pub record ReplicaIsSmall (m : ReplicaState) : Type 0 where
   pub number : m.id < MOST_NODES
   pub of_all : m.nodes ≤ MOST_NODES
-  pub waiting : length m.proposing.waiting ≤ MOST_WAITING
-  pub proposals : IfSome m.proposing.campaign (λ k. length k.proposals ≤ MOST_OPEN)
+  pub waiting : length m.proposer.waiting ≤ MOST_WAITING
+  pub proposals : IfSome m.proposer.campaign (λ k. length k.proposals ≤ MOST_OPEN)
 
 -- ---- of which votes nothing comes
 -- there is such a slot, and it is below the position
@@ -86,18 +86,18 @@ refuses_submit m r =
     if is_full m then Some fault.LogFull
     else if not (is_short r.op) then Some fault.TooLong
     else if waits m r.client r.number then None
-    else if nat_le MOST_WAITING (length m.proposing.waiting) then Some fault.QueueFull
+    else if nat_le MOST_WAITING (length m.proposer.waiting) then Some fault.QueueFull
     else None
 
 abbrev pub refuses_timeout : ReplicaState → Option NodeFault
 refuses_timeout m =
     if is_full m then Some fault.LogFull
-    else if nat_le (2 ^ 64) (next_round m.proposing) then Some fault.RoundsUsedUp
+    else if nat_le (2 ^ 64) (next_round m.proposer) then Some fault.RoundsUsedUp
     else None
 
 -- a checkpoint of no further position than the last
 abbrev pub refuses_checkpoint : ReplicaState → Option NodeFault
-refuses_checkpoint m = if nat_le (position m) m.accepting.floor then Some fault.NothingNew else None
+refuses_checkpoint m = if nat_le (position m) m.acceptor.floor then Some fault.NothingNew else None
 
 abbrev pub refuses : ReplicaState → Input → Option NodeFault
 refuses m (input.Submit client number op) = refuses_submit m (asked client number op)

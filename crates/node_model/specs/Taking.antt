@@ -37,8 +37,8 @@ use Rattle.node_model.specs.Sending.{to_one, to_others, snapshot_sends}
 -- ---- the one write that an input makes, if it makes one
 -- on a message only an acceptor writes
 abbrev pub WritesOnMessage : ReplicaState → Message → OptionalWrite → Type 0
-WritesOnMessage m (Prepare ballot first) write = write ≡ prepare_write m.accepting ballot first
-WritesOnMessage m (Accept v) write = IsAcceptWrite m.accepting v write
+WritesOnMessage m (Prepare ballot first) write = write ≡ prepare_write m.acceptor ballot first
+WritesOnMessage m (Accept v) write = IsAcceptWrite m.acceptor v write
 WritesOnMessage m other write = write ≡ None
 
 abbrev pub WritesOnEnvelope : ReplicaState → Envelope → Bool → OptionalWrite → Type 0
@@ -47,22 +47,22 @@ WritesOnEnvelope m e true write = WritesOnMessage m e.message write
 
 -- a checkpoint is written: the snapshot text of what is executed, at a position above the floor
 pub record WritesCheckpoint (m : ReplicaState) (write : OptionalWrite) : Type 0 where
-  pub above : m.accepting.floor < position m
+  pub above : m.acceptor.floor < position m
   pub in_log : position m ≤ SLOTS
   pub fits : MachineFits m.machine
-  pub is : write ≡ Some (checkpoint_change m.accepting (position m) (snapshot_bytes m.machine))
+  pub is : write ≡ Some (checkpoint_change m.acceptor (position m) (snapshot_bytes m.machine))
 
 abbrev pub Writes : ReplicaState → Input → OptionalWrite → Type 0
 Writes m (input.Message e) write = WritesOnEnvelope m e (is_for_this_run m.id m.nodes e) write
-Writes m input.Timeout write = write ≡ Some (Sets key.Round (big_bytes 8 (next_round m.proposing)))
+Writes m input.Timeout write = write ≡ Some (Sets key.Round (big_bytes 8 (next_round m.proposer)))
 Writes m input.Checkpoint write = WritesCheckpoint m write
-Writes m input.Trim write = IsTrimWrite m.accepting write
+Writes m input.Trim write = IsTrimWrite m.acceptor write
 Writes m other write = write ≡ None
 
 -- ---- a proposer's part
 -- what a node holds and says where its proposer comes to this, and sends this
 abbrev pub with_proposer : ReplicaState → Proposing × List Outgoing → ReplicaState
-with_proposer m p = record m { proposing = p.0 }
+with_proposer m p = record m { proposer = p.0 }
 
 abbrev pub proposer_sends : ReplicaState → Proposing × List Outgoing → List Envelope
 proposer_sends m p = envelopes m.id m.nodes p.1
@@ -80,26 +80,26 @@ abbrev pub after_counting : Proposing → Proposing → Learning → Proposing �
 after_counting old new l = if begins_to_lead old new then proposed new l else (new, [])
 
 abbrev pub after_promise : ReplicaState → ℕ → Promised → Proposing × List Outgoing
-after_promise m from p = after_counting m.proposing (with_promised m.proposing from p) m.learning
+after_promise m from p = after_counting m.proposer (with_promised m.proposer from p) m.learner
 
 -- a request waits from now on, and the proposer proposes
 abbrev pub with_request : Proposing → Asked → Proposing
 with_request p r = record p { waiting = p.waiting ++ r ∷ [] }
 
 abbrev pub after_submit : ReplicaState → Asked → Proposing × List Outgoing
-after_submit m r = if waits m r.client r.number then (m.proposing, []) else proposed (with_request m.proposing r) m.learning
+after_submit m r = if waits m r.client r.number then (m.proposer, []) else proposed (with_request m.proposer r) m.learner
 
 -- ---- a command is newly learnt
 -- the machine and the requests that wait, where these replies are there
 abbrev pub executing_of : ReplicaState → List ReplyOut → Executing
-executing_of m replies = record { machine = m.machine; waiting = m.proposing.waiting; replies = replies }
+executing_of m replies = record { machine = m.machine; waiting = m.proposer.waiting; replies = replies }
 
 abbrev pub with_executing : ReplicaState → Executing → ReplicaState
-with_executing m e = record m { machine = e.machine; proposing = record m.proposing { waiting = e.waiting } }
+with_executing m e = record m { machine = e.machine; proposer = record m.proposer { waiting = e.waiting } }
 
 -- what is learnt, from a slot to the position
 abbrev pub learnt_from : ReplicaState → ℕ → List Command
-learnt_from m slot = commands m.learning.learnt slot (position m - slot)
+learnt_from m slot = commands m.learner.learnt slot (position m - slot)
 
 -- what is learnt by now is executed, from the position before on
 abbrev pub news : ReplicaState → Learning → List Command
@@ -110,7 +110,7 @@ execution m l = executed (executing_of m []) (position m) (news m l)
 
 -- no proposal for the slot is open any more, and no request that was executed waits
 abbrev pub proposer_of : ReplicaState → ℕ → Executing → Proposing
-proposer_of m slot e = record (after_learned m.proposing slot) { waiting = e.waiting }
+proposer_of m slot e = record (after_learned m.proposer slot) { waiting = e.waiting }
 
 -- the proposer proposes then
 abbrev pub after_news : ReplicaState → ℕ → Learning → Proposing × List Outgoing
@@ -120,8 +120,8 @@ after_news m slot l = proposed (proposer_of m slot (execution m l)) l
 pub record Learns (old : ReplicaState) (slot : ℕ) (c : Command) (l : Learning) (asks : List Envelope) (new : ReplicaState) (said : Response) : Type 0
   where
     pub leaves : new ≡ record old {
-      learning = l;
-      proposing = (after_news old slot l).0;
+      learner = l;
+      proposer = (after_news old slot l).0;
       machine = (execution old l).machine;
       fetching = still_fetched (prefix l) old.fetching;
     }
@@ -137,18 +137,18 @@ pub record Learns (old : ReplicaState) (slot : ℕ) (c : Command) (l : Learning)
 
 -- a learner has heard some news, by which a slot is newly learnt or none is
 abbrev pub Hears : ReplicaState → Command → Option Learned → Learning → List Envelope → ReplicaState → Response → Type 0
-Hears old c None l asks new said = (new ≡ record old { learning = l }) × (said ≡ silence)
+Hears old c None l asks new said = (new ≡ record old { learner = l }) × (said ≡ silence)
 Hears old c (Some learned) l asks new said = Learns old learned.slot c l asks new said
 
 -- a node that has learnt a slot from another asks that one for the next, last
 abbrev pub HearsOfDecided : ReplicaState → ℕ → ℕ → Command → ReplicaState → Response → Type 0
 HearsOfDecided old from slot c new said =
-    (learned : Option Learned) × (l : Learning) × HearsDecided old.learning slot c learned l
+    (learned : Option Learned) × (l : Learning) × HearsDecided old.learner slot c learned l
     × Hears old c learned l (ask_sends old.id from (prefix l)) new said
 
 abbrev pub HearsOfVote : ReplicaState → ℕ → Vote Command → ReplicaState → Response → Type 0
 HearsOfVote old from v new said =
-    (learned : Option Learned) × (l : Learning) × HearsVote old.learning from v learned l
+    (learned : Option Learned) × (l : Learning) × HearsVote old.learner from v learned l
     × Hears old v.command learned l [] new said
 
 -- ---- a snapshot is fetched
@@ -172,8 +172,8 @@ pub record PartCounts (m : ReplicaState) (p : Piece) (f : Fetching) : Type 0 whe
 -- the machine of a restored text takes the place of the node's: what it has learnt below the target is passed over
 abbrev pub restored : ReplicaState → ℕ → MachineState → ReplicaState
 restored m target machine = record m {
-  learning = skipped m.learning target;
-  proposing = skipped_to m.proposing target;
+  learner = skipped m.learner target;
+  proposer = skipped_to m.proposer target;
   machine = machine;
   fetching = None;
 }
@@ -190,12 +190,12 @@ pub record Restores (old : ReplicaState) (from target : ℕ) (machine : MachineS
   pub in_log : target ≤ SLOTS
   pub m : ReplicaState
   pub begins : m ≡ restored old target machine
-  pub leaves : new ≡ with_proposer (executed_to_the_end m target) (proposed (executed_to_the_end m target).proposing m.learning)
+  pub leaves : new ≡ with_proposer (executed_to_the_end m target) (proposed (executed_to_the_end m target).proposer m.learner)
   pub says : said ≡ record {
     restored = Some target;
     learnt = None;
     replies = (execution_from m target).replies;
-    sends = proposer_sends old (proposed (executed_to_the_end m target).proposing m.learning) ++ ask_sends old.id from (position m);
+    sends = proposer_sends old (proposed (executed_to_the_end m target).proposer m.learner) ++ ask_sends old.id from (position m);
   }
   -- what that is to each list of commands that the machine stands for
   pub stands : StandsForMore machine new.machine (learnt_from m target)
@@ -227,22 +227,22 @@ pub data TakesPart (old : ReplicaState) (from : ℕ) (p : Piece) (new : ReplicaS
 -- ---- what an input makes of a node, and what the node says
 abbrev pub TakesMessage : ReplicaState → ℕ → Message → ReplicaState → Response → Type 0
 TakesMessage old from (Prepare ballot first) new said =
-    (answer : Answer) × AnswersPrepare old.accepting ballot first answer
-    × (new ≡ record old { accepting = after_prepare old.accepting ballot first })
+    (answer : Answer) × AnswersPrepare old.acceptor ballot first answer
+    × (new ≡ record old { acceptor = after_prepare old.acceptor ballot first })
     × (said ≡ sent (answer_sends old.id old.nodes from answer))
 TakesMessage old from (Promise p) new said =
     (new ≡ with_proposer old (after_promise old from p)) × (said ≡ sent (proposer_sends old (after_promise old from p)))
 TakesMessage old from (Nack n) new said =
-    (new ≡ record old { proposing = after_nack old.proposing n }) × (said ≡ silence)
+    (new ≡ record old { proposer = after_nack old.proposer n }) × (said ≡ silence)
 TakesMessage old from (Accept v) new said =
-    (new ≡ record old { accepting = after_accept old.accepting v })
-    × (said ≡ sent (answer_sends old.id old.nodes from (accept_answer old.accepting v)))
+    (new ≡ record old { acceptor = after_accept old.acceptor v })
+    × (said ≡ sent (answer_sends old.id old.nodes from (accept_answer old.acceptor v)))
 TakesMessage old from (Accepted v) new said = HearsOfVote old from v new said
 TakesMessage old from (Ask slot) new said =
-    (new ≡ old) × (said ≡ sent (decided_sends old.id from slot old.accepting.floor (learnt_at old.learning slot)))
+    (new ≡ old) × (said ≡ sent (decided_sends old.id from slot old.acceptor.floor (learnt_at old.learner slot)))
 TakesMessage old from (Decided slot command) new said = HearsOfDecided old from slot command new said
 TakesMessage old from (SnapAsk position number) new said =
-    (new ≡ old) × (said ≡ sent (snapshot_sends old.accepting old.id from position number))
+    (new ≡ old) × (said ≡ sent (snapshot_sends old.acceptor old.id from position number))
 TakesMessage old from (SnapPart p) new said = TakesPart old from p new said
 TakesMessage old from (Behind floor) new said = HearsOfFloor old floor (is_ahead old floor) new said
 
@@ -262,8 +262,8 @@ asks_again m = asks_for m.id m.nodes (position m) m.fetching
 -- a campaign begins, and its prepares are sent
 abbrev pub TakesTimeout : ReplicaState → ReplicaState → Response → Type 0
 TakesTimeout old new said =
-    (prepare : Outgoing) × StartsCampaign old.proposing (position old) new.proposing prepare
-    × (new ≡ record old { proposing = new.proposing }) × (said ≡ sent (envelopes_of old.id old.nodes prepare))
+    (prepare : Outgoing) × StartsCampaign old.proposer (position old) new.proposer prepare
+    × (new ≡ record old { proposer = new.proposer }) × (said ≡ sent (envelopes_of old.id old.nodes prepare))
 
 abbrev pub Takes : ReplicaState → Input → ReplicaState → Response → Type 0
 Takes old (input.Submit client number op) new said =
@@ -273,8 +273,8 @@ Takes old (input.Message e) new said = TakesEnvelope old e (is_for_this_run old.
 Takes old input.Timeout new said = TakesTimeout old new said
 Takes old input.Tick new said =
     (new ≡ old)
-    × (said ≡ sent (envelopes old.id old.nodes (sends_again old.proposing.campaign) ++ asks_again old))
+    × (said ≡ sent (envelopes old.id old.nodes (sends_again old.proposer.campaign) ++ asks_again old))
 Takes old input.Checkpoint new said =
-    (new ≡ record old { accepting = after_checkpoint old.accepting (position old) (snapshot_bytes old.machine) })
+    (new ≡ record old { acceptor = after_checkpoint old.acceptor (position old) (snapshot_bytes old.machine) })
     × (said ≡ silence)
-Takes old input.Trim new said = (new ≡ record old { accepting = after_trim old.accepting }) × (said ≡ silence)
+Takes old input.Trim new said = (new ≡ record old { acceptor = after_trim old.acceptor }) × (said ≡ silence)

@@ -25,7 +25,7 @@ pub fn steps_are_allowed()
     ensures taking { (nodes id : ℕ) (old new : ReplicaState) (input : Input) (said : Response) (x : Local Command) → nodes ≤ 7 → id < nodes
         → IsReplicaOf id nodes old → Takes old input new said → ReplicaStands old x → MayTake nodes id input x new said }
     ensures unwritten { (nodes id : ℕ) (m : ReplicaState) (input : acts.Input Command) (x : Local Command) → IsReplicaOf id nodes m
-        → ReplicaStands m x → MayStop nodes id input x m.accepting m.proposing.round }
+        → ReplicaStands m x → MayStop nodes id input x m.acceptor m.proposer.round }
     ensures written { (nodes id : ℕ) (m : ReplicaState) (input : Input) (x : Local Command) → id < 7 → IsReplicaOf id nodes m
         → ReplicaStands m x → MayStop nodes id (input_of id nodes input) x (accepting_after m input) (round_after m input) }
 {}
@@ -39,19 +39,19 @@ pub fn refusals_go_on()
 /// takes the input.
 pub fn records_go_on()
     ensures written { (m : ReplicaState) (input : Input) (records : Records) (write : OptionalWrite) → refuses m input ≡ None
-        → Writes m input write → InputFits input → RecordsHold records m.accepting m.proposing.round
+        → Writes m input write → InputFits input → RecordsHold records m.acceptor m.proposer.round
         → RecordsHold (records_after records write) (accepting_after m input) (round_after m input) }
     ensures taken { (old new : ReplicaState) (input : Input) (said : Response) (records : Records) (write : OptionalWrite)
         → refuses old input ≡ None → Takes old input new said → Writes old input write → InputFits input
-        → RecordsHold records old.accepting old.proposing.round
-        → RecordsHold (records_after records write) new.accepting new.proposing.round }
+        → RecordsHold records old.acceptor old.proposer.round
+        → RecordsHold (records_after records write) new.acceptor new.proposer.round }
 {}
 
 /// A node that has loaded the records of a run holds what they say, and it stands for the protocol's records and a replica that holds
 /// nothing but its position.
 pub fn loading_is_allowed()
     ensures holds { (records : Records) (id nodes : ℕ) (m : ReplicaState) (a : Accepting) (round : ℕ) → IsLoaded records id nodes m
-        → RecordsHold records a round → RecordsHold records m.accepting m.proposing.round }
+        → RecordsHold records a round → RecordsHold records m.acceptor m.proposer.round }
     ensures stands { (records : Records) (id nodes : ℕ) (m : ReplicaState) (a : Accepting) (round : ℕ) (x : Local Command)
         → IsLoaded records id nodes m → RecordsHold records a round → RecordsStand a round x.records
         → x.replica ≡ record blank { position = position m } → ReplicaStands m x }

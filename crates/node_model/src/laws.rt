@@ -26,7 +26,7 @@ pub fn meanings_are_of_learnt_slots()
     ensures learnt { (base : List Command) (m : ReplicaState) → IsMeaningOf base m → (slot : ℕ) (c : Command) → length base ≤ slot
         → slice_get (executed_from base m) slot ≡ Some c → learnt_in m slot ≡ Some c }
     ensures fresh { (id nodes : ℕ) (m : ReplicaState) → IsFresh id nodes m
-        → (position m ≡ m.learning.first) × ((slot : ℕ) → learnt_in m slot ≡ None) }
+        → (position m ≡ m.learner.first) × ((slot : ℕ) → learnt_in m slot ≡ None) }
     ensures loaded { (records : Records) (id nodes : ℕ) (m : ReplicaState) (base : List Command) → IsLoaded records id nodes m
         → IsBaseOf records base → IsMeaningOf base m }
 {}

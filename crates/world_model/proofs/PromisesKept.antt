@@ -49,9 +49,9 @@ unrefused m i r (Some g) e h stops =
 module _ {S : Type 0} (contents : Script S → Records) where
   -- a node's records say what an acceptor holds, and where it is up it holds what they say
   record IsRecorded (n : NodeState (Script S)) : Type 0 where
-    accepting : Accepting
+    acceptor : Accepting
     round : ℕ
-    holds : RecordsHold (contents n.storage) accepting round
+    holds : RecordsHold (contents n.storage) acceptor round
     up : (m : ReplicaState) → n.up ≡ Some m → HoldsRecords m (contents n.storage)
 
   -- whoever loads the records of the one later has promised no less than who loads those of the other now
@@ -68,9 +68,9 @@ module _ {S : Type 0} (contents : Script S → Records) where
       → ((m : ReplicaState) → new.up ≡ Some m → HoldsRecords m (contents old.storage)) → Keeps old new
   keeps_same old new same was up = record {
     recorded = record {
-      accepting = was.accepting;
+      acceptor = was.acceptor;
       round = was.round;
-      holds = subst (λ (r : Records). RecordsHold r was.accepting was.round) (sym same) was.holds;
+      holds = subst (λ (r : Records). RecordsHold r was.acceptor was.round) (sym same) was.holds;
       up = λ m e. subst (λ (r : Records). HoldsRecords m r) (sym same) (up m e);
     };
     not_lower = λ a b says said.
@@ -95,14 +95,14 @@ module _ {S : Type 0} (contents : Script S → Records) where
       written_holds m i (contents old.storage) w none writes fits holds in
       record {
         recorded = record {
-          accepting = accepting_after m i;
+          acceptor = accepting_after m i;
           round = round_after m i;
           holds = subst (λ (r : Records). RecordsHold r (accepting_after m i) (round_after m i)) (sym written) then;
           up = λ k e. subst (λ (r : Records). HoldsRecords k r) (sym written) (up k e);
         };
         not_lower = λ a b says said.
-            let before : rank_of a.promise ≡ rank_of m.accepting.promise =
-            one_promise (contents old.storage) a m.accepting says holds.acceptor in
+            let before : rank_of a.promise ≡ rank_of m.acceptor.promise =
+            one_promise (contents old.storage) a m.acceptor says holds.acceptor in
             let after : rank_of b.promise ≡ rank_of (accepting_after m i).promise =
             one_promise (records_after (contents old.storage) w) b (accepting_after m i)
             (subst (λ (r : Records). RecordsSay r b) written said) then.acceptor in
@@ -198,7 +198,7 @@ module _ {S : Type 0} {storages : Ghosts (Script S)} (laws : IsLawful storages)
       (λ m e.
       let loads : IsLoaded (storages.contents old.storage) old.id old.nodes m =
       held (IsLoaded (storages.contents old.storage) old.id old.nodes) new.up m e (loads_or_down old new r h honest) in
-      loaded_holds (storages.contents old.storage) old.id old.nodes m loads was.accepting was.round was.holds)
+      loaded_holds (storages.contents old.storage) old.id old.nodes m loads was.acceptor was.round was.holds)
 
   -- ---- all nodes
   abbrev Nodes : Type 0
@@ -293,8 +293,8 @@ module _ {S : Type 0} {storages : Ghosts (Script S)} (laws : IsLawful storages)
         keeps = record {
           recorded = last.keeps.recorded;
           not_lower = λ a b says said.
-              let low = first.keeps.not_lower a mid.accepting says mid.holds.acceptor in
-              let high = last.keeps.not_lower mid.accepting b mid.holds.acceptor said in
+              let low = first.keeps.not_lower a mid.acceptor says mid.holds.acceptor in
+              let high = last.keeps.not_lower mid.acceptor b mid.holds.acceptor said in
               omega (arith, low, high);
         };
       }
@@ -303,7 +303,7 @@ module _ {S : Type 0} {storages : Ghosts (Script S)} (laws : IsLawful storages)
   allowed_recorded w allowed i n here =
       let at = allowed.stands.node i n here in
       record {
-        accepting = at.stands.records.accepting;
+        acceptor = at.stands.records.acceptor;
         round = at.stands.records.round;
         holds = at.stands.records.holds;
         up = λ m e. (held (λ (k : ReplicaState). HoldsRecords k (storages.contents n.storage) × ReplicaStands k at.after) n.up m e at.stands.up).0;
@@ -317,7 +317,7 @@ module _ {S : Type 0} {storages : Ghosts (Script S)} (laws : IsLawful storages)
       let last = node_of (slice_get new.nodes node) after there in
       let kept : KeptOf old.nodes node last.0 = all_keep old events new steps honest was node last.0 last.1 in
       let same : kept.was ≡ first.0 = same_Some kept.was first.0 (sym kept.here ∙ first.1) in
-      kept.keeps.not_lower before.accepting after.accepting
-      (subst (λ (n : NodeState (Script S)). RecordsSay (storages.contents n.storage) before.accepting) (sym same)
+      kept.keeps.not_lower before.acceptor after.acceptor
+      (subst (λ (n : NodeState (Script S)). RecordsSay (storages.contents n.storage) before.acceptor) (sym same)
       ((was node first.0 first.1).up before first.2).acceptor)
       (kept.keeps.recorded.up after last.2).acceptor

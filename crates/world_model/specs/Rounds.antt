@@ -53,7 +53,7 @@ pub record IsBehind {S : Type 0} (w : WorldState S) (node m : ℕ) : Type 0 wher
   pub here : replica_at w node ≡ Some own
   pub other : ReplicaState
   pub there : replica_at w m ≡ Some other
-  pub above : position own < other.accepting.floor
+  pub above : position own < other.acceptor.floor
 
 -- m is the lowest member that the node is behind
 pub record IsLowestBehind {S : Type 0} (w : WorldState S) (node : ℕ) (members : List ℕ) (m : ℕ) : Type 0 where
@@ -66,7 +66,7 @@ pub record CanMeet {S : Type 0} (w : WorldState S) (node : ℕ) (members : List 
   pub quorum : IsQuorum (length w.nodes) node members
   pub up : AreUp w members
   pub level : (p m : ReplicaState) (i : ℕ) → Contains members i → replica_at w node ≡ Some p → replica_at w i ≡ Some m
-      → m.accepting.floor ≤ position p
+      → m.acceptor.floor ≤ position p
 
 -- ---- the node
 -- its position is this

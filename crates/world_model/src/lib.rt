@@ -4,12 +4,12 @@
 //! No code runs here: the crate `world` has the code, and its calls keep what is defined here.
 #![tactic(auto)]
 
-mod explaining;
+mod explanation;
 mod laws;
 mod lists;
 mod round_end;
 
-pub use explaining::{one_log_explains, start_keeps_lists, steps_keep_lists};
+pub use explanation::{one_log_explains, start_keeps_lists, steps_keep_lists};
 pub use laws::{
     answers_are_one, armed_reads_fire, ballots_never_fall, lists_are_as_told, promises_never_fall,
     replies_are_one,

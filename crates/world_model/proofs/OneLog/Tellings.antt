@@ -137,7 +137,7 @@ get_before (z ∷ xs) ys (suc k) x less e = get_before xs ys k x (omega (arith, 
 pub known_of : (learnt : List LearntEntry) (m : ReplicaState) (k : ReplicaIsBacked learnt m) → WereLearnt learnt (executed_from k.base m)
 known_of learnt m k slot c e = elim (cases_lt slot (length k.base)) [
   | inl below ↦ k.begins slot c
-      (get_before k.base (commands m.learning.learnt m.learning.first (position m - m.learning.first)) slot c below e)
+      (get_before k.base (commands m.learner.learnt m.learner.first (position m - m.learner.first)) slot c below e)
   | inr from ↦ k.listed slot c (learnt_behind k.base m k.meaning slot c from e)
 ]
 
@@ -190,17 +190,17 @@ module _ (learnt : List LearntEntry) (i : ℕ) (old new : ReplicaState) (input :
   }
 
   -- it sends parts of its own text alone
-  sent_then : ((p : Piece) → IsPartOf old.accepting p → TellsPiece learnt p) → (e : Envelope) (p : Piece) → Contains said.sends e
+  sent_then : ((p : Piece) → IsPartOf old.acceptor p → TellsPiece learnt p) → (e : Envelope) (p : Piece) → Contains said.sends e
       → e.message ≡ SnapPart p → TellsPiece (learnt ++ learnt_by i said.learnt) p
   sent_then own e p sent brings =
-      let part : Brings (IsPartOf old.accepting) e =
-      All-contains (Brings (IsPartOf old.accepting)) said.sends e (takes_sends old new said input takes) sent in
+      let part : Brings (IsPartOf old.acceptor) e =
+      All-contains (Brings (IsPartOf old.acceptor)) said.sends e (takes_sends old new said input takes) sent in
       piece_still learnt (learnt_by i said.learnt) p
-      (own p (subst (λ (m : Message). IfSome (part_in m) (IsPartOf old.accepting)) brings part))
+      (own p (subst (λ (m : Message). IfSome (part_in m) (IsPartOf old.acceptor)) brings part))
 
   says_then : (base : List Command) → WereLearnt learnt base → IsMeaningOf base new
       → ((e : ReplyOut) → Contains said.replies e → IsReplyOf (executed_from base new) e)
-      → ((p : Piece) → IsPartOf old.accepting p → TellsPiece learnt p) → Says (learnt ++ learnt_by i said.learnt) (Some new) said
+      → ((p : Piece) → IsPartOf old.acceptor p → TellsPiece learnt p) → Says (learnt ++ learnt_by i said.learnt) (Some new) said
   unfolding knows_then
   says_then base begins means replies own =
       let known : ReplicaIsBacked (learnt ++ learnt_by i said.learnt) new = knows_then base begins means in
@@ -211,7 +211,7 @@ module _ (learnt : List LearntEntry) (i : ℕ) (old new : ReplicaState) (input :
       }
 
   -- one that restores a text begins anew, with the commands whose text it is; any other goes on from what it was
-  says_taken : LearntAgree learnt → ((p : Piece) → IsPartOf old.accepting p → TellsPiece learnt p) → (o : Option ℕ)
+  says_taken : LearntAgree learnt → ((p : Piece) → IsPartOf old.acceptor p → TellsPiece learnt p) → (o : Option ℕ)
       → said.restored ≡ o → (o ≡ None → GoesOnFrom knew.base old new said)
       → ((base : List Command) → IfSome o (λ target. length base ≡ target → IsSnapshot base (fetched_text old input)
       → RestoresFrom base old new said)) → Says (learnt ++ learnt_by i said.learnt) (Some new) said
@@ -242,7 +242,7 @@ module _ {S : Type 0} (storages : Ghosts S) (learnt : List LearntEntry) (agree :
     (input : Input) (comes : PartsCome learnt input) where
   -- by whether it was up, and whether it took the input
   node_says : (up : Option ReplicaState) (result : Result Response NodeFault) → before.up ≡ up → ((m : ReplicaState) → up ≡ Some m → ReplicaIsBacked learnt m)
-      → ((m : ReplicaState) → up ≡ Some m → (p : Piece) → IsPartOf m.accepting p → TellsPiece learnt p)
+      → ((m : ReplicaState) → up ≡ Some m → (p : Piece) → IsPartOf m.acceptor p → TellsPiece learnt p)
       → (up ≡ None → (result ≡ Err fault.Down) × (after ≡ before))
       → IfSome up (λ m. IfOk result (λ said. TakesInput storages before m input said after))
       → IfSome up (λ m. IfErr result (λ f. MatchBool (is_stop_fault f)
@@ -377,7 +377,7 @@ loaded_knows : (learnt : List LearntEntry) (records : Records) (id nodes : ℕ) 
 loaded_knows learnt records id nodes m base begins is loaded = record {
   base = base;
   begins = begins;
-  listed = λ slot c e. absurd (let h : None ≡ Some c = sym (ap (λ (l : Learning). l.learnt slot) loaded.learning) ∙ e in cc);
+  listed = λ slot c e. absurd (let h : None ≡ Some c = sym (ap (λ (l : Learning). l.learnt slot) loaded.learner) ∙ e in cc);
   meaning = loaded_means records id nodes m base loaded is;
   fetches = subst (λ (o : Option Fetching). IfSome o (HoldsToldParts learnt)) (sym loaded.fetching) tt;
 }
@@ -445,12 +445,12 @@ module _ {S : Type 0} {storages : Ghosts (Script S)} (laws : IsLawful storages) 
 
   -- the parts of its own text
   own_parts : (old : WorldState S) (node : ℕ) (before : NodeState (Script S)) → slice_get old.nodes node ≡ Some before → Allowed old
-      → Told old → (m : ReplicaState) → before.up ≡ Some m → (p : Piece) → IsPartOf m.accepting p → TellsPiece old.learnt p
+      → Told old → (m : ReplicaState) → before.up ≡ Some m → (p : Piece) → IsPartOf m.acceptor p → TellsPiece old.learnt p
   own_parts old node before here allowed tells m up p part =
       let there : replica_at old node ≡ Some m = ap (λ (o : Option (NodeState (Script S))). replica_in o) here ∙ up in
       let at = up_at storages.contents old allowed node m there in
       let says = at.records.acceptor in
-      own_part storages.contents old.learnt at.node.storage m.accepting p says.checkpointed says.checkpoint_record says.checkpoint_fits
+      own_part storages.contents old.learnt at.node.storage m.acceptor p says.checkpointed says.checkpoint_record says.checkpoint_fits
       says.floor says.text (allowed.stands.node node at.node at.here).puts.held (tells.texts node at.node at.here) part
 
   own_honest : (old new : WorldState S) (node : ℕ) (before after : NodeState (Script S)) → slice_get old.nodes node ≡ Some before
@@ -500,8 +500,8 @@ module _ {S : Type 0} {storages : Ghosts (Script S)} (laws : IsLawful storages) 
         knows = λ m up.
             let loaded : IsLoaded (storages.contents r.before.storage) r.before.id r.before.nodes m =
             subst (λ (o : Option ReplicaState). IfSome o (IsLoaded (storages.contents r.before.storage) r.before.id r.before.nodes)) up loads in
-            begins_with storages.contents old.learnt r.before.storage r.before.id r.before.nodes m loaded.accepting.checkpointed
-            loaded.accepting.checkpoint_record loaded.accepting.checkpoint_fits held texts loaded;
+            begins_with storages.contents old.learnt r.before.storage r.before.id r.before.nodes m loaded.acceptor.checkpointed
+            loaded.acceptor.checkpoint_record loaded.acceptor.checkpoint_fits held texts loaded;
         replied = λ e c. absurd (none_in e c);
         parts = λ e p c brings. absurd (none_in e c);
       })

@@ -22,7 +22,7 @@ use Rattle.node_model.proofs.RecordsGoOn.{floor_if, written_holds, taken_holds}
 
 -- ---- the floor
 -- no input but a checkpoint changes it
-pub floor_left : (m : ReplicaState) (i : Input) → (i ≡ input.Checkpoint) ⊎ ((accepting_after m i).floor ≡ m.accepting.floor)
+pub floor_left : (m : ReplicaState) (i : Input) → (i ≡ input.Checkpoint) ⊎ ((accepting_after m i).floor ≡ m.acceptor.floor)
 floor_left m (input.Message e) = inr (floor_if m e (is_for_this_run m.id m.nodes e))
 floor_left m input.Checkpoint = inl refl
 floor_left m other = inr refl
@@ -44,24 +44,24 @@ promise_accepted a v =
       | taken is high from ↦ rw is high
     ]
 
-promise_on : (m : ReplicaState) (message : Message) → rank_of m.accepting.promise ≤ rank_of (accepting_on m message).promise
-promise_on m (Prepare ballot first) = promise_prepared m.accepting ballot first
-promise_on m (Accept v) = promise_accepted m.accepting v
+promise_on : (m : ReplicaState) (message : Message) → rank_of m.acceptor.promise ≤ rank_of (accepting_on m message).promise
+promise_on m (Prepare ballot first) = promise_prepared m.acceptor ballot first
+promise_on m (Accept v) = promise_accepted m.acceptor v
 promise_on m other = le_refl _
 
-promise_if : (m : ReplicaState) (e : Envelope) (b : Bool) → rank_of m.accepting.promise ≤ rank_of (accepting_if m e b).promise
+promise_if : (m : ReplicaState) (e : Envelope) (b : Bool) → rank_of m.acceptor.promise ≤ rank_of (accepting_if m e b).promise
 promise_if m e false = le_refl _
 promise_if m e true = promise_on m e.message
 
 -- no input lowers it
-pub promise_after : (m : ReplicaState) (i : Input) → rank_of m.accepting.promise ≤ rank_of (accepting_after m i).promise
+pub promise_after : (m : ReplicaState) (i : Input) → rank_of m.acceptor.promise ≤ rank_of (accepting_after m i).promise
 promise_after m (input.Message e) = promise_if m e (is_for_this_run m.id m.nodes e)
 promise_after m other = le_refl _
 
 -- ---- where an input is taken, the records say both what is held then and what was to be held
 module _ (m : ReplicaState) (i : Input) (new : ReplicaState) (said : Response) (records : Records) (w : OptionalWrite) (none : refuses m i ≡ None)
     (takes : Takes m i new said) (writes : Writes m i w) (fits : InputFits i) (holds : HoldsRecords m records) where
-  pub floor_then : new.accepting.floor ≡ (accepting_after m i).floor
-  floor_then = one_floor (records_after records w) new.accepting (accepting_after m i)
+  pub floor_then : new.acceptor.floor ≡ (accepting_after m i).floor
+  floor_then = one_floor (records_after records w) new.acceptor (accepting_after m i)
       (taken_holds m i new said records w none takes writes fits holds).acceptor
       (written_holds m i records w none writes fits holds).acceptor

@@ -76,7 +76,7 @@ begun_up records (Some m) y h = (h.0, begun_replica m y h.1)
 
 -- the protocol's floor is the one that a node holds which is up
 floor_up : {S : Type 0} (contents : Script S → Records) (n : NodeState (Script S)) (m : ReplicaState) (x : Local Command) → n.up ≡ Some m
-    → NodeStands contents n x → x.records.floor ≡ m.accepting.floor
+    → NodeStands contents n x → x.records.floor ≡ m.acceptor.floor
 floor_up contents n m x up stands =
     let both : HoldsRecords m (contents n.storage) × ReplicaStands m x =
     subst (λ (o : Option ReplicaState). IfSome o (λ k. HoldsRecords k (contents n.storage) × ReplicaStands k x)) up stands.up in
@@ -198,7 +198,7 @@ checkpoint_puts_no_vote m w v writes e =
 
 -- a vote is put at a slot from the floor on
 made_above : {S : Type 0} {contents : Script S → Records} (m : ReplicaState) (input : Input) (old new : NodeState (Script S))
-    (r : Result Response NodeFault) (on : ListGoesOn contents m input old new r) (before after : ℕ) → before ≡ m.accepting.floor
+    (r : Result Response NodeFault) (on : ListGoesOn contents m input old new r) (before after : ℕ) → before ≡ m.acceptor.floor
     → IsLevelOn input before after → (v : Vote Command) → put_by on.made ≡ Some (vote_put v) → after ≤ v.slot
 made_above m input old new r on before after floor level v e = elim on.writes [
   | inl none ↦ absurd (none-some (vote_put v) (ap put_by (sym none) ∙ e))
@@ -206,7 +206,7 @@ made_above m input old new r on before after floor level v e = elim on.writes [
     | inl checkpoint ↦ absurd (checkpoint_puts_no_vote m on.made v (subst (λ (i : Input). Writes m i on.made) checkpoint writes)
         (sets_put on.made (vote_put v) e))
     | inr same ↦
-        let above : m.accepting.floor ≤ v.slot = vote_above m input on.made writes v.slot _ (sets_put on.made (vote_put v) e) in
+        let above : m.acceptor.floor ≤ v.slot = vote_above m input on.made writes v.slot _ (sets_put on.made (vote_put v) e) in
         omega (arith, above, floor, same)
   ]
 ]

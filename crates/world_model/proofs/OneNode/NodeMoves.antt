@@ -71,9 +71,9 @@ abbrev took : Response → Result Response NodeFault
 took said = Ok said
 
 -- by other names of the same records
-pub other_records : {a b : Records} {accepting : Accepting} {round : ℕ} → b ≡ a → RecordsHold a accepting round
-    → RecordsHold b accepting round
-other_records {a} {b} {accepting} {round} e h = subst (λ (r : Records). RecordsHold r accepting round) (sym e) h
+pub other_records : {a b : Records} {acceptor : Accepting} {round : ℕ} → b ≡ a → RecordsHold a acceptor round
+    → RecordsHold b acceptor round
+other_records {a} {b} {acceptor} {round} e h = subst (λ (r : Records). RecordsHold r acceptor round) (sym e) h
 
 module _ {S : Type 0} {storages : Ghosts (Script S)} (laws : IsLawful storages)
     (nodes i : ℕ) (there : i < nodes) (few : nodes ≤ 7) where
@@ -99,7 +99,7 @@ module _ {S : Type 0} {storages : Ghosts (Script S)} (laws : IsLawful storages)
     after = stopping x s.records;
     does = s.does;
     stands = record {
-      records = record { accepting = a; round = round; holds = holds; stands = s.stands };
+      records = record { acceptor = a; round = round; holds = holds; stands = s.stands };
       up = subst (λ (o : Option ReplicaState). IfSome o (λ m. HoldsRecords m (storages.contents new.storage) × ReplicaStands m (stopping x s.records)))
           (sym down) tt;
     };
@@ -143,7 +143,7 @@ module _ {S : Type 0} {storages : Ghosts (Script S)} (laws : IsLawful storages)
         after = t.after;
         does = t.does;
         stands = record {
-          records = record { accepting = h.replica.accepting; round = h.replica.proposing.round; holds = holds; stands = t.stands.records };
+          records = record { acceptor = h.replica.acceptor; round = h.replica.proposer.round; holds = holds; stands = t.stands.records };
           up = subst (λ (n : NodeState (Script S)). IfSome n.up (λ k. HoldsRecords k (storages.contents new.storage)
               × ReplicaStands k t.after))
               (sym h.leaves) (holds, t.stands);
@@ -161,7 +161,7 @@ module _ {S : Type 0} {storages : Ghosts (Script S)} (laws : IsLawful storages)
       → IsReplicaOf i nodes m → new.up ≡ None → storages.contents new.storage ≡ storages.contents old.storage
       → NodeMoves storages.contents nodes i input x new (Err f)
   stops_as_it_was old new m input f x up replica down same =
-      stops input x new f m.accepting m.proposing.round down (inr (sym up.replica.records.floor_)) (other_records same up.holds)
+      stops input x new f m.acceptor m.proposer.round down (inr (sym up.replica.records.floor_)) (other_records same up.holds)
       (unwritten_allowed nodes i m (input_of i nodes input) x replica up.replica)
 
   stops_with : (old new : NodeState (Script S)) (m : ReplicaState) (input : Input) (f : NodeFault) (w : OptionalWrite) (x : Local Command)

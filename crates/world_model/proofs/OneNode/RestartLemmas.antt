@@ -37,9 +37,9 @@ module _ {S : Type 0} {contents : Script S → Records} where
   }
   up_again old new x (Some m) up same agree none loads =
       let holds : HoldsRecords m (contents old.storage) =
-      loaded_holds (contents old.storage) old.id old.nodes m loads agree.accepting agree.round agree.holds in
+      loaded_holds (contents old.storage) old.id old.nodes m loads agree.acceptor agree.round agree.holds in
       let stands : ReplicaStands m x =
-      loaded_stands (contents old.storage) old.id old.nodes m loads agree.accepting agree.round x agree.holds agree.stands none in
+      loaded_stands (contents old.storage) old.id old.nodes m loads agree.acceptor agree.round x agree.holds agree.stands none in
       record {
         records = subst (λ (c : Records). RecordsAgree c x.records) (sym same) agree;
         up = subst (λ (o : Option ReplicaState). IfSome o (Up (contents new.storage) x)) (sym up)
@@ -55,7 +55,7 @@ none_before f (Some x) e = absurd cc
 pub begins_at_first : (id nodes : ℕ) (o : Option ReplicaState) → IfSome o (IsLoaded no_records id nodes) → begins_at o ≡ zero
 begins_at_first id nodes None loads = refl
 begins_at_first id nodes (Some m) loads =
-    let says = loads.accepting in
+    let says = loads.acceptor in
     loaded_begins no_records id nodes m loads
     ∙ (says.floor ∙ ap floor_of (none_before checkpoint_bytes says.checkpointed (sym says.checkpoint_record)))
 

@@ -47,7 +47,7 @@ module _ {S : Type 0} (contents : Script S → Records) where
 
   -- what a node's records tell of begins where the protocol's do
   from_the_floor : (n : NodeState (Script S)) (y : Local Command) → (stands : NodeStands contents n y) → (s : ℕ) → y.records.floor ≤ s
-      → stands.records.accepting.floor ≤ s
+      → stands.records.acceptor.floor ≤ s
   from_the_floor n y stands s from = omega (arith, from, stands.records.stands.floor_)
 
   -- what a node's records hold at a vote's slot, from the floor on
@@ -70,7 +70,7 @@ module _ {S : Type 0} (contents : Script S → Records) where
       let says = stands.records.holds.acceptor in
       let low = from_the_floor n y stands v.slot from in
       stands.records.stands.vote v.slot low
-      ∙ one_spelled (stands.records.accepting.vote v.slot) v (says.at_its_slot v.slot) (says.votes_fit v.slot) fits
+      ∙ one_spelled (stands.records.acceptor.vote v.slot) v (says.at_its_slot v.slot) (says.votes_fit v.slot) fits
       (sym (says.vote_record v.slot) ∙ shows)
 
   -- what acts of a node make of its votes, and what became of its storage

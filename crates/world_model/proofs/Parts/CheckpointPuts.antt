@@ -72,8 +72,8 @@ on_accept a v w h c e =
 on_message : (m : ReplicaState) (message : Message) (w : OptionalWrite) → WritesOnMessage m message w → PutsNoCheckpoint w
 on_message m (Prepare ballot first) w is =
     subst (λ (x : OptionalWrite). PutsNoCheckpoint x) (sym is)
-    (on_prepare ballot (verdict m.accepting ballot first) (ballots.rank ballot == rank_of m.accepting.promise))
-on_message m (Accept v) w is = on_accept m.accepting v w is
+    (on_prepare ballot (verdict m.acceptor ballot first) (ballots.rank ballot == rank_of m.acceptor.promise))
+on_message m (Accept v) w is = on_accept m.acceptor v w is
 on_message m other w is = nothing_is_no_checkpoint w is
 
 on_envelope : (m : ReplicaState) (e : Envelope) (b : Bool) (w : OptionalWrite) → WritesOnEnvelope m e b w → PutsNoCheckpoint w
@@ -90,7 +90,7 @@ pub record IsCheckpointOfNode (m : ReplicaState) (c : Checkpointed) : Type 0 whe
   pub machine : MachineFits m.machine
   pub is : c ≡ record { position = position m; promise = promised m; text = snapshot_bytes m.machine }
 
-checkpoint_written : (r : Records) (m : ReplicaState) (w : OptionalWrite) → RecordsSay r m.accepting → WritesCheckpoint m w → (c : Checkpointed)
+checkpoint_written : (r : Records) (m : ReplicaState) (w : OptionalWrite) → RecordsSay r m.acceptor → WritesCheckpoint m w → (c : Checkpointed)
     → CheckpointFits c → put_by w ≡ Some (key.Checkpoint, checkpoint_bytes c) → IsCheckpointOfNode m c
 checkpoint_written r m w says writes c fits e =
     let d : Checkpointed = record { position = position m; promise = promised m; text = snapshot_bytes m.machine } in
@@ -102,13 +102,13 @@ checkpoint_written r m w says writes c fits e =
     let written : IsCheckpointRecord (checkpoint_bytes c) d = record {
       begun = omega (arith, above);
       in_log = writes.in_log;
-      promise = promise_fits r m.accepting says;
+      promise = promise_fits r m.acceptor says;
       spelled = sym bytes;
     } in
     record { machine = writes.fits; is = one_checkpoint (checkpoint_bytes c) c d (record_of (checkpoint_bytes c) c fits refl) written }
 
 -- whatever checkpoint an input puts is that
-pub checkpoint_put : (r : Records) (m : ReplicaState) (i : Input) (w : OptionalWrite) → RecordsSay r m.accepting → Writes m i w → (c : Checkpointed)
+pub checkpoint_put : (r : Records) (m : ReplicaState) (i : Input) (w : OptionalWrite) → RecordsSay r m.acceptor → Writes m i w → (c : Checkpointed)
     → CheckpointFits c → put_by w ≡ Some (key.Checkpoint, checkpoint_bytes c) → IsCheckpointOfNode m c
 checkpoint_put r m (input.Message e) w says writes c fits put =
     let high : 1 ≤ 0 = on_envelope m e (is_for_this_run m.id m.nodes e) w writes (key.Checkpoint, checkpoint_bytes c) put in
@@ -118,6 +118,6 @@ checkpoint_put r m input.Timeout w says writes c fits e =
     absurd (omega (arith, high))
 checkpoint_put r m input.Checkpoint w says writes c fits e = checkpoint_written r m w says writes c fits e
 checkpoint_put r m input.Trim w says writes c fits e =
-    let high : 1 ≤ 0 = on_trim m.accepting w writes (key.Checkpoint, checkpoint_bytes c) e in
+    let high : 1 ≤ 0 = on_trim m.acceptor w writes (key.Checkpoint, checkpoint_bytes c) e in
     absurd (omega (arith, high))
 checkpoint_put r m other w says writes c fits e = absurd (puts_none w writes (key.Checkpoint, checkpoint_bytes c) e)

@@ -114,8 +114,8 @@ counting_none p q l = cond_both (begins_to_lead p q) _ _ NoneOf (λ _. proposes_
 
 submit_none : (m : ReplicaState) (r : Asked) → NoneOf (after_submit m r)
 submit_none m r =
-    let p : Proposing = with_request m.proposing r in
-    cond_both (waits m r.client r.number) _ _ NoneOf (λ _. tt) (λ _. proposes_none p p.campaign m.learning)
+    let p : Proposing = with_request m.proposer r in
+    cond_both (waits m r.client r.number) _ _ NoneOf (λ _. tt) (λ _. proposes_none p p.campaign m.learner)
 
 again_none : (o : Option Campaigning) → BringNone (sends_again o)
 again_none None = tt
@@ -175,10 +175,10 @@ none_in other no_part = refl
 
 module _ (old new : ReplicaState) (said : Response) where
   abbrev P : Piece → Type 0
-  P = IsPartOf old.accepting
+  P = IsPartOf old.acceptor
 
   abbrev Sends : List Envelope → Type 0
-  Sends es = All (Brings (IsPartOf old.accepting)) es
+  Sends es = All (Brings (IsPartOf old.acceptor)) es
 
   says : (r : Response) → said ≡ r → Sends r.sends → Sends said.sends
   says r e h = subst (λ (x : Response). Sends x.sends) (sym e) h
@@ -206,11 +206,11 @@ module _ (old new : ReplicaState) (said : Response) where
 
   proposer_brings_none : (in' : act.Input Command) (submits : List Command) (round : ℕ) (p : Proposing × List Outgoing)
       → Proposes old in' submits round p → NoneOf p
-  proposer_brings_none _ _ _ _ (counts from p sender) = counting_none old.proposing (with_promised old.proposing from p) old.learning
+  proposer_brings_none _ _ _ _ (counts from p sender) = counting_none old.proposer (with_promised old.proposer from p) old.learner
   proposer_brings_none _ _ _ _ (gives_way from n) = tt
   proposer_brings_none _ _ _ _ (is_asked r) = submit_none old r
   proposer_brings_none _ _ _ _ (campaigns p prepare starts) = (ap (λ (o : Outgoing). part_in o.message) starts.asks_all, tt)
-  proposer_brings_none _ _ _ _ repeats = again_none old.proposing.campaign
+  proposer_brings_none _ _ _ _ repeats = again_none old.proposer.campaign
 
   says_sends : (i : Input) → Says old i new said → Sends said.sends
   says_sends i (tells in' f sends is fetches plain leaves e) = says _ e (plain_sends sends plain)
@@ -223,9 +223,9 @@ module _ (old new : ReplicaState) (said : Response) where
   says_sends i (hears_decided from to slot c comes is sender (o, l, heard, k)) = hears_sends c o l _ (asks_one old from (prefix l) sender) k
   says_sends i (makes_text in' is h) =
       let m : ReplicaState = h.restored.m in
-      let p : Proposing = (executed_to_the_end m h.fetched.target).proposing in
+      let p : Proposing = (executed_to_the_end m h.fetched.target).proposer in
       says _ h.restored.says
-      (goes_on (proposes p p.campaign m.learning).1 _ (proposes_none p p.campaign m.learning) (asks_one old h.from (position m) h.sender))
+      (goes_on (proposes p p.campaign m.learner).1 _ (proposes_none p p.campaign m.learner) (asks_one old h.from (position m) h.sender))
 
   pub takes_sends : (i : Input) → Takes old i new said → Sends said.sends
   takes_sends i k = says_sends i (says_of old new said i k)

@@ -168,24 +168,24 @@ heard_all l slot ballot c members most pairs below h = elim h [
 -- ---- a node
 -- where the message tells of a vote, it has heard of the vote
 pub hears_of_vote : (old : ReplicaState) (from : ℕ) (v : Vote Command) (new : ReplicaState) (said : Response)
-    → TakesMessage old from (Accepted v) new said → (learned : Option Learned) × HearsVote old.learning from v learned new.learning
+    → TakesMessage old from (Accepted v) new said → (learned : Option Learned) × HearsVote old.learner from v learned new.learner
 hears_of_vote old from v new said (learned, l, heard, k) = (
   learned,
-  subst (λ (x : Learning). HearsVote old.learning from v learned x) (sym (heard_learner old new said v.command learned l _ k)) heard,
+  subst (λ (x : Learning). HearsVote old.learner from v learned x) (sym (heard_learner old new said v.command learned l _ k)) heard,
 )
 
 -- its learner is as it was, where the message is for another role, and brings no part of a text
 pub same_learner : (old : ReplicaState) (e : Envelope) (new : ReplicaState) (said : Response) → role_of e.message ≢ Learner
-    → role_of e.message ≢ Fetcher → Takes old (input.Message e) new said → new.learning ≡ old.learning
+    → role_of e.message ≢ Fetcher → Takes old (input.Message e) new said → new.learner ≡ old.learner
 same_learner old e new said other apart h = (learns_nothing old new said e other apart h).learner
 
 -- ---- whatever message comes
 -- what is learnt stays learnt
 pub stays_learnt : (m : ReplicaState) (e : Envelope) (new : ReplicaState) (said : Response) (slot : ℕ) (c : Command) → Takes m (input.Message e) new said
-    → m.learning.learnt slot ≡ Some c → new.learning.learnt slot ≡ Some c
-stays_learnt m e new said slot c takes = still_learnt m.learning new.learning slot c (takes_keeps m new said (input.Message e) takes)
+    → m.learner.learnt slot ≡ Some c → new.learner.learnt slot ≡ Some c
+stays_learnt m e new said slot c takes = still_learnt m.learner new.learner slot c (takes_keeps m new said (input.Message e) takes)
 
 -- it has as many nodes
 pub same_number : (m : ReplicaState) (e : Envelope) (new : ReplicaState) (said : Response) → Takes m (input.Message e) new said
-    → new.learning.nodes ≡ m.learning.nodes
+    → new.learner.nodes ≡ m.learner.nodes
 same_number m e new said takes = (takes_keeps m new said (input.Message e) takes).nodes_

@@ -40,19 +40,19 @@ use Rattle.node_model.specs.Taking.{TakesTimeout, with_proposer, proposer_sends,
 -- the node gathers promises under the ballot for the slots from this one on, and these nodes' were counted
 pub record Gathers (ballot : Ballot) (slot : ℕ) (m : ReplicaState) (set : List Bool) : Type 0 where
   pub campaign : Campaigning
-  pub here : m.proposing.campaign ≡ Some campaign
+  pub here : m.proposer.campaign ≡ Some campaign
   pub ballot_ : campaign.ballot ≡ ballot
   pub first : campaign.first ≡ slot
   pub within : slot ≤ campaign.end
   pub none_open : campaign.proposals ≡ []
   pub gathers : campaign.leading ≡ false
   pub counted : campaign.promised ≡ set
-  pub too_few : is_most m.proposing.nodes set ≡ false
+  pub too_few : is_most m.proposer.nodes set ≡ false
 
 -- it leads
 pub record LeadsNow (m : ReplicaState) : Type 0 where
   pub campaign : Campaigning
-  pub here : m.proposing.campaign ≡ Some campaign
+  pub here : m.proposer.campaign ≡ Some campaign
   pub leads : campaign.leading ≡ true
 
 -- the message asks for a vote
@@ -275,12 +275,12 @@ GathersOrLeads ballot slot m set r =
 
 module _ (ballot : Ballot) (slot : ℕ) (m : ReplicaState) (set : List Bool) (from : ℕ) (p : Promised) (g : Gathers ballot slot m set)
     (of_ballot : p.ballot ≡ ballot) (of_slot : p.first ≡ slot) (tells : slot ≤ p.last) (once : has_node set from ≡ false)
-    (at : slot ≡ position m) (unlearnt : m.learning.learnt slot ≡ None) where
+    (at : slot ≡ position m) (unlearnt : m.learner.learnt slot ≡ None) where
   abbrev joined : Campaigning
-  joined = with_promise m.proposing.nodes g.campaign from p
+  joined = with_promise m.proposer.nodes g.campaign from p
 
   abbrev now : Proposing
-  now = record m.proposing { campaign = Some joined }
+  now = record m.proposer { campaign = Some joined }
 
   abbrev set' : List Bool
   set' = with_node set from
@@ -295,23 +295,23 @@ module _ (ballot : Ballot) (slot : ℕ) (m : ReplicaState) (set : List Bool) (fr
       not_from_false (has_node g.campaign.promised from) (ap (λ (s : List Bool). has_node s from) g.counted ∙ once) in
       and_from _ _ (and_from _ _ (and_from _ _ gathering same) first) new
 
-  comes_to : with_promised m.proposing from p ≡ now
+  comes_to : with_promised m.proposer from p ≡ now
   comes_to =
-      ap (λ (o : Option Campaigning). record m.proposing { campaign = promised m.proposing.nodes from p o }) g.here
-      ∙ ap (λ (k : Campaigning). record m.proposing { campaign = Some k })
+      ap (λ (o : Option Campaigning). record m.proposer { campaign = promised m.proposer.nodes from p o }) g.here
+      ∙ ap (λ (k : Campaigning). record m.proposer { campaign = Some k })
       (cond-true (counts g.campaign from p) joined g.campaign it_counts)
 
-  leads_if : is_led now.campaign ≡ is_most m.proposing.nodes set'
-  leads_if = ap (λ (s : List Bool). is_most m.proposing.nodes (with_node s from)) g.counted
+  leads_if : is_led now.campaign ≡ is_most m.proposer.nodes set'
+  leads_if = ap (λ (s : List Bool). is_most m.proposer.nodes (with_node s from)) g.counted
 
-  not_led : is_led m.proposing.campaign ≡ false
+  not_led : is_led m.proposer.campaign ≡ false
   not_led = ap is_led g.here ∙ g.gathers
 
   within_then : slot ≤ joined.end
   within_then = let low : slot ≤ g.campaign.end = g.within in omega (arith, low, tells)
 
   -- too few have promised yet
-  still_gathers : is_most m.proposing.nodes set' ≡ false → GathersOrLeads ballot slot m set' (now, [])
+  still_gathers : is_most m.proposer.nodes set' ≡ false → GathersOrLeads ballot slot m set' (now, [])
   still_gathers few = inl (
     record {
       campaign = joined;
@@ -329,24 +329,24 @@ module _ (ballot : Ballot) (slot : ℕ) (m : ReplicaState) (set : List Bool) (fr
 
   -- a majority has
   abbrev filling : Filling
-  filling = window_filled (closed_below (prefix m.learning) joined) m.proposing.waiting m.proposing.learnt_to m.learning
+  filling = window_filled (closed_below (prefix m.learner) joined) m.proposer.waiting m.proposer.learnt_to m.learner
 
-  none_left : (closed_below (prefix m.learning) joined).proposals ≡ []
-  none_left = ap (λ (ps : List Proposal). filter (λ q. nat_le (prefix m.learning) q.slot) ps) g.none_open
+  none_left : (closed_below (prefix m.learner) joined).proposals ≡ []
+  none_left = ap (λ (ps : List Proposal). filter (λ q. nat_le (prefix m.learner) q.slot) ps) g.none_open
 
   filling_opens : Opens ballot slot filling.sent
   filling_opens =
       subst (λ (b : Ballot). Opens b slot filling.sent) g.ballot_
-      (window_opens (closed_below (prefix m.learning) joined) m.proposing.waiting m.proposing.learnt_to m.learning slot at g.first unlearnt
+      (window_opens (closed_below (prefix m.learner) joined) m.proposer.waiting m.proposer.learnt_to m.learner slot at g.first unlearnt
       within_then none_left)
 
-  fills_now : is_most m.proposing.nodes set' ≡ true → proposed now m.learning ≡ fills now joined filling
+  fills_now : is_most m.proposer.nodes set' ≡ true → proposed now m.learner ≡ fills now joined filling
   fills_now most =
-      cond-true joined.leading (leads now joined m.learning) (now, []) (leads_if ∙ most)
-      ∙ cond-false (nat_lt joined.end (prefix m.learning)) (gathers_on now (Some joined) (prefix m.learning)) (fills now joined filling)
-      (le-ltb joined.end (prefix m.learning) (omega (arith, within_then, at)))
+      cond-true joined.leading (leads now joined m.learner) (now, []) (leads_if ∙ most)
+      ∙ cond-false (nat_lt joined.end (prefix m.learner)) (gathers_on now (Some joined) (prefix m.learner)) (fills now joined filling)
+      (le-ltb joined.end (prefix m.learner) (omega (arith, within_then, at)))
 
-  leads_now : is_most m.proposing.nodes set' ≡ true → GathersOrLeads ballot slot m set' (proposed now m.learning)
+  leads_now : is_most m.proposer.nodes set' ≡ true → GathersOrLeads ballot slot m set' (proposed now m.learner)
   leads_now most =
       subst (λ (r : Proposing × List Outgoing). GathersOrLeads ballot slot m set' r) (sym (fills_now most))
       (inr (
@@ -354,23 +354,23 @@ module _ (ballot : Ballot) (slot : ℕ) (m : ReplicaState) (set : List Bool) (fr
         opening_asks m ballot slot filling.sent filling_opens,
       ))
 
-  begins_if : begins_to_lead m.proposing now ≡ is_most m.proposing.nodes set'
+  begins_if : begins_to_lead m.proposer now ≡ is_most m.proposer.nodes set'
   begins_if = ap (λ (b : Bool). not b && is_led now.campaign) not_led ∙ leads_if
 
-  counted_now : GathersOrLeads ballot slot m set' (after_counting m.proposing now m.learning)
+  counted_now : GathersOrLeads ballot slot m set' (after_counting m.proposer now m.learner)
   counted_now =
-      cond_both (begins_to_lead m.proposing now) (proposed now m.learning) (now, [])
+      cond_both (begins_to_lead m.proposer now) (proposed now m.learner) (now, [])
       (λ (r : Proposing × List Outgoing). GathersOrLeads ballot slot m set' r)
       (λ e. leads_now (sym begins_if ∙ e)) (λ e. still_gathers (sym begins_if ∙ e))
 
   counts_then : GathersOrLeads ballot slot m set' (after_promise m from p)
   counts_then =
-      subst (λ (q : Proposing). GathersOrLeads ballot slot m set' (after_counting m.proposing q m.learning)) (sym comes_to) counted_now
+      subst (λ (q : Proposing). GathersOrLeads ballot slot m set' (after_counting m.proposer q m.learner)) (sym comes_to) counted_now
 
 -- a promise that counts: the node gathers on and says nothing, or it leads and asks for votes
 pub counts_one : (ballot : Ballot) (slot : ℕ) (m : ReplicaState) (set : List Bool) (from : ℕ) (p : Promised)
     → Gathers ballot slot m set → p.ballot ≡ ballot → p.first ≡ slot → slot ≤ p.last → has_node set from ≡ false
-    → slot ≡ position m → slot < SLOTS → m.learning.learnt slot ≡ None
+    → slot ≡ position m → slot < SLOTS → m.learner.learnt slot ≡ None
     → (Gathers ballot slot (with_proposer m (after_promise m from p)) (with_node set from)
     × (proposer_sends m (after_promise m from p) ≡ []))
     ⊎ (LeadsNow (with_proposer m (after_promise m from p)) × AsksAll m ballot slot (proposer_sends m (after_promise m from p)))
@@ -382,9 +382,9 @@ not_again : (x : Bool) → (not x && x) ≡ false
 not_again true = refl
 not_again false = refl
 
-pub counts_no_more : (m : ReplicaState) (from : ℕ) (p : Promised) → LeadsNow m → after_promise m from p ≡ (m.proposing, [])
+pub counts_no_more : (m : ReplicaState) (from : ℕ) (p : Promised) → LeadsNow m → after_promise m from p ≡ (m.proposer, [])
 counts_no_more m from p h =
-    let old : Proposing = m.proposing in
+    let old : Proposing = m.proposer in
     let late : counts h.campaign from p ≡ false =
     and_left _ _ (and_left _ _ (and_left (not h.campaign.leading) (same_ballot h.campaign.ballot p.ballot) (ap not h.leads))) in
     let same : promised old.nodes from p old.campaign ≡ old.campaign =
@@ -392,13 +392,13 @@ counts_no_more m from p h =
     ∙ ap (λ (k : Campaigning). Some k)
     (cond-false (counts h.campaign from p) (with_promise old.nodes h.campaign from p) h.campaign late) ∙ sym h.here in
     let stays : with_promised old from p ≡ old = ap (λ (o : Option Campaigning). record old { campaign = o }) same in
-    ap (λ (q : Proposing). after_counting old q m.learning) stays
-    ∙ cond-false (begins_to_lead old old) (proposed old m.learning) (old, []) (not_again (is_led old.campaign))
+    ap (λ (q : Proposing). after_counting old q m.learner) stays
+    ∙ cond-false (begins_to_lead old old) (proposed old m.learner) (old, []) (not_again (is_led old.campaign))
 
 -- ---- a campaign starts
 -- it gathers, with nobody's promise
 pub starts_gathering : (old : Proposing) (new : ReplicaState) (slot : ℕ) (prepare' : Outgoing)
-    → (s : StartsCampaign old slot new.proposing prepare') → slot < SLOTS → Gathers s.ballot slot new no_nodes
+    → (s : StartsCampaign old slot new.proposer prepare') → slot < SLOTS → Gathers s.ballot slot new no_nodes
 starts_gathering old new slot prepare' s in_log =
     let k : Campaigning = campaign.begun s.ballot slot in
     record {
@@ -410,20 +410,20 @@ starts_gathering old new slot prepare' s in_log =
       none_open = refl;
       gathers = refl;
       counted = refl;
-      too_few = none_is_few new.proposing.nodes;
+      too_few = none_is_few new.proposer.nodes;
     }
 
 -- by a timeout, under this ballot
 pub timeout_gathers : (old new : ReplicaState) (said : Response) (ballot : Ballot) → TakesTimeout old new said → position old < SLOTS
-    → ballot.round ≡ next_round old.proposing → ballot.node ≡ old.proposing.id → Gathers ballot (position old) new no_nodes
+    → ballot.round ≡ next_round old.proposer → ballot.node ≡ old.proposer.id → Gathers ballot (position old) new no_nodes
 timeout_gathers old new said ballot (prepare', s, leaves, says) in_log round own =
     let same : s.ballot ≡ ballot = one_ballot s.ballot ballot (s.round ∙ sym round) (s.own ∙ sym own) in
-    let gathers' = starts_gathering old.proposing new (position old) prepare' s in_log in
+    let gathers' = starts_gathering old.proposer new (position old) prepare' s in_log in
     subst (λ (b : Ballot). Gathers b (position old) new no_nodes) same gathers'
 
 -- every node is asked to promise then
 pub timeout_asks : (old new : ReplicaState) (said : Response) (ballot : Ballot) → TakesTimeout old new said
-    → ballot.round ≡ next_round old.proposing → ballot.node ≡ old.proposing.id
+    → ballot.round ≡ next_round old.proposer → ballot.node ≡ old.proposer.id
     → said ≡ sent (to_all old.id old.nodes (Prepare ballot (position old)))
 timeout_asks old new said ballot (prepare', s, leaves, says) round own =
     let same : s.ballot ≡ ballot = one_ballot s.ballot ballot (s.round ∙ sym round) (s.own ∙ sym own) in

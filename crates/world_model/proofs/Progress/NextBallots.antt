@@ -113,7 +113,7 @@ module _ {S : Type 0} where
     pub ballots_never_fall : BallotsNeverFall storages
     ballots_never_fall old e new node h not before after here there b c first next =
         let grows = step_holds no_step_behind old e new h node not before after here there in
-        let round_b : b.round ≡ max before.proposing.round before.proposing.refused + 1 = first.round in
-        let round_c : c.round ≡ max after.proposing.round after.proposing.refused + 1 = next.round in
+        let round_b : b.round ≡ max before.proposer.round before.proposer.refused + 1 = first.round in
+        let round_c : c.round ≡ max after.proposer.round after.proposer.refused + 1 = next.round in
         let same : b.node ≡ c.node = first.own ∙ (sym grows.own ∙ sym next.own) in
         omega (arith, round_b, round_c, grows.refused_, grows.round_, same)

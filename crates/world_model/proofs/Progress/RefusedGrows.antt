@@ -23,18 +23,18 @@ use Rattle.world_model.proofs.Progress.RoundAsked.{takes_message, it_concerns}
 
 -- ---- a node
 abbrev refused_of : ReplicaState → ℕ
-refused_of m = m.proposing.refused
+refused_of m = m.proposer.refused
 
 -- it is the same node, and neither of its rounds falls
 pub record Grows (old new : ReplicaState) : Type 0 where
   pub own : new.id ≡ old.id
   pub refused_ : refused_of old ≤ refused_of new
-  pub round_ : old.proposing.round ≤ new.proposing.round
+  pub round_ : old.proposer.round ≤ new.proposer.round
 
 -- no input lowers the round
-round_grows : (m : ReplicaState) (i : Input) → m.proposing.round ≤ round_after m i
+round_grows : (m : ReplicaState) (i : Input) → m.proposer.round ≤ round_after m i
 round_grows m input.Timeout = omega arith
-round_grows m other = le_refl m.proposing.round
+round_grows m other = le_refl m.proposer.round
 
 -- whatever it takes
 pub takes_grows : (old : ReplicaState) (i : Input) (new : ReplicaState) (said : Response) → Takes old i new said → Grows old new
@@ -113,7 +113,7 @@ above_told node greatest w h = record {
   replica = h.replica;
   here = h.here;
   next = λ b is.
-      let round : b.round ≡ max h.replica.proposing.round (refused_of h.replica) + 1 = is.round in
+      let round : b.round ≡ max h.replica.proposer.round (refused_of h.replica) + 1 = is.round in
       let of_a_node = greatest.of_a_node in
       omega (arith, round, h.told, of_a_node);
 }

@@ -69,7 +69,7 @@ no_flag (suc n) (suc j) = no_flag n j
 
 -- ---- a promise that was answered names the nodes of the run
 pub promise_names : (nodes : ℕ) (ballot : Ballot) (slot : ℕ) (m : ReplicaState) (p : Promised) → ballot.node < nodes
-    → ((s : ℕ) (v : Vote Command) → m.accepting.vote s ≡ Some v → v.ballot.node < nodes) → IsPromiseFrom m.accepting.vote ballot slot p
+    → ((s : ℕ) (v : Vote Command) → m.acceptor.vote s ≡ Some v → v.ballot.node < nodes) → IsPromiseFrom m.acceptor.vote ballot slot p
     → names_run nodes (Promise p) ≡ true
 promise_names nodes ballot slot m p owner voted h =
     both (is_of_run nodes p.ballot) (list_all (is_vote_of_run nodes) p.entries)
@@ -117,8 +117,8 @@ module _ {S : Type 0} (w start : WorldState S) (nodes node : ℕ) (members : Lis
     pub replica_then : ReplicaState
     pub here : replica_at now node ≡ Some replica_then
     pub is : IsReplicaOf node nodes replica_then
-    pub learning : replica_then.learning ≡ replica.learning
-    pub accepting : replica_then.accepting ≡ replica.accepting
+    pub learner : replica_then.learner ≡ replica.learner
+    pub acceptor : replica_then.acceptor ≡ replica.acceptor
     pub others : (j : ℕ) → j ≢ node → replica_at now j ≡ replica_at start j
     pub sends : List Envelope
     pub frames_ : now.frames ≡ start.frames ++ sends
@@ -129,8 +129,8 @@ module _ {S : Type 0} (w start : WorldState S) (nodes node : ℕ) (members : Lis
     pub replica_then : ReplicaState
     pub here_then : replica_at now node ≡ Some replica_then
     pub is_then : IsReplicaOf node nodes replica_then
-    pub learning : replica_then.learning ≡ replica.learning
-    pub accepting : replica_then.accepting ≡ replica.accepting
+    pub learner : replica_then.learner ≡ replica.learner
+    pub acceptor : replica_then.acceptor ≡ replica.acceptor
     pub others : (j : ℕ) → j ≢ node → replica_at now j ≡ replica_at start j
     pub sends : List Envelope
     pub frames_ : now.frames ≡ start.frames ++ sends
@@ -139,7 +139,7 @@ module _ {S : Type 0} (w start : WorldState S) (nodes node : ℕ) (members : Lis
   -- a promise comes while it gathers
   module _ (node_there : node < nodes) (owner_there : ballot.node < nodes) (few : nodes ≤ 7) (at : slot ≡ position replica)
       (in_log : slot < SLOTS)
-      (unlearnt : replica.learning.learnt slot ≡ None) where
+      (unlearnt : replica.learner.learnt slot ≡ None) where
     asks_so : (m : ReplicaState) (sends says : List Envelope) → AsksAll m ballot slot says → sends ≡ says → m.id ≡ node → m.nodes ≡ nodes
         → Asks sends
     asks_so m sends says a same number of_all = record {
@@ -152,13 +152,13 @@ module _ {S : Type 0} (w start : WorldState S) (nodes node : ℕ) (members : Lis
     }
 
     gathers_on : (k : ℕ) (p : Promised) (m new : ReplicaState) (said : Response) (sends : List Envelope) → Gathering k m sends
-        → Counts node k p m new said → k < nodes → p.ballot ≡ ballot → p.first ≡ slot → slot ≤ p.last → m.learning ≡ replica.learning
+        → Counts node k p m new said → k < nodes → p.ballot ≡ ballot → p.first ≡ slot → slot ≤ p.last → m.learner ≡ replica.learner
         → IsReplicaOf node nodes m → Gathering (suc k) new (sends ++ said.sends) ⊎ Leading new (sends ++ said.sends)
-    gathers_on k p m new said sends g c there of_ballot from within learning is =
+    gathers_on k p m new said sends g c there of_ballot from within learner is =
         let silent : sends ++ said.sends ≡ proposer_sends m (after_promise m k p) =
         ap (λ (xs : List Envelope). xs ++ said.sends) g.silent ∙ c.sends in
         elim (counts_one ballot slot m g.set k p g.gathers of_ballot from within (g.uncounted k (omega arith))
-        (at ∙ ap (λ (l : Learning). prefix l) (sym learning)) in_log (ap (λ (l : Learning). l.learnt slot) learning ∙ unlearnt)) [
+        (at ∙ ap (λ (l : Learning). prefix l) (sym learner)) in_log (ap (λ (l : Learning). l.learnt slot) learner ∙ unlearnt)) [
           | inl more ↦ inl (record {
             set = with_node g.set k;
             gathers = subst (λ (x : ReplicaState). Gathers ballot slot x (with_node g.set k)) (sym c.leaves) more.0;
@@ -181,7 +181,7 @@ module _ {S : Type 0} (w start : WorldState S) (nodes node : ℕ) (members : Lis
         → Counts node k p m new said
         → Leading new (sends ++ said.sends)
     leads_on k p m new said sends l c =
-        let none : after_promise m k p ≡ (m.proposing, []) = counts_no_more m k p l.leads in
+        let none : after_promise m k p ≡ (m.proposer, []) = counts_no_more m k p l.leads in
         let silent : said.sends ≡ [] = c.sends ∙ ap (λ (x : _). proposer_sends m x) none in
         let same : new ≡ m = c.leaves ∙ ap (λ (x : _). with_proposer m x) none in
         record {
@@ -191,38 +191,38 @@ module _ {S : Type 0} (w start : WorldState S) (nodes node : ℕ) (members : Lis
 
     counted_so : (k : ℕ) (p : Promised) (m new : ReplicaState) (said : Response) (sends : List Envelope)
         → Gathering k m sends ⊎ Leading m sends → Counts node k p m new said → k < nodes → p.ballot ≡ ballot → p.first ≡ slot
-        → slot ≤ p.last → m.learning ≡ replica.learning → IsReplicaOf node nodes m
+        → slot ≤ p.last → m.learner ≡ replica.learner → IsReplicaOf node nodes m
         → Gathering (suc k) new (sends ++ said.sends) ⊎ Leading new (sends ++ said.sends)
-    counted_so k p m new said sends (inl g) c there of_ballot from within learning is =
-        gathers_on k p m new said sends g c there of_ballot from within learning is
-    counted_so k p m new said sends (inr l) c there of_ballot from within learning is = inr (leads_on k p m new said sends l c)
+    counted_so k p m new said sends (inl g) c there of_ballot from within learner is =
+        gathers_on k p m new said sends g c there of_ballot from within learner is
+    counted_so k p m new said sends (inr l) c there of_ballot from within learner is = inr (leads_on k p m new said sends l c)
 
     promise_from : ℕ → Promised → Envelope
     promise_from k p = record { from = k; to = node; message = Promise p }
 
     -- a member's promise comes
     counted_promise : (k : ℕ) (p : Promised) (mid now : WorldState S) (m : ReplicaState) → CountedBelow k mid → k < nodes
-        → IsPromiseFrom m.accepting.vote ballot slot p → names_run nodes (Promise p) ≡ true
+        → IsPromiseFrom m.acceptor.vote ballot slot p → names_run nodes (Promise p) ≡ true
         → Took mid (record { from = k; to = node; message = Promise p }) now → CountedBelow (suc k) now
     counted_promise k p mid now m h there tells names took =
         let same : h.replica_then ≡ took.replica = same_replica h.replica_then took.replica (sym h.here ∙ took.here) in
         let is : IsReplicaOf node nodes took.replica = subst (λ (x : ReplicaState). IsReplicaOf node nodes x) same h.is in
-        let learning : took.replica.learning ≡ replica.learning = ap (λ (x : ReplicaState). x.learning) (sym same) ∙ h.learning in
+        let learner : took.replica.learner ≡ replica.learner = ap (λ (x : ReplicaState). x.learner) (sym same) ∙ h.learner in
         let c = counts_promise nodes node k p took.replica took.replica_then took.said is there names took.takes in
         record {
           replica_then = took.replica_then;
           here = took.here_then;
           is = takes_own node nodes took.replica is (input.Message (record { from = k; to = node; message = Promise p })) took.replica_then
               took.said took.takes;
-          learning = ap (λ (x : ReplicaState). x.learning) c.leaves ∙ learning;
-          accepting = ap (λ (x : ReplicaState). x.accepting) c.leaves ∙ (ap (λ (x : ReplicaState). x.accepting) (sym same) ∙ h.accepting);
+          learner = ap (λ (x : ReplicaState). x.learner) c.leaves ∙ learner;
+          acceptor = ap (λ (x : ReplicaState). x.acceptor) c.leaves ∙ (ap (λ (x : ReplicaState). x.acceptor) (sym same) ∙ h.acceptor);
           others = λ j other. took.others j other ∙ h.others j other;
           sends = h.sends ++ took.said.sends;
           frames_ = took.frames_ ∙ (ap (λ (fs : List Envelope). fs ++ took.said.sends) h.frames_
               ∙ append_assoc start.frames h.sends took.said.sends);
           so_far = counted_so k p took.replica took.replica_then took.said h.sends
               (subst (λ (x : ReplicaState). Gathering k x h.sends ⊎ Leading x h.sends) same h.so_far) c there tells.of_the_ballot tells.from
-              (subst (λ (s : ℕ). s ≤ p.last) tells.from tells.may_be_said.in_order) learning is;
+              (subst (λ (s : ℕ). s ≤ p.last) tells.from tells.may_be_said.in_order) learner is;
         }
       where
         same_replica : (m n : ReplicaState) → Some m ≡ Some n → m ≡ n
@@ -233,8 +233,8 @@ module _ {S : Type 0} (w start : WorldState S) (nodes node : ℕ) (members : Lis
       replica_then = h.replica_then;
       here = h.here;
       is = h.is;
-      learning = h.learning;
-      accepting = h.accepting;
+      learner = h.learner;
+      acceptor = h.acceptor;
       others = h.others;
       sends = h.sends;
       frames_ = h.frames_;
@@ -254,8 +254,8 @@ module _ {S : Type 0} (w start : WorldState S) (nodes node : ℕ) (members : Lis
       ];
     }
 
-    module _ (willing : (j : ℕ) (m : ReplicaState) → Contains members j → replica_at w j ≡ Some m → refusing m.accepting.promise ballot ≡ None)
-        (of_run : (j : ℕ) (m : ReplicaState) → replica_at w j ≡ Some m → (s : ℕ) (v : Vote Command) → m.accepting.vote s ≡ Some v
+    module _ (willing : (j : ℕ) (m : ReplicaState) → Contains members j → replica_at w j ≡ Some m → refusing m.acceptor.promise ballot ≡ None)
+        (of_run : (j : ℕ) (m : ReplicaState) → replica_at w j ≡ Some m → (s : ℕ) (v : Vote Command) → m.acceptor.vote s ≡ Some v
         → v.ballot.node < nodes)
         (here : replica_at start node ≡ Some replica) (is : IsReplicaOf node nodes replica) (gathers : Gathers ballot slot replica no_nodes) where
       counted_none : (now : WorldState S) → HandsOn (node ∷ []) [] start now → CountedBelow zero now
@@ -263,8 +263,8 @@ module _ {S : Type 0} (w start : WorldState S) (nodes node : ℕ) (members : Lis
         replica_then = replica;
         here = here;
         is = is;
-        learning = refl;
-        accepting = refl;
+        learner = refl;
+        acceptor = refl;
         others = λ j _. refl;
         sends = [];
         frames_ = sym (append-nil start.frames);
@@ -310,8 +310,8 @@ module _ {S : Type 0} (w start : WorldState S) (nodes node : ℕ) (members : Lis
             replica_then = h.replica_then;
             here_then = h.here;
             is_then = h.is;
-            learning = h.learning;
-            accepting = h.accepting;
+            learner = h.learner;
+            acceptor = h.acceptor;
             others = h.others;
             sends = h.sends;
             frames_ = h.frames_;
@@ -320,7 +320,7 @@ module _ {S : Type 0} (w start : WorldState S) (nodes node : ℕ) (members : Lis
                   let all : is_most nodes g.set ≡ true = cannot_gather nodes members g.set most apart there
                   (λ m among. g.counted_ m (there m among) among) in
                   let few_ : is_most nodes g.set ≡ false =
-                  subst (λ (n : ℕ). is_most n g.set ≡ false) h.is.proposing.1 g.gathers.too_few in
+                  subst (λ (n : ℕ). is_most n g.set ≡ false) h.is.proposer.1 g.gathers.too_few in
                   absurd cc
               | inr l ↦ l.asks
             ];

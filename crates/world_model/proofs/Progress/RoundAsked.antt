@@ -53,14 +53,14 @@ it_concerns to nodes m e is to_ from names =
 -- ---- a member answers a prepare
 -- an envelope is what this member answers to node `to`
 pub data IsAnswer (to : ℕ) (ballot : Ballot) (slot : ℕ) (from : ℕ) (m : ReplicaState) (e : Envelope) : Type 0 where
-  promises : (p : Promised) → e ≡ record { from = from; to = to; message = Promise p } → refusing m.accepting.promise ballot ≡ None
-      → IsPromiseFrom m.accepting.vote ballot slot p → IsAnswer to ballot slot from m e
+  promises : (p : Promised) → e ≡ record { from = from; to = to; message = Promise p } → refusing m.acceptor.promise ballot ≡ None
+      → IsPromiseFrom m.acceptor.vote ballot slot p → IsAnswer to ballot slot from m e
   declines : (g : Ballot) → e ≡ record { from = from; to = to; message = Nack (record { ballot = ballot; promised = g }) }
-      → refusing m.accepting.promise ballot ≡ Some g → IsAnswer to ballot slot from m e
+      → refusing m.acceptor.promise ballot ≡ Some g → IsAnswer to ballot slot from m e
 
 -- what it holds then
 abbrev pub asked_replica : ReplicaState → Ballot → ℕ → ReplicaState
-asked_replica m ballot slot = record m { accepting = after_prepare m.accepting ballot slot }
+asked_replica m ballot slot = record m { acceptor = after_prepare m.acceptor ballot slot }
 
 pub record IsAnswered (to : ℕ) (ballot : Ballot) (slot : ℕ) (from : ℕ) (m new : ReplicaState) (said : Response) : Type 0 where
   pub envelope : Envelope
@@ -69,8 +69,8 @@ pub record IsAnswered (to : ℕ) (ballot : Ballot) (slot : ℕ) (from : ℕ) (m 
   pub leaves : new ≡ asked_replica m ballot slot
 
 answered_so : (to : ℕ) (ballot : Ballot) (slot : ℕ) (from : ℕ) (m new : ReplicaState) (said : Response) (a : Answer) (o : Option Ballot)
-    → refusing m.accepting.promise ballot ≡ o
-    → MatchOption (turned_away (of_refusal o Taken) ballot) (TellsFrom m.accepting ballot slot a) (λ away. a ≡ away)
+    → refusing m.acceptor.promise ballot ≡ o
+    → MatchOption (turned_away (of_refusal o Taken) ballot) (TellsFrom m.acceptor ballot slot a) (λ away. a ≡ away)
     → new ≡ asked_replica m ballot slot
     → said ≡ sent (answer_sends m.id m.nodes to a) → m.id ≡ from → IsAnswered to ballot slot from m new said
 answered_so to ballot slot from m new said a None none h leaves says is = record {
@@ -89,20 +89,20 @@ answered_so to ballot slot from m new said a (Some g) some h leaves says is = re
 }
 
 pub answered_prepare : (to nodes : ℕ) (ballot : Ballot) (slot : ℕ) (from : ℕ) (m new : ReplicaState) (said : Response) → IsReplicaOf from nodes m
-    → to < nodes → ballot.node < nodes → m.accepting.floor ≤ slot
+    → to < nodes → ballot.node < nodes → m.acceptor.floor ≤ slot
     → Takes m (input.Message (record { from = to; to = from; message = Prepare ballot slot })) new said
     → IsAnswered to ballot slot from m new said
 answered_prepare to nodes ballot slot from m new said is to_there owner_there level h =
     let e : Envelope = record { from = to; to = from; message = Prepare ballot slot } in
     let t : TakesMessage m to (Prepare ballot slot) new said =
     takes_message m e new said (it_concerns from nodes m e is refl to_there (is_below ballot.node nodes owner_there)) h in
-    answered_so to ballot slot from m new said t.0 (refusing m.accepting.promise ballot) refl
-    (subst (λ (v : Verdict). MatchOption (turned_away v ballot) (TellsFrom m.accepting ballot slot t.0) (λ away. t.0 ≡ away))
-    (not_behind m.accepting ballot slot level) t.1) t.2 t.3 is.number
+    answered_so to ballot slot from m new said t.0 (refusing m.acceptor.promise ballot) refl
+    (subst (λ (v : Verdict). MatchOption (turned_away v ballot) (TellsFrom m.acceptor ballot slot t.0) (λ away. t.0 ≡ away))
+    (not_behind m.acceptor ballot slot level) t.1) t.2 t.3 is.number
 
 -- whoever of the members is up may speak of the slot
 abbrev pub MaySpeak : {S : Type 0} → WorldState S → List ℕ → ℕ → Type 0
-MaySpeak w members slot = (j : ℕ) (m : ReplicaState) → Contains members j → replica_at w j ≡ Some m → m.accepting.floor ≤ slot
+MaySpeak w members slot = (j : ℕ) (m : ReplicaState) → Contains members j → replica_at w j ≡ Some m → m.acceptor.floor ≤ slot
 
 -- ---- all of them do, in order of their numbers
 module _ {S : Type 0} (w : WorldState S) (nodes node : ℕ) (members : List ℕ) (ballot : Ballot) (slot : ℕ) where

@@ -117,10 +117,10 @@ slot_stands w node n (Some s) p here up at valid value =
 -- ---- a node that is up is behind another where its position is below the floor there
 module _ {S : Type 0} (w : WorldState S) (node other : ℕ) where
   abbrev IsFloorOf : ℕ → Option ReplicaState → Type 0
-  IsFloorOf floor up = MatchOption up (floor ≡ 0) (λ m. floor ≡ m.accepting.floor)
+  IsFloorOf floor up = MatchOption up (floor ≡ 0) (λ m. floor ≡ m.acceptor.floor)
 
   above_none : (up : Option ReplicaState) (p floor : ℕ) → IsFloorOf floor up → p < floor
-      → (m : ReplicaState) × (up ≡ Some m) × (floor ≡ m.accepting.floor)
+      → (m : ReplicaState) × (up ≡ Some m) × (floor ≡ m.acceptor.floor)
   above_none None p floor none less = absurd (omega (arith, none, less))
   above_none (Some m) p floor is less = (m, refl, is)
 

@@ -103,8 +103,8 @@ pub record Facts {S : Type 0} (old : WorldState S) (node : ℕ) (members : List 
   pub there : (j : ℕ) (m : ReplicaState) → replica_at old j ≡ Some m → j < length old.nodes
   pub known : AreMembers (length old.nodes) old
   pub level : MaySpeak old members slot
-  pub unheard : (a : ℕ) → a < length old.nodes → replica.learning.heard slot ballot a ≡ None
-  pub of_run : (j : ℕ) (m : ReplicaState) → replica_at old j ≡ Some m → (s : ℕ) (v : Vote Command) → m.accepting.vote s ≡ Some v
+  pub unheard : (a : ℕ) → a < length old.nodes → replica.learner.heard slot ballot a ≡ None
+  pub of_run : (j : ℕ) (m : ReplicaState) → replica_at old j ≡ Some m → (s : ℕ) (v : Vote Command) → m.acceptor.vote s ≡ Some v
       → v.ballot.node < length old.nodes
 
 module _ {S : Type 0} (storages : Ghosts (Script S)) (old : WorldState S) (node : ℕ) (members : List ℕ) (slot : ℕ) (ballot : Ballot)
@@ -132,11 +132,11 @@ module _ {S : Type 0} (storages : Ghosts (Script S)) (old : WorldState S) (node 
     pub replica_then : ReplicaState
     pub here : replica_at w node ≡ Some replica_then
     pub gathers : Gathers ballot slot replica_then no_nodes
-    pub learning : replica_then.learning ≡ replica.learning
+    pub learner : replica_then.learner ≡ replica.learner
     pub prepares : drop first w.frames ≡ to_all node nodes (Prepare ballot slot)
     pub known : AreMembers nodes w
     pub up : (j : ℕ) → IsSome (replica_at old j) → IsSome (replica_at w j)
-    pub accepting : (j : ℕ) (m : ReplicaState) → replica_at w j ≡ Some m → (x : ReplicaState) × (replica_at old j ≡ Some x) × (m.accepting ≡ x.accepting)
+    pub acceptor : (j : ℕ) (m : ReplicaState) → replica_at w j ≡ Some m → (x : ReplicaState) × (replica_at old j ≡ Some x) × (m.acceptor ≡ x.acceptor)
 
   begun_so : (w : WorldState S) → TookAt old node input.Timeout w → IsBegun (length old.frames) w
   begun_so w took =
@@ -144,15 +144,15 @@ module _ {S : Type 0} (storages : Ghosts (Script S)) (old : WorldState S) (node 
       let is : IsReplicaOf node nodes took.replica = facts.known node took.replica took.here in
       let t : TakesTimeout took.replica took.replica_then took.said = took.takes in
       let at : slot ≡ position took.replica = facts.at ∙ ap (λ (m : ReplicaState). position m) (sym same) in
-      let own : ballot.node ≡ took.replica.proposing.id =
-      facts.next.own ∙ (ap (λ (m : ReplicaState). m.id) (sym same) ∙ (is.number ∙ sym is.proposing.0)) in
-      let round = facts.next.round ∙ ap (λ (m : ReplicaState). next_round m.proposing) (sym same) in
+      let own : ballot.node ≡ took.replica.proposer.id =
+      facts.next.own ∙ (ap (λ (m : ReplicaState). m.id) (sym same) ∙ (is.number ∙ sym is.proposer.0)) in
+      let round = facts.next.round ∙ ap (λ (m : ReplicaState). next_round m.proposer) (sym same) in
       record {
         replica_then = took.replica_then;
         here = took.here_then;
         gathers = subst (λ (s : ℕ). Gathers ballot s took.replica_then no_nodes) (sym at)
             (timeout_gathers took.replica took.replica_then took.said ballot t (subst (λ (s : ℕ). s < SLOTS) at facts.in_log) round own);
-        learning = ap (λ (m : ReplicaState). m.learning) t.2 ∙ ap (λ (m : ReplicaState). m.learning) same;
+        learner = ap (λ (m : ReplicaState). m.learner) t.2 ∙ ap (λ (m : ReplicaState). m.learner) same;
         prepares = ap (λ (fs : List Envelope). drop (length old.frames) fs) took.frames_
             ∙ (drop-append_seam old.frames took.said.sends
             ∙ (ap (λ (r : Response). r.sends) (timeout_asks took.replica took.replica_then took.said ballot t round own)
@@ -161,13 +161,13 @@ module _ {S : Type 0} (storages : Ghosts (Script S)) (old : WorldState S) (node 
             ∙ ap (λ (s : ℕ). to_all node nodes (Prepare ballot s)) (sym at)))));
         known = stay_members nodes old node input.Timeout w took facts.known;
         up = stays_up old node input.Timeout w took;
-        accepting = λ j m here. elim (same_or_not j node) [
+        acceptor = λ j m here. elim (same_or_not j node) [
           | inl own_ ↦
               let this : took.replica_then ≡ m =
               same_replica took.replica_then m (sym took.here_then ∙ (ap (λ (k : ℕ). replica_at w k) (sym own_) ∙ here)) in (
                 took.replica,
                 ap (λ (k : ℕ). replica_at old k) own_ ∙ took.here,
-                ap (λ (x : ReplicaState). x.accepting) (sym this) ∙ ap (λ (x : ReplicaState). x.accepting) t.2,
+                ap (λ (x : ReplicaState). x.acceptor) (sym this) ∙ ap (λ (x : ReplicaState). x.acceptor) t.2,
               )
           | inr other ↦ (m, sym (took.others j other) ∙ here, refl)
         ];
@@ -179,7 +179,7 @@ module _ {S : Type 0} (storages : Ghosts (Script S)) (old : WorldState S) (node 
   -- it changes no floor
   begun_level : (first : ℕ) (w : WorldState S) → IsBegun first w → MaySpeak w members slot
   begun_level first w h j m among here =
-      let before = h.accepting j m here in
+      let before = h.acceptor j m here in
       subst (λ (a : Accepting). a.floor ≤ slot) (sym before.2) (facts.level j before.0 among before.1)
 
   -- ---- asked
@@ -228,7 +228,7 @@ module _ {S : Type 0} (storages : Ghosts (Script S)) (old : WorldState S) (node 
 
   -- whose answer is no refusal was willing
   willing_one : (m : ReplicaState) (j : ℕ) (e : Envelope) → IsAnswer node ballot slot j m e → refusal_in e.message ≡ None
-      → refusing m.accepting.promise ballot ≡ None
+      → refusing m.acceptor.promise ballot ≡ None
   willing_one m j e (promises p same none tells) quiet = none
   willing_one m j e (declines g same some) quiet =
       let never : Some g ≡ None = sym (ap (λ (x : Envelope). refusal_in x.message) same) ∙ quiet in absurd cc
@@ -239,7 +239,7 @@ module _ {S : Type 0} (storages : Ghosts (Script S)) (old : WorldState S) (node 
       ap (λ (v : Verdict). (if_taken v (record a { promise = Some ballot }) a).promise) (taken_where a ballot slot level none)
 
   abbrev IsWilling : WorldState S → Type 0
-  IsWilling w = (j : ℕ) (m : ReplicaState) → Contains members j → replica_at w j ≡ Some m → refusing m.accepting.promise ballot ≡ None
+  IsWilling w = (j : ℕ) (m : ReplicaState) → Contains members j → replica_at w j ≡ Some m → refusing m.acceptor.promise ballot ≡ None
 
   willing : (first : ℕ) (w : WorldState S) (h : IsAsked first w) → NoneRefuses (drop first w.frames) → IsWilling h.between
   willing first w h none j m among here =
@@ -250,9 +250,9 @@ module _ {S : Type 0} (storages : Ghosts (Script S)) (old : WorldState S) (node 
       (subst (λ (es : List Envelope). Contains es one.envelope) (sym h.answers_) one.among))
 
   voted_of_run : (first : ℕ) (w : WorldState S) → IsBegun first w → (j : ℕ) (m : ReplicaState) → replica_at w j ≡ Some m → (s : ℕ) (v : Vote Command)
-      → m.accepting.vote s ≡ Some v → v.ballot.node < nodes
+      → m.acceptor.vote s ≡ Some v → v.ballot.node < nodes
   voted_of_run first w h j m here s v vote =
-      let before = h.accepting j m here in
+      let before = h.acceptor j m here in
       facts.of_run j before.0 before.1 s v (sym (ap (λ (a : Accepting). a.vote s) before.2) ∙ vote)
 
   pub record IsLed (first : ℕ) (w : WorldState S) : Type 0 where
@@ -262,7 +262,7 @@ module _ {S : Type 0} (storages : Ghosts (Script S)) (old : WorldState S) (node 
     pub willing_ : IsWilling asked_.between
     pub replica_before : ReplicaState
     pub here_before : replica_at between node ≡ Some (asked_replica replica_before ballot slot)
-    pub learning_before : replica_before.learning ≡ replica.learning
+    pub learning_before : replica_before.learner ≡ replica.learner
     pub has_asked_ : HasAsked asked_.between between nodes node members ballot slot (asked_replica replica_before ballot slot) w
     pub accepts : drop first w.frames ≡ has_asked_.sends
     pub known : AreMembers nodes w
@@ -274,11 +274,11 @@ module _ {S : Type 0} (storages : Ghosts (Script S)) (old : WorldState S) (node 
       let here : replica_at between node ≡ Some (asked_replica m ballot slot) =
       a.below.members_ node m node_there facts.quorum.own a.begun_.here in
       let will = willing first between a none in
-      let free : IsFree replica.learning slot = subst (λ (s : ℕ). IsFree replica.learning s) (sym facts.at)
-      (free_at replica.learning (subst (λ (s : ℕ). s < SLOTS) facts.at facts.in_log)) in
+      let free : IsFree replica.learner slot = subst (λ (s : ℕ). IsFree replica.learner s) (sym facts.at)
+      (free_at replica.learner (subst (λ (s : ℕ). s < SLOTS) facts.at facts.in_log)) in
       let h = has_asked a.between between nodes node members ballot slot (asked_replica m ballot slot) node_there owner_there facts.few
-      (facts.at ∙ ap (λ (l : Learning). prefix l) (sym a.begun_.learning)) facts.in_log
-      (ap (λ (l : Learning). l.learnt slot) a.begun_.learning ∙ free.unlearnt) will (voted_of_run a.before a.between a.begun_) here
+      (facts.at ∙ ap (λ (l : Learning). prefix l) (sym a.begun_.learner)) facts.in_log
+      (ap (λ (l : Learning). l.learnt slot) a.begun_.learner ∙ free.unlearnt) will (voted_of_run a.before a.between a.begun_) here
       (a.known node (asked_replica m ballot slot) here) (asked_gathers m a.begun_.gathers) a.below.answers a.below.are facts.quorum.most
       facts.quorum.none_twice member_there w hands in
       record {
@@ -288,7 +288,7 @@ module _ {S : Type 0} (storages : Ghosts (Script S)) (old : WorldState S) (node 
         willing_ = will;
         replica_before = m;
         here_before = here;
-        learning_before = a.begun_.learning;
+        learning_before = a.begun_.learner;
         has_asked_ = h;
         accepts = sent_since between w h.sends h.frames_;
         known = hands_members nodes (node ∷ []) a.below.answers between w hands a.known;
@@ -319,10 +319,10 @@ module _ {S : Type 0} (storages : Ghosts (Script S)) (old : WorldState S) (node 
   record HoldsAsked (between : WorldState S) (j : ℕ) (a : Accepting) : Type 0 where
     replica_asked : ReplicaState
     here_asked : replica_at between j ≡ Some replica_asked
-    is : a ≡ after_prepare replica_asked.accepting ballot slot
+    is : a ≡ after_prepare replica_asked.acceptor ballot slot
 
   holds_asked : (first : ℕ) (w : WorldState S) (h : IsLed first w) → (j : ℕ) (m : ReplicaState) → Contains members j → replica_at w j ≡ Some m
-      → HoldsAsked h.asked_.between j m.accepting
+      → HoldsAsked h.asked_.between j m.acceptor
   holds_asked first w h j m among here =
       let a = h.asked_ in
       let member = some_of (replica_at a.between j) (a.begun_.up j (facts.up j among)) in
@@ -338,17 +338,17 @@ module _ {S : Type 0} (storages : Ghosts (Script S)) (old : WorldState S) (node 
               let same : asked_replica h.replica_before ballot slot ≡ asked_replica member.0 ballot slot =
               same_replica (asked_replica h.replica_before ballot slot) (asked_replica member.0 ballot slot)
               (sym h.here_before ∙ (ap (λ (k : ℕ). replica_at h.between k) (sym own) ∙ asked_then)) in
-              ap (λ (x : ReplicaState). x.accepting) (sym this) ∙ (h.has_asked_.accepting ∙ ap (λ (x : ReplicaState). x.accepting) same)
+              ap (λ (x : ReplicaState). x.acceptor) (sym this) ∙ (h.has_asked_.acceptor ∙ ap (λ (x : ReplicaState). x.acceptor) same)
           | inr other ↦
               let this : asked_replica member.0 ballot slot ≡ m =
               same_replica (asked_replica member.0 ballot slot) m (sym asked_then ∙ (sym (h.has_asked_.others j other) ∙ here)) in
-              ap (λ (x : ReplicaState). x.accepting) (sym this)
+              ap (λ (x : ReplicaState). x.acceptor) (sym this)
         ];
       }
 
   -- the member might speak of the slot then
   level_asked : (first : ℕ) (w : WorldState S) (h : IsLed first w) → (j : ℕ) (m : ReplicaState) → Contains members j
-      → replica_at h.asked_.between j ≡ Some m → m.accepting.floor ≤ slot
+      → replica_at h.asked_.between j ≡ Some m → m.acceptor.floor ≤ slot
   level_asked first w h j m among here = begun_level h.asked_.before h.asked_.between h.asked_.begun_ j m among here
 
   -- it has promised the ballot, and no other since
@@ -357,7 +357,7 @@ module _ {S : Type 0} (storages : Ghosts (Script S)) (old : WorldState S) (node 
   holds_promise first w h j m among here =
       let x = holds_asked first w h j m among here in
       ap (λ (a : Accepting). a.promise) x.is
-      ∙ has_promised x.replica_asked.accepting (level_asked first w h j x.replica_asked among x.here_asked)
+      ∙ has_promised x.replica_asked.acceptor (level_asked first w h j x.replica_asked among x.here_asked)
       (h.willing_ j x.replica_asked among x.here_asked)
 
   -- and may still speak of the slot
@@ -365,7 +365,7 @@ module _ {S : Type 0} (storages : Ghosts (Script S)) (old : WorldState S) (node 
   led_level first w h j m among here =
       let x = holds_asked first w h j m among here in
       let level = level_asked first w h j x.replica_asked among x.here_asked in
-      let same = ap (λ (a : Accepting). a.floor) x.is ∙ floor_prepared x.replica_asked.accepting ballot slot in
+      let same = ap (λ (a : Accepting). a.floor) x.is ∙ floor_prepared x.replica_asked.acceptor ballot slot in
       omega (arith, level, same)
 
   voted_so : (first : ℕ) (between w : WorldState S) (h : IsLed first between)
@@ -394,7 +394,7 @@ module _ {S : Type 0} (storages : Ghosts (Script S)) (old : WorldState S) (node 
           replica_then = now.replica_then;
           here = now.here;
           is = now.is;
-          learning = now.learning ∙ (h.has_asked_.learning ∙ h.learning_before);
+          learner = now.learner ∙ (h.has_asked_.learner ∙ h.learning_before);
         };
       }
 
@@ -410,13 +410,13 @@ module _ {S : Type 0} (storages : Ghosts (Script S)) (old : WorldState S) (node 
   heard_so first between w h hands =
       let v : Vote Command = vote_for h.command in
       let two = hands_apart (node ∷ []) h.votes_ h.more between w hands in
-      let l : Learning = h.learns.replica_then.learning in
-      let same : replica.learning ≡ l = sym h.learns.learning in
-      let free : IsFree l slot = subst (λ (x : Learning). IsFree x slot) same (subst (λ (s : ℕ). IsFree replica.learning s) (sym facts.at)
-      (free_at replica.learning (subst (λ (s : ℕ). s < SLOTS) facts.at facts.in_log))) in
+      let l : Learning = h.learns.replica_then.learner in
+      let same : replica.learner ≡ l = sym h.learns.learner in
+      let free : IsFree l slot = subst (λ (x : Learning). IsFree x slot) same (subst (λ (s : ℕ). IsFree replica.learner s) (sym facts.at)
+      (free_at replica.learner (subst (λ (s : ℕ). s < SLOTS) facts.at facts.in_log))) in
       let none : (a : ℕ) → a < l.nodes → l.heard slot ballot a ≡ None =
-      λ a less. ap (λ (x : Learning). x.heard slot ballot a) h.learns.learning ∙ facts.unheard a
-      (subst (λ (n : ℕ). a < n) h.learns.is.learning less) in
+      λ a less. ap (λ (x : Learning). x.heard slot ballot a) h.learns.learner ∙ facts.unheard a
+      (subst (λ (n : ℕ). a < n) h.learns.is.learner less) in
       let up_to = heard_up_to between nodes node members v h.between owner_there node_there
       (record {
         replica = h.learns.replica_then;
@@ -424,12 +424,12 @@ module _ {S : Type 0} (storages : Ghosts (Script S)) (old : WorldState S) (node 
         is = h.learns.is;
         heard = inr (none_heard l slot ballot h.command members free.kept free.unlearnt none);
       }) nodes h.votes_ h.are (omega arith) two.mid two.first in
-      let all : up_to.replica.learning.nodes ≡ nodes = up_to.is.learning in
-      let learnt : up_to.replica.learning.learnt slot ≡ Some h.command =
-      heard_all up_to.replica.learning slot ballot h.command members
+      let all : up_to.replica.learner.nodes ≡ nodes = up_to.is.learner in
+      let learnt : up_to.replica.learner.learnt slot ≡ Some h.command =
+      heard_all up_to.replica.learner slot ballot h.command members
       (subst (λ (n : ℕ). IsMajority n (length members)) (sym all) facts.quorum.most) facts.quorum.none_twice
       (λ a among. subst (λ (n : ℕ). a < n) (sym all) (member_there a among))
-      (subst (λ (n : ℕ). HasHeard up_to.replica.learning slot ballot h.command members n) (sym all) up_to.heard) in
+      (subst (λ (n : ℕ). HasHeard up_to.replica.learner slot ballot h.command members n) (sym all) up_to.heard) in
       knows_still node slot h.command (node ∷ []) h.more two.mid w two.then
       (record { replica = up_to.replica; here = up_to.here; learnt = learnt })
 

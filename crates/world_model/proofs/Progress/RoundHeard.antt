@@ -67,7 +67,7 @@ module _ {S : Type 0} (start : WorldState S) (nodes node : ℕ) (members : List 
     pub replica : ReplicaState
     pub here : replica_at now node ≡ Some replica
     pub is : IsReplicaOf node nodes replica
-    pub heard : HasHeard replica.learning v.slot v.ballot v.command members k
+    pub heard : HasHeard replica.learner v.slot v.ballot v.command members k
 
   same_replica : (m n : ReplicaState) → Some m ≡ Some n → m ≡ n
   same_replica m n e = let same : m ≡ n = cc in same
@@ -86,9 +86,9 @@ module _ {S : Type 0} (start : WorldState S) (nodes node : ℕ) (members : List 
         replica = took.replica_then;
         here = took.here_then;
         is = takes_own node nodes took.replica is (input.Message (one_to k node (Accepted v))) took.replica_then took.said took.takes;
-        heard = heard_one took.replica.learning v.slot v.ballot v.command members k news.0 took.replica_then.learning
-            (subst (λ (x : ReplicaState). HasHeard x.learning v.slot v.ballot v.command members k) same h.heard)
-            (subst (λ (n : ℕ). k < n) (sym is.learning) there) news.1;
+        heard = heard_one took.replica.learner v.slot v.ballot v.command members k news.0 took.replica_then.learner
+            (subst (λ (x : ReplicaState). HasHeard x.learner v.slot v.ballot v.command members k) same h.heard)
+            (subst (λ (n : ℕ). k < n) (sym is.learner) there) news.1;
       }
 
   heard_another : (k : ℕ) (now : WorldState S) → (Contains members k → ⊥) → HeardUpTo k now → HeardUpTo (suc k) now
@@ -96,7 +96,7 @@ module _ {S : Type 0} (start : WorldState S) (nodes node : ℕ) (members : List 
     replica = h.replica;
     here = h.here;
     is = h.is;
-    heard = passed_one h.replica.learning v.slot v.ballot v.command members k not h.heard;
+    heard = passed_one h.replica.learner v.slot v.ballot v.command members k not h.heard;
   }
 
   pub heard_up_to : {T : Type 0} (w : WorldState T) (owner_there : v.ballot.node < nodes) (node_there : node < nodes) → HeardUpTo zero start
@@ -115,7 +115,7 @@ module _ {S : Type 0} (start : WorldState S) (nodes node : ℕ) (members : List 
 pub record Knows {S : Type 0} (node slot : ℕ) (c : Command) (now : WorldState S) : Type 0 where
   pub replica : ReplicaState
   pub here : replica_at now node ≡ Some replica
-  pub learnt : replica.learning.learnt slot ≡ Some c
+  pub learnt : replica.learner.learnt slot ≡ Some c
 
 module _ {S : Type 0} (node slot : ℕ) (c : Command) (receivers : List ℕ) where
   knows_on : (old : WorldState S) (e : Envelope) (new : WorldState S) → Took old e new → Knows node slot c old → Knows node slot c new
@@ -127,7 +127,7 @@ module _ {S : Type 0} (node slot : ℕ) (c : Command) (receivers : List ℕ) whe
           replica = took.replica_then;
           here = ap (λ (i : ℕ). replica_at new i) here ∙ took.here_then;
           learnt = stays_learnt took.replica e took.replica_then took.said slot c took.takes
-              (ap (λ (x : ReplicaState). x.learning.learnt slot) (sym same) ∙ h.learnt);
+              (ap (λ (x : ReplicaState). x.learner.learnt slot) (sym same) ∙ h.learnt);
         }
     | inr other ↦ record { replica = h.replica; here = took.others node other ∙ h.here; learnt = h.learnt }
   ]

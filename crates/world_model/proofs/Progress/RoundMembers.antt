@@ -114,7 +114,7 @@ pub can_meet : {S : Type 0} (w : WorldState S) (node : ℕ) (members : List ℕ)
 can_meet w node members quorum up none = record {
   quorum = quorum;
   up = up;
-  level = λ p m i among here there. elim (cases_lt (position p) m.accepting.floor) [
+  level = λ p m i among here there. elim (cases_lt (position p) m.acceptor.floor) [
     | inl above ↦ absurd (none i among (record { own = p; here = here; other = m; there = there; above = above }))
     | inr level ↦ level
   ];

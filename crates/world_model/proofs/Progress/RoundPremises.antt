@@ -47,22 +47,22 @@ module _ {S : Type 0} (contents : Script S → Records) (w : WorldState S) (memb
 
   -- what is proposed is of a round that its node has begun
   begun_round : (i : ℕ) (m : ReplicaState) → replica_at w i ≡ Some m → (v : Vote Command) → Proposed state.past v → v.ballot.node ≡ i
-      → v.ballot.round ≤ m.proposing.round
+      → v.ballot.round ≤ m.proposer.round
   begun_round i m e v proposed mine =
       let owned = holds.past.owned v proposed in
       let same : (state.past.records v.ballot.node).round ≡ (state.past.records i).round = ap (λ j. (state.past.records j).round) mine in
-      let stands : (state.past.records i).round ≡ m.proposing.round = (stands_up i m e).proposer.round in
+      let stands : (state.past.records i).round ≡ m.proposer.round = (stands_up i m e).proposer.round in
       omega (arith, owned, same, stands)
 
   -- a node has heard of no vote under its next ballot
   pub unheard_next : (i : ℕ) (m : ReplicaState) → replica_at w i ≡ Some m → (ballot : Ballot) → IsNextBallot m ballot
-      → (slot a : ℕ) → a < length w.nodes → m.learning.heard slot ballot a ≡ None
+      → (slot a : ℕ) → a < length w.nodes → m.learner.heard slot ballot a ≡ None
   unheard_next i m e ballot next slot a below =
-      nothing_there (m.learning.heard slot ballot a) (λ c is.
+      nothing_there (m.learner.heard slot ballot a) (λ c is.
       let mine = (is_member i m e).1 in
-      let among : a < m.learning.nodes = omega (arith, below, mine.learning) in
+      let among : a < m.learner.nodes = omega (arith, below, mine.learner) in
       let v : Vote Command = record { slot = slot; ballot = ballot; command = c } in
       let heard = (stands_up i m e).learner.heard slot a ballot c among is in
       let proposed = holds.past.backed a v ((holds.replica i).heard a v heard) in
-      let begun : ballot.round ≤ m.proposing.round = begun_round i m e v proposed (next.own ∙ mine.number) in
+      let begun : ballot.round ≤ m.proposer.round = begun_round i m e v proposed (next.own ∙ mine.number) in
       omega (arith, begun, next.round))

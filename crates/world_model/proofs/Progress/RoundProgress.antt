@@ -64,8 +64,8 @@ pub not_refused : (m : ReplicaState) (b : Ballot) (f : NodeFault) → position m
     → refuses m input.Timeout ≡ Some f → ⊥
 not_refused m b f in_log next left e =
     let open_ : is_full m ≡ false = grind (arith, in_log) in
-    let less : next_round m.proposing < 2 ^ 64 = subst (λ (r : ℕ). r < 2 ^ 64) next.round left in
-    let some_left : nat_le (2 ^ 64) (next_round m.proposing) ≡ false = above (2 ^ 64) (next_round m.proposing) less in
+    let less : next_round m.proposer < 2 ^ 64 = subst (λ (r : ℕ). r < 2 ^ 64) next.round left in
+    let some_left : nat_le (2 ^ 64) (next_round m.proposer) ≡ false = above (2 ^ 64) (next_round m.proposer) less in
     let none : refuses m input.Timeout ≡ None = rw open_ (rw some_left refl) in
     let never : None ≡ Some f = sym none ∙ e in absurd (cc)
   where

@@ -44,10 +44,10 @@ votes_so a v level none =
 -- it tells all nodes, and has learnt what it had
 pub record HasVoted (nodes from : ℕ) (v : Vote Command) (m new : ReplicaState) (said : Response) : Type 0 where
   pub sends : said.sends ≡ to_all from nodes (Accepted v)
-  pub learning : new.learning ≡ m.learning
+  pub learner : new.learner ≡ m.learner
 
 pub voted_for : (nodes node from : ℕ) (v : Vote Command) (m new : ReplicaState) (said : Response) → IsReplicaOf from nodes m → node < nodes
-    → v.ballot.node < nodes → m.accepting.floor ≤ v.slot → promised m ≡ Some v.ballot
+    → v.ballot.node < nodes → m.acceptor.floor ≤ v.slot → promised m ≡ Some v.ballot
     → Takes m (input.Message (record { from = node; to = from; message = Accept v })) new said → HasVoted nodes from v m new said
 voted_for nodes node from v m new said is node_there owner_there level has h =
     let e : Envelope = record { from = node; to = from; message = Accept v } in
@@ -56,9 +56,9 @@ voted_for nodes node from v m new said is node_there owner_there level has h =
     record {
       sends = ap (λ (r : Response). r.sends) t.1
           ∙ (ap (λ (a : Answer). answer_sends m.id m.nodes node a)
-          (votes_so m.accepting v level (not_refused v.ballot m.accepting.promise has))
+          (votes_so m.acceptor v level (not_refused v.ballot m.acceptor.promise has))
           ∙ (ap (λ (i : ℕ). to_all i m.nodes (Accepted v)) is.number ∙ ap (λ (n : ℕ). to_all from n (Accepted v)) is.of_all));
-      learning = ap (λ (x : ReplicaState). x.learning) t.0;
+      learner = ap (λ (x : ReplicaState). x.learner) t.0;
     }
 
 -- ---- all of them do, in order of their numbers
@@ -74,7 +74,7 @@ module _ {S : Type 0} (w : WorldState S) (nodes node : ℕ) (members : List ℕ)
     pub replica_then : ReplicaState
     pub here : replica_at now node ≡ Some replica_then
     pub is : IsReplicaOf node nodes replica_then
-    pub learning : replica_then.learning ≡ replica.learning
+    pub learner : replica_then.learner ≡ replica.learner
 
   pub record VotedBelow (replica : ReplicaState) (k : ℕ) (now : WorldState S) : Type 0 where
     pub votes : List Envelope
@@ -91,7 +91,7 @@ module _ {S : Type 0} (w : WorldState S) (nodes node : ℕ) (members : List ℕ)
 
   -- a step of another node, or one that leaves the node what it has learnt
   learns_on : (replica : ReplicaState) (old : WorldState S) (e : Envelope) (new : WorldState S) → LearnsAs replica old → (took : Took old e new)
-      → took.replica_then.learning ≡ took.replica.learning → LearnsAs replica new
+      → took.replica_then.learner ≡ took.replica.learner → LearnsAs replica new
   learns_on replica old e new h took same = elim (same_or_not node e.to) [
     | inl here ↦
         let before : h.replica_then ≡ took.replica =
@@ -101,13 +101,13 @@ module _ {S : Type 0} (w : WorldState S) (nodes node : ℕ) (members : List ℕ)
           here = ap (λ (i : ℕ). replica_at new i) here ∙ took.here_then;
           is = takes_own node nodes took.replica (subst (λ (x : ReplicaState). IsReplicaOf node nodes x) before h.is) (input.Message e) took.replica_then
               took.said took.takes;
-          learning = same ∙ (ap (λ (x : ReplicaState). x.learning) (sym before) ∙ h.learning);
+          learner = same ∙ (ap (λ (x : ReplicaState). x.learner) (sym before) ∙ h.learner);
         }
     | inr other ↦ record {
       replica_then = h.replica_then;
       here = took.others node other ∙ h.here;
       is = h.is;
-      learning = h.learning;
+      learner = h.learner;
     }
   ]
 
@@ -122,7 +122,7 @@ module _ {S : Type 0} (w : WorldState S) (nodes node : ℕ) (members : List ℕ)
       are = no_votes;
       frames_ = sym (append-nil w.frames);
       later = λ j _. refl;
-      learns = record { replica_then = replica; here = here; is = known node replica here; learning = refl };
+      learns = record { replica_then = replica; here = here; is = known node replica here; learner = refl };
     }
 
     voted_another : (k : ℕ) (now : WorldState S) → (Contains members k → ⊥) → VotedBelow replica k now → VotedBelow replica (suc k) now
@@ -147,7 +147,7 @@ module _ {S : Type 0} (w : WorldState S) (nodes node : ℕ) (members : List ℕ)
               ∙ (ap (λ (fs : List Envelope). fs ++ to_all k nodes (Accepted v)) h.frames_
               ∙ append_assoc w.frames h.votes (to_all k nodes (Accepted v))));
           later = λ j less. took.others j (λ same. omega (arith, less, same)) ∙ h.later j (omega (arith, less));
-          learns = learns_on replica mid (accept_to k) now h.learns took a.learning;
+          learns = learns_on replica mid (accept_to k) now h.learns took a.learner;
         }
 
     voted_next : (k : ℕ) (mid now : WorldState S) → VotedBelow replica k mid → HandsOn members (accept_to k ∷ []) mid now
@@ -164,7 +164,7 @@ module _ {S : Type 0} (w : WorldState S) (nodes node : ℕ) (members : List ℕ)
   -- ---- what else the node asks for
   -- who is asked for a vote learns nothing by it
   no_news : (e : Envelope) (m new : ReplicaState) (said : Response) → AsksForVote e → Takes m (input.Message e) new said
-      → new.learning ≡ m.learning
+      → new.learner ≡ m.learner
   no_news e m new said asks h =
       same_learner m e new said (λ is. let clash : Acceptor ≡ Learner = ap role_of (sym asks.1) ∙ is in cc)
       (λ is. let clash : Acceptor ≡ Fetcher = ap role_of (sym asks.1) ∙ is in cc) h

@@ -56,7 +56,7 @@ module _ {S : Type 0} (storages : Ghosts (Script S)) (contents : Script S → Re
     up = λ m among. up_some (slice_get old.nodes m) (meets.up m among);
     few = membership.few;
     there = λ j m e. (is_member contents old membership sound j m e).0;
-    level = λ j m among there. subst (λ (s : ℕ). m.accepting.floor ≤ s) (sym at) (meets.level replica m j among here there);
+    level = λ j m among there. subst (λ (s : ℕ). m.acceptor.floor ≤ s) (sym at) (meets.level replica m j among here there);
     known = λ j m e. (is_member contents old membership sound j m e).1;
     unheard = λ a less. unheard_next contents old membership sound node replica here ballot next slot a less;
     of_run = λ j m e. votes_of_run contents old sound.allowed membership j m e;
@@ -86,8 +86,8 @@ module _ {S : Type 0} (storages : Ghosts (Script S)) (contents : Script S → Re
         in_log = taken_in_log replica (not_refused_here w replica here h);
         ballot = t.1.ballot;
         next = record {
-          round = t.1.round ∙ ap (λ (m : ReplicaState). next_round m.proposing) same;
-          own = t.1.own ∙ (ap (λ (m : ReplicaState). m.proposing.id) same ∙ (is.proposing.0 ∙ sym is.number));
+          round = t.1.round ∙ ap (λ (m : ReplicaState). next_round m.proposer) same;
+          own = t.1.own ∙ (ap (λ (m : ReplicaState). m.proposer.id) same ∙ (is.proposer.0 ∙ sym is.number));
         };
       }
 
@@ -155,8 +155,8 @@ module _ {S : Type 0} (storages : Ghosts (Script S)) (contents : Script S → Re
     told_by greatest j m e among here (declines g same some) told =
         let this : Some g ≡ Some greatest = sym (ap (λ (x : Envelope). refusal_in x.message) same) ∙ told in
         let is : g ≡ greatest = cc in
-        let refused = refused_so ballot m.accepting.promise g some in
-        let before = a.begun_.accepting j m here in
+        let refused = refused_so ballot m.acceptor.promise g some in
+        let before = a.begun_.acceptor j m here in
         record {
           member = j;
           replica = before.0;
@@ -182,27 +182,27 @@ module _ {S : Type 0} (storages : Ghosts (Script S)) (contents : Script S → Re
       among : Contains (drop first between.frames) envelope
       tells : refusal_in envelope.message ≡ Some greatest
 
-    tells_more : (greatest : Ballot) (j : ℕ) (m x : ReplicaState) (e : Envelope) → x.accepting ≡ m.accepting → promised m ≡ Some greatest
+    tells_more : (greatest : Ballot) (j : ℕ) (m x : ReplicaState) (e : Envelope) → x.acceptor ≡ m.acceptor → promised m ≡ Some greatest
         → rank ballot < rank greatest → IsAnswer node ballot slot j x e → refusal_in e.message ≡ Some greatest
     tells_more greatest j m x e same has above (promises p is none tells) =
-        let some = refuses_above ballot x.accepting.promise greatest (ap (λ (y : Accepting). y.promise) same ∙ has) above in
+        let some = refuses_above ballot x.acceptor.promise greatest (ap (λ (y : Accepting). y.promise) same ∙ has) above in
         let never : None ≡ Some greatest = sym none ∙ some in absurd (cc)
     tells_more greatest j m x e same has above (declines g is some) =
-        let also = refuses_above ballot x.accepting.promise greatest (ap (λ (y : Accepting). y.promise) same ∙ has) above in
+        let also = refuses_above ballot x.acceptor.promise greatest (ap (λ (y : Accepting). y.promise) same ∙ has) above in
         ap (λ (y : Envelope). refusal_in y.message) is ∙ (sym some ∙ also)
 
     has_told : (greatest : Ballot) (j : ℕ) (m : ReplicaState) → Contains members j → replica_at old j ≡ Some m → promised m ≡ Some greatest
         → rank ballot < rank greatest → HasTold greatest
     has_told greatest j m among here has above =
         let up = some_of (replica_at a.between j) (a.begun_.up j (facts.up j among)) in
-        let before = a.begun_.accepting j up.0 up.1 in
+        let before = a.begun_.acceptor j up.0 up.1 in
         let one = answer_of_each a.between (length old.nodes) node members ballot slot (length old.nodes) a.below.answers a.below.are j up.0
         (facts.there j m here) among up.1 in
         let same : before.0 ≡ m = same_replica before.0 m (sym before.1 ∙ here) in
         record {
           envelope = one.envelope;
           among = subst (λ (es : List Envelope). Contains es one.envelope) (sym a.answers_) one.among;
-          tells = tells_more greatest j m up.0 one.envelope (before.2 ∙ ap (λ (y : ReplicaState). y.accepting) same) has above one.is;
+          tells = tells_more greatest j m up.0 one.envelope (before.2 ∙ ap (λ (y : ReplicaState). y.acceptor) same) has above one.is;
         }
 
   above_so : (greatest : Ballot) (new : WorldState S) → CanMeet old node members → RoundIsRefused storages old node members greatest new
@@ -266,10 +266,10 @@ module _ {S : Type 0} (storages : Ghosts (Script S)) (contents : Script S → Re
         refused_there first w g v =
             let a = v.led.asked_ in
             let up = some_of (replica_at a.between g.member) (a.begun_.up g.member (quiet_facts.up g.member g.among)) in
-            let before = a.begun_.accepting g.member up.0 up.1 in
+            let before = a.begun_.acceptor g.member up.0 up.1 in
             let same : before.0 ≡ g.replica = same_replica before.0 g.replica (sym before.1 ∙ g.here) in
-            let has = ap (λ (x : Accepting). x.promise) (before.2 ∙ ap (λ (y : ReplicaState). y.accepting) same) ∙ g.has in
-            let some = refuses_above ballot up.0.accepting.promise greatest has g.above in
+            let has = ap (λ (x : Accepting). x.promise) (before.2 ∙ ap (λ (y : ReplicaState). y.acceptor) same) ∙ g.has in
+            let some = refuses_above ballot up.0.acceptor.promise greatest has g.above in
             let never : None ≡ Some greatest = sym (v.led.willing_ g.member up.0 g.among up.1) ∙ some in absurd (cc)
 
         decided_not : IsGreatestAbove old members ballot greatest → (first : ℕ) (w : WorldState S)

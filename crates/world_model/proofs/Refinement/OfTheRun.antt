@@ -103,14 +103,14 @@ module _ {S : Type 0} (contents : Script S → Records) (w : WorldState S)
         (subst (λ (frames : List (Frame Command)). Contains frames r) allowed.stands.frames_ sent.1)
 
     -- each vote that a node holds, below its floor too, was put, so it was cast, and is of a node of the run
-    pub votes_of_run : (i : ℕ) (m : ReplicaState) → replica_at w i ≡ Some m → (slot : ℕ) (v : Vote Command) → m.accepting.vote slot ≡ Some v
+    pub votes_of_run : (i : ℕ) (m : ReplicaState) → replica_at w i ≡ Some m → (slot : ℕ) (v : Vote Command) → m.acceptor.vote slot ≡ Some v
         → v.ballot.node < length w.nodes
     votes_of_run i m e slot v is =
         let n : UpAt i m = up_at i m e in
         let s = standing i n.node n.here in
-        let says : RecordsSay (contents n.node.storage) m.accepting = n.records.acceptor in
-        let own_slot : v.slot ≡ slot = held (λ (u : Vote Command). u.slot ≡ slot) (m.accepting.vote slot) v is (says.at_its_slot slot) in
-        let fits : VoteFitsRecord v = held VoteFitsRecord (m.accepting.vote slot) v is (says.votes_fit slot) in
+        let says : RecordsSay (contents n.node.storage) m.acceptor = n.records.acceptor in
+        let own_slot : v.slot ≡ slot = held (λ (u : Vote Command). u.slot ≡ slot) (m.acceptor.vote slot) v is (says.at_its_slot slot) in
+        let fits : VoteFitsRecord v = held VoteFitsRecord (m.acceptor.vote slot) v is (says.votes_fit slot) in
         let shows : contents n.node.storage (key.Vote v.slot) ≡ Some (vote_bytes v) =
         ap (λ (k : ℕ). contents n.node.storage (key.Vote k)) own_slot ∙ (says.vote_record slot ∙ ap (option_map vote_bytes) is) in
         let cast : Contains s.after.records.writes (VoteWrite v) =
@@ -129,7 +129,7 @@ module _ {S : Type 0} (contents : Script S → Records) (w : WorldState S)
         → b.node < length w.nodes
     promise_of_run promises i m e b is =
         let n : UpAt i m = up_at i m e in
-        let says : RecordsSay (contents n.node.storage) m.accepting = n.records.acceptor in
+        let says : RecordsSay (contents n.node.storage) m.acceptor = n.records.acceptor in
         let puts : (k : Key) → HoldsPut contents n.node.storage k = (standing i n.node n.here).puts.held in
         let among : PromisesAmong contents (length w.nodes) n.node.storage = promises i n.node n.here in
         elim says.promise.among_them [

@@ -117,9 +117,9 @@ message_among : (m : ReplicaState) (message : Message) (write : OptionalWrite) �
     → WritesAmong m.nodes write
 message_among m (Prepare ballot first) write names w =
     subst (λ (x : OptionalWrite). WritesAmong m.nodes x) (sym w)
-    (prepared_among m.nodes ballot (ltb-true ballot.node m.nodes names) (verdict m.accepting ballot first)
-    (ballots.rank ballot == rank_of m.accepting.promise))
-message_among m (Accept v) write names w = cast_among m.nodes m.accepting v write w
+    (prepared_among m.nodes ballot (ltb-true ballot.node m.nodes names) (verdict m.acceptor ballot first)
+    (ballots.rank ballot == rank_of m.acceptor.promise))
+message_among m (Accept v) write names w = cast_among m.nodes m.acceptor v write w
 message_among m other write names w = none_among m.nodes write w
 
 -- a message that concerns a node names the run
@@ -138,7 +138,7 @@ input_among : (m : ReplicaState) (i : Input) (write : OptionalWrite) → Writes 
 input_among m (input.Message e) write w = envelope_among m e write (is_for_this_run m.id m.nodes e) refl w
 input_among m input.Timeout write w = other_among m.nodes write key.Round _ (λ zero_. absurd (omega arith)) w
 input_among m input.Checkpoint write w = other_among m.nodes write key.Checkpoint _ (λ zero_. absurd (omega arith)) w.is
-input_among m input.Trim write w = trim_among m.nodes m.accepting write w
+input_among m input.Trim write w = trim_among m.nodes m.acceptor write w
 input_among m other write w = none_among m.nodes write w
 
 -- ---- what is put
@@ -155,7 +155,7 @@ nothing_among nodes = record {
 }
 
 -- what a node that is up puts, as it has promised a ballot of such a node
-puts_among : (records : Records) (m : ReplicaState) (i : Input) (write : OptionalWrite) → RecordsSay records m.accepting
+puts_among : (records : Records) (m : ReplicaState) (i : Input) (write : OptionalWrite) → RecordsSay records m.acceptor
     → ((b : Ballot) → promised m ≡ Some b → b.node < m.nodes) → Writes m i write → PutsAmong m.nodes (put_by write)
 puts_among records m i write says of_run writes = record {
   alone = λ b e. input_among m i write writes b (sets_put write (key.Promise, ballot_bytes b) e);
@@ -194,7 +194,7 @@ module _ {S : Type 0} {storages : Ghosts (Script S)} (laws : IsLawful storages) 
   -- ---- a node takes an input
   -- where it is up it holds what its records say, and has promised a ballot of one of so many nodes
   record IsSureOf (nodes : ℕ) (n : NodeState (Script S)) (m : ReplicaState) : Type 0 where
-    says : RecordsSay (storages.contents n.storage) m.accepting
+    says : RecordsSay (storages.contents n.storage) m.acceptor
     of_run : (b : Ballot) → promised m ≡ Some b → b.node < nodes
 
   made_among : (id nodes : ℕ) (old new : NodeState (Script S)) (i : Input) → IsMember id nodes old
@@ -252,7 +252,7 @@ module _ {S : Type 0} {storages : Ghosts (Script S)} (laws : IsLawful storages) 
       let at = up_at storages.contents w allowed i m there in
       let same : at.node ≡ n = same_Some at.node n (sym at.here ∙ here) in
       record {
-        says = subst (λ (x : NodeState (Script S)). RecordsSay (storages.contents x.storage) m.accepting) same at.records.acceptor;
+        says = subst (λ (x : NodeState (Script S)). RecordsSay (storages.contents x.storage) m.acceptor) same at.records.acceptor;
         of_run = promise_of_run storages.contents w allowed membership promises i m there;
       }
 

@@ -169,7 +169,7 @@ module _ {S : Type 0} {contents : Script S → Records} where
 -- ---- the start
 nothing_agrees : (records : Records) → records ≡ no_records → RecordsAgree records nothing_written
 nothing_agrees records e = subst (λ (c : Records). RecordsAgree c nothing_written) (sym e) (record {
-  accepting = nothing_held;
+  acceptor = nothing_held;
   round = zero;
   holds = record { acceptor = RecordsSay-nothing; covered = λ s v low held. absurd (omega (arith, low)); proposer = refl };
   stands = record { promise = refl; vote = λ s from. refl; round_ = refl; floor_ = refl };

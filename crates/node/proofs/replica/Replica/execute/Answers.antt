@@ -29,7 +29,7 @@ loop-number-preserved c =
     let cur : ReplicaState = replica_of c.loop-number.self in
     let next : ReplicaState = replica_of c.execute_at.new.self in
     let at : c.unwrap-slot.result ≡ c.loop-number.number = search rules in
-    let there : cur.learning.learnt c.unwrap-slot.result ≡ m.learning.learnt c.loop-number.number =
+    let there : cur.learner.learnt c.unwrap-slot.result ≡ m.learner.learnt c.loop-number.number =
     learnt_there m c.args.from c.position-number-end.ensures.counted c.requires.kept cur c.unwrap-slot.result c.loop-number.number at
     c.loop-number.invariant.only in
     let did = c.in_ok-execute_at.ensures in
@@ -40,7 +40,7 @@ loop-number-preserved c =
           (executing_of next c.execute_at.new.replies.items) c.loop-number.invariant.above (search rules)
           (did.executes
           ∙ ap (λ (s : ℕ). executed (executing_of cur c.loop-number.replies.items) s
-          (with_command (cur.learning.learnt c.unwrap-slot.result) [])) at
+          (with_command (cur.learner.learnt c.unwrap-slot.result) [])) at
           ∙ ap (λ (o : Option Command). executed (executing_of cur c.loop-number.replies.items) c.loop-number.number (with_command o []))
           there)
           ∙ c.loop-number.invariant.rest;
@@ -52,7 +52,7 @@ loop-number-preserved c =
           c.loop-number.replies.items
           c.execute_at.new.replies.items c.loop-number.invariant.above (search rules) c.loop-number.invariant.stands
           c.loop-number.invariant.replies
-          (subst (λ (s : ℕ). AddsReplies cur.machine s (with_command (m.learning.learnt c.loop-number.number) [])
+          (subst (λ (s : ℕ). AddsReplies cur.machine s (with_command (m.learner.learnt c.loop-number.number) [])
           c.loop-number.replies.items c.execute_at.new.replies.items) at
           (subst (λ (o : Option Command). AddsReplies cur.machine c.unwrap-slot.result (with_command o [])
           c.loop-number.replies.items c.execute_at.new.replies.items) there did.replies));

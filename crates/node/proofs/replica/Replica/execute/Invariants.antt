@@ -12,9 +12,9 @@ invariant-loop-number l = record {
   rest : executed (executing_of (replica_of l.self) l.replies.items) l.number (learnt_from (replica_of l.initial.self) l.number)
       ≡ executed (executing_of (replica_of l.initial.self) []) l.from (learnt_from (replica_of l.initial.self) l.from);
   stands : StandsForMore (replica_of l.initial.self).machine (replica_of l.self).machine
-      (commands (replica_of l.initial.self).learning.learnt l.from (l.number - l.from));
+      (commands (replica_of l.initial.self).learner.learnt l.from (l.number - l.from));
   replies : RepliesToMore (replica_of l.initial.self).machine l.from
-      (commands (replica_of l.initial.self).learning.learnt l.from (l.number - l.from)) l.replies.items;
+      (commands (replica_of l.initial.self).learner.learnt l.from (l.number - l.from)) l.replies.items;
   above : l.from ≤ l.number;
   within : l.number - l.from ≤ l.number-end - l.from;
 }

@@ -48,9 +48,9 @@ returns-clause-loads g c = λ honest.
     record {
       number = search rules;
       of_all = search rules;
-      accepting = c.in_ok-acceptor.ensures.told still;
-      learning = c.start_at-learner.ensures ∙ ap (unlearnt_from c.args.nodes) c.floor.ensures.value;
-      proposing = subst (λ records. LoadsRound (records key.Round) c.args.id c.args.nodes c.in_ok-proposer.proposer) same round;
+      acceptor = c.in_ok-acceptor.ensures.told still;
+      learner = c.start_at-learner.ensures ∙ ap (unlearnt_from c.args.nodes) c.floor.ensures.value;
+      proposer = subst (λ records. LoadsRound (records key.Round) c.args.id c.args.nodes c.in_ok-proposer.proposer) same round;
       machine = c.in_ok-acceptor.ensures.machine still;
       fetching = refl;
     }
@@ -66,18 +66,18 @@ returns-clause-settled g c =
 pub returns-clause-meaning : goal.returns-clause-meaning
 returns-clause-meaning g c = λ honest base is. loaded_means _ c.args.id c.args.nodes _ base (returns-clause-loads g c honest) is
 
-begins_fresh : (learning : Learning) (nodes first : ℕ) → learning ≡ unlearnt_from nodes first → first ≤ SLOTS
-    → (learning ≡ unlearnt_from nodes learning.first) × (learning.first ≤ SLOTS)
-begins_fresh learning nodes first e within =
-    let at : learning.first ≡ first = ap (λ (l : Learning). l.first) e in
+begins_fresh : (learner : Learning) (nodes first : ℕ) → learner ≡ unlearnt_from nodes first → first ≤ SLOTS
+    → (learner ≡ unlearnt_from nodes learner.first) × (learner.first ≤ SLOTS)
+begins_fresh learner nodes first e within =
+    let at : learner.first ≡ first = ap (λ (l : Learning). l.first) e in
     (e ∙ ap (unlearnt_from nodes) (sym at), omega (arith, at, within))
 
 pub returns-clause-fresh : goal.returns-clause-fresh
 returns-clause-fresh g c =
     let begins = begins_fresh _ c.args.nodes _ c.start_at-learner.ensures c.floor.ensures.in_log in record {
-      learning = begins.0;
+      learner = begins.0;
       first_in_log = begins.1;
-      proposing = c.in_ok-proposer.ensures.own;
+      proposer = c.in_ok-proposer.ensures.own;
       fetching = refl;
     }
 
@@ -91,8 +91,8 @@ pub returns-clause-own : goal.returns-clause-own
 returns-clause-own g c = record {
   number = search rules;
   of_all = search rules;
-  learning = ap (λ (l : Learning). l.nodes) c.start_at-learner.ensures;
-  proposing = (
+  learner = ap (λ (l : Learning). l.nodes) c.start_at-learner.ensures;
+  proposer = (
     ap (λ (p : Proposing). p.id) c.in_ok-proposer.ensures.own,
     ap (λ (p : Proposing). p.nodes) c.in_ok-proposer.ensures.own,
   );

@@ -18,9 +18,9 @@ returns-in_ok-execute_and_propose-in-Some-clause-takes c =
     let old : ReplicaState = replica_of c.args.self.now in
     let l : Learning = learning_of c.on_accepted.new.self in
     let heard = c.in_ok-learned.ensures.hears in
-    let news = vote_news old.learning l c.args.from c.args.vote.now c.in_ok-learned.field-0 c.in-Some.learned heard c.in-Some.is in (
+    let news = vote_news old.learner l c.args.from c.args.vote.now c.in_ok-learned.field-0 c.in-Some.learned heard c.in-Some.is in (
       Some c.in-Some.learned,
       l,
-      subst (λ (o : Option Learned). HearsVote old.learning c.args.from c.args.vote.now o l) c.in-Some.is heard,
+      subst (λ (o : Option Learned). HearsVote old.learner c.args.from c.args.vote.now o l) c.in-Some.is heard,
       c.in_ok-execute_and_propose-in-Some.ensures old c.args.vote.now.command refl c.position-position.ensures.value news.there,
     )

@@ -22,16 +22,16 @@ returns-clause-takes c =
     let old : ReplicaState = replica_of c.args.self.now in
     let l : Learning = learning_of c.on_decided.new.self in
     let heard = c.in_ok-learned.ensures.hears in
-    let news = decided_news old.learning l c.args.slot c.args.command c.in_ok-learned.field-0 c.in-Some.learned heard c.in-Some.is in
+    let news = decided_news old.learner l c.args.slot c.args.command c.in_ok-learned.field-0 c.in-Some.learned heard c.in-Some.is in
     let learns = c.in_ok-outputs.ensures old c.args.command refl c.position-position.ensures.value news.there in
     let at : ask_sends c.execute_and_propose.new.self.id c.args.from c.position.result ≡ ask_sends old.id c.args.from (prefix l) =
     ap (λ (p : ℕ). ask_sends c.execute_and_propose.new.self.id c.args.from p) c.position.ensures.value
-    ∙ ap (λ (m : ReplicaState). ask_sends m.id c.args.from (prefix m.learning)) learns.leaves in
+    ∙ ap (λ (m : ReplicaState). ask_sends m.id c.args.from (prefix m.learner)) learns.leaves in
     let sent : c.send_ask.new.sends.items ≡ c.outputs.inside.sends.items ++ ask_sends old.id c.args.from (prefix l) =
     c.in_ok-send_ask.ensures ∙ ap (λ (es : List Envelope). c.outputs.inside.sends.items ++ es) at in (
       Some c.in-Some.learned,
       l,
-      subst (λ (o : Option Learned). HearsDecided old.learning c.args.slot c.args.command o l) c.in-Some.is heard,
+      subst (λ (o : Option Learned). HearsDecided old.learner c.args.slot c.args.command o l) c.in-Some.is heard,
       asks_last old c.in-Some.learned.slot c.args.command l (ask_sends old.id c.args.from (prefix l)) (replica_of c.execute_and_propose.new.self)
           c.in_ok-outputs.outputs _ learns
           (ap (λ (es : List Envelope). record { restored = c.outputs.inside.restored; learnt = c.outputs.inside.learnt; replies = c.outputs.inside.replies.items; sends = es })

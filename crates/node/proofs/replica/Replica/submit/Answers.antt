@@ -51,22 +51,22 @@ module _ (m : ReplicaState) (r : Asked) (p : ℕ) (at : p ≡ position m) where
   -- a new one waits from now on
   module _ (new_one : false ≡ waits m r.client r.number) (q : Asked) (is : q ≡ r) where
     new_taken : p < SLOTS → IsShort r.op
-        → (list_any (is_of q.client q.number) m.proposing.waiting ≡ false → ¬ MOST_WAITING ≤ length m.proposing.waiting)
+        → (list_any (is_of q.client q.number) m.proposer.waiting ≡ false → ¬ MOST_WAITING ≤ length m.proposer.waiting)
         → refuses_submit m r ≡ None
     new_taken room short few = rw (
       lt-leb SLOTS (position m) (rw at at room),
       short_found r.op short,
       sym new_one,
-      lt-leb MOST_WAITING (length m.proposing.waiting) (let few = rw is at few in omega (arith, few (sym new_one))),
+      lt-leb MOST_WAITING (length m.proposer.waiting) (let few = rw is at few in omega (arith, few (sym new_one))),
     ) refl
 
     new_takes : (after : Proposing) (new : ReplicaState) (said : Response) (sends : List Envelope)
-        → (list_any (is_of q.client q.number) m.proposing.waiting ≡ false → after ≡ with_request m.proposing q)
-        → new ≡ with_proposer (record m { proposing = after }) (proposed after m.learning)
-        → sends ≡ proposer_sends (record m { proposing = after }) (proposed after m.learning) → said ≡ sent sends
+        → (list_any (is_of q.client q.number) m.proposer.waiting ≡ false → after ≡ with_request m.proposer q)
+        → new ≡ with_proposer (record m { proposer = after }) (proposed after m.learner)
+        → sends ≡ proposer_sends (record m { proposer = after }) (proposed after m.learner) → said ≡ sent sends
         → (new ≡ with_proposer m (after_submit m r)) × (said ≡ sent (proposer_sends m (after_submit m r)))
     new_takes after new said sends last state what sends_it =
-        let now : after ≡ with_request m.proposing r = (rw is at last) (sym new_one) in
+        let now : after ≡ with_request m.proposer r = (rw is at last) (sym new_one) in
         rw (sym new_one) (rw now at state, sends_it ∙ ap sent (rw now at what))
 
 refused_not_taken : {T A : Type 0} {x : T} → Some x ≡ None → A

@@ -3,7 +3,7 @@ use Rattle.stable.specs.ScriptLaws.{scripted_laws}
 use Rattle.world_model.proofs.OneNode.ListedPuts.{script_puts}
 use Rattle.world_model.proofs.Refinement.SafetyLemmas.{allowed_agrees, learnt_agree}
 use Rattle.world_model.proofs.OneLog.Tellings.{steps_keep_lists}
-use Rattle.world_model.proofs.explaining.steps_keep_lists.Goals as goal
+use Rattle.world_model.proofs.explanation.steps_keep_lists.Goals as goal
 
 pub returns : goal.returns
 returns g c = λ old new event steps honest allowed told.
