@@ -96,7 +96,6 @@ impl LastDay {
     }
 
     /// The day of a date, which is the last one from then on.
-    #[inline(always)]
     fn day_of(&mut self, date: &[u8]) -> Option<u32>
         requires length { length date.now ≡ 10 }
         requires last { IsDateText self.old.date self.old.day }
@@ -104,14 +103,23 @@ impl LastDay {
         ensures bound { IfSome result (λ day. day ≤ 2932896) }
         ensures last { IsDateText self.new.date self.new.day }
     {
-        // Ten bytes are compared at once.
-        let date = date.as_array::<10>()?;
-        if *date == self.date {
+        if date == self.date.as_slice() {
             return Some(self.day);
         }
         let day = day_number(date)?;
-        *self = LastDay { date: *date, day };
+        *self = LastDay::of(date, day);
         Some(day)
+    }
+
+    fn of(text: &[u8], day: u32) -> LastDay
+        requires length { length text.now ≡ 10 }
+        requires bound { day ≤ 2932896 }
+        ensures date { result.date ≡ text.now }
+        ensures day { result.day ≡ day }
+    {
+        let mut date = [0; 10];
+        date.copy_from_slice(text);
+        LastDay { date, day }
     }
 }
 
