@@ -250,10 +250,19 @@ fn signed_of(negative: bool, digits: &[u8]) -> Option<i64>
     ensures { IfSome result (λ z. IsSigned negative (scan digits.now) z) }
 {
     if digits.len() > SMALL_DIGITS {
-        return Numeral::scan(digits).to_i64(negative);
+        return long_signed_of(negative, digits);
     }
     let size = small_number(digits)? as i64;
     Some(if negative { -size } else { size })
+}
+
+/// The same of any count of digits.
+#[cold]
+#[inline(never)]
+fn long_signed_of(negative: bool, digits: &[u8]) -> Option<i64>
+    ensures { IfSome result (λ z. IsSigned negative (scan digits.now) z) }
+{
+    Numeral::scan(digits).to_i64(negative)
 }
 
 /// The number that so few digits spell. It has no need of tests against overflow.
