@@ -8,3 +8,4 @@ pub mod StayLemmas
 pub mod SequenceLemmas
 pub mod EndLemmas
 pub mod CourseLemmas
+pub mod RunLemmas

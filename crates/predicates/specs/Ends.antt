@@ -3,10 +3,19 @@ use Rattle.std.specs.Prelude.{ℤ, ◌<ℤ◌, ◌⊎◌}
 use Rattle.tpoint.specs.Extents.{Area, Inside}
 use Rattle.tpoint.specs.Pieces.{place}
 use Rattle.tpoint.specs.declared.point.Point.{Point}
+use Rattle.predicates.specs.declared.ends.Side.{Side}
+use Rattle.predicates.specs.declared.ends.Side.TheVariants.{Left, Right, Below, Above}
 use Rattle.predicates.specs.declared.questions.Question.{Question}
 use Rattle.predicates.specs.declared.questions.Question.TheVariants.{Ever, Always}
 use Rattle.predicates.specs.declared.questions.Tri.{Tri}
 use Rattle.predicates.specs.declared.questions.Tri.TheVariants.{Yes, No}
+
+-- the point is beyond this bound of the rectangle
+abbrev pub IsOn : Side → Point → Area → Type 0
+IsOn Left p r = p.x <ℤ r.x0
+IsOn Right p r = r.x1 <ℤ p.x
+IsOn Below p r = p.y <ℤ r.y0
+IsOn Above p r = r.y1 <ℤ p.y
 
 -- both numbers are below the lower of two bounds, or both are above the upper
 abbrev pub AreBeyond : ℤ → ℤ → ℤ → ℤ → Type 0

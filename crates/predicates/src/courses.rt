@@ -6,7 +6,6 @@ ghost use Rattle.tpoint.specs.Moving.{InBounds};
 ghost use Rattle.predicates.specs.Ends.{AreBeyond, Miss};
 ghost use Rattle.predicates.specs.Courses.{IsCourse, CourseIsSmall, Crosses};
 
-use crate::ends::miss;
 use tpoint::{Point, Rect};
 
 /// A coordinate's way, as the distance that it has gone: it rises evenly from 0 to `length`, and the
@@ -18,20 +17,7 @@ pub struct Course {
     leave: i64,
 }
 
-/// Whether the leg is in the rectangle at some parameter.
-#[inline(always)]
-pub fn comes_in(a: &Point, b: &Point, area: &Rect) -> bool
-    requires a_fits { InBounds a.now }
-    requires b_fits { InBounds b.now }
-    ensures { IsTrue result ↔ Crosses a.now b.now area.now }
-{
-    if miss(a, b, area) {
-        return false;
-    }
-    crosses(a, b, area)
-}
-
-/// The same, where its ends don't tell that it isn't.
+/// Whether the leg is in the rectangle at some parameter, where its ends don't tell that it isn't.
 #[inline(never)]
 pub fn crosses(a: &Point, b: &Point, area: &Rect) -> bool
     requires a_fits { InBounds a.now }

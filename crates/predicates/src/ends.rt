@@ -1,8 +1,8 @@
 //! What the two ends of a leg tell of the whole of it.
 
-ghost use Rattle.std.specs.Prelude.{◌≡◌, ◌≤◌, ◌↔◌, IsTrue};
+ghost use Rattle.std.specs.Prelude.{◌≡◌, ◌≤◌, ◌↔◌, IsTrue, MatchOption};
 ghost use Rattle.tpoint.specs.Extents.{HasInstant, first_whole, last_whole};
-ghost use Rattle.predicates.specs.Ends.{AreBeyond, Miss, Settle, settled};
+ghost use Rattle.predicates.specs.Ends.{AreBeyond, IsOn, Miss, Settle, settled};
 
 use crate::questions::{Question, Tri};
 use crate::stays::contains;
@@ -50,6 +50,55 @@ pub fn settled(question: Question) -> Tri
         Question::Ever => Tri::No,
         Question::Always => Tri::Yes,
     }
+}
+
+/// A side of a rectangle, beyond one of its bounds.
+#[derive(Clone, Copy)]
+pub enum Side {
+    Left,
+    Right,
+    Below,
+    Above,
+}
+
+/// Whether the point is on this side of the rectangle.
+#[inline(always)]
+pub fn is_on(side: Side, point: &Point, area: &Rect) -> bool
+    ensures { IsTrue result ↔ IsOn side point.now area.now }
+{
+    match side {
+        Side::Left => point.x < area.x0(),
+        Side::Right => area.x1() < point.x,
+        Side::Below => point.y < area.y0(),
+        Side::Above => area.y1() < point.y,
+    }
+}
+
+/// A side on which both ends of the leg are.
+#[inline(always)]
+pub fn one_side(a: &Point, b: &Point, area: &Rect) -> Option<Side>
+    ensures { MatchOption result (¬ Miss a.now b.now area.now) (λ side. IsOn side a.now area.now × IsOn side b.now area.now) }
+{
+    if are_on(Side::Left, a, b, area) {
+        return Some(Side::Left);
+    }
+    if are_on(Side::Right, a, b, area) {
+        return Some(Side::Right);
+    }
+    if are_on(Side::Below, a, b, area) {
+        return Some(Side::Below);
+    }
+    if are_on(Side::Above, a, b, area) {
+        return Some(Side::Above);
+    }
+    None
+}
+
+#[inline(always)]
+fn are_on(side: Side, a: &Point, b: &Point, area: &Rect) -> bool
+    ensures { IsTrue result ↔ (IsOn side a.now area.now × IsOn side b.now area.now) }
+{
+    is_on(side, a, area) && is_on(side, b, area)
 }
 
 /// Whether the ends are beyond one and the same bound of the rectangle.

@@ -5,15 +5,15 @@ ghost use Rattle.tpoint.specs.Places.{EachAt};
 ghost use Rattle.tpoint.specs.Moving.{Rises, InBounds};
 ghost use Rattle.tpoint.specs.Extents.{first_whole};
 ghost use Rattle.tpoint.specs.Pieces.{OnPiece};
-ghost use Rattle.predicates.specs.Ends.{settled};
+ghost use Rattle.predicates.specs.Ends.{IsOn, settled};
 ghost use Rattle.predicates.specs.Questions.{AnswersQuestion};
 
-use crate::courses::comes_in;
-use crate::ends::settled;
+use crate::courses::crosses;
+use crate::ends::{Side, is_on, one_side, settled};
 use crate::pieces::piece;
 use crate::questions::{Question, Tri};
 use crate::stays::contains;
-use tpoint::{Interp, Period, Point, Rect};
+use tpoint::{Instant, Interp, Period, Point, Rect};
 
 /// Some pieces in succession, and what each of them answers.
 #[derive(Clone, Copy)]
@@ -95,14 +95,45 @@ fn first_met(points: &[Point], from: usize, period: &Period, area: &Rect) -> usi
     ensures each { (j : ℕ) → from ≤ j → j < result →
         AnswersQuestion Question.Ever (OnPiece Interp.Linear points.now j) period.now area.now Tri.No }
 {
-    for k in from..points.len() - 1 {
+    let end = period.last_whole();
+    let mut k = from;
+    while k + 1 < points.len() {
         let a = &points[k];
         let b = &points[k + 1];
-        if period.last_whole() < b.t {
+        if end < b.t {
             return k;
         }
-        if comes_in(a, b, area) {
-            return k;
+        match one_side(a, b, area) {
+            // The legs after it mostly stay there too, which takes fewer comparisons.
+            Some(side) => k = last_on(points, k + 1, end, side, area),
+            None => {
+                if crosses(a, b, area) {
+                    return k;
+                }
+                k += 1;
+            }
+        }
+    }
+    k
+}
+
+/// The last of the points from a place on, in a row, that are all on this side and, after the first, no later than an instant.
+#[inline(always)]
+fn last_on(points: &[Point], from: usize, end: Instant, side: Side, area: &Rect) -> usize
+    requires in_list { from < length points.now }
+    requires on { EachAt points.now (λ point. IsOn side point area.now) from }
+    ensures up { from ≤ result }
+    ensures within { result < length points.now }
+    ensures on { (j : ℕ) → from ≤ j → j ≤ result → EachAt points.now (λ point. IsOn side point area.now) j }
+    ensures in_time { (j : ℕ) → from < j → j ≤ result → EachAt points.now (λ point. point.t ≤ end) j }
+{
+    for k in from + 1..points.len() {
+        let next = &points[k];
+        if end < next.t {
+            return k - 1;
+        }
+        if !is_on(side, next, area) {
+            return k - 1;
         }
     }
     points.len() - 1
