@@ -7,6 +7,7 @@
 mod explaining;
 mod laws;
 mod lists;
+mod lives;
 mod round_end;
 
 pub use explaining::{one_log_explains, start_keeps_lists, steps_keep_lists};
@@ -14,5 +15,6 @@ pub use laws::{
     answers_are_one, armed_reads_fire, ballots_never_fall, lists_are_as_told, promises_never_fall,
     replies_are_one,
 };
+pub use lives::{lives_are_a_run, one_list_explains_lives, reached_worlds_are_safe};
 pub use lists::{Answered, LearntEntry, Replied, StepOutcome, Submission};
 pub use round_end::RoundEnd;
