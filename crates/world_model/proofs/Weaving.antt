@@ -4,3 +4,4 @@ pub mod HandedLaws
 pub mod WithPuts
 pub mod Happenings
 pub mod Woven
+pub mod Begun

@@ -1,6 +1,6 @@
 -- Nodes as processes of their own, killed and started again at will: the life of one, and the lives of all, woven together.
 use Rattle.std.specs.Prelude.{◌≡◌, ℕ, ◌==◌, ◌<◌, ◌≤◌, List, [], ◌∷◌, ◌++◌, length, slice_get, true, if◌then◌else◌, ⊤}
-use Rattle.std.specs.Prelude.{Some, None, Result, Ok, Err, Contains}
+use Rattle.std.specs.Prelude.{◌⊎◌, Some, None, IsSome, IfSome, Result, Ok, Err, Contains}
 use Rattle.std.specs.List.{flat_map}
 use Rattle.stable.specs.Records.{no_records}
 use Rattle.stable.specs.Script.{Script}
@@ -17,7 +17,7 @@ use Rattle.node_model.specs.declared.input.Input.{Input}
 use Rattle.node_model.specs.declared.input.Input.TheVariants as input
 use Rattle.node_model.specs.Faults.{is_stop_fault}
 use Rattle.node_model.specs.Inputs.{is_for_this_run}
-use Rattle.node_model.specs.Loading.{Restarts}
+use Rattle.node_model.specs.Loading.{IsMember, IsFresh, IsLoaded, IsDamaged, Restarts}
 use Rattle.node_model.specs.Nodes.{NodeState, NodeSteps, NodeAnswers, StaysMeaning, AnswersMeaning}
 use Rattle.node_model.specs.Outputs.{Response}
 use Rattle.node_model.specs.Replicas.{asked}
@@ -64,8 +64,22 @@ IsLife storages old [] new = new ≡ old
 IsLife {S} storages old (what ∷ more) new =
     (between : NodeState S) × Happens storages old what between × IsLife storages between more new
 
+-- a node that a process has begun over a storage: it holds what the records leave, or it is down
+pub record HasBegun {S : Type 0} (storages : Ghosts S) (id nodes : ℕ) (storage : S) (n : NodeState S) : Type 0 where
+  pub member : IsMember id nodes n
+  pub fresh : IfSome n.up (IsFresh id nodes)
+  pub loads : storages.IsHonest n.storage → IfSome n.up (IsLoaded (storages.contents storage) id nodes)
+  pub sound : storages.IsHonest n.storage → IsSome n.up → ¬ (IsDamaged storages storage)
+  pub up : IsSome n.up → storages.looks storage n.storage
+  pub down : n.up ≡ None → storages.looks storage n.storage ⊎ storages.read_fails storage n.storage
+
+-- the node before that
+abbrev pub down_over : {S : Type 0} → ℕ → ℕ → S → NodeState S
+down_over id nodes storage = record { id = id; nodes = nodes; storage = storage; up = None }
+
 -- ---- moments
--- what happens to which node
+-- what happens to which node. What a process did on top of a change that never reached its file, and of which nothing left the process, is
+-- no moment
 pub record Moment : Type 0 where
   pub node : ℕ
   pub what : Happening
@@ -152,6 +166,7 @@ pub record IsUnborn {S : Type 0} (storages : Ghosts S) (count i : ℕ) (n : Node
 -- was sent
 pub record AreLives {S : Type 0} (storages : Ghosts S) (moments : List Moment) (first last : List (NodeState S)) : Type 0 where
   pub few : length first ≤ MOST_NODES
+  pub as_many : length last ≡ length first
   pub unborn : (i : ℕ) (n : NodeState S) → slice_get first i ≡ Some n → IsUnborn storages (length first) i n
   pub life : (i : ℕ) (old : NodeState S) → slice_get first i ≡ Some old
       → (new : NodeState S) × (slice_get last i ≡ Some new) × IsLife storages old (happenings_of i moments) new
@@ -179,13 +194,13 @@ pub record IsNodeInWorld {S : Type 0} (n : NodeState S) (x : NodeState (Script (
 -- steps of a world lead from a start to these nodes, and tell what the moments told
 pub record AreRun {S : Type 0} (storages : Ghosts S) (moments : List Moment) (last : List (NodeState S)) : Type 0 where
   pub start : WorldState (HandedOn S)
-  pub count : ℕ
-  pub starts : IsStart (scripted (handed_on storages)) count start
-  pub few : count ≤ MOST_NODES
+  pub starts : IsStart (scripted (handed_on storages)) (length last) start
+  pub few : length last ≤ MOST_NODES
   pub events : List Event
   pub world : WorldState (HandedOn S)
   pub steps : StepsAll (scripted (handed_on storages)) start events world
   pub tells : TellsMoments moments world
+  pub all : length world.nodes ≡ length last
   pub nodes : (i : ℕ) (x : NodeState (Script (HandedOn S))) → slice_get world.nodes i ≡ Some x
       → (n : NodeState S) × (slice_get last i ≡ Some n) × IsNodeInWorld n x
 
@@ -193,3 +208,7 @@ pub record AreRun {S : Type 0} (storages : Ghosts S) (moments : List Moment) (la
 abbrev pub AreExplained : List Moment → Type 0
 AreExplained moments = IsExplained (told_by submitted_at moments) (told_by learnt_at moments) (told_by replied_at moments)
     (told_by answered_at moments)
+
+-- every storage is honest
+abbrev pub StoragesAreHonest : {S : Type 0} → Ghosts S → List (NodeState S) → Type 0
+StoragesAreHonest {S} storages nodes = (i : ℕ) (n : NodeState S) → slice_get nodes i ≡ Some n → storages.IsHonest n.storage

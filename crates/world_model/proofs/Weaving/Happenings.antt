@@ -1,6 +1,8 @@
 -- What happens to one node, as steps of a world.
-use Rattle.std.proofs.Common.{◌≡◌, ◌==◌, ◌&&◌, ℕ, zero, suc, ◌<◌, List, [], ◌∷◌, ◌++◌, length, slice_get, slice_set, Bool, true, false, nat_lt}
-use Rattle.std.proofs.Common.{Option, Some, None, IsSome, IfSome, is_ok, Result, Ok, Err, IfOk, Contains, refl, sym, ap, ◌∙◌, subst, append-nil, arith}
+use Rattle.std.proofs.Common.{◌≡◌, ◌==◌, ◌&&◌, ℕ, zero, suc, ◌<◌, List, [], ◌∷◌, ◌++◌, length, slice_get, slice_set, nat_lt}
+use Rattle.std.proofs.Common.{Bool, true, false}
+use Rattle.std.proofs.Common.{Option, Some, None, IsSome, IfSome, is_ok, Result, Ok, Err, IfOk, Contains}
+use Rattle.std.proofs.Common.{refl, sym, ap, ◌∙◌, subst, append-nil, arith}
 use Rattle.std.specs.Bool.{⊤}
 use Rattle.std.specs.List.{slice_index_or}
 use Rattle.std.proofs.lemmas.Bool.{and_parts, eqb-true}
@@ -179,7 +181,17 @@ module _ {S : Type 0} {storages : Ghosts S} (laws : IsLawful storages) where
       record {
         events = event.Submit k client number op ∷ [];
         world = v;
-        steps = (v, record { valid = valid; taken = true; between = recorded (with_node w k x) k (Ok said); takes = h; leaves = refl }, refl);
+        steps = (
+          v,
+          record {
+            valid = valid;
+            taken = true;
+            between = recorded (with_node w k x) k (Ok said);
+            takes = h;
+            leaves = refl;
+          },
+          refl,
+        );
         nodes = refl;
         submitted = refl;
         frames = refl;
@@ -278,7 +290,7 @@ module _ {S : Type 0} {storages : Ghosts S} (laws : IsLawful storages) where
         let foreign : is_for_this_run m.id m.nodes e ≡ false =
         ap (λ (i : ℕ). is_for_this_run i m.nodes e) own.number ∙ ap (λ (i : ℕ). is_for_this_run k i e) own.of_all ∙ concerns in
         let ignored = subst (λ (o : Option ReplicaState). IfSome o (λ n. is_for_this_run n.id n.nodes e ≡ false
-            → (r ≡ Ok silence) × (new ≡ old))) up h.ignored in
+        → (r ≡ Ok silence) × (new ≡ old))) up h.ignored in
         let both = ignored foreign in
         ignores w k old g (Took (input.Message e) r) new here sure both.1 (silent_nothing k e r both.0)
 
@@ -317,19 +329,23 @@ module _ {S : Type 0} {storages : Ghosts S} (laws : IsLawful storages) where
           leads = record {
             events = event.Query k query ∷ [];
             world = v;
-            steps = (v, record {
-              asked = node_with old g;
-              here = here;
-              result = Ok told;
-              answers = record {
-                down = answers.down;
-                position_ = answers.position_;
-                answer_ = answers.answer_;
-                memory = answers.memory;
-              };
-              meaning = record { answers = meaning.answers };
-              leaves = refl;
-            }, refl);
+            steps = (
+              v,
+              record {
+                asked = node_with old g;
+                here = here;
+                result = Ok told;
+                answers = record {
+                  down = answers.down;
+                  position_ = answers.position_;
+                  answer_ = answers.answer_;
+                  memory = answers.memory;
+                };
+                meaning = record { answers = meaning.answers };
+                leaves = refl;
+              },
+              refl,
+            );
             nodes = set_same w.nodes k (node_with new g) there;
             submitted = none_joins w.submitted [] refl;
             frames = none_joins w.frames [] refl;
@@ -392,9 +408,9 @@ module _ {S : Type 0} {storages : Ghosts S} (laws : IsLawful storages) where
               (opens_with laws old new.storage g h.0) tt
               (record { submitted = refl; frames = refl; learnt = refl; replies = refl; answers = refl }));
           sure = λ up. absurd (
-            let down : new.up ≡ None = ap (λ (n : NodeState S). n.up) h.1 in
-            let bad : IsSome {T = ReplicaState} None = subst (λ (o : Option ReplicaState). IsSome o) down up in
-            cc);
+              let down : new.up ≡ None = ap (λ (n : NodeState S). n.up) h.1 in
+              let bad : IsSome {T = ReplicaState} None = subst (λ (o : Option ReplicaState). IsSome o) down up in
+              cc);
         }
     happening_goes (Loaded r) new comes h =
         let l = loads_with laws old g r new h in

@@ -12,7 +12,7 @@ use Rattle.node_model.specs.Sending.{IsBetween}
 use Rattle.world_model.specs.Flushing.{IsStart}
 use Rattle.world_model.specs.Memberships.{IsMembership}
 use Rattle.world_model.specs.Progress.{StepsAll}
-use Rattle.world_model.specs.Reaching.{AreHonest}
+use Rattle.world_model.specs.Reaching.{AreHonest, IsAllowed}
 use Rattle.world_model.specs.Safety.{IsSafe, IsSoundIfHonest}
 use Rattle.world_model.specs.Worlds.{WorldState}
 use Rattle.world_model.proofs.OneNode.ListedPuts.{KeepsPuts}
@@ -52,10 +52,20 @@ module _ {S : Type 0} {storages : Ghosts (Script S)} (laws : IsLawful storages)
       steps_sound h.0 more new h.2 (step_membership storages old e h.0 h.1 membership)
       (step_sound laws armed_honest armed_contents lists old e h.0 h.1 membership sound)
 
-  -- what is reached from a start is safe
+  -- what is reached from a start is sound where it is honest
+  reached_sound : (count : ℕ) (start : WorldState S) (events : List Event) (w : WorldState S) → count ≤ MOST_NODES
+      → IsStart storages count start → StepsAll storages start events w → IsSoundIfHonest storages.contents storages.IsHonest w
+  reached_sound count start events w few starts steps =
+      steps_sound start events w steps (start_membership storages count start few starts) (start_sound storages count start starts)
+
+  -- so it is safe, and the protocol's moves lead there
   pub reached_safe : (count : ℕ) (start : WorldState S) (events : List Event) (w : WorldState S) → count ≤ MOST_NODES
       → IsStart storages count start → StepsAll storages start events w → AreHonest storages.IsHonest w.nodes → IsSafe w
   reached_safe count start events w few starts steps honest =
-      safe_if_honest w
-      (steps_sound start events w steps (start_membership storages count start few starts) (start_sound storages count start starts))
-      honest
+      safe_if_honest w (reached_sound count start events w few starts steps) honest
+
+  pub reached_allowed : (count : ℕ) (start : WorldState S) (events : List Event) (w : WorldState S) → count ≤ MOST_NODES
+      → IsStart storages count start → StepsAll storages start events w → AreHonest storages.IsHonest w.nodes
+      → IsAllowed storages.contents w.nodes w.frames w.learnt w.submitted
+  reached_allowed count start events w few starts steps honest =
+      ((reached_sound count start events w few starts steps).sound honest).allowed

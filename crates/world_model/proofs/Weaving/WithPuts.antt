@@ -176,9 +176,9 @@ module _ {S : Type 0} {storages : Ghosts S} (laws : IsLawful storages) where
         after = s.after;
         fails = record { storage = s.stops; leaves = ap (λ (n : NodeState S). node_with n s.after) h.leaves };
         sure = λ up. absurd (
-          let down : new.up ≡ None = ap (λ (n : NodeState S). n.up) h.leaves in
-          let bad : IsSome {T = ReplicaState} None = subst (λ (o : Option ReplicaState). IsSome o) down up in
-          cc);
+            let down : new.up ≡ None = ap (λ (n : NodeState S). n.up) h.leaves in
+            let bad : IsSome {T = ReplicaState} None = subst (λ (o : Option ReplicaState). IsSome o) down up in
+            cc);
       }
   fails_with old m g i f false new sure h = record {
     after = g;
@@ -265,21 +265,24 @@ module _ {S : Type 0} {storages : Ghosts S} (laws : IsLawful storages) where
           leaves = ap (λ (n : NodeState S). node_with n after) h.leaves;
           own = h.own;
           fresh = h.fresh;
-          up = (h.up.0, record {
-            read = record {
-              inner = (looks, refl);
-              armed = refl;
-              fired = refl;
-              trimmed = refl;
-              list = inr (record {
-                found = shows_in (storages.contents old.storage) g.unsure;
-                writes = refl;
-                unsure = refl;
-                shown = λ honest write e. shows_decides (storages.contents old.storage) g.unsure write e;
-              });
-            };
-            unarmed = λ e. none-some _ e;
-          });
+          up = (
+            h.up.0,
+            record {
+              read = record {
+                inner = (looks, refl);
+                armed = refl;
+                fired = refl;
+                trimmed = refl;
+                list = inr (record {
+                  found = shows_in (storages.contents old.storage) g.unsure;
+                  writes = refl;
+                  unsure = refl;
+                  shown = λ honest write e. shows_decides (storages.contents old.storage) g.unsure write e;
+                });
+              };
+              unarmed = λ e. none-some _ e;
+            },
+          );
           loads = λ honest. h.loads honest.0;
           down = tt;
           sound = λ honest. h.sound honest.0;
@@ -327,10 +330,13 @@ module _ {S : Type 0} {storages : Ghosts S} (laws : IsLawful storages) where
         sound = λ honest. tt;
         damaged = λ honest e. h.damaged honest.0 e;
         device = λ e. absurd (elim other.0 [ inl memory ↦ cc | inr damaged ↦ cc ]);
-        other = inr (other.0, record {
-          read = reads_with old.storage new.storage g (read_still laws old.storage new.storage (laws.looks_reads _ _ other.1));
-          unarmed = λ e. none-some _ e;
-        });
+        other = inr (
+          other.0,
+          record {
+            read = reads_with old.storage new.storage g (read_still laws old.storage new.storage (laws.looks_reads _ _ other.1));
+            unarmed = λ e. none-some _ e;
+          },
+        );
       };
       settled = tt;
       sure = λ up. absurd (let bad : IsSome {T = ReplicaState} None = subst (λ (o : Option ReplicaState). IsSome o) h.down up in cc);

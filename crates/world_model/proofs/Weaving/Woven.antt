@@ -1,6 +1,7 @@
 -- Lives that are woven together are a run of a world, so one list explains them.
-use Rattle.std.proofs.Common.{◌≡◌, ℕ, zero, suc, ◌<◌, List, [], ◌∷◌, ◌++◌, length, map, slice_get, slice_set, Bool}
-use Rattle.std.proofs.Common.{Option, Some, None, IsSome, IfSome, inl, inr, if◌then◌else◌, refl, sym, ap, ◌∙◌, subst, append-nil, append_assoc, arith}
+use Rattle.std.proofs.Common.{◌≡◌, ℕ, zero, suc, ◌<◌, ◌≤◌, List, [], ◌∷◌, ◌++◌, length, map, slice_get, slice_set, Bool}
+use Rattle.std.proofs.Common.{Option, Some, None, IsSome, IfSome, Contains, inl, inr, if◌then◌else◌}
+use Rattle.std.proofs.Common.{refl, sym, ap, ◌∙◌, subst, append-nil, append_assoc, arith}
 use Rattle.std.proofs.Math.ListN.{length-set}
 use Rattle.std.proofs.lemmas.Bool.{cases_eq, eq-eqb, ne_eqb}
 use Rattle.std.proofs.lemmas.List.{length-map, flat_map_more}
@@ -10,20 +11,27 @@ use Rattle.stable.specs.Script.{Script}
 use Rattle.stable.specs.ScriptLaws.{scripted_laws}
 use Rattle.stable.specs.declared.stable.Stable.{Ghosts}
 use Rattle.stable.specs.Storages.{IsLawful, scripted}
+use Rattle.synod.specs.declared.ballot.TheConstants.{MOST_NODES}
 use Rattle.wire.specs.declared.frames.envelope.Envelope.{Envelope}
 use Rattle.events.specs.declared.event.Event.{Event}
 use Rattle.node_model.specs.Loading.{IsMember, IsFresh, IsLoaded}
 use Rattle.node_model.specs.Nodes.{NodeState}
 use Rattle.node_model.specs.Replicas.{ReplicaState}
+use Rattle.sessions.specs.SessionReplies.{outcome_code}
+use Rattle.world_model.specs.declared.lists.Answered.{Answered}
+use Rattle.world_model.specs.declared.lists.Replied.{Replied}
 use Rattle.world_model.specs.Explaining.{IsExplained}
 use Rattle.world_model.specs.Flushing.{IsStart, IsStarted}
 use Rattle.world_model.specs.HandedOn.{HandedOn, handed_on}
-use Rattle.world_model.specs.Lives.{Happening, Moment, IsLife, IsUnborn, AreLives, MayHappen, TellsMoments, IsNodeInWorld, AreRun, AreExplained}
+use Rattle.world_model.specs.Lives.{Happening, Happens, Moment, IsLife, IsUnborn, AreLives, MayHappen}
+use Rattle.world_model.specs.Lives.{TellsMoments, IsNodeInWorld, AreRun, AreExplained, StoragesAreHonest}
 use Rattle.world_model.specs.Lives.{happenings_of, told_by, submitted_at, sent_at, learnt_at, replied_at, answered_at}
 use Rattle.world_model.specs.Memberships.{IsMembership}
 use Rattle.world_model.specs.Progress.{StepsAll}
 use Rattle.world_model.specs.Safety.{IsSafe}
 use Rattle.world_model.specs.Worlds.{WorldState}
+use Rattle.world_model.proofs.OneLog.OneAnswer.{answers_one}
+use Rattle.world_model.proofs.OneLog.OneReply.{replies_one}
 use Rattle.world_model.proofs.OneNode.ListedPuts.{script_puts}
 use Rattle.world_model.proofs.Refinement.WorldMoves.{set_there}
 use Rattle.world_model.proofs.Steps.MembershipSteps.{set_at}
@@ -43,6 +51,10 @@ mapped_at : {A B : Type 0} (f : A → B) (xs : List A) (i : ℕ) (y : B) → sli
 mapped_at f [] i y e = absurd (none-some y e)
 mapped_at f (x ∷ xs) zero y e = (x, refl, sym (same_Some (f x) y e))
 mapped_at f (x ∷ xs) (suc i) y e = mapped_at f xs i y e
+
+as_many_still : {A : Type 0} (xs : List A) (i : ℕ) (x : A) (ys : List A) (count : ℕ) → ys ≡ slice_set xs i x → length xs ≡ count
+    → length ys ≡ count
+as_many_still xs i x ys count e all = ap (λ (zs : List _). length zs) e ∙ length-set xs i x ∙ all
 
 -- what one more moment tells joins what was told
 told_more : {A : Type 0} (part : ℕ → Happening → List A) (past : List Moment) (m : Moment) (old new : List A) → old ≡ told_by part past
@@ -86,19 +98,24 @@ module _ {S : Type 0} {storages : Ghosts S} (laws : IsLawful storages) where
     world : World
     steps : StepsAll Handed w events world
     tells : TellsMoments moments world
+    all : length world.nodes ≡ length last
     nodes : (i : ℕ) (x : Node) → slice_get world.nodes i ≡ Some x → (n : NodeState S) × (slice_get last i ≡ Some n) × IsNodeInWorld n x
 
   at_end : (last : List (NodeState S)) (i : ℕ) (x : Node) → GoesOn last [] i x
       → (n : NodeState S) × (slice_get last i ≡ Some n) × IsNodeInWorld n x
-  at_end last i x g = (g.end, g.there, record {
-    storage = (node_with g.end g.list).storage;
-    is = g.is ∙ ap (λ (n : NodeState S). node_with n g.list) (sym g.life);
-    of_node = refl;
-    unarmed = refl;
-    unfired = refl;
-  })
+  at_end last i x g = (
+    g.end,
+    g.there,
+    record {
+      storage = (node_with g.end g.list).storage;
+      is = g.is ∙ ap (λ (n : NodeState S). node_with n g.list) (sym g.life);
+      of_node = refl;
+      unarmed = refl;
+      unfired = refl;
+    },
+  )
 
-  module _ (moments : List Moment) (count : ℕ) (last : List (NodeState S))
+  module _ (moments : List Moment) (count : ℕ) (last : List (NodeState S)) (as_many : length last ≡ count)
       (among : (before after : List Moment) (m : Moment) → moments ≡ before ++ m ∷ after → m.node < count)
       (comes : (before after : List Moment) (m : Moment) → moments ≡ before ++ m ∷ after
       → MayHappen count (told_by sent_at before) m.node m.what) where
@@ -122,7 +139,7 @@ module _ {S : Type 0} {storages : Ghosts S} (laws : IsLawful storages) where
           let stood = element_at w.nodes m.node within in
           let set = set_there w.nodes m.node (node_with now list) stood.0 stood.1 in
           let named : node_with now list ≡ y = same_Some (node_with now list) y
-              (sym set ∙ subst (λ (j : ℕ). slice_get (slice_set w.nodes m.node (node_with now list)) j ≡ Some y) (sym same) at) in
+          (sym set ∙ subst (λ (j : ℕ). slice_get (slice_set w.nodes m.node (node_with now list)) j ≡ Some y) (sym same) at) in
           record {
             now = now;
             list = list;
@@ -148,6 +165,16 @@ module _ {S : Type 0} {storages : Ghosts S} (laws : IsLawful storages) where
             life = subst (λ (hs : List Happening). IsLife storages g.now hs g.end) (other_life i m rest other) g.life;
           }
     ]
+
+    -- by another name of the nodes
+    goes_in : (m : Moment) (rest : List Moment) (w : World) (nodes : List Node) (now : NodeState S) (list : Listed) (end : NodeState S)
+        → ((j : ℕ) (x : Node) → slice_get w.nodes j ≡ Some x → GoesOn last (m ∷ rest) j x)
+        → slice_get last m.node ≡ Some end → IsLife storages now (happenings_of m.node rest) end
+        → (IsSome now.up → list.unsure ≡ None) → nodes ≡ slice_set w.nodes m.node (node_with now list) → m.node < length w.nodes
+        → (i : ℕ) (y : Node) → slice_get nodes i ≡ Some y → GoesOn last rest i y
+    goes_in m rest w nodes now list end before there life sure e within i y at =
+        goes_there m rest w i y now list end before there life sure
+        (subst (λ (nodes : List Node). slice_get nodes i ≡ Some y) e at) within
 
     one_moment : (past : List Moment) (m : Moment) (rest : List Moment) (w : World) → moments ≡ past ++ m ∷ rest
         → IsMembership w.nodes w.frames → length w.nodes ≡ count → TellsMoments past w
@@ -176,9 +203,8 @@ module _ {S : Type 0} {storages : Ghosts S} (laws : IsLawful storages) where
             replies = told_more replied_at past m w.replies t.leads.world.replies tells.replies t.leads.replies;
             answers = told_more answered_at past m w.answers t.leads.world.answers tells.answers t.leads.answers;
           };
-          all = ap (λ (nodes : List Node). length nodes) t.leads.nodes ∙ length-set w.nodes m.node (node_with life.0 t.after) ∙ all;
-          goes = λ i x at. goes_there m rest w i x life.0 t.after g.end before g.there life.2 t.sure
-              (subst (λ (nodes : List Node). slice_get nodes i ≡ Some x) t.leads.nodes at) within;
+          all = as_many_still w.nodes m.node (node_with life.0 t.after) t.leads.world.nodes count t.leads.nodes all;
+          goes = goes_in m rest w t.leads.world.nodes life.0 t.after g.end before g.there life.2 t.sure t.leads.nodes within;
         }
 
     weave : (past rest : List Moment) (w : World) → moments ≡ past ++ rest → IsMembership w.nodes w.frames → length w.nodes ≡ count
@@ -189,17 +215,19 @@ module _ {S : Type 0} {storages : Ghosts S} (laws : IsLawful storages) where
       world = w;
       steps = refl;
       tells = subst (λ (ms : List Moment). TellsMoments ms w) (sym (whole ∙ append-nil past)) tells;
+      all = all ∙ sym as_many;
       nodes = λ i x at. at_end last i x (goes i x at);
     }
     weave past (m ∷ rest) w whole membership all tells goes =
         let t = one_moment past m rest w whole membership all tells goes in
         let more = weave (past ++ m ∷ []) rest t.world (whole ∙ sym (append_assoc past (m ∷ []) rest))
-            (steps_membership Handed w t.events t.world t.steps membership) t.all t.tells t.goes in
+        (steps_membership Handed w t.events t.world t.steps membership) t.all t.tells t.goes in
         record {
           events = t.events ++ more.events;
           world = more.world;
           steps = steps_then Handed w t.events more.events t.world more.world t.steps more.steps;
           tells = more.tells;
+          all = more.all;
           nodes = more.nodes;
         }
 
@@ -261,39 +289,40 @@ module _ {S : Type 0} {storages : Ghosts S} (laws : IsLawful storages) where
   lives_run moments first last h =
       let start : World = start_of first in
       let starts : IsStart Handed (length first) start = start_starts first h.unborn in
-      let ends = weave moments (length first) last h.among h.comes [] moments start refl
-          (start_membership Handed (length first) start h.few starts) starts.nodes.all
-          (record { submitted = refl; frames = refl; learnt = refl; replies = refl; answers = refl })
-          (λ i x at.
-          let n = mapped_at (λ (n : NodeState S). node_with n unused) first i x at in
-          let life = h.life i n.0 n.1 in
-          record {
-            now = n.0;
-            list = unused;
-            is = n.2;
-            sure = λ up. refl;
-            end = life.0;
-            there = life.1;
-            life = life.2;
-          }) in
+      let ends = weave moments (length first) last h.as_many h.among h.comes [] moments start refl
+      (start_membership Handed (length first) start h.few starts) starts.nodes.all
+      (record { submitted = refl; frames = refl; learnt = refl; replies = refl; answers = refl })
+      (λ i x at.
+      let n = mapped_at (λ (n : NodeState S). node_with n unused) first i x at in
+      let life = h.life i n.0 n.1 in
+      record {
+        now = n.0;
+        list = unused;
+        is = n.2;
+        sure = λ up. refl;
+        end = life.0;
+        there = life.1;
+        life = life.2;
+      }) in
       record {
         start = start;
-        count = length first;
-        starts = starts;
-        few = h.few;
+        starts = subst (λ (count : ℕ). IsStart Handed count start) (sym h.as_many) starts;
+        few = subst (λ (count : ℕ). count ≤ MOST_NODES) (sym h.as_many) h.few;
         events = ends.events;
         world = ends.world;
         steps = ends.steps;
         tells = ends.tells;
+        all = ends.all;
         nodes = ends.nodes;
       }
 
   -- where every storage is honest at the end, the world that they come to is safe
   pub run_safe : (moments : List Moment) (last : List (NodeState S)) (run : AreRun storages moments last)
-      → ((i : ℕ) (n : NodeState S) → slice_get last i ≡ Some n → storages.IsHonest n.storage) → IsSafe run.world
+      → StoragesAreHonest storages last → IsSafe run.world
   run_safe moments last run honest =
-      reached_safe (scripted_laws (handed_laws storages)) (λ s f h. h) (λ s f. refl) (script_puts (handed_on storages) (handed_laws storages))
-      run.count run.start run.events run.world run.few run.starts run.steps
+      reached_safe (scripted_laws (handed_laws storages)) (λ s f h. h) (λ s f. refl)
+      (script_puts (handed_on storages) (handed_laws storages))
+      (length last) run.start run.events run.world run.few run.starts run.steps
       (λ i x at.
       let n = run.nodes i x at in
       let is = n.2 in
@@ -303,12 +332,44 @@ module _ {S : Type 0} {storages : Ghosts S} (laws : IsLawful storages) where
 
   -- so one list explains them
   pub lives_explained : (moments : List Moment) (first last : List (NodeState S)) → AreLives storages moments first last
-      → ((i : ℕ) (n : NodeState S) → slice_get last i ≡ Some n → storages.IsHonest n.storage) → AreExplained moments
+      → StoragesAreHonest storages last → AreExplained moments
   lives_explained moments first last h honest =
       let run = lives_run moments first last h in
       let e = (run_safe moments last run honest).explained in
       let t = run.tells in
-      subst (λ (s : List _). IsExplained s (told_by learnt_at moments) (told_by replied_at moments) (told_by answered_at moments)) t.submitted
+      subst (λ (s : List _). IsExplained s (told_by learnt_at moments) (told_by replied_at moments) (told_by answered_at moments))
+      t.submitted
       (subst (λ (l : List _). IsExplained run.world.submitted l (told_by replied_at moments) (told_by answered_at moments)) t.learnt
       (subst (λ (r : List _). IsExplained run.world.submitted run.world.learnt r (told_by answered_at moments)) t.replies
       (subst (λ (a : List _). IsExplained run.world.submitted run.world.learnt run.world.replies a) t.answers e)))
+
+  -- two answers to one query at one position are equal
+  pub lives_answer_one : (moments : List Moment) (first last : List (NodeState S)) → AreLives storages moments first last
+      → StoragesAreHonest storages last → (a b : Answered) → Contains (told_by answered_at moments) a
+      → Contains (told_by answered_at moments) b → a.query ≡ b.query → a.position ≡ b.position → a.text ≡ b.text
+  lives_answer_one moments first last h honest a b first_told second_told query position =
+      let run = lives_run moments first last h in
+      let listed : (c : Answered) → Contains (told_by answered_at moments) c → Contains run.world.answers c =
+      λ c told. subst (λ (told_ : List Answered). Contains told_ c) (sym run.tells.answers) told in
+      answers_one run.world ∣ run_safe moments last run honest ∣₁ a b (listed a first_told) (listed b second_told) query position
+
+  -- two replies at one position have one number
+  pub lives_reply_one : (moments : List Moment) (first last : List (NodeState S)) → AreLives storages moments first last
+      → StoragesAreHonest storages last → (a b : Replied) → Contains (told_by replied_at moments) a
+      → Contains (told_by replied_at moments) b → a.position ≡ b.position → outcome_code a.reply ≡ outcome_code b.reply
+  lives_reply_one moments first last h honest a b first_told second_told position =
+      let run = lives_run moments first last h in
+      let listed : (c : Replied) → Contains (told_by replied_at moments) c → Contains run.world.replies c =
+      λ c told. subst (λ (told_ : List Replied). Contains told_ c) (sym run.tells.replies) told in
+      replies_one run.world ∣ run_safe moments last run honest ∣₁ a b (listed a first_told) (listed b second_told) position
+
+-- ---- one life after another
+module _ {S : Type 0} (storages : Ghosts S) where
+  pub lives_join : (old : NodeState S) (past : List Happening) (between : NodeState S) (more : List Happening) (new : NodeState S)
+      → IsLife storages old past between → IsLife storages between more new → IsLife storages old (past ++ more) new
+  lives_join old [] between more new h k = subst (λ (n : NodeState S). IsLife storages n more new) h k
+  lives_join old (what ∷ past) between more new h k = (h.0, h.1, lives_join h.0 past between more new h.2 k)
+
+  pub life_goes_on : (old : NodeState S) (past : List Happening) (between : NodeState S) (what : Happening) (new : NodeState S)
+      → IsLife storages old past between → Happens storages between what new → IsLife storages old (past ++ what ∷ []) new
+  life_goes_on old past between what new h k = lives_join old past between (what ∷ []) new h (new, k, refl)
