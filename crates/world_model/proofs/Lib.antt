@@ -7,3 +7,4 @@ pub mod Progress
 -- all of it, for every step, flush and round
 pub mod SoundSteps
 pub mod PromisesKept
+pub mod Weaving

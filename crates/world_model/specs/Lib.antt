@@ -1,8 +1,10 @@
 pub mod Events
 pub mod Explaining
 pub mod Fired
+pub mod Lives
 pub mod Memberships
 pub mod Flushing
+pub mod HandedOn
 pub mod Outputs
 pub mod Progress
 pub mod Protocol

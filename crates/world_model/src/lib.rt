@@ -7,6 +7,7 @@
 mod explanation;
 mod laws;
 mod lists;
+mod lives;
 mod round_end;
 
 pub use explanation::{one_log_explains, start_keeps_lists, steps_keep_lists};
@@ -15,4 +16,8 @@ pub use laws::{
     replies_are_one,
 };
 pub use lists::{Answered, LearntEntry, Replied, StepOutcome, Submission};
+pub use lives::{
+    a_start_is_a_load, lives_are_a_run, lives_go_on, lives_tell_the_same, one_list_explains_lives,
+    reached_worlds_are_safe,
+};
 pub use round_end::RoundEnd;
