@@ -92,28 +92,16 @@ happenings_of i (m ∷ more) = if m.node == i then m.what ∷ happenings_of i mo
 -- ---- what a moment tells
 abbrev pub request_at : ℕ → Input → List Submission
 request_at node (input.Submit client number op) = submission_of node (asked client number op) ∷ []
-request_at node (input.Message e) = []
-request_at node input.Timeout = []
-request_at node input.Tick = []
-request_at node input.Checkpoint = []
-request_at node input.Trim = []
+request_at node other = []
 
 abbrev pub submitted_at : ℕ → Happening → List Submission
 submitted_at node (Took input (Ok said)) = request_at node input
-submitted_at node (Took input (Err f)) = []
-submitted_at node (Killed input) = []
-submitted_at node (Asked query result) = []
-submitted_at node Opened = []
-submitted_at node (Loaded result) = []
+submitted_at node other = []
 
 -- what its node says, where it takes an input
 abbrev pub said_by : {A : Type 0} → (Response → List A) → Happening → List A
 said_by part (Took input (Ok said)) = part said
-said_by part (Took input (Err f)) = []
-said_by part (Killed input) = []
-said_by part (Asked query result) = []
-said_by part Opened = []
-said_by part (Loaded result) = []
+said_by part other = []
 
 abbrev pub sent_at : ℕ → Happening → List Envelope
 sent_at node what = said_by (λ said. said.sends) what
@@ -126,11 +114,7 @@ replied_at node what = said_by (λ said. replied_by node said.replies) what
 
 abbrev pub answered_at : ℕ → Happening → List Answered
 answered_at node (Asked query (Ok told)) = record { node = node; position = told.0; query = query; text = told.1 } ∷ []
-answered_at node (Asked query (Err f)) = []
-answered_at node (Took input result) = []
-answered_at node (Killed input) = []
-answered_at node Opened = []
-answered_at node (Loaded result) = []
+answered_at node other = []
 
 -- what many tell, the oldest first
 abbrev pub told_by : {A : Type 0} → (ℕ → Happening → List A) → List Moment → List A
@@ -142,17 +126,12 @@ told_by part moments = flat_map (λ m. part m.node m.what) moments
 abbrev pub MayCome : ℕ → List Envelope → ℕ → Input → Type 0
 MayCome count sent node (input.Submit client number op) = OpIsValid op
 MayCome count sent node (input.Message e) = is_for_this_run node count e ≡ true → Contains sent e × Fits 7 e
-MayCome count sent node input.Timeout = ⊤
-MayCome count sent node input.Tick = ⊤
-MayCome count sent node input.Checkpoint = ⊤
-MayCome count sent node input.Trim = ⊤
+MayCome count sent node other = ⊤
 
 abbrev pub MayHappen : ℕ → List Envelope → ℕ → Happening → Type 0
 MayHappen count sent node (Took input result) = MayCome count sent node input
 MayHappen count sent node (Killed input) = MayCome count sent node input
-MayHappen count sent node (Asked query result) = ⊤
-MayHappen count sent node Opened = ⊤
-MayHappen count sent node (Loaded result) = ⊤
+MayHappen count sent node other = ⊤
 
 -- no process of the node was ever started, and its storage is empty
 pub record IsUnborn {S : Type 0} (storages : Ghosts S) (count i : ℕ) (n : NodeState S) : Type 0 where
