@@ -10,9 +10,9 @@ ghost use Rattle.predicates.specs.Windows.{InWindow, IsWindowOf, InTime, place_a
 ghost use Rattle.predicates.specs.Ends.{Settle};
 ghost use Rattle.predicates.specs.Questions.{AnswersQuestion};
 
-use crate::clipping::{at_least, at_most};
 use crate::courses::crosses;
 use crate::ends::{is_within, settle, settled, shares_time};
+use crate::inner_part::{at_least, at_most};
 use crate::questions::{Question, Tri};
 use crate::windows::Window;
 use tpoint::{Period, Point, Rect};

@@ -8,9 +8,9 @@
 #![tactic(auto)]
 
 mod bounds;
-mod clipping;
 mod courses;
 mod ends;
+mod inner_part;
 mod legs;
 mod pieces;
 mod questions;

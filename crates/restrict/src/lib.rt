@@ -4,8 +4,8 @@
 //! period the position may be a fraction: it is never rounded. `specs/Cuts.antt` defines a cut.
 #![tactic(auto)]
 
-mod cutting;
 mod part;
+mod period_cut;
 
-pub use cutting::cut;
 pub use part::Cut;
+pub use period_cut::cut;

@@ -4,13 +4,13 @@
 //! `k`, the record in `v`. Each put is one statement and one transaction, which is on disk before the call returns.
 #![tactic(auto)]
 
-mod closing;
+mod constructors;
 mod fault;
-mod listing;
-mod opening;
+mod file_storage;
+mod key_bytes;
+mod left_files;
+mod listed_keys;
 mod schema;
-mod settling;
-mod spelling;
 mod statements;
 mod storage;
 mod survey;

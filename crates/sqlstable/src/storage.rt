@@ -4,8 +4,8 @@ ghost use Rattle.sqlite.specs.Held.{state};
 ghost use Rattle.sqlstable.specs.States.{TableIsSettled};
 
 use crate::fault::fault_of;
-use crate::listing::keys_in;
-use crate::spelling::{spelling, vote_key};
+use crate::key_bytes::{spelling, vote_key};
+use crate::listed_keys::keys_in;
 use crate::statements::{list, read, trim, write};
 use sqlite::{Alter, Connection, Error, MemStore};
 use stable::{Key, Stable, StableFault};

@@ -11,10 +11,10 @@ mod limits;
 mod longest_snapshot;
 mod losses;
 mod news;
+mod node_text;
 mod promises;
 mod runs;
 mod snapshots;
-mod telling;
 mod test_nodes;
 
 use std::alloc::Global;

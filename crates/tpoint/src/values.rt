@@ -9,8 +9,8 @@ ghost use Rattle.tpoint.specs.Coordinates.{InRange};
 ghost use Rattle.tpoint.specs.Pieces.{place, AtPoint, HeldUntil, OnPiece};
 ghost use Rattle.tpoint.specs.Reduced.{position, Finds};
 
+use crate::lowest_terms::reduce;
 use crate::probed::Probed;
-use crate::reducing::reduce;
 use crate::{Frac, Instant, Interp, MOST_POINTS, MOST_PROBES, Point, Seq, search};
 
 /// What was found at an instant.

@@ -11,7 +11,7 @@
 //! - `count 0`: how many features there are; `look 0`: whether it is up, its position, and the keys of the puts that took effect.
 
 use super::letters::{envelope, node_id, number, numbers, removal, small};
-use super::telling::{
+use super::node_text::{
     tell_fault, tell_learnt, tell_replies, tell_restored, tell_sends, tell_writes,
 };
 use node::Node;

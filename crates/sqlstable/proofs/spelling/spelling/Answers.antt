@@ -1,5 +1,0 @@
-use Rattle.std.proofs.Common.{rules}
-use Rattle.sqlstable.proofs.spelling.spelling.Goals as goal
-
-pub returns-in-Vote-clause-spelled : goal.returns-in-Vote-clause-spelled
-returns-in-Vote-clause-spelled c = search rules

@@ -1,0 +1,12 @@
+use Rattle.std.proofs.Common.{arith}
+use Rattle.std.proofs.lemmas.Nat.Gcd.{IsGcd-from_zero, IsGcd-from_mod}
+use Rattle.tpoint.proofs.lowest_terms.gcd.Goals as goal
+
+pub loop-y-init : goal.loop-y-init
+loop-y-init c g h = IsGcd-from_mod _ _ g (rw c.remainder-y.ensures at h)
+
+pub loop-y-preserved : goal.loop-y-preserved
+loop-y-preserved c g h = c.loop-y.invariant g (IsGcd-from_mod _ _ g h)
+
+pub returns : goal.returns
+returns c = c.loop-y.invariant _ (IsGcd-from_zero _ _ (omega arith))
