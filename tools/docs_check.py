@@ -29,7 +29,7 @@ import spec_closure
 
 TOP = os.path.dirname(os.path.dirname(os.path.abspath(__file__)))
 KB = 1000
-README, ONE, DOCS, REST = 10 * KB, 30 * KB, 135 * KB, 30 * KB
+README, ONE, DOCS, REST = 10 * KB, 30 * KB, 155 * KB, 30 * KB
 LONGEST = 45
 HOUSE_WORDS = ("want of memory", "wrong body", "wrong bodies", "is told", "hundredths", "from nothing")
 MAINS = "crates/mfpx/src/main.rt", "crates/mfpx_files/src/main.rt"
