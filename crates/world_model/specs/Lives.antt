@@ -2,7 +2,7 @@
 use Rattle.std.specs.Prelude.{◌≡◌, ℕ, ◌==◌, ◌<◌, ◌≤◌, List, [], ◌∷◌, ◌++◌, length, slice_get, true, if◌then◌else◌, ⊤}
 use Rattle.std.specs.Prelude.{◌⊎◌, Some, None, IsSome, IfSome, Result, Ok, Err, Contains}
 use Rattle.std.specs.List.{flat_map}
-use Rattle.stable.specs.Records.{no_records}
+use Rattle.stable.specs.Records.{Change, no_records}
 use Rattle.stable.specs.Script.{Script}
 use Rattle.stable.specs.Storages.{scripted}
 use Rattle.stable.specs.declared.stable.Stable.{Ghosts}
@@ -15,19 +15,19 @@ use Rattle.events.specs.declared.event.Event.{Event}
 use Rattle.node_model.specs.declared.fault.NodeFault.{NodeFault}
 use Rattle.node_model.specs.declared.input.Input.{Input}
 use Rattle.node_model.specs.declared.input.Input.TheVariants as input
-use Rattle.node_model.specs.Faults.{is_stop_fault}
 use Rattle.node_model.specs.Inputs.{is_for_this_run}
 use Rattle.node_model.specs.Loading.{IsMember, IsFresh, IsLoaded, IsDamaged, Restarts}
 use Rattle.node_model.specs.Nodes.{NodeState, NodeSteps, NodeAnswers, StaysMeaning, AnswersMeaning}
 use Rattle.node_model.specs.Outputs.{Response}
-use Rattle.node_model.specs.Replicas.{asked}
+use Rattle.node_model.specs.Replicas.{ReplicaState, asked, refuses}
+use Rattle.node_model.specs.Taking.{Writes}
 use Rattle.world_model.specs.declared.lists.Submission.{Submission}
 use Rattle.world_model.specs.declared.lists.LearntEntry.{LearntEntry}
 use Rattle.world_model.specs.declared.lists.Replied.{Replied}
 use Rattle.world_model.specs.declared.lists.Answered.{Answered}
 use Rattle.world_model.specs.Explaining.{IsExplained}
 use Rattle.world_model.specs.Flushing.{IsStart}
-use Rattle.world_model.specs.HandedOn.{HandedOn, handed_on, HoldsStill}
+use Rattle.world_model.specs.HandedOn.{HandedOn, handed_on, HoldsStill, HoldsChanged}
 use Rattle.world_model.specs.Outputs.{replied_by}
 use Rattle.world_model.specs.Progress.{StepsAll}
 use Rattle.world_model.specs.Worlds.{WorldState, learnt_by, submission_of}
@@ -37,25 +37,35 @@ use Rattle.world_model.specs.Worlds.{WorldState, learnt_by, submission_of}
 pub data Happening : Type 0 where
   -- its process takes an input, refuses it, or goes down on it
   Took : Input → Result Response NodeFault → Happening
-  -- its process is killed while it takes an input, of which nobody is told anything
+  -- its process is killed once the change that an input makes is stored, before anything is told of it; and another has opened the storage
   Killed : Input → Happening
   -- it is asked
   Asked : Query → Result (ℕ × List ℕ) NodeFault → Happening
-  -- its process is no more, and another one has opened its storage
+  -- its process is no more, and another has opened the storage
   Opened : Happening
-  -- its process loads the records, or fails to
+  -- that one loads the records, or fails to
   Loaded : Result (Unit {0}) NodeFault → Happening
+
+-- an input that the node takes makes a change, and the storage holds what it held but for that
+pub record IsCutOff {S : Type 0} (storages : Ghosts S) (old : NodeState S) (input : Input) (storage : S) : Type 0 where
+  pub replica : ReplicaState
+  pub up : old.up ≡ Some replica
+  pub unrefused : refuses replica input ≡ None
+  pub change : Change
+  pub makes : Writes replica input (Some change)
+  pub leaves : HoldsChanged storages old.storage change storage
+
+-- the node of the next process, which has loaded nothing yet
+abbrev pub reopened : {S : Type 0} → NodeState S → S → NodeState S
+reopened n storage = record n { storage = storage; up = None }
 
 -- it makes the second state of the first
 abbrev pub Happens : {S : Type 0} → Ghosts S → NodeState S → Happening → NodeState S → Type 0
 Happens storages old (Took input result) new = NodeSteps storages old input result new × StaysMeaning old input result new
--- the storage is as if the process had gone down on the input: the change that it was making is made or not
-Happens storages old (Killed input) new =
-    (f : NodeFault) × (is_stop_fault f ≡ true) × NodeSteps storages old input (Err f) new
+Happens storages old (Killed input) new = IsCutOff storages old input new.storage × (new ≡ reopened old new.storage)
 Happens storages old (Asked query result) new = NodeAnswers old query result × AnswersMeaning old query result × (new ≡ old)
 -- it is never lost, swapped or restored from a copy, and keeps what a sync answered for
-Happens storages old Opened new =
-    HoldsStill storages old.storage new.storage × (new ≡ record old { storage = new.storage; up = None })
+Happens storages old Opened new = HoldsStill storages old.storage new.storage × (new ≡ reopened old new.storage)
 Happens storages old (Loaded result) new = Restarts storages old result new
 
 -- one after the other these happened, from the first state to the last

@@ -28,12 +28,12 @@ use Rattle.node_model.specs.Nodes.{NodeState, NodeSteps, NodeAnswers, StaysMeani
 use Rattle.node_model.specs.Outputs.{Response, silence}
 use Rattle.node_model.specs.Replicas.{ReplicaState, asked}
 use Rattle.world_model.specs.HandedOn.{HandedOn, handed_on}
-use Rattle.world_model.specs.Lives.{Happening, Took, Killed, Asked, Opened, Loaded, Happens, MayCome, MayHappen}
+use Rattle.world_model.specs.Lives.{Happening, Took, Killed, Asked, Opened, Loaded, Happens, IsCutOff, reopened, MayCome, MayHappen}
 use Rattle.world_model.specs.Lives.{submitted_at, sent_at, learnt_at, replied_at, answered_at, request_at}
 use Rattle.world_model.specs.Progress.{StepsAll}
 use Rattle.world_model.specs.Worlds.{WorldState, TakesAt, Steps, with_node, recorded, with_submission, answered, with_outcome}
 use Rattle.world_model.specs.Worlds.{restart_outcome, without_wait}
-use Rattle.world_model.proofs.Weaving.WithPuts.{Listed, node_with, StepsWith, steps_with, loads_with, opens_with}
+use Rattle.world_model.proofs.Weaving.WithPuts.{Listed, node_with, StepsWith, steps_with, cut_with, loads_with, opens_with}
 
 -- ---- lists
 -- an element has a place
@@ -246,68 +246,60 @@ module _ {S : Type 0} {storages : Ghosts S} (laws : IsLawful storages) where
 
   module _ (count : ℕ) (w : World) (k : ℕ) (old : NodeState S) (g : Listed) (here : slice_get w.nodes k ≡ Some (node_with old g))
       (member : IsMember k count (node_with old g)) (sure : IsSome old.up → g.unsure ≡ None) where
-    stepped : (m : ReplicaState) (i : Input) (r : Result Response NodeFault) (new : NodeState S) → old.up ≡ Some m
-        → NodeSteps storages old i r new → StepsWith laws old g i r new
-    stepped m i r new up h =
-        steps_with laws old m g i r new up (sure (subst (λ (o : Option ReplicaState). IsSome o) (sym up) refl)) h
-
-    means : (i : Input) (r : Result Response NodeFault) (new : NodeState S) (after : Listed) → StaysMeaning old i r new
-        → StaysMeaning (node_with old g) i r (node_with new after)
-    means i r new after h = record { goes_on = h.goes_on; restores = h.restores }
-
-    own_goes : (e : Event) (m : ReplicaState) (i : Input) (r : Result Response NodeFault) (new : NodeState S) → old.up ≡ Some m
-        → NodeSteps storages old i r new → StaysMeaning old i r new
+    -- what an input comes to
+    own_goes : (i : Input) (r : Result Response NodeFault) (new : NodeState S) (s : StepsWith laws old g i r new)
+        → StaysMeaning (node_with old g) i r (node_with new s.after)
         → ((x : Node) → TakesAt Handed w k i (is_ok r) (recorded (with_node w k x) k r) → Leads w k (Took i r) x)
         → Goes w k (Took i r) new
-    own_goes e m i r new up h meaning leads =
-        let s = stepped m i r new up h in
-        record {
-          after = s.after;
-          leads = leads (node_with new s.after)
-              (takes_at w k (node_with old g) i r (node_with new s.after) here s.steps (means i r new s.after meaning));
-          sure = s.sure;
-        }
+    own_goes i r new s meaning leads = record {
+      after = s.after;
+      leads = leads (node_with new s.after) (takes_at w k (node_with old g) i r (node_with new s.after) here s.steps meaning);
+      sure = s.sure;
+    }
 
     message_goes : (m : ReplicaState) (e : Envelope) (r : Result Response NodeFault) (new : NodeState S) (b : Bool) → old.up ≡ Some m
         → is_for_this_run k count e ≡ b → (is_for_this_run k count e ≡ true → Contains w.frames e × Fits 7 e)
-        → NodeSteps storages old (input.Message e) r new → StaysMeaning old (input.Message e) r new
-        → Goes w k (Took (input.Message e) r) new
-    message_goes m e r new true up concerns comes h meaning =
+        → (s : StepsWith laws old g (input.Message e) r new)
+        → StaysMeaning (node_with old g) (input.Message e) r (node_with new s.after) → Goes w k (Took (input.Message e) r) new
+    message_goes m e r new true up concerns comes s meaning =
         let came = comes concerns in
         let at = contained_at w.frames e came.0 in
         let to : e.to ≡ k = addressed k count e concerns in
-        let s = stepped m (input.Message e) r new up h in
         record {
           after = s.after;
           leads = subst (λ (i : ℕ). Leads w i (Took (input.Message e) r) (node_with new s.after)) to
               (message_step w (node_with old g) m e r (node_with new s.after) at.0 up at.1 came.1
               (subst (λ (i : ℕ). slice_get w.nodes i ≡ Some (node_with old g)) (sym to) here)
-              s.steps (means (input.Message e) r new s.after meaning));
+              s.steps meaning);
           sure = s.sure;
         }
-    message_goes m e r new false up concerns comes h meaning =
+    message_goes m e r new false up concerns comes s meaning =
         let own = member.up m up in
         let foreign : is_for_this_run m.id m.nodes e ≡ false =
         ap (λ (i : ℕ). is_for_this_run i m.nodes e) own.number ∙ ap (λ (i : ℕ). is_for_this_run k i e) own.of_all ∙ concerns in
-        let ignored = subst (λ (o : Option ReplicaState). IfSome o (λ n. is_for_this_run n.id n.nodes e ≡ false
-        → (r ≡ Ok silence) × (new ≡ old))) up h.ignored in
-        let both = ignored foreign in
-        ignores w k old g (Took (input.Message e) r) new here sure both.1 (silent_nothing k e r both.0)
+        let both = subst (λ (o : Option ReplicaState). IfSome o (λ n. is_for_this_run n.id n.nodes e ≡ false
+        → (r ≡ Ok silence) × (node_with new s.after ≡ node_with old g))) up s.steps.ignored foreign in
+        record {
+          after = s.after;
+          leads = stays w k (Took (input.Message e) r) (node_with new s.after) (here ∙ ap (λ (x : Node). Some x) (sym both.1))
+              (silent_nothing k e r both.0);
+          sure = s.sure;
+        }
 
-    -- a node that is up
+    -- at a node that is up
     up_goes : (m : ReplicaState) (i : Input) (r : Result Response NodeFault) (new : NodeState S) → old.up ≡ Some m
-        → MayCome count w.frames k i → NodeSteps storages old i r new → StaysMeaning old i r new → Goes w k (Took i r) new
-    up_goes m (input.Submit client number op) r new up comes h meaning =
-        own_goes (event.Tick k) m (input.Submit client number op) r new up h meaning
+        → MayCome count w.frames k i → (s : StepsWith laws old g i r new)
+        → StaysMeaning (node_with old g) i r (node_with new s.after) → Goes w k (Took i r) new
+    up_goes m (input.Submit client number op) r new up comes s meaning = own_goes (input.Submit client number op) r new s meaning
         (λ x takes. submit_step w k (node_with old g) client number op r x comes takes)
-    up_goes m (input.Message e) r new up comes h meaning = message_goes m e r new (is_for_this_run k count e) up refl comes h meaning
-    up_goes m input.Timeout r new up comes h meaning = own_goes (event.Timeout k) m input.Timeout r new up h meaning
+    up_goes m (input.Message e) r new up comes s meaning = message_goes m e r new (is_for_this_run k count e) up refl comes s meaning
+    up_goes m input.Timeout r new up comes s meaning = own_goes input.Timeout r new s meaning
         (λ x takes. own_step w w.waiting (event.Timeout k) k input.Timeout r x (is_ok r, takes) refl)
-    up_goes m input.Tick r new up comes h meaning = own_goes (event.Tick k) m input.Tick r new up h meaning
+    up_goes m input.Tick r new up comes s meaning = own_goes input.Tick r new s meaning
         (λ x takes. own_step w w.waiting (event.Tick k) k input.Tick r x (is_ok r, takes) refl)
-    up_goes m input.Checkpoint r new up comes h meaning = own_goes (event.Checkpoint k) m input.Checkpoint r new up h meaning
+    up_goes m input.Checkpoint r new up comes s meaning = own_goes input.Checkpoint r new s meaning
         (λ x takes. own_step w w.waiting (event.Checkpoint k) k input.Checkpoint r x (is_ok r, takes) refl)
-    up_goes m input.Trim r new up comes h meaning = own_goes (event.Trim k) m input.Trim r new up h meaning
+    up_goes m input.Trim r new up comes s meaning = own_goes input.Trim r new s meaning
         (λ x takes. own_step w w.waiting (event.Trim k) k input.Trim r x (is_ok r, takes) refl)
 
     took_goes : (o : Option ReplicaState) (i : Input) (r : Result Response NodeFault) (new : NodeState S) → old.up ≡ o
@@ -316,7 +308,33 @@ module _ {S : Type 0} {storages : Ghosts S} (laws : IsLawful storages) where
         let down = h.down up in
         ignores w k old g (Took i r) new here sure down.1
         (subst (λ (q : Result Response NodeFault). TellsNothing k (Took i q)) (sym down.0) (failed_nothing k i fault.Down))
-    took_goes (Some m) i r new up comes h meaning = up_goes m i r new up comes h meaning
+    took_goes (Some m) i r new up comes h meaning =
+        up_goes m i r new up comes
+        (steps_with laws old m g i r new up (sure (subst (λ (o : Option ReplicaState). IsSome o) (sym up) refl)) h)
+        (record { goes_on = meaning.goes_on; restores = meaning.restores })
+
+    -- the process is killed after the change that an input makes
+    killed_goes : (i : Input) (s : S) → MayCome count w.frames k i → IsCutOff storages old i s → Goes w k (Killed i) (reopened old s)
+    killed_goes i s comes h =
+        let t = up_goes h.replica i (Err fault.Memory) (reopened old s) h.up comes (cut_with laws old g i s sure h) (record {
+          goes_on = λ base. nothing_after old.up (λ m. IsMeaningOf base m);
+          restores = λ base. nothing_then old.up;
+        }) in
+        record {
+          after = t.after;
+          leads = record {
+            events = t.leads.events;
+            world = t.leads.world;
+            steps = t.leads.steps;
+            nodes = t.leads.nodes;
+            submitted = t.leads.submitted;
+            frames = t.leads.frames;
+            learnt = t.leads.learnt;
+            replies = t.leads.replies;
+            answers = t.leads.answers;
+          };
+          sure = t.sure;
+        }
 
     -- ---- a query
     asked_goes : (query : Query) (r : Result (ℕ × List ℕ) NodeFault) (new : NodeState S) → NodeAnswers old query r
@@ -379,32 +397,14 @@ module _ {S : Type 0} {storages : Ghosts S} (laws : IsLawful storages) where
         → Goes w k what new
     happening_goes (Took i r) new comes h = took_goes old.up i r new refl comes h.0 h.1
     happening_goes (Killed i) new comes h =
-        let t = took_goes old.up i (Err h.0) new refl comes h.2 (record {
-          goes_on = λ base. nothing_after old.up (λ m. IsMeaningOf base m);
-          restores = λ base. nothing_then old.up;
-        }) in
-        record {
-          after = t.after;
-          leads = record {
-            events = t.leads.events;
-            world = t.leads.world;
-            steps = t.leads.steps;
-            nodes = t.leads.nodes;
-            submitted = t.leads.submitted;
-            frames = t.leads.frames;
-            learnt = t.leads.learnt;
-            replies = t.leads.replies;
-            answers = t.leads.answers;
-          };
-          sure = t.sure;
-        }
+        subst (λ (n : NodeState S). Goes w k (Killed i) n) (sym h.1) (killed_goes i new.storage comes h.0)
     happening_goes (Asked query r) new comes h = asked_goes query r new h.0 h.1 h.2
     happening_goes Opened new comes h =
-        let named : record old { storage = new.storage; up = None } ≡ new = sym h.1 in
+        let named : reopened old new.storage ≡ new = sym h.1 in
         record {
           after = g;
           leads = subst (λ (n : NodeState S). Leads w k Opened (node_with n g)) named
-              (restart_goes Opened (Err fault.Memory) (node_with (record old { storage = new.storage; up = None }) g)
+              (restart_goes Opened (Err fault.Memory) (node_with (reopened old new.storage) g)
               (opens_with laws old new.storage g h.0) tt
               (record { submitted = refl; frames = refl; learnt = refl; replies = refl; answers = refl }));
           sure = λ up. absurd (

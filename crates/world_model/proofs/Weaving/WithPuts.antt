@@ -1,10 +1,10 @@
 -- A node and the list of its puts: what happens to the one happens to both.
-use Rattle.std.proofs.Common.{◌≡◌, ◌↔◌, ℕ, ◌+◌, inl, inr, List, Bool, true, false, IsTrue, Option, Some, None, IsSome}
+use Rattle.std.proofs.Common.{◌≡◌, ◌↔◌, ℕ, ◌+◌, inl, inr, List, Bool, true, false, IsTrue, Option, Some, None, IfSome, IsSome}
 use Rattle.std.proofs.Common.{Result, Ok, Err, OnOk, MatchBool, refl, sym, ap, ◌∙◌, subst}
 use Rattle.std.proofs.lemmas.Option.{none-some, same_Some}
 use Rattle.std.proofs.lemmas.Slice.Eq.{bytes_eq-Decides}
 use Rattle.std.specs.Str.{bytes_eq}
-use Rattle.stable.specs.Records.{Records}
+use Rattle.stable.specs.Records.{Change, Records}
 use Rattle.stable.specs.Script.{Script, Write, PutShows, IsUnarmed, added, noted, raised_by, unsure_by}
 use Rattle.stable.specs.declared.stable.Stable.{Ghosts}
 use Rattle.stable.specs.Storages.{IsLawful, scripted}
@@ -18,9 +18,10 @@ use Rattle.node_model.specs.Loading.{Restarts}
 use Rattle.node_model.specs.Nodes.{NodeState, NodeSteps, StorageStops, StopsOnInput}
 use Rattle.node_model.specs.Nodes.{RefusesInput, TakesInput}
 use Rattle.node_model.specs.Outputs.{Response, silence}
-use Rattle.node_model.specs.Replicas.{ReplicaState, Ignores}
+use Rattle.node_model.specs.Replicas.{ReplicaState, Ignores, refuses}
 use Rattle.node_model.specs.Taking.{Writes, WritesOnEnvelope}
-use Rattle.world_model.specs.HandedOn.{HandedOn, handed_on, HoldsStill}
+use Rattle.world_model.specs.HandedOn.{HandedOn, handed_on, HoldsStill, HoldsChanged}
+use Rattle.world_model.specs.Lives.{IsCutOff, reopened}
 use Rattle.world_model.proofs.Weaving.HandedLaws.{still, read_still, read_failed_still, changes_changed, fails_may}
 
 -- what a world knows of a storage besides what is stored
@@ -104,18 +105,22 @@ module _ {S : Type 0} {storages : Ghosts S} (laws : IsLawful storages) where
   reads_with : (a b : S) (g : Listed) → HoldsStill storages a b → Handed.reads (with_list a g) (with_list b g)
   reads_with a b g h = record { inner = (h, refl); armed = refl; fired = refl; trimmed = refl; list = inl (refl, refl) }
 
+  changed_with : (a b : S) (change : Change) (g : Listed) → g.unsure ≡ None → HoldsChanged storages a change b
+      → Handed.changes (with_list a g) change (with_list b (after_write (Some change) g))
+  changed_with a b change g sure h = record {
+    between = with_list a g;
+    before = reads_with a a g (still storages a);
+    unarmed = unarmed;
+    adds = record { settled = sure; inner = (h, refl); writes = refl; unsure = sure; trimmed = refl };
+    armed = refl;
+    fired = refl;
+  }
+
   written_with : (a b : S) (w : OptionalWrite) (g : Listed) → g.unsure ≡ None
       → HasWritten storages.reads storages.changes a b w
       → HasWritten Handed.reads Handed.changes (with_list a g) (with_list b (after_write w g)) w
   written_with a b None g sure h = reads_with a b g (read_still laws a b h)
-  written_with a b (Some change) g sure h = record {
-    between = with_list a g;
-    before = reads_with a a g (still storages a);
-    unarmed = unarmed;
-    adds = record { settled = sure; inner = (changes_changed laws a b change h, refl); writes = refl; unsure = sure; trimmed = refl };
-    armed = refl;
-    fired = refl;
-  }
+  written_with a b (Some change) g sure h = changed_with a b change g sure (changes_changed laws a b change h)
 
   failed_with : (a b : S) (w : OptionalWrite) (g : Listed) → g.unsure ≡ None → HasFailed storages.fails a b w
       → HasFailed Handed.fails (with_list a g) (with_list b (after_failure w g)) w
@@ -240,6 +245,35 @@ module _ {S : Type 0} {storages : Ghosts S} (laws : IsLawful storages) where
       ap (λ (o : Option ReplicaState). record { id = old.id; nodes = old.nodes; storage = old.storage; up = o }) (sym up) in
       subst (λ (n : NodeState S). StepsWith n g i r new) named
       (up_steps old.id old.nodes old.storage m g i r new sure (subst (λ (n : NodeState S). NodeSteps storages n i r new) (sym named) h))
+
+  -- ---- a change that an input makes, after which the process is killed: as if memory had been wanting
+  cut_steps : (id nodes : ℕ) (s : S) (m : ReplicaState) (g : Listed) (i : Input) (change : Change) (b : S) → g.unsure ≡ None
+      → refuses m i ≡ None → Writes m i (Some change) → HoldsChanged storages s change b
+      → StepsWith (up_node id nodes s m) g i (Err fault.Memory) (reopened (up_node id nodes s m) b)
+  cut_steps id nodes s m g i change b sure unrefused makes leaves = record {
+    after = after_write (Some change) g;
+    steps = record {
+      down = λ e. absurd (none-some m (sym e));
+      taken = tt;
+      refused = record {
+        storage = inr (record { write = Some change; made = makes; leaves = changed_with s b change g sure leaves });
+        leaves = refl;
+      };
+      ignored = λ ignores. absurd (none-some change (sym (ignored_writes m i (Some change) ignores makes)));
+      refuses_ = subst (λ (o : Option NodeFault). IfSome o (λ f. ◌≡◌ {A = Result Response NodeFault} (Err fault.Memory) (Err f)))
+          (sym unrefused) tt;
+    };
+    sure = λ up. absurd cc;
+  }
+
+  pub cut_with : (old : NodeState S) (g : Listed) (i : Input) (b : S) → (IsSome old.up → g.unsure ≡ None)
+      → IsCutOff storages old i b → StepsWith old g i (Err fault.Memory) (reopened old b)
+  cut_with old g i b sure h =
+      let named : ◌≡◌ {A = NodeState S} (up_node old.id old.nodes old.storage h.replica) old =
+      ap (λ (o : Option ReplicaState). record { id = old.id; nodes = old.nodes; storage = old.storage; up = o }) (sym h.up) in
+      let settled : g.unsure ≡ None = sure (subst (λ (o : Option ReplicaState). IsSome o) (sym h.up) refl) in
+      subst (λ (n : NodeState S). StepsWith n g i (Err fault.Memory) (reopened n b)) named
+      (cut_steps old.id old.nodes old.storage h.replica g i h.change b settled h.unrefused h.makes h.leaves)
 
   -- ---- a load
   pub record LoadsWith (old : NodeState S) (g : Listed) (r : Result (Unit {0}) NodeFault) (new : NodeState S) : Type 0 where
