@@ -1,0 +1,9 @@
+pub mod Keys
+pub mod IndexLemmas
+pub mod NameLemmas
+pub mod PlaceLemmas
+pub mod KnownLemmas
+pub mod Longer
+pub mod ReplyLemmas
+pub mod FindingLemmas
+pub mod VerdictLemmas

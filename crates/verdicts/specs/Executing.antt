@@ -1,0 +1,66 @@
+-- What the first commands of a list reply and answer, and what that says of a line.
+use Rattle.std.specs.Prelude.{◌≡◌, ◌↔◌, ℕ, ◌<◌, ◌≤◌, List, length, take, slice_get, Some, All, Any, IsTrue}
+use Rattle.std.specs.BTreeSet.{BTreeSet, contains}
+use Rattle.sessions.specs.declared.command.Command.{Command}
+use Rattle.sessions.specs.Standing.{StandsFor}
+use Rattle.verdicts.specs.Explaining.{HasAnswer, HasTold, HasReply}
+use Rattle.verdicts.specs.Indexing.{reply_cmp}
+use Rattle.verdicts.specs.Verdicts.{RestsOn}
+use Rattle.verdicts.specs.declared.deciding.Finding.{Finding}
+use Rattle.verdicts.specs.declared.deciding.Finding.TheVariants.{Explained, Contradicted, Undecided}
+use Rattle.verdicts.specs.declared.executing.Cursor.{Cursor}
+use Rattle.verdicts.specs.declared.lines.Place.{Place}
+use Rattle.verdicts.specs.declared.lines.Told.{Told}
+use Rattle.verdicts.specs.declared.lines.ToldLine.{ToldLine}
+use Rattle.verdicts.specs.declared.verdict.Verdict.{Verdict}
+use Rattle.verdicts.specs.declared.verdict.Verdict.TheVariants as verdict
+use Rattle.verdicts.specs.declared.lines.Question.{Question}
+
+-- the set has the replies at all places of the list, and no others
+pub record AreReplies (l : List Command) (replies : BTreeSet ((ℕ × ℕ) × ℕ)) : Type 0 where
+  pub each : (client number code : ℕ) → IsTrue (contains reply_cmp replies ((client, number), code)) ↔ HasReply l client number code
+
+-- the machine has executed the first commands of the list, so many as the position says
+pub record IsAt (l : List Command) (cursor : Cursor) : Type 0 where
+  pub within : cursor.position ≤ length l
+  pub stands : StandsFor cursor.machine (take cursor.position l)
+
+-- a list of so many slots that begins with these commands
+pub record BeginsWith (size : ℕ) (commands l : List Command) : Type 0 where
+  pub slots : length l ≡ size
+  pub begins : take (length commands) l ≡ commands
+
+-- what an answer at a position is to the commands
+abbrev pub IsAnswerFinding : List Question → ℕ → List Command → ℕ → ℕ → List ℕ → Finding → Type 0
+IsAnswerFinding questions size commands node position text Explained =
+    (l : List Command) → BeginsWith size commands l → HasAnswer questions l node position text
+IsAnswerFinding questions size commands node position text (Contradicted why) =
+    (l : List Command) → BeginsWith size commands l → ¬ (HasAnswer questions l node position text)
+IsAnswerFinding questions size commands node position text Undecided = (length commands < size) × (length commands < position)
+
+-- what a line is to them
+abbrev pub IsFinding : List Question → ℕ → List Command → Told → Finding → Type 0
+IsFinding questions size commands told Explained = (l : List Command) → BeginsWith size commands l → HasTold questions l told
+IsFinding questions size commands told (Contradicted why) =
+    (l : List Command) → BeginsWith size commands l → ¬ (HasTold questions l told)
+IsFinding questions size commands told Undecided = (length commands < size) × RestsOn (length commands) told
+
+-- each list that begins with the commands explains the lines before the one at this place, and not this one
+pub record IsToldContradiction (questions : List Question) (size : ℕ) (commands : List Command) (told : List ToldLine) (place : Place)
+    : Type 0 where
+  pub before : ℕ
+  pub line : ToldLine
+  pub there : slice_get told before ≡ Some line
+  pub at_place : place ≡ line.place
+  pub explains : (l : List Command) → BeginsWith size commands l
+      → All (λ (each : ToldLine). HasTold questions l each.told) (take before told)
+  pub contradicts : (l : List Command) → BeginsWith size commands l → ¬ (HasTold questions l line.told)
+
+-- the verdict, where each list that explains the lines `learn` begins with these commands, and some list does
+abbrev pub IsToldVerdict : List Question → ℕ → List Command → List ToldLine → Verdict → Type 0
+IsToldVerdict questions size commands told verdict.Explained =
+    (l : List Command) → BeginsWith size commands l → All (λ (line : ToldLine). HasTold questions l line.told) told
+IsToldVerdict questions size commands told (verdict.Contradicted place why) = IsToldContradiction questions size commands told place
+IsToldVerdict questions size commands told (verdict.UnlearntSlot slot) = (slot ≡ length commands) × (length commands < size)
+    × Any (λ (line : ToldLine). RestsOn slot line.told) told
+IsToldVerdict questions size commands told (verdict.TwoOperations client number) = ⊥

@@ -1,0 +1,5 @@
+pub mod Explaining
+pub mod Verdicts
+pub mod Indexing
+pub mod Placing
+pub mod Executing

@@ -1,0 +1,31 @@
+//! What is found.
+
+use crate::lines::Place;
+
+/// Why a line contradicts those before it.
+#[derive(Clone, Copy, Debug, PartialEq, Eq)]
+pub enum Why {
+    /// It tells another command for a slot.
+    TwoCommands,
+    /// No `submit` line spells its request.
+    NotSubmitted,
+    /// The request has no such reply at any slot.
+    OtherReply,
+    /// No query of this node is answered so at this position.
+    OtherAnswer,
+    /// It is no line of a transcript.
+    Foreign,
+}
+
+/// Whether a list of commands explains the lines of transcripts.
+#[derive(Clone, Copy, Debug, PartialEq, Eq)]
+pub enum Verdict {
+    /// Some list explains all lines.
+    Explained,
+    /// No list explains the lines up to this one, and one explains those before.
+    Contradicted { place: Place, why: Why },
+    /// A line needs this slot, and no line tells what was learnt there. Nothing is claimed.
+    UnlearntSlot(usize),
+    /// This request was learnt, and is submitted with two operations. Nothing is claimed.
+    TwoOperations { client: u8, number: u64 },
+}
