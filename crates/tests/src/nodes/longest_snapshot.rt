@@ -12,6 +12,7 @@ use store::Query;
 use wire::{Id, Instant, MOST_PARTS, Message, Part};
 
 const STEP: u8 = 2;
+
 const UNKNOWN: u8 = 21;
 
 #[test]
@@ -25,7 +26,12 @@ fn the_longest_text_is_fetched(rt: HostRuntime) -> Result<(), Fail> {
         let said = part_comes(alloc, &mut nodes_under_test, text.as_slice(), at - 1)?;
         assert_eq!(rt; said, format!(in alloc; "send 0 snapask 65535 {at} to 1")?);
     }
-    let said = part_comes(alloc, &mut nodes_under_test, text.as_slice(), MOST_PARTS - 1)?;
+    let said = part_comes(
+        alloc,
+        &mut nodes_under_test,
+        text.as_slice(),
+        MOST_PARTS - 1,
+    )?;
     assert_eq!(rt; said.as_str(), "restore 0 65535; send 0 ask 65535 to 1");
     is_restored(&rt, alloc, nodes_under_test.member(0)?)
 }
