@@ -14,7 +14,7 @@ ghost use Rattle.node_model.specs.declared.input.Input.TheVariants as input;
 ghost use Rattle.node_model.specs.Composition.{IsMeaningOf, StandsForMore, RepliesToMore, AddsReplies};
 ghost use Rattle.node_model.specs.Executing.{executed, with_command};
 
-use super::fetching::Fetching;
+use super::fetch::Fetching;
 use super::sends::{send_answer, send_ask, send_decided, send_each, send_outgoing};
 use acceptor::Acceptor;
 use learner::{Learned, Learner};
@@ -68,7 +68,7 @@ impl Drop for Replica {
 impl Replica {
     ghost use Rattle.node_model.specs.Loading.{IsBaseOf, IsLoaded, IsFresh, IsDamaged, IsReplicaOf};
     ghost use Rattle.acceptor.specs.Loading.{IsMachineOf};
-    ghost use Rattle.node_model.specs.Replicas.{ReplicaState, ReplicaIsSmall, position, asked, waits, refuses_submit};
+    ghost use Rattle.node_model.specs.Replicas.{ReplicaState, ReplicaIsSmall, position, submission_of, waits, refuses_submit};
     ghost use Rattle.node.specs.Replica.{replica_of};
     ghost use Rattle.node.specs.Wanting.{IsForRecords, MayWant, MayWantOn};
     ghost use Rattle.node_model.specs.Nodes.{Made, ReplicaSteps};
@@ -208,13 +208,13 @@ impl Replica {
     ) -> Result<Outputs, NodeFault>
         ensures takes { IfOk result (λ said.
             Takes (replica_of self.old) (input.Submit client number op) (replica_of self.new) said) }
-        ensures refuses { IfSome (refuses_submit (replica_of self.old) (asked client number op)) (λ fault.
+        ensures refuses { IfSome (refuses_submit (replica_of self.old) (submission_of client number op)) (λ fault.
             (result ≡ Err fault) × (replica_of self.new ≡ replica_of self.old)) }
-        ensures repeats { refuses_submit (replica_of self.old) (asked client number op) ≡ None
+        ensures repeats { refuses_submit (replica_of self.old) (submission_of client number op) ≡ None
             → waits (replica_of self.old) client number ≡ true
             → (result ≡ Ok silence) × (replica_of self.new ≡ replica_of self.old) }
         ensures err { IfErr result (λ fault. (fault ≡ NodeFault.Memory)
-            ⊎ (refuses_submit (replica_of self.old) (asked client number op) ≡ Some fault)) }
+            ⊎ (refuses_submit (replica_of self.old) (submission_of client number op) ≡ Some fault)) }
     {
         if self.position() >= SLOTS {
             return Err(NodeFault::LogFull);

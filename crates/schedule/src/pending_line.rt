@@ -14,7 +14,7 @@ use super::replay_fault::ReplayCause;
 use super::words::Words;
 use events::{Event, WorldFault};
 use mfjson::{Feature, MfFault};
-use sessions::Number;
+use sessions::{Number, Submission};
 use std::alloc::Global;
 use store::Op;
 use wire::{NodeId, Nodes};
@@ -59,9 +59,11 @@ pub(crate) fn finish_line(
         PendingLine::Put(putting) => match feature_of(alloc, putting.document) {
             Ok(feature) => Ok(Action::Step(Event::Submit {
                 node: putting.node,
-                client: putting.client,
-                number: putting.number,
-                op: Op::Put(feature.id, feature.seq),
+                submission: Submission {
+                    client: putting.client,
+                    number: putting.number,
+                    op: Op::Put(feature.id, feature.seq),
+                },
             })),
             Err(cause) => Err(cause),
         },

@@ -13,7 +13,7 @@ use crate::command::Command;
 use crate::fault::SnapFault;
 use crate::number::Number;
 use crate::request::Request;
-use crate::restoring::read_snapshot;
+use crate::snapshot_reader::read_snapshot;
 use crate::session::{Session, Sessions};
 use crate::session_reply::SessionReply;
 use crate::snapshot::{LONGEST_SNAPSHOT, snapshot_text};

@@ -14,7 +14,7 @@ use stable::{MemStable, Put, Scripted, Stable};
 use std::alloc::Global;
 use synod::MOST_NODES;
 use wire::{Frame, NodeId, Nodes};
-use world_model::{Answered, LearntEntry, Replied, RoundEnd, StepOutcome, Submission};
+use world_model::{Answered, LearntEntry, Replied, RoundEnd, StepOutcome, Submitted};
 
 /// All nodes of a run, over storages of one kind.
 ///
@@ -100,7 +100,7 @@ impl<S: Stable> World<S> {
     }
 
     /// The requests that nodes took.
-    pub fn submitted(&self) -> &[Submission]
+    pub fn submitted(&self) -> &[Submitted]
         ensures { result.now ≡ (world_of self.now).submitted }
     {
         self.inner.submitted.as_slice()

@@ -6,7 +6,7 @@ use Rattle.store.specs.declared.db.TheConstants.{MOST_FEATURES}
 use Rattle.sessions.specs.Restoring.{features_at, comes_after}
 use Rattle.sessions.proofs.PlaceLemmas.{last_id, last_id-push, gap_behind, pushed_database}
 use Rattle.sessions.proofs.ReadLoops.{features_go_on, features_end, features_done}
-use Rattle.sessions.proofs.restoring.read_each_feature.Goals as goal
+use Rattle.sessions.proofs.snapshot_reader.read_each_feature.Goals as goal
 
 -- its id comes after the last
 pub push-requires-clause-last : goal.push-requires-clause-last

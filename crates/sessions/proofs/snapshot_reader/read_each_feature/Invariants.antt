@@ -3,7 +3,7 @@ use Rattle.store.specs.Features.{IsDatabase}
 use Rattle.sessions.specs.Restoring.{features_at}
 use Rattle.sessions.proofs.PlaceLemmas.{last_id}
 use Rattle.sessions.proofs.ReadLoops.{with_front}
-use Rattle.sessions.proofs.restoring.read_each_feature.Given as goal
+use Rattle.sessions.proofs.snapshot_reader.read_each_feature.Given as goal
 
 abbrev pub invariant-loop : goal.invariant-loop
 invariant-loop l =

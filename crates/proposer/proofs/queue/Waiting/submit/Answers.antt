@@ -1,14 +1,14 @@
 use Rattle.std.proofs.Common.{◌≡◌, ◌∙◌, ◌<◌, ◌≤◌, ◌++◌, ◌∷◌, ℕ, List, [], length, None, false, suc, refl, sym, ap, subst, arith, rules}
 use Rattle.std.specs.List.{list_any}
 use Rattle.std.specs.Map.{lookup, values_of}
-use Rattle.sessions.specs.Asked.{Asked}
+use Rattle.sessions.specs.declared.submission.Submission.{Submission}
 use Rattle.proposer.specs.declared.name.Name.{Name}
-use Rattle.proposer.specs.declared.waiting.TheConstants.{MOST_WAITING}
+use Rattle.proposer.specs.declared.queue.TheConstants.{MOST_WAITING}
 use Rattle.proposer.specs.Requests.{is_of}
 use Rattle.indexmap.proofs.CallerLemmas.{insert_entry-new}
 use Rattle.proposer.proofs.RequestLemmas.{is_named, found_by_name, named_push, values_push, none_found, one_more}
-use Rattle.proposer.proofs.waiting.Waiting.submit.Goals as goal
-use Rattle.proposer.proofs.waiting.Waiting.submit.Goals.{In_ok-insert}
+use Rattle.proposer.proofs.queue.Waiting.submit.Goals as goal
+use Rattle.proposer.proofs.queue.Waiting.submit.Goals.{In_ok-insert}
 
 -- the new name goes last
 last : (c : In_ok-insert)
@@ -38,11 +38,11 @@ returns-clause-last c = λ _.
     rw (← c.self.view_is) (rw (last (goal.at.returns-clause-last c).In_ok-insert) (values_push es c.new.result c.args.request))
 
 -- as many wait as the map has names
-as_many : (es : List (Name × Asked)) (held : List Asked) → values_of es ≡ held → length es ≡ length held
+as_many : (es : List (Name × Submission)) (held : List Submission) → values_of es ≡ held → length es ≡ length held
 as_many [] held is = rw (sym is) refl
 as_many (e ∷ es) held is = rw (sym is) (ap suc (as_many es (values_of es) refl))
 
-has_room : (es : List (Name × Asked)) (held : List Asked) (n : ℕ) → values_of es ≡ held → n ≡ length es → n < MOST_WAITING
+has_room : (es : List (Name × Submission)) (held : List Submission) (n : ℕ) → values_of es ≡ held → n ≡ length es → n < MOST_WAITING
     → ¬ MOST_WAITING ≤ length held
 has_room es held n is many room full = absurd (let same = as_many es held is in omega arith)
 

@@ -2,7 +2,7 @@ use Rattle.std.proofs.Common.{◌∙◌, is_some, ap}
 use Rattle.std.specs.Map.{lookup}
 use Rattle.proposer.specs.declared.name.Name.{Name}
 use Rattle.proposer.proofs.RequestLemmas.{is_named, found_by_name}
-use Rattle.proposer.proofs.waiting.Waiting.has.Goals as goal
+use Rattle.proposer.proofs.queue.Waiting.has.Goals as goal
 
 pub returns : goal.returns
 returns c =

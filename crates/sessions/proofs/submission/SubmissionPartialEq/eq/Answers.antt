@@ -1,5 +1,5 @@
 use Rattle.std.proofs.Common.{rules}
-use Rattle.sessions.proofs.request.RequestPartialEq.eq.Goals as goal
+use Rattle.sessions.proofs.submission.SubmissionPartialEq.eq.Goals as goal
 
 pub returns-then-eq-clause-value : goal.returns-then-eq-clause-value
 returns-then-eq-clause-value c = search rules

@@ -3,8 +3,8 @@ use Rattle.std.specs.Map.{lookup, remove_entry}
 use Rattle.proposer.specs.declared.name.Name.{Name}
 use Rattle.proposer.specs.Requests.{AreNamed}
 use Rattle.proposer.proofs.RequestLemmas.{is_named, found_by_name, removed_by_name, named_without}
-use Rattle.proposer.proofs.waiting.Waiting.remove.Goals as goal
-use Rattle.proposer.proofs.waiting.Waiting.remove.Goals.{After-shift_remove}
+use Rattle.proposer.proofs.queue.Waiting.remove.Goals as goal
+use Rattle.proposer.proofs.queue.Waiting.remove.Goals.{After-shift_remove}
 
 -- what is left is what stands under other names
 left : (c : After-shift_remove)

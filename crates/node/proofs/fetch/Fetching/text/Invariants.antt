@@ -1,6 +1,6 @@
 use Rattle.std.proofs.Common.{◌≡◌, ◌++◌, drop}
 use Rattle.wire.specs.Parts.{joined}
-use Rattle.node.proofs.fetching.Fetching.text.Given as goal
+use Rattle.node.proofs.fetch.Fetching.text.Given as goal
 
 -- what is still to be joined leads to what the whole leads to
 abbrev pub invariant-loop-part : goal.invariant-loop-part

@@ -1,5 +1,5 @@
 use Rattle.std.proofs.Common.{◌≡◌, None, replicate}
-use Rattle.node.proofs.fetching.empty_places.Given as goal
+use Rattle.node.proofs.fetch.empty_places.Given as goal
 
 -- so many places are there
 abbrev pub invariant-loop : goal.invariant-loop

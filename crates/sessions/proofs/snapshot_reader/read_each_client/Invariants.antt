@@ -3,7 +3,7 @@ use Rattle.sessions.specs.Restoring.{clients_at}
 use Rattle.sessions.specs.Snapshots.{held}
 use Rattle.sessions.specs.Tables.{IsFreeFrom}
 use Rattle.sessions.proofs.ReadLoops.{with_front}
-use Rattle.sessions.proofs.restoring.read_each_client.Given as goal
+use Rattle.sessions.proofs.snapshot_reader.read_each_client.Given as goal
 
 abbrev pub invariant-loop : goal.invariant-loop
 invariant-loop l =

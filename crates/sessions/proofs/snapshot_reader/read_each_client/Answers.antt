@@ -5,7 +5,7 @@ use Rattle.sessions.specs.Restoring.{clients_at}
 use Rattle.sessions.specs.Tables.{IsFreeFrom}
 use Rattle.sessions.proofs.TableLemmas.{none_held, held_with, free_after}
 use Rattle.sessions.proofs.ReadLoops.{no_front, clients_go_on, clients_end, clients_done}
-use Rattle.sessions.proofs.restoring.read_each_client.Goals as goal
+use Rattle.sessions.proofs.snapshot_reader.read_each_client.Goals as goal
 
 -- nothing is kept of any client yet
 pub loop-init : goal.loop-init

@@ -1,17 +1,12 @@
--- What clients ask for.
-use Rattle.std.specs.Prelude.{◌≡◌, ℕ, ◌≤◌, ⊤, length}
+-- What a request may be, and by what it is known.
+use Rattle.std.specs.Prelude.{◌≡◌, ◌≤◌, ⊤, length}
 use Rattle.store.specs.declared.op.Op.{Op}
 use Rattle.store.specs.declared.op.Op.TheVariants.{Put, Append, Remove}
 use Rattle.sessions.specs.declared.request.TheConstants.{MOST_PUT_POINTS}
-
--- a request as clauses see it
-pub record Asked : Type 0 where
-  pub client : ℕ
-  pub number : ℕ
-  pub op : Op
+use Rattle.sessions.specs.declared.submission.Submission.{Submission}
 
 -- it is known by its client and number alone
-pub record IsSameRequest (a b : Asked) : Type 0 where
+pub record IsSameRequest (a b : Submission) : Type 0 where
   pub client : a.client ≡ b.client
   pub number : a.number ≡ b.number
 

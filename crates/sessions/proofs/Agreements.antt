@@ -3,7 +3,7 @@ use Rattle.std.proofs.Common.{◌≡◌, ℕ, zero, suc, ◌+◌, ◌-◌, ◌<�
 use Rattle.std.proofs.Common.{subst, arith}
 use Rattle.store.specs.Operations.{reply, effect}
 use Rattle.store.specs.Replies.{reply_code}
-use Rattle.sessions.specs.Asked.{Asked}
+use Rattle.sessions.specs.declared.submission.Submission.{Submission}
 use Rattle.sessions.specs.Meaning.{Database, HasCounted, IsNext, LabellingIsLawful, Execution, IsReply, RepliesAt}
 use Rattle.sessions.specs.declared.command.Command.{Command}
 use Rattle.sessions.proofs.Counting.{counted_or_not}
@@ -78,7 +78,7 @@ module _ (l k : List Command) (n : ℕ) (agree : AgreeBelow l k n) (e : Executio
       subst (λ m. e.before m ≡ f.before m) more (next_database i (omega (arith, h)) (same_database i (omega (arith, h))))
 
   -- ---- the same is replied
-  module _ (i : ℕ) (here : i < n) (r : Asked) (code : ℕ) where
+  module _ (i : ℕ) (here : i < n) (r : Submission) (code : ℕ) where
     abbrev forth : (number : ℕ) → HasCounted l e.counts (i + 1) r.client number → HasCounted k f.counts (i + 1) r.client number
     forth number = counted_in l k e.counts f.counts (i + 1) r.client number (λ j h. agree j (omega (arith, here, h)))
         (λ j h. same_counts j (omega (arith, here, h)))
@@ -97,7 +97,7 @@ module _ (l k : List Command) (n : ℕ) (agree : AgreeBelow l k n) (e : Executio
       gap = λ none. p.gap (λ c. none (forth r.number c));
     }
 
-pub replies_over : (l k : List Command) (n : ℕ) → AgreeBelow l k n → (i : ℕ) (r : Asked) (code : ℕ) → i < n → RepliesAt l i r code
+pub replies_over : (l k : List Command) (n : ℕ) → AgreeBelow l k n → (i : ℕ) (r : Submission) (code : ℕ) → i < n → RepliesAt l i r code
     → RepliesAt k i r code
 replies_over l k n agree i r code here p = record {
   there = sym (agree i here) ∙ p.there;

@@ -28,11 +28,11 @@ impl Model for Waiting {
     ghost use Rattle.std.specs.Prelude.{List};
     ghost use Rattle.std.specs.Prelude.{◌≤◌};
     ghost use Rattle.indexmap.specs.IndexMap.{index_map_len, values};
-    ghost use Rattle.sessions.specs.Asked.{Asked};
+    ghost use Rattle.sessions.specs.declared.submission.Submission.{Submission};
     ghost use Rattle.proposer.specs.Requests.{AreNamed};
-    ghost use Rattle.proposer.specs.declared.waiting.TheConstants.{MOST_WAITING};
+    ghost use Rattle.proposer.specs.declared.queue.TheConstants.{MOST_WAITING};
 
-    ghost Value = { List Asked };
+    ghost Value = { List Submission };
 
     ghost view = { λ w. values w.requests };
 
