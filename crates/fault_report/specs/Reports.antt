@@ -1,5 +1,5 @@
 -- What a report says of the bytes of a file.
-use Rattle.std.specs.Prelude.{◌≡◌, ◌≢◌, ◌⊎◌, ℕ, List, ◌++◌, Option, Some, None, codes}
+use Rattle.std.specs.Prelude.{◌≡◌, ◌≢◌, ℕ, List, ◌++◌, Option, Some, None, codes}
 use Rattle.std.specs.Fmt.{decimal}
 use Rattle.mfjson.specs.Document.{IsDocumentOf}
 use Rattle.mfjson.specs.Faults.{IsFaultOf, code_of as document_code, fault_text as document_text}
@@ -50,7 +50,3 @@ pub record TellsItsFault (name bytes text : List ℕ) : Type 0 where
 abbrev pub IsDocumentReport : List ℕ → List ℕ → Option (List ℕ) → Type 0
 IsDocumentReport name bytes None = (feature : Feature) × IsDocumentOf bytes feature
 IsDocumentReport name bytes (Some text) = TellsItsFault name bytes text
-
--- a file is read as a schedule or as a document
-abbrev pub IsReport : List ℕ → List ℕ → Option (List ℕ) → Type 0
-IsReport name bytes told = IsScheduleReport name bytes told ⊎ IsDocumentReport name bytes told

@@ -201,7 +201,10 @@ fn json_fault_place(alloc: Global, bytes: &[u8]) -> Result<Place, AllocError> {
                 })
             }
             _ => {
-                let wanted = format!(in alloc; "no JSON: {error}")?;
+                let wanted = String::from_str(
+                    alloc,
+                    "no JSON text goes on so, nests more than 127 deep or has a number beyond a float's",
+                )?;
                 Ok(Place {
                     at: offset_of(bytes, error.line(), error.column()),
                     wanted,

@@ -4,7 +4,7 @@ use crate::failure::Failure;
 use crate::files::{read_file, write_file};
 use clap::Error;
 use clap::error::ErrorKind;
-use fault_report::report_file;
+use fault_report::{report_document, report_schedule};
 use std::alloc::{AllocError, Global};
 use std::env::Args;
 use view_args::{View, view_of};
@@ -56,8 +56,8 @@ fn show_view(rt: &HostRuntime, view: View<'_>) -> u8 {
 }
 
 /// The exit status of a view of this file that ended so.
-fn ended(rt: &HostRuntime, file: &str, result: Result<u8, Failure>) -> u8 {
-    match result {
+fn ended(rt: &HostRuntime, file: &str, shown: Result<u8, Failure>) -> u8 {
+    match shown {
         Ok(status) => status,
         Err(failure) => tell(rt, file, failure),
     }
@@ -72,11 +72,23 @@ fn tell(rt: &HostRuntime, file: &str, failure: Failure) -> u8 {
 /// Shows what is wrong with the file, and answers whether anything is.
 fn show_faults(rt: &HostRuntime, file: &str) -> Result<u8, Failure> {
     let bytes = read_file(rt, file)?;
-    match report_file(rt.alloc(), file, bytes.as_slice())? {
+    let told = if is_document(file, bytes.as_slice()) {
+        report_document(rt.alloc(), file, bytes.as_slice())?
+    } else {
+        report_schedule(rt.alloc(), file, bytes.as_slice())?
+    };
+    match told {
         Some(text) => {
             write_file(rt, "-", text.as_str().as_bytes())?;
             Ok(1)
         }
         None => Ok(0),
     }
+}
+
+/// Whether the file is read as a document: its name ends in `.json` or `.mfjson`, or its text begins with `{` after white space.
+fn is_document(file: &str, bytes: &[u8]) -> bool {
+    file.ends_with(".json")
+        || file.ends_with(".mfjson")
+        || bytes.trim_ascii_start().first() == Some(&b'{')
 }
