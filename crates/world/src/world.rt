@@ -113,6 +113,13 @@ impl<S: Stable> World<S> {
         self.inner.frames()
     }
 
+    /// Which frames wait to be delivered: a flag for each, in the order of sending.
+    pub fn waiting(&self) -> &[bool]
+        ensures { result.now ≡ (world_of self.now).waiting }
+    {
+        self.inner.waiting.as_slice()
+    }
+
     /// What nodes learnt.
     pub fn learnt(&self) -> &[LearntEntry]
         ensures { result.now ≡ (world_of self.now).learnt }

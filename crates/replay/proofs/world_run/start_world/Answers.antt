@@ -3,7 +3,7 @@ use Rattle.stable.specs.Storages.{scripted}
 use Rattle.world_model.specs.Flushing.{IsStart}
 use Rattle.world.specs.Seen.{world_of}
 use Rattle.replay.proofs.Running.{begins_none}
-use Rattle.replay.proofs.world_run.start.Goals as goal
+use Rattle.replay.proofs.world_run.start_world.Goals as goal
 
 pub returns-in-Ok-clause-started : goal.returns-in-Ok-clause-started
 returns-in-Ok-clause-started g c =
