@@ -49,7 +49,7 @@ impl Chart {
     }
 
     /// The chart of all coordinates.
-    pub fn of_all() -> Chart
+    pub(crate) fn of_all() -> Chart
         ensures { IsSquare result }
     {
         Chart {

@@ -5,11 +5,20 @@
 //! says: `show_feature`, `show_fleet`. `draw_fleet` makes a picture of that.
 #![tactic(auto)]
 
+mod asked;
 mod chart;
+mod corners;
 mod drawn;
+mod label;
+mod legend;
+mod page;
+mod scale;
 mod shown;
 mod spot;
+mod way;
 
+pub use asked::Asked;
 pub use chart::{Chart, SIDE};
+pub use page::draw_fleet;
 pub use shown::{Shown, show_feature, show_fleet};
 pub use spot::Spot;
