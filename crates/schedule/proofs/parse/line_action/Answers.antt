@@ -1,6 +1,6 @@
 use Rattle.std.proofs.Common.{rules}
 use Rattle.schedule.proofs.Spelled.{line_result}
-use Rattle.schedule.proofs.parse.read_action.Goals as goal
+use Rattle.schedule.proofs.parse.line_action.Goals as goal
 
 pub returns-in-Ok : goal.returns-in-Ok
 returns-in-Ok c =
