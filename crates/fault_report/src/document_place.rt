@@ -217,7 +217,10 @@ fn json_fault_place(alloc: Global, bytes: &[u8]) -> Result<Place, AllocError> {
 /// How many bytes come before this column, from 1, of this line, from 1.
 fn offset_of(bytes: &[u8], line: usize, column: usize) -> usize {
     let mut start = 0usize;
-    for text in bytes.split(|byte| *byte == b'\n').take(line.saturating_sub(1)) {
+    for text in bytes
+        .split(|byte| *byte == b'\n')
+        .take(line.saturating_sub(1))
+    {
         start = start.saturating_add(text.len()).saturating_add(1);
     }
     start.saturating_add(column.saturating_sub(1))

@@ -40,5 +40,8 @@ fn tell_document(
     let number = line.number;
     let column = line.at.saturating_add(1);
     let code = fault.code();
-    format!(in alloc; "{name}:{number}:{column}: document fault {code}: {fault}\n{}", picture.as_str())
+    format!(in alloc;
+        "{name}:{number}:{column}: document fault {code}: {fault}\n{}",
+        picture.as_str()
+    )
 }

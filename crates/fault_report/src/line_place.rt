@@ -50,7 +50,9 @@ fn byte_place(alloc: Global, text: &[u8]) -> Result<Place, AllocError> {
             );
         }
         if *byte < 0x20 || 0x7E < *byte {
-            let wanted = format!(in alloc; "byte {byte:02X} (hexadecimal): a line has bytes 20 to 7E alone")?;
+            let wanted = format!(in alloc;
+                "byte {byte:02X} (hexadecimal): a line has bytes 20 to 7E alone"
+            )?;
             return Ok(Place { at, wanted });
         }
     }
@@ -189,7 +191,10 @@ fn put_place(alloc: Global, text: &[u8], words: &[Word<'_>]) -> Result<Place, Al
         Err(fault) => {
             let place = document_place(alloc, document, fault)?;
             let code = fault.code();
-            let wanted = format!(in alloc; "document fault {code}: {fault}; {}", place.wanted.as_str())?;
+            let wanted = format!(in alloc;
+                "document fault {code}: {fault}; {}",
+                place.wanted.as_str()
+            )?;
             Ok(Place {
                 at: start.saturating_add(place.at),
                 wanted,

@@ -60,7 +60,13 @@ pub(crate) fn picture(
     let margin = blanks(alloc, number.len())?;
     let column = line.at.saturating_sub(low).saturating_add(before.len());
     let indent = blanks(alloc, column)?;
-    format!(in alloc; "{} | {before}{}{behind}\n{} | {}^ {wanted}\n", number.as_str(), shown.as_str(), margin.as_str(), indent.as_str())
+    format!(in alloc;
+        "{} | {before}{}{behind}\n{} | {}^ {wanted}\n",
+        number.as_str(),
+        shown.as_str(),
+        margin.as_str(),
+        indent.as_str()
+    )
 }
 
 /// The text, each byte in a column of its own.

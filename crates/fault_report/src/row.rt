@@ -35,10 +35,15 @@ pub(crate) struct Row {
 }
 
 const DELIVER: &[Form] = &[Form::Known, Form::Frame];
+
 const FLUSH: &[Form] = &[Form::Known];
+
 const TICK: &[Form] = &[Form::Known, Form::Node];
+
 const FAULT: &[Form] = &[Form::Known, Form::Node, Form::Failing];
+
 const ROUND: &[Form] = &[Form::Known, Form::Node, Form::Node];
+
 const PUT: &[Form] = &[
     Form::Known,
     Form::Node,
@@ -47,6 +52,7 @@ const PUT: &[Form] = &[
     Form::Known,
     Form::Known,
 ];
+
 const APPEND: &[Form] = &[
     Form::Known,
     Form::Node,
@@ -58,6 +64,7 @@ const APPEND: &[Form] = &[
     Form::Coordinate,
     Form::Coordinate,
 ];
+
 const REMOVE: &[Form] = &[
     Form::Known,
     Form::Node,
@@ -66,6 +73,7 @@ const REMOVE: &[Form] = &[
     Form::Known,
     Form::Id,
 ];
+
 const AT: &[Form] = &[
     Form::Known,
     Form::Node,
@@ -73,6 +81,7 @@ const AT: &[Form] = &[
     Form::Id,
     Form::Datetime,
 ];
+
 const CUT: &[Form] = &[
     Form::Known,
     Form::Node,
@@ -81,6 +90,7 @@ const CUT: &[Form] = &[
     Form::Begin,
     Form::End,
 ];
+
 const EVER: &[Form] = &[
     Form::Known,
     Form::Node,
@@ -93,6 +103,7 @@ const EVER: &[Form] = &[
     Form::Coordinate,
     Form::Coordinate,
 ];
+
 const WITHIN: &[Form] = &[
     Form::Known,
     Form::Node,
@@ -104,7 +115,9 @@ const WITHIN: &[Form] = &[
     Form::Coordinate,
     Form::Coordinate,
 ];
+
 const GET: &[Form] = &[Form::Known, Form::Node, Form::Known, Form::Id];
+
 const COUNT: &[Form] = &[Form::Known, Form::Node, Form::Known];
 
 /// The row of a line that begins with these words, where there is one.

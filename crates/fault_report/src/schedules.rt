@@ -70,7 +70,10 @@ fn tell_line(
     let picture = picture(alloc, line, place.wanted.as_str())?;
     let column = place.at.saturating_add(1);
     let code = fault.code();
-    format!(in alloc; "{name}:{number}:{column}: fault {code}: {fault}\n{}", picture.as_str())
+    format!(in alloc;
+        "{name}:{number}:{column}: fault {code}: {fault}\n{}",
+        picture.as_str()
+    )
 }
 
 /// Tells the faults of the lines after this one, each by itself.
@@ -97,11 +100,7 @@ fn tell_later(
 }
 
 /// The fault of a later line, where it has one.
-fn fault_of(
-    alloc: Global,
-    nodes: Nodes,
-    text: &[u8],
-) -> Result<Option<ScheduleFault>, AllocError> {
+fn fault_of(alloc: Global, nodes: Nodes, text: &[u8]) -> Result<Option<ScheduleFault>, AllocError> {
     match read_action(alloc, nodes, text) {
         Ok(_) => Ok(None),
         Err(cause) => match cause {

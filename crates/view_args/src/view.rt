@@ -4,7 +4,5 @@
 #[derive(Clone, Copy, Debug, PartialEq, Eq)]
 pub enum View<'a> {
     /// What is wrong with a schedule or a document.
-    Why {
-        file: &'a str,
-    },
+    Why { file: &'a str },
 }
