@@ -24,7 +24,7 @@ use sessions::{Command, Machine, Number, Request};
 use stable::{Stable, StableFault};
 use std::alloc::{AllocError, Global};
 use std::mem;
-use store::{Op, Query};
+use store::{Db, Op, Query};
 use synod::{Ballot, SLOTS, Slot, Vote};
 use wire::{Envelope, Frame, Message, Nack, NodeId, Nodes, Promise, SharedCommand};
 
@@ -160,6 +160,13 @@ impl Replica {
         let _number = self.id.value();
         let _waiting = self.proposer.waiting();
         let _open = self.proposer.open();
+    }
+
+    /// The database that its machine holds.
+    pub fn database(&self) -> &Db
+        ensures { result.now ≡ (replica_of self.now).machine.features }
+    {
+        self.machine.database()
     }
 
     /// The answer to a query, over what its machine holds.

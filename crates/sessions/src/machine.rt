@@ -104,6 +104,13 @@ impl Machine {
         self.db.answer(alloc, query)
     }
 
+    /// The database that it holds.
+    pub fn database(&self) -> &Db
+        ensures { result.now ≡ self.now.features }
+    {
+        &self.db
+    }
+
     /// The snapshot text of the machine: that of each list that it stands for. It is written in one piece of memory.
     pub fn snapshot(&self, alloc: Global) -> Result<Vec<u8>, AllocError>
         ensures spelled { IfOk result (λ text. text.items ≡ snapshot_bytes self.now) }
