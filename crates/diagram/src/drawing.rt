@@ -103,17 +103,17 @@ fn lane(nodes: u8, node: u8) -> u32 {
 
 /// The schedule's lines, beside the steps at which they begin.
 fn draw_labels(picture: &mut Picture, scene: &Scene, layout: &Layout) -> io::Result<()> {
-    let mut step = 0;
+    let mut last = None;
     let mut before = 0u32;
     for label in scene.labels {
-        before = if label.step == step {
+        before = if last == Some(label.step) {
             before.saturating_add(1)
         } else {
             0
         };
-        step = label.step;
-        let y = layout.text_place(step, before);
-        if layout.place_of(step) > 0 {
+        last = Some(label.step);
+        let y = layout.text_place(label.step, before);
+        if layout.place_of(label.step) > 0 {
             let text = cut(label.text.as_slice());
             picture.text(b"line", Place { x: 1_000, y }, text)?;
         }
@@ -224,7 +224,7 @@ fn draw_arrow(
             picture.arrow(whole_class(color), bend, end)
         }
         Fate::Dropped => {
-            let x = (from + to.saturating_mul(2)) / 3;
+            let x = from.saturating_add(to.saturating_mul(2)) / 3;
             picture.line(
                 lost_class(color),
                 begin,
@@ -353,14 +353,14 @@ mod tests {
     const TOLD: &str = "\
 <text class=\"line\" x=\"10.00\" y=\"49.00\">timeout 0</text>
 <g class=\"frame\"><title>frame 0 prepare 0 -&#x003e; 1 slot 0 ballot 1.0, delivered</title>
-<line class=\"came b0\" x1=\"300.00\" y1=\"49.00\" x2=\"540.00\" y2=\"53.50\" marker-end=\"url(#head)\"/>
+<line class=\"came b0\" x1=\"300.00\" y1=\"49.00\" x2=\"540.00\" y2=\"63.00\" marker-end=\"url(#head)\"/>
 </g>
 <g class=\"frame\"><title>frame 1 prepare 0 -&#x003e; 1 slot 0 ballot 1.0, dropped</title>
 <line class=\"lost b0\" x1=\"300.00\" y1=\"49.00\" x2=\"460.00\" y2=\"52.00\"/>
 </g>
 <g class=\"mark\"><title>node 1 learnt</title>
-<circle class=\"sign learnt\" cx=\"540.00\" cy=\"53.50\" r=\"2.20\"/>
-<text class=\"note\" x=\"543.50\" y=\"52.90\">0</text>
+<circle class=\"sign learnt\" cx=\"540.00\" cy=\"63.00\" r=\"2.20\"/>
+<text class=\"note\" x=\"543.50\" y=\"62.40\">0</text>
 </g>
 </svg>
 ";

@@ -19,8 +19,10 @@ const PAGE: u32 = 117_000;
 /// The height of a line of text.
 const TEXT_ROW: u32 = 900;
 
-/// The height of a step beside which no text stands.
+/// The least and the greatest height of a step beside which no text stands.
 const BARE_ROW: u32 = 450;
+
+const WIDE_ROW: u32 = 1_400;
 
 /// Frames from the first to before the end.
 #[derive(Clone, Copy, Debug, PartialEq, Eq)]
@@ -149,16 +151,12 @@ fn add_text(texts: &mut Vec<u32>, index: usize) {
 
 /// The steps that are shown, one below the other.
 fn stack(alloc: Global, texts: Vec<u32>, shown: Vec<bool>) -> Result<Layout, AllocError> {
+    let bare = bare_row(texts.as_slice(), shown.as_slice());
     let mut ends = Vec::new(alloc);
     let mut height = TOP;
     for (count, is_shown) in texts.iter().zip(shown.iter()) {
         if *is_shown {
-            let row = if *count == 0 {
-                BARE_ROW
-            } else {
-                count.saturating_mul(TEXT_ROW)
-            };
-            height = height.saturating_add(row);
+            height = height.saturating_add(row_of(*count, bare));
             ends.push(height)?;
         } else {
             ends.push(0)?;
@@ -169,6 +167,31 @@ fn stack(alloc: Global, texts: Vec<u32>, shown: Vec<bool>) -> Result<Layout, All
         ends,
         height,
     })
+}
+
+/// The height of a step with so many lines of text.
+fn row_of(count: u32, bare: u32) -> u32 {
+    if count == 0 {
+        bare
+    } else {
+        count.saturating_mul(TEXT_ROW)
+    }
+}
+
+/// The height of a step without text: as much as fills the page.
+fn bare_row(texts: &[u32], shown: &[bool]) -> u32 {
+    let mut text_height = TOP;
+    let mut bare = 0u32;
+    for (count, is_shown) in texts.iter().zip(shown.iter()) {
+        if *is_shown && *count == 0 {
+            bare = bare.saturating_add(1);
+        }
+        if *is_shown {
+            text_height = text_height.saturating_add(count.saturating_mul(TEXT_ROW));
+        }
+    }
+    let each = PAGE.saturating_sub(text_height) / bare.max(1);
+    each.min(WIDE_ROW).max(BARE_ROW)
 }
 
 impl Layout {
