@@ -11,20 +11,28 @@ use Rattle.schedule.specs.Schedules.{IsFirstFault, IsScheduleOf, Plan}
 use Rattle.schedule.specs.declared.fault.ScheduleFault.{ScheduleFault}
 
 -- ---- what is told of a fault
--- the text begins with the file's name, this line of it, a column of that, and this fault by its number and its meaning
+-- the file's name, a line and a column of it, and the fault by its number and its meaning, before what else is told
+abbrev pub line_text : List ℕ → ℕ → ℕ → ScheduleFault → List ℕ → List ℕ
+line_text name line column fault rest = name ++ (codes ":" ++ (decimal line ++ (codes ":" ++ (decimal column ++ (codes ": fault "
+    ++ (decimal (code_of fault) ++ (codes ": " ++ (fault_text fault ++ (codes "\n" ++ rest)))))))))
+
+-- the same of a document's fault
+abbrev pub document_fault_text : List ℕ → ℕ → ℕ → MfFault → List ℕ → List ℕ
+document_fault_text name line column fault rest = name ++ (codes ":" ++ (decimal line ++ (codes ":" ++ (decimal column
+    ++ (codes ": document fault " ++ (decimal (document_code fault) ++ (codes ": " ++ (document_text fault ++ (codes "\n" ++ rest)))))))))
+
+-- the text begins with the file's name, this line of it, a column of that, and this fault
 pub record TellsLine (name : List ℕ) (line : ℕ) (fault : ScheduleFault) (text : List ℕ) : Type 0 where
   pub column : ℕ
   pub rest : List ℕ
-  pub told : text ≡ name ++ (codes ":" ++ (decimal line ++ (codes ":" ++ (decimal column ++ (codes ": fault "
-      ++ (decimal (code_of fault) ++ (codes ": " ++ (fault_text fault ++ (codes "\n" ++ rest)))))))))
+  pub told : text ≡ line_text name line column fault rest
 
--- the same of a document's fault, whatever line it is told at
+-- the text begins with the file's name, a line and a column of it, and this fault
 pub record TellsDocument (name : List ℕ) (fault : MfFault) (text : List ℕ) : Type 0 where
   pub line : ℕ
   pub column : ℕ
   pub rest : List ℕ
-  pub told : text ≡ name ++ (codes ":" ++ (decimal line ++ (codes ":" ++ (decimal column ++ (codes ": document fault "
-      ++ (decimal (document_code fault) ++ (codes ": " ++ (document_text fault ++ (codes "\n" ++ rest)))))))))
+  pub told : text ≡ document_fault_text name line column fault rest
 
 -- ---- reports
 -- the text tells the first faulty line of the bytes, and the lowest of its faults

@@ -1,7 +1,7 @@
 //! Reports of documents.
 
-ghost use Rattle.std.specs.Prelude.{IfOk, option_map, string_bytes};
-ghost use Rattle.fault_report.specs.Reports.{IsDocumentReport, TellsDocument};
+ghost use Rattle.std.specs.Prelude.{◌≡◌, IfOk, option_map, string_bytes};
+ghost use Rattle.fault_report.specs.Reports.{IsDocumentReport, TellsDocument, document_fault_text};
 
 use crate::document_place::document_place;
 use crate::picture::{line_at, picture};
@@ -37,11 +37,22 @@ fn tell_document(
     let place = document_place(alloc, bytes, fault)?;
     let line = line_at(bytes, place.at);
     let picture = picture(alloc, line, place.wanted.as_str())?;
-    let number = line.number;
     let column = line.at.saturating_add(1);
+    write_document(alloc, name, line.number, column, fault, picture.as_str())
+}
+
+/// The fault and its place, and the picture below.
+fn write_document(
+    alloc: Global,
+    name: &str,
+    number: u64,
+    column: usize,
+    fault: MfFault,
+    picture: &str,
+) -> Result<String, AllocError>
+    ensures { IfOk result (λ told. string_bytes told
+        ≡ document_fault_text name.now number column fault picture.now) }
+{
     let code = fault.code();
-    format!(in alloc;
-        "{name}:{number}:{column}: document fault {code}: {fault}\n{}",
-        picture.as_str()
-    )
+    format!(in alloc; "{name}:{number}:{column}: document fault {code}: {fault}\n{picture}")
 }

@@ -1,7 +1,7 @@
 //! Reports of schedules.
 
-ghost use Rattle.std.specs.Prelude.{IfOk, option_map, string_bytes};
-ghost use Rattle.fault_report.specs.Reports.{IsScheduleReport, TellsLine};
+ghost use Rattle.std.specs.Prelude.{◌≡◌, IfOk, option_map, string_bytes};
+ghost use Rattle.fault_report.specs.Reports.{IsScheduleReport, TellsLine, line_text};
 
 use crate::line_place::line_place;
 use crate::picture::{LinePlace, picture};
@@ -45,9 +45,10 @@ fn tell_from(
     ensures { IfOk result (λ told. TellsLine name.now number fault (string_bytes told)) }
 {
     let nodes = nodes_of(bytes);
-    let first = tell_line(alloc, name, nodes, number, line_of(bytes, number), fault)?;
+    let mut told = tell_line(alloc, name, nodes, number, line_of(bytes, number), fault)?;
     let others = tell_later(alloc, name, nodes, number, bytes)?;
-    format!(in alloc; "{}{}", first.as_str(), others.as_str())
+    told.push_str(others.as_str())?;
+    Ok(told)
 }
 
 /// Tells this fault of this line.
@@ -69,11 +70,22 @@ fn tell_line(
     };
     let picture = picture(alloc, line, place.wanted.as_str())?;
     let column = place.at.saturating_add(1);
+    write_line(alloc, name, number, column, fault, picture.as_str())
+}
+
+/// The fault and its place, and the picture below.
+fn write_line(
+    alloc: Global,
+    name: &str,
+    number: u64,
+    column: usize,
+    fault: ScheduleFault,
+    picture: &str,
+) -> Result<String, AllocError>
+    ensures { IfOk result (λ told. string_bytes told ≡ line_text name.now number column fault picture.now) }
+{
     let code = fault.code();
-    format!(in alloc;
-        "{name}:{number}:{column}: fault {code}: {fault}\n{}",
-        picture.as_str()
-    )
+    format!(in alloc; "{name}:{number}:{column}: fault {code}: {fault}\n{picture}")
 }
 
 /// Tells the faults of the lines after this one, each by itself.
