@@ -1,11 +1,11 @@
 -- However a stream is cut, it hands out the same packets.
-use Rattle.std.proofs.Common.{◌≡◌, ℕ, ◌+◌, ◌<◌, ◌≤◌, List, [], ◌∷◌, ◌++◌, length, take, drop, All, refl, sym, ap, ap₂, ◌∙◌, append_assoc, append-nil, arith, inl, inr}
+use Rattle.std.proofs.Common.{◌≡◌, ℕ, ◌+◌, List, [], ◌∷◌, ◌++◌, length, take, drop, All, refl, sym, ap, ap₂, ◌∙◌, append_assoc, append-nil, arith, inl, inr}
 use Rattle.std.specs.List.{flat_map}
 use Rattle.std.proofs.lemmas.Grind.{flat_map-append}
 use Rattle.std.proofs.lemmas.List.{append_cancel_left, take_at, drop_at}
 use Rattle.std.proofs.lemmas.List.Elements.{All-append, All-cons, All-head, All-nil, All-tail}
 use Rattle.byteorder.specs.Endian.{big_bytes}
-use Rattle.peers.specs.Cutting.{IsPacket, IsIncomplete, IsTooLong, Stops, Streams, announced}
+use Rattle.peers.specs.Cutting.{IsPacket, IsIncomplete, Stops, Streams, announced}
 use Rattle.peers.specs.Sealing.{framed}
 use Rattle.peers.proofs.CutLemmas.{packet_announced, framed_len}
 
