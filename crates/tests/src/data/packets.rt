@@ -9,7 +9,8 @@ const NAME: [u8; 16] = *b"run of 29 Nov 26";
 const KEY: [u8; 32] = [b'k'; 32];
 
 /// The packet of `frame` in that run, behind its length, as Python's `hmac` makes it.
-const PACKET: &str = "0000003572756e206f66203239204e6f762032363152c103efb8f23db7d15dc899652d339614374b42631a32fd944843fa7fda2d6672616d65";
+const PACKET: &str =
+    "0000003572756e206f66203239204e6f762032363152c103efb8f23db7d15dc899652d339614374b42631a32fd944843fa7fda2d6672616d65";
 
 /// A key, a text and its HMAC-SHA-256: test cases 1 to 4, 6 and 7 of RFC 4231.
 const VECTORS: [(&str, &str, &str); 6] = [
@@ -52,7 +53,10 @@ fn digests(rt: HostRuntime) -> Result<(), Fail> {
         let text = hex::decode(rt.alloc(), text)?;
         let digest = hex::decode(rt.alloc(), digest)?;
         let (first, second) = text.as_slice().split_at(text.len() / 2);
-        assert_eq!(rt; key.authenticate(first, second).as_slice(), digest.as_slice());
+        assert_eq!(rt;
+            key.authenticate(first, second).as_slice(),
+            digest.as_slice()
+        );
     }
     Ok(())
 }
@@ -60,26 +64,39 @@ fn digests(rt: HostRuntime) -> Result<(), Fail> {
 #[test]
 fn sealed(rt: HostRuntime) -> Result<(), Fail> {
     let packet = Run::new(NAME, &KEY).seal(rt.alloc(), b"frame")?;
-    assert_eq!(rt; packet.as_slice(), hex::decode(rt.alloc(), PACKET)?.as_slice());
+    assert_eq!(rt;
+        packet.as_slice(),
+        hex::decode(rt.alloc(), PACKET)?.as_slice()
+    );
     Ok(())
 }
 
 #[test]
 fn opened(rt: HostRuntime) -> Result<(), Fail> {
     let run = Run::new(NAME, &KEY);
-    let packet = run.seal(rt.alloc(), b"frame")?;
-    let packet = &packet.as_slice()[4..];
+    let sealed = run.seal(rt.alloc(), b"frame")?;
+    let packet = bare(sealed.as_slice());
     assert!(rt; run.open(packet) == Ok(b"frame".as_slice()));
     let mut drops = Drops::none();
-    for run in [Run::new(*b"run of 28 Nov 26", &KEY), Run::new(NAME, b"guess")] {
+    for run in [
+        Run::new(*b"run of 28 Nov 26", &KEY),
+        Run::new(NAME, b"guess"),
+    ] {
         if let Err(dropped) = run.open(packet) {
             drops.count(dropped);
         }
     }
-    if let Err(dropped) = run.open(&packet[..HEAD - 1]) {
+    if let Err(dropped) = run.open(packet.get(..HEAD - 1).unwrap_or(packet)) {
         drops.count(dropped);
     }
-    assert!(rt; drops == Drops { short: 1, another_run: 1, digest: 1 });
+    assert!(rt;
+        drops
+            == Drops {
+                short: 1,
+                another_run: 1,
+                digest: 1
+            }
+    );
     Ok(())
 }
 
@@ -89,12 +106,27 @@ fn changed(rt: HostRuntime) -> Result<(), Fail> {
     let run = Run::new(NAME, &KEY);
     let mut packet = run.seal(rt.alloc(), b"frame")?;
     for place in 4..packet.len() {
-        packet[place] ^= 1;
-        let dropped = if place < 20 { Dropped::AnotherRun } else { Dropped::Digest };
-        assert!(rt; run.open(&packet.as_slice()[4..]) == Err(dropped));
-        packet[place] ^= 1;
+        change(packet.as_mut_slice(), place);
+        let dropped = if place < 20 {
+            Dropped::AnotherRun
+        } else {
+            Dropped::Digest
+        };
+        assert!(rt; run.open(bare(packet.as_slice())) == Err(dropped));
+        change(packet.as_mut_slice(), place);
     }
     Ok(())
+}
+
+/// The packet without its length.
+fn bare(packet: &[u8]) -> &[u8] {
+    packet.get(4..).unwrap_or(packet)
+}
+
+fn change(bytes: &mut [u8], place: usize) {
+    if let Some(byte) = bytes.get_mut(place) {
+        *byte ^= 1;
+    }
 }
 
 /// Two packets, in reads of each size.
@@ -113,11 +145,17 @@ fn cut(rt: HostRuntime) -> Result<(), Fail> {
                 frames.push(packet)?;
             }
         }
-        assert_eq!(rt; frames.len(), 2);
+        assert!(rt; frames.len() == 2);
         assert!(rt; run.open(frames[0].as_slice()) == Ok(b"first".as_slice()));
         assert!(rt; run.open(frames[1].as_slice()) == Ok(b"".as_slice()));
     }
     Ok(())
+}
+
+/// The limit of `wire`, on which `peers` doesn't stand.
+#[test]
+fn limit(rt: HostRuntime) {
+    assert_eq!(rt; peers::LONGEST_FRAME, wire::LONGEST_FRAME);
 }
 
 #[test]
