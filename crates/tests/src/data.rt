@@ -7,6 +7,7 @@
 mod documents;
 mod frames;
 mod lines;
+mod packets;
 mod records;
 mod rectangles;
 mod reports;

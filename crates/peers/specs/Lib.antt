@@ -1,0 +1,4 @@
+pub mod Cutting
+pub mod Dropping
+pub mod Hmac
+pub mod Sealing
