@@ -1,2 +1,2 @@
--- a text that begins so, and more behind it
-pub mod Longer
+-- what a report says, put together
+pub mod Told

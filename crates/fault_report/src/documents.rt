@@ -9,6 +9,7 @@ use mfjson::MfFault;
 use std::alloc::{AllocError, Global};
 
 /// What is wrong with the document that the file of this name holds, or None where it stands for a feature.
+#[tactic(auto, using(crate::proofs::Told::no_document_report, crate::proofs::Told::document_report))]
 pub fn report_document(
     alloc: Global,
     name: &str,
@@ -16,13 +17,15 @@ pub fn report_document(
 ) -> Result<Option<String>, AllocError>
     ensures { IfOk result (λ told. IsDocumentReport name.now bytes.now (option_map string_bytes told)) }
 {
-    match mfjson::read(alloc, bytes) {
-        Ok(_) => Ok(None),
-        Err(fault) => match fault {
-            MfFault::Memory => Err(AllocError),
-            _ => Ok(Some(tell_document(alloc, name, bytes, fault)?)),
-        },
+    let fault = match mfjson::read(alloc, bytes) {
+        Ok(_) => return Ok(None),
+        Err(fault) => fault,
+    };
+    if let MfFault::Memory = fault {
+        return Err(AllocError);
     }
+    let told = tell_document(alloc, name, bytes, fault)?;
+    Ok(Some(told))
 }
 
 /// Tells the fault of the document.

@@ -12,6 +12,7 @@ use wire::Nodes;
 /// What is wrong with the lines of the schedule that the file of this name holds, or None where it is one.
 ///
 /// The first line told is the first faulty one, with the lowest of its faults; those after it are each told by themselves.
+#[tactic(auto, using(crate::proofs::Told::no_schedule_report, crate::proofs::Told::schedule_report))]
 pub fn report_schedule(
     alloc: Global,
     name: &str,
@@ -19,19 +20,15 @@ pub fn report_schedule(
 ) -> Result<Option<String>, AllocError>
     ensures { IfOk result (λ told. IsScheduleReport name.now bytes.now (option_map string_bytes told)) }
 {
-    match parse_schedule(alloc, bytes) {
-        Ok(_) => Ok(None),
-        Err(refusal) => match refusal.cause {
-            ReplayCause::Schedule(fault) => Ok(Some(tell_from(
-                alloc,
-                name,
-                bytes,
-                refusal.line,
-                fault,
-            )?)),
-            ReplayCause::World(_) => Err(AllocError),
-        },
-    }
+    let refusal = match parse_schedule(alloc, bytes) {
+        Ok(_) => return Ok(None),
+        Err(refusal) => refusal,
+    };
+    let ReplayCause::Schedule(fault) = refusal.cause else {
+        return Err(AllocError);
+    };
+    let told = tell_from(alloc, name, bytes, refusal.line, fault)?;
+    Ok(Some(told))
 }
 
 /// Tells this fault of this line, and the faults of the lines after it.
