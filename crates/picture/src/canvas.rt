@@ -183,36 +183,3 @@ impl Picture {
         Ok(())
     }
 }
-
-#[cfg(test)]
-mod tests {
-    use super::*;
-    use std::test::Fail;
-
-    const DRAWN: &str = "\
-<line class=\"way\" x1=\"0.00\" y1=\"1.05\" x2=\"12.30\" y2=\"7.00\"/>
-<polyline class=\"way\" points=\"0.00,1.05 12.30,7.00 \"/>
-<circle class=\"dot\" cx=\"12.30\" cy=\"7.00\" r=\"1.50\"/>
-<rect class=\"area\" x=\"0.00\" y=\"1.05\" width=\"2.00\" height=\"30.00\"/>
-<g class=\"a b\"><title>&#x003c;/g&#x003e;</title>
-<text class=\"id\" x=\"0.00\" y=\"1.05\">&#x003c;script&#x003e; &#x2400;&#x0022;</text>
-</g>
-</svg>
-";
-
-    #[test]
-    fn draws_elements(rt: HostRuntime) -> Result<(), Fail> {
-        let (from, to) = (Place { x: 0, y: 105 }, Place { x: 1230, y: 700 });
-        let mut picture = Picture::new(rt.alloc(), 20, 10, b".way{fill:none}")?;
-        picture.line(b"way", from, to)?;
-        picture.way(b"way", &[from, to])?;
-        picture.circle(b"dot", to, 150)?;
-        picture.rectangle(b"area", from, 200, 3000)?;
-        picture.open(b"a b", b"</g>")?;
-        picture.text(b"id", from, b"<script> \x00\"")?;
-        picture.close()?;
-        let text = picture.finish()?;
-        assert!(rt; text.ends_with(DRAWN.as_bytes()));
-        Ok(())
-    }
-}

@@ -8,6 +8,7 @@ mod documents;
 mod frames;
 mod lines;
 mod packets;
+mod pictures;
 mod records;
 mod rectangles;
 mod reports;
