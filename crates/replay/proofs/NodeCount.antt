@@ -127,7 +127,7 @@ module _ {S : Type 0} (storages : Ghosts (Script S)) where
   step_keeps : (old : WorldState S) (event : Event) (new : WorldState S)
       → Steps storages old event new
       → size new ≡ size old
-  step_keeps old (Submit node client number op) new s =
+  step_keeps old (Submit node submission) new s =
       ap size s.leaves ∙ submission_keeps s.between s.taken node _ ∙ takes_keep old node _ s.taken s.between s.takes
   step_keeps old (Deliver k) new s = delivers_keep old k new s
   step_keeps old (Drop k) new s = ap size s
@@ -151,7 +151,7 @@ module _ {S : Type 0} (storages : Ghosts (Script S)) where
 -- no action that words spell names a node from n on
 pub named_below : {S : Type 0} (w : WorldState S) (n : ℕ) (words : List (List ℕ)) (event : Event) → size w ≡ n
     → WordsSpell n words (Step event) → ¬ (NamesNoNode (length w.nodes) event)
-named_below w n words (Submit node client number asked) same spells lacks =
+named_below w n words (Submit node submission) same spells lacks =
     absurd (omega (arith, spells.1.to_node.below))
 named_below w n words (Deliver frame) same spells lacks = lacks
 named_below w n words (Drop frame) same spells lacks = lacks
