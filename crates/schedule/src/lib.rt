@@ -3,6 +3,8 @@
 //! `parse_schedule` returns the schedule that the bytes spell, or the first faulty line and the lowest of its faults.
 //! `specs/Schedules.antt` defines which bytes spell which schedule, over `specs/Spelling.antt` and `specs/Table.antt`; no bytes
 //! spell two. Nothing runs here: the crate `replay` does the lines. A `ReplayFault` says at which line there is no replay, and why.
+//!
+//! `Lines`, `Words`, `cut`, `below` and `decimal` read lines, words and numbers of any text of this kind.
 #![tactic(auto)]
 
 mod action;
@@ -25,8 +27,12 @@ mod words;
 
 pub use action::Action;
 pub use fault::ScheduleFault;
+pub use first_mark::cut;
+pub use forms::{below, decimal};
 pub use laws::{faulty_is_no_schedule, first_faults_are_one, schedules_are_one};
+pub use lines::{Line, Lines};
 pub use members::Members;
 pub use parse::parse_schedule;
 pub use replay_fault::{ReplayCause, ReplayFault};
 pub use schedule::{Schedule, ScheduleLine};
+pub use words::Words;
