@@ -1,6 +1,7 @@
-//! Tests of whole runs and of the program's parts: of `world_model`, `world`, `cluster`, `udp_transport`, `schedule`, `replay` and `commands`; of
+//! Tests of whole runs and of the program's parts: of `world_model`, `world`, `cluster`, `udp_transport`, `schedule`, `replay`, `audit` and `commands`; of
 //! `args`, `commands` and `cli`.
 
+mod audits;
 mod checkpoints;
 mod checks;
 mod clusters;

@@ -1,0 +1,5 @@
+pub mod KindLemmas
+pub mod NumberLemmas
+pub mod RowLemmas
+pub mod FileLemmas
+pub mod ChoiceLemmas

@@ -1,0 +1,90 @@
+//! What a schedule submits and asks.
+
+ghost use Rattle.std.specs.Prelude.{◌≡◌, ◌++◌, ◌∷◌, [], cond, flat_map, OnOk, IfOk};
+ghost use Rattle.audit.specs.Audits.{is_short, requests_in, requests_of_event, questions_in, questions_of_event};
+ghost use Rattle.schedule.specs.declared.schedule.ScheduleLine.{ScheduleLine as ALine};
+
+use events::Event;
+use schedule::{Action, Schedule};
+use sessions::{Number, Request};
+use std::alloc::{AllocError, Global};
+use store::Op;
+use verdicts::Question;
+
+/// What is wanted of the nodes of a run.
+#[derive(Drop)]
+pub(crate) struct Wanted {
+    pub requests: Vec<Request>,
+    pub questions: Vec<Question>,
+}
+
+/// What the lines of the schedule want, each in their order.
+pub(crate) fn wanted_of(alloc: Global, schedule: Schedule) -> Result<Wanted, AllocError>
+    ensures requests { IfOk result (λ wanted.
+        wanted.requests.items ≡ flat_map (λ (line : ALine). requests_in line.action) schedule.lines) }
+    ensures questions { IfOk result (λ wanted.
+        wanted.questions.items ≡ flat_map (λ (line : ALine). questions_in line.action) schedule.lines) }
+{
+    let lines = schedule.into_lines();
+    let mut wanted = Wanted {
+        requests: Vec::new(alloc),
+        questions: Vec::new(alloc),
+    };
+    for line in &lines {
+        add(&mut wanted, &line.action)?;
+    }
+    Ok(wanted)
+}
+
+/// Adds what a line wants.
+fn add(wanted: &mut Wanted, action: &Action) -> Result<(), AllocError>
+    ensures requests { OnOk result (wanted.new.requests.items ≡ wanted.old.requests.items ++ requests_in action.now) }
+    ensures questions { OnOk result (wanted.new.questions.items ≡ wanted.old.questions.items ++ questions_in action.now) }
+{
+    match action {
+        Action::Step(event) => add_event(wanted, event),
+        Action::Flush | Action::Round { .. } => Ok(()),
+    }
+}
+
+/// Adds what an event wants.
+fn add_event(wanted: &mut Wanted, event: &Event) -> Result<(), AllocError>
+    ensures requests { OnOk result (wanted.new.requests.items ≡ wanted.old.requests.items ++ requests_of_event event.now) }
+    ensures questions { OnOk result (wanted.new.questions.items ≡ wanted.old.questions.items ++ questions_of_event event.now) }
+{
+    match event {
+        Event::Submit {
+            node: _,
+            client,
+            number,
+            op,
+        } => add_request(&mut wanted.requests, *client, *number, op),
+        Event::Query(node, query) => {
+            wanted.questions.push(Question {
+                node: node.value(),
+                query: *query,
+            })?;
+            Ok(())
+        }
+        _ => Ok(()),
+    }
+}
+
+/// Adds the request, where there is one: a node refuses a put of too many points.
+fn add_request(
+    requests: &mut Vec<Request>,
+    client: u8,
+    number: Number,
+    op: &Op,
+) -> Result<(), AllocError>
+    ensures { OnOk result (requests.new.items ≡ requests.old.items
+        ++ cond (is_short op.now) (record { client = client; number = number; op = op.now } ∷ []) []) }
+{
+    match Request::new(client, number, op.clone()?) {
+        Ok(request) => {
+            requests.push(request)?;
+            Ok(())
+        }
+        Err(_) => Ok(()),
+    }
+}
