@@ -3,3 +3,5 @@ pub mod NumberLemmas
 pub mod RowLemmas
 pub mod FileLemmas
 pub mod ChoiceLemmas
+pub mod AuditLemmas
+pub mod WantedLemmas

@@ -2,5 +2,5 @@ pub mod Kinds
 pub mod Rows
 pub mod Files
 pub mod Audits
-pub mod Reports
+pub mod Statuses
 pub mod Choices

@@ -1,7 +1,7 @@
 //! Why there is no verdict.
 
 ghost use Rattle.std.specs.Prelude.{◌≡◌};
-ghost use Rattle.audit.specs.declared.fault.AuditFault.TheVariants as fault;
+ghost use Rattle.audit.specs.declared.fault.AuditFault.TheVariants as audit_fault;
 
 use schedule::ReplayFault;
 use std::alloc::AllocError;
@@ -29,7 +29,7 @@ impl fmt::Display for AuditFault {
 impl Error for AuditFault {}
 
 impl From<ReplayFault> for AuditFault {
-    ghost from_gives = { λ cause fault. fault ≡ fault.Schedule cause };
+    ghost from_gives = { λ cause fault. fault ≡ audit_fault.Schedule cause };
 
     fn from(cause: ReplayFault) -> AuditFault {
         AuditFault::Schedule(cause)
@@ -37,7 +37,7 @@ impl From<ReplayFault> for AuditFault {
 }
 
 impl From<AllocError> for AuditFault {
-    ghost from_gives = { λ _ fault. fault ≡ fault.Memory };
+    ghost from_gives = { λ _ fault. fault ≡ audit_fault.Memory };
 
     fn from(_fault: AllocError) -> AuditFault {
         AuditFault::Memory

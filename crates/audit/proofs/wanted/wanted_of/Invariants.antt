@@ -7,5 +7,5 @@ use Rattle.audit.proofs.wanted.wanted_of.Given as goal
 -- what the lines so far want
 abbrev pub invariant-loop-line : goal.invariant-loop-line
 invariant-loop-line l =
-    (l.wanted.requests.items ≡ flat_map (λ (line : ScheduleLine). requests_in line.action) (take l.line-index l.lines.items))
-    × (l.wanted.questions.items ≡ flat_map (λ (line : ScheduleLine). questions_in line.action) (take l.line-index l.lines.items))
+    (l.wanted.requests.items ≡ flat_map (λ (line : ScheduleLine). requests_in line.action) (take l.line-index l.line-items))
+    × (l.wanted.questions.items ≡ flat_map (λ (line : ScheduleLine). questions_in line.action) (take l.line-index l.line-items))
