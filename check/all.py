@@ -31,7 +31,7 @@ def fixed(mfpx, seed):
     """The checks of a fixed length: the script, the program that it needs, its words."""
     return (
         ("one_log_selftest.py", None, [EXAMPLES, "--longest", "40", "--changes", "1", "--seed", str(seed)]),
-        ("why_selftest.py", None, ["--runs", "1000", "--seed", str(seed)]),
+        ("fault_places.py", program("mfpxview"), [program("mfpxview"), "--runs", "500", "--seed", str(seed)]),
         ("import_tracks_selftest.py", None, [mfpx] if os.path.exists(mfpx) else []),
         ("storage_faults.py", mfpx, [mfpx]),
         ("refuse_memory.py", mfpx, [mfpx]),

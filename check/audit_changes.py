@@ -4,7 +4,7 @@
     check/audit_changes.py PROGRAM [FOLDER ..] [--changes N] [--longest N]
 
 A FOLDER (`examples` by default) has schedules, NAME.schedule beside NAME.transcript, or NAME beside NAME.stdout and NAME.status, which
-is then 0. PROGRAM is called as `PROGRAM audit SCHEDULE TRANSCRIPT`. A right transcript has to be `explained`. A changed one has
+is then 0. PROGRAM is called as `PROGRAM audit SCHEDULE TRANSCRIPT`. No right transcript may contradict. A changed one has
 to end with 1 at the changed line, or with 3 where a request of the schedule is submitted with two operations. Lines are
 changed so that no list can explain them: to a slot past the log, a node that isn't there, a request that nobody submitted, another
 code, another text, or to no line of a transcript. `--changes N` tries N of the changes of each transcript (all by default), evenly;

@@ -3,7 +3,7 @@ use Rattle.std.proofs.Common.{◌≡◌, ℕ, List, sym, subst}
 use Rattle.std.specs.List.{flat_map}
 use Rattle.schedule.specs.Schedules.{Plan, IsScheduleOf}
 use Rattle.schedule.specs.declared.schedule.ScheduleLine.{ScheduleLine}
-use Rattle.sessions.specs.Asked.{Asked}
+use Rattle.sessions.specs.declared.submission.Submission.{Submission}
 use Rattle.verdicts.specs.Verdicts.{IsVerdict}
 use Rattle.verdicts.specs.declared.lines.LearnLine.{LearnLine}
 use Rattle.verdicts.specs.declared.lines.Question.{Question}
@@ -13,7 +13,7 @@ use Rattle.audit.specs.Audits.{IsAudit, requests_in, questions_in}
 use Rattle.audit.specs.Files.{PlacedText, AreRead, texts_from}
 
 pub audited : (schedule : List ℕ) (transcripts : List (List ℕ)) (verdict : Verdict) (plan : Plan) (nodes : ℕ)
-    (requests : List Asked) (questions : List Question) (learns : List LearnLine) (told : List ToldLine)
+    (requests : List Submission) (questions : List Question) (learns : List LearnLine) (told : List ToldLine)
     → IsScheduleOf schedule plan → nodes ≡ plan.nodes
     → requests ≡ flat_map (λ (line : ScheduleLine). requests_in line.action) plan.lines
     → questions ≡ flat_map (λ (line : ScheduleLine). questions_in line.action) plan.lines
@@ -27,5 +27,5 @@ audited schedule transcripts verdict plan nodes requests questions learns told s
   read = subst (λ (n : ℕ). AreRead n (texts_from 0 transcripts) learns told) count read;
   is_verdict =
       subst (λ (qs : List Question). IsVerdict (flat_map (λ (line : ScheduleLine). requests_in line.action) plan.lines) qs learns told verdict) asks
-      (subst (λ (rs : List Asked). IsVerdict rs questions learns told verdict) submits is);
+      (subst (λ (rs : List Submission). IsVerdict rs questions learns told verdict) submits is);
 }

@@ -2,6 +2,5 @@ pub mod KindLemmas
 pub mod NumberLemmas
 pub mod RowLemmas
 pub mod FileLemmas
-pub mod ChoiceLemmas
 pub mod AuditLemmas
 pub mod WantedLemmas

@@ -6,7 +6,7 @@ use Rattle.schedule.specs.Schedules.{Plan, IsScheduleOf, IsParseRefusal, IsNoSch
 use Rattle.schedule.specs.declared.action.Action.{Action}
 use Rattle.schedule.specs.declared.action.Action.TheVariants.{Step, Flush, Round}
 use Rattle.schedule.specs.declared.schedule.ScheduleLine.{ScheduleLine}
-use Rattle.sessions.specs.Asked.{Asked}
+use Rattle.sessions.specs.declared.submission.Submission.{Submission}
 use Rattle.sessions.specs.declared.request.TheConstants.{MOST_PUT_POINTS}
 use Rattle.store.specs.declared.op.Op.{Op}
 use Rattle.store.specs.declared.op.Op.TheVariants.{Put, Append, Remove}
@@ -27,12 +27,11 @@ is_short (Append addition) = true
 is_short (Remove id) = true
 
 -- the request that is submitted
-abbrev pub requests_of_event : Event → List Asked
-requests_of_event (event.Submit node client number op) =
-    cond (is_short op) (record { client = client; number = number; op = op } ∷ []) []
+abbrev pub requests_of_event : Event → List Submission
+requests_of_event (event.Submit node submission) = cond (is_short submission.op) (submission ∷ []) []
 requests_of_event _ = []
 
-abbrev pub requests_in : Action → List Asked
+abbrev pub requests_in : Action → List Submission
 requests_in (Step what) = requests_of_event what
 requests_in _ = []
 

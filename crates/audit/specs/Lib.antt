@@ -3,4 +3,3 @@ pub mod Rows
 pub mod Files
 pub mod Audits
 pub mod Statuses
-pub mod Choices

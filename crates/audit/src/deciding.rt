@@ -3,26 +3,35 @@
 ghost use Rattle.std.specs.Prelude.{map, IfOk, IfErr};
 ghost use Rattle.audit.specs.Audits.{IsAudit, IsNoAudit};
 
-use crate::choices::verdict_by_choice;
 use crate::fault::AuditFault;
 use crate::transcripts::read_transcripts;
 use crate::wanted::wanted_of;
 use schedule::parse_schedule;
 use std::alloc::Global;
-use verdicts::Verdict;
+use verdicts::{Verdict, verdict_on};
 
 /// Whether one list of commands explains what the transcripts tell, where the schedule has their submissions and queries.
 ///
 /// The transcripts are of runs of the schedule: whole ones, of single nodes, or of loopbacks. `AuditFault::Schedule` comes
-/// where the schedule is none, with its first faulty line. Nothing is kept.
+/// where the schedule is none, with its first faulty line. Where a request that was learnt is submitted with two operations,
+/// nothing is decided. Nothing is kept.
 pub fn audit(alloc: Global, schedule: &[u8], transcripts: &[Vec<u8>]) -> Result<Verdict, AuditFault>
     ensures audited { IfOk result (IsAudit schedule.now (map (λ t. t.items) transcripts.now)) }
     ensures no_schedule { IfErr result (IsNoAudit schedule.now) }
 {
-    let schedule = parse_schedule(alloc, schedule)?;
+    let schedule = match parse_schedule(alloc, schedule) {
+        Ok(schedule) => schedule,
+        Err(fault) => return Err(AuditFault::Schedule(fault)),
+    };
     let nodes = schedule.nodes().count();
     let wanted = wanted_of(alloc, schedule)?;
     let read = read_transcripts(alloc, nodes, transcripts)?;
-    let verdict = verdict_by_choice(alloc, &wanted, &read)?;
+    let verdict = verdict_on(
+        alloc,
+        &wanted.requests,
+        &wanted.questions,
+        &read.learns,
+        &read.told,
+    )?;
     Ok(verdict)
 }

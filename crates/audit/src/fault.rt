@@ -1,7 +1,7 @@
 //! Why there is no verdict.
 
 ghost use Rattle.std.specs.Prelude.{◌≡◌};
-ghost use Rattle.audit.specs.declared.fault.AuditFault.TheVariants as audit_fault;
+ghost use Rattle.audit.specs.declared.fault.AuditFault.TheVariants.{Memory};
 
 use schedule::ReplayFault;
 use std::alloc::AllocError;
@@ -28,18 +28,10 @@ impl fmt::Display for AuditFault {
 
 impl Error for AuditFault {}
 
-impl From<ReplayFault> for AuditFault {
-    ghost from_gives = { λ cause fault. fault ≡ audit_fault.Schedule cause };
-
-    fn from(cause: ReplayFault) -> AuditFault {
-        AuditFault::Schedule(cause)
-    }
-}
-
 impl From<AllocError> for AuditFault {
-    ghost from_gives = { λ _ fault. fault ≡ audit_fault.Memory };
+    ghost from_gives = { λ _ fault. fault ≡ Memory };
 
-    fn from(_fault: AllocError) -> AuditFault {
+    fn from(_refused: AllocError) -> AuditFault {
         AuditFault::Memory
     }
 }

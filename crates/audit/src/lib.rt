@@ -6,7 +6,6 @@
 #![tactic(auto)]
 
 mod answer_line;
-mod choices;
 mod code_lines;
 mod codes;
 mod deciding;

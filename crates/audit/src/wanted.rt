@@ -6,9 +6,8 @@ ghost use Rattle.schedule.specs.declared.schedule.ScheduleLine.{ScheduleLine as 
 
 use events::Event;
 use schedule::{Action, Schedule};
-use sessions::{Number, Request};
+use sessions::{Request, Submission};
 use std::alloc::{AllocError, Global};
-use store::Op;
 use verdicts::Question;
 
 /// What is wanted of the nodes of a run.
@@ -55,10 +54,8 @@ fn add_event(wanted: &mut Wanted, event: &Event) -> Result<(), AllocError>
     match event {
         Event::Submit {
             node: _,
-            client,
-            number,
-            op,
-        } => add_request(&mut wanted.requests, *client, *number, op),
+            submission,
+        } => add_request(&mut wanted.requests, submission),
         Event::Query(node, query) => {
             wanted.questions.push(Question {
                 node: node.value(),
@@ -71,16 +68,11 @@ fn add_event(wanted: &mut Wanted, event: &Event) -> Result<(), AllocError>
 }
 
 /// Adds the request, where there is one: a node refuses a put of too many points.
-fn add_request(
-    requests: &mut Vec<Request>,
-    client: u8,
-    number: Number,
-    op: &Op,
-) -> Result<(), AllocError>
-    ensures { OnOk result (requests.new.items ≡ requests.old.items
-        ++ cond (is_short op.now) (record { client = client; number = number; op = op.now } ∷ []) []) }
+fn add_request(requests: &mut Vec<Request>, submission: &Submission) -> Result<(), AllocError>
+    ensures { OnOk result (requests.new.items ≡ requests.old.items ++ cond (is_short submission.now.op) (submission.now ∷ []) []) }
 {
-    match Request::new(client, number, op.clone()?) {
+    let op = submission.op.clone()?;
+    match Request::new(submission.client, submission.number, op) {
         Ok(request) => {
             requests.push(request)?;
             Ok(())

@@ -1,8 +1,8 @@
 //! What may happen in a world.
 
-use sessions::Number;
+use sessions::Submission;
 use stable::Failing;
-use store::{Op, Query};
+use store::Query;
 use wire::NodeId;
 
 /// One atomic step of a world: one thing comes to one node, or to the network between them.
@@ -11,9 +11,7 @@ pub enum Event {
     /// A client asks a node for something.
     Submit {
         node: NodeId,
-        client: u8,
-        number: Number,
-        op: Op,
+        submission: Submission,
     },
     /// The frame of this number comes to its receiver. It may have come before.
     Deliver(u64),

@@ -16,5 +16,5 @@ pub use datetime::{datetime_read, datetime_text};
 pub use fault::MfFault;
 pub use feature::Feature;
 pub use laws::a_document_is_of_one_feature;
-pub use reader::read;
+pub use reader::{DocumentReader, read};
 pub use writer::{write, write_after};

@@ -15,6 +15,7 @@ ghost use Rattle.mfjson.specs.Outline.{SaysThisId, HasLists, IsOutline, FailsFir
 
 use crate::tokens::feature_of_tokens;
 use crate::{Feature, MfFault, datetime_read};
+use json::Scratch;
 use serde_json::{Category, Value};
 use std::alloc::{AllocError, Global};
 use tpoint::{Id, Instant, Interp, Point, Seq, SeqFault, is_coordinate};
@@ -31,10 +32,49 @@ pub fn read(alloc: Global, bytes: &[u8]) -> Result<Feature, MfFault>
     // Bytes that are no text need no memory to be refused.
     ensures no_text { ¬ IsUtf8 bytes.now → result ≡ Err MfFault.NotJson }
 {
-    // Nearly every document is read so, which is faster; the tree has the last word on the others.
-    if let Some(feature) = feature_of_tokens(alloc, bytes) {
-        return Ok(feature);
+    DocumentReader::new(alloc).read(alloc, bytes)
+}
+
+/// Reads many documents in turn, with the memory that the ones before needed.
+///
+/// What it reads depends on nothing that it has read before, so no clause speaks of what it holds.
+#[derive(Drop)]
+pub struct DocumentReader {
+    scratch: Scratch,
+}
+
+impl DocumentReader {
+    /// One that has read nothing yet.
+    pub fn new(alloc: Global) -> DocumentReader {
+        DocumentReader {
+            scratch: Scratch::new(alloc),
+        }
     }
+
+    /// What `read` gives.
+    pub fn read(&mut self, alloc: Global, bytes: &[u8]) -> Result<Feature, MfFault>
+        ensures ok { IfOk result (λ f. IsDocumentOf bytes.now f) }
+        ensures err { IfErr result (λ fault. IsFaultOf bytes.now fault) }
+        ensures document { (f : Feature) → IsDocumentOf bytes.now f
+            → (result ≡ Ok f) ⊎ (result ≡ Err MfFault.Memory) }
+        ensures no_text { ¬ IsUtf8 bytes.now → result ≡ Err MfFault.NotJson }
+    {
+        // Nearly every document is read so, which is faster; the tree has the last word on the others.
+        if let Some(feature) = feature_of_tokens(alloc, &mut self.scratch, bytes) {
+            return Ok(feature);
+        }
+        read_tree(alloc, bytes)
+    }
+}
+
+/// What `read` gives, by a tree of all that the text says.
+fn read_tree(alloc: Global, bytes: &[u8]) -> Result<Feature, MfFault>
+    ensures ok { IfOk result (λ f. IsDocumentOf bytes.now f) }
+    ensures err { IfErr result (λ fault. IsFaultOf bytes.now fault) }
+    ensures document { (f : Feature) → IsDocumentOf bytes.now f
+        → (result ≡ Ok f) ⊎ (result ≡ Err MfFault.Memory) }
+    ensures no_text { ¬ IsUtf8 bytes.now → result ≡ Err MfFault.NotJson }
+{
     let value = value_of(alloc, bytes)?;
     feature_of(alloc, &value)
 }

@@ -34,14 +34,17 @@ struct Course {
 }
 
 /// The feature that the document stands for, or None where the tree has to tell.
-pub(crate) fn feature_of_tokens(alloc: Global, bytes: &[u8]) -> Option<Feature>
+pub(crate) fn feature_of_tokens(
+    alloc: Global,
+    scratch: &mut Scratch,
+    bytes: &[u8],
+) -> Option<Feature>
     ensures { IfSome result (λ f. IsDocumentOf bytes.now f) }
 {
     let Ok(text) = simdutf8::compat::from_utf8(bytes) else {
         return None;
     };
-    let mut scratch = Scratch::new(alloc);
-    let Ok(tape) = Tape::parse(text, &mut scratch, Vec::new(alloc)) else {
+    let Ok(tape) = Tape::parse(text, scratch, Vec::new(alloc)) else {
         return None;
     };
     feature_in(alloc, &tape.root())

@@ -1,5 +1,5 @@
 -- What a node fetches, as it is held in memory.
-use Rattle.node.specs.declared.fetching.Fetching.{Fetching}
+use Rattle.node.specs.declared.fetch.Fetching.{Fetching}
 use Rattle.node_model.specs.Fetching as model
 
 abbrev pub fetching_of : Fetching → model.Fetching

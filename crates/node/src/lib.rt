@@ -4,7 +4,7 @@
 //! before anything is sent that rests on it. The crate `node_model` defines the effect of each input.
 #![tactic(auto)]
 
-mod fetching;
+mod fetch;
 mod node;
 mod replica;
 mod sends;

@@ -1,13 +1,14 @@
 //! One node: its records, and its roles while it is up.
 
 ghost use Rattle.std.specs.Prelude.{◌≡◌, ◌⊎◌, ◌↔◌, List, Ok, IfErr, IfOk, IfSome, IsErrOf, OnOk, IsTrue, true, false, IsSome};
-ghost use Rattle.std.specs.Prelude.{None, MatchOption};
+ghost use Rattle.std.specs.Prelude.{None, MatchOption, option_map};
+ghost use Rattle.std.specs.Option.{option_copied};
 
 use super::replica::Replica;
 use node_model::{AnswerText, Input, NodeFault, Outputs};
 use stable::{Failing, Put, Scripted, Stable};
 use std::alloc::Global;
-use store::Query;
+use store::{Db, Query};
 use wire::{Envelope, Frame, NodeId, Nodes};
 
 /// A node, which is up or down.
@@ -108,6 +109,14 @@ impl<S: Stable> Node<S> {
             Some(replica) => replica.floor(),
             None => 0,
         }
+    }
+
+    /// The database that it holds; None while it is down.
+    pub fn database(&self) -> Option<&Db>
+        ensures { option_copied result ≡ option_map (λ m. m.machine.features) (state_of self.now).up }
+    {
+        let replica = self.replica.as_ref()?;
+        Some(replica.database())
     }
 
     /// Takes an input, refuses it, or goes down on it.

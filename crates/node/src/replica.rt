@@ -14,7 +14,7 @@ ghost use Rattle.node_model.specs.declared.input.Input.TheVariants as input;
 ghost use Rattle.node_model.specs.Composition.{IsMeaningOf, StandsForMore, RepliesToMore, AddsReplies};
 ghost use Rattle.node_model.specs.Executing.{executed, with_command};
 
-use super::fetching::Fetching;
+use super::fetch::Fetching;
 use super::sends::{send_answer, send_ask, send_decided, send_each, send_outgoing};
 use acceptor::Acceptor;
 use learner::{Learned, Learner};
@@ -24,7 +24,7 @@ use sessions::{Command, Machine, Number, Request};
 use stable::{Stable, StableFault};
 use std::alloc::{AllocError, Global};
 use std::mem;
-use store::{Op, Query};
+use store::{Db, Op, Query};
 use synod::{Ballot, SLOTS, Slot, Vote};
 use wire::{Envelope, Frame, Message, Nack, NodeId, Nodes, Promise, SharedCommand};
 
@@ -68,7 +68,7 @@ impl Drop for Replica {
 impl Replica {
     ghost use Rattle.node_model.specs.Loading.{IsBaseOf, IsLoaded, IsFresh, IsDamaged, IsReplicaOf};
     ghost use Rattle.acceptor.specs.Loading.{IsMachineOf};
-    ghost use Rattle.node_model.specs.Replicas.{ReplicaState, ReplicaIsSmall, position, asked, waits, refuses_submit};
+    ghost use Rattle.node_model.specs.Replicas.{ReplicaState, ReplicaIsSmall, position, submission_of, waits, refuses_submit};
     ghost use Rattle.node.specs.Replica.{replica_of};
     ghost use Rattle.node.specs.Wanting.{IsForRecords, MayWant, MayWantOn};
     ghost use Rattle.node_model.specs.Nodes.{Made, ReplicaSteps};
@@ -162,6 +162,13 @@ impl Replica {
         let _open = self.proposer.open();
     }
 
+    /// The database that its machine holds.
+    pub fn database(&self) -> &Db
+        ensures { result.now ≡ (replica_of self.now).machine.features }
+    {
+        self.machine.database()
+    }
+
     /// The answer to a query, over what its machine holds.
     pub fn answer(&self, alloc: Global, query: &Query) -> Result<Vec<u8>, AllocError>
         ensures says { IfOk result (λ text. IsAnswer (replica_of self.now).machine.features query.now text.items) }
@@ -208,13 +215,13 @@ impl Replica {
     ) -> Result<Outputs, NodeFault>
         ensures takes { IfOk result (λ said.
             Takes (replica_of self.old) (input.Submit client number op) (replica_of self.new) said) }
-        ensures refuses { IfSome (refuses_submit (replica_of self.old) (asked client number op)) (λ fault.
+        ensures refuses { IfSome (refuses_submit (replica_of self.old) (submission_of client number op)) (λ fault.
             (result ≡ Err fault) × (replica_of self.new ≡ replica_of self.old)) }
-        ensures repeats { refuses_submit (replica_of self.old) (asked client number op) ≡ None
+        ensures repeats { refuses_submit (replica_of self.old) (submission_of client number op) ≡ None
             → waits (replica_of self.old) client number ≡ true
             → (result ≡ Ok silence) × (replica_of self.new ≡ replica_of self.old) }
         ensures err { IfErr result (λ fault. (fault ≡ NodeFault.Memory)
-            ⊎ (refuses_submit (replica_of self.old) (asked client number op) ≡ Some fault)) }
+            ⊎ (refuses_submit (replica_of self.old) (submission_of client number op) ≡ Some fault)) }
     {
         if self.position() >= SLOTS {
             return Err(NodeFault::LogFull);

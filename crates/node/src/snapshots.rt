@@ -11,7 +11,7 @@ ghost use Rattle.node.specs.Replica.{replica_of};
 ghost use Rattle.wire.specs.Parts.{piece_of};
 ghost use Rattle.wire.specs.declared.frames.message.Message.TheVariants as message;
 
-use super::fetching::Fetching;
+use super::fetch::Fetching;
 use super::replica::Replica;
 use super::sends::{send, send_ask, send_asks, send_to_the_others};
 use node_model::{NodeFault, Outputs};

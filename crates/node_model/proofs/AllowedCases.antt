@@ -6,7 +6,7 @@ use Rattle.std.proofs.lemmas.List.{map-append}
 use Rattle.synod.specs.Acts as act
 use Rattle.synod.specs.Acts.{Local}
 use Rattle.synod.proofs.Doing.{does_one, does_then}
-use Rattle.sessions.specs.Asked.{Asked}
+use Rattle.sessions.specs.declared.submission.Submission.{Submission}
 use Rattle.sessions.specs.declared.command.Command.{Command}
 use Rattle.sessions.specs.declared.command.Command.TheVariants.{Request}
 use Rattle.acceptor.specs.Accepting.{Accepting}
@@ -17,7 +17,7 @@ use Rattle.acceptor.proofs.VerdictLemmas.{floor_prepared, floor_accepted}
 use Rattle.learner.specs.Learning.{learnt_at}
 use Rattle.proposer.specs.Proposing.{Proposing, StartsCampaign, with_promised, after_nack, sends_again}
 use Rattle.proposer.specs.Protocol.{MayHold, submitting, frames_of, frames_of_all}
-use Rattle.proposer.specs.declared.outgoing.Outgoing.{Outgoing}
+use Rattle.proposer.specs.declared.sends.Outgoing.{Outgoing}
 use Rattle.proposer.proofs.AllowedMoves.{timeout_lem, nack_lem}
 use Rattle.proposer.proofs.AllowedPromise.{promise_lem}
 use Rattle.proposer.proofs.AllowedPropose.{propose_lem}
@@ -128,7 +128,7 @@ module _ (old new : ReplicaState) (said : Response) (x : Local Command) (stands 
           (goes_proposing old.nodes old.id in' first.after (record old { proposer = q }) some_node first.stands))
           (λ _. first)
 
-      is_asked_goes : (r : Asked) → Proposed act.Nothing (Request r ∷ []) (after_submit old r)
+      is_asked_goes : (r : Submission) → Proposed act.Nothing (Request r ∷ []) (after_submit old r)
       is_asked_goes r =
           let y : Local Command = submitting x r in
           let again = submit_again_lem (membership old.nodes) old.id act.Nothing x old.proposer r stands.proposer in

@@ -8,7 +8,7 @@ use Rattle.synod.specs.Acts as act
 use Rattle.synod.specs.Acts.{Membership, Local, Does}
 use Rattle.synod.proofs.Doing.{does_nothing, does_then}
 use Rattle.synod.proofs.Puts.{put_same}
-use Rattle.sessions.specs.Asked.{Asked}
+use Rattle.sessions.specs.declared.submission.Submission.{Submission}
 use Rattle.sessions.specs.declared.command.Command.{Command}
 use Rattle.sessions.specs.declared.command.Command.TheVariants.{NoOp, Request}
 use Rattle.learner.specs.Learning.{Learning, prefix, HearsVote, HearsDecided}
@@ -39,7 +39,7 @@ use Rattle.node_model.proofs.Saying.{asks_one}
 -- ---- what is executed waits no more
 module _ (f : Membership Command) (i : ℕ) (in' : act.Input Command) (p : Proposing) where
   -- with these requests that wait
-  abbrev waiting_at : List Asked → Proposing
+  abbrev waiting_at : List Submission → Proposing
   waiting_at rs = record p { waiting = rs }
 
   pub holds_then : (x : Local Command) (q : Proposing) (first : MayHold f i in' x q) (r : Proposing)

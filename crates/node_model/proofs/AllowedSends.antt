@@ -12,9 +12,9 @@ use Rattle.sessions.specs.declared.command.Command.{Command}
 use Rattle.acceptor.specs.declared.answer.Answer.{Answer}
 use Rattle.acceptor.specs.declared.answer.Answer.TheVariants as answer
 use Rattle.acceptor.specs.Protocol.{answer_frames}
-use Rattle.proposer.specs.declared.outgoing.Outgoing.{Outgoing}
-use Rattle.proposer.specs.declared.outgoing.Recipients.{Recipients}
-use Rattle.proposer.specs.declared.outgoing.Recipients.TheVariants.{All, Others}
+use Rattle.proposer.specs.declared.sends.Outgoing.{Outgoing}
+use Rattle.proposer.specs.declared.sends.Recipients.{Recipients}
+use Rattle.proposer.specs.declared.sends.Recipients.TheVariants.{All, Others}
 use Rattle.proposer.specs.Protocol.{frames_to, frames_of, frames_of_all}
 use Rattle.proposer.proofs.AllowedTick.{sending_nothing, sending_both}
 use Rattle.wire.specs.NodeSets.{has_node, no_nodes, with_node}

@@ -8,9 +8,9 @@ use Rattle.acceptor.specs.declared.answer.Answer.{Answer}
 use Rattle.acceptor.specs.declared.answer.Answer.TheVariants as answer
 use Rattle.learner.specs.Learning.{Learning, prefix}
 use Rattle.learner.specs.declared.learned.Learned.{Learned}
-use Rattle.proposer.specs.declared.outgoing.Outgoing.{Outgoing}
-use Rattle.proposer.specs.declared.outgoing.Recipients.{Recipients}
-use Rattle.proposer.specs.declared.outgoing.Recipients.TheVariants.{All as ToAll, Others}
+use Rattle.proposer.specs.declared.sends.Outgoing.{Outgoing}
+use Rattle.proposer.specs.declared.sends.Recipients.{Recipients}
+use Rattle.proposer.specs.declared.sends.Recipients.TheVariants.{All as ToAll, Others}
 use Rattle.wire.specs.NodeSets.{has_node, no_nodes, with_node}
 use Rattle.wire.specs.declared.frames.envelope.Envelope.{Envelope}
 use Rattle.wire.specs.declared.frames.message.Message.{Message}

@@ -4,7 +4,7 @@ use Rattle.std.proofs.lemmas.Bool.{cond_both}
 use Rattle.learner.specs.Learning.{Learning, prefix}
 use Rattle.proposer.specs.Campaigning.{Campaigning}
 use Rattle.proposer.specs.Proposing.{Proposing, gathers, gathers_on, leads, proposes}
-use Rattle.proposer.specs.declared.outgoing.Outgoing.{Outgoing}
+use Rattle.proposer.specs.declared.sends.Outgoing.{Outgoing}
 use Rattle.node_model.specs.Taking.{begins_to_lead, after_counting, proposed}
 
 abbrev pub KeepsRest : Proposing → Proposing × List Outgoing → Type 0

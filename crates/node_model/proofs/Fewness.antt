@@ -11,7 +11,7 @@ use Rattle.std.proofs.lemmas.List.Elements.{filter-append}
 use Rattle.std.proofs.lemmas.List.Sums.{length-filter, count_by-le-length}
 use Rattle.synod.specs.Acts as act
 use Rattle.synod.specs.declared.ballot.Ballot.{Ballot}
-use Rattle.sessions.specs.Asked.{Asked}
+use Rattle.sessions.specs.declared.submission.Submission.{Submission}
 use Rattle.sessions.specs.Machines.{MachineState}
 use Rattle.sessions.specs.declared.command.Command.{Command}
 use Rattle.sessions.specs.declared.command.Command.TheVariants.{NoOp, Request}
@@ -23,9 +23,9 @@ use Rattle.proposer.specs.Campaigning.{Campaigning, Filling, is_at, stepped, pro
 use Rattle.proposer.specs.Campaigning.{closed_below}
 use Rattle.proposer.specs.Proposing.{Proposing, gathers, gathers_on, leads, proposes, sends_again, with_promised}
 use Rattle.proposer.specs.Requests.{is_of, without}
-use Rattle.proposer.specs.declared.outgoing.Outgoing.{Outgoing}
-use Rattle.proposer.specs.declared.outgoing.Recipients.{Recipients}
-use Rattle.proposer.specs.declared.outgoing.Recipients.TheVariants.{All, Others}
+use Rattle.proposer.specs.declared.sends.Outgoing.{Outgoing}
+use Rattle.proposer.specs.declared.sends.Recipients.{Recipients}
+use Rattle.proposer.specs.declared.sends.Recipients.TheVariants.{All, Others}
 use Rattle.proposer.specs.declared.window.TheConstants.{MOST_OPEN}
 use Rattle.wire.specs.NodeSets.{has_node, no_nodes, with_node}
 use Rattle.wire.specs.declared.frames.envelope.Envelope.{Envelope}
@@ -144,7 +144,7 @@ proposing_few b slot f None = tt
 proposing_few b slot f (Some c) =
     let both = length-append f.sent (accept b (record { slot = slot; command = c }) ∷ []) in omega (arith, both)
 
-stepped_few : (k : Campaigning) (waiting : List Asked) (learnt_to : ℕ) (learnt : Bool) (slot : ℕ) (f : Filling)
+stepped_few : (k : Campaigning) (waiting : List Submission) (learnt_to : ℕ) (learnt : Bool) (slot : ℕ) (f : Filling)
     → OneMore f (stepped k waiting learnt_to learnt slot f)
 stepped_few k waiting learnt_to learnt slot f =
     cond_both (learnt || list_any (is_at slot) f.proposals) _ _ (OneMore f) (λ _. omega arith)
@@ -156,7 +156,7 @@ going_few : (o : Option Filling) (f : Filling) (rest : Filling → Filling) (n :
 going_few None f rest n one more = omega arith
 going_few (Some g) f rest n one more = let after = more g in omega (arith, one, after)
 
-filled_few : (k : Campaigning) (waiting : List Asked) (learnt_to : ℕ) (learnt : ℕ → Option Command) (n slot : ℕ) (f : Filling)
+filled_few : (k : Campaigning) (waiting : List Submission) (learnt_to : ℕ) (learnt : ℕ → Option Command) (n slot : ℕ) (f : Filling)
     → length (filled k waiting learnt_to learnt n slot f).sent ≤ length f.sent + n
 filled_few k waiting learnt_to learnt zero slot f = omega arith
 filled_few k waiting learnt_to learnt (suc n) slot f =
@@ -165,7 +165,7 @@ filled_few k waiting learnt_to learnt (suc n) slot f =
     (stepped_few k waiting learnt_to (is_some (learnt slot)) slot f)
     (λ (g : Filling). filled_few k waiting learnt_to learnt n (slot + 1) g)
 
-window_few : (k : Campaigning) (waiting : List Asked) (learnt_to : ℕ) (l : Learning)
+window_few : (k : Campaigning) (waiting : List Submission) (learnt_to : ℕ) (l : Learning)
     → length (window_filled k waiting learnt_to l).sent ≤ 8
 window_few k waiting learnt_to l =
     let n : ℕ = min (prefix l + 8) (k.end + 1) - prefix l in
@@ -193,7 +193,7 @@ proposes_few p (Some k) l = cond_both k.leading _ _ Eight (λ _. leads_few p k l
 counting_few : (p q : Proposing) (l : Learning) → Eight (after_counting p q l)
 counting_few p q l = cond_both (begins_to_lead p q) _ _ Eight (λ _. proposes_few q q.campaign l) (λ _. omega arith)
 
-submit_few : (m : ReplicaState) (r : Asked) → Eight (after_submit m r)
+submit_few : (m : ReplicaState) (r : Submission) → Eight (after_submit m r)
 submit_few m r =
     let p : Proposing = with_request m.proposer r in
     cond_both (waits m r.client r.number) _ _ Eight (λ _. omega arith) (λ _. proposes_few p p.campaign m.learner)
@@ -208,12 +208,12 @@ again_few (Some k) few =
     (λ _. omega arith)
 
 -- ---- each reply takes away a request that waited
-taken : {A : Type 0} (x : A) (b t : Bool) (r : Asked) (rs rest : List Asked) → length (cond t (x ∷ []) []) + length rest ≤ length rs
+taken : {A : Type 0} (x : A) (b t : Bool) (r : Submission) (rs rest : List Submission) → length (cond t (x ∷ []) []) + length rest ≤ length rs
     → length (cond (b || t) (x ∷ []) []) + length (cond b rs (r ∷ rest)) ≤ length (r ∷ rs)
 taken x true t r rs rest h = omega arith
 taken x false t r rs rest h = omega (arith, h)
 
-taken_away : {A : Type 0} (x : A) (client number : ℕ) (rs : List Asked)
+taken_away : {A : Type 0} (x : A) (client number : ℕ) (rs : List Submission)
     → length (cond (list_any (is_of client number) rs) (x ∷ []) []) + length (without client number rs) ≤ length rs
 taken_away x client number [] = omega arith
 taken_away x client number (r ∷ rs) =

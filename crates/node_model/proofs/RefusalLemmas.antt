@@ -1,16 +1,16 @@
 -- A node isn't stopped by what it refuses.
 use Rattle.std.proofs.Common.{◌≡◌, ◌^◌, length, Bool, false, not, nat_le, if◌then◌else◌, Option, Some, None, refl, subst}
 use Rattle.std.proofs.lemmas.Bool.{cond_both}
-use Rattle.sessions.specs.Asked.{Asked}
+use Rattle.sessions.specs.declared.submission.Submission.{Submission}
 use Rattle.proposer.specs.Proposing.{next_round}
-use Rattle.proposer.specs.declared.waiting.TheConstants.{MOST_WAITING}
+use Rattle.proposer.specs.declared.queue.TheConstants.{MOST_WAITING}
 use Rattle.node_model.specs.declared.fault.NodeFault.{NodeFault}
 use Rattle.node_model.specs.declared.fault.NodeFault.TheVariants as fault
 use Rattle.node_model.specs.declared.input.Input.{Input}
 use Rattle.node_model.specs.declared.input.Input.TheVariants as input
 use Rattle.node_model.specs.Faults.{is_stop_fault}
 use Rattle.node_model.specs.Inputs.{is_short}
-use Rattle.node_model.specs.Replicas.{ReplicaState, position, is_full, waits, asked, refuses, refuses_submit, refuses_timeout, refuses_checkpoint}
+use Rattle.node_model.specs.Replicas.{ReplicaState, position, is_full, waits, submission_of, refuses, refuses_submit, refuses_timeout, refuses_checkpoint}
 
 -- a fault, if there is one, leaves the node up
 abbrev GoesOn : Option NodeFault → Type 0
@@ -26,7 +26,7 @@ goes_on_with g up f e = subst (λ (h : NodeFault). is_stop_fault h ≡ false) (l
 tested : (b : Bool) (g : NodeFault) (o : Option NodeFault) → is_stop_fault g ≡ false → GoesOn o → GoesOn (if b then Some g else o)
 tested b g o up rest = cond_both b (Some g) o GoesOn (λ _. goes_on_with g up) (λ _. rest)
 
-submit_goes_on : (m : ReplicaState) (r : Asked) → GoesOn (refuses_submit m r)
+submit_goes_on : (m : ReplicaState) (r : Submission) → GoesOn (refuses_submit m r)
 submit_goes_on m r =
     let full = nat_le MOST_WAITING (length m.proposer.waiting) in
     let queue : Option NodeFault = if full then Some fault.QueueFull else None in
@@ -46,7 +46,7 @@ checkpoint_goes_on : (m : ReplicaState) → GoesOn (refuses_checkpoint m)
 checkpoint_goes_on m = tested (nat_le (position m) m.acceptor.floor) fault.NothingNew None refl goes_on_without
 
 pub refusal_goes_on : (m : ReplicaState) (i : Input) (f : NodeFault) → refuses m i ≡ Some f → is_stop_fault f ≡ false
-refusal_goes_on m (input.Submit client number op) = submit_goes_on m (asked client number op)
+refusal_goes_on m (input.Submit client number op) = submit_goes_on m (submission_of client number op)
 refusal_goes_on m input.Timeout = timeout_goes_on m
 refusal_goes_on m input.Checkpoint = checkpoint_goes_on m
 refusal_goes_on m other = goes_on_without

@@ -3,7 +3,7 @@ use Rattle.std.proofs.Common.{◌≡◌, ℕ, zero, suc, ◌+◌, ◌<◌, ◌�
 use Rattle.std.proofs.Common.{inr, refl, sym, ap, ◌∙◌, subst, append_assoc, append-nil, arith}
 use Rattle.std.proofs.lemmas.Option.{slice_get_within}
 use Rattle.std.proofs.lemmas.List.{length-append}
-use Rattle.sessions.specs.Asked.{Asked}
+use Rattle.sessions.specs.declared.submission.Submission.{Submission}
 use Rattle.sessions.specs.Machines.{MachineState}
 use Rattle.sessions.specs.Meaning.{RepliesAt}
 use Rattle.sessions.specs.SessionReplies.{outcome_code}
@@ -50,7 +50,7 @@ reply_of_longer l more e r =
 
 -- ---- one command more
 -- the reply to a request that is executed behind a list
-pub reply_behind : (l : List Command) (r : Asked) (o : SessionReply) (e : ReplyOut)
+pub reply_behind : (l : List Command) (r : Submission) (o : SessionReply) (e : ReplyOut)
     → RepliesAt (l ++ Request r ∷ []) (length l) r (outcome_code o)
     → e.client ≡ r.client → e.number ≡ r.number → e.reply ≡ o → e.position ≡ suc (length l)
     → IsReplyOf (l ++ Request r ∷ []) e
@@ -107,7 +107,7 @@ pub stands_for_learnt : (old new : MachineState) (o : Option Command) (c : Comma
 stands_for_learnt old new o c e h = rw e (stands_for_one old new c h)
 
 -- a request is, and has its reply
-pub adds_reply : (m : MachineState) (slot : ℕ) (o : Option Command) (c : Command) (r : Asked) (told : SessionReply) (e : ReplyOut)
+pub adds_reply : (m : MachineState) (slot : ℕ) (o : Option Command) (c : Command) (r : Submission) (told : SessionReply) (e : ReplyOut)
     (old : List ReplyOut) → o ≡ Some c → c ≡ Request r → RepliesOneMore m c told
     → e.client ≡ r.client → e.number ≡ r.number → e.reply ≡ told → e.position ≡ slot + 1
     → AddsReplies m slot (with_command o []) old (old ++ e ∷ [])

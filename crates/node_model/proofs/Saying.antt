@@ -8,7 +8,7 @@ use Rattle.synod.specs.Messages as synod
 use Rattle.synod.specs.declared.ballot.Ballot.{Ballot}
 use Rattle.synod.specs.declared.slot.TheConstants.{SLOTS}
 use Rattle.synod.specs.declared.vote.Vote.{Vote}
-use Rattle.sessions.specs.Asked.{Asked}
+use Rattle.sessions.specs.declared.submission.Submission.{Submission}
 use Rattle.sessions.specs.Machines.{MachineState}
 use Rattle.sessions.specs.Snapshots.{snapshot_bytes}
 use Rattle.sessions.specs.declared.command.Command.{Command}
@@ -17,7 +17,7 @@ use Rattle.acceptor.specs.Accepting.{Accepting, AnswersPrepare, after_prepare, a
 use Rattle.acceptor.specs.declared.answer.Answer.{Answer}
 use Rattle.learner.specs.Learning.{learnt_at}
 use Rattle.proposer.specs.Proposing.{Proposing, StartsCampaign, next_round, after_nack, sends_again}
-use Rattle.proposer.specs.declared.outgoing.Outgoing.{Outgoing}
+use Rattle.proposer.specs.declared.sends.Outgoing.{Outgoing}
 use Rattle.wire.specs.Parts.{Piece, piece, has_part, piece_of, joined}
 use Rattle.wire.specs.Promises.{Promised, Refused}
 use Rattle.wire.specs.declared.frames.envelope.Envelope.{Envelope}
@@ -29,7 +29,7 @@ use Rattle.node_model.specs.Fetching.{Fetching, nothing_of, missing, next_part}
 use Rattle.node_model.specs.Inputs.{names_run, is_for_this_run}
 use Rattle.node_model.specs.Outputs.{Response, sent, silence}
 use Rattle.node_model.specs.Protocol.{message_of, coming, input_of, submissions, accepting_on, accepting_if, accepting_after, round_after}
-use Rattle.node_model.specs.Replicas.{ReplicaState, position, asked}
+use Rattle.node_model.specs.Replicas.{ReplicaState, position, submission_of}
 use Rattle.node_model.specs.Sending.{to_one, to_others, envelopes_of, answer_sends, decided_sends, ask_sends, part_sends, snapshot_sends}
 use Rattle.node_model.specs.Taking.{Takes, TakesEnvelope, TakesMessage, HearsOfVote, HearsOfDecided, HearsOfFloor, TakesPart, PartCounts}
 use Rattle.node_model.specs.Taking.{RestoresText, Restores, IsMachineOfText, with_proposer, proposer_sends, after_promise, after_submit, is_ahead}
@@ -94,7 +94,7 @@ pub data Proposes (old : ReplicaState) : act.Input Command → List Command → 
       → Proposes old (act.Came from (message_of (Promise p))) [] old.proposer.round (after_promise old from p)
   gives_way : (from : ℕ) (n : Refused)
       → Proposes old (act.Came from (message_of (Nack n))) [] old.proposer.round (after_nack old.proposer n, [])
-  is_asked : (r : Asked) → Proposes old act.Nothing (Request r ∷ []) old.proposer.round (after_submit old r)
+  is_asked : (r : Submission) → Proposes old act.Nothing (Request r ∷ []) old.proposer.round (after_submit old r)
   campaigns : (p : Proposing) (prepare : Outgoing) → StartsCampaign old.proposer (position old) p prepare
       → Proposes old act.Nothing [] (next_round old.proposer) (p, prepare ∷ [])
   repeats : Proposes old act.Nothing [] old.proposer.round (old.proposer, sends_again old.proposer.campaign)
@@ -289,7 +289,7 @@ module _ (old new : ReplicaState) (said : Response) where
 
   pub says_of : (i : Input) → Takes old i new said → Says old i new said
   says_of (input.Submit client number op) (leaves, says) =
-      let r : Asked = asked client number op in
+      let r : Submission = submission_of client number op in
       proposes act.Nothing (Request r ∷ []) _ (after_submit old r) []
       (record { input_ = refl; submits_ = refl; acceptor_ = refl; round_ = refl }) (is_asked r) to_nobody leaves
       (none_last (after_submit old r) says)

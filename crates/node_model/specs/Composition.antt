@@ -1,7 +1,7 @@
 -- A node is the meaning of what it has learnt.
 use Rattle.std.specs.Prelude.{◌≡◌, ◌⊎◌, ◌≤◌, ℕ, suc, ◌-◌, List, ◌++◌, length, take, slice_get, Some, Contains}
 use Rattle.synod.specs.declared.slot.TheConstants.{SLOTS}
-use Rattle.sessions.specs.Asked.{Asked}
+use Rattle.sessions.specs.declared.submission.Submission.{Submission}
 use Rattle.sessions.specs.Machines.{MachineState}
 use Rattle.sessions.specs.Meaning.{RepliesAt}
 use Rattle.sessions.specs.SessionReplies.{outcome_code}
@@ -19,7 +19,7 @@ pub record StandsForMore (old new : MachineState) (cs : List Command) : Type 0 w
 
 -- the reply is that of the list's first commands, up to its position, at the last of them
 pub record IsReplyOf (l : List Command) (e : ReplyOut) : Type 0 where
-  pub request : Asked
+  pub request : Submission
   pub client_ : request.client ≡ e.client
   pub number_ : request.number ≡ e.number
   pub place : ℕ

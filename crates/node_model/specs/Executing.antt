@@ -1,7 +1,7 @@
 -- What is learnt is executed, slot by slot, and a request that waited has its reply.
 use Rattle.std.specs.Prelude.{ℕ, zero, suc, List, [], ◌∷◌, ◌++◌, Option, Some, None, if◌then◌else◌}
 use Rattle.std.specs.List.{list_any}
-use Rattle.sessions.specs.Asked.{Asked}
+use Rattle.sessions.specs.declared.submission.Submission.{Submission}
 use Rattle.sessions.specs.Machines.{MachineState, after_command, reply_to_command}
 use Rattle.sessions.specs.declared.command.Command.{Command}
 use Rattle.sessions.specs.declared.command.Command.TheVariants.{NoOp, Request}
@@ -11,11 +11,11 @@ use Rattle.node_model.specs.declared.outputs.ReplyOut.{ReplyOut}
 -- the machine, the requests that wait at the node, and the replies to those that did
 pub record Executing : Type 0 where
   pub machine : MachineState
-  pub waiting : List Asked
+  pub waiting : List Submission
   pub replies : List ReplyOut
 
 -- the reply to a request, where it waits; its position is one more than its slot
-abbrev pub reply_at : Executing → ℕ → Asked → List ReplyOut
+abbrev pub reply_at : Executing → ℕ → Submission → List ReplyOut
 reply_at e slot r =
     if list_any (is_of r.client r.number) e.waiting then record {
       client = r.client;

@@ -1,6 +1,6 @@
 -- What comes of an input.
 use Rattle.std.specs.Prelude.{◌≤◌, ℕ, List, [], length, Option, None}
-use Rattle.proposer.specs.declared.waiting.TheConstants.{MOST_WAITING}
+use Rattle.proposer.specs.declared.queue.TheConstants.{MOST_WAITING}
 use Rattle.wire.specs.declared.frames.envelope.Envelope.{Envelope}
 use Rattle.node_model.specs.declared.outputs.ReplyOut.{ReplyOut}
 use Rattle.node_model.specs.declared.outputs.LearntCommand.{LearntCommand}

@@ -24,7 +24,7 @@ use Rattle.node_model.specs.declared.input.Input.{Input}
 use Rattle.node_model.specs.declared.input.Input.TheVariants as input
 use Rattle.node_model.specs.declared.outputs.LearntCommand.{LearntCommand}
 use Rattle.node_model.specs.Inputs.{is_for_this_run}
-use Rattle.node_model.specs.Replicas.{ReplicaState, position, asked}
+use Rattle.node_model.specs.Replicas.{ReplicaState, position, submission_of}
 use Rattle.node_model.specs.Outputs.{Response}
 
 -- so many nodes; a no-op does nothing
@@ -44,7 +44,7 @@ input_of id nodes other = acts.Nothing
 
 -- the commands that it submits
 abbrev pub submissions : Input → List Command
-submissions (input.Submit client number op) = Request (asked client number op) ∷ []
+submissions (input.Submit client number op) = Request (submission_of client number op) ∷ []
 submissions other = []
 
 -- what node `id` learnt

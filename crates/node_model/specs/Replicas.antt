@@ -6,14 +6,14 @@ use Rattle.synod.specs.declared.ballot.Ballot.{Ballot}
 use Rattle.synod.specs.declared.ballot.TheConstants.{MOST_NODES}
 use Rattle.synod.specs.declared.slot.TheConstants.{SLOTS}
 use Rattle.store.specs.declared.op.Op.{Op}
-use Rattle.sessions.specs.Asked.{Asked}
+use Rattle.sessions.specs.declared.submission.Submission.{Submission}
 use Rattle.sessions.specs.Machines.{MachineState}
 use Rattle.sessions.specs.declared.command.Command.{Command}
 use Rattle.acceptor.specs.Accepting.{Accepting}
 use Rattle.learner.specs.Learning.{Learning, prefix}
 use Rattle.proposer.specs.Proposing.{Proposing, next_round}
 use Rattle.proposer.specs.Requests.{is_of}
-use Rattle.proposer.specs.declared.waiting.TheConstants.{MOST_WAITING}
+use Rattle.proposer.specs.declared.queue.TheConstants.{MOST_WAITING}
 use Rattle.proposer.specs.declared.window.TheConstants.{MOST_OPEN}
 use Rattle.wire.specs.Framing.{voted_slot}
 use Rattle.wire.specs.declared.frames.message.Message.{Message}
@@ -56,8 +56,8 @@ abbrev pub is_full : ReplicaState → Bool
 is_full m = nat_le SLOTS (position m)
 
 -- what a client asks for
-abbrev pub asked : ℕ → ℕ → Op → Asked
-asked client number op = record { client = client; number = number; op = op }
+abbrev pub submission_of : ℕ → ℕ → Op → Submission
+submission_of client number op = record { client = client; number = number; op = op }
 
 -- the request of this client and number waits
 abbrev pub waits : ReplicaState → ℕ → ℕ → Bool
@@ -81,7 +81,7 @@ abbrev pub is_stale_vote : ReplicaState → Message → Bool
 is_stale_vote m message = is_slot_below (voted_slot message) (position m)
 
 -- ---- which inputs are refused, and leave the node as it was
-abbrev pub refuses_submit : ReplicaState → Asked → Option NodeFault
+abbrev pub refuses_submit : ReplicaState → Submission → Option NodeFault
 refuses_submit m r =
     if is_full m then Some fault.LogFull
     else if not (is_short r.op) then Some fault.TooLong
@@ -100,7 +100,7 @@ abbrev pub refuses_checkpoint : ReplicaState → Option NodeFault
 refuses_checkpoint m = if nat_le (position m) m.acceptor.floor then Some fault.NothingNew else None
 
 abbrev pub refuses : ReplicaState → Input → Option NodeFault
-refuses m (input.Submit client number op) = refuses_submit m (asked client number op)
+refuses m (input.Submit client number op) = refuses_submit m (submission_of client number op)
 refuses m input.Timeout = refuses_timeout m
 refuses m input.Checkpoint = refuses_checkpoint m
 refuses m other = None
@@ -108,6 +108,6 @@ refuses m other = None
 -- ---- of which inputs nothing comes, and nothing is written: a request that waits already, and an envelope that doesn't concern
 -- the node
 abbrev pub Ignores : ReplicaState → Input → Type 0
-Ignores m (input.Submit client number op) = (refuses_submit m (asked client number op) ≡ None) × (waits m client number ≡ true)
+Ignores m (input.Submit client number op) = (refuses_submit m (submission_of client number op) ≡ None) × (waits m client number ≡ true)
 Ignores m (input.Message e) = is_for_this_run m.id m.nodes e ≡ false
 Ignores m other = ⊥

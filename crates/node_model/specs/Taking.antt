@@ -5,7 +5,7 @@ use Rattle.synod.specs.declared.slot.TheConstants.{SLOTS}
 use Rattle.synod.specs.declared.vote.Vote.{Vote}
 use Rattle.stable.specs.declared.key.Key.TheVariants as key
 use Rattle.stable.specs.Records.{Sets}
-use Rattle.sessions.specs.Asked.{Asked}
+use Rattle.sessions.specs.declared.submission.Submission.{Submission}
 use Rattle.sessions.specs.Machines.{MachineState}
 use Rattle.sessions.specs.Snapshots.{MachineFits, snapshot_bytes}
 use Rattle.sessions.specs.declared.command.Command.{Command}
@@ -16,7 +16,7 @@ use Rattle.learner.specs.Learning.{Learning, prefix, learnt_at, HearsVote, Hears
 use Rattle.learner.specs.declared.learned.Learned.{Learned}
 use Rattle.proposer.specs.Proposing.{Proposing, next_round, StartsCampaign, with_promised, after_nack, after_learned, is_led, proposes}
 use Rattle.proposer.specs.Proposing.{sends_again, skipped_to}
-use Rattle.proposer.specs.declared.outgoing.Outgoing.{Outgoing}
+use Rattle.proposer.specs.declared.sends.Outgoing.{Outgoing}
 use Rattle.wire.specs.Parts.{Piece, joined}
 use Rattle.wire.specs.Promises.{Promised}
 use Rattle.wire.specs.declared.frames.envelope.Envelope.{Envelope}
@@ -29,7 +29,7 @@ use Rattle.node_model.specs.Composition.{StandsForMore, RepliesToMore}
 use Rattle.node_model.specs.Executing.{Executing, executed, commands}
 use Rattle.node_model.specs.Fetching.{Fetching, nothing_of, is_above_target, still_fetched, wants, with_part, missing, next_part}
 use Rattle.node_model.specs.Inputs.{is_for_this_run}
-use Rattle.node_model.specs.Replicas.{ReplicaState, position, asked, waits}
+use Rattle.node_model.specs.Replicas.{ReplicaState, position, submission_of, waits}
 use Rattle.node_model.specs.Outputs.{Response, sent, silence}
 use Rattle.node_model.specs.Sending.{envelopes_of, envelopes, answer_sends, decided_sends, ask_sends, ask_others}
 use Rattle.node_model.specs.Sending.{to_one, to_others, snapshot_sends}
@@ -83,10 +83,10 @@ abbrev pub after_promise : ReplicaState → ℕ → Promised → Proposing × Li
 after_promise m from p = after_counting m.proposer (with_promised m.proposer from p) m.learner
 
 -- a request waits from now on, and the proposer proposes
-abbrev pub with_request : Proposing → Asked → Proposing
+abbrev pub with_request : Proposing → Submission → Proposing
 with_request p r = record p { waiting = p.waiting ++ r ∷ [] }
 
-abbrev pub after_submit : ReplicaState → Asked → Proposing × List Outgoing
+abbrev pub after_submit : ReplicaState → Submission → Proposing × List Outgoing
 after_submit m r = if waits m r.client r.number then (m.proposer, []) else proposed (with_request m.proposer r) m.learner
 
 -- ---- a command is newly learnt
@@ -267,8 +267,8 @@ TakesTimeout old new said =
 
 abbrev pub Takes : ReplicaState → Input → ReplicaState → Response → Type 0
 Takes old (input.Submit client number op) new said =
-    (new ≡ with_proposer old (after_submit old (asked client number op)))
-    × (said ≡ sent (proposer_sends old (after_submit old (asked client number op))))
+    (new ≡ with_proposer old (after_submit old (submission_of client number op)))
+    × (said ≡ sent (proposer_sends old (after_submit old (submission_of client number op))))
 Takes old (input.Message e) new said = TakesEnvelope old e (is_for_this_run old.id old.nodes e) new said
 Takes old input.Timeout new said = TakesTimeout old new said
 Takes old input.Tick new said =

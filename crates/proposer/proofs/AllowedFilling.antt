@@ -11,10 +11,10 @@ use Rattle.synod.specs.Volatile as synod_volatile
 use Rattle.synod.specs.Volatile.{proposal}
 use Rattle.synod.specs.Acts.{Membership, Input, Local, Does, IsChoice, MayPropose, campaigns}
 use Rattle.synod.proofs.Doing.{sending, does_nothing, does_then, proposes_to_first}
-use Rattle.sessions.specs.Asked.{Asked}
+use Rattle.sessions.specs.declared.submission.Submission.{Submission}
 use Rattle.sessions.specs.declared.command.Command.{Command}
 use Rattle.sessions.specs.declared.command.Command.TheVariants.{NoOp, Request}
-use Rattle.proposer.specs.declared.outgoing.Outgoing.{Outgoing}
+use Rattle.proposer.specs.declared.sends.Outgoing.{Outgoing}
 use Rattle.proposer.specs.declared.window.Proposal.{Proposal}
 use Rattle.proposer.specs.declared.window.TheConstants.{MOST_OPEN}
 use Rattle.proposer.specs.Campaigning.{Campaigning, Filling, is_at, accept, choice, placed, with_proposal, proposing, stepped, going_on}
@@ -37,12 +37,12 @@ frames_both i nodes (o ∷ os) more =
     ∙ ap (λ l. frames_of i nodes o ++ l) (frames_both i nodes os more)
 
 module _ (f : Membership Command) (i : ℕ) (input : Input Command) (nodes : ℕ) (some_node : 1 ≤ nodes) (noop : f.noop ≡ NoOp) (k : Campaigning)
-    (leads : k.leading ≡ true) (waiting : List Asked) (learnt_to : ℕ) (learnt : ℕ → Option Command) (position : ℕ) where
+    (leads : k.leading ≡ true) (waiting : List Submission) (learnt_to : ℕ) (learnt : ℕ → Option Command) (position : ℕ) where
   -- the replica holds what a leader goes by
   pub record Knows (x : Local Command) : Type 0 where
     pub position' : x.replica.position ≡ position
     pub learnt' : (s : ℕ) → x.replica.learnt s ≡ learnt s
-    pub waiting' : (r : Asked) → Contains waiting r → Contains x.replica.waiting (Request r)
+    pub waiting' : (r : Submission) → Contains waiting r → Contains x.replica.waiting (Request r)
 
   -- its campaign is this one, with these proposals
   pub record Holds (x : Local Command) (old : Filling) : Type 0 where

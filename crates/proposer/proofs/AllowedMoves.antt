@@ -10,12 +10,12 @@ use Rattle.synod.specs.Volatile as synod_volatile
 use Rattle.synod.specs.Acts as act
 use Rattle.synod.specs.Acts.{Membership, Input, Local, Does, acted}
 use Rattle.synod.proofs.Doing.{does_nothing, does_one, does_then, says_to_first}
-use Rattle.sessions.specs.Asked.{Asked}
+use Rattle.sessions.specs.declared.submission.Submission.{Submission}
 use Rattle.sessions.specs.declared.command.Command.{Command}
 use Rattle.wire.specs.NodeSets.{no_nodes, has_node}
 use Rattle.wire.specs.Promises.{Refused}
 use Rattle.wire.specs.Same.{same_ballot}
-use Rattle.proposer.specs.declared.outgoing.Outgoing.{Outgoing}
+use Rattle.proposer.specs.declared.sends.Outgoing.{Outgoing}
 use Rattle.proposer.specs.Requests.{is_of, without}
 use Rattle.proposer.specs.Campaigning.{Campaigning, begun}
 use Rattle.proposer.specs.Proposing.{Proposing, loaded, StartsCampaign, next_round, unless_refused, after_nack}
@@ -23,7 +23,7 @@ use Rattle.proposer.specs.Protocol.{CampaignStands, CampaignsStand, ProposerStan
 use Rattle.proposer.specs.Protocol.{frames_of}
 
 -- what is left of a list was there before
-left_over : (b : Bool) (r s : Asked) (rest left : List Asked) → ((t : Asked) → Contains left t → Contains rest t)
+left_over : (b : Bool) (r s : Submission) (rest left : List Submission) → ((t : Submission) → Contains left t → Contains rest t)
     → Contains (cond b rest (r ∷ left)) s → Contains (r ∷ rest) s
 left_over true r s rest left before c = Contains-append_right (r ∷ []) rest s c
 left_over false r s rest left before c = elim (Contains-append_cases (r ∷ []) left s c) [
@@ -31,7 +31,7 @@ left_over false r s rest left before c = elim (Contains-append_cases (r ∷ []) 
   | inr later ↦ Contains-append_right (r ∷ []) rest s (before s later)
 ]
 
-waited_before : (client number : ℕ) (rs : List Asked) (s : Asked) → Contains (without client number rs) s → Contains rs s
+waited_before : (client number : ℕ) (rs : List Submission) (s : Submission) → Contains (without client number rs) s → Contains rs s
 waited_before client number [] s c = c
 waited_before client number (r ∷ rs) s c =
     left_over (is_of client number r) r s rs (without client number rs) (waited_before client number rs) c

@@ -12,7 +12,7 @@ use Rattle.sessions.specs.declared.command.Command.{Command}
 use Rattle.sessions.specs.declared.command.Command.TheVariants.{NoOp}
 use Rattle.learner.specs.Learning.{Learning, learnt_at, prefix}
 use Rattle.learner.specs.Protocol.{LearnerStands}
-use Rattle.proposer.specs.declared.outgoing.Outgoing.{Outgoing}
+use Rattle.proposer.specs.declared.sends.Outgoing.{Outgoing}
 use Rattle.proposer.specs.Campaigning.{Campaigning, Filling, begun, prepare, closed_below, window_limit, window_filled}
 use Rattle.proposer.specs.Proposing.{Proposing, gathers, gathers_on, fills, leads, proposes}
 use Rattle.proposer.specs.Protocol.{CampaignStands, CampaignsStand, ProposerStands, MaySend, frames_of_all}

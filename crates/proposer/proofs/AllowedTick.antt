@@ -10,7 +10,7 @@ use Rattle.synod.specs.Volatile as synod_volatile
 use Rattle.synod.specs.Acts as act
 use Rattle.synod.specs.Acts.{Membership, Input, Local, Does, acted}
 use Rattle.synod.proofs.Doing.{sending, does_nothing, does_one, does_then, repeats_to_first}
-use Rattle.sessions.specs.Asked.{Asked}
+use Rattle.sessions.specs.declared.submission.Submission.{Submission}
 use Rattle.sessions.specs.declared.command.Command.{Command}
 use Rattle.sessions.specs.declared.command.Command.TheVariants.{Request}
 use Rattle.wire.specs.NodeSets.{has_node}
@@ -112,7 +112,7 @@ module _ (f : Membership Command) (i : ℕ) (input : Input Command) where
     tick_lem = only_sends (frames_of_all i nodes (sends_again p.campaign)) (again_cases p.campaign stands.campaign)
 
   -- ---- a request
-  module _ (x : Local Command) (p : Proposing) (r : Asked) (stands : ProposerStands p x) where
+  module _ (x : Local Command) (p : Proposing) (r : Submission) (stands : ProposerStands p x) where
     pub submit_last_lem : MayCome f i input x (record p { waiting = p.waiting ++ r ∷ [] }) (submitting x r)
     submit_last_lem = record {
       does = does_one f i input x (act.Submits (Request r)) tt;
@@ -121,7 +121,7 @@ module _ (f : Membership Command) (i : ℕ) (input : Input Command) where
         campaign = stands.campaign;
         waiting = λ s c. elim (Contains-push_cases p.waiting r s c) [
           | inl before ↦ Contains-append_left x.replica.waiting (Request r ∷ []) (Request s) (stands.waiting s before)
-          | inr now ↦ subst (λ (a : Asked). Contains (x.replica.waiting ++ Request r ∷ []) (Request a)) now
+          | inr now ↦ subst (λ (a : Submission). Contains (x.replica.waiting ++ Request r ∷ []) (Request a)) now
               (Contains-push x.replica.waiting (Request r))
         ];
       };

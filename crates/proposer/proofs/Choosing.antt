@@ -7,7 +7,7 @@ use Rattle.synod.specs.Ballots.{rank}
 use Rattle.synod.specs.declared.vote.Vote.{Vote}
 use Rattle.synod.specs.Volatile.{Volatile, IsHighest, IsUntold}
 use Rattle.synod.specs.Acts.{Membership, IsFree, IsChoice}
-use Rattle.sessions.specs.Asked.{Asked}
+use Rattle.sessions.specs.declared.submission.Submission.{Submission}
 use Rattle.sessions.specs.declared.command.Command.{Command}
 use Rattle.sessions.specs.declared.command.Command.TheVariants.{NoOp, Request}
 use Rattle.proposer.specs.declared.window.Proposal.{Proposal}
@@ -76,17 +76,17 @@ told_at_lem [] s = λ v c there. in_none v c
 told_at_lem (v ∷ vs) s = told_flag v vs s (v.slot == s) (told_at vs s) refl (told_at_lem vs s)
 
 -- ---- a free choice
-found_flag : (b : Bool) (x r : Asked) (xs : List Asked) (o : Option Asked) → (o ≡ Some r → Contains xs r) → cond b (Some x) o ≡ Some r
+found_flag : (b : Bool) (x r : Submission) (xs : List Submission) (o : Option Submission) → (o ≡ Some r → Contains xs r) → cond b (Some x) o ≡ Some r
     → Contains (x ∷ xs) r
 found_flag true x r xs o rest e = let same : x ≡ r = cc in subst (Contains (x ∷ xs)) same (in_head x xs)
 found_flag false x r xs o rest e = in_tail x r xs (rest e)
 
-found_among : (test : Asked → Bool) (xs : List Asked) (r : Asked) → find test xs ≡ Some r → Contains xs r
+found_among : (test : Submission → Bool) (xs : List Submission) (r : Submission) → find test xs ≡ Some r → Contains xs r
 found_among test [] r e = absurd (cc)
 found_among test (x ∷ xs) r e = found_flag (test x) x r xs (find test xs) (found_among test xs r) e
 
-module _ (f : Membership Command) (m : Volatile Command) (waiting : List Asked) (noop : f.noop ≡ NoOp)
-    (stand : (r : Asked) → Contains waiting r → Contains m.waiting (Request r)) where
+module _ (f : Membership Command) (m : Volatile Command) (waiting : List Submission) (noop : f.noop ≡ NoOp)
+    (stand : (r : Submission) → Contains waiting r → Contains m.waiting (Request r)) where
   noop_is_free : (c : Command) → NoOp ≡ c → IsFree f m c
   noop_is_free c e = inl (sym e ∙ sym noop)
 
@@ -94,7 +94,7 @@ module _ (f : Membership Command) (m : Volatile Command) (waiting : List Asked) 
   noop_case true c e = noop_is_free c (let same : NoOp ≡ c = cc in same)
   noop_case false c e = absurd (cc)
 
-  request_case : (o : Option Asked) (other : Option Command) (c : Command) → ((r : Asked) → o ≡ Some r → Contains waiting r)
+  request_case : (o : Option Submission) (other : Option Command) (c : Command) → ((r : Submission) → o ≡ Some r → Contains waiting r)
       → (other ≡ Some c → IsFree f m c) → request_or o other ≡ Some c → IsFree f m c
   request_case None other c among free e = free e
   request_case (Some r) other c among free e =

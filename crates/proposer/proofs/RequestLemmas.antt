@@ -3,7 +3,7 @@ use Rattle.std.proofs.Common.{◌≡◌, ℕ, ◌+◌, ◌<◌, ◌≤◌, arith
 use Rattle.std.proofs.Common.{None, is_some, refl, ap, ◌∙◌}
 use Rattle.std.specs.List.{list_any}
 use Rattle.std.specs.Map.{lookup, remove_entry, values_of}
-use Rattle.sessions.specs.Asked.{Asked}
+use Rattle.sessions.specs.declared.submission.Submission.{Submission}
 use Rattle.proposer.specs.declared.name.Name.{Name}
 use Rattle.proposer.specs.Requests.{is_of, without, AreNamed}
 
@@ -13,12 +13,12 @@ found_first true t x o e = refl
 found_first false t x o e = e
 
 -- the values after a test on the first of them
-removed_first : (b : Bool) (r : Asked) (k : Name) (es : List (Name × Asked)) (next rest : List Asked) → values_of es ≡ next
-    → (es' : List (Name × Asked)) → values_of es' ≡ rest → values_of (cond b es ((k, r) ∷ es')) ≡ cond b next (r ∷ rest)
+removed_first : (b : Bool) (r : Submission) (k : Name) (es : List (Name × Submission)) (next rest : List Submission) → values_of es ≡ next
+    → (es' : List (Name × Submission)) → values_of es' ≡ rest → values_of (cond b es ((k, r) ∷ es')) ≡ cond b next (r ∷ rest)
 removed_first true r k es next rest e es' e' = e
 removed_first false r k es next rest e es' e' = ap (λ l. r ∷ l) e'
 
-named_rest : (b : Bool) (e : Name × Asked) (es rest : List (Name × Asked)) → AreNamed (e ∷ es) → AreNamed rest
+named_rest : (b : Bool) (e : Name × Submission) (es rest : List (Name × Submission)) → AreNamed (e ∷ es) → AreNamed rest
     → AreNamed (cond b es (e ∷ rest))
 named_rest true e es rest h r = h.1
 named_rest false e es rest h r = (h.0, r)
@@ -28,17 +28,17 @@ module _ (client number : ℕ) where
   is_named k = client == k.client && number == k.number
 
   -- a request is known by its name
-  by_name : (k : Name) (r : Asked) → (k.client ≡ r.client) × (k.number ≡ r.number) → is_named k ≡ is_of client number r
+  by_name : (k : Name) (r : Submission) → (k.client ≡ r.client) × (k.number ≡ r.number) → is_named k ≡ is_of client number r
   by_name k r e = (λ i. client == e.0 i && number == e.1 i)
 
-  pub found_by_name : (es : List (Name × Asked)) → AreNamed es
+  pub found_by_name : (es : List (Name × Submission)) → AreNamed es
       → is_some (lookup is_named es) ≡ list_any (is_of client number) (values_of es)
   found_by_name [] h = refl
   found_by_name (e ∷ es) h =
       found_first (is_named e.0) (list_any (is_of client number) (values_of es)) e.1 (lookup is_named es) (found_by_name es h.1)
       ∙ ap (λ b. b || list_any (is_of client number) (values_of es)) (by_name e.0 e.1 h.0)
 
-  pub removed_by_name : (es : List (Name × Asked)) → AreNamed es
+  pub removed_by_name : (es : List (Name × Submission)) → AreNamed es
       → values_of (remove_entry is_named es) ≡ without client number (values_of es)
   removed_by_name [] h = refl
   removed_by_name (e ∷ es) h =
@@ -46,17 +46,17 @@ module _ (client number : ℕ) where
       (remove_entry is_named es) (removed_by_name es h.1)
       ∙ ap (λ b. cond b (values_of es) (e.1 ∷ without client number (values_of es))) (by_name e.0 e.1 h.0)
 
-  pub named_without : (es : List (Name × Asked)) → AreNamed es → AreNamed (remove_entry is_named es)
+  pub named_without : (es : List (Name × Submission)) → AreNamed es → AreNamed (remove_entry is_named es)
   named_without [] h = tt
   named_without (e ∷ es) h = named_rest (is_named e.0) e es (remove_entry is_named es) h (named_without es h.1)
 
 -- a request more
-pub named_push : (es : List (Name × Asked)) (k : Name) (r : Asked) → AreNamed es → k.client ≡ r.client → k.number ≡ r.number
+pub named_push : (es : List (Name × Submission)) (k : Name) (r : Submission) → AreNamed es → k.client ≡ r.client → k.number ≡ r.number
     → AreNamed (es ++ (k, r) ∷ [])
 named_push [] k r h c n = ((c, n), tt)
 named_push (e ∷ es) k r h c n = (h.0, named_push es k r h.1 c n)
 
-pub values_push : (es : List (Name × Asked)) (k : Name) (r : Asked) → values_of (es ++ (k, r) ∷ []) ≡ values_of es ++ r ∷ []
+pub values_push : (es : List (Name × Submission)) (k : Name) (r : Submission) → values_of (es ++ (k, r) ∷ []) ≡ values_of es ++ r ∷ []
 values_push [] k r = refl
 values_push (e ∷ es) k r = ap (λ l. e.1 ∷ l) (values_push es k r)
 

@@ -2,7 +2,7 @@
 use Rattle.std.proofs.Common.{◌≡◌, ◌≢◌, ℕ, zero, suc, ◌+◌, ◌++◌, ◌∷◌, [], ◌-◌, ◌<◌, List, Bool, true, false, Option, Some, None, IfSome}
 use Rattle.std.proofs.Common.{IsSome, IsSomeAnd, is_some, ◌||◌, if◌then◌else◌, nat_le, length, refl, sym, ap, ◌∙◌, subst, arith}
 use Rattle.std.specs.List.{list_any}
-use Rattle.sessions.specs.Asked.{Asked}
+use Rattle.sessions.specs.declared.submission.Submission.{Submission}
 use Rattle.sessions.specs.declared.command.Command.{Command}
 use Rattle.proposer.specs.declared.window.Proposal.{Proposal}
 use Rattle.proposer.specs.declared.window.TheConstants.{MOST_OPEN}
@@ -40,7 +40,7 @@ absorbs true false = refl
 absorbs false true = refl
 absorbs false false = refl
 
-module _ (k : Campaigning) (waiting : List Asked) (learnt_to : ℕ) (learnt : ℕ → Option Command) where
+module _ (k : Campaigning) (waiting : List Submission) (learnt_to : ℕ) (learnt : ℕ → Option Command) where
   -- whether the slot's proposal is open may be told along with whether the slot is learnt
   told_along : (a : Bool) (number : ℕ) (f : Filling)
       → stepped k waiting learnt_to (list_any (is_at number) f.proposals || a) number f ≡ stepped k waiting learnt_to a number f
@@ -150,7 +150,7 @@ sends_choice : (k : Campaigning) (slot : ℕ) (f : Filling) (o : Option Command)
 sends_choice k slot f None there = absurd (cc)
 sends_choice k slot f (Some command) there = some_sent f.sent _
 
-pub step_sends : (k : Campaigning) (waiting : List Asked) (learnt_to slot : ℕ) (learnt : Bool) (f : Filling)
+pub step_sends : (k : Campaigning) (waiting : List Submission) (learnt_to slot : ℕ) (learnt : Bool) (f : Filling)
     → (learnt || list_any (is_at slot) f.proposals) ≡ false → nat_le MOST_OPEN (length f.proposals) ≡ false
     → IsSome (choice k waiting learnt_to slot f.proposals)
     → IsSomeAnd (stepped k waiting learnt_to learnt slot f) (λ (g : Filling). g.sent ≢ [])

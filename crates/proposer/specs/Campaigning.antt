@@ -10,14 +10,14 @@ use Rattle.synod.specs.declared.vote.Vote.{Vote}
 use Rattle.wire.specs.NodeSets.{no_nodes, has_node, with_node}
 use Rattle.wire.specs.Promises.{Promised}
 use Rattle.wire.specs.Same.{same_ballot}
-use Rattle.sessions.specs.Asked.{Asked}
+use Rattle.sessions.specs.declared.submission.Submission.{Submission}
 use Rattle.sessions.specs.declared.command.Command.{Command}
 use Rattle.sessions.specs.declared.command.Command.TheVariants.{NoOp, Request}
 use Rattle.wire.specs.declared.frames.message.Message.TheVariants as message
 use Rattle.proposer.specs.declared.window.Proposal.{Proposal}
 use Rattle.proposer.specs.declared.window.TheConstants.{MOST_OPEN}
-use Rattle.proposer.specs.declared.outgoing.Outgoing.{Outgoing}
-use Rattle.proposer.specs.declared.outgoing.Recipients.TheVariants.{All, Others}
+use Rattle.proposer.specs.declared.sends.Outgoing.{Outgoing}
+use Rattle.proposer.specs.declared.sends.Recipients.TheVariants.{All, Others}
 use Rattle.learner.specs.Learning.{Learning, learnt_at, prefix}
 use Rattle.proposer.specs.Requests.{is_of}
 
@@ -119,19 +119,19 @@ abbrev pub is_told_after : List (Vote Command) → ℕ → Bool
 is_told_after told slot = list_any (λ v. nat_lt slot v.slot) told
 
 -- the first waiting request that is in no open proposal
-abbrev pub first_free : List Asked → List Proposal → Option Asked
+abbrev pub first_free : List Submission → List Proposal → Option Submission
 first_free waiting open' = find (λ r. not (list_any (is_for r.client r.number) open')) waiting
 
 abbrev pub noop_where : Bool → Option Command
 noop_where b = if b then Some NoOp else None
 
-abbrev pub request_or : Option Asked → Option Command → Option Command
+abbrev pub request_or : Option Submission → Option Command → Option Command
 request_or None other = other
 request_or (Some r) other = Some (Request r)
 
 -- where no vote is told: a no-op in a gap, which is below a slot that is told or learnt; else the first free request; else
 -- a no-op, where the slot is the campaign's first; else nothing
-abbrev pub free_choice : Bool → List Asked → List Proposal → Bool → Option Command
+abbrev pub free_choice : Bool → List Submission → List Proposal → Bool → Option Command
 free_choice is_gap waiting open' is_first =
     if is_gap then Some NoOp else request_or (first_free waiting open') (noop_where is_first)
 
@@ -140,7 +140,7 @@ command_or None other = other
 command_or (Some v) other = Some v.command
 
 -- the told command, or else the free choice
-abbrev pub choice : Campaigning → List Asked → ℕ → ℕ → List Proposal → Option Command
+abbrev pub choice : Campaigning → List Submission → ℕ → ℕ → List Proposal → Option Command
 choice k waiting learnt_to slot open' = command_or (told_at k.told slot)
     (free_choice (is_told_after k.told slot || nat_lt (slot + 1) learnt_to) waiting open' (slot == k.first))
 
@@ -166,7 +166,7 @@ proposing b slot f (Some c) = Some (with_proposal b f (record { slot = slot; com
 
 -- a slot is passed over where it is learnt or its proposal is open; a proposal is opened where there is a choice;
 -- else, or where all places of the window are taken, the filling stops
-abbrev pub stepped : Campaigning → List Asked → ℕ → Bool → ℕ → Filling → Option Filling
+abbrev pub stepped : Campaigning → List Submission → ℕ → Bool → ℕ → Filling → Option Filling
 stepped k waiting learnt_to learnt slot f =
     if learnt || list_any (is_at slot) f.proposals then Some f
     else if nat_le MOST_OPEN (length f.proposals) then None
@@ -177,7 +177,7 @@ going_on None f rest = f
 going_on (Some g) f rest = rest g
 
 -- so many slots from one on are gone through, ascending
-abbrev pub filled : Campaigning → List Asked → ℕ → (ℕ → Option Command) → ℕ → ℕ → Filling → Filling
+abbrev pub filled : Campaigning → List Submission → ℕ → (ℕ → Option Command) → ℕ → ℕ → Filling → Filling
 filled k waiting learnt_to learnt zero slot f = f
 filled k waiting learnt_to learnt (suc n) slot f =
     going_on (stepped k waiting learnt_to (is_some (learnt slot)) slot f) f
@@ -193,7 +193,7 @@ abbrev pub window_limit : ℕ → ℕ → ℕ
 window_limit position end = min (position + 8) (end + 1)
 
 -- the window that begins where the learner's prefix ends
-abbrev pub window_filled : Campaigning → List Asked → ℕ → Learning → Filling
+abbrev pub window_filled : Campaigning → List Submission → ℕ → Learning → Filling
 window_filled k waiting learnt_to l =
     filled k waiting learnt_to (learnt_at l) (window_limit (prefix l) k.end - prefix l) (prefix l)
     (record { proposals = k.proposals; sent = [] })

@@ -1,12 +1,12 @@
 -- A node's proposer: the requests that wait at it, and its campaign.
 use Rattle.std.specs.Prelude.{◌≡◌, ℕ, zero, ◌+◌, max, List, [], ◌∷◌, Bool, false, Option, Some, None, nat_lt, if◌then◌else◌}
 use Rattle.synod.specs.declared.ballot.Ballot.{Ballot}
-use Rattle.sessions.specs.Asked.{Asked}
+use Rattle.sessions.specs.declared.submission.Submission.{Submission}
 use Rattle.synod.specs.declared.slot.TheConstants.{SLOTS}
 use Rattle.learner.specs.Learning.{Learning, prefix}
 use Rattle.wire.specs.Promises.{Promised, Refused}
 use Rattle.wire.specs.Same.{same_ballot}
-use Rattle.proposer.specs.declared.outgoing.Outgoing.{Outgoing}
+use Rattle.proposer.specs.declared.sends.Outgoing.{Outgoing}
 use Rattle.proposer.specs.Campaigning.{Campaigning, Filling, begun, after_promise, closed, closed_below, window_filled, prepare}
 use Rattle.proposer.specs.Campaigning as campaign
 
@@ -20,7 +20,7 @@ pub record Proposing : Type 0 where
   pub learnt_to : ℕ
   pub campaign : Option Campaigning
   -- the oldest first
-  pub waiting : List Asked
+  pub waiting : List Submission
 
 -- what a restart leaves: the round alone
 abbrev pub loaded : ℕ → ℕ → ℕ → Proposing
@@ -83,7 +83,7 @@ is_led None = false
 is_led (Some k) = k.leading
 
 -- it gathers further on, where the log has slots left and a request waits
-abbrev pub gathers : List Asked → ℕ → Bool
+abbrev pub gathers : List Submission → ℕ → Bool
 gathers [] position = false
 gathers (r ∷ rs) position = nat_lt position SLOTS
 

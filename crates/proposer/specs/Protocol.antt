@@ -5,14 +5,14 @@ use Rattle.synod.specs.Messages.{Frame, to_first}
 use Rattle.synod.specs.Volatile.{Campaign, blank}
 use Rattle.synod.specs.Records as synod
 use Rattle.synod.specs.Acts.{Membership, Input, Local, Does}
-use Rattle.sessions.specs.Asked.{Asked}
+use Rattle.sessions.specs.declared.submission.Submission.{Submission}
 use Rattle.sessions.specs.declared.command.Command.{Command}
 use Rattle.sessions.specs.declared.command.Command.TheVariants.{Request}
 use Rattle.wire.specs.NodeSets.{has_node}
 use Rattle.wire.specs.Protocol.{message_of}
-use Rattle.proposer.specs.declared.outgoing.Outgoing.{Outgoing}
-use Rattle.proposer.specs.declared.outgoing.Recipients.{Recipients}
-use Rattle.proposer.specs.declared.outgoing.Recipients.TheVariants.{All, Others}
+use Rattle.proposer.specs.declared.sends.Outgoing.{Outgoing}
+use Rattle.proposer.specs.declared.sends.Recipients.{Recipients}
+use Rattle.proposer.specs.declared.sends.Recipients.TheVariants.{All, Others}
 use Rattle.proposer.specs.declared.window.Proposal.{Proposal}
 use Rattle.proposer.specs.Campaigning.{Campaigning}
 use Rattle.proposer.specs.Proposing.{Proposing}
@@ -48,7 +48,7 @@ CampaignsStand (Some k) q = (c : Campaign Command) × (q ≡ Some c) × Campaign
 pub record ProposerStands (p : Proposing) (x : Local Command) : Type 0 where
   pub round : x.records.round ≡ p.round
   pub campaign : CampaignsStand p.campaign x.replica.campaign
-  pub waiting : (r : Asked) → Contains p.waiting r → Contains x.replica.waiting (Request r)
+  pub waiting : (r : Submission) → Contains p.waiting r → Contains x.replica.waiting (Request r)
 
 -- the frames of a message from node i of so many
 abbrev pub frames_to : ℕ → ℕ → Recipients → List (Frame Command) → List (Frame Command)
@@ -94,7 +94,7 @@ pub record MayCome (f : Membership Command) (i : ℕ) (input : Input Command) (x
     pub stands : ProposerStands p y
 
 -- the request is submitted
-abbrev pub submitting : Local Command → Asked → Local Command
+abbrev pub submitting : Local Command → Submission → Local Command
 submitting x r = record x {
   replica = record x.replica { waiting = x.replica.waiting ++ Request r ∷ [] };
   submitted = x.submitted ++ Request r ∷ [];

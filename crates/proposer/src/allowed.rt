@@ -7,13 +7,13 @@ ghost use Rattle.synod.specs.Volatile.{IsSettled};
 ghost use Rattle.synod.specs.Messages.{Promise};
 ghost use Rattle.synod.specs.Records.{with_round};
 ghost use Rattle.synod.specs.Acts.{Membership, Input, Came, Local};
-ghost use Rattle.sessions.specs.Asked.{Asked};
+ghost use Rattle.sessions.specs.declared.submission.Submission.{Submission};
 ghost use Rattle.sessions.specs.declared.command.Command.{Command};
 ghost use Rattle.sessions.specs.declared.command.Command.TheVariants.{NoOp};
 ghost use Rattle.wire.specs.Promises.{Promised, Refused};
 ghost use Rattle.learner.specs.Learning.{Learning, prefix};
 ghost use Rattle.learner.specs.Protocol.{LearnerStands};
-ghost use Rattle.proposer.specs.declared.outgoing.Outgoing.{Outgoing};
+ghost use Rattle.proposer.specs.declared.sends.Outgoing.{Outgoing};
 ghost use Rattle.proposer.specs.Requests.{without};
 ghost use Rattle.proposer.specs.Proposing.{Proposing, loaded, next_round, StartsCampaign, with_promised, after_nack, after_learned};
 ghost use Rattle.proposer.specs.Proposing.{proposes, sends_again, skipped_to};
@@ -42,9 +42,9 @@ pub fn execution_is_allowed()
 
 /// A request may be submitted: it waits from now on, or its name waits already and nothing changes.
 pub fn submission_is_allowed()
-    ensures last { (f : Membership Command) (i : ℕ) (input : Input Command) (x : Local Command) (p : Proposing) (r : Asked)
+    ensures last { (f : Membership Command) (i : ℕ) (input : Input Command) (x : Local Command) (p : Proposing) (r : Submission)
         → ProposerStands p x → MayCome f i input x (record p { waiting = p.waiting ++ r ∷ [] }) (submitting x r) }
-    ensures again { (f : Membership Command) (i : ℕ) (input : Input Command) (x : Local Command) (p : Proposing) (r : Asked)
+    ensures again { (f : Membership Command) (i : ℕ) (input : Input Command) (x : Local Command) (p : Proposing) (r : Submission)
         → ProposerStands p x → MayCome f i input x p (submitting x r) }
 {}
 

@@ -9,8 +9,8 @@ ghost use Rattle.learner.specs.Learning.{learnt_at};
 ghost use Rattle.learner.specs.State.{learning_of};
 
 use super::choice::{free_choice, highest, is_told_after};
-use super::outgoing::{Outgoing, Recipients};
-use super::waiting::Waiting;
+use super::queue::Waiting;
+use super::sends::{Outgoing, Recipients};
 use super::window::{MOST_OPEN, Window};
 use learner::Learner;
 use sessions::Command;

@@ -4,7 +4,7 @@ ghost use Rattle.std.specs.Prelude.{◌≡◌, IsSome, IfOk, OnErr};
 ghost use Rattle.std.specs.Option.{option_copied};
 ghost use Rattle.proposer.specs.Campaigning.{told_at, is_told_after, free_choice};
 
-use super::waiting::Waiting;
+use super::queue::Waiting;
 use super::window::Window;
 use sessions::Command;
 use std::alloc::{AllocError, Global};

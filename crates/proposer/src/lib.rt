@@ -9,10 +9,10 @@ mod campaign;
 mod choice;
 mod fault;
 mod name;
-mod outgoing;
 mod proposer;
+mod queue;
+mod sends;
 mod sizes;
-mod waiting;
 mod window;
 
 pub use allowed::{
@@ -21,8 +21,8 @@ pub use allowed::{
     submission_is_allowed, tick_is_allowed, timeout_is_allowed,
 };
 pub use fault::{SubmitFault, TimeoutFault};
-pub use outgoing::{Outgoing, Recipients};
 pub use proposer::Proposer;
+pub use queue::MOST_WAITING;
+pub use sends::{Outgoing, Recipients};
 pub use sizes::limits;
-pub use waiting::MOST_WAITING;
 pub use window::MOST_OPEN;

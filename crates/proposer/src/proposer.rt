@@ -16,8 +16,8 @@ ghost use Rattle.proposer.specs.Proposing.{gathers_on, proposes, sends_again};
 
 use super::campaign::Campaign;
 use super::fault::{SubmitFault, TimeoutFault};
-use super::outgoing::{Outgoing, Recipients};
-use super::waiting::{MOST_WAITING, Waiting};
+use super::queue::{MOST_WAITING, Waiting};
+use super::sends::{Outgoing, Recipients};
 use super::window::MOST_OPEN;
 use learner::Learner;
 use sessions::{Number, Request};

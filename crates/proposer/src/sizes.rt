@@ -2,7 +2,7 @@
 
 ghost use Rattle.std.specs.Prelude.{◌≡◌};
 
-use super::waiting::MOST_WAITING;
+use super::queue::MOST_WAITING;
 use super::window::MOST_OPEN;
 
 /// At most 64 requests wait, and at most eight proposals are open.

@@ -6,7 +6,7 @@ use Rattle.std.proofs.lemmas.List.{length-set}
 use Rattle.std.proofs.lemmas.List.Elements.{All-cons, All-nil}
 use Rattle.stable.specs.Script.{Script}
 use Rattle.stable.specs.declared.stable.Stable.{Ghosts}
-use Rattle.sessions.specs.Asked.{Asked}
+use Rattle.sessions.specs.declared.submission.Submission.{Submission}
 use Rattle.store.specs.declared.query.Query.{Query as Question}
 use Rattle.wire.specs.declared.frames.envelope.Envelope.{Envelope}
 use Rattle.world_model.specs.Flushing.{Delivers, none, more}
@@ -53,7 +53,7 @@ module _ {S : Type 0} where
   answered_keeps w node query (Ok told) = refl
   answered_keeps w node query (Err f) = refl
 
-  submission_keeps : (w : WorldState S) (taken : Bool) (node : ℕ) (r : Asked) → size (with_submission w taken node r) ≡ size w
+  submission_keeps : (w : WorldState S) (taken : Bool) (node : ℕ) (r : Submission) → size (with_submission w taken node r) ≡ size w
   submission_keeps w true node r = refl
   submission_keeps w false node r = refl
 

@@ -39,12 +39,12 @@ module _ {S : Type 0} (storages : Ghosts (Script S)) where
       → (IsErrOf (failed fault) world_fault.Memory → DeliversSome storages old MOST_DELIVERIES new)
       → OneWaits new.waiting → (fault ≡ world_fault.FlushLimit) ⊎ (fault ≡ world_fault.Memory)
       → ActionIsRefused storages Flush old fault new
-  flush_refused old new fault limit memory waits (inl e) =
+  flush_refused old new fault limit wanting waits (inl e) =
       subst (λ (f : WorldFault). ActionIsRefused storages Flush old f new) (sym e)
       (record { delivers = limit (ap failed e); one_waits = waits })
-  flush_refused old new fault limit memory waits (inr e) =
+  flush_refused old new fault limit wanting waits (inr e) =
       subst (λ (f : WorldFault). ActionIsRefused storages Flush old f new) (sym e)
-      (record { delivers = memory (ap failed e); one_waits = waits })
+      (record { delivers = wanting (ap failed e); one_waits = waits })
 
   -- a round of the members that it was handed
   pub round_done : (old new : WorldState S) (node : ℕ) (handed members : List ℕ) (end : RoundEnd) → handed ≡ members
@@ -59,12 +59,12 @@ module _ {S : Type 0} (storages : Ghosts (Script S)) where
       → (IsErrOf (broken_off fault) world_fault.Memory → IsPartOfRound storages old node handed new)
       → (fault ≡ world_fault.NoSuchNode) ⊎ (fault ≡ world_fault.Memory)
       → ActionIsRefused storages (Round node members) old fault new
-  round_refused old new node handed members fault same no_node unchanged memory (inl e) =
+  round_refused old new node handed members fault same no_node unchanged wanting (inl e) =
       subst (λ (f : WorldFault). ActionIsRefused storages (Round node members) old f new) (sym e)
       (subst (λ (ms : List ℕ). NamesNoMember (length old.nodes) node ms) same (no_node (ap broken_off e)), unchanged (ap broken_off e))
-  round_refused old new node handed members fault same no_node unchanged memory (inr e) =
+  round_refused old new node handed members fault same no_node unchanged wanting (inr e) =
       subst (λ (f : WorldFault). ActionIsRefused storages (Round node members) old f new) (sym e)
-      (subst (λ (ms : List ℕ). IsPartOfRound storages old node ms new) same (memory (ap broken_off e)))
+      (subst (λ (ms : List ℕ). IsPartOfRound storages old node ms new) same (wanting (ap broken_off e)))
 
   -- the transcript after all lines, and the world
   pub runs_to : (IsHonest : S → Type 0) (plan : Plan) (lines : List ScheduleLine) (start end : WorldState S) (text : List ℕ) → lines

@@ -1,7 +1,8 @@
 //! Runs of schedules: each line is done in a world, or in one behind a transport, and the transcript reports the result.
 //!
 //! `replay` parses a schedule and runs it over records in memory, `run` takes a parsed one and any storages, and `run_lines`
-//! continues in a world that has begun. `run_through` does the lines over a cluster. `specs/Runs.antt` defines a run in a world,
+//! continues in a world that has begun. `start_world`, `do_lines` and `do_line` are their parts, for who wants the world also where
+//! a run ends with a fault. `run_through` does the lines over a cluster. `specs/Runs.antt` defines a run in a world,
 //! `specs/ClusterRuns.antt` one over a cluster, `specs/Transcripts.antt` the bytes of a transcript.
 #![tactic(auto)]
 
@@ -15,4 +16,4 @@ mod world_run;
 pub use cluster_run::run_through;
 pub use replayed::Replayed;
 pub use report::transcript;
-pub use world_run::{replay, run, run_lines};
+pub use world_run::{do_line, do_lines, replay, run, run_lines, start_world};

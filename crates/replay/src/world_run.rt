@@ -65,12 +65,15 @@ pub fn run<S: Stable + Drop>(
         × (run.runs.end ≡ world_of replayed.world)) }
     ensures fault { IfErr result (EndsOver S.Stable stores.items schedule) }
 {
-    let world = start(alloc, &schedule, stores)?;
+    let world = start_world(alloc, &schedule, stores)?;
     run_lines(alloc, schedule, world)
 }
 
-/// The world in which a run over these storages begins.
-fn start<S: Stable + Drop>(
+/// The world in which the schedule's run over these storages begins, one for each of its nodes, in their order.
+///
+/// `NotEmpty` where one of them holds a record already, `Memory` where a growth was refused, told at the line that says how many nodes
+/// there are. All of the storages were only read then.
+pub fn start_world<S: Stable + Drop>(
     alloc: Global,
     schedule: &Schedule,
     stores: Vec<S>,
@@ -133,8 +136,9 @@ fn world_transcript<S: Stable>(alloc: Global, world: &World<S>) -> Result<Vec<u8
     )
 }
 
-/// Does the lines in order, up to the first that can't be done. The world is safe in which they end there.
-fn do_lines<S: Stable>(
+/// Does the lines in order, up to the first that can't be done. The world is as they left it, and safe, there as well: who asks for
+/// more than a transcript looks at it.
+pub fn do_lines<S: Stable>(
     alloc: Global,
     world: &mut World<S>,
     lines: Vec<ScheduleLine>,
@@ -150,8 +154,9 @@ fn do_lines<S: Stable>(
     Ok(())
 }
 
-/// Does one line, if it can be done.
-fn do_line<S: Stable>(
+/// Does one line, if it can be done. Else the world is as it was, but for the frames that a flush has delivered, and the steps that a
+/// round has made. Who reads the world's lists between two lines knows what came of each.
+pub fn do_line<S: Stable>(
     alloc: Global,
     world: &mut World<S>,
     line: ScheduleLine,

@@ -26,7 +26,7 @@ action_made (line_of keyword.Restart) (_, (node, _)) = Some (Step (event.Restart
 action_made (line_of keyword.Fault) (_, (node, (failing, _))) = Some (Step (event.Fault node failing))
 action_made (line_of keyword.Round) (_, (node, (members, _))) = Some (Round node members)
 action_made (submit_of operation) (_, (node, (client, (number, (_, values))))) =
-    Some (Step (event.Submit node client number (op_made operation values)))
+    Some (Step (event.Submit node (record { client = client; number = number; op = op_made operation values })))
 action_made (query_of question) (_, (node, (_, values))) = Some (Step (event.Query node (query_made question values)))
 
 -- the words are a line of this row, and its values make the action
@@ -39,13 +39,13 @@ pub record IsLine (n : ℕ) (words : List (List ℕ)) (action : Action) (row : R
 -- a line that spells an action is one of a row
 pub by_places : (n : ℕ) (words : List (List ℕ)) (action : Action) → WordsSpell n words action
     → (row : Row) × IsLine n words action row
-by_places n words (Step (event.Submit node client number asked)) (operation, s, (values, said, made)) = (
+by_places n words (Step (event.Submit node asked)) (operation, s, (values, said, made)) = (
   submit_of operation,
   record {
-    values = (tt, (node, (client, (number, (tt, values)))));
+    values = (tt, (node, (asked.client, (asked.number, (tt, values)))));
     its_count = rw s.words_are ((op_count operation s.node_word s.client_word s.number_word s.others).0 said.0);
     said = rw s.words_are (refl, (s.to_node, (s.of_client, (s.under_number, (refl, said.1)))));
-    made = ap (λ (o : Op). Some (Step (event.Submit node client number o))) (sym made);
+    made = ap (λ (o : Op). Some (Step (event.Submit node (record { client = asked.client; number = asked.number; op = o })))) (sym made);
   },
 )
 by_places n words (Step (event.Query node asked)) (question, s, (values, said, made)) = (

@@ -193,7 +193,8 @@ named n operation asking asker words names = record {
 
 pub submits : (n : ℕ) (operation : Operation) (asking : AskerWords) (asker : Asker) (asked : Op) (words : List (List ℕ))
     → SpellsOp n operation words asked → NamesAsker n asking asker
-    → WordsSpell n (submit_words asking operation words) (Step (event.Submit asker.node asker.client asker.number asked))
+    → WordsSpell n (submit_words asking operation words)
+    (Step (event.Submit asker.node (record { client = asker.client; number = asker.number; op = asked })))
 submits n operation asking asker asked words spells names = (operation, named n operation asking asker words names, spells)
 
 -- a row's fault is that of its words

@@ -43,7 +43,7 @@ pub record LineGives (n : ℕ) (text : List ℕ) (unread : PendingLine) : Type 0
 
 -- the submission of the feature
 abbrev pub submission : Putting → Feature → Action
-submission p f = act.Step (event.Submit p.node p.client p.number (op.Put f.id f.seq))
+submission p f = act.Step (event.Submit p.node (record { client = p.client; number = p.number; op = op.Put f.id f.seq }))
 
 -- with its document or its members read, it is the action
 abbrev pub Becomes : ℕ → PendingLine → Action → Type 0

@@ -89,9 +89,9 @@ pub record SpellsRound (n : ℕ) (words : List (List ℕ)) (node : ℕ) (members
 
 -- the words spell the action, in a run of n nodes
 abbrev pub WordsSpell : ℕ → List (List ℕ) → Action → Type 0
-WordsSpell n words (Step (event.Submit node client number asked)) =
-    (operation : Operation) × (submits : SubmitsRequest n operation words node client number)
-    × SpellsOp n operation submits.others asked
+WordsSpell n words (Step (event.Submit node s)) =
+    (operation : Operation) × (submits : SubmitsRequest n operation words node s.client s.number)
+    × SpellsOp n operation submits.others s.op
 WordsSpell n words (Step (event.Deliver frame)) =
     BeginsWith (codes "deliver") words (IsOneWord (λ word. IsFrameNumber word frame))
 WordsSpell n words (Step (event.Drop frame)) =

@@ -5,12 +5,13 @@
 //! spell two. Nothing runs here: the crate `replay` does the lines. A `ReplayFault` says at which line there is no replay, and why.
 //!
 //! `Lines`, `Words`, `cut`, `below` and `decimal` read lines, words and numbers of any text of this kind.
+//! `nodes_line` and `read_action` read one line by itself, and `forms` one word, for whoever tells what is wrong with them.
 #![tactic(auto)]
 
 mod action;
 mod fault;
 mod first_mark;
-mod forms;
+pub mod forms;
 mod keyword;
 mod laws;
 mod lines;
@@ -32,7 +33,8 @@ pub use forms::{below, decimal};
 pub use laws::{faulty_is_no_schedule, first_faults_are_one, schedules_are_one};
 pub use lines::{Line, Lines};
 pub use members::Members;
-pub use parse::parse_schedule;
+pub use one_line::nodes_line;
+pub use parse::{parse_schedule, read_action};
 pub use replay_fault::{ReplayCause, ReplayFault};
 pub use schedule::{Schedule, ScheduleLine};
 pub use words::Words;

@@ -16,6 +16,7 @@ use super::pending_line::finish_line;
 use super::replay_fault::{ReplayCause, ReplayFault};
 use super::schedule::{Schedule, ScheduleLine};
 use events::{Event, WorldFault};
+use mfjson::DocumentReader;
 use std::alloc::Global;
 use store::Op;
 use wire::Nodes;
@@ -57,9 +58,10 @@ fn later_lines(
     ensures { MatchResult result (λ read. SpellEach nodes (filter is_filled lines.entry) read.items)
         (IsLaterRefusal nodes (filter is_filled lines.entry)) }
 {
+    let mut documents = DocumentReader::new(alloc);
     let mut read = Vec::new(alloc);
     while let Some(line) = lines.next() {
-        let action = action_of(alloc, nodes, line)?;
+        let action = action_of(alloc, &mut documents, nodes, line)?;
         keep(
             &mut read,
             ScheduleLine {
@@ -72,11 +74,16 @@ fn later_lines(
 }
 
 /// The action that the line spells.
-fn action_of(alloc: Global, nodes: Nodes, line: Line) -> Result<Action, ReplayFault>
+fn action_of(
+    alloc: Global,
+    documents: &mut DocumentReader,
+    nodes: Nodes,
+    line: Line,
+) -> Result<Action, ReplayFault>
     ensures { MatchResult result (Spells nodes line.entry.text.now)
         (IsLineRefusal nodes (entry_of line.entry)) }
 {
-    match read_action(alloc, nodes, line.text) {
+    match line_action(alloc, documents, nodes, line.text) {
         Ok(action) => Ok(action),
         Err(cause) => Err(ReplayFault {
             line: line.number,
@@ -85,12 +92,26 @@ fn action_of(alloc: Global, nodes: Nodes, line: Line) -> Result<Action, ReplayFa
     }
 }
 
-/// The action that the text of a line spells.
-fn read_action(alloc: Global, nodes: Nodes, text: &[u8]) -> Result<Action, ReplayCause>
+/// The action that the text of a line after the first spells, in a run of so many nodes; else the lowest of its faults.
+///
+/// `WorldFault::Memory` comes where a growth was refused.
+pub fn read_action(alloc: Global, nodes: Nodes, text: &[u8]) -> Result<Action, ReplayCause>
+    ensures { MatchResult result (Spells nodes text.now) (IsUnreadFor nodes text.now) }
+{
+    line_action(alloc, &mut DocumentReader::new(alloc), nodes, text)
+}
+
+/// The same, where documents were read before.
+fn line_action(
+    alloc: Global,
+    documents: &mut DocumentReader,
+    nodes: Nodes,
+    text: &[u8],
+) -> Result<Action, ReplayCause>
     ensures { MatchResult result (Spells nodes text.now) (IsUnreadFor nodes text.now) }
 {
     match later_line(nodes, text) {
-        Ok(unread) => finish_line(alloc, nodes, unread),
+        Ok(unread) => finish_line(alloc, documents, nodes, unread),
         Err(fault) => Err(ReplayCause::Schedule(fault)),
     }
 }

@@ -13,8 +13,8 @@ use super::members::Members;
 use super::replay_fault::ReplayCause;
 use super::words::Words;
 use events::{Event, WorldFault};
-use mfjson::{Feature, MfFault};
-use sessions::Number;
+use mfjson::{DocumentReader, Feature, MfFault};
+use sessions::{Number, Submission};
 use std::alloc::Global;
 use store::Op;
 use wire::{NodeId, Nodes};
@@ -49,6 +49,7 @@ pub(crate) enum PendingLine<'a> {
 /// The action, with its document or its members read.
 pub(crate) fn finish_line(
     alloc: Global,
+    documents: &mut DocumentReader,
     nodes: Nodes,
     unread: PendingLine,
 ) -> Result<Action, ReplayCause>
@@ -56,12 +57,14 @@ pub(crate) fn finish_line(
 {
     match unread {
         PendingLine::Whole(action) => Ok(action),
-        PendingLine::Put(putting) => match feature_of(alloc, putting.document) {
+        PendingLine::Put(putting) => match feature_of(alloc, documents, putting.document) {
             Ok(feature) => Ok(Action::Step(Event::Submit {
                 node: putting.node,
-                client: putting.client,
-                number: putting.number,
-                op: Op::Put(feature.id, feature.seq),
+                submission: Submission {
+                    client: putting.client,
+                    number: putting.number,
+                    op: Op::Put(feature.id, feature.seq),
+                },
             })),
             Err(cause) => Err(cause),
         },
@@ -76,10 +79,14 @@ pub(crate) fn finish_line(
 }
 
 /// The feature that the document stands for.
-fn feature_of(alloc: Global, document: &[u8]) -> Result<Feature, ReplayCause>
+fn feature_of(
+    alloc: Global,
+    documents: &mut DocumentReader,
+    document: &[u8],
+) -> Result<Feature, ReplayCause>
     ensures { MatchResult result (IsDocumentOf document.now) (DocumentWasRefused document.now) }
 {
-    match mfjson::read(alloc, document) {
+    match documents.read(alloc, document) {
         Ok(feature) => Ok(feature),
         Err(fault) => match fault {
             MfFault::Memory => Err(ReplayCause::World(WorldFault::Memory)),

@@ -14,7 +14,7 @@ use super::keyword::{Operation, operation_of};
 use super::pending_line::{PendingLine, Putting};
 use super::words::Words;
 use events::Event;
-use sessions::Number;
+use sessions::{Number, Submission};
 use store::Op;
 use tpoint::Point;
 use wire::{NodeId, Nodes};
@@ -186,12 +186,14 @@ fn asker_of(nodes: Nodes, words: AskerWords) -> Option<Asker>
 /// What the client asks for, submitted.
 fn submitted<'a>(asker: Asker, op: Op) -> PendingLine<'a>
     ensures { result ≡ PendingLine.Whole (Action.Step
-        (Event.Submit asker.node asker.client asker.number op)) }
+        (Event.Submit asker.node (record { client = asker.client; number = asker.number; op = op }))) }
 {
     PendingLine::Whole(Action::Step(Event::Submit {
         node: asker.node,
-        client: asker.client,
-        number: asker.number,
-        op,
+        submission: Submission {
+            client: asker.client,
+            number: asker.number,
+            op,
+        },
     }))
 }

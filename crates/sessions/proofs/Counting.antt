@@ -3,7 +3,7 @@ use Rattle.std.proofs.Common.{◌≡◌, ◌≢◌, ℕ, zero, suc, ◌-◌, ◌
 use Rattle.std.proofs.Common.{if◌then◌else◌, refl, sym, ◌∙◌, subst, arith}
 use Rattle.std.proofs.lemmas.Grind.{common_steps}
 use Rattle.std.proofs.lemmas.Bool.Decides.{nat_tests}
-use Rattle.sessions.specs.Asked.{Asked}
+use Rattle.sessions.specs.declared.submission.Submission.{Submission}
 use Rattle.sessions.specs.declared.command.Command.{Command}
 use Rattle.sessions.specs.declared.command.Command.TheVariants.{NoOp, Request}
 use Rattle.sessions.specs.Meaning.{IsRequestAt, HasCounted, IsNext, LabellingIsLawful}
@@ -70,12 +70,12 @@ pub counted_or_not : (b : Bool) → (b ≡ true) ⊎ (b ≡ false)
 counted_or_not true = inl refl
 counted_or_not false = inr refl
 
-request_or_not : (o : Option Command) → ((r : Asked) × (o ≡ Some (Request r))) ⊎ ((r : Asked) → o ≡ Some (Request r) → ⊥)
+request_or_not : (o : Option Command) → ((r : Submission) × (o ≡ Some (Request r))) ⊎ ((r : Submission) → o ≡ Some (Request r) → ⊥)
 request_or_not None = inr (λ r e. cc)
 request_or_not (Some NoOp) = inr (λ r e. cc)
 request_or_not (Some (Request r)) = inl (r, refl)
 
-same_request : (o : Option Command) (q r : Asked) → o ≡ Some (Request q) → o ≡ Some (Request r) → q ≡ r
+same_request : (o : Option Command) (q r : Submission) → o ≡ Some (Request q) → o ≡ Some (Request r) → q ≡ r
 same_request o q r e f = cc
 
 -- a place below a greater bound
@@ -94,7 +94,7 @@ sooner l p n client number c = record {
 -- one that counts is the last below a bound, or is below a lesser one
 last_or_sooner : (l : List Command) (p : ℕ → Bool) (n client number : ℕ) → HasCounted l p (suc n) client number
     → (HasCounted l p n client number → ⊥)
-    → (p n ≡ true) × ((r : Asked) × (IsRequestAt l n r × (r.client ≡ client) × (r.number ≡ number)))
+    → (p n ≡ true) × ((r : Submission) × (IsRequestAt l n r × (r.client ≡ client) × (r.number ≡ number)))
 last_or_sooner l p n client number c none =
     elim (same_number c.place n) [
       | inl e ↦ (
@@ -129,12 +129,12 @@ here_or_not l p n client number none = elim (counted_or_not (p n)) [
         })
         | inr other ↦ inr (λ (c : HasCounted l p (suc n) client number).
             let last = last_or_sooner l p n client number c none in
-            other (subst (λ (q : Asked). q.number ≡ number) (same_request (slice_get l n) last.1.0 r last.1.1.0 there)
+            other (subst (λ (q : Submission). q.number ≡ number) (same_request (slice_get l n) last.1.0 r last.1.1.0 there)
             last.1.1.2))
       ]
       | inr other ↦ inr (λ (c : HasCounted l p (suc n) client number).
           let last = last_or_sooner l p n client number c none in
-          other (subst (λ (q : Asked). q.client ≡ client) (same_request (slice_get l n) last.1.0 r last.1.1.0 there)
+          other (subst (λ (q : Submission). q.client ≡ client) (same_request (slice_get l n) last.1.0 r last.1.1.0 there)
           last.1.1.1))
     ]
     | inr nothing ↦ inr (λ (c : HasCounted l p (suc n) client number).
@@ -153,7 +153,7 @@ has_counted_or_not l p (suc n) client number = elim (has_counted_or_not l p n cl
   | inr none ↦ here_or_not l p n client number none
 ]
 
-in_turn_or_not : (l : List Command) (p : ℕ → Bool) (i : ℕ) (r : Asked)
+in_turn_or_not : (l : List Command) (p : ℕ → Bool) (i : ℕ) (r : Submission)
     → OrNot ((r.number ≡ 1) ⊎ HasCounted l p i r.client (r.number - 1))
 in_turn_or_not l p i r = elim (same_number r.number 1) [
   | inl first ↦ inl (inl first)
@@ -168,12 +168,12 @@ is_next_or_not : (l : List Command) (p : ℕ → Bool) (i : ℕ) → OrNot (IsNe
 is_next_or_not l p i = elim (request_or_not (slice_get l i)) [
   | inl (r, there) ↦ elim (has_counted_or_not l p i r.client r.number) [
     | inl again ↦ inr (λ (n : IsNext l p i).
-        n.once (subst (λ (q : Asked). HasCounted l p i q.client q.number)
+        n.once (subst (λ (q : Submission). HasCounted l p i q.client q.number)
         (same_request (slice_get l i) r n.request there n.there) again))
     | inr once ↦ elim (in_turn_or_not l p i r) [
       | inl turn ↦ inl (record { request = r; there = there; once = once; in_turn = turn })
       | inr early ↦ inr (λ (n : IsNext l p i).
-          early (subst (λ (q : Asked). (q.number ≡ 1) ⊎ HasCounted l p i q.client (q.number - 1))
+          early (subst (λ (q : Submission). (q.number ≡ 1) ⊎ HasCounted l p i q.client (q.number - 1))
           (sym (same_request (slice_get l i) r n.request there n.there)) n.in_turn))
     ]
   ]

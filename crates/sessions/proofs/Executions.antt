@@ -9,7 +9,7 @@ use Rattle.store.specs.declared.query.Query.{Query}
 use Rattle.store.proofs.OneAnswer.{answer_one}
 use Rattle.store.proofs.DatabaseLemmas.{none_database, effect_database}
 use Rattle.store.proofs.ValidLemmas.{none_valid, effect_valid}
-use Rattle.sessions.specs.Asked.{Asked}
+use Rattle.sessions.specs.declared.submission.Submission.{Submission}
 use Rattle.sessions.specs.declared.command.Command.{Command}
 use Rattle.sessions.specs.declared.command.Command.TheVariants.{NoOp, Request}
 use Rattle.sessions.specs.Meaning.{Database, empty, HasCounted, IsNext, IsRequestAt, Execution, IsReply, RepliesAt, RequestsAreValid, Answers}
@@ -35,7 +35,7 @@ database_behind l i =
     let more : suc i ≡ i + 1 = omega arith in
     subst (λ n. databases l n ≡ step (labelling l i) (slice_get l i) (databases l i)) more refl
 
-counted_step : (l : List Command) (i : ℕ) (r : Asked) → labelling l i ≡ true → IsRequestAt l i r →
+counted_step : (l : List Command) (i : ℕ) (r : Submission) → labelling l i ≡ true → IsRequestAt l i r →
     databases l (i + 1) ≡ effect (databases l i) r.op
 unfolding step
 counted_step l i r counted there = database_behind l i ∙ (λ j. step (counted j) (there j) (databases l i))
@@ -88,7 +88,7 @@ module _ (l : List Command) (e f : Execution l) where
   counted_back below client number =
       has_counted_by l f.counts e.counts below client number (λ i h. sym (same_counts i))
 
-  same_code : (i : ℕ) (r : Asked) (a b : ℕ) → IsReply e i r a → IsReply f i r b → a ≡ b
+  same_code : (i : ℕ) (r : Submission) (a b : ℕ) → IsReply e i r a → IsReply f i r b → a ≡ b
   same_code i r a b p q = elim (has_counted_or_not l e.counts (i + 1) r.client r.number) [
     | inl c ↦ elim (has_counted_or_not l e.counts (i + 1) r.client (r.number + 1)) [
       | inl d ↦
@@ -103,14 +103,14 @@ module _ (l : List Command) (e f : Execution l) where
     | inr none ↦ p.gap none ∙ sym (q.gap (λ c. none (counted_back (i + 1) r.client r.number c)))
   ]
 
-same_requests : (l : List Command) (i : ℕ) (r q : Asked) → IsRequestAt l i r → IsRequestAt l i q → r ≡ q
+same_requests : (l : List Command) (i : ℕ) (r q : Submission) → IsRequestAt l i r → IsRequestAt l i q → r ≡ q
 same_requests l i r q e f = let same : Some (Request r) ≡ Some (Request q) = sym e ∙ f in cc
 
-pub one_reply : (l : List Command) (i : ℕ) (r q : Asked) (a b : ℕ) → RepliesAt l i r a → RepliesAt l i q b → a ≡ b
+pub one_reply : (l : List Command) (i : ℕ) (r q : Submission) (a b : ℕ) → RepliesAt l i r a → RepliesAt l i q b → a ≡ b
 one_reply l i r q a b p s =
     let there : r ≡ q = same_requests l i r q p.there s.there in
     same_code l p.execution s.execution i r a b p.reply
-    (subst (λ (x : Asked). IsReply s.execution i x b) (sym there) s.reply)
+    (subst (λ (x : Submission). IsReply s.execution i x b) (sym there) s.reply)
 
 -- ---- each place has a database
 module _ (l : List Command) (e : Execution l) where

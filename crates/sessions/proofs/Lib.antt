@@ -1,5 +1,6 @@
 pub mod Counting
 pub mod Executions
+pub mod Agreements
 pub mod Longer
 pub mod Turns
 pub mod Standing

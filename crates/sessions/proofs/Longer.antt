@@ -6,7 +6,7 @@ use Rattle.std.proofs.lemmas.Bool.Decides.{nat_tests}
 use Rattle.std.proofs.lemmas.List.{length_push}
 use Rattle.std.proofs.lemmas.Option.{slice_get_within}
 use Rattle.store.specs.Operations.{effect}
-use Rattle.sessions.specs.Asked.{Asked}
+use Rattle.sessions.specs.declared.submission.Submission.{Submission}
 use Rattle.sessions.specs.declared.command.Command.{Command}
 use Rattle.sessions.specs.declared.command.Command.TheVariants.{Request}
 use Rattle.sessions.specs.Meaning.{Database, HasCounted, IsNext, IsRequestAt, Execution}
@@ -26,7 +26,7 @@ get-push_last (y ∷ l) x = get-push_last l x
 -- ---- how it is executed
 -- the command counts behind the list
 pub record IsTurn {l : List Command} (e : Execution l) (c : Command) : Type 0 where
-  pub request : Asked
+  pub request : Submission
   pub is : c ≡ Request request
   pub once : HasCounted l e.counts (length l) request.client request.number → ⊥
   pub in_turn : (request.number ≡ 1) ⊎ HasCounted l e.counts (length l) request.client (request.number - 1)
@@ -60,14 +60,14 @@ module _ (l : List Command) (e : Execution l) (c : Command) (b : Bool) (turn : (
   in_list i h =
       let next : IsNext l e.counts i = (e.lawful i).0 h in slice_get_within l i (Request next.request) next.there
 
-  pub in_longer : (i : ℕ) (r : Asked) → IsRequestAt longer i r → i < length l + 1
+  pub in_longer : (i : ℕ) (r : Submission) → IsRequestAt longer i r → i < length l + 1
   in_longer i r there =
       let h : i < length longer = slice_get_within longer i (Request r) there in omega (arith, h, length-longer)
 
-  pub there_still : (i : ℕ) (r : Asked) → i < length l → IsRequestAt l i r → IsRequestAt longer i r
+  pub there_still : (i : ℕ) (r : Submission) → i < length l → IsRequestAt l i r → IsRequestAt longer i r
   there_still i r h there = get-push_before l c i h ∙ there
 
-  pub there_already : (i : ℕ) (r : Asked) → i < length l → IsRequestAt longer i r → IsRequestAt l i r
+  pub there_already : (i : ℕ) (r : Submission) → i < length l → IsRequestAt longer i r → IsRequestAt l i r
   there_already i r h there = sym (get-push_before l c i h) ∙ there
 
   pub counts_still : (i : ℕ) → i < length l → counts i ≡ e.counts i
@@ -187,7 +187,7 @@ module _ (l : List Command) (e : Execution l) (c : Command) (b : Bool) (turn : (
 
   -- ---- the databases
   module _ (new : Database)
-      (counted : (r : Asked) → b ≡ true → c ≡ Request r → new ≡ effect (e.before (length l)) r.op)
+      (counted : (r : Submission) → b ≡ true → c ≡ Request r → new ≡ effect (e.before (length l)) r.op)
       (passed : b ≡ false → new ≡ e.before (length l)) where
     abbrev pub before : ℕ → Database
     before = then_always e.before (length l) new
@@ -198,7 +198,7 @@ module _ (l : List Command) (e : Execution l) (c : Command) (b : Bool) (turn : (
     pub before_last : (i : ℕ) → length l < i → before i ≡ new
     before_last = then_behind e.before (length l) new
 
-    pub executes : (i : ℕ) (r : Asked) → counts i ≡ true → IsRequestAt longer i r →
+    pub executes : (i : ℕ) (r : Submission) → counts i ≡ true → IsRequestAt longer i r →
         before (i + 1) ≡ effect (before i) r.op
     executes i r h there = elim (cases_lt i (length l)) [
       | inl below ↦

@@ -6,7 +6,7 @@ use Rattle.std.specs.Prelude.{Contains}
 use Rattle.mfjson.specs.declared.feature.Feature.{Feature}
 use Rattle.store.specs.Operations.{reply}
 use Rattle.store.specs.declared.reply.Reply.{Reply}
-use Rattle.sessions.specs.Asked.{Asked}
+use Rattle.sessions.specs.declared.submission.Submission.{Submission}
 use Rattle.sessions.specs.Machines.{MachineState}
 use Rattle.sessions.specs.Meaning.{Database, HasCounted, IsNext, IsRequestAt, Execution, IsLastOf}
 use Rattle.sessions.specs.Sessions.{session_of}
@@ -133,13 +133,13 @@ bound [] = 0
 bound (NoOp ∷ l) = bound l
 bound (Request r ∷ l) = r.number + bound l
 
-within_bound : (l : List Command) (i : ℕ) (r : Asked) → IsRequestAt l i r → r.number ≤ bound l
+within_bound : (l : List Command) (i : ℕ) (r : Submission) → IsRequestAt l i r → r.number ≤ bound l
 unfolding bound
 within_bound [] i r e = absurd (cc)
 within_bound (NoOp ∷ l) zero r e = absurd (cc)
 within_bound (Request q ∷ l) zero r e =
     let same : q ≡ r = cc in
-    let number : q.number ≡ r.number = ap (λ (a : Asked). a.number) same in omega (arith, number)
+    let number : q.number ≡ r.number = ap (λ (a : Submission). a.number) same in omega (arith, number)
 within_bound (NoOp ∷ l) (suc i) r e = within_bound l i r e
 within_bound (Request q ∷ l) (suc i) r e = let le = within_bound l i r e in omega (arith, le)
 
@@ -166,7 +166,7 @@ module _ (l : List Command) (e : Execution l) (client : ℕ) where
     )
   ]
 
-  the_request : (i : ℕ) (q r : Asked) → IsRequestAt l i q → IsRequestAt l i r → q ≡ r
+  the_request : (i : ℕ) (q r : Submission) → IsRequestAt l i q → IsRequestAt l i r → q ≡ r
   the_request i q r f g = let both : Some (Request q) ≡ Some (Request r) = sym f ∙ g in cc
 
   -- a number counts at one place
@@ -180,8 +180,8 @@ module _ (l : List Command) (e : Execution l) (client : ℕ) where
         counted = c.counted;
         request = c.request;
         there = c.there;
-        of_client = c.of_client ∙ sym d.of_client ∙ sym (ap (λ (r : Asked). r.client) same);
-        of_number = c.of_number ∙ sym d.of_number ∙ sym (ap (λ (r : Asked). r.number) same);
+        of_client = c.of_client ∙ sym d.of_client ∙ sym (ap (λ (r : Submission). r.client) same);
+        of_number = c.of_number ∙ sym d.of_number ∙ sym (ap (λ (r : Submission). r.number) same);
       })
 
   one_place : (number : ℕ) (c d : Counted number) → c.place ≡ d.place

@@ -6,7 +6,7 @@ use Rattle.std.proofs.lemmas.Bool.Decides.{nat_tests}
 use Rattle.std.proofs.lemmas.List.{length_push, get_or-set_same, get_or-set_other}
 use Rattle.store.specs.Operations.{reply, effect}
 use Rattle.store.specs.Replies.{reply_code}
-use Rattle.sessions.specs.Asked.{Asked}
+use Rattle.sessions.specs.declared.submission.Submission.{Submission}
 use Rattle.sessions.specs.Machines.{MachineState, is_next, told_of, counted, after_request, reply_to_request}
 use Rattle.sessions.specs.Meaning.{Database, HasCounted, IsRequestAt, Execution, IsReply, RepliesAt, IsLastOf}
 use Rattle.sessions.specs.SessionReplies.{outcome_code}
@@ -24,7 +24,7 @@ use Rattle.sessions.proofs.Longer.{before_last, get-push_last}
 -- ---- what the machine keeps is what is kept of the longer list
 module _ (l : List Command) (e : Execution l) (c : Command) (b : Bool) (turn : (b ≡ true) ↔ IsTurn e c)
     (new : Database)
-    (applied : (r : Asked) → b ≡ true → c ≡ Request r → new ≡ effect (e.before (length l)) r.op)
+    (applied : (r : Submission) → b ≡ true → c ≡ Request r → new ≡ effect (e.before (length l)) r.op)
     (passed : b ≡ false → new ≡ e.before (length l)) where
   abbrev long : List Command
   long = longer l e c b turn
@@ -89,7 +89,7 @@ module _ (m : MachineState) (l : List Command) (s : StandsFor m l) where
   never : (false ≡ true) ↔ IsTurn so_far NoOp
   never = (λ h. absurd (cc), λ t. absurd (let h : NoOp ≡ Request t.request = t.is in cc))
 
-  no_effect : (r : Asked) → false ≡ true → NoOp ≡ Request r →
+  no_effect : (r : Submission) → false ≡ true → NoOp ≡ Request r →
       so_far.before (length l) ≡ effect (so_far.before (length l)) r.op
   no_effect r h same = absurd (cc)
 
@@ -131,7 +131,7 @@ under l counts below client number other same c = record {
   of_number = c.of_number ∙ same;
 }
 
-module _ (m : MachineState) (l : List Command) (s : StandsFor m l) (r : Asked) (from_one : 1 ≤ r.number) where
+module _ (m : MachineState) (l : List Command) (s : StandsFor m l) (r : Submission) (from_one : 1 ≤ r.number) where
   abbrev e : Execution l
   e = s.execution
 
@@ -154,11 +154,11 @@ module _ (m : MachineState) (l : List Command) (s : StandsFor m l) (r : Asked) (
     abbrev new : Database
     new = effect m.features r.op
 
-    applied : (q : Asked) → true ≡ true → Request r ≡ Request q → new ≡ effect (e.before (length l)) q.op
+    applied : (q : Submission) → true ≡ true → Request r ≡ Request q → new ≡ effect (e.before (length l)) q.op
     applied q h same =
         let request : q ≡ r = the_one l e r q same in
         ap (λ (d : Database). effect d r.op) s.features
-        ∙ sym (ap (λ (x : Asked). effect (e.before (length l)) x.op) request)
+        ∙ sym (ap (λ (x : Submission). effect (e.before (length l)) x.op) request)
 
     not_passed : true ≡ false → new ≡ e.before (length l)
     not_passed h = absurd (cc)
@@ -206,7 +206,7 @@ module _ (m : MachineState) (l : List Command) (s : StandsFor m l) (r : Asked) (
         let database : grown.before h.place ≡ m.features =
         before_still l e (Request r) true turn new applied not_passed h.place (omega (arith, there))
         ∙ ap e.before there ∙ sym s.features in
-        sym (ap (λ (d : Database). reply d h.request.op) database ∙ ap (λ (x : Asked). reply m.features x.op) request)
+        sym (ap (λ (d : Database). reply d h.request.op) database ∙ ap (λ (x : Submission). reply m.features x.op) request)
 
     abbrev session_now : Session
     session_now = record { number = r.number; reply = reply m.features r.op }
@@ -216,7 +216,7 @@ module _ (m : MachineState) (l : List Command) (s : StandsFor m l) (r : Asked) (
       | inl below ↦ let less : number < r.number = old_is_lesser n number h below in omega (arith, less)
       | inr above ↦
           let other : h.place < length l → ⊥ = λ below. absurd (omega (arith, above, below)) in
-          let same : h.request.number ≡ r.number = ap (λ (x : Asked). x.number) (is_request n r.client number h other) in
+          let same : h.request.number ≡ r.number = ap (λ (x : Submission). x.number) (is_request n r.client number h other) in
           let of_number : h.request.number ≡ number = h.of_number in
           omega (arith, same, of_number)
     ]
@@ -247,7 +247,7 @@ module _ (m : MachineState) (l : List Command) (s : StandsFor m l) (r : Asked) (
               | inr above ↦
                   let request : h.request ≡ r =
                   is_request _ client number h (λ below. absurd (omega (arith, above, below))) in
-                  absurd (other (sym h.of_client ∙ ap (λ (x : Asked). x.client) request))
+                  absurd (other (sym h.of_client ∙ ap (λ (x : Submission). x.client) request))
             ]) (s.sessions client))
       ]
 
@@ -276,7 +276,7 @@ module _ (m : MachineState) (l : List Command) (s : StandsFor m l) (r : Asked) (
       λ t. let h : is_next o r.number ≡ true = (turn_of l e r o (s.sessions r.client) from_one).1 t in sym not_next ∙ h,
     )
 
-    not_applied : (q : Asked) → false ≡ true → Request r ≡ Request q →
+    not_applied : (q : Submission) → false ≡ true → Request r ≡ Request q →
         e.before (length l) ≡ effect (e.before (length l)) q.op
     not_applied q h same = absurd (cc)
 

@@ -3,7 +3,7 @@ use Rattle.std.proofs.Common.{◌≡◌, ℕ, zero, suc, ◌+◌, ◌-◌, ◌<�
 use Rattle.std.proofs.Common.{ap, ◌∙◌, subst, arith, eqb-true}
 use Rattle.std.proofs.lemmas.Bool.{cases_lt}
 use Rattle.std.proofs.lemmas.Bool.Decides.{nat_tests}
-use Rattle.sessions.specs.Asked.{Asked}
+use Rattle.sessions.specs.declared.submission.Submission.{Submission}
 use Rattle.sessions.specs.Machines.{is_next}
 use Rattle.sessions.specs.Meaning.{HasCounted, IsNext, IsRequestAt, Execution}
 use Rattle.sessions.specs.Standing.{IsKeptOf}
@@ -33,8 +33,8 @@ module _ (l : List Command) (e : Execution l) (client : ℕ) where
   one_before number c =
       let next : IsNext l e.counts c.place = (e.lawful c.place).0 c.counted in
       let same : next.request ≡ c.request = the_request next.request c.request next.there c.there in
-      let of_number : next.request.number ≡ number = ap (λ (r : Asked). r.number) same ∙ c.of_number in
-      let of_client : next.request.client ≡ client = ap (λ (r : Asked). r.client) same ∙ c.of_client in
+      let of_number : next.request.number ≡ number = ap (λ (r : Submission). r.number) same ∙ c.of_number in
+      let of_client : next.request.client ≡ client = ap (λ (r : Submission). r.client) same ∙ c.of_client in
       elim next.in_turn [
         | inl first ↦ inl (sym of_number ∙ first)
         | inr follows ↦ inr (sooner c.place (number - 1) (omega (arith, c.earlier))
@@ -42,7 +42,7 @@ module _ (l : List Command) (e : Execution l) (client : ℕ) where
             (subst (λ k. HasCounted l e.counts c.place k (next.request.number - 1)) of_client follows)))
       ]
     where
-      the_request : (q r : Asked) → IsRequestAt l c.place q → IsRequestAt l c.place r → q ≡ r
+      the_request : (q r : Submission) → IsRequestAt l c.place q → IsRequestAt l c.place r → q ≡ r
       the_request q r f g = let both : Some (Request q) ≡ Some (Request r) = sym f ∙ g in cc
 
   -- and so has each lesser number
@@ -59,8 +59,8 @@ module _ (l : List Command) (e : Execution l) (client : ℕ) where
       each_before (last - number) number h (subst Counted (omega (arith, k)) c)
 
 -- ---- whose turn it is
-module _ (l : List Command) (e : Execution l) (r : Asked) where
-  pub the_one : (q : Asked) → Request r ≡ Request q → q ≡ r
+module _ (l : List Command) (e : Execution l) (r : Submission) where
+  pub the_one : (q : Submission) → Request r ≡ Request q → q ≡ r
   the_one q h = cc
 
   pub turn_of : (o : Option Session) → IsKeptOf e r.client o → 1 ≤ r.number →
@@ -80,10 +80,10 @@ module _ (l : List Command) (e : Execution l) (r : Asked) where
           let same : t.request ≡ r = the_one t.request t.is in
           elim t.in_turn [
             | inl first ↦
-                let one : r.number ≡ 1 = sym (ap (λ (q : Asked). q.number) same) ∙ first in grind (arith, nat_tests, one)
+                let one : r.number ≡ 1 = sym (ap (λ (q : Submission). q.number) same) ∙ first in grind (arith, nat_tests, one)
             | inr follows ↦
                 absurd (none (r.number - 1)
-                (subst (λ (q : Asked). HasCounted l e.counts (length l) q.client (q.number - 1)) same follows))
+                (subst (λ (q : Submission). HasCounted l e.counts (length l) q.client (q.number - 1)) same follows))
           ]
   turn_of (Some s) kept from_one = (forth, back)
     where
@@ -102,18 +102,18 @@ module _ (l : List Command) (e : Execution l) (r : Asked) where
       back t =
           let same : t.request ≡ r = the_one t.request t.is in
           let once : HasCounted l e.counts (length l) r.client r.number → ⊥ =
-          subst (λ (q : Asked). HasCounted l e.counts (length l) q.client q.number → ⊥) same t.once in
+          subst (λ (q : Submission). HasCounted l e.counts (length l) q.client q.number → ⊥) same t.once in
           let above : s.number < r.number = elim (cases_lt s.number r.number) [
             | inl below ↦ below
             | inr above ↦ absurd (once (each_lesser l e r.client r.number s.number from_one above kept.counted))
           ] in
           let next : r.number ≡ s.number + 1 = elim t.in_turn [
             | inl first ↦
-                let one : r.number ≡ 1 = sym (ap (λ (q : Asked). q.number) same) ∙ first in omega (arith, one, above)
+                let one : r.number ≡ 1 = sym (ap (λ (q : Submission). q.number) same) ∙ first in omega (arith, one, above)
             | inr follows ↦
                 let h : r.number - 1 ≤ s.number =
                 kept.last (r.number - 1)
-                (subst (λ (q : Asked). HasCounted l e.counts (length l) q.client (q.number - 1)) same follows) in
+                (subst (λ (q : Submission). HasCounted l e.counts (length l) q.client (q.number - 1)) same follows) in
                 omega (arith, h, above)
           ] in
           grind (arith, nat_tests, next)

@@ -1,4 +1,4 @@
-pub mod Asked
+pub mod Requests
 pub mod Same
 pub mod Meaning
 pub mod SessionReplies

@@ -5,7 +5,7 @@ use Rattle.store.specs.Features.{IsDatabase}
 use Rattle.store.specs.Operations.{reply, effect, TakesNoMemory as OpTakesNoMemory}
 use Rattle.store.specs.declared.reply.Reply.{Reply}
 use Rattle.store.specs.declared.reply.Reply.TheVariants.{Done}
-use Rattle.sessions.specs.Asked.{Asked}
+use Rattle.sessions.specs.declared.submission.Submission.{Submission}
 use Rattle.sessions.specs.Sessions.{session_of, with_session}
 use Rattle.sessions.specs.declared.command.Command.{Command}
 use Rattle.sessions.specs.declared.command.Command.TheVariants.{NoOp, Request}
@@ -41,20 +41,20 @@ told_of (Some session) number =
     if nat_lt session.number number then Gap else (if nat_lt number session.number then Past else Applied session.reply)
 
 -- ---- a command is executed
-abbrev pub counts_next : MachineState → Asked → Bool
+abbrev pub counts_next : MachineState → Submission → Bool
 counts_next m r = is_next (session_of m.sessions r.client) r.number
 
 -- the operation is applied, and its reply kept
-abbrev pub counted : MachineState → Asked → MachineState
+abbrev pub counted : MachineState → Submission → MachineState
 counted m r = record {
   features = effect m.features r.op;
   sessions = with_session m.sessions r.client (record { number = r.number; reply = reply m.features r.op });
 }
 
-abbrev pub after_request : MachineState → Asked → MachineState
+abbrev pub after_request : MachineState → Submission → MachineState
 after_request m r = if counts_next m r then counted m r else m
 
-abbrev pub reply_to_request : MachineState → Asked → SessionReply
+abbrev pub reply_to_request : MachineState → Submission → SessionReply
 reply_to_request m r =
     if counts_next m r then Applied (reply m.features r.op) else told_of (session_of m.sessions r.client) r.number
 
@@ -67,7 +67,7 @@ reply_to_command m NoOp = Applied Done
 reply_to_command m (Request r) = reply_to_request m r
 
 -- ---- what takes no memory: a no-op, a request that doesn't count, and one whose operation takes none
-abbrev pub RequestTakesNoMemory : MachineState → Asked → Type 0
+abbrev pub RequestTakesNoMemory : MachineState → Submission → Type 0
 RequestTakesNoMemory m r = counts_next m r ≡ true → OpTakesNoMemory m.features r.op
 
 abbrev pub TakesNoMemory : MachineState → Command → Type 0

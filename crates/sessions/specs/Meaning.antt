@@ -7,7 +7,7 @@ use Rattle.store.specs.Operations.{reply, effect, OpIsValid}
 use Rattle.store.specs.Replies.{reply_code}
 use Rattle.store.specs.declared.query.Query.{Query}
 use Rattle.store.specs.declared.reply.Reply.{Reply}
-use Rattle.sessions.specs.Asked.{Asked}
+use Rattle.sessions.specs.declared.submission.Submission.{Submission}
 use Rattle.sessions.specs.declared.command.Command.{Command}
 use Rattle.sessions.specs.declared.command.Command.TheVariants.{Request}
 
@@ -21,7 +21,7 @@ empty = []
 
 -- ---- which places of a list count
 -- this request stands at the place
-abbrev pub IsRequestAt : List Command → ℕ → Asked → Type 0
+abbrev pub IsRequestAt : List Command → ℕ → Submission → Type 0
 IsRequestAt l i r = slice_get l i ≡ Some (Request r)
 
 -- below some place there is one that counts, with a request of the client under the number
@@ -29,7 +29,7 @@ pub record HasCounted (l : List Command) (counts : ℕ → Bool) (below client n
   pub place : ℕ
   pub earlier : place < below
   pub counted : counts place ≡ true
-  pub request : Asked
+  pub request : Submission
   pub there : IsRequestAt l place request
   pub of_client : request.client ≡ client
   pub of_number : request.number ≡ number
@@ -37,7 +37,7 @@ pub record HasCounted (l : List Command) (counts : ℕ → Bool) (below client n
 -- a request stands at the place that has not counted before it, and it is its client's number 1, or the number before
 -- its own has counted
 pub record IsNext (l : List Command) (counts : ℕ → Bool) (i : ℕ) : Type 0 where
-  pub request : Asked
+  pub request : Submission
   pub there : IsRequestAt l i request
   pub once : HasCounted l counts i request.client request.number → ⊥
   pub in_turn : (request.number ≡ 1) ⊎ HasCounted l counts i request.client (request.number - 1)
@@ -53,12 +53,12 @@ pub record Execution (l : List Command) : Type 0 where
   -- the database before each place
   pub before : ℕ → Database
   pub starts : before 0 ≡ empty
-  pub executes : (i : ℕ) (r : Asked) → counts i ≡ true → IsRequestAt l i r → before (i + 1) ≡ effect (before i) r.op
+  pub executes : (i : ℕ) (r : Submission) → counts i ≡ true → IsRequestAt l i r → before (i + 1) ≡ effect (before i) r.op
   pub passes : (i : ℕ) → counts i ≡ false → before (i + 1) ≡ before i
 
 -- ---- replies
 -- the reply to the request at a place
-pub record IsReply {l : List Command} (e : Execution l) (i : ℕ) (r : Asked) (code : ℕ) : Type 0 where
+pub record IsReply {l : List Command} (e : Execution l) (i : ℕ) (r : Submission) (code : ℕ) : Type 0 where
   -- its number is the client's last that has counted: what the database replied where it did
   pub kept : (c : HasCounted l e.counts (i + 1) r.client r.number)
       → (HasCounted l e.counts (i + 1) r.client (r.number + 1) → ⊥)
@@ -70,7 +70,7 @@ pub record IsReply {l : List Command} (e : Execution l) (i : ℕ) (r : Asked) (c
   pub gap : (HasCounted l e.counts (i + 1) r.client r.number → ⊥) → code ≡ 32
 
 -- this request stands at the place, and this is the reply to it
-pub record RepliesAt (l : List Command) (i : ℕ) (r : Asked) (code : ℕ) : Type 0 where
+pub record RepliesAt (l : List Command) (i : ℕ) (r : Submission) (code : ℕ) : Type 0 where
   pub there : IsRequestAt l i r
   pub execution : Execution l
   pub reply : IsReply execution i r code
@@ -95,4 +95,4 @@ pub record Answers (l : List Command) (query : Query) (text : List ℕ) : Type 0
 
 -- what each request of the list brings is valid: the sequence of a Put, and the coordinates of an Append
 pub record RequestsAreValid (l : List Command) : Type 0 where
-  pub each : (i : ℕ) (r : Asked) → IsRequestAt l i r → OpIsValid r.op
+  pub each : (i : ℕ) (r : Submission) → IsRequestAt l i r → OpIsValid r.op

@@ -5,38 +5,38 @@ use Rattle.std.specs.Cmp.{IsEquivalence, decided, unsigned_Decides}
 use Rattle.std.proofs.Common.{ap}
 use Rattle.std.proofs.lemmas.Bool.Decides.{Decides-and}
 use Rattle.store.specs.Same.{same_op, same_op_Decides}
-use Rattle.sessions.specs.Asked.{Asked}
+use Rattle.sessions.specs.declared.submission.Submission.{Submission}
 use Rattle.sessions.specs.declared.command.Command.{Command}
 use Rattle.sessions.specs.declared.command.Command.TheVariants.{NoOp, Request}
 
-abbrev pub same_asked : Asked → Asked → Bool
-same_asked a b = nat_eq a.client b.client && (nat_eq a.number b.number && same_op a.op b.op)
+abbrev pub same_submission : Submission → Submission → Bool
+same_submission a b = nat_eq a.client b.client && (nat_eq a.number b.number && same_op a.op b.op)
 
 abbrev pub same_command : Command → Command → Bool
 same_command NoOp NoOp = true
-same_command (Request a) (Request b) = same_asked a b
+same_command (Request a) (Request b) = same_submission a b
 same_command _ _ = false
 
 -- ---- these tests tell what is equal
-same_asked_parts : (a b : Asked) → (a.client ≡ b.client) × ((a.number ≡ b.number) × (a.op ≡ b.op)) → a ≡ b
-same_asked_parts a b h = λ i. record { client = h.0 i; number = h.1.0 i; op = h.1.1 i }
+same_submission_parts : (a b : Submission) → (a.client ≡ b.client) × ((a.number ≡ b.number) × (a.op ≡ b.op)) → a ≡ b
+same_submission_parts a b h = λ i. record { client = h.0 i; number = h.1.0 i; op = h.1.1 i }
 
-pub same_asked_Decides : (a b : Asked) → Decides (same_asked a b) (a ≡ b)
-same_asked_Decides a b =
+pub same_submission_Decides : (a b : Submission) → Decides (same_submission a b) (a ≡ b)
+same_submission_Decides a b =
     let rest = Decides-and _ _ (unsigned_Decides a.number b.number) (same_op_Decides a.op b.op) in
     let parts = Decides-and _ _ (unsigned_Decides a.client b.client) rest in
-    let of_client = λ (e : a ≡ b). ap (λ (r : Asked). r.client) e in
-    let of_number = λ (e : a ≡ b). ap (λ (r : Asked). r.number) e in
-    let of_op = λ (e : a ≡ b). ap (λ (r : Asked). r.op) e in
-    (λ e. same_asked_parts a b (parts.0 e), λ e. parts.1 (of_client e, (of_number e, of_op e)))
+    let of_client = λ (e : a ≡ b). ap (λ (r : Submission). r.client) e in
+    let of_number = λ (e : a ≡ b). ap (λ (r : Submission). r.number) e in
+    let of_op = λ (e : a ≡ b). ap (λ (r : Submission). r.op) e in
+    (λ e. same_submission_parts a b (parts.0 e), λ e. parts.1 (of_client e, (of_number e, of_op e)))
 
-pub same_asked_equiv : IsEquivalence same_asked
-same_asked_equiv = decided same_asked same_asked_Decides
+pub same_submission_equiv : IsEquivalence same_submission
+same_submission_equiv = decided same_submission same_submission_Decides
 
 pub same_command_Decides : (a b : Command) → Decides (same_command a b) (a ≡ b)
 same_command_Decides NoOp NoOp = (λ _. refl, λ _. refl)
 same_command_Decides (Request a) (Request b) =
-    let parts = same_asked_Decides a b in
+    let parts = same_submission_Decides a b in
     (λ e. cc (parts.0 e), λ e. parts.1 (cc))
 same_command_Decides NoOp (Request b) = (λ e. absurd (cc), λ e. absurd (cc))
 same_command_Decides (Request a) NoOp = (λ e. absurd (cc), λ e. absurd (cc))

@@ -3,7 +3,7 @@
 ghost use Rattle.std.specs.Prelude.{◌≡◌, ℕ, List};
 ghost use Rattle.store.specs.Features.{IsDatabase};
 ghost use Rattle.store.specs.declared.query.Query.{Query};
-ghost use Rattle.sessions.specs.Asked.{Asked};
+ghost use Rattle.sessions.specs.declared.submission.Submission.{Submission};
 ghost use Rattle.sessions.specs.Machines.{MachineState, IsMachine};
 ghost use Rattle.sessions.specs.Meaning.{Execution, RepliesAt, Answers, RequestsAreValid};
 ghost use Rattle.sessions.specs.Snapshots.{IsSnapshot, MachineFits, snapshot_bytes};
@@ -23,7 +23,7 @@ pub fn one_execution()
 
 /// A list of commands has one reply at each of its places.
 pub fn one_reply_at_each_place()
-    ensures { (l : List Command) (i : ℕ) (r q : Asked) (a b : ℕ) → RepliesAt l i r a → RepliesAt l i q b → a ≡ b }
+    ensures { (l : List Command) (i : ℕ) (r q : Submission) (a b : ℕ) → RepliesAt l i r a → RepliesAt l i q b → a ≡ b }
 {}
 
 /// A list of commands has one answer to a query, byte for byte, where what its requests bring is valid: the sequence

@@ -15,10 +15,11 @@ mod laws;
 mod machine;
 mod number;
 mod request;
-mod restoring;
 mod session;
 mod session_reply;
 mod snapshot;
+mod snapshot_reader;
+mod submission;
 
 pub use command::Command;
 pub use fault::SnapFault;
@@ -32,3 +33,4 @@ pub use number::Number;
 pub use request::{MOST_PUT_POINTS, Request, TooLong};
 pub use session_reply::SessionReply;
 pub use snapshot::LONGEST_SNAPSHOT;
+pub use submission::Submission;

@@ -13,10 +13,10 @@ use crate::command::Command;
 use crate::fault::SnapFault;
 use crate::number::Number;
 use crate::request::Request;
-use crate::restoring::read_snapshot;
 use crate::session::{Session, Sessions};
 use crate::session_reply::SessionReply;
 use crate::snapshot::{LONGEST_SNAPSHOT, snapshot_text};
+use crate::snapshot_reader::read_snapshot;
 use std::alloc::{AllocError, Global};
 use std::cmp::Ordering;
 use std::marker::Model;
@@ -102,6 +102,13 @@ impl Machine {
         ensures machine { IsMachine self.now }
     {
         self.db.answer(alloc, query)
+    }
+
+    /// The database that it holds.
+    pub fn database(&self) -> &Db
+        ensures { result.now ≡ self.now.features }
+    {
+        &self.db
     }
 
     /// The snapshot text of the machine: that of each list that it stands for. It is written in one piece of memory.

@@ -2,10 +2,11 @@
 
 ghost use Rattle.std.specs.Prelude.{◌≡◌, ◌↔◌, IsTrue, IsOk, IfOk};
 ghost use Rattle.std.specs.Cmp.{partial_equiv_from_equiv};
-ghost use Rattle.sessions.specs.Asked.{IsShort, IsSameRequest};
-ghost use Rattle.sessions.specs.Same.{same_asked, same_asked_equiv};
+ghost use Rattle.sessions.specs.Requests.{IsShort, IsSameRequest};
+ghost use Rattle.sessions.specs.Same.{same_submission, same_submission_equiv};
 
 use crate::number::Number;
+use crate::submission::Submission;
 use std::alloc::AllocError;
 use std::error::Error;
 use std::fmt;
@@ -15,22 +16,16 @@ use store::Op;
 /// A request puts a sequence of at most this many instants, so that it fits into a frame.
 pub const MOST_PUT_POINTS: usize = 512;
 
-/// A client's request. It is known by its client and number alone.
+/// A client's request: a submission that fits into a frame. It is known by its client and number alone.
 pub struct Request {
-    client: u8,
-    number: Number,
-    op: Op,
+    submission: Submission,
 }
 
 // By hand, so that a crate that drops one proves nothing of what lies within.
 impl Drop for Request {
     fn drop(self) {
-        let Request {
-            client: _,
-            number: _,
-            op,
-        } = self;
-        drop(op);
+        let Request { submission } = self;
+        drop(submission);
     }
 }
 
@@ -52,15 +47,16 @@ impl fmt::Display for TooLong {
 impl Error for TooLong {}
 
 impl Model for Request {
-    ghost use Rattle.sessions.specs.Asked.{Asked, IsShort};
+    ghost use Rattle.sessions.specs.Requests.{IsShort};
+    ghost use Rattle.sessions.specs.declared.submission.Submission.{Submission};
 
-    ghost Value = { Asked };
+    ghost Value = { Submission };
 
-    ghost view = { λ r. record { client = r.client; number = r.number; op = r.op } };
+    ghost view = { λ r. r.submission };
 
-    ghost invariant = { λ r. IsShort r.op };
+    ghost invariant = { λ r. IsShort r.submission.op };
 
-    ghost inverse = { λ a. record { client = a.client; number = a.number; op = a.op } };
+    ghost inverse = { λ s. record { submission = s } };
 }
 
 impl Request {
@@ -72,21 +68,29 @@ impl Request {
         if !is_short(&op) {
             return Err(TooLong);
         }
-        Ok(Request { client, number, op })
+        let submission = Submission { client, number, op };
+        Ok(Request { submission })
+    }
+
+    /// What is asked for, by whom and under which number.
+    pub fn submission(&self) -> &Submission
+        ensures { result.now ≡ self.now }
+    {
+        &self.submission
     }
 
     /// Who asks.
     pub fn client(&self) -> u8
         ensures { result ≡ self.now.client }
     {
-        self.client
+        self.submission.client
     }
 
     /// Which of the client's requests it is.
     pub fn number(&self) -> Number
         ensures { result ≡ self.now.number }
     {
-        self.number
+        self.submission.number
     }
 
     /// What is asked for.
@@ -94,14 +98,14 @@ impl Request {
         ensures value { result.now ≡ self.now.op }
         ensures short { IsShort self.now.op }
     {
-        &self.op
+        &self.submission.op
     }
 
     /// Whether the other is known as the same request: it is of the same client, under the same number.
     pub fn is_same_request(&self, other: &Request) -> bool
         ensures { IsTrue result ↔ IsSameRequest self.now other.now }
     {
-        self.client == other.client && self.number == other.number
+        self.client() == other.client() && self.number() == other.number()
     }
 }
 
@@ -110,28 +114,26 @@ impl Clone for Request {
 
     fn clone(&self) -> Result<Request, AllocError> {
         Ok(Request {
-            client: self.client,
-            number: self.number,
-            op: self.op.clone()?,
+            submission: self.submission.clone()?,
         })
     }
 }
 
 impl PartialEq for Request {
-    ghost eq = { same_asked };
+    ghost eq = { same_submission };
 
-    ghost laws = { partial_equiv_from_equiv same_asked_equiv };
+    ghost laws = { partial_equiv_from_equiv same_submission_equiv };
 
     fn eq(&self, other: &Request) -> bool
-        ensures value { result ≡ same_asked self.now other.now }
+        ensures value { result ≡ same_submission self.now other.now }
         ensures same { IsTrue result ↔ (self.now ≡ other.now) }
     {
-        self.client == other.client && self.number == other.number && self.op == other.op
+        self.submission == other.submission
     }
 }
 
 impl Eq for Request {
-    ghost laws = { same_asked_equiv };
+    ghost laws = { same_submission_equiv };
 }
 
 /// Whether a request may ask for it.

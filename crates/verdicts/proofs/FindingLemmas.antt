@@ -10,7 +10,7 @@ use Rattle.verdicts.specs.declared.deciding.Finding.TheVariants as finding
 use Rattle.verdicts.specs.declared.lines.Told.TheVariants.{Answer}
 use Rattle.verdicts.specs.Explaining.{HasReply, HasAnswer, AnswersOne}
 use Rattle.verdicts.specs.declared.lines.Question.{Question}
-use Rattle.verdicts.proofs.Longer.{AgreeBelow}
+use Rattle.sessions.proofs.Agreements.{AgreeBelow}
 use Rattle.verdicts.proofs.ReplyLemmas.{reply_over}
 
 -- ---- lists that begin so

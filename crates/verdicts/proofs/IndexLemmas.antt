@@ -3,8 +3,8 @@ use Rattle.std.proofs.Common.{◌≡◌, ◌≢◌, ℕ, ◌⊎◌, inl, inr, Li
 use Rattle.std.proofs.lemmas.List.Elements.{Contains-push, Contains-push_cases, Contains-append_left}
 use Rattle.std.proofs.lemmas.Option.{slice_get_within, get_or_from_slice_get}
 use Rattle.std.specs.BTreeMap.{BTreeMap, Updates, get, is_at}
-use Rattle.sessions.specs.Asked.{Asked}
-use Rattle.sessions.specs.Same.{same_asked, same_asked_Decides}
+use Rattle.sessions.specs.declared.submission.Submission.{Submission}
+use Rattle.sessions.specs.Same.{same_submission, same_submission_Decides}
 use Rattle.sessions.proofs.Longer.{get-push_before, get-push_last}
 use Rattle.verdicts.specs.Indexing.{IsOf, IsAmbiguous, IsOccurrence, IsFound, key_cmp}
 use Rattle.verdicts.proofs.Keys.{key_self, key_same}
@@ -13,10 +13,10 @@ use Rattle.verdicts.specs.declared.indexing.Occurrence.{Occurrence}
 pub contains_from_get : {X : Type 0} (xs : List X) (k : ℕ) (x : X) → slice_get xs k ≡ Some x → Contains xs x
 contains_from_get xs k x e = (k, slice_get_within xs k x e, get_or_from_slice_get xs k x x e)
 
-pub is_itself : (r : Asked) → IsOf r.client r.number r
+pub is_itself : (r : Submission) → IsOf r.client r.number r
 is_itself r = record { of_client = refl; of_number = refl }
 
-pub found_first : (before : List Asked) (r : Asked) → IsFound before r.client r.number None
+pub found_first : (before : List Submission) (r : Submission) → IsFound before r.client r.number None
     → IsOccurrence (before ++ r ∷ []) r.client r.number (record { first = length before; is_ambiguous = false })
 found_first before r none = record {
   first = r;
@@ -29,10 +29,10 @@ found_first before r none = record {
   ambiguous = λ e. absurd (cc);
 }
 
-same_parts : (a b : Asked) → a.client ≡ b.client → a.number ≡ b.number → a.op ≡ b.op → a ≡ b
+same_parts : (a b : Submission) → a.client ≡ b.client → a.number ≡ b.number → a.op ≡ b.op → a ≡ b
 same_parts a b c n o = λ i. record { client = c i; number = n i; op = o i }
 
-ambiguous_still : (before : List Asked) (r : Asked) (client number : ℕ) → IsAmbiguous before client number
+ambiguous_still : (before : List Submission) (r : Submission) (client number : ℕ) → IsAmbiguous before client number
     → IsAmbiguous (before ++ r ∷ []) client number
 ambiguous_still before r client number h = record {
   one = h.one;
@@ -44,7 +44,7 @@ ambiguous_still before r client number h = record {
   differ = h.differ;
 }
 
-module _ (before : List Asked) (r : Asked) (o : Occurrence) (occ : IsOccurrence before r.client r.number o) where
+module _ (before : List Submission) (r : Submission) (o : Occurrence) (occ : IsOccurrence before r.client r.number o) where
   ambiguous_now : occ.first ≢ r → IsAmbiguous (before ++ r ∷ []) r.client r.number
   ambiguous_now differ = record {
     one = occ.first;
@@ -74,7 +74,7 @@ module _ (before : List Asked) (r : Asked) (o : Occurrence) (occ : IsOccurrence 
   }
 
 -- a request of another client or number changes nothing
-pub found_other : (before : List Asked) (r : Asked) (client number : ℕ) (o : Option Occurrence) → ¬ (IsOf client number r)
+pub found_other : (before : List Submission) (r : Submission) (client number : ℕ) (o : Option Occurrence) → ¬ (IsOf client number r)
     → IsFound before client number o → IsFound (before ++ r ∷ []) client number o
 found_other before r client number None other none = λ q there is. elim (Contains-push_cases before r q there) [
   | inl old ↦ none q old is
@@ -99,10 +99,10 @@ not_true : (t b : Bool) → b ≡ not t → b ≡ true → t ≡ true → ⊥
 not_true true b e f g = cc
 not_true false b e f g = cc
 
-pub same_or_not : (x y : Asked) (b : Bool) → b ≡ not (same_asked x y) → (b ≡ false → x ≡ y) × (b ≡ true → x ≢ y)
+pub same_or_not : (x y : Submission) (b : Bool) → b ≡ not (same_submission x y) → (b ≡ false → x ≡ y) × (b ≡ true → x ≢ y)
 same_or_not x y b e = (
-  λ f. (same_asked_Decides x y).0 (not_false (same_asked x y) b e f),
-  λ t same. not_true (same_asked x y) b e t ((same_asked_Decides x y).1 same),
+  λ f. (same_submission_Decides x y).0 (not_false (same_submission x y) b e f),
+  λ t same. not_true (same_submission x y) b e t ((same_submission_Decides x y).1 same),
 )
 
 -- ---- the index, with one request more
@@ -110,10 +110,10 @@ true_or_not : (b : Bool) → (b ≡ true) ⊎ (b ≡ false)
 true_or_not true = inl refl
 true_or_not false = inr refl
 
-abbrev key_of : Asked → ℕ × ℕ
+abbrev key_of : Submission → ℕ × ℕ
 key_of r = (r.client, r.number)
 
-module _ (before : List Asked) (r : Asked) (old new : BTreeMap (ℕ × ℕ) Occurrence) (o : Occurrence)
+module _ (before : List Submission) (r : Submission) (old new : BTreeMap (ℕ × ℕ) Occurrence) (o : Occurrence)
     (was : (client number : ℕ) → IsFound before client number (get key_cmp old (client, number)))
     (updates : Updates key_cmp old new (key_of r) (Some o))
     (now : IsOccurrence (before ++ r ∷ []) r.client r.number o) where
@@ -139,7 +139,7 @@ module _ (before : List Asked) (r : Asked) (old new : BTreeMap (ℕ × ℕ) Occu
   ]
 
 -- the same, where the key is made of numbers that are the request's
-pub indexed_by : (before : List Asked) (r : Asked) (old new : BTreeMap (ℕ × ℕ) Occurrence) (o : Occurrence) (m n : ℕ)
+pub indexed_by : (before : List Submission) (r : Submission) (old new : BTreeMap (ℕ × ℕ) Occurrence) (o : Occurrence) (m n : ℕ)
     → m ≡ r.client → n ≡ r.number
     → ((client number : ℕ) → IsFound before client number (get key_cmp old (client, number)))
     → Updates key_cmp old new (m, n) (Some o) → IsOccurrence (before ++ r ∷ []) r.client r.number o
@@ -149,7 +149,7 @@ indexed_by before r old new o m n em en was updates now client number =
     subst (λ y. Updates key_cmp old new (r.client, y) (Some o)) en (subst (λ x. Updates key_cmp old new (x, n) (Some o)) em updates) in
     indexed_more before r old new o was there now (client, number)
 
-pub found_by : (before : List Asked) (client number : ℕ) (index : BTreeMap (ℕ × ℕ) Occurrence) (m n : ℕ) (found : Option Occurrence)
+pub found_by : (before : List Submission) (client number : ℕ) (index : BTreeMap (ℕ × ℕ) Occurrence) (m n : ℕ) (found : Option Occurrence)
     → m ≡ client → n ≡ number → found ≡ get key_cmp index (m, n)
     → ((client number : ℕ) → IsFound before client number (get key_cmp index (client, number))) → IsFound before client number found
 found_by before client number index m n found em en e each =

@@ -4,7 +4,7 @@ use Rattle.std.proofs.lemmas.List.{length-append, length-map}
 use Rattle.std.proofs.lemmas.List.Elements.{All-map, All-weaker, All-nil, All-replicate}
 use Rattle.std.proofs.lemmas.Option.{slice_get-map}
 use Rattle.std.specs.Option.{option_map}
-use Rattle.sessions.specs.Asked.{Asked}
+use Rattle.sessions.specs.declared.submission.Submission.{Submission}
 use Rattle.sessions.specs.declared.command.Command.{Command}
 use Rattle.sessions.specs.declared.command.Command.TheVariants as command
 use Rattle.verdicts.specs.Explaining.{IsAmong, IsList, HasLearnt, name_of}
@@ -19,7 +19,7 @@ or_no_op (Some c) = c
 abbrev pub filled : List (Option Command) → List Command
 filled slots = map or_no_op slots
 
-among_filled : (requests : List Asked) (o : Option Command) → SlotIsAmong requests o → IsAmong requests (or_no_op o)
+among_filled : (requests : List Submission) (o : Option Command) → SlotIsAmong requests o → IsAmong requests (or_no_op o)
 among_filled requests None h = tt
 among_filled requests (Some c) h = h
 
@@ -29,7 +29,7 @@ learnt_filled slots line (c, there, named) =
     slice_get-map or_no_op slots line.slot ∙ ap (λ (o : Option (Option Command)). option_map or_no_op o) there in
     ap (λ (o : Option Command). option_map name_of o) got ∙ ap (λ n. Some n) named
 
-module _ (requests : List Asked) (size : ℕ) (learns : List LearnLine) (slots : List (Option Command))
+module _ (requests : List Submission) (size : ℕ) (learns : List LearnLine) (slots : List (Option Command))
     (forced : AreForced requests size learns slots) where
   pub filled_is_list : IsList requests size (filled slots)
   filled_is_list = record {
@@ -51,7 +51,7 @@ length_of : (size : ℕ) (x : Option Command) → length (replicate size x) ≡ 
 length_of zero x = refl
 length_of (suc size) x = ap suc (length_of size x)
 
-pub none_forced : (requests : List Asked) (size : ℕ) → AreForced requests size [] (replicate size None)
+pub none_forced : (requests : List Submission) (size : ℕ) → AreForced requests size [] (replicate size None)
 none_forced requests size = record {
   count = length_of size None;
   among = All-replicate (SlotIsAmong requests) size None tt;
@@ -91,7 +91,7 @@ free_behind [] c begins e = let h : None ≡ Some (Some c) = e in cc
 free_behind (None ∷ more) c begins e = let h : Some None ≡ Some (Some c) = e in cc
 free_behind (Some d ∷ more) c begins e = begins
 
-module _ (requests : List Asked) (size : ℕ) (learns : List LearnLine) (slots : List (Option Command)) (commands : List Command)
+module _ (requests : List Submission) (size : ℕ) (learns : List LearnLine) (slots : List (Option Command)) (commands : List Command)
     (forced : AreForced requests size learns slots) (leading : AreLeading slots commands) where
   stands_there : (i : ℕ) (c : Command) → slice_get commands i ≡ Some c → slice_get slots i ≡ Some (Some c)
   stands_there i c e =

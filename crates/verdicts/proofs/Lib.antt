@@ -3,7 +3,6 @@ pub mod IndexLemmas
 pub mod NameLemmas
 pub mod PlaceLemmas
 pub mod KnownLemmas
-pub mod Longer
 pub mod ReplyLemmas
 pub mod FindingLemmas
 pub mod VerdictLemmas

@@ -1,6 +1,6 @@
 -- Commands by name.
 use Rattle.std.proofs.Common.{◌≡◌, ◌≢◌, ℕ, List, false, None, refl, sym, ap, subst}
-use Rattle.sessions.specs.Asked.{Asked}
+use Rattle.sessions.specs.declared.submission.Submission.{Submission}
 use Rattle.sessions.specs.declared.command.Command.{Command}
 use Rattle.sessions.specs.declared.command.Command.TheVariants as command
 use Rattle.verdicts.specs.Explaining.{IsAmong, name_of}
@@ -16,7 +16,7 @@ same_client a b c d e = cc
 same_number : (a b c d : ℕ) → Request a b ≡ Request c d → b ≡ d
 same_number a b c d e = cc
 
-pub none_named : (requests : List Asked) (client number : ℕ) → IsFound requests client number None
+pub none_named : (requests : List Submission) (client number : ℕ) → IsFound requests client number None
     → (d : Command) → IsAmong requests d → name_of d ≢ Request client number
 none_named requests client number none command.NoOp among e = cc
 none_named requests client number none (command.Request r) among e = none r among (record {
@@ -27,12 +27,12 @@ none_named requests client number none (command.Request r) among e = none r amon
 same_name : (a b c d : ℕ) → a ≡ c → b ≡ d → Request a b ≡ Request c d
 same_name a b c d e f = cc
 
-module _ (requests : List Asked) (client number : ℕ) (o : Occurrence) (occ : IsOccurrence requests client number o)
+module _ (requests : List Submission) (client number : ℕ) (o : Occurrence) (occ : IsOccurrence requests client number o)
     (clear : o.is_ambiguous ≡ false) where
   no_other : (d : Command) → IsAmong requests d → name_of d ≡ Request client number → d ≡ command.Request occ.first
   no_other command.NoOp among e = absurd (let h : NoOp ≡ Request client number = e in cc)
   no_other (command.Request r) among e =
-      ap (λ (x : Asked). command.Request x) (occ.only clear r among (record {
+      ap (λ (x : Submission). command.Request x) (occ.only clear r among (record {
         of_client = same_client r.client r.number client number e;
         of_number = same_number r.client r.number client number e;
       }))
@@ -44,12 +44,12 @@ module _ (requests : List Asked) (client number : ℕ) (o : Occurrence) (occ : I
     only = no_other;
   }
 
-  pub one_named : (r : Asked) → r ≡ occ.first → IsOnly requests (Request client number) (command.Request r)
-  one_named r same = subst (λ (x : Asked). IsOnly requests (Request client number) (command.Request x)) (sym same) first_only
+  pub one_named : (r : Submission) → r ≡ occ.first → IsOnly requests (Request client number) (command.Request r)
+  one_named r same = subst (λ (x : Submission). IsOnly requests (Request client number) (command.Request x)) (sym same) first_only
 
-no_op_alone : (requests : List Asked) (d : Command) → IsAmong requests d → name_of d ≡ NoOp → d ≡ command.NoOp
+no_op_alone : (requests : List Submission) (d : Command) → IsAmong requests d → name_of d ≡ NoOp → d ≡ command.NoOp
 no_op_alone requests command.NoOp among e = refl
 no_op_alone requests (command.Request r) among e = absurd (let h : Request r.client r.number ≡ NoOp = e in cc)
 
-pub no_op_named : (requests : List Asked) → IsOnly requests NoOp command.NoOp
+pub no_op_named : (requests : List Submission) → IsOnly requests NoOp command.NoOp
 no_op_named requests = record { among = tt; named = refl; only = no_op_alone requests }

@@ -5,7 +5,7 @@ use Rattle.std.proofs.lemmas.Bool.{cases_eq}
 use Rattle.std.proofs.lemmas.List.{take_more}
 use Rattle.std.proofs.lemmas.List.Elements.{All-push, All-set, All-weaker, All-contains, All-contains_itself, Contains-push, Contains-append_left}
 use Rattle.std.specs.Option.{option_map}
-use Rattle.sessions.specs.Asked.{Asked}
+use Rattle.sessions.specs.declared.submission.Submission.{Submission}
 use Rattle.sessions.specs.declared.command.Command.{Command}
 use Rattle.verdicts.specs.Explaining.{IsAmong, IsList, HasLearnt, name_of}
 use Rattle.verdicts.specs.Placing.{IsOnly, AreForced, SlotHas, SlotIsAmong}
@@ -45,14 +45,14 @@ pub has_learnt : (l : List Command) (line : LearnLine) → HasLearnt l line
     → (c : Command) × (slice_get l line.slot ≡ Some c) × (name_of c ≡ line.name)
 has_learnt l line h = named_there (slice_get l line.slot) line.name h
 
-pub among_there : (requests : List Asked) (size : ℕ) (l : List Command) (i : ℕ) (c : Command) → IsList requests size l
+pub among_there : (requests : List Submission) (size : ℕ) (l : List Command) (i : ℕ) (c : Command) → IsList requests size l
     → slice_get l i ≡ Some c → IsAmong requests c
 among_there requests size l i c is e = All-contains (IsAmong requests) l c is.among (contains_from_get l i c e)
 
 not_both : {X : Type 0} (o : Option (Option X)) (x : X) → o ≡ Some None → o ≡ Some (Some x) → ⊥
 not_both o x e f = let h : Some None ≡ Some (Some x) = sym e ∙ f in cc
 
-module _ (requests : List Asked) (size : ℕ) (learns : List LearnLine) (slots : List (Option Command)) (line : LearnLine)
+module _ (requests : List Submission) (size : ℕ) (learns : List LearnLine) (slots : List (Option Command)) (line : LearnLine)
     (was : AreForced requests size learns slots) where
   -- the slot has this command already
   module _ (c : Command) (there : slice_get slots line.slot ≡ Some (Some c)) where
@@ -114,7 +114,7 @@ module _ (requests : List Asked) (size : ℕ) (learns : List LearnLine) (slots :
       }
 
 -- the lines so far, and the next one
-pub forced_more : (requests : List Asked) (size : ℕ) (learns : List LearnLine) (i : ℕ) (d : LearnLine) (slots : List (Option Command))
+pub forced_more : (requests : List Submission) (size : ℕ) (learns : List LearnLine) (i : ℕ) (d : LearnLine) (slots : List (Option Command))
     → i < length learns → AreForced requests size (take i learns ++ get_or learns i d ∷ []) slots
     → AreForced requests size (take (i + 1) learns) slots
 forced_more requests size learns i d slots h forced =

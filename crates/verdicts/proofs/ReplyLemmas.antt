@@ -5,7 +5,7 @@ use Rattle.std.proofs.lemmas.List.{length_push}
 use Rattle.std.proofs.lemmas.Option.{slice_get_within}
 use Rattle.std.specs.BTreeMap.{is_at}
 use Rattle.std.specs.BTreeSet.{BTreeSet, contains}
-use Rattle.sessions.specs.Asked.{Asked}
+use Rattle.sessions.specs.declared.submission.Submission.{Submission}
 use Rattle.sessions.specs.Meaning.{RepliesAt, IsRequestAt}
 use Rattle.sessions.specs.declared.command.Command.{Command}
 use Rattle.sessions.specs.declared.command.Command.TheVariants.{NoOp, Request}
@@ -18,7 +18,7 @@ use Rattle.verdicts.specs.Executing.{AreReplies}
 use Rattle.verdicts.specs.Explaining.{HasReply}
 use Rattle.verdicts.specs.Indexing.{reply_cmp}
 use Rattle.verdicts.proofs.Keys.{reply_self, reply_same}
-use Rattle.verdicts.proofs.Longer.{AgreeBelow, replies_over}
+use Rattle.sessions.proofs.Agreements.{AgreeBelow, replies_over}
 
 abbrev key : ℕ → ℕ → ℕ → (ℕ × ℕ) × ℕ
 key client number code = ((client, number), code)
@@ -64,7 +64,7 @@ module _ (before : List Command) (c : Command) where
       omega (arith, past, below, more)
 
 -- ---- a no-op has no reply
-no_request : (before : List Command) (r : Asked) → IsRequestAt (before ++ NoOp ∷ []) (length before) r → ⊥
+no_request : (before : List Command) (r : Submission) → IsRequestAt (before ++ NoOp ∷ []) (length before) r → ⊥
 no_request before r there = let e : Some NoOp ≡ Some (Request r) = sym (get-push_last before NoOp) ∙ there in cc
 
 pub no_op_more : (before : List Command) (client number code : ℕ) → HasReply (before ++ NoOp ∷ []) client number code
@@ -77,10 +77,10 @@ no_op_more before client number code h = elim (cases_lt h.slot (length before)) 
 ]
 
 -- ---- a request has one
-same_request : (a b : Asked) → Some (Request a) ≡ Some (Request b) → a ≡ b
+same_request : (a b : Submission) → Some (Request a) ≡ Some (Request b) → a ≡ b
 same_request a b e = cc
 
-module _ (before : List Command) (r : Asked) (told : ℕ) (now : RepliesAt (before ++ Request r ∷ []) (length before) r told) where
+module _ (before : List Command) (r : Submission) (told : ℕ) (now : RepliesAt (before ++ Request r ∷ []) (length before) r told) where
   abbrev with_it : List Command
   with_it = before ++ Request r ∷ []
 
@@ -96,8 +96,8 @@ module _ (before : List Command) (r : Asked) (told : ℕ) (now : RepliesAt (befo
         subst (λ i. RepliesAt with_it i h.request code) (reply_last before (Request r) client number code h past) h.replies in
         let same : h.request ≡ r = same_request h.request r (sym here.there ∙ get-push_last before (Request r)) in
         let codes : told ≡ code = one_reply with_it (length before) r h.request told code now here in
-        let clients : r.client ≡ client = ap (λ (x : Asked). x.client) (sym same) ∙ h.of_client in
-        let numbers : r.number ≡ number = ap (λ (x : Asked). x.number) (sym same) ∙ h.of_number in
+        let clients : r.client ≡ client = ap (λ (x : Submission). x.client) (sym same) ∙ h.of_client in
+        let numbers : r.number ≡ number = ap (λ (x : Submission). x.number) (sym same) ∙ h.of_number in
         inl (λ i. ((clients i, numbers i), codes i))
   ]
 
@@ -113,7 +113,7 @@ true_or_not : (b : Bool) → (b ≡ true) ⊎ (b ≡ false)
 true_or_not true = inl refl
 true_or_not false = inr refl
 
-module _ (before : List Command) (r : Asked) (told : ℕ) (old new : BTreeSet ((ℕ × ℕ) × ℕ))
+module _ (before : List Command) (r : Submission) (told : ℕ) (old new : BTreeSet ((ℕ × ℕ) × ℕ))
     (now : RepliesAt (before ++ Request r ∷ []) (length before) r told)
     (was : AreReplies before old)
     (updates : (q : (ℕ × ℕ) × ℕ) → contains reply_cmp new q ≡ cond (is_at (reply_cmp (key r.client r.number told)) q) true (contains reply_cmp old q))
@@ -167,7 +167,7 @@ no_replies set none = record {
 }
 
 -- ---- as a machine tells them
-pub request_replied : (before : List Command) (c : Command) (r : Asked) (told : SessionReply) (m n code : ℕ)
+pub request_replied : (before : List Command) (c : Command) (r : Submission) (told : SessionReply) (m n code : ℕ)
     (old new : BTreeSet ((ℕ × ℕ) × ℕ)) → c ≡ Request r → IsToldAt before c told → m ≡ r.client → n ≡ r.number
     → code ≡ outcome_code told → AreReplies before old
     → ((q : (ℕ × ℕ) × ℕ) → contains reply_cmp new q ≡ cond (is_at (reply_cmp (key m n code)) q) true (contains reply_cmp old q))

@@ -4,7 +4,7 @@ use Rattle.std.proofs.lemmas.List.{take_more}
 use Rattle.std.proofs.lemmas.List.Elements.{All-contains, All-nil, All-cons, All-weaker}
 use Rattle.std.proofs.lemmas.Option.{slice_get_within, get_or_from_slice_get}
 use Rattle.store.specs.Operations.{OpIsValid}
-use Rattle.sessions.specs.Asked.{Asked}
+use Rattle.sessions.specs.declared.submission.Submission.{Submission}
 use Rattle.sessions.specs.Meaning.{RequestsAreValid}
 use Rattle.sessions.specs.declared.command.Command.{Command}
 use Rattle.sessions.specs.declared.command.Command.TheVariants as command
@@ -57,8 +57,8 @@ positions_within learns told =
     (greatest_above (λ (x : ToldLine). position_of x.told) told)
 
 -- ---- what the known requests bring is valid
-pub known_valid : (requests : List Asked) (size : ℕ) (learns : List LearnLine) (commands : List Command)
-    → AreKnown requests size learns commands → All (λ (r : Asked). OpIsValid r.op) requests → RequestsAreValid commands
+pub known_valid : (requests : List Submission) (size : ℕ) (learns : List LearnLine) (commands : List Command)
+    → AreKnown requests size learns commands → All (λ (r : Submission). OpIsValid r.op) requests → RequestsAreValid commands
 known_valid requests size learns commands known valid = record {
   each = λ i r there.
       let taken : slice_get (take (length commands) known.list) i ≡ Some (command.Request r) =
@@ -68,11 +68,11 @@ known_valid requests size learns commands known valid = record {
       let among : Contains requests r =
       All-contains (IsAmong requests) known.list (command.Request r) known.is_list.among
       (contains_from_get known.list i (command.Request r) listed) in
-      All-contains (λ (q : Asked). OpIsValid q.op) requests r valid among;
+      All-contains (λ (q : Submission). OpIsValid q.op) requests r valid among;
 }
 
 -- ---- a verdict on the lines `learn`
-module _ (requests : List Asked) (questions : List Question) (learns : List LearnLine) (told : List ToldLine) where
+module _ (requests : List Submission) (questions : List Question) (learns : List LearnLine) (told : List ToldLine) where
   abbrev size : ℕ
   size = reach learns told
 
@@ -163,7 +163,7 @@ module _ (requests : List Asked) (questions : List Question) (learns : List Lear
     }
     later_verdict (TwoOperations client number) h = absurd h
 
-pub later_found : {E : Type 0} (requests : List Asked) (questions : List Question) (learns : List LearnLine) (told : List ToldLine)
+pub later_found : {E : Type 0} (requests : List Submission) (questions : List Question) (learns : List LearnLine) (told : List ToldLine)
     (commands : List Command) → AreKnown requests (reach learns told) learns commands → (result : Result Verdict E)
     → IfOk result (IsToldVerdict questions (reach learns told) commands told) → IfOk result (IsVerdict requests questions learns told)
 later_found requests questions learns told commands known (Ok verdict) h =

@@ -3,7 +3,7 @@
 -- A transcript doesn't say which query an answer answers. It is the answer to some `query` line for its node.
 use Rattle.std.specs.Prelude.{◌≡◌, ℕ, ◌+◌, ◌≤◌, max, List, [], ◌∷◌, length, take, slice_get, Contains, All, Some}
 use Rattle.std.specs.Option.{option_map}
-use Rattle.sessions.specs.Asked.{Asked}
+use Rattle.sessions.specs.declared.submission.Submission.{Submission}
 use Rattle.sessions.specs.Meaning.{RepliesAt, Answers}
 use Rattle.sessions.specs.declared.command.Command.{Command}
 use Rattle.sessions.specs.declared.command.Command.TheVariants as command
@@ -33,12 +33,12 @@ reach learns told =
 
 -- ---- lists
 -- a no-op, or one of the requests
-abbrev pub IsAmong : List Asked → Command → Type 0
+abbrev pub IsAmong : List Submission → Command → Type 0
 IsAmong requests command.NoOp = Unit {0}
 IsAmong requests (command.Request r) = Contains requests r
 
 -- a list has so many slots, and at each a no-op or one of the requests
-pub record IsList (requests : List Asked) (size : ℕ) (l : List Command) : Type 0 where
+pub record IsList (requests : List Submission) (size : ℕ) (l : List Command) : Type 0 where
   pub slots : length l ≡ size
   pub among : All (IsAmong requests) l
 
@@ -54,7 +54,7 @@ HasLearnt l learn = option_map name_of (slice_get l learn.slot) ≡ Some learn.n
 -- some slot has the request, and its reply there has this code
 pub record HasReply (l : List Command) (client number code : ℕ) : Type 0 where
   pub slot : ℕ
-  pub request : Asked
+  pub request : Submission
   pub of_client : request.client ≡ client
   pub of_number : request.number ≡ number
   pub replies : RepliesAt l slot request code
@@ -76,14 +76,14 @@ HasTold questions l (Restore position) = Unit {0}
 HasTold questions l Other = Unit {0}
 HasTold questions l Foreign = ⊥
 
-pub record Explains (requests : List Asked) (questions : List Question) (size : ℕ) (learns : List LearnLine) (told : List ToldLine)
+pub record Explains (requests : List Submission) (questions : List Question) (size : ℕ) (learns : List LearnLine) (told : List ToldLine)
     (l : List Command) : Type 0 where
   pub is_list : IsList requests size l
   pub learnt : All (HasLearnt l) learns
   pub others : All (λ (line : ToldLine). HasTold questions l line.told) told
 
 -- some list explains these lines
-pub record IsExplained (requests : List Asked) (questions : List Question) (size : ℕ) (learns : List LearnLine)
+pub record IsExplained (requests : List Submission) (questions : List Question) (size : ℕ) (learns : List LearnLine)
     (told : List ToldLine) : Type 0 where
   pub list : List Command
   pub explains : Explains requests questions size learns told list

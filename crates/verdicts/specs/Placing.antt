@@ -1,6 +1,6 @@
 -- What lines `learn` leave of the commands at each slot.
 use Rattle.std.specs.Prelude.{◌≡◌, ◌≢◌, ℕ, ◌<◌, ◌≤◌, List, [], ◌∷◌, ◌++◌, map, length, take, slice_get, All, Option, Some, None}
-use Rattle.sessions.specs.Asked.{Asked}
+use Rattle.sessions.specs.declared.submission.Submission.{Submission}
 use Rattle.sessions.specs.declared.command.Command.{Command}
 use Rattle.verdicts.specs.Explaining.{IsAmong, IsList, HasLearnt, name_of}
 use Rattle.verdicts.specs.Indexing.{IsAmbiguous}
@@ -16,19 +16,19 @@ use Rattle.verdicts.specs.declared.verdict.Verdict.TheVariants.{Contradicted, Tw
 
 -- ---- commands by name
 -- of no-ops and these requests, this one alone has the name
-pub record IsOnly (requests : List Asked) (wanted : Name) (c : Command) : Type 0 where
+pub record IsOnly (requests : List Submission) (wanted : Name) (c : Command) : Type 0 where
   pub among : IsAmong requests c
   pub named : name_of c ≡ wanted
   pub only : (d : Command) → IsAmong requests d → name_of d ≡ wanted → d ≡ c
 
-abbrev pub IsNamed : List Asked → Name → Named → Type 0
+abbrev pub IsNamed : List Submission → Name → Named → Type 0
 IsNamed requests wanted (Only c) = IsOnly requests wanted c
 IsNamed requests wanted Nobody = (d : Command) → IsAmong requests d → name_of d ≢ wanted
 IsNamed requests wanted (Several client number) =
     (wanted ≡ name.Request client number) × IsAmbiguous requests client number
 
 -- ---- slots
-abbrev pub SlotIsAmong : List Asked → Option Command → Type 0
+abbrev pub SlotIsAmong : List Submission → Option Command → Type 0
 SlotIsAmong requests None = Unit {0}
 SlotIsAmong requests (Some c) = IsAmong requests c
 
@@ -37,7 +37,7 @@ abbrev pub SlotHas : List (Option Command) → LearnLine → Type 0
 SlotHas slots learn = (c : Command) × (slice_get slots learn.slot ≡ Some (Some c)) × (name_of c ≡ learn.name)
 
 -- the lines leave no choice at a slot that has a command, and each line's slot has one
-pub record AreForced (requests : List Asked) (size : ℕ) (learns : List LearnLine) (slots : List (Option Command)) : Type 0 where
+pub record AreForced (requests : List Submission) (size : ℕ) (learns : List LearnLine) (slots : List (Option Command)) : Type 0 where
   pub count : length slots ≡ size
   pub among : All (SlotIsAmong requests) slots
   pub learnt : All (SlotHas slots) learns
@@ -45,7 +45,7 @@ pub record AreForced (requests : List Asked) (size : ℕ) (learns : List LearnLi
       → (i : ℕ) (c : Command) → slice_get slots i ≡ Some (Some c) → slice_get l i ≡ Some c
 
 -- a line that comes after these brings the verdict: no list explains it too, or its request has two operations
-abbrev pub IsEnd : List Asked → ℕ → List LearnLine → LearnLine → Verdict → Type 0
+abbrev pub IsEnd : List Submission → ℕ → List LearnLine → LearnLine → Verdict → Type 0
 IsEnd requests size learns line (Contradicted place why) = (place ≡ line.place)
     × ((l : List Command) → IsList requests size l → All (HasLearnt l) learns → HasLearnt l line → ⊥)
 IsEnd requests size learns line (TwoOperations client number) =
@@ -67,7 +67,7 @@ pub record AreLeading (slots : List (Option Command)) (commands : List Command) 
 
 -- each list that explains the lines begins with these commands, and some list explains them; of the slot behind the commands
 -- no line tells
-pub record AreKnown (requests : List Asked) (size : ℕ) (learns : List LearnLine) (commands : List Command) : Type 0 where
+pub record AreKnown (requests : List Submission) (size : ℕ) (learns : List LearnLine) (commands : List Command) : Type 0 where
   pub list : List Command
   pub is_list : IsList requests size list
   pub learnt : All (HasLearnt list) learns
@@ -77,7 +77,7 @@ pub record AreKnown (requests : List Asked) (size : ℕ) (learns : List LearnLin
   pub unlearnt : length commands < size → All (λ (line : LearnLine). line.slot ≢ length commands) learns
 
 -- the verdict stands whatever else is told
-pub record IsEarly (requests : List Asked) (size : ℕ) (learns : List LearnLine) (verdict : Verdict) : Type 0 where
+pub record IsEarly (requests : List Submission) (size : ℕ) (learns : List LearnLine) (verdict : Verdict) : Type 0 where
   pub before : ℕ
   pub line : LearnLine
   pub there : slice_get learns before ≡ Some line
@@ -86,6 +86,6 @@ pub record IsEarly (requests : List Asked) (size : ℕ) (learns : List LearnLine
   pub learnt : All (HasLearnt list) (take before learns)
   pub ends : IsEnd requests size (take before learns) line verdict
 
-abbrev pub IsPlaced : List Asked → ℕ → List LearnLine → Placed → Type 0
+abbrev pub IsPlaced : List Submission → ℕ → List LearnLine → Placed → Type 0
 IsPlaced requests size learns (Known commands) = AreKnown requests size learns commands.items
 IsPlaced requests size learns (Ends verdict) = IsEarly requests size learns verdict

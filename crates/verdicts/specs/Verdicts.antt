@@ -2,7 +2,7 @@
 --
 -- Their lines are taken in this order: first the lines `learn`, of one transcript after another, and then all others.
 use Rattle.std.specs.Prelude.{◌≡◌, ◌≢◌, ℕ, ◌+◌, ◌<◌, List, [], take, slice_get, Some, All, Any, Contains}
-use Rattle.sessions.specs.Asked.{Asked}
+use Rattle.sessions.specs.declared.submission.Submission.{Submission}
 use Rattle.verdicts.specs.Explaining.{IsExplained, reach}
 use Rattle.verdicts.specs.declared.lines.LearnLine.{LearnLine}
 use Rattle.verdicts.specs.declared.lines.Name.TheVariants.{Request}
@@ -16,7 +16,7 @@ use Rattle.verdicts.specs.declared.verdict.Verdict.TheVariants.{Explained, Contr
 
 -- ---- contradictions
 -- no list explains the lines up to the one at this place, and one explains those before
-pub data IsFirstContradiction (requests : List Asked) (questions : List Question) (size : ℕ) (learns : List LearnLine)
+pub data IsFirstContradiction (requests : List Submission) (questions : List Question) (size : ℕ) (learns : List LearnLine)
     (told : List ToldLine) (place : Place) : Type 0 where
   at_learn : (k : ℕ) (line : LearnLine) → slice_get learns k ≡ Some line → place ≡ line.place
       → IsExplained requests questions size (take k learns) [] → ¬ (IsExplained requests questions size (take (k + 1) learns) [])
@@ -39,10 +39,10 @@ pub record IsNeeded (size : ℕ) (learns : List LearnLine) (told : List ToldLine
   pub needed : Any (λ (line : ToldLine). RestsOn slot line.told) told
 
 -- the request was learnt, and is submitted with two operations
-pub record HasTwoOperations (requests : List Asked) (learns : List LearnLine) (client number : ℕ) : Type 0 where
+pub record HasTwoOperations (requests : List Submission) (learns : List LearnLine) (client number : ℕ) : Type 0 where
   pub learnt : Any (λ (line : LearnLine). line.name ≡ Request client number) learns
-  pub one : Asked
-  pub other : Asked
+  pub one : Submission
+  pub other : Submission
   pub one_there : Contains requests one
   pub other_there : Contains requests other
   pub one_is : (one.client ≡ client) × (one.number ≡ number)
@@ -50,7 +50,7 @@ pub record HasTwoOperations (requests : List Asked) (learns : List LearnLine) (c
   pub differ : one.op ≢ other.op
 
 -- ---- the verdict
-abbrev pub IsVerdict : List Asked → List Question → List LearnLine → List ToldLine → Verdict → Type 0
+abbrev pub IsVerdict : List Submission → List Question → List LearnLine → List ToldLine → Verdict → Type 0
 IsVerdict requests questions learns told Explained = IsExplained requests questions (reach learns told) learns told
 IsVerdict requests questions learns told (Contradicted place why) =
     IsFirstContradiction requests questions (reach learns told) learns told place

@@ -2,7 +2,7 @@
 
 ghost use Rattle.std.specs.Prelude.{◌≡◌, ◌≤◌, ◌+◌, ◌<◌, List, All, IfOk, OnOk, length};
 ghost use Rattle.store.specs.Operations.{OpIsValid};
-ghost use Rattle.sessions.specs.Asked.{Asked};
+ghost use Rattle.sessions.specs.declared.submission.Submission.{Submission};
 ghost use Rattle.sessions.specs.Meaning.{RequestsAreValid};
 ghost use Rattle.verdicts.specs.Executing.{AreReplies, IsAt, IsAnswerFinding, IsFinding, IsToldVerdict};
 ghost use Rattle.verdicts.specs.Explaining.{position_of, reach, greatest};
@@ -17,7 +17,6 @@ use crate::verdict::{Verdict, Why};
 use sessions::{Command, Request};
 use std::alloc::{AllocError, Global};
 use std::collections::BTreeSet;
-use store::Op;
 
 /// The verdict on lines of transcripts, where clients asked for these requests, and these questions.
 pub fn verdict_on(
@@ -39,25 +38,10 @@ pub fn verdict_on(
 
 // What each request brings is valid, as its type has it.
 fn recall_valid(requests: &[Request])
-    ensures { All (λ (r : Asked). OpIsValid r.op) requests.now }
+    ensures { All (λ (r : Submission). OpIsValid r.op) requests.now }
 {
     for request in requests {
-        recall_valid_op(request.op());
-    }
-}
-
-// What an operation brings is valid, as its type has it: a sequence, or a point with its coordinates in range.
-fn recall_valid_op(op: &Op)
-    ensures { OpIsValid op.now }
-{
-    match op {
-        Op::Put(_, seq) => {
-            let _interp = seq.interp();
-        }
-        Op::Append(addition) => {
-            let _point = addition.point();
-        }
-        Op::Remove(_) => {}
+        request.submission().recall_valid();
     }
 }
 

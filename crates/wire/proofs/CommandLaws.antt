@@ -8,7 +8,7 @@ use Rattle.tpoint.specs.Moving.{Sequence}
 use Rattle.tpoint.specs.declared.point.Point.{Point}
 use Rattle.store.specs.declared.op.Op.{Op}
 use Rattle.store.specs.declared.op.Op.TheVariants.{Put, Append, Remove}
-use Rattle.sessions.specs.Asked.{Asked}
+use Rattle.sessions.specs.declared.submission.Submission.{Submission}
 use Rattle.sessions.specs.declared.command.Command.{Command}
 use Rattle.sessions.specs.declared.command.Command.TheVariants.{NoOp, Request}
 use Rattle.wire.specs.declared.frames.fault.WireFault.TheVariants.{Field}
@@ -126,7 +126,7 @@ request_number_again n rest some low =
     let right : eqb n 0 ≡ false = grind (arith, nat_tests) in
     rw (first, right) refl
 
-pub request_takes : (bytes : List ℕ) (x : Asked × List ℕ) → IsBytes bytes → request_at bytes ≡ Ok x → Took request_bytes RequestFits bytes x
+pub request_takes : (bytes : List ℕ) (x : Submission × List ℕ) → IsBytes bytes → request_at bytes ≡ Ok x → Took request_bytes RequestFits bytes x
 unfolding request_at
 request_takes bytes x fits e =
     let a = bind_wide (byte_at bytes) _ x e in
@@ -137,12 +137,12 @@ request_takes bytes x fits e =
     let v = op_takes b.0.1 c.0 u.takes.rest_fits c.1 in
     let two = Takes-then a.0.1 (big_bytes 8 b.0.0) b.0.1 (op_bytes c.0.0) c.0.1 u.takes v.takes in
     let three = Takes-then bytes (a.0.0 ∷ []) a.0.1 (big_bytes 8 b.0.0 ++ op_bytes c.0.0) c.0.1 t.0 two in
-    let made : Asked = record { client = a.0.0; number = b.0.0; op = c.0.0 } in
+    let made : Submission = record { client = a.0.0; number = b.0.0; op = c.0.0 } in
     let it : Took request_bytes RequestFits bytes (made, c.0.1) =
     record { takes = three; fits = record { client = t.1; begun = u.fits.0; number = u.fits.1; op = v.fits } } in
     subst (Took request_bytes RequestFits bytes) (ok_is _ _ c.2) it
 
-pub request_again : (r : Asked) (rest : List ℕ) → RequestFits r → request_at (request_bytes r ++ rest) ≡ Ok (r, rest)
+pub request_again : (r : Submission) (rest : List ℕ) → RequestFits r → request_at (request_bytes r ++ rest) ≡ Ok (r, rest)
 unfolding request_at
 request_again r rest fits =
     let op = op_bytes r.op ++ rest in
@@ -183,7 +183,7 @@ command_takes bytes x fits e =
       ]
     ]
 
-asked_again : (r : Asked) (rest : List ℕ) → RequestFits r → asked_at (request_bytes r ++ rest) ≡ Ok (Request r, rest)
+asked_again : (r : Submission) (rest : List ℕ) → RequestFits r → asked_at (request_bytes r ++ rest) ≡ Ok (Request r, rest)
 unfolding asked_at
 asked_again r rest fits = rw (request_again r rest fits) refl
 

@@ -12,7 +12,7 @@ use Rattle.synod.specs.declared.ballot.Ballot.{Ballot}
 use Rattle.synod.specs.declared.slot.TheConstants.{SLOTS}
 use Rattle.store.specs.declared.op.Op.{Op}
 use Rattle.store.specs.declared.op.Op.TheVariants.{Put, Append, Remove}
-use Rattle.sessions.specs.Asked.{Asked}
+use Rattle.sessions.specs.declared.submission.Submission.{Submission}
 use Rattle.sessions.specs.declared.request.TheConstants.{MOST_PUT_POINTS}
 use Rattle.sessions.specs.declared.command.Command.{Command}
 use Rattle.sessions.specs.declared.command.Command.TheVariants.{NoOp, Request}
@@ -100,7 +100,7 @@ request_number_at bytes = do
   number ← wide (number_at 8 bytes)
   if number.0 == 0 then Err Field else Ok number
 
-unfoldable pub request_at : List ℕ → Read Asked
+unfoldable pub request_at : List ℕ → Read Submission
 request_at bytes = do
   client ← wide (byte_at bytes)
   number ← request_number_at client.1

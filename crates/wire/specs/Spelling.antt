@@ -7,7 +7,7 @@ use Rattle.tpoint.specs.Ids.{IsId}
 use Rattle.fields.specs.Spelling.{id_bytes, triple_bytes, TripleFits, sequence_bytes, SequenceFits}
 use Rattle.store.specs.declared.op.Op.{Op}
 use Rattle.store.specs.declared.op.Op.TheVariants.{Put, Append, Remove}
-use Rattle.sessions.specs.Asked.{Asked}
+use Rattle.sessions.specs.declared.submission.Submission.{Submission}
 use Rattle.sessions.specs.declared.request.TheConstants.{MOST_PUT_POINTS}
 use Rattle.sessions.specs.declared.command.Command.{Command}
 use Rattle.sessions.specs.declared.command.Command.TheVariants.{NoOp, Request}
@@ -43,10 +43,10 @@ OpFits (Remove id) = IsId id
 
 -- ---- commands
 -- the client in one byte, the number in eight, the operation
-abbrev pub request_bytes : Asked → List ℕ
+abbrev pub request_bytes : Submission → List ℕ
 request_bytes r = r.client ∷ (big_bytes 8 r.number ++ op_bytes r.op)
 
-pub record RequestFits (r : Asked) : Type 0 where
+pub record RequestFits (r : Submission) : Type 0 where
   pub client : r.client < 2 ^ 8
   pub begun : 1 ≤ r.number
   pub number : r.number < 2 ^ 64

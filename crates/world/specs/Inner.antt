@@ -2,7 +2,7 @@
 use Rattle.std.specs.Prelude.{◌+◌, ◌≤◌, map, vec_len, vec_capacity}
 use Rattle.node.specs.Seen.{state_of}
 use Rattle.node_model.specs.declared.outputs.TheConstants.{MOST_SENDS}
-use Rattle.proposer.specs.declared.waiting.TheConstants.{MOST_WAITING}
+use Rattle.proposer.specs.declared.queue.TheConstants.{MOST_WAITING}
 use Rattle.world_model.specs.Worlds.{WorldState}
 use Rattle.world.specs.declared.inner.Inner.{Inner}
 

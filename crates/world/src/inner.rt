@@ -24,13 +24,13 @@ use stable::{Scripted, Stable};
 use std::alloc::Global;
 use synod::{MOST_NODES, Slot};
 use wire::{Frame, NodeId, Nodes, Position, SharedCommand};
-use world_model::{Answered, LearntEntry, Replied, RoundEnd, StepOutcome, Submission};
+use world_model::{Answered, LearntEntry, Replied, RoundEnd, StepOutcome, Submitted};
 
 /// All nodes of a run, over storages of one kind.
 #[derive(Drop)]
 pub struct Inner<S> {
     pub(super) nodes: Vec<Node<Scripted<S>>>,
-    pub(super) submitted: Vec<Submission>,
+    pub(super) submitted: Vec<Submitted>,
     pub(super) frames: Vec<Frame>,
     // Which frames wait to be delivered. No frame below `lowest` waits.
     pub(super) waiting: Vec<bool>,

@@ -2,17 +2,16 @@
 
 ghost use Rattle.std.specs.Prelude.{◌≡◌, ◌≤◌, ◌<◌, ◌↔◌, length, vec_len};
 ghost use Rattle.std.specs.Prelude.{OnOk, OnErr, IsErrOf, ◌⊎◌, Bool, IfErr};
-ghost use Rattle.store.specs.Operations.{OpIsValid};
 
 use super::inner::{Inner, QUIET};
 use events::{Event, WorldFault};
 use node_model::{AnswerText, Input};
-use sessions::Number;
+use sessions::Submission;
 use stable::{Failing, Scripted, Stable};
 use std::alloc::Global;
-use store::{Op, Query};
+use store::Query;
 use wire::NodeId;
-use world_model::{Answered, StepOutcome, Submission};
+use world_model::{Answered, StepOutcome, Submitted};
 
 impl<S: Stable> Inner<S> {
     ghost use Rattle.world_model.specs.Worlds.{TakesAt, SubmitsAt, ArmsAt, AsksAt};
@@ -35,12 +34,7 @@ impl<S: Stable> Inner<S> {
             ⊎ (f ≡ WorldFault.Memory)) }
     {
         match event {
-            Event::Submit {
-                node,
-                client,
-                number,
-                op,
-            } => self.submit(alloc, node, client, number, op),
+            Event::Submit { node, submission } => self.submit(alloc, node, submission),
             Event::Deliver(frame) => self.deliver(alloc, frame),
             Event::Drop(frame) => self.drop_frame(frame),
             Event::Timeout(node) => self.input(alloc, node, Input::Timeout),
@@ -58,27 +52,25 @@ impl<S: Stable> Inner<S> {
         &mut self,
         alloc: Global,
         node: NodeId,
-        client: u8,
-        number: Number,
-        op: Op,
+        submission: Submission,
     ) -> Result<(), WorldFault>
         ensures submits { OnOk result (SubmitsAt (⟦<Scripted<S> as Stable>⟧)
-            (inner_of self.old) node (record { client = client; number = number; op = op }) (inner_of self.new)) }
+            (inner_of self.old) node submission (inner_of self.new)) }
         ensures err { OnErr result (inner_of self.new ≡ inner_of self.old) }
         ensures no_node { IsErrOf result WorldFault.NoSuchNode ↔ (length (inner_of self.old).nodes ≤ node) }
         ensures faults { IfErr result (λ f. (f ≡ WorldFault.NoSuchNode) ⊎ (f ≡ WorldFault.Memory)) }
     {
         self.find(node)?;
         self.reserve()?;
-        let copy = op.clone()?;
-        recall_valid(&copy);
-        if self.take(alloc, node, Input::Submit { client, number, op }) {
-            let _ = self.submitted.push(Submission {
-                node,
-                client,
-                number,
-                op: copy,
-            });
+        submission.recall_valid();
+        let copy = submission.clone()?;
+        let input = Input::Submit {
+            client: copy.client,
+            number: copy.number,
+            op: copy.op,
+        };
+        if self.take(alloc, node, input) {
+            let _ = self.submitted.push(Submitted { node, submission });
         }
         Ok(())
     }
@@ -213,20 +205,5 @@ impl<S: Stable> Inner<S> {
                 false
             }
         }
-    }
-}
-
-// What an operation brings is valid, as its type has it: a sequence, or a point with its coordinates in range.
-fn recall_valid(op: &Op)
-    ensures { OpIsValid op.now }
-{
-    match op {
-        Op::Put(_, seq) => {
-            let _interp = seq.interp();
-        }
-        Op::Append(addition) => {
-            let _point = addition.point();
-        }
-        Op::Remove(_) => {}
     }
 }

@@ -1,6 +1,7 @@
 //! The world: all nodes of a run, everything that happened in it, and what is promised of that.
 
-ghost use Rattle.std.specs.Prelude.{◌≡◌, ◌≤◌, ◌↔◌, ◌⊎◌, length, slice_get, vec_len, IsNone, OnOk, OnErr, IfOk, IfErr, IfSome, IsErrOf};
+ghost use Rattle.std.specs.Prelude.{◌≡◌, ◌≤◌, ◌↔◌, ◌⊎◌, length, slice_get, vec_len, IsNone, OnOk, OnErr, IfOk, IfErr, IfSome, IsErrOf, option_map};
+ghost use Rattle.std.specs.Option.{option_copied};
 ghost use Rattle.world_model.specs.Waiting.{NoneWaits, OneWaits};
 ghost use Rattle.world.specs.Inner.{inner_of};
 ghost use Rattle.world_model.specs.Safety.{IsSoundIfHonest, contents_inside, honest_inside};
@@ -12,9 +13,10 @@ use super::start::fresh_stores;
 use events::{Event, WorldFault};
 use stable::{MemStable, Put, Scripted, Stable};
 use std::alloc::Global;
+use store::Db;
 use synod::MOST_NODES;
 use wire::{Frame, NodeId, Nodes};
-use world_model::{Answered, LearntEntry, Replied, RoundEnd, StepOutcome, Submission};
+use world_model::{Answered, LearntEntry, Replied, RoundEnd, StepOutcome, Submitted};
 
 /// All nodes of a run, over storages of one kind.
 ///
@@ -84,7 +86,7 @@ impl<S: Stable + Drop> World<S> {
 
 impl<S: Stable> World<S> {
     ghost use Rattle.world.specs.Seen.{world_of};
-    ghost use Rattle.world_model.specs.Worlds.{Steps};
+    ghost use Rattle.world_model.specs.Worlds.{Steps, replica_at};
     ghost use Rattle.world_model.specs.Events.{NamesNoFrame, NamesNoNode};
     ghost use Rattle.world_model.specs.Flushing.{Delivers, DeliversSome};
     ghost use Rattle.world_model.specs.Progress.{PromisesProgress};
@@ -100,7 +102,7 @@ impl<S: Stable> World<S> {
     }
 
     /// The requests that nodes took.
-    pub fn submitted(&self) -> &[Submission]
+    pub fn submitted(&self) -> &[Submitted]
         ensures { result.now ≡ (world_of self.now).submitted }
     {
         self.inner.submitted.as_slice()
@@ -111,6 +113,13 @@ impl<S: Stable> World<S> {
         ensures { result.now ≡ (world_of self.now).frames }
     {
         self.inner.frames()
+    }
+
+    /// Which frames wait to be delivered: a flag for each, in the order of sending.
+    pub fn waiting(&self) -> &[bool]
+        ensures { result.now ≡ (world_of self.now).waiting }
+    {
+        self.inner.waiting.as_slice()
     }
 
     /// What nodes learnt.
@@ -150,6 +159,14 @@ impl<S: Stable> World<S> {
     {
         let at = self.inner.nodes.get(usize::from(node.value()))?;
         Some(at.writes())
+    }
+
+    /// The database that a node holds; None while it is down, and where the run has no such node.
+    pub fn database(&self, node: NodeId) -> Option<&Db>
+        ensures { option_copied result ≡ option_map (λ m. m.machine.features) (replica_at (world_of self.now) node) }
+    {
+        let at = self.inner.nodes.get(usize::from(node.value()))?;
+        at.database()
     }
 
     /// One atomic step. After a fault the world is as it was.

@@ -1,6 +1,5 @@
 -- What the lists tell, and the list that explains them.
 pub mod Tellings
-pub mod Longer
 pub mod Explained
 pub mod Validity
 pub mod InLog

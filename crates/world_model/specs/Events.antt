@@ -11,7 +11,7 @@ NamesNoFrame frames other = ⊥
 
 -- of so many nodes, the event names one that the run doesn't have
 abbrev pub NamesNoNode : ℕ → Event → Type 0
-NamesNoNode nodes (event.Submit node client number op) = nodes ≤ node
+NamesNoNode nodes (event.Submit node submission) = nodes ≤ node
 NamesNoNode nodes (event.Deliver k) = ⊥
 NamesNoNode nodes (event.Drop k) = ⊥
 NamesNoNode nodes (event.Timeout node) = nodes ≤ node

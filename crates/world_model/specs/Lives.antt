@@ -19,9 +19,9 @@ use Rattle.node_model.specs.Inputs.{is_for_this_run}
 use Rattle.node_model.specs.Loading.{IsMember, IsFresh, IsLoaded, IsDamaged, Restarts}
 use Rattle.node_model.specs.Nodes.{NodeState, NodeSteps, NodeAnswers, StaysMeaning, AnswersMeaning}
 use Rattle.node_model.specs.Outputs.{Response}
-use Rattle.node_model.specs.Replicas.{ReplicaState, asked, refuses}
+use Rattle.node_model.specs.Replicas.{ReplicaState, submission_of, refuses}
 use Rattle.node_model.specs.Taking.{Writes}
-use Rattle.world_model.specs.declared.lists.Submission.{Submission}
+use Rattle.world_model.specs.declared.lists.Submitted.{Submitted}
 use Rattle.world_model.specs.declared.lists.LearntEntry.{LearntEntry}
 use Rattle.world_model.specs.declared.lists.Replied.{Replied}
 use Rattle.world_model.specs.declared.lists.Answered.{Answered}
@@ -30,7 +30,7 @@ use Rattle.world_model.specs.Flushing.{IsStart}
 use Rattle.world_model.specs.HandedOn.{HandedOn, handed_on, HoldsStill, HoldsChanged}
 use Rattle.world_model.specs.Outputs.{replied_by}
 use Rattle.world_model.specs.Progress.{StepsAll}
-use Rattle.world_model.specs.Worlds.{WorldState, learnt_by, submission_of}
+use Rattle.world_model.specs.Worlds.{WorldState, learnt_by}
 
 -- ---- the life of one node
 -- what happens to it
@@ -100,11 +100,11 @@ happenings_of i [] = []
 happenings_of i (m ∷ more) = if m.node == i then m.what ∷ happenings_of i more else happenings_of i more
 
 -- ---- what a moment tells
-abbrev pub request_at : ℕ → Input → List Submission
-request_at node (input.Submit client number op) = submission_of node (asked client number op) ∷ []
+abbrev pub request_at : ℕ → Input → List Submitted
+request_at node (input.Submit client number op) = record { node = node; submission = submission_of client number op } ∷ []
 request_at node other = []
 
-abbrev pub submitted_at : ℕ → Happening → List Submission
+abbrev pub submitted_at : ℕ → Happening → List Submitted
 submitted_at node (Took input (Ok said)) = request_at node input
 submitted_at node other = []
 

@@ -14,7 +14,7 @@ use Rattle.stable.specs.declared.key.Key.{Key}
 use Rattle.acceptor.specs.Forms.{VoteFitsRecord}
 use Rattle.sessions.specs.declared.command.Command.{Command}
 use Rattle.wire.specs.declared.frames.envelope.Envelope.{Envelope}
-use Rattle.world_model.specs.declared.lists.Submission.{Submission}
+use Rattle.world_model.specs.declared.lists.Submitted.{Submitted}
 use Rattle.world_model.specs.declared.lists.LearntEntry.{LearntEntry}
 use Rattle.node_model.specs.Protocol.{RecordsAgree, HoldsRecords, ReplicaStands}
 use Rattle.node_model.specs.States.{NodeState}
@@ -66,7 +66,7 @@ pub record StandsAt {S : Type 0} (contents : Script S → Records) (nodes i : �
 
 -- the nodes and the lists are those of the protocol's world
 pub record WorldStands {S : Type 0} (contents : Script S → Records) (nodes : List (NodeState (Script S)))
-    (frames : List Envelope) (learnt : List LearntEntry) (submitted : List Submission) (w : synod_runs.World Command) : Type 0 where
+    (frames : List Envelope) (learnt : List LearntEntry) (submitted : List Submitted) (w : synod_runs.World Command) : Type 0 where
   pub node : (i : ℕ) (n : NodeState (Script S)) → slice_get nodes i ≡ Some n
       → StandsAt contents (length nodes) i w.past (synod_runs.here w i) n
   pub frames_ : w.past.frames ≡ map frame_of frames
@@ -75,7 +75,7 @@ pub record WorldStands {S : Type 0} (contents : Script S → Records) (nodes : L
 
 -- moves that the protocol allows lead there
 pub record IsAllowed {S : Type 0} (contents : Script S → Records) (nodes : List (NodeState (Script S)))
-    (frames : List Envelope) (learnt : List LearntEntry) (submitted : List Submission) : Type 0 where
+    (frames : List Envelope) (learnt : List LearntEntry) (submitted : List Submitted) : Type 0 where
   pub state : synod_runs.World Command
   pub reached : IsReached (membership (length nodes)) state
   pub stands : WorldStands contents nodes frames learnt submitted state

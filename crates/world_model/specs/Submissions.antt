@@ -1,29 +1,26 @@
 -- What nodes took of clients, and which commands that makes.
 use Rattle.std.specs.Prelude.{◌≡◌, ⊤, List, Contains}
 use Rattle.store.specs.Operations.{OpIsValid}
-use Rattle.sessions.specs.Asked.{Asked}
+use Rattle.sessions.specs.declared.submission.Submission.{Submission}
 use Rattle.sessions.specs.declared.command.Command.{Command}
 use Rattle.sessions.specs.declared.command.Command.TheVariants.{NoOp, Request}
-use Rattle.world_model.specs.declared.lists.Submission.{Submission}
+use Rattle.world_model.specs.declared.lists.Submitted.{Submitted}
 
--- what a submission carries
-abbrev pub asked_of : Submission → Asked
-asked_of s = record { client = s.client; number = s.number; op = s.op }
+-- the command that a node took
+abbrev pub command_of : Submitted → Command
+command_of s = Request s.submission
 
-abbrev pub command_of : Submission → Command
-command_of s = Request (asked_of s)
-
--- a submission that a node took carried the request, operation included
-pub record IsSubmitted (submitted : List Submission) (r : Asked) : Type 0 where
-  pub submission : Submission
-  pub taken : Contains submitted submission
-  pub carries : asked_of submission ≡ r
+-- a node took the request, operation included
+pub record IsSubmitted (submitted : List Submitted) (r : Submission) : Type 0 where
+  pub entry : Submitted
+  pub taken : Contains submitted entry
+  pub carries : entry.submission ≡ r
 
 -- the command is a no-op, or was submitted
-abbrev pub IsGrounded : List Submission → Command → Type 0
+abbrev pub IsGrounded : List Submitted → Command → Type 0
 IsGrounded submitted NoOp = ⊤
 IsGrounded submitted (Request r) = IsSubmitted submitted r
 
 -- what the requests bring that nodes took is valid: the sequence of a Put, and the coordinates of an Append
-pub record BringValid (submitted : List Submission) : Type 0 where
-  pub each : (s : Submission) → Contains submitted s → OpIsValid s.op
+pub record BringValid (submitted : List Submitted) : Type 0 where
+  pub each : (s : Submitted) → Contains submitted s → OpIsValid s.submission.op

@@ -9,7 +9,7 @@ use Rattle.acceptor.specs.Forms.{VoteFitsRecord}
 use Rattle.acceptor.specs.Spelling.{vote_bytes}
 use Rattle.sessions.specs.declared.command.Command.{Command}
 use Rattle.world_model.specs.declared.lists.LearntEntry.{LearntEntry}
-use Rattle.world_model.specs.declared.lists.Submission.{Submission}
+use Rattle.world_model.specs.declared.lists.Submitted.{Submitted}
 use Rattle.world_model.specs.Submissions.{IsGrounded}
 
 -- the put of a vote's record
@@ -29,7 +29,7 @@ IsChosen nodes slot c = (b : Ballot) × Majority (length nodes) (λ a. IfSome (s
 
 -- whatever any node learnt is chosen, no two commands are chosen for one slot, and each that is chosen is a no-op or
 -- was submitted
-pub record HasChosen (nodes : List (List Write)) (learnt : List LearntEntry) (submitted : List Submission) : Type 0 where
+pub record HasChosen (nodes : List (List Write)) (learnt : List LearntEntry) (submitted : List Submitted) : Type 0 where
   pub all_learnt : (t : LearntEntry) → Contains learnt t → IsChosen nodes t.slot t.command
   pub one : (slot : ℕ) (c d : Command) → IsChosen nodes slot c → IsChosen nodes slot d → c ≡ d
   pub grounded : (slot : ℕ) (c : Command) → IsChosen nodes slot c → IsGrounded submitted c

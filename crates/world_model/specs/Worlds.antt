@@ -4,7 +4,7 @@ use Rattle.std.specs.Prelude.{Option, Some, None, is_ok, Result, Ok, Err, IsSome
 use Rattle.stable.specs.Script.{Script}
 use Rattle.stable.specs.declared.scripted.Failing.{Failing}
 use Rattle.stable.specs.declared.stable.Stable.{Ghosts}
-use Rattle.sessions.specs.Asked.{Asked}
+use Rattle.sessions.specs.declared.submission.Submission.{Submission}
 use Rattle.wire.specs.declared.frames.envelope.Envelope.{Envelope}
 use Rattle.store.specs.Operations.{OpIsValid}
 use Rattle.store.specs.declared.query.Query.{Query}
@@ -20,7 +20,7 @@ use Rattle.node_model.specs.Loading.{Restarts}
 use Rattle.node_model.specs.Replicas.{ReplicaState}
 use Rattle.node_model.specs.Nodes.{NodeState, NodeSteps, NodeAnswers, StaysMeaning, AnswersMeaning}
 use Rattle.node_model.specs.Outputs.{Response}
-use Rattle.world_model.specs.declared.lists.Submission.{Submission}
+use Rattle.world_model.specs.declared.lists.Submitted.{Submitted}
 use Rattle.world_model.specs.declared.lists.LearntEntry.{LearntEntry}
 use Rattle.world_model.specs.declared.lists.Replied.{Replied}
 use Rattle.world_model.specs.declared.lists.Answered.{Answered}
@@ -31,7 +31,7 @@ use Rattle.world_model.specs.Outputs.{replied_by}
 -- all nodes over their storages, and everything that happened
 pub record WorldState (S : Type 0) : Type 0 where
   pub nodes : List (NodeState (Script S))
-  pub submitted : List Submission
+  pub submitted : List Submitted
   pub frames : List Envelope
   -- which frames wait to be delivered: a flag for each
   pub waiting : List Bool
@@ -105,16 +105,13 @@ abbrev pub quiet : {S : Type 0} → WorldState S → WorldState S
 quiet w = with_outcome w (Done 0 0)
 
 -- a request that a node took joins the list of submissions
-abbrev pub submission_of : ℕ → Asked → Submission
-submission_of node r = record { node = node; client = r.client; number = r.number; op = r.op }
-
-abbrev pub with_submission : {S : Type 0} → WorldState S → Bool → ℕ → Asked → WorldState S
+abbrev pub with_submission : {S : Type 0} → WorldState S → Bool → ℕ → Submission → WorldState S
 with_submission w taken node r =
-    if taken then record w { submitted = w.submitted ++ submission_of node r ∷ [] } else w
+    if taken then record w { submitted = w.submitted ++ record { node = node; submission = r } ∷ [] } else w
 
 -- a client's request comes to a node, and what it brings is valid
 pub record SubmitsAt {S : Type 0} (storages : Ghosts (Script S))
-    (old : WorldState S) (node : ℕ) (r : Asked) (new : WorldState S) : Type 0 where
+    (old : WorldState S) (node : ℕ) (r : Submission) (new : WorldState S) : Type 0 where
   pub valid : OpIsValid r.op
   pub taken : Bool
   pub between : WorldState S
@@ -184,8 +181,8 @@ pub record RestartsAt {S : Type 0} (storages : Ghosts (Script S)) (old : WorldSt
 -- ---- one atomic step
 abbrev pub Steps : {S : Type 0} (storages : Ghosts (Script S))
     → WorldState S → Event → WorldState S → Type 0
-Steps storages old (event.Submit node client number op) new =
-    SubmitsAt storages old node (record { client = client; number = number; op = op }) new
+Steps storages old (event.Submit node submission) new =
+    SubmitsAt storages old node submission new
 Steps storages old (event.Deliver k) new =
     DeliversFrame storages old k new
 Steps storages old (event.Drop k) new = new ≡ quiet (without_wait old k)

@@ -15,7 +15,7 @@ pub use laws::{
     answers_are_one, armed_reads_fire, ballots_never_fall, lists_are_as_told, promises_never_fall,
     replies_are_one,
 };
-pub use lists::{Answered, LearntEntry, Replied, StepOutcome, Submission};
+pub use lists::{Answered, LearntEntry, Replied, StepOutcome, Submitted};
 pub use lives::{
     a_start_is_a_load, lives_are_a_run, lives_go_on, lives_tell_the_same, one_list_explains_lives,
     reached_worlds_are_safe,

@@ -2,18 +2,16 @@
 
 use super::round_end::RoundEnd;
 use node_model::{AnswerText, NodeFault};
-use sessions::{Number, SessionReply};
-use store::{Op, Query};
+use sessions::{Number, SessionReply, Submission};
+use store::Query;
 use synod::Slot;
 use wire::{NodeId, Position, SharedCommand};
 
 /// A request that a node took.
 #[derive(Drop)]
-pub struct Submission {
+pub struct Submitted {
     pub node: NodeId,
-    pub client: u8,
-    pub number: Number,
-    pub op: Op,
+    pub submission: Submission,
 }
 
 /// What a node learnt.

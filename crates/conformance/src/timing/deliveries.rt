@@ -7,7 +7,7 @@ use super::requests::CLIENT;
 use crate::fault::Fault;
 use cluster::{Cluster, Queues};
 use events::Event;
-use sessions::Number;
+use sessions::{Number, Submission};
 use stable::MemStable;
 use std::alloc::Global;
 use store::Op;
@@ -75,8 +75,10 @@ fn submission(number: u64) -> Event
 {
     Event::Submit {
         node: leader(),
-        client: CLIENT,
-        number: Number::new(number).unwrap(),
-        op: Op::Remove(name(0)),
+        submission: Submission {
+            client: CLIENT,
+            number: Number::new(number).unwrap(),
+            op: Op::Remove(name(0)),
+        },
     }
 }

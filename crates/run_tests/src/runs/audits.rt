@@ -13,12 +13,11 @@ query 0 count
 ";
 
 // A transcript, and the status and the text of the verdict.
-const VERDICTS: [(&[u8], u8, &str); 12] = [
+const VERDICTS: [(&[u8], u8, &str); 11] = [
     (b"", 0, "explained"),
     (b"learn 0 0 7:1\nreply 0 7:1 21\nanswer 0 1 count 0\n", 0, "explained"),
     (b"stop 1 46\nrefuse 2 41\nround 1 low 3.0\nstrangers 0", 0, "explained"),
-    (b"learn 0 0 8:1\nreply 0 8:1 21\n", 0, "explained"),
-    (b"learn 0 0 8:1\nreply 0 8:1 22\n", 3, "undecided: 8:1 is submitted with two operations"),
+    (b"learn 0 0 8:1\nreply 0 8:1 21\n", 3, "undecided: 8:1 is submitted with two operations"),
     (b"learn 0 0 noop\nanswer 0 2 count 0\n", 3, "undecided: slot 1"),
     (b"learn 0 0 noop\nlearn 1 0 7:1\n", 1, "node0:2: another command was learnt at this slot"),
     (b"learn 0 0 7:3\n", 1, "node0:1: no `submit` line has this request"),

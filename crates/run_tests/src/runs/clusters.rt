@@ -6,7 +6,7 @@ use crate::runs::transcripts::ROUND_LINES;
 use cluster::{Cluster, Queues, Transport, TransportFault};
 use events::{Event, WorldFault};
 use replay::transcript;
-use sessions::Number;
+use sessions::{Number, Submission};
 use stable::MemStable;
 use std::alloc::{AllocError, Global};
 use std::test::Fail;
@@ -104,13 +104,18 @@ pub(crate) fn asked<T: Transport + Drop>(
 }
 
 fn ask<T: Transport>(alloc: Global, cluster: &mut Cluster<T>) -> Result<(), WorldFault> {
-    let submission = Event::Submit {
-        node: node(0),
+    let submission = Submission {
         client: 7,
         number: Number::new(1).unwrap(),
         op: Op::Remove(bus()),
     };
-    cluster.step(alloc, submission)?;
+    cluster.step(
+        alloc,
+        Event::Submit {
+            node: node(0),
+            submission,
+        },
+    )?;
     cluster.step(alloc, Event::Timeout(node(0)))
 }
 

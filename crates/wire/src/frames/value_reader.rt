@@ -2,7 +2,7 @@
 
 ghost use Rattle.std.specs.Prelude.{◌≡◌, ◌<◌, ◌≤◌, ⊤, IfOk, IsOk, IsErrOf};
 ghost use Rattle.fields.specs.Reading.{Tells, id_at};
-ghost use Rattle.sessions.specs.Asked.{IsShort};
+ghost use Rattle.sessions.specs.Requests.{IsShort};
 ghost use Rattle.wire.specs.Puts.{IsPut, CommandPuts, OpBeginsAsPut, RequestBeginsAsPut, CommandBeginsAsPut};
 ghost use Rattle.wire.specs.Reading.{Gives, ReadMayWant, ballot_of, ballot_at, slot_at, put_at, append_at, remove_at, op_at};
 ghost use Rattle.wire.specs.Reading.{request_number_at, request_at, asked_at, command_at};

@@ -1,7 +1,7 @@
 //! Ballots, slots and commands, as bytes at the end of others. Each value of the types fits.
 
 ghost use Rattle.std.specs.Prelude.{◌≡◌, ℕ, ◌+◌, ◌*◌, ◌≤◌, ◌++◌, length, OnOk};
-ghost use Rattle.sessions.specs.Asked.{IsShort};
+ghost use Rattle.sessions.specs.Requests.{IsShort};
 ghost use Rattle.wire.specs.Spelling.{ballot_bytes, BallotFits, slot_bytes, SlotFits, op_bytes, OpFits};
 ghost use Rattle.wire.specs.Spelling.{request_bytes, RequestFits, command_bytes, CommandFits};
 

@@ -14,7 +14,7 @@ use Rattle.sessions.specs.SessionReplies.{outcome_code}
 use Rattle.sessions.specs.declared.command.Command.{Command}
 use Rattle.sessions.specs.declared.command.Command.TheVariants.{NoOp}
 use Rattle.node_model.specs.Composition.{IsReplyOf}
-use Rattle.world_model.specs.declared.lists.Submission.{Submission}
+use Rattle.world_model.specs.declared.lists.Submitted.{Submitted}
 use Rattle.world_model.specs.declared.lists.LearntEntry.{LearntEntry}
 use Rattle.world_model.specs.declared.lists.Replied.{Replied}
 use Rattle.world_model.specs.declared.lists.Answered.{Answered}
@@ -23,7 +23,7 @@ use Rattle.world_model.specs.Outputs.{executed_of}
 use Rattle.world_model.specs.Submissions.{IsGrounded}
 use Rattle.world_model.specs.Telling.{WasLearnt, WereLearnt, TellsReply, TellsAnswer, WorldIsBacked}
 use Rattle.world_model.specs.Worlds.{WorldState}
-use Rattle.world_model.proofs.OneLog.Longer.{AgreeBelow, replies_over}
+use Rattle.sessions.proofs.Agreements.{AgreeBelow, replies_over}
 
 -- ---- a list of so many commands
 table : (ℕ → Command) → ℕ → List Command
@@ -138,7 +138,7 @@ command_of (inl some) = some.0
 command_of (inr none) = NoOp
 
 -- ---- the list
-module _ (submitted : List Submission) (learnt : List LearntEntry) (agree : LearntAgree learnt)
+module _ (submitted : List Submitted) (learnt : List LearntEntry) (agree : LearntAgree learnt)
     (grounded : LearntGrounded submitted learnt) where
   looked_agrees : (t : LearntEntry) → Contains learnt t → (k : Looked learnt t.slot) → command_of k ≡ t.command
   looked_agrees t there (inl (c, was)) = sym was.holds ∙ agree was.entry t was.there there was.at

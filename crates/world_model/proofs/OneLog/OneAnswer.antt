@@ -3,7 +3,7 @@ use Rattle.std.proofs.Common.{◌≡◌, ℕ, zero, suc, List, [], ◌∷◌, ta
 use Rattle.std.proofs.Math.Logic.{∥∥₁_elim}
 use Rattle.std.specs.Coded.{Coded-set, coded_list, coded_ℕ}
 use Rattle.store.specs.Operations.{OpIsValid}
-use Rattle.sessions.specs.Asked.{Asked}
+use Rattle.sessions.specs.declared.submission.Submission.{Submission}
 use Rattle.sessions.specs.Meaning.{Answers, RequestsAreValid}
 use Rattle.sessions.proofs.Executions.{one_answer}
 use Rattle.sessions.specs.declared.command.Command.{Command}
@@ -11,7 +11,7 @@ use Rattle.sessions.specs.declared.command.Command.TheVariants.{Request}
 use Rattle.world_model.specs.declared.lists.Answered.{Answered}
 use Rattle.world_model.specs.declared.lists.LearntEntry.{LearntEntry}
 use Rattle.world_model.specs.declared.lists.Replied.{Replied}
-use Rattle.world_model.specs.declared.lists.Submission.{Submission}
+use Rattle.world_model.specs.declared.lists.Submitted.{Submitted}
 use Rattle.world_model.specs.Explaining.{Explains, ExplainsAnswer}
 use Rattle.world_model.specs.Safety.{IsSafe}
 use Rattle.world_model.specs.Submissions.{BringValid, IsSubmitted}
@@ -24,14 +24,14 @@ taken_there (suc n) [] i c e = absurd (let h : None ≡ Some c = e in cc)
 taken_there (suc n) (d ∷ l) zero c e = e
 taken_there (suc n) (d ∷ l) (suc i) c e = taken_there n l i c e
 
-module _ (l : List Command) (submitted : List Submission) (learnt : List LearntEntry) (replies : List Replied) (answers : List Answered)
+module _ (l : List Command) (submitted : List Submitted) (learnt : List LearntEntry) (replies : List Replied) (answers : List Answered)
     (explains : Explains l submitted learnt replies answers) (valid : BringValid submitted) where
   -- what its requests bring was submitted, and is valid
   beginning_sound : (n : ℕ) → RequestsAreValid (take n l)
   beginning_sound n = record {
     each = λ i r there.
         let s : IsSubmitted submitted r = explains.grounded i (Request r) (taken_there n l i (Request r) there) in
-        subst (λ (x : Asked). OpIsValid x.op) s.carries (valid.each s.submission s.taken);
+        subst (λ (x : Submission). OpIsValid x.op) s.carries (valid.each s.entry s.taken);
   }
 
   pub one_text : (a b : Answered) → Contains answers a → Contains answers b → a.query ≡ b.query → a.position ≡ b.position → a.text ≡ b.text

@@ -9,7 +9,7 @@ use Rattle.sessions.specs.declared.command.Command.{Command}
 use Rattle.world_model.specs.declared.lists.Answered.{Answered}
 use Rattle.world_model.specs.declared.lists.LearntEntry.{LearntEntry}
 use Rattle.world_model.specs.declared.lists.Replied.{Replied}
-use Rattle.world_model.specs.declared.lists.Submission.{Submission}
+use Rattle.world_model.specs.declared.lists.Submitted.{Submitted}
 use Rattle.world_model.specs.Explaining.{Explains, ExplainsReply}
 use Rattle.world_model.specs.Safety.{IsSafe}
 use Rattle.world_model.specs.Worlds.{WorldState}
@@ -17,7 +17,7 @@ use Rattle.world_model.specs.Worlds.{WorldState}
 same_place : (m n : ℕ) → m + 1 ≡ n + 1 → m ≡ n
 same_place m n e = omega (arith, e)
 
-one_code : (l : List Command) (submitted : List Submission) (learnt : List LearntEntry) (replies : List Replied) (answers : List Answered)
+one_code : (l : List Command) (submitted : List Submitted) (learnt : List LearntEntry) (replies : List Replied) (answers : List Answered)
     → Explains l submitted learnt replies answers → (a b : Replied) → Contains replies a → Contains replies b
     → a.position ≡ b.position → outcome_code a.reply ≡ outcome_code b.reply
 one_code l submitted learnt replies answers explains a b ca cb position =

@@ -14,7 +14,7 @@ use Rattle.stable.specs.declared.key.Key.TheVariants as key
 use Rattle.stable.specs.declared.scripted.Failing.{Failing}
 use Rattle.stable.specs.declared.stable.Stable.{Ghosts}
 use Rattle.synod.proofs.Thinking.{none_in}
-use Rattle.sessions.specs.Asked.{Asked}
+use Rattle.sessions.specs.declared.submission.Submission.{Submission}
 use Rattle.sessions.proofs.Snapshots.{tells_each}
 use Rattle.sessions.specs.Meaning.{Answers}
 use Rattle.sessions.specs.Snapshots.{IsSnapshot}
@@ -473,11 +473,11 @@ module _ {S : Type 0} {storages : Ghosts (Script S)} (laws : IsLawful storages) 
       t.steps.down t.steps.taken t.steps.refused t.meaning.goes_on t.meaning.restores)
       (taken_texts old node i t.before t.after t.here (node_goes laws lists t.before t.after i t.result t.steps own) allowed tells)))
 
-  submission_tells : (w : WorldState S) (taken : Bool) (node : ℕ) (r : Asked) → Told w → Told (with_submission w taken node r)
+  submission_tells : (w : WorldState S) (taken : Bool) (node : ℕ) (r : Submission) → Told w → Told (with_submission w taken node r)
   submission_tells w true node r t = t
   submission_tells w false node r t = t
 
-  submits_at : (old : WorldState S) (node : ℕ) (r : Asked) (new : WorldState S)
+  submits_at : (old : WorldState S) (node : ℕ) (r : Submission) (new : WorldState S)
       → SubmitsAt storages old node r new → Honest new → Allowed old → LearntAgree old.learnt → Told old → Told new
   submits_at old node r new s honest allowed agree tells =
       let then : Honest s.between = subst (λ (x : List (NodeState (Script S))). AreHonest storages.IsHonest x)

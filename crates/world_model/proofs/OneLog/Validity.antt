@@ -6,23 +6,23 @@ use Rattle.stable.specs.declared.stable.Stable.{Ghosts}
 use Rattle.store.specs.Operations.{OpIsValid}
 use Rattle.synod.proofs.Thinking.{none_in}
 use Rattle.events.specs.declared.event.Event.{Event}
-use Rattle.world_model.specs.declared.lists.Submission.{Submission}
+use Rattle.world_model.specs.declared.lists.Submitted.{Submitted}
 use Rattle.world_model.specs.Submissions.{BringValid}
 use Rattle.world_model.specs.Worlds.{WorldState, Steps}
 use Rattle.world_model.proofs.Steps.Preserved.{Preserved, step_keeps}
 
 -- one submission more
-valid_push : (submitted : List Submission) (s : Submission) → BringValid submitted → OpIsValid s.op → BringValid (submitted ++ s ∷ [])
+valid_push : (submitted : List Submitted) (s : Submitted) → BringValid submitted → OpIsValid s.submission.op → BringValid (submitted ++ s ∷ [])
 valid_push submitted s valid sound = record {
   each = λ t c. elim (Contains-push_cases submitted s t c) [
     | inl before ↦ valid.each t before
-    | inr same ↦ subst (λ (x : Submission). OpIsValid x.op) same sound
+    | inr same ↦ subst (λ (x : Submitted). OpIsValid x.submission.op) same sound
   ];
 }
 
 -- nothing is submitted yet
 pub start_valid : {S : Type 0} (w : WorldState S) → w.submitted ≡ [] → BringValid w.submitted
-start_valid w none = record { each = λ s c. absurd (none_in s (subst (λ (l : List Submission). Contains l s) none c)) }
+start_valid w none = record { each = λ s c. absurd (none_in s (subst (λ (l : List Submitted). Contains l s) none c)) }
 
 -- nothing but a submission touches the list
 valid_kept : {S : Type 0} (storages : Ghosts (Script S)) → Preserved storages (λ w. BringValid w.submitted)

@@ -6,7 +6,7 @@ use Rattle.std.proofs.lemmas.Bool.{cond_both}
 use Rattle.std.proofs.lemmas.List.Elements.{All-nil, All-append, All-push, All-filter}
 use Rattle.synod.specs.declared.ballot.Ballot.{Ballot}
 use Rattle.synod.specs.Acts as act
-use Rattle.sessions.specs.Asked.{Asked}
+use Rattle.sessions.specs.declared.submission.Submission.{Submission}
 use Rattle.sessions.specs.declared.command.Command.{Command}
 use Rattle.acceptor.specs.declared.answer.Answer.{Answer}
 use Rattle.acceptor.specs.declared.answer.Answer.TheVariants as answer
@@ -16,9 +16,9 @@ use Rattle.proposer.specs.Campaigning.{Campaigning, Filling, is_at, stepped, pro
 use Rattle.proposer.specs.Campaigning.{accept, choice, closed_below}
 use Rattle.proposer.specs.Proposing.{Proposing, gathers, gathers_on, leads, proposes, sends_again}
 use Rattle.proposer.specs.Proposing.{with_promised}
-use Rattle.proposer.specs.declared.outgoing.Outgoing.{Outgoing}
-use Rattle.proposer.specs.declared.outgoing.Recipients.{Recipients}
-use Rattle.proposer.specs.declared.outgoing.Recipients.TheVariants.{All as ToAll, Others}
+use Rattle.proposer.specs.declared.sends.Outgoing.{Outgoing}
+use Rattle.proposer.specs.declared.sends.Recipients.{Recipients}
+use Rattle.proposer.specs.declared.sends.Recipients.TheVariants.{All as ToAll, Others}
 use Rattle.proposer.specs.declared.window.Proposal.{Proposal}
 use Rattle.proposer.specs.declared.window.TheConstants.{MOST_OPEN}
 use Rattle.wire.specs.NodeSets.{has_node, no_nodes, with_node}
@@ -68,7 +68,7 @@ proposing_none : (b : Ballot) (slot : ℕ) (f : Filling) (o : Option Command) �
 proposing_none b slot f None none = tt
 proposing_none b slot f (Some c) none = none_after f.sent (accept b (record { slot = slot; command = c })) none refl
 
-stepped_none : (k : Campaigning) (waiting : List Asked) (learnt_to : ℕ) (learnt : Bool) (slot : ℕ) (f : Filling) → NoneSent f
+stepped_none : (k : Campaigning) (waiting : List Submission) (learnt_to : ℕ) (learnt : Bool) (slot : ℕ) (f : Filling) → NoneSent f
     → IfSome (stepped k waiting learnt_to learnt slot f) NoneSent
 stepped_none k waiting learnt_to learnt slot f none =
     cond_both (learnt || list_any (is_at slot) f.proposals) _ _ (λ (o : Option Filling). IfSome o NoneSent) (λ _. none)
@@ -80,7 +80,7 @@ going_none : (o : Option Filling) (f : Filling) (rest : Filling → Filling) →
 going_none None f rest none one more = none
 going_none (Some g) f rest none one more = more g one
 
-filled_none : (k : Campaigning) (waiting : List Asked) (learnt_to : ℕ) (learnt : ℕ → Option Command) (n slot : ℕ) (f : Filling)
+filled_none : (k : Campaigning) (waiting : List Submission) (learnt_to : ℕ) (learnt : ℕ → Option Command) (n slot : ℕ) (f : Filling)
     → NoneSent f → NoneSent (filled k waiting learnt_to learnt n slot f)
 filled_none k waiting learnt_to learnt zero slot f none = none
 filled_none k waiting learnt_to learnt (suc n) slot f none =
@@ -89,7 +89,7 @@ filled_none k waiting learnt_to learnt (suc n) slot f none =
     (stepped_none k waiting learnt_to (is_some (learnt slot)) slot f none)
     (λ (g : Filling) h. filled_none k waiting learnt_to learnt n (slot + 1) g h)
 
-window_none : (k : Campaigning) (waiting : List Asked) (learnt_to : ℕ) (l : Learning) → NoneSent (window_filled k waiting learnt_to l)
+window_none : (k : Campaigning) (waiting : List Submission) (learnt_to : ℕ) (l : Learning) → NoneSent (window_filled k waiting learnt_to l)
 window_none k waiting learnt_to l =
     filled_none k waiting learnt_to (learnt_at l) (window_limit (prefix l) k.end - prefix l) (prefix l)
     (record { proposals = k.proposals; sent = [] }) tt
@@ -112,7 +112,7 @@ proposes_none p (Some k) l = cond_both k.leading _ _ NoneOf (λ _. leads_none p 
 counting_none : (p q : Proposing) (l : Learning) → NoneOf (after_counting p q l)
 counting_none p q l = cond_both (begins_to_lead p q) _ _ NoneOf (λ _. proposes_none q q.campaign l) (λ _. tt)
 
-submit_none : (m : ReplicaState) (r : Asked) → NoneOf (after_submit m r)
+submit_none : (m : ReplicaState) (r : Submission) → NoneOf (after_submit m r)
 submit_none m r =
     let p : Proposing = with_request m.proposer r in
     cond_both (waits m r.client r.number) _ _ NoneOf (λ _. tt) (λ _. proposes_none p p.campaign m.learner)

@@ -18,7 +18,7 @@ use Rattle.events.specs.declared.fault.WorldFault.TheVariants as world_fault
 use Rattle.node_model.specs.declared.input.Input.{Input}
 use Rattle.node_model.specs.declared.input.Input.TheVariants as input
 use Rattle.world_model.specs.declared.lists.StepOutcome.{StepOutcome}
-use Rattle.sessions.specs.Asked.{Asked}
+use Rattle.sessions.specs.declared.submission.Submission.{Submission}
 use Rattle.node_model.specs.Faults.{is_stop_fault}
 use Rattle.world_model.specs.Fired.{AreHonestInside, IsCounted, AreCounted, HasFewFaults}
 use Rattle.world_model.specs.Flushing.{IsStart, Delivers, DeliversSome}
@@ -133,7 +133,7 @@ module _ {S : Type 0} where
   recorded_more w node (Ok said) = length-append w.outcomes (_ ∷ [])
   recorded_more w node (Err f) = length-append w.outcomes (_ ∷ [])
 
-  submission_same : (w : WorldState S) (taken : Bool) (node : ℕ) (r : Asked)
+  submission_same : (w : WorldState S) (taken : Bool) (node : ℕ) (r : Submission)
       → ((with_submission w taken node r).nodes ≡ w.nodes) × ((with_submission w taken node r).outcomes ≡ w.outcomes)
   submission_same w true node r = (refl, refl)
   submission_same w false node r = (refl, refl)

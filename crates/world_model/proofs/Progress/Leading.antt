@@ -14,7 +14,7 @@ use Rattle.synod.proofs.Puts.{put_same, put_other, put_put, put_self}
 use Rattle.synod.specs.declared.ballot.Ballot.{Ballot}
 use Rattle.synod.specs.declared.vote.Vote.{Vote}
 use Rattle.synod.specs.declared.slot.TheConstants.{SLOTS}
-use Rattle.sessions.specs.Asked.{Asked}
+use Rattle.sessions.specs.declared.submission.Submission.{Submission}
 use Rattle.sessions.specs.declared.command.Command.{Command}
 use Rattle.sessions.specs.declared.command.Command.TheVariants.{NoOp, Request}
 use Rattle.learner.specs.Learning.{Learning, learnt_at, prefix}
@@ -27,7 +27,7 @@ use Rattle.wire.specs.declared.frames.message.Message.TheVariants.{Prepare, Acce
 use Rattle.proposer.specs.Campaigning.{is_most, Campaigning, Filling, is_at, accept, choice, command_or, free_choice, first_free}
 use Rattle.proposer.specs.Campaigning.{is_told_after, told_at, noop_where, request_or, with_proposal, proposing, stepped, going_on, filled}
 use Rattle.proposer.specs.Campaigning.{window_limit, window_filled, counts, with_promise, closed_below, prepare}
-use Rattle.proposer.specs.declared.outgoing.Outgoing.{Outgoing}
+use Rattle.proposer.specs.declared.sends.Outgoing.{Outgoing}
 use Rattle.proposer.specs.declared.window.Proposal.{Proposal}
 use Rattle.proposer.specs.declared.window.TheConstants.{MOST_OPEN}
 use Rattle.proposer.specs.Campaigning as campaign
@@ -162,7 +162,7 @@ going_grows : (o : Option Filling) (f : Filling) (rest : Filling → Filling) �
 going_grows None f rest step then = grows_none f
 going_grows (Some g) f rest step then = grows_then f g (rest g) step (then g)
 
-module _ (k : Campaigning) (waiting : List Asked) (learnt_to : ℕ) (learnt : ℕ → Option Command) where
+module _ (k : Campaigning) (waiting : List Submission) (learnt_to : ℕ) (learnt : ℕ → Option Command) where
   step_grows : (slot : ℕ) (known : Bool) (f : Filling) → StepGrows f (stepped k waiting learnt_to known slot f)
   step_grows slot known f =
       let next = proposing k.ballot slot f (choice k waiting learnt_to slot f.proposals) in
@@ -180,7 +180,7 @@ module _ (k : Campaigning) (waiting : List Asked) (learnt_to : ℕ) (learnt : �
 
 -- ---- the first slot
 -- at a campaign's first slot there always is a choice
-chosen : (told : Option (Vote Command)) (is_gap : Bool) (free : Option Asked) → (c : Command)
+chosen : (told : Option (Vote Command)) (is_gap : Bool) (free : Option Submission) → (c : Command)
     × (command_or told (cond is_gap (Some NoOp) (request_or free (noop_where true))) ≡ Some c)
 chosen (Some v) is_gap free = (v.command, refl)
 chosen None true free = (NoOp, refl)
@@ -197,7 +197,7 @@ record Opens (ballot : Ballot) (slot : ℕ) (sent : List Outgoing) : Type 0 wher
 abbrev nothing_open : Filling
 nothing_open = record { proposals = []; sent = [] }
 
-module _ (k : Campaigning) (waiting : List Asked) (learnt_to : ℕ) (learnt : ℕ → Option Command) (slot : ℕ) (first : k.first ≡ slot)
+module _ (k : Campaigning) (waiting : List Submission) (learnt_to : ℕ) (learnt : ℕ → Option Command) (slot : ℕ) (first : k.first ≡ slot)
     (unlearnt : learnt slot ≡ None) where
   choice_there : (c : Command) × (choice k waiting learnt_to slot [] ≡ Some c)
   choice_there =
@@ -224,7 +224,7 @@ module _ (k : Campaigning) (waiting : List Asked) (learnt_to : ℕ) (learnt : �
       record { command = some.0; more = rest.more; are = ap (λ (f : Filling). f.sent) on ∙ rest.sends; accepts = rest.accepts }
 
 -- a window that begins at the campaign's first slot, where nothing is open
-window_opens : (k : Campaigning) (waiting : List Asked) (learnt_to : ℕ) (l : Learning) (slot : ℕ) → slot ≡ prefix l → k.first ≡ slot
+window_opens : (k : Campaigning) (waiting : List Submission) (learnt_to : ℕ) (l : Learning) (slot : ℕ) → slot ≡ prefix l → k.first ≡ slot
     → l.learnt slot ≡ None → slot ≤ k.end → k.proposals ≡ [] → Opens k.ballot slot (window_filled k waiting learnt_to l).sent
 window_opens k waiting learnt_to l slot at first unlearnt within none =
     let n : ℕ = window_limit slot k.end - slot - 1 in

@@ -14,7 +14,7 @@ use Rattle.stable.specs.Records.{Records}
 use Rattle.stable.specs.Script.{Script}
 use Rattle.sessions.specs.declared.command.Command.{Command}
 use Rattle.wire.specs.declared.frames.envelope.Envelope.{Envelope}
-use Rattle.world_model.specs.declared.lists.Submission.{Submission}
+use Rattle.world_model.specs.declared.lists.Submitted.{Submitted}
 use Rattle.world_model.specs.declared.lists.LearntEntry.{LearntEntry}
 use Rattle.node_model.specs.States.{NodeState}
 use Rattle.world_model.specs.Protocol.{membership, frame_of, learnt_as, command_of}
@@ -54,7 +54,7 @@ module _ {S : Type 0} {contents : Script S → Records} where
 
   -- node i does some acts on an input that has come, and its state and the lists are what the acts leave
   pub moved : (nodes : List (NodeState (Script S))) (frames more : List Envelope) (learnt news : List LearntEntry)
-      (submitted asked : List Submission)
+      (submitted asked : List Submitted)
       (old : IsAllowed contents nodes frames learnt submitted) (i : ℕ) (after : NodeState (Script S)) (input : act.Input Command)
       (y : Local Command)
       → HasCome old.state.past input → Does (membership (length nodes)) i input (local_of old.state i) y

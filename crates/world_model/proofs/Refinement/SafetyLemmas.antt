@@ -22,7 +22,7 @@ use Rattle.acceptor.specs.Accepting.{Accepting}
 use Rattle.acceptor.proofs.RecordLemmas.{RecordsSay-nothing}
 use Rattle.sessions.specs.declared.command.Command.{Command}
 use Rattle.sessions.specs.declared.command.Command.TheVariants.{NoOp, Request}
-use Rattle.world_model.specs.declared.lists.Submission.{Submission}
+use Rattle.world_model.specs.declared.lists.Submitted.{Submitted}
 use Rattle.world_model.specs.declared.lists.LearntEntry.{LearntEntry}
 use Rattle.world_model.specs.Explaining.{LearntAgree, LearntGrounded}
 use Rattle.world_model.specs.Flushing.{IsUnused, IsStart, IsStarted}
@@ -33,9 +33,9 @@ use Rattle.world_model.specs.Protocol.{membership, frame_of, learnt_as}
 use Rattle.world_model.specs.Reaching.{NodeStands, TookEffect, StandsAt, IsAllowed, AreHonest}
 use Rattle.world_model.specs.Safety.{HasAgreed, writes_of}
 use Rattle.node_model.specs.States.{NodeState}
-use Rattle.world_model.specs.Submissions.{asked_of, command_of, IsGrounded}
+use Rattle.world_model.specs.Submissions.{command_of, IsGrounded}
 use Rattle.world_model.specs.Voting.{vote_put, HasVote, IsChosen, HasChosen}
-use Rattle.world_model.specs.Worlds.{WorldState, submission_of}
+use Rattle.world_model.specs.Worlds.{WorldState}
 use Rattle.world_model.proofs.OneNode.RestartLemmas.{begins_at, begins_at_first, up_again}
 use Rattle.world_model.proofs.OneNode.VotesStand.{each_held}
 
@@ -46,21 +46,22 @@ map_contains f xs x c =
     let mapped : slice_get (map f xs) c.0 ≡ Some (f x) = slice_get-map f xs c.0 ∙ ap (option_map f) here in
     (c.0, slice_get_within (map f xs) c.0 (f x) mapped, get_or_from_slice_get (map f xs) c.0 (f x) (f x) mapped)
 
-submitted_in : (submitted : List Submission) (c : Command) → (c ≡ NoOp) ⊎ Contains (map command_of submitted) c → IsGrounded submitted c
+submitted_in : (submitted : List Submitted) (c : Command) → (c ≡ NoOp) ⊎ Contains (map command_of submitted) c → IsGrounded submitted c
 submitted_in submitted NoOp h = tt
 submitted_in submitted (Request r) (inl none) = absurd cc
 submitted_in submitted (Request r) (inr c) =
     let lt : c.0 < length submitted = omega (arith, c.1, length-map submitted command_of) in
-    let s : Submission = get_or submitted c.0 (submission_of 0 r) in
-    let here : slice_get submitted c.0 ≡ Some s = slice_get-get_or submitted c.0 (submission_of 0 r) lt in
+    let other : Submitted = record { node = 0; submission = r } in
+    let s : Submitted = get_or submitted c.0 other in
+    let here : slice_get submitted c.0 ≡ Some s = slice_get-get_or submitted c.0 other lt in
     let mapped : slice_get (map command_of submitted) c.0 ≡ Some (command_of s) = slice_get-map command_of submitted c.0
     ∙ ap (option_map command_of) here in
     let named : command_of s ≡ Request r = sym (get_or_from_slice_get (map command_of submitted) c.0 (command_of s) (Request r) mapped)
     ∙ c.2 in
     record {
-      submission = s;
+      entry = s;
       taken = (c.0, lt, get_or_from_slice_get submitted c.0 s s here);
-      carries = (let q : Request (asked_of s) ≡ Request r = named in cc);
+      carries = (let q : Request s.submission ≡ Request r = named in cc);
     }
 
 module _ {S : Type 0} where

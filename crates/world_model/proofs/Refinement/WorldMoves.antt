@@ -15,7 +15,7 @@ use Rattle.stable.specs.Script.{Script}
 use Rattle.stable.specs.declared.scripted.Failing.{Failing}
 use Rattle.stable.specs.declared.stable.Stable.{Ghosts}
 use Rattle.stable.specs.Storages.{IsLawful}
-use Rattle.sessions.specs.Asked.{Asked}
+use Rattle.sessions.specs.declared.submission.Submission.{Submission}
 use Rattle.sessions.specs.declared.command.Command.{Command}
 use Rattle.wire.specs.declared.frames.envelope.Envelope.{Envelope}
 use Rattle.store.specs.declared.query.Query.{Query}
@@ -23,7 +23,7 @@ use Rattle.events.specs.declared.event.Event.{Event}
 use Rattle.node_model.specs.declared.fault.NodeFault.{NodeFault}
 use Rattle.node_model.specs.declared.input.Input.{Input}
 use Rattle.node_model.specs.declared.input.Input.TheVariants as input
-use Rattle.world_model.specs.declared.lists.Submission.{Submission}
+use Rattle.world_model.specs.declared.lists.Submitted.{Submitted}
 use Rattle.world_model.specs.declared.lists.LearntEntry.{LearntEntry}
 use Rattle.node_model.specs.declared.outputs.LearntCommand.{LearntCommand}
 use Rattle.world_model.specs.Memberships.{IsMembership}
@@ -33,7 +33,7 @@ use Rattle.node_model.specs.Inputs.{is_for_this_run}
 use Rattle.node_model.specs.Protocol.{learnings, input_of, coming, InputFits, RecordsAgree, HoldsRecords, ReplicaStands}
 use Rattle.world_model.specs.Protocol.{membership, frame_of, learnt_as, command_of}
 use Rattle.world_model.specs.Reaching.{NodeStands, StandsAt, IsAllowed, AreHonest}
-use Rattle.world_model.specs.Worlds.{WorldState, submission_of, TakesAt, ArmsAt, RestartsAt, Steps, with_node, with_outcome, recorded}
+use Rattle.world_model.specs.Worlds.{WorldState, TakesAt, ArmsAt, RestartsAt, Steps, with_node, with_outcome, recorded}
 use Rattle.world_model.specs.Worlds.{with_submission, answered, without_wait, learnt_by}
 use Rattle.world_model.proofs.OneNode.ListedPuts.{KeepsPuts, same_lists as same_puts}
 use Rattle.world_model.proofs.Refinement.MovingLemmas.{moved}
@@ -95,14 +95,14 @@ module _ {S : Type 0} {storages : Ghosts (Script S)} (laws : IsLawful storages)
   ]
 
   -- ---- lists by other names
-  named : (nodes nodes' : Nodes) (frames frames' : List Envelope) (learnt learnt' : List LearntEntry) (submitted submitted' : List Submission)
+  named : (nodes nodes' : Nodes) (frames frames' : List Envelope) (learnt learnt' : List LearntEntry) (submitted submitted' : List Submitted)
       → nodes' ≡ nodes → frames' ≡ frames → learnt' ≡ learnt → submitted' ≡ submitted
       → IsAllowed storages.contents nodes frames learnt submitted → IsAllowed storages.contents nodes' frames' learnt' submitted'
   named nodes nodes' frames frames' learnt learnt' submitted submitted' a b c d h =
       subst (λ (x : Nodes). IsAllowed storages.contents x frames' learnt' submitted') (sym a)
       (subst (λ (x : List Envelope). IsAllowed storages.contents nodes x learnt' submitted') (sym b)
       (subst (λ (x : List LearntEntry). IsAllowed storages.contents nodes frames x submitted') (sym c)
-      (subst (λ (x : List Submission). IsAllowed storages.contents nodes frames learnt x) (sym d) h)))
+      (subst (λ (x : List Submitted). IsAllowed storages.contents nodes frames learnt x) (sym d) h)))
 
   abbrev WorldAllowed : WorldState S → Type 0
   WorldAllowed w = IsAllowed storages.contents w.nodes w.frames w.learnt w.submitted
@@ -175,13 +175,13 @@ module _ {S : Type 0} {storages : Ghosts (Script S)} (laws : IsLawful storages)
       (t.submitted ∙ sym (append-nil old.submitted) ∙ ap (λ l. old.submitted ++ l) (sym none)) t.lists
 
   -- ---- a request
-  submits_allowed : (old between new : WorldState S) (node : ℕ) (r : Asked) (taken : Bool) → new ≡ with_submission between taken node r
+  submits_allowed : (old between new : WorldState S) (node : ℕ) (r : Submission) (taken : Bool) → new ≡ with_submission between taken node r
       → TakesAllowed old node (input.Submit r.client r.number r.op) taken between → WorldAllowed new
   submits_allowed old between new node r true e t =
       named between.nodes new.nodes between.frames new.frames between.learnt new.learnt
-      (old.submitted ++ submission_of node r ∷ []) new.submitted
+      (old.submitted ++ record { node = node; submission = r } ∷ []) new.submitted
       (ap (λ (w : WorldState S). w.nodes) e) (ap (λ (w : WorldState S). w.frames) e) (ap (λ (w : WorldState S). w.learnt) e)
-      (ap (λ (w : WorldState S). w.submitted) e ∙ ap (λ l. l ++ submission_of node r ∷ []) t.submitted) t.lists
+      (ap (λ (w : WorldState S). w.submitted) e ∙ ap (λ l. l ++ record { node = node; submission = r } ∷ []) t.submitted) t.lists
   submits_allowed old between new node r false e t =
       same_lists between new (ap (λ (w : WorldState S). w.nodes) e) (ap (λ (w : WorldState S). w.frames) e)
       (ap (λ (w : WorldState S). w.learnt) e)

@@ -7,7 +7,7 @@ use Rattle.stable.specs.declared.scripted.Failing.{Failing}
 use Rattle.stable.specs.declared.stable.Stable.{Ghosts}
 use Rattle.store.specs.Operations.{OpIsValid}
 use Rattle.store.specs.declared.query.Query.{Query}
-use Rattle.sessions.specs.Asked.{Asked}
+use Rattle.sessions.specs.declared.submission.Submission.{Submission}
 use Rattle.wire.specs.FrameSpelling.{Fits}
 use Rattle.wire.specs.declared.frames.envelope.Envelope.{Envelope}
 use Rattle.events.specs.declared.event.Event.{Event}
@@ -16,21 +16,21 @@ use Rattle.node_model.specs.declared.fault.NodeFault.{NodeFault}
 use Rattle.node_model.specs.declared.input.Input.{Input}
 use Rattle.node_model.specs.declared.input.Input.TheVariants as input
 use Rattle.node_model.specs.Faults.{is_stop_fault}
-use Rattle.node_model.specs.Replicas.{ReplicaState, asked}
+use Rattle.node_model.specs.Replicas.{ReplicaState, submission_of}
 use Rattle.node_model.specs.Nodes.{NodeState}
 use Rattle.node_model.specs.Outputs.{Response}
 use Rattle.node_model.specs.Protocol.{InputFits, input_of}
 use Rattle.world_model.specs.declared.lists.StepOutcome.{StepOutcome}
 use Rattle.world_model.specs.declared.lists.StepOutcome.TheVariants.{Done, Lost, Refused, Stopped}
-use Rattle.world_model.specs.declared.lists.Submission.{Submission}
+use Rattle.world_model.specs.declared.lists.Submitted.{Submitted}
 use Rattle.world_model.specs.Tallies.{learnt_told, replies_told, answers_told}
 use Rattle.world_model.specs.Worlds.{WorldState, TakesAt, SubmitsAt, ReceivesAt, ArmsAt, AsksAt, RestartsAt, Steps, with_node, with_response}
-use Rattle.world_model.specs.Worlds.{with_outcome, outcome_of, recorded, without_wait, with_submission, submission_of, answered, with_answer}
+use Rattle.world_model.specs.Worlds.{with_outcome, outcome_of, recorded, without_wait, with_submission, answered, with_answer}
 use Rattle.world_model.specs.Worlds.{restart_outcome}
 
 -- what is submitted to a node by an input, where it takes it
-abbrev pub taken_of : ℕ → Input → Bool → List Submission
-taken_of node (input.Submit client number op) true = submission_of node (asked client number op) ∷ []
+abbrev pub taken_of : ℕ → Input → Bool → List Submitted
+taken_of node (input.Submit client number op) true = record { node = node; submission = submission_of client number op } ∷ []
 taken_of node other b = []
 
 -- an input that is the node's own: nobody submits, and no frame comes
@@ -50,7 +50,7 @@ pub record BringsNothing (o : StepOutcome) : Type 0 where
 pub record HoldsOf {S : Type 0} (storages : Ghosts (Script S)) (R : WorldState S → Event → WorldState S → Type 0) : Type 0 where
   pub takes : (old : WorldState S) (e : Event) (node : ℕ) (i : Input) (taken : Bool) (new : WorldState S)
       → TakesAt storages old node i taken new → IsItsOwn i → R old e new
-  pub submits : (old : WorldState S) (e : Event) (node : ℕ) (r : Asked) (new : WorldState S)
+  pub submits : (old : WorldState S) (e : Event) (node : ℕ) (r : Submission) (new : WorldState S)
       → SubmitsAt storages old node r new → R old e new
   pub hears : (old : WorldState S) (e : Event) (k : ℕ) (frame : Envelope) (taken : Bool) (new : WorldState S)
       → slice_get old.frames k ≡ Some frame → Fits 7 frame
@@ -91,8 +91,7 @@ module _ {S : Type 0} {storages : Ghosts (Script S)} {R : WorldState S → Event
 
   -- each step, by its event
   pub step_holds : (old : WorldState S) (e : Event) (new : WorldState S) → Steps storages old e new → R old e new
-  step_holds old (event.Submit node client number op) new h =
-      p.submits old (event.Submit node client number op) node (record { client = client; number = number; op = op }) new h
+  step_holds old (event.Submit node submission) new h = p.submits old (event.Submit node submission) node submission new h
   step_holds old (event.Deliver k) new h =
       received old (event.Deliver k) k h.frame new h.receives.receiver.up h.sent h.fits h.receives refl
   step_holds old (event.Drop k) new h = p.loses old (event.Drop k) k (Done 0 0) new nothing h
@@ -110,7 +109,7 @@ module _ {S : Type 0} where
   recorded_nodes w node (Ok said) = refl
   recorded_nodes w node (Err f) = refl
 
-  pub submission_nodes : (w : WorldState S) (taken : Bool) (node : ℕ) (r : Asked) → (with_submission w taken node r).nodes ≡ w.nodes
+  pub submission_nodes : (w : WorldState S) (taken : Bool) (node : ℕ) (r : Submission) → (with_submission w taken node r).nodes ≡ w.nodes
   submission_nodes w true node r = refl
   submission_nodes w false node r = refl
 
@@ -127,7 +126,7 @@ pub record Preserved {S : Type 0} (storages : Ghosts (Script S)) (P : WorldState
   -- it refuses or goes down
   pub fails : (w : WorldState S) (node : ℕ) (i : Input) (taken : Bool) (v : WorldState S) (h : TakesAt storages w node i taken v)
       (f : NodeFault) → h.result ≡ Err f → P w → P (with_node w node h.after)
-  pub submits : (w : WorldState S) (s : Submission) → OpIsValid s.op → P w → P (record w { submitted = w.submitted ++ s ∷ [] })
+  pub submits : (w : WorldState S) (s : Submitted) → OpIsValid s.submission.op → P w → P (record w { submitted = w.submitted ++ s ∷ [] })
   pub unwaits : (w : WorldState S) (k : ℕ) → P w → P (without_wait w k)
   pub says : (w : WorldState S) (o : StepOutcome) → BringsNothing o → P w → P (with_outcome w o)
   pub restarts : (w : WorldState S) (node : ℕ) (v : WorldState S) (h : RestartsAt storages w node v) → P w → P (with_node w node h.after)
@@ -162,8 +161,8 @@ module _ {S : Type 0} {storages : Ghosts (Script S)} {P : WorldState S → Type 
       another new (recorded (with_node old node h.after) node h.result) h.leaves
       (recorded_keeps old node i taken new h h.result refl fits kept)
 
-  submission_keeps : (w : WorldState S) (taken : Bool) (node : ℕ) (r : Asked) → OpIsValid r.op → P w → P (with_submission w taken node r)
-  submission_keeps w true node r sound kept = p.submits w (submission_of node r) sound kept
+  submission_keeps : (w : WorldState S) (taken : Bool) (node : ℕ) (r : Submission) → OpIsValid r.op → P w → P (with_submission w taken node r)
+  submission_keeps w true node r sound kept = p.submits w (record { node = node; submission = r }) sound kept
   submission_keeps w false node r sound kept = kept
 
   answer_keeps : (old : WorldState S) (node : ℕ) (query : Query) (new : WorldState S) (h : AsksAt old node query new)

@@ -26,7 +26,7 @@ use Rattle.node_model.specs.Inputs.{is_for_this_run, names_run}
 use Rattle.node_model.specs.Loading.{IsMember, Restarts}
 use Rattle.node_model.specs.Nodes.{NodeState, NodeSteps, NodeAnswers, StaysMeaning, AnswersMeaning}
 use Rattle.node_model.specs.Outputs.{Response, silence}
-use Rattle.node_model.specs.Replicas.{ReplicaState, asked}
+use Rattle.node_model.specs.Replicas.{ReplicaState, submission_of}
 use Rattle.world_model.specs.HandedOn.{HandedOn, handed_on}
 use Rattle.world_model.specs.Lives.{Happening, Took, Killed, Asked, Opened, Loaded, Happens, IsCutOff, reopened, MayCome, MayHappen}
 use Rattle.world_model.specs.Lives.{submitted_at, sent_at, learnt_at, replied_at, answered_at, request_at}
@@ -177,9 +177,9 @@ module _ {S : Type 0} {storages : Ghosts S} (laws : IsLawful storages) where
       → TakesAt Handed w k (input.Submit client number op) (is_ok r) (recorded (with_node w k x) k r)
       → Leads w k (Took (input.Submit client number op) r) x
   submit_step w k n client number op (Ok said) x valid h =
-      let v : World = with_submission (recorded (with_node w k x) k (Ok said)) true k (asked client number op) in
+      let v : World = with_submission (recorded (with_node w k x) k (Ok said)) true k (submission_of client number op) in
       record {
-        events = event.Submit k client number op ∷ [];
+        events = event.Submit k (submission_of client number op) ∷ [];
         world = v;
         steps = (
           v,
@@ -201,7 +201,7 @@ module _ {S : Type 0} {storages : Ghosts S} (laws : IsLawful storages) where
       }
   submit_step w k n client number op (Err f) x valid h =
       let v : World = recorded (with_node w k x) k (Err f) in
-      quiet_step w (event.Submit k client number op) k (Took (input.Submit client number op) (Err f)) x v
+      quiet_step w (event.Submit k (submission_of client number op)) k (Took (input.Submit client number op) (Err f)) x v
       (record { valid = valid; taken = false; between = v; takes = h; leaves = refl })
       refl refl refl refl refl refl (failed_nothing k (input.Submit client number op) f)
 

@@ -3,17 +3,18 @@ use Rattle.std.proofs.Common.{arith, rules}
 use Rattle.std.specs.List.{list_any}
 use Rattle.std.proofs.lemmas.Bool.{le-leb, lt-leb}
 use Rattle.std.proofs.lemmas.Result.{err_from_is_err_and}
-use Rattle.sessions.specs.Asked.{Asked, IsShort}
+use Rattle.sessions.specs.Requests.{IsShort}
+use Rattle.sessions.specs.declared.submission.Submission.{Submission}
 use Rattle.store.specs.declared.op.Op.{Op}
 use Rattle.store.specs.declared.op.Op.TheVariants.{Put, Append, Remove}
 use Rattle.synod.specs.declared.slot.TheConstants.{SLOTS}
-use Rattle.proposer.specs.declared.waiting.TheConstants.{MOST_WAITING}
+use Rattle.proposer.specs.declared.queue.TheConstants.{MOST_WAITING}
 use Rattle.node_model.specs.declared.fault.NodeFault.TheVariants.{LogFull, TooLong}
 use Rattle.proposer.specs.Proposing.{Proposing}
 use Rattle.proposer.specs.Requests.{is_of}
 use Rattle.wire.specs.declared.frames.envelope.Envelope.{Envelope}
 use Rattle.node_model.specs.Inputs.{is_short}
-use Rattle.node_model.specs.Replicas.{ReplicaState, asked, position, waits, refuses_submit}
+use Rattle.node_model.specs.Replicas.{ReplicaState, submission_of, position, waits, refuses_submit}
 use Rattle.node_model.specs.Outputs.{Response, sent, silence}
 use Rattle.node_model.specs.Taking.{with_proposer, with_request, after_submit, proposed, proposer_sends}
 use Rattle.node_model.proofs.FaultLemmas.{no_fault}
@@ -32,7 +33,7 @@ long_found (Append addition) long = absurd (long tt)
 long_found (Remove id) long = absurd (long tt)
 
 -- what refuses a request, test by test, of a node at a position
-module _ (m : ReplicaState) (r : Asked) (p : ℕ) (at : p ≡ position m) where
+module _ (m : ReplicaState) (r : Submission) (p : ℕ) (at : p ≡ position m) where
   full_refuses : SLOTS ≤ p → refuses_submit m r ≡ Some LogFull
   full_refuses full = rw (le-leb SLOTS (position m) (rw at at full)) refl
 
@@ -49,7 +50,7 @@ module _ (m : ReplicaState) (r : Asked) (p : ℕ) (at : p ≡ position m) where
   repeated_takes again = rw (sym again) (refl, refl)
 
   -- a new one waits from now on
-  module _ (new_one : false ≡ waits m r.client r.number) (q : Asked) (is : q ≡ r) where
+  module _ (new_one : false ≡ waits m r.client r.number) (q : Submission) (is : q ≡ r) where
     new_taken : p < SLOTS → IsShort r.op
         → (list_any (is_of q.client q.number) m.proposer.waiting ≡ false → ¬ MOST_WAITING ≤ length m.proposer.waiting)
         → refuses_submit m r ≡ None
@@ -78,22 +79,22 @@ not_both b isnt is = absurd (cc)
 -- whether it is refused, and with what, is told once at each way out
 pub returns-then-position-ge-SLOTS : goal.returns-then-position-ge-SLOTS
 returns-then-position-ge-SLOTS c =
-    let refused = full_refuses (replica_of c.args.self.now) (asked c.args.client c.args.number c.args.op) _ c.position.ensures.value
+    let refused = full_refuses (replica_of c.args.self.now) (submission_of c.args.client c.args.number c.args.op) _ c.position.ensures.value
     c.if-position-ge-SLOTS.true in
     rw refused (record { takes = tt; refuses = (refl, refl); repeats = λ none. refused_not_taken none; err = inr refl })
 
 pub returns-in_err-request : goal.returns-in_err-request
 returns-in_err-request c =
     let exit = err_from_is_err_and c.from_residual.result c.from_residual.ensures.1 in
-    let refused = long_refuses (replica_of c.args.self.now) (asked c.args.client c.args.number c.args.op) _ c.position.ensures.value
+    let refused = long_refuses (replica_of c.args.self.now) (submission_of c.args.client c.args.number c.args.op) _ c.position.ensures.value
     c.if-position-ge-SLOTS.false c.in_err-request.ensures.short.1 in
     rw (exit.1, exit.2, refused) (record { takes = tt; refuses = (refl, refl); repeats = λ none. refused_not_taken none; err = inr refl })
 
 pub returns-then-waits : goal.returns-then-waits
 returns-then-waits c =
-    let taken = repeated_taken (replica_of c.args.self.now) (asked c.args.client c.args.number c.args.op) _ c.position.ensures.value
+    let taken = repeated_taken (replica_of c.args.self.now) (submission_of c.args.client c.args.number c.args.op) _ c.position.ensures.value
     c.if-position-ge-SLOTS.false (c.in_ok-request.ensures.short.0 refl) c.if-waits.ensures in
-    let takes = repeated_takes (replica_of c.args.self.now) (asked c.args.client c.args.number c.args.op) _ c.position.ensures.value
+    let takes = repeated_takes (replica_of c.args.self.now) (submission_of c.args.client c.args.number c.args.op) _ c.position.ensures.value
     c.if-waits.ensures in
     record {
       takes = (takes.0, c.none.ensures ∙ takes.1);
@@ -108,7 +109,7 @@ returns-in_err-submit c = search rules
 pub returns-in_err-propose : goal.returns-in_err-propose
 returns-in_err-propose c =
     let exit = err_from_is_err_and c.from_residual-in_err-propose.result c.from_residual-in_err-propose.ensures.1 in
-    let taken = new_taken (replica_of c.args.self.now) (asked c.args.client c.args.number c.args.op) _ c.position.ensures.value
+    let taken = new_taken (replica_of c.args.self.now) (submission_of c.args.client c.args.number c.args.op) _ c.position.ensures.value
     c.if-waits.ensures _ c.in_ok-request.ensures.value c.if-position-ge-SLOTS.false (c.in_ok-request.ensures.short.0 refl)
     (λ new_one full. no_fault _ _ (c.in_ok-submit.ensures.full_refused new_one full)) in
     rw (exit.1, exit.2) (record {
@@ -120,11 +121,11 @@ returns-in_err-propose c =
 
 pub returns : goal.returns
 returns c =
-    let taken = new_taken (replica_of c.args.self.now) (asked c.args.client c.args.number c.args.op) _ c.position.ensures.value
+    let taken = new_taken (replica_of c.args.self.now) (submission_of c.args.client c.args.number c.args.op) _ c.position.ensures.value
     c.if-waits.ensures _ c.in_ok-request.ensures.value c.if-position-ge-SLOTS.false (c.in_ok-request.ensures.short.0 refl)
     (λ new_one full. no_fault _ _ (c.in_ok-submit.ensures.full_refused new_one full)) in
     record {
-      takes = new_takes (replica_of c.args.self.now) (asked c.args.client c.args.number c.args.op) _ c.position.ensures.value
+      takes = new_takes (replica_of c.args.self.now) (submission_of c.args.client c.args.number c.args.op) _ c.position.ensures.value
           c.if-waits.ensures _ c.in_ok-request.ensures.value _ _ _ _ c.in_ok-submit.ensures.last c.in_ok-propose.ensures.state
           c.in_ok-propose.ensures.sends c.of_frames.ensures;
       refuses = rw taken tt;

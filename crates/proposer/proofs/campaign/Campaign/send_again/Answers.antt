@@ -3,7 +3,7 @@ use Rattle.std.proofs.lemmas.Grind.{common_steps}
 use Rattle.std.proofs.lemmas.List.{take_all}
 use Rattle.proposer.specs.Campaigning.{Campaigning, accept, sends_again}
 use Rattle.proposer.specs.declared.window.Proposal.{Proposal}
-use Rattle.proposer.specs.declared.outgoing.Outgoing.{Outgoing}
+use Rattle.proposer.specs.declared.sends.Outgoing.{Outgoing}
 use Rattle.learner.proofs.SlotLemmas.{where_refused}
 use Rattle.proposer.proofs.campaign.Campaign.send_again.Goals as goal
 

@@ -1,7 +1,7 @@
 use Rattle.std.proofs.Common.{◌≡◌, ◌≢◌, ℕ, List, [], Bool, IsSome, IsSomeAnd, false, length, nat_le, ◌∙◌, refl, sym, ap, rules}
 use Rattle.std.specs.List.{list_any}
 use Rattle.std.proofs.lemmas.Result.{err_from_is_err_and}
-use Rattle.sessions.specs.Asked.{Asked}
+use Rattle.sessions.specs.declared.submission.Submission.{Submission}
 use Rattle.proposer.specs.Campaigning.{Campaigning, Filling, stepped, is_at, choice}
 use Rattle.proposer.specs.declared.window.Proposal.{Proposal}
 use Rattle.proposer.specs.declared.window.TheConstants.{MOST_OPEN}
@@ -22,7 +22,7 @@ pub returns : goal.returns
 returns c = search rules
 
 -- a slot that is open, in a window that has room, has its command sent
-still_sends : (k : Campaigning) (waiting : List Asked) (learnt_to slot : ℕ) (learnt : Bool) (f : Filling) (held : List Proposal)
+still_sends : (k : Campaigning) (waiting : List Submission) (learnt_to slot : ℕ) (learnt : Bool) (f : Filling) (held : List Proposal)
     → held ≡ f.proposals → learnt ≡ false → false ≡ list_any (is_at slot) held → false ≡ nat_le MOST_OPEN (length held)
     → IsSome (choice k waiting learnt_to slot f.proposals)
     → IsSomeAnd (stepped k waiting learnt_to learnt slot f) (λ (g : Filling). g.sent ≢ [])

@@ -1,18 +1,19 @@
 use Rattle.std.proofs.Common.{◌≡◌, ◌++◌, ◌∷◌, [], inl, inr, ℕ, Bool, true, false, List, refl, rules}
 use Rattle.std.proofs.lemmas.Result.{err_from_is_err_and}
 use Rattle.world.proofs.Missing.{counted, missing, node_there, not_missing}
-use Rattle.sessions.specs.Asked.{Asked}
-use Rattle.world_model.specs.declared.lists.Submission.{Submission}
-use Rattle.world_model.specs.Worlds.{WorldState, submission_of, with_submission}
+use Rattle.sessions.specs.declared.submission.Submission.{Submission}
+use Rattle.world_model.specs.declared.lists.Submitted.{Submitted}
+use Rattle.world_model.specs.Worlds.{WorldState, with_submission}
 use Rattle.world.specs.Inner.{inner_of}
 use Rattle.world.proofs.inner.Inner.submit.Goals as goal
 
 -- a request that was taken stands in the list, and no other
-listed : {S : Type 0} (w : WorldState S) (taken : Bool) (node : ℕ) (r : Asked) (submitted : List Submission) → taken ≡ true
-    → submitted ≡ w.submitted ++ submission_of node r ∷ [] → record w { submitted = submitted } ≡ with_submission w taken node r
+listed : {S : Type 0} (w : WorldState S) (taken : Bool) (node : ℕ) (r : Submission) (submitted : List Submitted) → taken ≡ true
+    → submitted ≡ w.submitted ++ record { node = node; submission = r } ∷ []
+    → record w { submitted = submitted } ≡ with_submission w taken node r
 listed w taken node r submitted is more = rw (is, more) refl
 
-unlisted : {S : Type 0} (w : WorldState S) (taken : Bool) (node : ℕ) (r : Asked) → taken ≡ false → w ≡ with_submission w taken node r
+unlisted : {S : Type 0} (w : WorldState S) (taken : Bool) (node : ℕ) (r : Submission) → taken ≡ false → w ≡ with_submission w taken node r
 unlisted w taken node r isnt = rw isnt refl
 
 -- there is no such node
@@ -54,8 +55,8 @@ returns-then-take g c = record {
   submits = record {
     taken = c.take.result;
     between = inner_of c.take.new.self;
-    valid = rw c.in_ok-copy.ensures.cases at c.recall_valid.ensures;
-    takes = rw c.reserve.ensures.same at c.take.ensures.taken;
+    valid = c.recall_valid.ensures;
+    takes = rw (c.reserve.ensures.same, c.in_ok-copy.ensures.cases) at c.take.ensures.taken;
     leaves = listed (inner_of c.take.new.self) c.take.result c.args.node _ _ c.if-take.true (search rules);
   };
   err = tt;
@@ -69,8 +70,8 @@ returns-else-take g c = record {
   submits = record {
     taken = c.take.result;
     between = inner_of c.take.new.self;
-    valid = rw c.in_ok-copy.ensures.cases at c.recall_valid.ensures;
-    takes = rw c.reserve.ensures.same at c.take.ensures.taken;
+    valid = c.recall_valid.ensures;
+    takes = rw (c.reserve.ensures.same, c.in_ok-copy.ensures.cases) at c.take.ensures.taken;
     leaves = unlisted (inner_of c.take.new.self) c.take.result c.args.node _ c.if-take.false;
   };
   err = tt;

@@ -1,0 +1,2 @@
+-- a text that begins so, and more behind it
+pub mod Longer

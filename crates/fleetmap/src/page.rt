@@ -1,0 +1,278 @@
+//! The page: the map, and what stands beside it.
+
+use crate::asked::Asked;
+use crate::chart::{Chart, SIDE};
+use crate::corners::chart_of;
+use crate::label::{MARK, Rooms};
+use crate::legend::draw_legend;
+use crate::scale::draw_scale;
+use crate::shown::{Shown, show_fleet, spot_of};
+use crate::spot::Spot;
+use crate::way::draw_way;
+use picture::{Picture, Place};
+use std::alloc::Global;
+use std::io;
+use store::Db;
+use tpoint::{Frac, Instant, Rect};
+
+/// The size of the page, in units: that of A3, of whose millimetres a unit is about a quarter.
+const WIDTH: u32 = 1588;
+
+const HEIGHT: u32 = 1123;
+
+/// Where the map is, in hundredths of a unit.
+pub(crate) const MAP_LEFT: u32 = 2_400;
+
+pub(crate) const MAP_TOP: u32 = 6_400;
+
+pub(crate) const MAP_RIGHT: u32 = MAP_LEFT + SIDE;
+
+pub(crate) const MAP_BOTTOM: u32 = MAP_TOP + SIDE;
+
+/// How the elements look. No text is smaller than 12 units, which are 9 points on A3.
+const STYLE: &[u8] = b"svg{background:#fff;font-family:sans-serif}\
+.frame{fill:#fcfcf8;stroke:#888}\
+.way{fill:none;stroke:currentColor;stroke-width:2;stroke-linejoin:round}\
+.leap{fill:none;stroke:currentColor;stroke-width:1.2;stroke-dasharray:2 4}\
+.dot{fill:currentColor}\
+.mark{fill:currentColor;stroke:#fff;stroke-width:1.5}\
+.area{fill-opacity:.12;stroke-width:1.2;stroke-dasharray:6 3;fill:currentColor;stroke:currentColor}\
+.tag{font-size:13px;font-weight:bold;fill:currentColor}\
+.lead{stroke:#666;stroke-width:.7}\
+.id{font:13px monospace;fill:#111}\
+.bar{stroke:#111;stroke-width:1.5}\
+.title{font-size:22px;font-weight:bold}\
+.head{font-size:15px;font-weight:bold}\
+.note{font-size:13px;fill:#222}\
+.fact{font:12px monospace;fill:#222}\
+.yes{color:#1b7f3b}.no{color:#b3261e}.other{color:#555}\
+.c0{color:#1f77b4}.c1{color:#d95f02}.c2{color:#2a8f2a}.c3{color:#c2272d}.c4{color:#7b52ab}\
+.c5{color:#8c564b}.c6{color:#d0459b}.c7{color:#5a5a5a}.c8{color:#9a8f00}.c9{color:#0f97a8}";
+
+/// The picture of a fleet at an instant: each feature's way, and its position then with its id; the rectangles of which a run was
+/// asked; a scale; and a legend, in which each position stands as it is, unrounded.
+///
+/// `title` and `note` are the page's first lines. Each error is out of memory.
+pub fn draw_fleet(
+    alloc: Global,
+    db: &Db,
+    t: Instant,
+    asked: &[Asked],
+    title: &[u8],
+    note: &[u8],
+) -> io::Result<Vec<u8>> {
+    let chart = chart_of(db, asked);
+    let shown = show_fleet(alloc, db, t, &chart)?;
+    let mut picture = Picture::new(alloc, WIDTH, HEIGHT, STYLE)?;
+    picture.text(
+        b"title",
+        Place {
+            x: MAP_LEFT,
+            y: 3000,
+        },
+        title,
+    )?;
+    picture.text(
+        b"note",
+        Place {
+            x: MAP_LEFT,
+            y: 5200,
+        },
+        note,
+    )?;
+    let corner = Place {
+        x: MAP_LEFT,
+        y: MAP_TOP,
+    };
+    picture.rectangle(b"frame", corner, SIDE, SIDE)?;
+    draw_areas(alloc, &mut picture, asked, &chart)?;
+    draw_ways(alloc, &mut picture, db, &chart)?;
+    draw_marks(alloc, &mut picture, db, &shown)?;
+    draw_scale(
+        alloc,
+        &mut picture,
+        &chart,
+        Place {
+            x: MAP_RIGHT + 2400,
+            y: MAP_BOTTOM,
+        },
+    )?;
+    draw_legend(alloc, &mut picture, db, t, asked)?;
+    picture.finish()
+}
+
+/// Where a spot of the chart is on the page.
+pub(crate) fn place_on_map(spot: &Spot) -> Place {
+    let spot = *spot;
+    Place {
+        x: MAP_LEFT + spot.x,
+        y: MAP_BOTTOM - spot.y,
+    }
+}
+
+/// The class that colours a feature.
+pub(crate) fn color_of(at: u32) -> &'static [u8] {
+    match at % 10 {
+        0 => b"c0",
+        1 => b"c1",
+        2 => b"c2",
+        3 => b"c3",
+        4 => b"c4",
+        5 => b"c5",
+        6 => b"c6",
+        7 => b"c7",
+        8 => b"c8",
+        _ => b"c9",
+    }
+}
+
+fn draw_ways(alloc: Global, picture: &mut Picture, db: &Db, chart: &Chart) -> io::Result<()> {
+    for at in 0..db.len() {
+        if let Some((id, seq)) = db.feature(at) {
+            picture.open(color_of(at), id.bytes())?;
+            draw_way(alloc, picture, seq, chart)?;
+            picture.close()?;
+        }
+    }
+    Ok(())
+}
+
+/// Draws where the features are, and then their ids, so that no id is over a mark.
+fn draw_marks(alloc: Global, picture: &mut Picture, db: &Db, shown: &[Shown]) -> io::Result<()> {
+    let mut rooms = Rooms::new(alloc);
+    for at in 0..db.len() {
+        if let Some((id, spot)) = mark_of(db, shown, at) {
+            rooms.take_mark(place_on_map(&spot))?;
+            picture.open(color_of(at), id)?;
+            picture.circle(b"mark", place_on_map(&spot), MARK)?;
+            picture.close()?;
+        }
+    }
+    for at in 0..db.len() {
+        if let Some((id, spot)) = mark_of(db, shown, at) {
+            rooms.draw_beside(picture, place_on_map(&spot), id)?;
+        }
+    }
+    Ok(())
+}
+
+/// The id of the feature at a place, and where it is drawn; None where it isn't on the map.
+fn mark_of<'a>(db: &'a Db, shown: &[Shown], at: u32) -> Option<(&'a [u8], Spot)> {
+    let (id, _seq) = db.feature(at)?;
+    match shown.get(at as usize)? {
+        Shown::At(spot) => Some((id.bytes(), *spot)),
+        Shown::Nowhere | Shown::Beyond => None,
+    }
+}
+
+/// Draws the rectangles, each with its number, as far as they are on the chart.
+fn draw_areas(
+    alloc: Global,
+    picture: &mut Picture,
+    asked: &[Asked],
+    chart: &Chart,
+) -> io::Result<()> {
+    for k in 0..asked.len() {
+        let one = &asked[k];
+        let Some(area) = one.area() else {
+            continue;
+        };
+        let number = k + 1;
+        let text = format!(in alloc; "{number}")?;
+        draw_area(picture, &area, chart, one.class(), text.as_bytes())?;
+    }
+    Ok(())
+}
+
+fn draw_area(
+    picture: &mut Picture,
+    area: &Rect,
+    chart: &Chart,
+    class: &[u8],
+    number: &[u8],
+) -> io::Result<()> {
+    let Some(low) = nearest_spot(chart, area.x0(), area.y0()) else {
+        return Ok(());
+    };
+    let Some(high) = nearest_spot(chart, area.x1(), area.y1()) else {
+        return Ok(());
+    };
+    let left = place_on_map(&low);
+    let right = place_on_map(&high);
+    let corner = Place {
+        x: left.x,
+        y: right.y,
+    };
+    let width = right.x.saturating_sub(left.x);
+    let height = left.y.saturating_sub(right.y);
+    let inside = Place {
+        x: corner.x.saturating_add(400),
+        y: corner.y.saturating_add(1500),
+    };
+    picture.open(class, number)?;
+    picture.rectangle(b"area", corner, width, height)?;
+    picture.text(b"tag", inside, number)?;
+    picture.close()
+}
+
+/// The spot of the chart that is nearest to a position.
+fn nearest_spot(chart: &Chart, x: i64, y: i64) -> Option<Spot> {
+    let x = nearest(x, chart.west(), chart.span());
+    let y = nearest(y, chart.south(), chart.span());
+    spot_of(chart, &Frac::from(x), &Frac::from(y))
+}
+
+/// The number nearest to another of those at most a span above an edge.
+fn nearest(z: i64, edge: i64, span: u64) -> i64 {
+    z.max(edge).min(edge.saturating_add_unsigned(span))
+}
+
+#[cfg(test)]
+mod tests {
+    use super::*;
+    use std::str;
+    use std::test::Fail;
+    use store::{Op, Query};
+    use tpoint::{Id, Interp, Period, Point, Seq};
+
+    // A map of 710 mm: 600, a sixth of that, and 10. So 20 mm are 2929.58 hundredths of a unit.
+    const MARK_DRAWN: &str = "<circle class=\"mark\" cx=\"104.56\" cy=\"1023.44\" r=\"6.00\"/>";
+
+    #[test]
+    fn draws_a_fleet(rt: HostRuntime) -> Result<(), Fail> {
+        let alloc = rt.alloc();
+        let (begin, end) = (Instant::new(0).unwrap(), Instant::new(3).unwrap());
+        let mut points = Vec::new(alloc);
+        points.push(Point {
+            t: begin,
+            x: 0,
+            y: 0,
+        })?;
+        points.push(Point {
+            t: end,
+            x: 600,
+            y: 600,
+        })?;
+        let Ok(seq) = Seq::new(Interp::Linear, points) else {
+            return Ok(());
+        };
+        let id = Id::new(b"bus-7").unwrap();
+        let mut db = Db::new(alloc);
+        let _told = db.apply(&Op::Put(id, seq))?;
+        let area = Rect::new(0, 0, 100, 100).unwrap();
+        let query = Query::Within(Period::new(begin, end).unwrap(), area);
+        let mut asked = Vec::new(alloc);
+        asked.push(Asked {
+            line: 4,
+            node: 1,
+            query,
+            answer: None,
+        })?;
+        let text = draw_fleet(alloc, &db, begin, &asked, b"<title>", b"")?;
+        let text = str::from_utf8(&text).unwrap_or("");
+        assert!(rt; text.contains("&#x003c;title&#x003e;"));
+        assert!(rt; text.contains(MARK_DRAWN));
+        assert!(rt; text.contains("line 4, node 1: refused"));
+        Ok(())
+    }
+}

@@ -1,0 +1,37 @@
+//! Why nothing more is shown.
+
+ghost use Rattle.std.specs.Prelude.{◌≡◌};
+ghost use Rattle.mfpxview.specs.declared.failure.Failure.TheVariants.{Memory};
+
+use std::alloc::{AllocError, AllocFailed};
+use thiserror::Error;
+
+/// Why nothing more is shown: what the program's surroundings don't give.
+#[derive(Clone, Copy, Debug, Drop, PartialEq, Eq, Error)]
+pub(crate) enum Failure {
+    /// The file or the input can't be read.
+    #[error("the file can't be read")]
+    Unread,
+    /// The file or the output can't be written.
+    #[error("the output can't be written")]
+    Unwritten,
+    /// A growth was refused.
+    #[error("out of memory")]
+    Memory,
+}
+
+impl From<AllocError> for Failure {
+    ghost from_gives = { λ _ failure. failure ≡ Memory };
+
+    fn from(_refused: AllocError) -> Failure {
+        Failure::Memory
+    }
+}
+
+impl<T: Drop> From<AllocFailed<T>> for Failure {
+    ghost from_gives = { λ _ failure. failure ≡ Memory };
+
+    fn from(_refused: AllocFailed<T>) -> Failure {
+        Failure::Memory
+    }
+}

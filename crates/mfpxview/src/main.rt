@@ -1,0 +1,29 @@
+//! The program `mfpxview`: what people want to see of the schedules, the runs and the documents of `mfpx`.
+//!
+//! | Call | What it shows |
+//! |---|---|
+//! | `mfpxview why FILE` | where a schedule or a document is wrong, and what was wanted there |
+//! | `mfpxview --help`, `--version` | how it is called |
+//!
+//! `-` in the place of FILE is standard input. The exit status is 0 where nothing is wrong, 1 where faults are told, 2 where the words
+//! are none of the forms, and 3 where a file or a stream fails or memory runs out.
+#![tactic(auto)]
+
+mod failure;
+mod files;
+mod show;
+
+use crate::show::show;
+use std::env;
+use std::process::ExitCode;
+
+fn main(rt: HostRuntime) -> ExitCode {
+    let status = match env::args(&rt) {
+        Ok(words) => show(&rt, words),
+        Err(_) => {
+            let _ = eprintln!(rt; "mfpxview: the words can't be read as text");
+            2
+        }
+    };
+    ExitCode::from(status)
+}

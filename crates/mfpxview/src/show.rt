@@ -1,0 +1,94 @@
+//! What the words ask for, shown.
+
+use crate::failure::Failure;
+use crate::files::{read_file, write_file};
+use clap::Error;
+use clap::error::ErrorKind;
+use fault_report::{report_document, report_schedule};
+use std::alloc::{AllocError, Global};
+use std::env::Args;
+use view_args::{View, view_of};
+
+/// Shows what the words ask for, of which the first is the program's name, and answers the exit status.
+pub(crate) fn show(rt: &HostRuntime, words: Args) -> u8 {
+    match words_after_name(rt.alloc(), words) {
+        Ok(words) => show_words(rt, words.as_slice()),
+        Err(_) => tell(rt, "", Failure::Memory),
+    }
+}
+
+/// All words but the first.
+fn words_after_name(alloc: Global, all: Args) -> Result<Vec<String>, AllocError> {
+    let mut all = all;
+    let _name = all.next();
+    let mut words = Vec::new(alloc);
+    for word in all {
+        words.push(word)?;
+    }
+    Ok(words)
+}
+
+/// Shows what the words ask for, and answers the exit status.
+fn show_words(rt: &HostRuntime, words: &[String]) -> u8 {
+    match view_of(rt.alloc(), words) {
+        Ok(view) => show_view(rt, view),
+        Err(error) => print_error(rt, &error),
+    }
+}
+
+/// Prints help, the version, or why the words ask for nothing.
+fn print_error(rt: &HostRuntime, error: &Error) -> u8 {
+    if let Err(_) = error.print(rt) {
+        return 3;
+    }
+    match error.kind() {
+        ErrorKind::DisplayHelp | ErrorKind::DisplayVersion => 0,
+        ErrorKind::OutOfMemory => 3,
+        _ => 2,
+    }
+}
+
+/// Shows the view, and answers the exit status.
+fn show_view(rt: &HostRuntime, view: View<'_>) -> u8 {
+    match view {
+        View::Why { file } => ended(rt, file, show_faults(rt, file)),
+    }
+}
+
+/// The exit status of a view of this file that ended so.
+fn ended(rt: &HostRuntime, file: &str, shown: Result<u8, Failure>) -> u8 {
+    match shown {
+        Ok(status) => status,
+        Err(failure) => tell(rt, file, failure),
+    }
+}
+
+/// Tells why nothing more is shown of the file.
+fn tell(rt: &HostRuntime, file: &str, failure: Failure) -> u8 {
+    let _ = eprintln!(rt; "mfpxview: {file}: {failure}");
+    3
+}
+
+/// Shows what is wrong with the file, and answers whether anything is.
+fn show_faults(rt: &HostRuntime, file: &str) -> Result<u8, Failure> {
+    let bytes = read_file(rt, file)?;
+    let told = if is_document(file, bytes.as_slice()) {
+        report_document(rt.alloc(), file, bytes.as_slice())?
+    } else {
+        report_schedule(rt.alloc(), file, bytes.as_slice())?
+    };
+    match told {
+        Some(text) => {
+            write_file(rt, "-", text.as_str().as_bytes())?;
+            Ok(1)
+        }
+        None => Ok(0),
+    }
+}
+
+/// Whether the file is read as a document: its name ends in `.json` or `.mfjson`, or its text begins with `{` after white space.
+fn is_document(file: &str, bytes: &[u8]) -> bool {
+    file.ends_with(".json")
+        || file.ends_with(".mfjson")
+        || bytes.trim_ascii_start().first() == Some(&b'{')
+}

@@ -1,0 +1,2 @@
+-- what clap holds of the words that were given
+pub mod Given
