@@ -1,13 +1,14 @@
 //! The audit.
 
-ghost use Rattle.std.specs.Prelude.{map, IfOk, IfErr};
+ghost use Rattle.std.specs.Prelude.{ℕ, List, map, IfOk, IfErr};
+ghost use Rattle.schedule.specs.Schedules.{IsScheduleOf};
 ghost use Rattle.audit.specs.Audits.{IsAudit, IsNoAudit};
 
 use crate::fault::AuditFault;
 use crate::transcripts::read_transcripts;
 use crate::wanted::wanted_of;
-use schedule::parse_schedule;
-use std::alloc::Global;
+use schedule::{Schedule, parse_schedule};
+use std::alloc::{AllocError, Global};
 use verdicts::{Verdict, verdict_on};
 
 /// Whether one list of commands explains what the transcripts tell, where the schedule has their submissions and queries.
@@ -19,10 +20,17 @@ pub fn audit(alloc: Global, schedule: &[u8], transcripts: &[Vec<u8>]) -> Result<
     ensures audited { IfOk result (IsAudit schedule.now (map (λ t. t.items) transcripts.now)) }
     ensures no_schedule { IfErr result (IsNoAudit schedule.now) }
 {
-    let schedule = match parse_schedule(alloc, schedule) {
-        Ok(schedule) => schedule,
-        Err(fault) => return Err(AuditFault::Schedule(fault)),
-    };
+    match parse_schedule(alloc, schedule) {
+        Ok(schedule) => Ok(judge(alloc, schedule, transcripts)?),
+        Err(fault) => Err(AuditFault::Schedule(fault)),
+    }
+}
+
+/// The verdict on transcripts of runs of the schedule.
+fn judge(alloc: Global, schedule: Schedule, transcripts: &[Vec<u8>]) -> Result<Verdict, AllocError>
+    ensures { IfOk result (λ verdict. (bytes : List ℕ) → IsScheduleOf bytes schedule
+        → IsAudit bytes (map (λ t. t.items) transcripts.now) verdict) }
+{
     let nodes = schedule.nodes().count();
     let wanted = wanted_of(alloc, schedule)?;
     let read = read_transcripts(alloc, nodes, transcripts)?;

@@ -68,6 +68,7 @@ fn add_event(wanted: &mut Wanted, event: &Event) -> Result<(), AllocError>
 }
 
 /// Adds the request, where there is one: a node refuses a put of too many points.
+#[tactic(auto, using(crate::proofs::WantedLemmas::short_is_taken, crate::proofs::WantedLemmas::long_is_not))]
 fn add_request(requests: &mut Vec<Request>, submission: &Submission) -> Result<(), AllocError>
     ensures { OnOk result (requests.new.items ≡ requests.old.items ++ cond (is_short submission.now.op) (submission.now ∷ []) []) }
 {
