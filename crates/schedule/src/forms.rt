@@ -26,7 +26,7 @@ const SIZES: u64 = FURTHEST as u64 + 1;
 const SMALL_DIGITS: usize = 19;
 
 /// The node that the word names.
-pub(crate) fn node(nodes: Nodes, word: &[u8]) -> Option<NodeId>
+pub fn node(nodes: Nodes, word: &[u8]) -> Option<NodeId>
     ensures { MatchOption result ((node : ℕ) → ¬ IsNode nodes word.now node)
         (IsNode nodes word.now) }
 {
@@ -34,14 +34,14 @@ pub(crate) fn node(nodes: Nodes, word: &[u8]) -> Option<NodeId>
 }
 
 /// The client that the word names.
-pub(crate) fn client(word: &[u8]) -> Option<u8>
+pub fn client(word: &[u8]) -> Option<u8>
     ensures { MatchOption result ((client : ℕ) → ¬ IsClient word.now client) (IsClient word.now) }
 {
     Some(below(256, word)? as u8)
 }
 
 /// The number of a request that the word writes.
-pub(crate) fn request_number(word: &[u8]) -> Option<Number>
+pub fn request_number(word: &[u8]) -> Option<Number>
     ensures { MatchOption result ((number : ℕ) → ¬ IsRequestNumber word.now number)
         (IsRequestNumber word.now) }
 {
@@ -49,7 +49,7 @@ pub(crate) fn request_number(word: &[u8]) -> Option<Number>
 }
 
 /// How a put or a reading of the keys is to fail, as the word says.
-pub(crate) fn failing(word: &[u8]) -> Option<Failing>
+pub fn failing(word: &[u8]) -> Option<Failing>
     ensures { MatchOption result ((failing : Failing) → word.now ≢ failing_text failing)
         (λ failing. word.now ≡ failing_text failing) }
 {
@@ -62,14 +62,14 @@ pub(crate) fn failing(word: &[u8]) -> Option<Failing>
 }
 
 /// The id that the word is.
-pub(crate) fn id(word: &[u8]) -> Option<Id>
+pub fn id(word: &[u8]) -> Option<Id>
     ensures { MatchOption result (¬ IsId word.now) (λ id. (id ≡ word.now) × IsId word.now) }
 {
     Id::new(word)
 }
 
 /// The instant that the word is the datetime of.
-pub(crate) fn instant(word: &[u8]) -> Option<Instant>
+pub fn instant(word: &[u8]) -> Option<Instant>
     ensures { MatchOption result ((t : ℕ) → ¬ ReadsAs word.now t) (ReadsAs word.now) }
 {
     datetime_read(word)
@@ -87,7 +87,7 @@ pub(crate) fn period(words: PeriodWords) -> Option<Period>
 }
 
 /// Where a period begins, and whether that instant is in it.
-fn period_begin(word: &[u8]) -> Option<(Instant, bool)>
+pub fn period_begin(word: &[u8]) -> Option<(Instant, bool)>
     ensures { MatchOption result ((t : ℕ) (is_in : Bool) → ¬ IsBegin word.now t is_in)
         (λ begin. IsBegin word.now begin.0 begin.1) }
 {
@@ -101,7 +101,7 @@ fn period_begin(word: &[u8]) -> Option<(Instant, bool)>
 }
 
 /// Where a period ends, and whether that instant is in it.
-fn period_end(word: &[u8]) -> Option<(Instant, bool)>
+pub fn period_end(word: &[u8]) -> Option<(Instant, bool)>
     ensures { MatchOption result ((t : ℕ) (is_in : Bool) → ¬ IsEnd word.now t is_in)
         (λ end. IsEnd word.now end.0 end.1) }
 {
@@ -144,7 +144,7 @@ pub(crate) fn rect(words: RectWords) -> Option<Rect>
 }
 
 /// The coordinate in range that the word writes, if it writes one.
-pub(crate) fn coordinate(word: &[u8]) -> Option<i64>
+pub fn coordinate(word: &[u8]) -> Option<i64>
     ensures { MatchOption result ((value : ℤ) → ¬ IsCoordinate word.now value)
         (IsCoordinate word.now) }
 {
@@ -187,7 +187,7 @@ fn below(limit: u64, word: &[u8]) -> Option<u64>
 }
 
 /// The number below 2^64 that the word writes, if it writes one.
-pub(crate) fn decimal(word: &[u8]) -> Option<u64>
+pub fn decimal(word: &[u8]) -> Option<u64>
     ensures { MatchOption result ((value : ℕ) → ¬ IsFrameNumber word.now value)
         (IsFrameNumber word.now) }
 {

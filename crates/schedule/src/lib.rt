@@ -3,12 +3,13 @@
 //! `parse_schedule` returns the schedule that the bytes spell, or the first faulty line and the lowest of its faults.
 //! `specs/Schedules.antt` defines which bytes spell which schedule, over `specs/Spelling.antt` and `specs/Table.antt`; no bytes
 //! spell two. Nothing runs here: the crate `replay` does the lines. A `ReplayFault` says at which line there is no replay, and why.
+//! `nodes_line` and `read_action` read one line by itself, and `forms` one word, for whoever tells what is wrong with them.
 #![tactic(auto)]
 
 mod action;
 mod fault;
 mod first_mark;
-mod forms;
+pub mod forms;
 mod keyword;
 mod laws;
 mod lines;
@@ -27,6 +28,7 @@ pub use action::Action;
 pub use fault::ScheduleFault;
 pub use laws::{faulty_is_no_schedule, first_faults_are_one, schedules_are_one};
 pub use members::Members;
-pub use parse::parse_schedule;
+pub use one_line::nodes_line;
+pub use parse::{parse_schedule, read_action};
 pub use replay_fault::{ReplayCause, ReplayFault};
 pub use schedule::{Schedule, ScheduleLine};

@@ -19,7 +19,7 @@ use events::Event;
 use wire::Nodes;
 
 /// How many nodes the first line says that there are.
-pub(crate) fn nodes_line(text: &[u8]) -> Result<Nodes, ScheduleFault>
+pub fn nodes_line(text: &[u8]) -> Result<Nodes, ScheduleFault>
     ensures { MatchResult result (IsNodesLine text.now) (IsLowestFault (HasFirstFault text.now)) }
 {
     if let Some(nodes) = run_size(text) {

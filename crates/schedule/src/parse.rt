@@ -85,8 +85,10 @@ fn action_of(alloc: Global, nodes: Nodes, line: Line) -> Result<Action, ReplayFa
     }
 }
 
-/// The action that the text of a line spells.
-fn read_action(alloc: Global, nodes: Nodes, text: &[u8]) -> Result<Action, ReplayCause>
+/// The action that the text of a line after the first spells, in a run of so many nodes; else the lowest of its faults.
+///
+/// `WorldFault::Memory` comes where a growth was refused.
+pub fn read_action(alloc: Global, nodes: Nodes, text: &[u8]) -> Result<Action, ReplayCause>
     ensures { MatchResult result (Spells nodes text.now) (IsUnreadFor nodes text.now) }
 {
     match later_line(nodes, text) {
