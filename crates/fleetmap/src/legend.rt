@@ -113,13 +113,21 @@ fn draw_fact(picture: &mut Picture, at: Place, text: &[u8]) -> io::Result<()> {
         return picture.text(b"fact", at, text);
     }
     picture.open(b"long", text)?;
-    picture.text(b"fact", at, &text[..LETTERS])?;
+    picture.text(b"fact", at, first_letters(text))?;
     let end = Place {
         x: at.x.saturating_add(LETTERS as u32 * LETTER),
         y: at.y,
     };
     picture.text(b"fact", end, b"..")?;
     picture.close()
+}
+
+/// What a line has room for.
+fn first_letters(text: &[u8]) -> &[u8] {
+    match text.get(..LETTERS) {
+        Some(first) => first,
+        None => text,
+    }
 }
 
 /// Draws the queries of rectangles, by the numbers that stand in these.
