@@ -15,6 +15,9 @@ pub(crate) enum Failure {
     /// The file or the output can't be written.
     #[error("the output can't be written")]
     Unwritten,
+    /// A frame's number is none.
+    #[error("a frame's number is wanted after --from and --to")]
+    NoNumber,
     /// A growth was refused.
     #[error("out of memory")]
     Memory,
