@@ -4,7 +4,9 @@
 #[derive(Clone, Copy, Debug, PartialEq, Eq)]
 pub enum View<'a> {
     /// What is wrong with a schedule or a document.
-    Why { file: &'a str },
+    Why {
+        file: &'a str,
+    },
     /// What came of each line of a schedule.
     Run {
         file: &'a str,

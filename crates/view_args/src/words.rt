@@ -83,11 +83,7 @@ fn run_command<'a>(alloc: Global) -> Result<Command<'a>, AllocError>
     )?;
     command
         .arg(flag_arg(alloc, "frames", "Tells each frame"))?
-        .arg(flag_arg(
-            alloc,
-            "json",
-            "One JSON object a line, for programs",
-        ))
+        .arg(flag_arg(alloc, "json", "One JSON object a line, for programs"))
 }
 
 /// The form of `draw`.
