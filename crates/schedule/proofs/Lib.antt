@@ -13,6 +13,7 @@ pub mod One
 pub mod OneAction
 pub mod OneFault
 pub mod OneValue
+pub mod Over
 pub mod Progress
 pub mod RowLemmas
 pub mod Spelled

@@ -11,7 +11,7 @@ use memchr::memchr;
 const LONG: usize = 32;
 
 /// The bytes before the first mark, and those after it; without a mark, all bytes and None.
-pub(crate) fn cut(bytes: &[u8], mark: u8) -> (&[u8], Option<&[u8]>)
+pub fn cut(bytes: &[u8], mark: u8) -> (&[u8], Option<&[u8]>)
     ensures { pieces mark (Some bytes.now) ≡ result.0.now ∷ pieces mark (option_copied result.1) }
 {
     let end = first_end(bytes, mark);

@@ -178,7 +178,7 @@ fn size_of_coordinate(word: &[u8]) -> Option<i64>
 }
 
 /// The number below the limit that the word writes, if it writes one.
-fn below(limit: u64, word: &[u8]) -> Option<u64>
+pub fn below(limit: u64, word: &[u8]) -> Option<u64>
     ensures { MatchOption result ((value : ℕ) → ¬ WritesNumber 0 limit word.now value)
         (WritesNumber 0 limit word.now) }
 {

@@ -1,14 +1,14 @@
-//! The lines of a file that are not empty, one after another.
+//! The lines of a file, one after another.
 
-ghost use Rattle.std.specs.Prelude.{◌≡◌, [], ◌∷◌, Some, filter, MatchOption};
-ghost use Rattle.schedule.specs.Lines.{pieces, numbered, is_filled, line_feed, lines_of};
+ghost use Rattle.std.specs.Prelude.{◌≡◌, [], ◌∷◌, Some, filter, MatchOption, ◌↔◌, IsTrue};
+ghost use Rattle.schedule.specs.Lines.{pieces, numbered, is_filled, line_feed};
 
 use super::first_mark::cut;
 use std::marker::Model;
 
 /// A line, without its line feed.
 #[derive(Clone, Copy)]
-pub(crate) struct Line<'a> {
+pub struct Line<'a> {
     /// Which line of the file it is, counted from 1.
     pub number: u64,
     pub text: &'a [u8],
@@ -16,7 +16,7 @@ pub(crate) struct Line<'a> {
 
 /// The lines that were not read yet.
 #[derive(Drop)]
-pub(crate) struct Lines<'a> {
+pub struct Lines<'a> {
     rest: Option<&'a [u8]>,
     /// The number of the first of them.
     number: u64,
@@ -37,8 +37,8 @@ impl<'a> Model for Lines<'a> {
 
 impl<'a> Lines<'a> {
     /// All lines of the file.
-    pub(crate) fn of(bytes: &'a [u8]) -> Lines<'a>
-        ensures { filter is_filled result ≡ lines_of bytes.now }
+    pub fn of(bytes: &'a [u8]) -> Lines<'a>
+        ensures { result ≡ numbered 1 (pieces line_feed (Some bytes.now)) }
     {
         Lines {
             rest: Some(bytes),
@@ -46,8 +46,18 @@ impl<'a> Lines<'a> {
         }
     }
 
-    /// Takes the next line, which may be empty.
-    fn next_piece(&mut self) -> Option<Line<'a>>
+    /// Whether no line is left.
+    pub fn is_over(&self) -> bool
+        ensures { IsTrue result ↔ (self.now ≡ []) }
+    {
+        match self.rest {
+            Some(_) => false,
+            None => true,
+        }
+    }
+
+    /// Takes the next line, which may be empty. One that ends the file behind its last line feed is a line here.
+    pub fn next_piece(&mut self) -> Option<Line<'a>>
         ensures { MatchOption result (self.old ≡ [])
             (λ line. self.old ≡ record { number = line.number; text = line.text.now } ∷ self.new) }
     {

@@ -26,7 +26,7 @@ pub(crate) struct RectWords<'a> {
 
 /// The words that were not read yet.
 #[derive(Drop)]
-pub(crate) struct Words<'a> {
+pub struct Words<'a> {
     rest: Option<&'a [u8]>,
 }
 
@@ -43,14 +43,14 @@ impl<'a> Model for Words<'a> {
 
 impl<'a> Words<'a> {
     /// All words of the line.
-    pub(crate) fn of(text: &'a [u8]) -> Words<'a>
+    pub fn of(text: &'a [u8]) -> Words<'a>
         ensures { result ≡ words_of text.now }
     {
         Words { rest: Some(text) }
     }
 
     /// Takes the next word.
-    pub(crate) fn next(&mut self) -> Option<&'a [u8]>
+    pub fn next(&mut self) -> Option<&'a [u8]>
         ensures { MatchOption result (self.old ≡ []) (λ word. self.old ≡ word.now ∷ self.new) }
     {
         let text = self.rest?;
@@ -72,7 +72,7 @@ impl<'a> Words<'a> {
     }
 
     /// Takes the next two words, which have to be there.
-    pub(crate) fn needed_pair(&mut self) -> Result<(&'a [u8], &'a [u8]), ScheduleFault>
+    pub fn needed_pair(&mut self) -> Result<(&'a [u8], &'a [u8]), ScheduleFault>
         ensures { MatchResult result
             (λ words. self.old ≡ words.0.now ∷ words.1.now ∷ self.new)
             (λ fault. (fault ≡ ScheduleFault.WordCount) × (length self.old < 2)) }
@@ -103,7 +103,7 @@ impl<'a> Words<'a> {
     }
 
     /// All that is left of the line, blanks included.
-    pub(crate) fn rest(self) -> Result<&'a [u8], ScheduleFault>
+    pub fn rest(self) -> Result<&'a [u8], ScheduleFault>
         ensures { MatchResult result (λ text. self.entry ≡ words_of text.now)
             (λ fault. (fault ≡ ScheduleFault.WordCount) × (self.entry ≡ [])) }
     {
@@ -111,7 +111,7 @@ impl<'a> Words<'a> {
     }
 
     /// Nothing may be left.
-    pub(crate) fn end(mut self) -> Result<(), ScheduleFault>
+    pub fn end(mut self) -> Result<(), ScheduleFault>
         ensures { MatchResult result (λ _. self.entry ≡ [])
             (λ fault. (fault ≡ ScheduleFault.WordCount) × (length self.entry ≢ 0)) }
     {
@@ -122,7 +122,7 @@ impl<'a> Words<'a> {
     }
 
     /// The one word that is left.
-    pub(crate) fn only(mut self) -> Result<&'a [u8], ScheduleFault>
+    pub fn only(mut self) -> Result<&'a [u8], ScheduleFault>
         ensures { MatchResult result (λ word. self.entry ≡ word.now ∷ [])
             (λ fault. (fault ≡ ScheduleFault.WordCount) × (length self.entry ≢ 1)) }
     {
@@ -132,7 +132,7 @@ impl<'a> Words<'a> {
     }
 
     /// The two words that are left.
-    pub(crate) fn pair(mut self) -> Result<(&'a [u8], &'a [u8]), ScheduleFault>
+    pub fn pair(mut self) -> Result<(&'a [u8], &'a [u8]), ScheduleFault>
         ensures { MatchResult result (λ words. self.entry ≡ words.0.now ∷ words.1.now ∷ [])
             (λ fault. (fault ≡ ScheduleFault.WordCount) × (length self.entry ≢ 2)) }
     {
