@@ -31,3 +31,13 @@ pub returns-in-Err-clause-no_schedule : goal.returns-in-Err-clause-no_schedule
 returns-in-Err-clause-no_schedule c =
     λ plan. faulty_is_none c.args.bytes.now c.in-Some.first.number c.in-Err.fault plan
     (first_line _ _ (lines c.args.bytes.now c.of-lines.result c.of-lines.ensures ∙ c.in-Some.ensures) refl c.in-Err.ensures)
+
+pub returns-in_ok-later-in-Ok-clause-spelled : goal.returns-in_ok-later-in-Ok-clause-spelled
+returns-in_ok-later-in-Ok-clause-spelled c = rw c.new.ensures (record {
+  first = record { number = c.in-Some.first.number; text = c.in-Some.first.text.now };
+  others = _;
+  lines = lines c.args.bytes.now c.of-lines.result c.of-lines.ensures ∙ c.in-Some.ensures;
+  first_number = refl;
+  nodes_line = c.in-Ok.ensures;
+  spelled = c.in_ok-later-in-Ok.ensures;
+})
