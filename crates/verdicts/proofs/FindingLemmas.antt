@@ -4,9 +4,9 @@ use Rattle.std.proofs.lemmas.List.{take_all}
 use Rattle.sessions.specs.Meaning.{RequestsAreValid}
 use Rattle.sessions.specs.declared.command.Command.{Command}
 use Rattle.sessions.specs.declared.command.Command.TheVariants as command
-use Rattle.verdicts.specs.Executing.{BeginsWith, IsAnswerFinding, IsFinding}
-use Rattle.verdicts.specs.declared.deciding.Finding.{Finding}
-use Rattle.verdicts.specs.declared.deciding.Finding.TheVariants as finding
+use Rattle.verdicts.specs.Execution.{BeginsWith, IsAnswerFinding, IsFinding}
+use Rattle.verdicts.specs.declared.examination.Finding.{Finding}
+use Rattle.verdicts.specs.declared.examination.Finding.TheVariants as finding
 use Rattle.verdicts.specs.declared.lines.Told.TheVariants.{Answer}
 use Rattle.verdicts.specs.Explaining.{HasReply, HasAnswer, AnswersOne}
 use Rattle.verdicts.specs.declared.lines.Question.{Question}
@@ -14,7 +14,7 @@ use Rattle.sessions.proofs.Agreements.{AgreeBelow}
 use Rattle.verdicts.proofs.ReplyLemmas.{reply_over}
 
 -- ---- lists that begin so
-get_take : {X : Type 0} (n : ℕ) (l : List X) (i : ℕ) → i < n → slice_get (take n l) i ≡ slice_get l i
+pub get_take : {X : Type 0} (n : ℕ) (l : List X) (i : ℕ) → i < n → slice_get (take n l) i ≡ slice_get l i
 get_take zero l i h = absurd (omega (arith, h))
 get_take (suc n) [] i h = refl
 get_take (suc n) (x ∷ l) zero h = refl
@@ -26,7 +26,7 @@ taken_there (suc n) [] i x e = absurd (let h : None ≡ Some x = e in cc)
 taken_there (suc n) (y ∷ l) zero x e = e
 taken_there (suc n) (y ∷ l) (suc i) x e = taken_there n l i x e
 
-take_take : {X : Type 0} (n m : ℕ) (l : List X) → n ≤ m → take n (take m l) ≡ take n l
+pub take_take : {X : Type 0} (n m : ℕ) (l : List X) → n ≤ m → take n (take m l) ≡ take n l
 take_take zero m l h = refl
 take_take (suc n) zero l h = absurd (omega (arith, h))
 take_take (suc n) (suc m) [] h = refl

@@ -6,9 +6,9 @@ use Rattle.std.specs.BTreeMap.{BTreeMap, Updates, get, is_at}
 use Rattle.sessions.specs.declared.submission.Submission.{Submission}
 use Rattle.sessions.specs.Same.{same_submission, same_submission_Decides}
 use Rattle.sessions.proofs.Longer.{get-push_before, get-push_last}
-use Rattle.verdicts.specs.Indexing.{IsOf, IsAmbiguous, IsOccurrence, IsFound, key_cmp}
+use Rattle.verdicts.specs.RequestIndex.{IsOf, IsAmbiguous, IsOccurrence, IsFound, key_cmp}
 use Rattle.verdicts.proofs.Keys.{key_self, key_same}
-use Rattle.verdicts.specs.declared.indexing.Occurrence.{Occurrence}
+use Rattle.verdicts.specs.declared.request_index.Occurrence.{Occurrence}
 
 pub contains_from_get : {X : Type 0} (xs : List X) (k : ℕ) (x : X) → slice_get xs k ≡ Some x → Contains xs x
 contains_from_get xs k x e = (k, slice_get_within xs k x e, get_or_from_slice_get xs k x x e)

@@ -6,7 +6,7 @@ use Rattle.std.specs.Ordering.{nat_cmp, ordering_then}
 use Rattle.std.specs.declared.cmp.Ordering.{Ordering}
 use Rattle.std.specs.declared.cmp.Ordering.TheVariants.{Equal}
 use Rattle.std.proofs.lemmas.Map.Lookups.{exact_pairs, exact_unsigned}
-use Rattle.verdicts.specs.Indexing.{key_cmp, reply_cmp}
+use Rattle.verdicts.specs.RequestIndex.{key_cmp, reply_cmp}
 
 number_self : (n : ℕ) → nat_cmp n n ≡ Equal
 number_self n = sym (nat_cmp_is n n Equal refl)

@@ -2,7 +2,8 @@ pub mod Keys
 pub mod IndexLemmas
 pub mod NameLemmas
 pub mod PlaceLemmas
-pub mod KnownLemmas
+pub mod PossibleLemmas
 pub mod ReplyLemmas
 pub mod FindingLemmas
+pub mod SearchLemmas
 pub mod VerdictLemmas

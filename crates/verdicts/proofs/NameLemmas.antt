@@ -1,19 +1,19 @@
 -- Commands by name.
-use Rattle.std.proofs.Common.{◌≡◌, ◌≢◌, ℕ, List, false, None, refl, sym, ap, subst}
+use Rattle.std.proofs.Common.{◌≡◌, ◌≢◌, ℕ, List, IsTrue, false, true, is_some, Option, None, Some, refl, sym, ap, subst}
 use Rattle.sessions.specs.declared.submission.Submission.{Submission}
 use Rattle.sessions.specs.declared.command.Command.{Command}
 use Rattle.sessions.specs.declared.command.Command.TheVariants as command
 use Rattle.verdicts.specs.Explaining.{IsAmong, name_of}
-use Rattle.verdicts.specs.Indexing.{IsFound, IsOccurrence}
-use Rattle.verdicts.specs.Placing.{IsOnly}
-use Rattle.verdicts.specs.declared.indexing.Occurrence.{Occurrence}
+use Rattle.verdicts.specs.RequestIndex.{IsFound, IsOccurrence}
+use Rattle.verdicts.specs.Placement.{IsOnly, IsSubmitted}
+use Rattle.verdicts.specs.declared.request_index.Occurrence.{Occurrence}
 use Rattle.verdicts.specs.declared.lines.Name.TheVariants.{NoOp, Request}
 use Rattle.verdicts.proofs.IndexLemmas.{contains_from_get}
 
-same_client : (a b c d : ℕ) → Request a b ≡ Request c d → a ≡ c
+pub same_client : (a b c d : ℕ) → Request a b ≡ Request c d → a ≡ c
 same_client a b c d e = cc
 
-same_number : (a b c d : ℕ) → Request a b ≡ Request c d → b ≡ d
+pub same_number : (a b c d : ℕ) → Request a b ≡ Request c d → b ≡ d
 same_number a b c d e = cc
 
 pub none_named : (requests : List Submission) (client number : ℕ) → IsFound requests client number None
@@ -24,7 +24,7 @@ none_named requests client number none (command.Request r) among e = none r amon
   of_number = same_number r.client r.number client number e;
 })
 
-same_name : (a b c d : ℕ) → a ≡ c → b ≡ d → Request a b ≡ Request c d
+pub same_name : (a b c d : ℕ) → a ≡ c → b ≡ d → Request a b ≡ Request c d
 same_name a b c d e f = cc
 
 module _ (requests : List Submission) (client number : ℕ) (o : Occurrence) (occ : IsOccurrence requests client number o)
@@ -53,3 +53,20 @@ no_op_alone requests (command.Request r) among e = absurd (let h : Request r.cli
 
 pub no_op_named : (requests : List Submission) → IsOnly requests NoOp command.NoOp
 no_op_named requests = record { among = tt; named = refl; only = no_op_alone requests }
+
+-- a request is submitted exactly if it is found
+pub submitted_found : (requests : List Submission) (client number : ℕ) (o : Option Occurrence) → IsFound requests client number o
+    → (IsTrue (is_some o) → IsSubmitted requests (Request client number))
+    × (IsSubmitted requests (Request client number) → IsTrue (is_some o))
+submitted_found requests client number None f = (
+  λ t. absurd (let h : false ≡ true = t in cc),
+  λ s. absurd (none_named requests client number f s.command s.among s.named),
+)
+submitted_found requests client number (Some o) f = (
+  λ t. record {
+    command = command.Request f.first;
+    among = contains_from_get requests o.first f.first f.there;
+    named = same_name f.first.client f.first.number client number f.is_of.of_client f.is_of.of_number;
+  },
+  λ s. refl,
+)

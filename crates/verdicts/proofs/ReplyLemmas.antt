@@ -14,9 +14,9 @@ use Rattle.sessions.specs.Standing.{IsToldAt}
 use Rattle.sessions.specs.declared.session_reply.SessionReply.{SessionReply}
 use Rattle.sessions.proofs.Executions.{one_reply}
 use Rattle.sessions.proofs.Longer.{get-push_before, get-push_last}
-use Rattle.verdicts.specs.Executing.{AreReplies}
+use Rattle.verdicts.specs.Execution.{AreReplies}
 use Rattle.verdicts.specs.Explaining.{HasReply}
-use Rattle.verdicts.specs.Indexing.{reply_cmp}
+use Rattle.verdicts.specs.RequestIndex.{reply_cmp}
 use Rattle.verdicts.proofs.Keys.{reply_self, reply_same}
 use Rattle.sessions.proofs.Agreements.{AgreeBelow, replies_over}
 

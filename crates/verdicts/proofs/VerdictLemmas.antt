@@ -1,5 +1,5 @@
 -- Verdicts from what is known.
-use Rattle.std.proofs.Common.{◌≡◌, ℕ, ◌+◌, ◌<◌, ◌≤◌, max, List, [], ◌∷◌, ◌++◌, length, take, get_or, slice_get, All, Contains, Some, Result, Ok, Err, IfOk, sym, ap, subst, ◌∙◌, arith}
+use Rattle.std.proofs.Common.{◌≡◌, ◌≢◌, ℕ, ◌+◌, ◌<◌, ◌≤◌, max, List, [], ◌∷◌, ◌++◌, length, take, get_or, slice_get, All, Contains, Option, Some, None, Result, Ok, Err, IfOk, sym, ap, subst, ◌∙◌, arith}
 use Rattle.std.proofs.lemmas.List.{take_more}
 use Rattle.std.proofs.lemmas.List.Elements.{All-contains, All-nil, All-cons, All-weaker}
 use Rattle.std.proofs.lemmas.Option.{slice_get_within, get_or_from_slice_get}
@@ -8,11 +8,13 @@ use Rattle.sessions.specs.declared.submission.Submission.{Submission}
 use Rattle.sessions.specs.Meaning.{RequestsAreValid}
 use Rattle.sessions.specs.declared.command.Command.{Command}
 use Rattle.sessions.specs.declared.command.Command.TheVariants as command
-use Rattle.verdicts.specs.Executing.{BeginsWith, IsToldVerdict, IsToldContradiction}
 use Rattle.verdicts.specs.Explaining.{IsAmong, IsList, HasLearnt, HasTold, IsExplained, reach, greatest, position_of}
-use Rattle.verdicts.specs.Placing.{AreKnown, IsEarly}
-use Rattle.verdicts.specs.Verdicts.{IsVerdict, IsFirstContradiction, HasTwoOperations, at_learn, at_told}
+use Rattle.verdicts.specs.Placement.{AreNames, IsEarly}
+use Rattle.verdicts.specs.Search.{AreBegun, IsLast, IsOutcome, IsSolved, IsUndecided, IsUnlearnt}
+use Rattle.verdicts.specs.Verdicts.{IsVerdict, IsFirstContradiction, IsNeeded, HasTwoOperations, at_learn, at_told}
 use Rattle.verdicts.specs.declared.lines.LearnLine.{LearnLine}
+use Rattle.verdicts.specs.declared.lines.Name.{Name}
+use Rattle.verdicts.specs.declared.lines.Name.TheVariants.{Request}
 use Rattle.verdicts.specs.declared.lines.Place.{Place}
 use Rattle.verdicts.specs.declared.lines.Question.{Question}
 use Rattle.verdicts.specs.declared.lines.ToldLine.{ToldLine}
@@ -21,12 +23,9 @@ use Rattle.verdicts.specs.declared.verdict.Verdict.TheVariants.{Explained, Contr
 use Rattle.verdicts.specs.declared.verdict.Why.{Why}
 use Rattle.verdicts.proofs.FindingLemmas.{taken_there}
 use Rattle.verdicts.proofs.IndexLemmas.{contains_from_get}
-use Rattle.verdicts.proofs.PlaceLemmas.{all_front, all_last}
-
--- the first elements, with the next one
-one_more : {X : Type 0} (xs : List X) (k : ℕ) (x : X) → slice_get xs k ≡ Some x → take (k + 1) xs ≡ take k xs ++ x ∷ []
-one_more xs k x e =
-    take_more xs k x (slice_get_within xs k x e) ∙ ap (λ y. take k xs ++ y ∷ []) (get_or_from_slice_get xs k x x e)
+use Rattle.verdicts.proofs.PlaceLemmas.{all_front, all_last, not_both}
+use Rattle.verdicts.proofs.PossibleLemmas.{possible_list, possible_learnt, list_possible}
+use Rattle.verdicts.proofs.SearchLemmas.{one_more}
 
 -- ---- the greatest position
 pub greatest_more : {X : Type 0} (f : X → ℕ) (xs : List X) (x : X) → greatest f (xs ++ x ∷ []) ≡ max (greatest f xs) (f x)
@@ -56,18 +55,18 @@ positions_within learns told =
     (λ (line : ToldLine). position_of line.told ≤ reach learns told) (λ line h. omega (arith, h)) told
     (greatest_above (λ (x : ToldLine). position_of x.told) told)
 
--- ---- what the known requests bring is valid
-pub known_valid : (requests : List Submission) (size : ℕ) (learns : List LearnLine) (commands : List Command)
-    → AreKnown requests size learns commands → All (λ (r : Submission). OpIsValid r.op) requests → RequestsAreValid commands
-known_valid requests size learns commands known valid = record {
+-- ---- what the requests of commands bring is valid
+pub begun_valid : (requests : List Submission) (names : List (Option Name)) (commands : List Command)
+    → AreBegun requests names commands → All (λ (r : Submission). OpIsValid r.op) requests → RequestsAreValid commands
+begun_valid requests names commands begun valid = record {
   each = λ i r there.
-      let taken : slice_get (take (length commands) known.list) i ≡ Some (command.Request r) =
-      subst (λ (l : List Command). slice_get l i ≡ Some (command.Request r)) (sym known.begins) there in
-      let listed : slice_get known.list i ≡ Some (command.Request r) =
-      taken_there (length commands) known.list i (command.Request r) taken in
+      let taken : slice_get (take (length commands) begun.list) i ≡ Some (command.Request r) =
+      subst (λ (l : List Command). slice_get l i ≡ Some (command.Request r)) (sym begun.begins) there in
+      let listed : slice_get begun.list i ≡ Some (command.Request r) =
+      taken_there (length commands) begun.list i (command.Request r) taken in
       let among : Contains requests r =
-      All-contains (IsAmong requests) known.list (command.Request r) known.is_list.among
-      (contains_from_get known.list i (command.Request r) listed) in
+      All-contains (IsAmong requests) begun.list (command.Request r) begun.possible.among
+      (contains_from_get begun.list i (command.Request r) listed) in
       All-contains (λ (q : Submission). OpIsValid q.op) requests r valid among;
 }
 
@@ -96,76 +95,79 @@ module _ (requests : List Submission) (questions : List Question) (learns : List
           };
         }) none_more
 
-  early_two : (client number : ℕ) → IsEarly requests (reach learns told) learns (TwoOperations client number)
-      → HasTwoOperations requests learns client number
-  early_two client number early =
-      let a = early.ends.1 in
-      record {
-        learnt = (
-          early.before,
-          early.line,
-          slice_get_within learns early.before early.line early.there,
-          get_or_from_slice_get learns early.before early.line early.line early.there,
-          early.ends.0,
-        );
-        one = a.one;
-        other = a.other;
-        one_there = a.one_there;
-        other_there = a.other_there;
-        one_is = (a.one_is.of_client, a.one_is.of_number);
-        other_is = (a.other_is.of_client, a.other_is.of_number);
-        differ = a.differ;
-      }
-
   pub early_verdict : (verdict : Verdict) → IsEarly requests (reach learns told) learns verdict
       → IsVerdict requests questions learns told verdict
   early_verdict Explained early = absurd early.ends
   early_verdict (Contradicted place why) early = early_contradiction place why early
   early_verdict (UnlearntSlot slot) early = absurd early.ends
-  early_verdict (TwoOperations client number) early = early_two client number early
+  early_verdict (TwoOperations client number) early = absurd early.ends
 
   -- ---- a verdict on the others
-  module _ (commands : List Command) (known : AreKnown requests (reach learns told) learns commands) where
-    own_beginning : BeginsWith (reach learns told) commands known.list
-    own_beginning = record { slots = known.is_list.slots; begins = known.begins }
-
-    each_beginning : (l : List Command) → IsList requests (reach learns told) l → All (HasLearnt l) learns
-        → BeginsWith (reach learns told) commands l
-    each_beginning l is h = record { slots = is.slots; begins = known.forced l is h }
-
-    explained_so : (part : List ToldLine) → All (λ (line : ToldLine). HasTold questions known.list line.told) part
+  module _ (names : List (Option Name)) (are : AreNames requests (reach learns told) learns names) where
+    solved_explained : (part : List ToldLine) → IsSolved requests names questions part
         → IsExplained requests questions (reach learns told) learns part
-    explained_so part h = record {
-      list = known.list;
-      explains = record { is_list = known.is_list; learnt = known.learnt; others = h };
+    solved_explained part h = record {
+      list = h.list;
+      explains = record {
+        is_list = possible_list requests (reach learns told) learns names are h.list h.possible;
+        learnt = possible_learnt requests (reach learns told) learns names are h.list h.possible;
+        others = h.explains;
+      };
     }
 
-    module _ (place : Place) (t : IsToldContradiction questions (reach learns told) commands told place) where
-      none_then : ¬ (IsExplained requests questions (reach learns told) learns (take (t.before + 1) told))
-      none_then e =
-          let both : All (λ (line : ToldLine). HasTold questions e.list line.told) (take t.before told ++ t.line ∷ []) =
-          subst (All (λ (line : ToldLine). HasTold questions e.list line.told)) (one_more told t.before t.line t.there) e.explains.others in
-          t.contradicts e.list (each_beginning e.list e.explains.is_list e.explains.learnt)
-          (all_last (λ (line : ToldLine). HasTold questions e.list line.told) (take t.before told) t.line both)
+    explained_solved : (part : List ToldLine) → IsExplained requests questions (reach learns told) learns part
+        → IsSolved requests names questions part
+    explained_solved part h = record {
+      list = h.list;
+      possible = list_possible requests (reach learns told) learns names are h.list h.explains.is_list h.explains.learnt;
+      explains = h.explains.others;
+    }
 
-      told_contradiction : IsFirstContradiction requests questions (reach learns told) learns told place
-      told_contradiction =
-          at_told t.before t.line t.there t.at_place (explained_so (take t.before told) (t.explains known.list own_beginning)) none_then
+    last_told : (place : Place) → IsLast requests names questions told place
+        → IsFirstContradiction requests questions (reach learns told) learns told place
+    last_told place h =
+        at_told h.before h.line h.there h.at_place (solved_explained (take h.before told) h.solved)
+        (λ e. h.unsolved (explained_solved (take (h.before + 1) told) e))
 
-    pub later_verdict : (verdict : Verdict) → IsToldVerdict questions (reach learns told) commands told verdict
+    needed_slot : (slot : ℕ) → IsUnlearnt names told (Some slot) → IsNeeded (reach learns told) learns told slot
+    needed_slot slot (free, needed) =
+        let within : slot < length names = slice_get_within names slot None free in
+        let size : length names ≡ reach learns told = are.count in
+        record {
+          below = omega (arith, within, size);
+          unlearnt = All-weaker (λ (line : LearnLine). slice_get names line.slot ≡ Some (Some line.name))
+              (λ (line : LearnLine). line.slot ≢ slot)
+              (λ line there same. not_both (slice_get names slot) line.name free
+              (subst (λ i. slice_get names i ≡ Some (Some line.name)) same there))
+              learns are.learnt;
+          needed = needed;
+        }
+
+    two_operations : (client number : ℕ) → IsUndecided requests names client number → HasTwoOperations requests learns client number
+    two_operations client number h =
+        let t = are.told h.slot (Request client number) h.named in
+        let (k, within, e) = t.there in
+        let a = h.ambiguous in
+        record {
+          learnt = (k, t.line, within, e, t.of_name);
+          one = a.one;
+          other = a.other;
+          one_there = a.one_there;
+          other_there = a.other_there;
+          one_is = (a.one_is.of_client, a.one_is.of_number);
+          other_is = (a.other_is.of_client, a.other_is.of_number);
+          differ = a.differ;
+        }
+
+    pub later_verdict : (verdict : Verdict) → IsOutcome requests names questions told verdict
         → IsVerdict requests questions learns told verdict
-    later_verdict Explained h = explained_so told (h known.list own_beginning)
-    later_verdict (Contradicted place why) h = told_contradiction place h
-    later_verdict (UnlearntSlot slot) (same, below, needed) = record {
-      below = rw same below;
-      unlearnt = rw same (known.unlearnt below);
-      needed = needed;
-    }
-    later_verdict (TwoOperations client number) h = absurd h
+    later_verdict Explained h = solved_explained told h
+    later_verdict (Contradicted place why) h = last_told place h
+    later_verdict (UnlearntSlot slot) h = needed_slot slot h
+    later_verdict (TwoOperations client number) h = two_operations client number h
 
 pub later_found : {E : Type 0} (requests : List Submission) (questions : List Question) (learns : List LearnLine) (told : List ToldLine)
-    (commands : List Command) → AreKnown requests (reach learns told) learns commands → (result : Result Verdict E)
-    → IfOk result (IsToldVerdict questions (reach learns told) commands told) → IfOk result (IsVerdict requests questions learns told)
-later_found requests questions learns told commands known (Ok verdict) h =
-    later_verdict requests questions learns told commands known verdict h
-later_found requests questions learns told commands known (Err e) h = h
+    (names : List (Option Name)) → AreNames requests (reach learns told) learns names → (result : Result Verdict E)
+    → IfOk result (IsOutcome requests names questions told) → IfOk result (IsVerdict requests questions learns told)
+later_found requests questions learns told names are (Ok verdict) h = later_verdict requests questions learns told names are verdict h
+later_found requests questions learns told names are (Err e) h = h

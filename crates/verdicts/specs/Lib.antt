@@ -1,5 +1,6 @@
 pub mod Explaining
 pub mod Verdicts
-pub mod Indexing
-pub mod Placing
-pub mod Executing
+pub mod RequestIndex
+pub mod Placement
+pub mod Execution
+pub mod Search

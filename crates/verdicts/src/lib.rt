@@ -5,13 +5,15 @@
 //! commands, and `specs/Verdicts.antt` what a verdict claims. No node and no world is in either, and none runs here.
 #![tactic(auto)]
 
-mod deciding;
-mod executing;
-mod indexing;
+mod decision;
+mod examination;
+mod execution;
 mod lines;
-mod placing;
+mod placement;
+mod request_index;
+mod search;
 mod verdict;
 
-pub use deciding::verdict_on;
+pub use decision::verdict_on;
 pub use lines::{LearnLine, Name, Place, Question, Told, ToldLine};
 pub use verdict::{Verdict, Why};

@@ -1,7 +1,0 @@
-use Rattle.std.proofs.Common.{ℕ, take}
-use Rattle.std.specs.BTreeMap.{get}
-use Rattle.verdicts.specs.Indexing.{IsFound, key_cmp}
-use Rattle.verdicts.proofs.indexing.index_requests.Given as goal
-
-abbrev pub invariant-loop-at : goal.invariant-loop-at
-invariant-loop-at l = (client number : ℕ) → IsFound (take l.at l.requests) client number (get key_cmp l.index (client, number))

@@ -1,0 +1,190 @@
+-- Which lists of commands a search among choices has left behind, and what comes of it.
+use Rattle.std.specs.Prelude.{◌≡◌, ℕ, ◌+◌, ◌<◌, ◌≤◌, ◌⊎◌, List, [], ◌∷◌, length, map, take, slice_get, All, Any, Contains, Option, Some, None, Bool, true, false}
+use Rattle.std.specs.Option.{option_map}
+use Rattle.sessions.specs.declared.submission.Submission.{Submission}
+use Rattle.sessions.specs.declared.command.Command.{Command}
+use Rattle.sessions.specs.declared.command.Command.TheVariants as command
+use Rattle.verdicts.specs.Explaining.{IsAmong, HasTold, name_of}
+use Rattle.verdicts.specs.RequestIndex.{IsOf, IsAmbiguous}
+use Rattle.verdicts.specs.Verdicts.{RestsOn}
+use Rattle.verdicts.specs.declared.examination.Contradiction.{Contradiction}
+use Rattle.verdicts.specs.declared.lines.Name.{Name}
+use Rattle.verdicts.specs.declared.lines.Name.TheVariants.{Request}
+use Rattle.verdicts.specs.declared.lines.Place.{Place}
+use Rattle.verdicts.specs.declared.lines.Question.{Question}
+use Rattle.verdicts.specs.declared.lines.ToldLine.{ToldLine}
+use Rattle.verdicts.specs.declared.search.Branch.{Branch}
+use Rattle.verdicts.specs.declared.search.Search.{Search}
+use Rattle.verdicts.specs.declared.verdict.Verdict.{Verdict}
+use Rattle.verdicts.specs.declared.verdict.Verdict.TheVariants.{Explained, Contradicted, UnlearntSlot, TwoOperations}
+
+-- ---- lists
+-- each slot has a no-op or one of the requests, of the slot's name where one is known
+pub record IsPossible (requests : List Submission) (names : List (Option Name)) (l : List Command) : Type 0 where
+  pub slots : length l ≡ length names
+  pub among : All (IsAmong requests) l
+  pub named : (slot : ℕ) (wanted : Name) → slice_get names slot ≡ Some (Some wanted)
+      → option_map name_of (slice_get l slot) ≡ Some wanted
+
+abbrev pub HasAllTold : List Question → List ToldLine → List Command → Type 0
+HasAllTold questions told l = All (λ (line : ToldLine). HasTold questions l line.told) told
+
+-- some possible list explains the lines
+pub record IsSolved (requests : List Submission) (names : List (Option Name)) (questions : List Question) (told : List ToldLine)
+    : Type 0 where
+  pub list : List Command
+  pub possible : IsPossible requests names list
+  pub explains : HasAllTold questions told list
+
+-- some possible list begins with the commands
+pub record AreBegun (requests : List Submission) (names : List (Option Name)) (commands : List Command) : Type 0 where
+  pub list : List Command
+  pub possible : IsPossible requests names list
+  pub begins : take (length commands) list ≡ commands
+
+-- ---- choices
+-- a request of the client and number stands at the place
+pub record IsOperation (requests : List Submission) (client number place : ℕ) : Type 0 where
+  pub request : Submission
+  pub there : slice_get requests place ≡ Some request
+  pub is_of : IsOf client number request
+
+-- the request stands at one of the places
+pub record IsListed (requests : List Submission) (places : List ℕ) (r : Submission) : Type 0 where
+  pub place : ℕ
+  pub listed : Contains places place
+  pub there : slice_get requests place ≡ Some r
+
+-- at each of the places, and at no others, stand requests of the client and number
+pub record AreOperations (requests : List Submission) (client number : ℕ) (places : List ℕ) : Type 0 where
+  pub each : All (IsOperation requests client number) places
+  pub whole : (r : Submission) → Contains requests r → IsOf client number r → IsListed requests places r
+
+-- the slot has the name of requests with several operations, and this is one of them; the commands reach the slot
+pub record IsChoice (requests : List Submission) (names : List (Option Name)) (reached : ℕ) (b : Branch) : Type 0 where
+  pub request : Submission
+  pub there : slice_get requests b.place ≡ Some request
+  pub within : b.slot ≤ reached
+  pub named : slice_get names b.slot ≡ Some (Some (Request request.client request.number))
+  pub ambiguous : IsAmbiguous requests request.client request.number
+
+abbrev pub branch_at : ℕ → ℕ → Branch
+branch_at slot place = record { slot = slot; place = place }
+
+abbrev pub branches_at : ℕ → List ℕ → List Branch
+branches_at slot places = map (branch_at slot) places
+
+-- the branch's place is one of the requests'
+abbrev pub IsBehind : List Submission → Branch → Type 0
+IsBehind requests b = b.place < length requests
+
+-- the slots never fall
+abbrev pub AreAscending : List Branch → Type 0
+AreAscending [] = Unit {0}
+AreAscending (b ∷ more) = All (λ (c : Branch). b.slot ≤ c.slot) more × AreAscending more
+
+-- below the branch's slot the list has these commands, and at the slot the branch's request
+pub record Follows (requests : List Submission) (commands : List Command) (l : List Command) (b : Branch) : Type 0 where
+  pub request : Submission
+  pub there : slice_get requests b.place ≡ Some request
+  pub begins : take b.slot l ≡ take b.slot commands
+  pub takes : slice_get l b.slot ≡ Some (command.Request request)
+
+-- ---- commands of which there is no choice
+-- commands are added that each possible list has, if it begins with the first ones
+pub record IsExtended (requests : List Submission) (names : List (Option Name)) (old new : List Command) : Type 0 where
+  pub grows : length old ≤ length new
+  pub within : length new ≤ length names
+  pub keeps : take (length old) new ≡ old
+  pub forced : (l : List Command) → IsPossible requests names l → take (length old) l ≡ old → take (length new) l ≡ new
+
+-- of the slot no line tells, or its name is that of requests with several operations
+abbrev pub IsStop : List Submission → List (Option Name) → ℕ → Option (ℕ × ℕ) → Type 0
+IsStop requests names slot None = slot < length names → slice_get names slot ≡ Some None
+IsStop requests names slot (Some key) = (slice_get names slot ≡ Some (Some (Request key.0 key.1)))
+    × IsAmbiguous requests key.0 key.1
+
+-- ---- what is left behind
+-- the latest contradiction: some list explains the lines before it
+abbrev pub IsLatest : List Submission → List (Option Name) → List Question → List ToldLine → Option Contradiction → Type 0
+IsLatest requests names questions told None = Unit {0}
+IsLatest requests names questions told (Some c) = (c.at < length told) × IsSolved requests names questions (take c.at told)
+
+-- the list doesn't explain the lines up to that one
+abbrev pub IsRefuted : List Question → List ToldLine → Option Contradiction → List Command → Type 0
+IsRefuted questions told None l = ⊥
+IsRefuted questions told (Some c) l = HasAllTold questions (take (c.at + 1) told) l → ⊥
+
+-- no line tells of the slot, and one rests on it
+abbrev pub IsUnlearnt : List (Option Name) → List ToldLine → Option ℕ → Type 0
+IsUnlearnt names told None = Unit {0}
+IsUnlearnt names told (Some slot) = (slice_get names slot ≡ Some None) × Any (λ (line : ToldLine). RestsOn slot line.told) told
+
+-- the list is refuted, or is one of a choice that was not tried yet
+pub data IsLeft (requests : List Submission) (questions : List Question) (told : List ToldLine) (s : Search) (l : List Command)
+    : Type 0 where
+  is_refuted : IsRefuted questions told s.latest l → IsLeft requests questions told s l
+  is_untried : (b : Branch) → Contains s.untried.items b → Follows requests s.commands.items l b → IsLeft requests questions told s l
+
+-- or it begins with the commands
+pub data IsEntered (requests : List Submission) (questions : List Question) (told : List ToldLine) (s : Search) (l : List Command)
+    : Type 0 where
+  is_left : IsLeft requests questions told s l → IsEntered requests questions told s l
+  is_begun : take (length s.commands.items) l ≡ s.commands.items → IsEntered requests questions told s l
+
+-- unless a choice needs a slot of which no line tells, each possible list is so
+abbrev pub AreAll : List Submission → List (Option Name) → Option ℕ → (List Command → Type 0) → Type 0
+AreAll requests names unlearnt P = unlearnt ≡ None → (l : List Command) → IsPossible requests names l → P l
+
+pub record IsSearch (requests : List Submission) (names : List (Option Name)) (questions : List Question) (told : List ToldLine)
+    (s : Search) : Type 0 where
+  pub begun : AreBegun requests names s.commands.items
+  pub choices : All (IsChoice requests names (length s.commands.items)) s.untried.items
+  pub ascending : AreAscending s.untried.items
+  pub latest : IsLatest requests names questions told s.latest
+  pub unlearnt : IsUnlearnt names told s.unlearnt
+
+-- a search that is to look at its commands
+pub record IsEntering (requests : List Submission) (names : List (Option Name)) (questions : List Question) (told : List ToldLine)
+    (s : Search) : Type 0 where
+  pub state : IsSearch requests names questions told s
+  pub entered : AreAll requests names s.unlearnt (IsEntered requests questions told s)
+
+-- a search that has looked at them
+pub record IsLeaving (requests : List Submission) (names : List (Option Name)) (questions : List Question) (told : List ToldLine)
+    (s : Search) : Type 0 where
+  pub state : IsSearch requests names questions told s
+  pub left : AreAll requests names s.unlearnt (IsLeft requests questions told s)
+
+-- with a next choice, or with none
+abbrev pub AfterStep : List Submission → List (Option Name) → List Question → List ToldLine → Bool → Search → Type 0
+AfterStep requests names questions told true s = IsEntering requests names questions told s
+AfterStep requests names questions told false s = IsLeaving requests names questions told s
+
+-- the contradiction is of one of the lines
+abbrev pub IsWithin : List ToldLine → Option Contradiction → Type 0
+IsWithin told None = Unit {0}
+IsWithin told (Some c) = c.at < length told
+
+-- ---- the outcome
+-- no possible list explains the lines up to the one at this place, and one explains those before
+pub record IsLast (requests : List Submission) (names : List (Option Name)) (questions : List Question) (told : List ToldLine)
+    (place : Place) : Type 0 where
+  pub before : ℕ
+  pub line : ToldLine
+  pub there : slice_get told before ≡ Some line
+  pub at_place : place ≡ line.place
+  pub solved : IsSolved requests names questions (take before told)
+  pub unsolved : ¬ (IsSolved requests names questions (take (before + 1) told))
+
+-- the slot has the name of these requests, which have several operations
+pub record IsUndecided (requests : List Submission) (names : List (Option Name)) (client number : ℕ) : Type 0 where
+  pub slot : ℕ
+  pub named : slice_get names slot ≡ Some (Some (Request client number))
+  pub ambiguous : IsAmbiguous requests client number
+
+abbrev pub IsOutcome : List Submission → List (Option Name) → List Question → List ToldLine → Verdict → Type 0
+IsOutcome requests names questions told Explained = IsSolved requests names questions told
+IsOutcome requests names questions told (Contradicted place why) = IsLast requests names questions told place
+IsOutcome requests names questions told (UnlearntSlot slot) = IsUnlearnt names told (Some slot)
+IsOutcome requests names questions told (TwoOperations client number) = IsUndecided requests names client number
