@@ -1,0 +1,3 @@
+pub mod AnswerLines
+pub mod ClientLines
+pub mod Laws
