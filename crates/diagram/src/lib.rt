@@ -5,13 +5,13 @@
 #![tactic(auto)]
 
 mod arrows;
-mod drawing;
 mod facts;
 mod layout;
 mod scene;
+mod space_time;
 
 pub use arrows::{Arrow, Fate, Passage, list_arrows};
-pub use drawing::draw;
 pub use facts::{Facts, facts_of, kind_name, push_frame};
 pub use layout::{MOST_FRAMES, Window, choose_window};
 pub use scene::{Label, Mark, Scene, Sign};
+pub use space_time::draw;

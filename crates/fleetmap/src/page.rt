@@ -29,7 +29,7 @@ pub(crate) const MAP_RIGHT: u32 = MAP_LEFT + SIDE;
 
 pub(crate) const MAP_BOTTOM: u32 = MAP_TOP + SIDE;
 
-/// How the elements look. No text is smaller than 12 units, which are 9 points on A3.
+/// How the elements look. An id has an edge, so that it can be read over a way. No text is smaller than 12 units, which are 9 points on A3.
 const STYLE: &[u8] = b"svg{background:#fff;font-family:sans-serif}\
 .frame{fill:#fcfcf8;stroke:#888}\
 .way{fill:none;stroke:currentColor;stroke-width:2;stroke-linejoin:round}\
@@ -39,7 +39,7 @@ const STYLE: &[u8] = b"svg{background:#fff;font-family:sans-serif}\
 .area{fill-opacity:.12;stroke-width:1.2;stroke-dasharray:6 3;fill:currentColor;stroke:currentColor}\
 .tag{font-size:13px;font-weight:bold;fill:currentColor}\
 .lead{stroke:#666;stroke-width:.7}\
-.id{font:13px monospace;fill:#111}\
+.id{font:13px monospace;fill:#111}.id,.tag{paint-order:stroke;stroke:#fcfcf8;stroke-width:3px;stroke-linejoin:round}\
 .bar{stroke:#111;stroke-width:1.5}\
 .title{font-size:22px;font-weight:bold}\
 .head{font-size:15px;font-weight:bold}\
@@ -64,22 +64,7 @@ pub fn draw_fleet(
     let chart = chart_of(db, asked);
     let shown = show_fleet(alloc, db, t, &chart)?;
     let mut picture = Picture::new(alloc, WIDTH, HEIGHT, STYLE)?;
-    picture.text(
-        b"title",
-        Place {
-            x: MAP_LEFT,
-            y: 3000,
-        },
-        title,
-    )?;
-    picture.text(
-        b"note",
-        Place {
-            x: MAP_LEFT,
-            y: 5200,
-        },
-        note,
-    )?;
+    draw_title(&mut picture, title, note)?;
     let corner = Place {
         x: MAP_LEFT,
         y: MAP_TOP,
@@ -88,17 +73,27 @@ pub fn draw_fleet(
     draw_areas(alloc, &mut picture, asked, &chart)?;
     draw_ways(alloc, &mut picture, db, &chart)?;
     draw_marks(alloc, &mut picture, db, &shown)?;
-    draw_scale(
-        alloc,
-        &mut picture,
-        &chart,
-        Place {
-            x: MAP_RIGHT + 2400,
-            y: MAP_BOTTOM,
-        },
-    )?;
+    let below_legend = Place {
+        x: MAP_RIGHT + 2400,
+        y: MAP_BOTTOM,
+    };
+    draw_scale(alloc, &mut picture, &chart, below_legend)?;
     draw_legend(alloc, &mut picture, db, t, asked)?;
     picture.finish()
+}
+
+/// The page's first lines.
+fn draw_title(picture: &mut Picture, title: &[u8], note: &[u8]) -> io::Result<()> {
+    let first = Place {
+        x: MAP_LEFT,
+        y: 3000,
+    };
+    let second = Place {
+        x: MAP_LEFT,
+        y: 5200,
+    };
+    picture.text(b"title", first, title)?;
+    picture.text(b"note", second, note)
 }
 
 /// Where a spot of the chart is on the page.

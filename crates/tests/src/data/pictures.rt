@@ -3,6 +3,7 @@
 use diagram::{Label, Mark, Passage, Scene, Sign, draw};
 use fleetmap::{Asked, draw_fleet};
 use picture::{Picture, Place};
+use std::alloc::Global;
 use std::str;
 use std::test::Fail;
 use store::{Db, Op, Query};
@@ -40,14 +41,15 @@ fn draws_elements(rt: HostRuntime) -> Result<(), Fail> {
 const TOLD: &str = "\
 <text class=\"line\" x=\"10.00\" y=\"49.00\">timeout 0</text>
 <g class=\"frame\"><title>frame 0 prepare 0 -&#x003e; 1 slot 0 ballot 1.0, delivered</title>
-<line class=\"came b0\" x1=\"300.00\" y1=\"49.00\" x2=\"540.00\" y2=\"63.00\" marker-end=\"url(#head)\"/>
+<line class=\"came b0\" x1=\"280.00\" y1=\"49.00\" x2=\"510.00\" y2=\"63.00\" marker-end=\"url(#head)\"/>
 </g>
+<text class=\"kind\" x=\"278.00\" y=\"55.00\">prepare</text>
 <g class=\"frame\"><title>frame 1 prepare 0 -&#x003e; 1 slot 0 ballot 1.0, dropped</title>
-<line class=\"lost b0\" x1=\"300.00\" y1=\"49.00\" x2=\"460.00\" y2=\"52.00\"/>
+<line class=\"lost b0\" x1=\"280.00\" y1=\"49.00\" x2=\"433.33\" y2=\"52.00\"/>
 </g>
 <g class=\"mark\"><title>node 1 learnt</title>
-<circle class=\"sign learnt\" cx=\"540.00\" cy=\"63.00\" r=\"2.20\"/>
-<text class=\"note\" x=\"543.50\" y=\"62.40\">0</text>
+<circle class=\"sign learnt\" cx=\"510.00\" cy=\"63.00\" r=\"2.20\"/>
+<text class=\"note\" x=\"513.50\" y=\"62.40\">0</text>
 </g>
 </svg>
 ";
@@ -55,24 +57,8 @@ const TOLD: &str = "\
 #[test]
 fn draws_frames(rt: HostRuntime) -> Result<(), Fail> {
     let alloc = rt.alloc();
-    let (one, two) = (NodeId::new(0).ok_or("0")?, NodeId::new(1).ok_or("1")?);
-    let ballot = Ballot::new(1, 0).ok_or("ballot")?;
-    let message = Message::Prepare {
-        ballot,
-        first: Slot::first(),
-    };
-    let mut frames = Vec::new(alloc);
-    frames.push(Frame::of(alloc, one, two, &message)?)?;
-    frames.push(Frame::of(alloc, one, two, &message)?)?;
-    let marks = vec![in alloc;
-        Mark {
-            step: 1,
-            node: two,
-            sign: Sign::Learnt,
-            note: Vec::from_slice(alloc, b"0")?,
-            title: Vec::from_slice(alloc, b"node 1 learnt")?,
-        },
-    ]?;
+    let frames = two_prepares(alloc)?;
+    let marks = vec![in alloc; learnt(alloc)?]?;
     let labels = vec![in alloc;
         Label {
             step: 0,
@@ -84,22 +70,43 @@ fn draws_frames(rt: HostRuntime) -> Result<(), Fail> {
         steps: 2,
         frames: frames.as_slice(),
         waiting: &[false, false],
-        passages: &[
-            Passage {
-                sent: 0,
-                came: Some(1),
-            },
-            Passage {
-                sent: 0,
-                came: None,
-            },
-        ],
+        passages: &[passage(Some(1)), passage(None)],
         marks: marks.as_slice(),
         labels: labels.as_slice(),
     };
     let text = draw(alloc, &scene, None, None)?;
     assert!(rt; text.ends_with(TOLD.as_bytes()));
     Ok(())
+}
+
+/// Two frames from node 0 to node 1.
+fn two_prepares(alloc: Global) -> Result<Vec<Frame>, Fail> {
+    let (one, two) = (NodeId::new(0).ok_or("0")?, NodeId::new(1).ok_or("1")?);
+    let ballot = Ballot::new(1, 0).ok_or("ballot")?;
+    let message = Message::Prepare {
+        ballot,
+        first: Slot::first(),
+    };
+    let mut frames = Vec::new(alloc);
+    frames.push(Frame::of(alloc, one, two, &message)?)?;
+    frames.push(Frame::of(alloc, one, two, &message)?)?;
+    Ok(frames)
+}
+
+/// A frame was sent at the first step.
+fn passage(came: Option<usize>) -> Passage {
+    Passage { sent: 0, came }
+}
+
+/// Node 1 learns slot 0 at the second step.
+fn learnt(alloc: Global) -> Result<Mark, Fail> {
+    Ok(Mark {
+        step: 1,
+        node: NodeId::new(1).ok_or("1")?,
+        sign: Sign::Learnt,
+        note: Vec::from_slice(alloc, b"0")?,
+        title: Vec::from_slice(alloc, b"node 1 learnt")?,
+    })
 }
 
 // A map of 710 mm: 600, a sixth of that, and 10. So 20 mm are 2929.58 hundredths of a unit.

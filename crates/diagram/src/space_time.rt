@@ -1,32 +1,47 @@
-//! The picture.
+//! The space-time diagram: lanes, arrows, signs and words.
 
 use super::arrows::{Arrow, Fate, list_arrows};
-use super::facts::{facts_of, push_frame};
+use super::facts::{Facts, facts_of, kind_name, push_frame};
 use super::layout::{Layout, Window, choose_window, lay_out};
 use super::scene::{Mark, Scene, Sign};
 use picture::{Picture, Place};
 use std::alloc::Global;
 use std::io::{self, Write};
 use synod::Ballot;
-use wire::NodeId;
+use wire::Kind;
 
 /// The width of a page of format A3, in points.
 const WIDTH: u32 = 842;
 
-/// Where the lane of node 0 stands, and the last one's distance from it, in hundredths of a point.
-const FIRST_LANE: u32 = 30_000;
+/// Where the lane of node 0 stands, and the last one's distance from it, in hundredths of a point. Signs stand right of it.
+const FIRST_LANE: u32 = 28_000;
 
-const LANES: u32 = 48_000;
+const LANES: u32 = 46_000;
+
+/// How far a frame from a node to itself goes off the lane, in which it would lie.
+const BEND: u32 = 1_000;
+
+/// The distance of two signs of one node at one step, and that of two words beside a lane.
+const SIGNS: u32 = 3_400;
+
+const WORDS: u32 = 800;
 
 /// A schedule's line is cut after so many bytes.
 const LONGEST_TEXT: usize = 56;
 
+/// How the elements look. Words have a white edge, so that they can be read over a line. None is smaller than 7 points.
 const STYLE: &[u8] =
-    b"text{font:7px monospace;fill:#222}.head{font:bold 9px sans-serif}.note{font:7px sans-serif}\
+    b"svg{background:#fff}text{font:7px monospace;fill:#222}.head{font:bold 9px sans-serif}.note{font:7px sans-serif}\
+.kind{font:7px sans-serif;text-anchor:end}.note,.kind{paint-order:stroke;stroke:#fff;stroke-width:2px}\
 line,polyline{fill:none;stroke-width:0.8}.lane{stroke:#bbb}.lost,.waits{stroke-dasharray:3 2}.lost{opacity:0.7}\
 .b0{stroke:#1f77b4}.b1{stroke:#d62728}.b2{stroke:#2ca02c}.b3{stroke:#9467bd}.b4{stroke:#ff7f0e}.b5{stroke:#17becf}\
 .b6{stroke:#8c564b}.b7{stroke:#e377c2}.none{stroke:#7f7f7f}.sign{stroke:#222;stroke-width:0.5;fill:#fff}\
 .learnt{fill:#2ca02c}.replied{fill:#1f77b4}.answered{fill:#17becf}.refused{fill:#ff7f0e}.stopped{fill:#d62728}.restored{fill:#9467bd}";
+
+/// What the signs and the lines mean.
+const MEANINGS: &[u8] =
+    b"dashed: dropped (two thirds of the way) or waiting; a colour for each ballot, grey without one; circles: learnt (green), \
+replied (blue), answered (light blue); squares: refused (orange), stopped (red), restored (violet), restarted (white)";
 
 /// The picture of the frames from number `from`, or the first, to number `to`, or the last; of more than a picture shows, the first ones.
 /// It names those that it shows.
@@ -69,11 +84,7 @@ fn draw_head(
         write!(&mut text, "no frame of {count}, {nodes} nodes")?;
     }
     picture.text(b"head", Place { x: 1_000, y: 1_400 }, text.as_slice())?;
-    picture.text(
-        b"note",
-        Place { x: 1_000, y: 2_400 },
-        b"dashed: dropped (two thirds) or waits; one colour a ballot; a circle: learnt, replied, answered; a square: refused, stopped, restarted",
-    )
+    picture.text(b"note", Place { x: 1_000, y: 2_400 }, MEANINGS)
 }
 
 /// A lane for each node, from top to bottom.
@@ -153,19 +164,59 @@ fn draw_arrows(
         window.end,
     )?;
     let mut ballots = Vec::new(alloc);
+    let mut free = [0; 7];
     for arrow in arrows.iter() {
         if let Some(frame) = scene.frames.get(arrow.frame) {
             let facts = facts_of(&frame.open(alloc)?.message);
             let color = color_of(&mut ballots, facts.ballot)?;
-            let mut title = Vec::new(alloc);
-            push_frame(&mut title, arrow.frame, arrow.from, arrow.to, &facts)?;
-            push_fate(&mut title, arrow.fate)?;
-            picture.open(b"frame", title.as_slice())?;
-            draw_arrow(picture, scene.nodes, arrow, color, layout)?;
-            picture.close()?;
+            draw_frame(alloc, picture, scene.nodes, arrow, &facts, color, layout)?;
+            draw_kind(picture, scene.nodes, arrow, facts.kind, layout, &mut free)?;
         }
     }
     Ok(())
+}
+
+/// The arrow of a frame, with what the frame is.
+fn draw_frame(
+    alloc: Global,
+    picture: &mut Picture,
+    nodes: u8,
+    arrow: &Arrow,
+    facts: &Facts,
+    color: usize,
+    layout: &Layout,
+) -> io::Result<()> {
+    let mut title = Vec::new(alloc);
+    push_frame(&mut title, arrow.frame, arrow.from, arrow.to, facts)?;
+    push_fate(&mut title, arrow.fate)?;
+    picture.open(b"frame", title.as_slice())?;
+    draw_arrow(picture, nodes, arrow, color, layout)?;
+    picture.close()
+}
+
+/// The kind of a frame, left of the lane of its sender, where the last word there leaves room: so once for all that are sent at a step.
+fn draw_kind(
+    picture: &mut Picture,
+    nodes: u8,
+    arrow: &Arrow,
+    kind: Kind,
+    layout: &Layout,
+    free: &mut [u32; 7],
+) -> io::Result<()> {
+    let node = arrow.from.value();
+    let y = layout.place_of(arrow.sent);
+    let Some(free) = free.get_mut(usize::from(node)) else {
+        return Ok(());
+    };
+    if y < *free {
+        return Ok(());
+    }
+    *free = y.saturating_add(WORDS);
+    let beside = Place {
+        x: lane(nodes, node).saturating_sub(200),
+        y: y.saturating_add(600),
+    };
+    picture.text(b"kind", beside, kind_name(kind).as_bytes())
 }
 
 /// The class of a ballot's colour: eight in turn, in the order in which ballots come.
@@ -201,10 +252,8 @@ fn draw_arrow(
     color: usize,
     layout: &Layout,
 ) -> io::Result<()> {
-    let (from, to) = (
-        lane(nodes, arrow.from.value()),
-        lane(nodes, arrow.to.value()),
-    );
+    let from = lane(nodes, arrow.from.value());
+    let to = lane(nodes, arrow.to.value());
     let sent = layout.place_of(arrow.sent);
     let begin = Place { x: from, y: sent };
     match arrow.fate {
@@ -213,38 +262,45 @@ fn draw_arrow(
                 x: to,
                 y: layout.place_of(step),
             };
-            if from != to {
-                return picture.arrow(whole_class(color), begin, end);
-            }
-            let bend = Place {
-                x: from.saturating_add(1_000),
-                y: sent.midpoint(end.y),
-            };
-            picture.line(whole_class(color), begin, bend)?;
-            picture.arrow(whole_class(color), bend, end)
+            draw_whole(picture, whole_class(color), begin, end)
         }
         Fate::Dropped => {
-            let x = from.saturating_add(to.saturating_mul(2)) / 3;
-            picture.line(
-                lost_class(color),
-                begin,
-                Place {
-                    x,
-                    y: sent.saturating_add(300),
-                },
-            )
+            let end = Place {
+                x: from.saturating_add(aim(from, to).saturating_mul(2)) / 3,
+                y: sent.saturating_add(300),
+            };
+            picture.line(lost_class(color), begin, end)
         }
         Fate::Waits => {
-            picture.arrow(
-                waits_class(color),
-                begin,
-                Place {
-                    x: to,
-                    y: sent.saturating_add(450),
-                },
-            )
+            let end = Place {
+                x: aim(from, to),
+                y: sent.saturating_add(450),
+            };
+            picture.arrow(waits_class(color), begin, end)
         }
     }
+}
+
+/// Where the line of a frame goes: to its receiver's lane, and beside it where that is its sender's.
+fn aim(from: u32, to: u32) -> u32 {
+    if from == to {
+        from.saturating_add(BEND)
+    } else {
+        to
+    }
+}
+
+/// The line of a frame that came. One to the node itself comes back to the lane.
+fn draw_whole(picture: &mut Picture, class: &[u8], begin: Place, end: Place) -> io::Result<()> {
+    if begin.x != end.x {
+        return picture.arrow(class, begin, end);
+    }
+    let bend = Place {
+        x: aim(begin.x, end.x),
+        y: begin.y.midpoint(end.y),
+    };
+    picture.line(class, begin, bend)?;
+    picture.arrow(class, bend, end)
 }
 
 fn whole_class(color: usize) -> &'static [u8] {
@@ -302,7 +358,7 @@ fn draw_marks(picture: &mut Picture, scene: &Scene, layout: &Layout) -> io::Resu
         if let Some(before) = lanes.get_mut(usize::from(mark.node.value())) {
             if y > 0 {
                 let x = lane(scene.nodes, mark.node.value()).saturating_add(before.saturating_mul(
-                    2_400,
+                    SIGNS,
                 ));
                 draw_mark(picture, mark, Place { x, y })?;
                 *before = before.saturating_add(1);
