@@ -1,0 +1,48 @@
+-- What a run was noted to be.
+use Rattle.std.specs.Prelude.{◌≡◌, ℕ, List, ◌∷◌, ◌++◌, length, map}
+use Rattle.schedule.specs.Schedules.{Plan}
+use Rattle.world.specs.Seen.{world_of}
+use Rattle.world_model.specs.Worlds.{WorldState}
+use Rattle.schedule.specs.declared.schedule.ScheduleLine.{ScheduleLine}
+use Rattle.story.specs.declared.ledger.Counts.{Counts}
+use Rattle.story.specs.declared.ledger.Ledger.{Ledger}
+use Rattle.story.specs.declared.ledger.LineBegin.{LineBegin}
+use Rattle.story.specs.declared.entries.Entry.{Entry}
+use Rattle.story.specs.Telling.{Tells}
+use Rattle.story.specs.Counted.{AreWithin, BeginInOrder, NeverFall, counts_before}
+
+-- how long the lists of a world are
+abbrev pub counts_of : {S : Type 0} → WorldState S → Counts
+counts_of w = record {
+  frames = length w.frames;
+  learnt = length w.learnt;
+  replies = length w.replies;
+  answers = length w.answers;
+  outcomes = length w.outcomes;
+}
+
+-- how long the lists are behind the last step
+abbrev pub counted : Ledger → Counts
+counted l = counts_before l.steps.items (length l.steps.items)
+
+-- lines begin in order, and no list gets shorter; nothing is counted that isn't there, and each frame that was counted has its passage
+pub record IsKept (l : Ledger) : Type 0 where
+  pub lines : BeginInOrder l.lines.items (length l.steps.items)
+  pub counts : NeverFall l.steps.items
+  pub within : AreWithin (counted l) (counts_of (world_of l.world))
+  pub passages : length l.passages.items ≡ (counted l).frames
+
+-- and all is counted that is there
+pub record IsComplete (l : Ledger) : Type 0 where
+  pub lines : BeginInOrder l.lines.items (length l.steps.items)
+  pub counts : NeverFall l.steps.items
+  pub ends : counted l ≡ counts_of (world_of l.world)
+  pub passages : length l.passages.items ≡ length (world_of l.world).frames
+
+-- the entries tell of each line and each step of the run, and of each entry of the world's lists, once and in order
+pub record TellsRun (l : Ledger) (es : List Entry) : Type 0 where
+  pub tells : Tells l.lines.items l.steps.items es (record {
+    lines = length l.lines.items;
+    steps = length l.steps.items;
+    counts = counts_of (world_of l.world);
+  })

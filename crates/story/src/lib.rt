@@ -1,0 +1,21 @@
+//! A run for people: what came of each line of a schedule, as text, as JSON, and as a space-time diagram, also where it ends with a fault.
+//!
+//! `follow` does the lines, and keeps how long the world's lists were behind each step. `list_run` lists what is told of that: each line,
+//! each step and each entry of the world's lists, once and in order, as `specs/Telling.antt` defines. `tell` and `draw` walk that list.
+#![tactic(auto)]
+
+mod account;
+mod deeds;
+mod entries;
+mod items;
+mod ledger;
+mod objects;
+mod ranges;
+mod sketch;
+mod words;
+
+pub use account::{Account, Form, tell};
+pub use deeds::Deed;
+pub use entries::{Entry, list_run};
+pub use ledger::{Counts, Ledger, LineBegin, Step, follow};
+pub use sketch::draw;
