@@ -15,9 +15,28 @@ pub(crate) enum Failure {
     /// The file or the output can't be written.
     #[error("the output can't be written")]
     Unwritten,
+    /// A frame's number is none.
+    #[error("a frame's number is wanted after --from and --to")]
+    NoNumber,
+    /// A datetime is none.
+    #[error("a datetime such as 2020-01-01T08:00:00Z is wanted after --at")]
+    NoDatetime,
+    /// A node's number is none.
+    #[error("a node's number is wanted after --node")]
+    NoNode,
+    /// More than one of the files is standard input.
+    #[error("standard input can be read once")]
+    InputTwice,
     /// A growth was refused.
     #[error("out of memory")]
     Memory,
+}
+
+/// The file at which it ends, and why.
+#[derive(Clone, Copy)]
+pub(crate) struct FileFailure<'a> {
+    pub file: &'a str,
+    pub failure: Failure,
 }
 
 impl From<AllocError> for Failure {

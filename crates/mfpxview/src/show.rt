@@ -1,10 +1,12 @@
 //! What the words ask for, shown.
 
+use crate::audits::show_audit;
 use crate::failure::Failure;
-use crate::files::{read_file, write_file};
+use crate::faults::show_faults;
+use crate::maps::show_map;
+use crate::runs::{show_drawing, show_run};
 use clap::Error;
 use clap::error::ErrorKind;
-use fault_report::{report_document, report_schedule};
 use std::alloc::{AllocError, Global};
 use std::env::Args;
 use view_args::{View, view_of};
@@ -52,6 +54,26 @@ fn print_error(rt: &HostRuntime, error: &Error) -> u8 {
 fn show_view(rt: &HostRuntime, view: View<'_>) -> u8 {
     match view {
         View::Why { file } => ended(rt, file, show_faults(rt, file)),
+        View::Run { file, frames, json } => ended(rt, file, show_run(rt, file, frames, json)),
+        View::Draw {
+            file,
+            output,
+            from,
+            to,
+        } => ended(rt, file, show_drawing(rt, file, output, from, to)),
+        View::Map {
+            file,
+            output,
+            at,
+            node,
+        } => ended(rt, file, show_map(rt, file, output, at, node)),
+        View::Audit {
+            schedule,
+            transcripts,
+        } => match show_audit(rt, schedule, transcripts.as_slice()) {
+            Ok(status) => status,
+            Err(stop) => tell(rt, stop.file, stop.failure),
+        },
     }
 }
 
@@ -66,29 +88,8 @@ fn ended(rt: &HostRuntime, file: &str, shown: Result<u8, Failure>) -> u8 {
 /// Tells why nothing more is shown of the file.
 fn tell(rt: &HostRuntime, file: &str, failure: Failure) -> u8 {
     let _ = eprintln!(rt; "mfpxview: {file}: {failure}");
-    3
-}
-
-/// Shows what is wrong with the file, and answers whether anything is.
-fn show_faults(rt: &HostRuntime, file: &str) -> Result<u8, Failure> {
-    let bytes = read_file(rt, file)?;
-    let told = if is_document(file, bytes.as_slice()) {
-        report_document(rt.alloc(), file, bytes.as_slice())?
-    } else {
-        report_schedule(rt.alloc(), file, bytes.as_slice())?
-    };
-    match told {
-        Some(text) => {
-            write_file(rt, "-", text.as_str().as_bytes())?;
-            Ok(1)
-        }
-        None => Ok(0),
+    match failure {
+        Failure::NoNumber | Failure::NoDatetime | Failure::NoNode | Failure::InputTwice => 2,
+        _ => 3,
     }
-}
-
-/// Whether the file is read as a document: its name ends in `.json` or `.mfjson`, or its text begins with `{` after white space.
-fn is_document(file: &str, bytes: &[u8]) -> bool {
-    file.ends_with(".json")
-        || file.ends_with(".mfjson")
-        || bytes.trim_ascii_start().first() == Some(&b'{')
 }

@@ -2,13 +2,13 @@
 use Rattle.std.proofs.Common.{◌≡◌, ◌∙◌, ◌||◌, ap, sym, refl, Bool, true, false, List, Option, Some, None, option_map}
 use Rattle.std.specs.Prelude.{option_and_then}
 use Rattle.std.specs.Box.{box_value}
-use Rattle.clap.proofs.WalkLemmas.{first_value-rows}
+use Rattle.clap.proofs.WalkLemmas.{first_value-rows, raw_values-rows}
 use Rattle.clap.specs.Simple.{subcommand_rows}
-use Rattle.clap.specs.Words.{Row, Text, first_of, first_value, rows_of, subcommand_name_of, subcommand_rows_of}
+use Rattle.clap.specs.Words.{Row, Text, all_of, first_of, first_value, matched_of, raw_values, rows_of, subcommand_name_of, subcommand_rows_of}
 use Rattle.clap.specs.declared.parser.matches.ArgMatches.{ArgMatches}
 use Rattle.clap.specs.declared.parser.matches.ArgMatches.TheViews.{out-ArgMatches, out-SubCommand}
 use Rattle.clap.specs.declared.parser.matches.Found.{Found}
-use Rattle.view_args.specs.Forms.{given_name, given_value}
+use Rattle.view_args.specs.Forms.{given_name, given_value, given_values}
 
 -- only the values of a command count
 given_by_rows : (id : Text) (given : Option (Text × List Row))
@@ -21,6 +21,18 @@ pub value_is_given : (id : Text) (given : Option (Text × List Row)) (found : Fo
     → Some (rows_of found) ≡ option_map (λ p. p.1) given → text ≡ first_value found id → given_value id given ≡ text
 value_is_given id given found text rows read =
     given_by_rows id given ∙ ap (option_and_then (first_of id)) (sym rows) ∙ sym (read ∙ first_value-rows found id)
+
+all_by_rows : (id : Text) (given : Option (Text × List Row))
+    → given_values id given ≡ option_and_then (all_of id) (option_map (λ p. p.1) given)
+all_by_rows id None = refl
+all_by_rows id (Some p) = refl
+
+-- so are all values
+pub values_are_given : (id : Text) (given : Option (Text × List Row)) (found : Found) (texts : Option (List Text))
+    → Some (rows_of found) ≡ option_map (λ p. p.1) given → texts ≡ option_map raw_values (matched_of found id)
+    → given_values id given ≡ texts
+values_are_given id given found texts rows read =
+    all_by_rows id given ∙ ap (option_and_then (all_of id)) (sym rows) ∙ sym (read ∙ raw_values-rows found id)
 
 -- so is the name
 pub given_name_is : (m : ArgMatches) → given_name (subcommand_rows_of m) ≡ subcommand_name_of m

@@ -1,5 +1,5 @@
 -- Each setting has its place in the form.
-use Rattle.std.proofs.Common.{◌≡◌, ◌∙◌, ap, codes, true}
+use Rattle.std.proofs.Common.{◌∙◌, ap, true}
 use Rattle.clap.specs.Simple.{app_of_fields}
 use Rattle.clap.specs.Words.{App}
 use Rattle.view_args.proofs.words.bare_program.Goals as goal

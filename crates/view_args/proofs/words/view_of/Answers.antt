@@ -1,6 +1,6 @@
 -- clap accepts words of the forms alone, and refuses them by their faults.
-use Rattle.std.proofs.Common.{◌≡◌, ◌∙◌, ap, refl, sym, subst, true, map, string_bytes, []}
-use Rattle.clap.specs.Words.{App, fault_of, is_simple, is_simple_and_free, app_of, subcommand_of}
+use Rattle.std.proofs.Common.{◌≡◌, ◌∙◌, ap, refl, sym, true, map, string_bytes, []}
+use Rattle.clap.specs.Words.{App, fault_of, is_simple_and_free, app_of}
 use Rattle.view_args.specs.Forms.{forms}
 use Rattle.view_args.proofs.words.view_of.Goals as goal
 

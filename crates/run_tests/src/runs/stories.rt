@@ -1,0 +1,149 @@
+//! Runs for people: in words, as JSON, as pictures, and what they are made of.
+
+use std::alloc::Global;
+use std::str;
+use std::test::Fail;
+use story::{Entry, Form, draw, follow, list_run, tell};
+
+const SCHEDULE: &[u8] = b"\
+nodes 3
+submit 0 7 1 remove bus-7
+
+timeout 0
+flush
+query 1 count
+deliver 99
+tick 0
+";
+
+const WORDS: &str = "     1  nodes 3
+     2  submit 0 7 1 remove bus-7
+     4  timeout 0
+        frames sent: 3, from number 0 on
+     5  flush
+        node 0 learns slot 0: 7:1
+        node 0 replies to 7:1: 21, there is no feature with this id
+        node 1 learns slot 0: 7:1
+        node 2 learns slot 0: 7:1
+        frames sent: 15, from number 3 on
+     6  query 1 count
+        node 1 answers at position 1: count 0
+     7  deliver 99
+fault 51 at line 7: no frame of this number was sent
+        frames so far: 18, numbered from 0
+";
+
+const OBJECTS: &str = "\
+{\"line\":5,\"what\":\"learn\",\"node\":2,\"slot\":0,\"command\":\"7:1\"}
+{\"line\":6,\"what\":\"line\",\"text\":\"query 1 count\"}
+{\"line\":6,\"what\":\"answer\",\"node\":1,\"position\":1,\"text\":\"count 0\"}
+{\"line\":7,\"what\":\"line\",\"text\":\"deliver 99\"}
+{\"line\":7,\"what\":\"fault\",\"code\":51,\"meaning\":\"no frame of this number was sent\",\"frames\":18,\"waiting\":[]}
+";
+
+// One frame of the first campaign came, one was dropped, and the second one's wait.
+const ROUNDS: &[u8] = b"\
+nodes 3
+submit 0 7 1 remove bus-7
+timeout 0
+deliver 0
+drop 2
+timeout 0
+fault 1 old
+round 0 0 1
+deliver 1000
+";
+
+fn text_of(alloc: Global, bytes: &[u8], form: Form, frames: bool) -> Result<String, Fail> {
+    let account = tell(alloc, bytes, form, frames)?;
+    Ok(String::from_utf8(account.text)?)
+}
+
+#[test]
+fn tells_what_came_of_each_line(rt: HostRuntime) -> Result<(), Fail> {
+    let alloc = rt.alloc();
+    let words = text_of(alloc, SCHEDULE, Form::Words, false)?;
+    assert_eq!(rt; words.as_str(), WORDS);
+    let framed = text_of(alloc, SCHEDULE, Form::Words, true)?;
+    assert!(rt;
+        framed
+            .as_str()
+            .contains("\n        frame 0 prepare 0 -> 0 slot 0 ballot 1.0\n")
+    );
+    assert!(rt; !framed.as_str().contains("frames sent"));
+    let objects = text_of(alloc, SCHEDULE, Form::Json, true)?;
+    assert!(rt; objects.as_str().ends_with(OBJECTS));
+    Ok(())
+}
+
+#[test]
+fn frames_that_wait_are_ranges(rt: HostRuntime) -> Result<(), Fail> {
+    let words = text_of(rt.alloc(), ROUNDS, Form::Words, false)?;
+    assert!(rt; words.as_str().contains("fault 51 at line 9"));
+    let objects = text_of(rt.alloc(), ROUNDS, Form::Json, false)?;
+    assert!(rt;
+        objects
+            .as_str()
+            .contains("\"waiting\":[[1,1],[3,6],[9,10]]}")
+    );
+    Ok(())
+}
+
+#[test]
+fn a_flush_without_end_names_what_waits(rt: HostRuntime) -> Result<(), Fail> {
+    let alloc = rt.alloc();
+    let mut text = String::from_str(alloc, "nodes 3\n")?;
+    for _ in 0..3334 {
+        text.push_str("timeout 0\n")?;
+    }
+    text.push_str("flush\n")?;
+    let words = text_of(alloc, text.as_bytes(), Form::Words, false)?;
+    assert!(rt; words.as_str().contains("\nfault 53 at line 3336: "));
+    assert!(rt;
+        words
+            .as_str()
+            .contains("\n        frames that wait: 10000 to 20001\n")
+    );
+    Ok(())
+}
+
+#[test]
+fn a_round_is_parted_into_its_deliveries(rt: HostRuntime) -> Result<(), Fail> {
+    let alloc = rt.alloc();
+    let ledger = follow(alloc, b"nodes 3\nsubmit 0 7 1 remove bus-7\nround 0 0 1\n")?;
+    assert!(rt; ledger.fault.is_none());
+    let mut came = 0;
+    for passage in ledger.passages.iter() {
+        if let Some(step) = passage.came {
+            came += 1;
+            assert!(rt; passage.sent < step);
+        }
+    }
+    let mut wait = 0;
+    for waits in ledger.world.waiting() {
+        if *waits {
+            wait += 1;
+        }
+    }
+    assert_eq!(rt; came, ledger.passages.len() - wait);
+    assert_eq!(rt; ledger.steps.len(), came + 3);
+    let entries = list_run(alloc, &ledger)?;
+    assert_eq!(rt; entries.first(), Some(&Entry::Line(0)));
+    assert_eq!(rt; entries.last(), Some(&Entry::Step(came + 2)));
+    Ok(())
+}
+
+#[test]
+fn a_picture_has_lines_frames_and_marks(rt: HostRuntime) -> Result<(), Fail> {
+    let account = draw(rt.alloc(), SCHEDULE, Some(1), Some(2))?;
+    assert!(rt; account.fault.is_some());
+    let text = str::from_utf8(account.text.as_slice())?;
+    assert!(rt; text.contains("frames 1 to 2 of 18, 3 nodes"));
+    assert!(rt; text.contains("<title>frame 2 prepare 0 "));
+    assert!(rt; !text.contains("<title>frame 3 "));
+    let account = draw(rt.alloc(), SCHEDULE, None, None)?;
+    let text = str::from_utf8(account.text.as_slice())?;
+    assert!(rt; text.contains("submit 0 7 1 remove bus-7"));
+    assert!(rt; text.contains("node 0 learns slot 0: 7:1"));
+    Ok(())
+}
