@@ -1,5 +1,5 @@
 -- How a search among choices goes on, and what it leaves behind.
-use Rattle.std.proofs.Common.{Global, Vec, ◌≡◌, ◌≢◌, ℕ, zero, suc, ◌+◌, ◌-◌, ◌<◌, ◌≤◌, ◌⊎◌, inl, inr, List, [], ◌∷◌, ◌++◌, length, map, min, take, set, All, Any, Contains, Option, Some, None, get_or, slice_get, refl, sym, ap, subst, ◌∙◌, arith}
+use Rattle.std.proofs.Common.{Global, Vec, ◌≡◌, ℕ, zero, suc, ◌+◌, ◌-◌, ◌<◌, ◌≤◌, ◌⊎◌, inl, inr, List, [], ◌∷◌, ◌++◌, length, map, min, take, set, All, Any, Contains, Option, Some, None, get_or, slice_get, refl, sym, ap, subst, ◌∙◌, arith}
 use Rattle.std.proofs.Math.ListN.{length-set}
 use Rattle.std.proofs.lemmas.Bool.{cases_eq, cases_lt}
 use Rattle.std.proofs.lemmas.List.{append_assoc, map-append, take_all, take_more, length_push, length-take, length-take-le}
@@ -13,7 +13,7 @@ use Rattle.verdicts.specs.Execution.{BeginsWith, IsContradiction, IsLater}
 use Rattle.verdicts.specs.Explaining.{IsAmong, HasTold, name_of}
 use Rattle.verdicts.specs.Placement.{IsOnly}
 use Rattle.verdicts.specs.RequestIndex.{IsAmbiguous, IsOf}
-use Rattle.verdicts.specs.Search.{IsPossible, HasAllTold, IsSolved, AreBegun, IsOperation, AreOperations, IsChoice, branch_at, branches_at, AreAscending, Follows, IsExtended, IsStop, IsLatest, IsListed, IsBehind, IsWithin, IsRefuted, IsUnlearnt, IsLeft, is_refuted, is_untried, IsEntered, is_left, is_begun, IsSearch, IsEntering, IsLeaving, IsLast, IsUndecided}
+use Rattle.verdicts.specs.Search.{IsPossible, HasAllTold, IsSolved, AreBegun, IsOperation, AreOperations, IsChoice, branch_at, branches_at, AreAscending, Follows, IsExtended, IsLatest, IsListed, IsBehind, IsWithin, IsRefuted, IsUnlearnt, IsLeft, is_refuted, is_untried, IsEntered, is_left, is_begun, IsSearch, IsEntering, IsLeaving, IsLast, IsUndecided}
 use Rattle.verdicts.specs.Verdicts.{RestsOn}
 use Rattle.verdicts.specs.declared.examination.Contradiction.{Contradiction}
 use Rattle.verdicts.specs.declared.lines.Name.{Name}

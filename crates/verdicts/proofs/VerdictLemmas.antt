@@ -2,13 +2,13 @@
 use Rattle.std.proofs.Common.{◌≡◌, ◌≢◌, ℕ, ◌+◌, ◌<◌, ◌≤◌, max, List, [], ◌∷◌, ◌++◌, length, take, get_or, slice_get, All, Contains, Option, Some, None, Result, Ok, Err, IfOk, sym, ap, subst, ◌∙◌, arith}
 use Rattle.std.proofs.lemmas.List.{take_more}
 use Rattle.std.proofs.lemmas.List.Elements.{All-contains, All-nil, All-cons, All-weaker}
-use Rattle.std.proofs.lemmas.Option.{slice_get_within, get_or_from_slice_get}
+use Rattle.std.proofs.lemmas.Option.{slice_get_within}
 use Rattle.store.specs.Operations.{OpIsValid}
 use Rattle.sessions.specs.declared.submission.Submission.{Submission}
 use Rattle.sessions.specs.Meaning.{RequestsAreValid}
 use Rattle.sessions.specs.declared.command.Command.{Command}
 use Rattle.sessions.specs.declared.command.Command.TheVariants as command
-use Rattle.verdicts.specs.Explaining.{IsAmong, IsList, HasLearnt, HasTold, IsExplained, reach, greatest, position_of}
+use Rattle.verdicts.specs.Explaining.{IsAmong, HasLearnt, HasTold, IsExplained, reach, greatest, position_of}
 use Rattle.verdicts.specs.Placement.{AreNames, IsEarly}
 use Rattle.verdicts.specs.Search.{AreBegun, IsLast, IsOutcome, IsSolved, IsUndecided, IsUnlearnt}
 use Rattle.verdicts.specs.Verdicts.{IsVerdict, IsFirstContradiction, IsNeeded, HasTwoOperations, at_learn, at_told}

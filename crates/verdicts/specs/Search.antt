@@ -1,5 +1,5 @@
 -- Which lists of commands a search among choices has left behind, and what comes of it.
-use Rattle.std.specs.Prelude.{◌≡◌, ℕ, ◌+◌, ◌<◌, ◌≤◌, ◌⊎◌, List, [], ◌∷◌, length, map, take, slice_get, All, Any, Contains, Option, Some, None, Bool, true, false}
+use Rattle.std.specs.Prelude.{◌≡◌, ℕ, ◌+◌, ◌<◌, ◌≤◌, List, [], ◌∷◌, length, map, take, slice_get, All, Any, Contains, Option, Some, None, Bool, true, false}
 use Rattle.std.specs.Option.{option_map}
 use Rattle.sessions.specs.declared.submission.Submission.{Submission}
 use Rattle.sessions.specs.declared.command.Command.{Command}

@@ -1,13 +1,13 @@
 //! Choices among the operations of requests that were submitted with several.
 
-ghost use Rattle.std.specs.Prelude.{◌≡◌, ◌≤◌, ◌<◌, ◌++◌, ◌↔◌, ℕ, List, Option, All, Any, Contains, IfOk, OnOk, IsTrue, length, slice_get, Some, true, false};
+ghost use Rattle.std.specs.Prelude.{◌≡◌, ◌≤◌, ◌<◌, ◌++◌, ◌↔◌, ℕ, List, Option, All, Any, Contains, IfOk, OnOk, IsTrue, length, slice_get, Some, true, false, IfSome};
 ghost use Rattle.store.specs.Operations.{OpIsValid};
 ghost use Rattle.sessions.specs.declared.submission.Submission.{Submission};
 ghost use Rattle.verdicts.specs.Execution.{IsContradiction};
 ghost use Rattle.verdicts.specs.Explaining.{position_of};
 ghost use Rattle.verdicts.specs.Placement.{SlotIsSubmitted};
 ghost use Rattle.verdicts.specs.RequestIndex.{IsIndexed, IsOf};
-ghost use Rattle.verdicts.specs.Search.{AreOperations, IsListed, branches_at, IsExtended, IsStop, IsBehind, IsWithin, IsEntering, IsLeaving, IsSolved, IsOutcome, AfterStep};
+ghost use Rattle.verdicts.specs.Search.{AreOperations, IsListed, IsOperation, branches_at, IsExtended, IsStop, IsBehind, IsWithin, IsEntering, IsLeaving, IsSolved, IsOutcome, AfterStep};
 ghost use Rattle.verdicts.specs.Verdicts.{RestsOn};
 ghost use Rattle.verdicts.specs.declared.lines.Name.{Name as AName};
 ghost use Rattle.verdicts.specs.declared.lines.Question.{Question as AQuestion};
@@ -165,7 +165,7 @@ impl Search {
                 Ok(())
             }
             Some(key) => {
-                let places = operations_of(alloc, requests, key.0, key.1)?;
+                let places = choices_at(alloc, requests, &self.commands, key.0, key.1)?;
                 add_branches(&mut self.untried, slot, &places)?;
                 Ok(())
             }
@@ -252,6 +252,79 @@ fn extend(
     Ok(None)
 }
 
+/// The places of the client's requests of the number, behind these commands. The likeliest is the last.
+fn choices_at(
+    alloc: Global,
+    requests: &[Request],
+    commands: &[Command],
+    client: u8,
+    number: u64,
+) -> Result<Vec<usize>, AllocError>
+    ensures { IfOk result (λ places. AreOperations requests.now client number places.items) }
+{
+    let mut places = operations_of(alloc, requests, client, number)?;
+    let before = count_of(commands, client, number);
+    add_likely(&mut places, requests, client, number, before)?;
+    Ok(places)
+}
+
+/// Adds the place that is likeliest behind so many of the client's requests of the number: nodes mostly learn them in the order in
+/// which they were submitted.
+fn add_likely(
+    places: &mut Vec<usize>,
+    requests: &[Request],
+    client: u8,
+    number: u64,
+    before: usize,
+) -> Result<(), AllocError>
+    requires { AreOperations requests.now client number places.old.items }
+    ensures { OnOk result (AreOperations requests.now client number places.new.items) }
+{
+    match place_of(requests, client, number, before) {
+        Some(place) => {
+            places.push(place)?;
+            Ok(())
+        }
+        None => Ok(()),
+    }
+}
+
+/// The place of the client's request of the number that is behind so many others.
+fn place_of(requests: &[Request], client: u8, number: u64, before: usize) -> Option<usize>
+    ensures { IfSome result (IsOperation requests.now client number) }
+{
+    let mut left = before;
+    for place in 0..requests.len() {
+        if is_of(&requests[place], client, number) {
+            if left == 0 {
+                return Some(place);
+            }
+            left -= 1;
+        }
+    }
+    None
+}
+
+/// How many of the commands are the client's requests of the number.
+fn count_of(commands: &[Command], client: u8, number: u64) -> usize {
+    let mut count: usize = 0;
+    for command in commands {
+        if let Command::Request(request) = command {
+            if is_of(request, client, number) {
+                count = count.saturating_add(1);
+            }
+        }
+    }
+    count
+}
+
+/// Whether it is the client's request of the number.
+fn is_of(request: &Request, client: u8, number: u64) -> bool
+    ensures { IsTrue result ↔ IsOf client number request.now }
+{
+    request.client() == client && request.number().value() == number
+}
+
 /// The places of the client's requests of the number, one for each operation.
 fn operations_of(
     alloc: Global,
@@ -281,10 +354,7 @@ fn is_new(
     ensures wanted { IsTrue result → IsOf client number request.now }
     ensures listed { result ≡ false → IsOf client number request.now → IsListed requests.now places.now request.now }
 {
-    if request.client() != client || request.number().value() != number {
-        return false;
-    }
-    !is_listed(requests, places, request)
+    is_of(request, client, number) && !is_listed(requests, places, request)
 }
 
 /// Whether the request stands at one of the places.

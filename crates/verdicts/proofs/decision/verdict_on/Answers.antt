@@ -1,4 +1,4 @@
-use Rattle.std.proofs.Common.{◌<◌, ◌≤◌, ℕ, All, IfOk, sym, subst, ◌∙◌, length}
+use Rattle.std.proofs.Common.{◌<◌, ◌≤◌, ℕ, All, sym, subst, ◌∙◌}
 use Rattle.verdicts.specs.Explaining.{position_of}
 use Rattle.verdicts.specs.Placement.{AreNames, IsEarly}
 use Rattle.verdicts.specs.declared.lines.LearnLine.{LearnLine}

@@ -1,7 +1,6 @@
-use Rattle.std.proofs.Common.{◌≡◌, ◌<◌, ◌++◌, ◌∷◌, [], List, None, Some, length, slice_get, sym, ap, subst, ◌∙◌, rules}
+use Rattle.std.proofs.Common.{◌≡◌, ◌<◌, None, Some, length, slice_get, sym, ap, subst, ◌∙◌, rules}
 use Rattle.std.proofs.lemmas.List.Elements.{All-contains}
 use Rattle.std.proofs.lemmas.Option.{slice_get-get_or}
-use Rattle.sessions.specs.declared.command.Command.{Command}
 use Rattle.verdicts.specs.Placement.{SlotIsSubmitted}
 use Rattle.verdicts.specs.Search.{IsExtended}
 use Rattle.verdicts.proofs.IndexLemmas.{contains_from_get}

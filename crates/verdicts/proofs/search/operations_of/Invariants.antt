@@ -1,4 +1,4 @@
-use Rattle.std.proofs.Common.{List, All, Contains, take}
+use Rattle.std.proofs.Common.{All, Contains, take}
 use Rattle.sessions.specs.declared.submission.Submission.{Submission}
 use Rattle.verdicts.specs.RequestIndex.{IsOf}
 use Rattle.verdicts.specs.Search.{IsListed, IsOperation}

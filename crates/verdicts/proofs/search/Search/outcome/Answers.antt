@@ -1,4 +1,4 @@
-use Rattle.std.proofs.Common.{◌≡◌, ◌<◌, ◌-◌, [], Contains, None, Some, length, slice_get, refl, sym, ◌∙◌}
+use Rattle.std.proofs.Common.{◌<◌, Contains, length, refl, sym, ◌∙◌}
 use Rattle.std.proofs.lemmas.List.Elements.{All-contains}
 use Rattle.std.proofs.lemmas.Option.{slice_get_read, slice_get-get_or}
 use Rattle.verdicts.specs.Search.{IsBehind}
