@@ -9,6 +9,7 @@ mod folders;
 mod loopbacks;
 mod program;
 mod schedules;
+mod serving;
 mod streams;
 mod transcripts;
 mod words;
