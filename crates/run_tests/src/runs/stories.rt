@@ -112,24 +112,24 @@ fn a_round_is_parted_into_its_deliveries(rt: HostRuntime) -> Result<(), Fail> {
     let alloc = rt.alloc();
     let ledger = follow(alloc, b"nodes 3\nsubmit 0 7 1 remove bus-7\nround 0 0 1\n")?;
     assert!(rt; ledger.fault.is_none());
-    let mut came = 0;
+    let mut came: usize = 0;
     for passage in ledger.passages.iter() {
         if let Some(step) = passage.came {
-            came += 1;
+            came = came.saturating_add(1);
             assert!(rt; passage.sent < step);
         }
     }
-    let mut wait = 0;
+    let mut wait: usize = 0;
     for waits in ledger.world.waiting() {
         if *waits {
-            wait += 1;
+            wait = wait.saturating_add(1);
         }
     }
-    assert_eq!(rt; came, ledger.passages.len() - wait);
-    assert_eq!(rt; ledger.steps.len(), came + 3);
+    assert_eq!(rt; came, ledger.passages.len().saturating_sub(wait));
+    assert_eq!(rt; ledger.steps.len(), came.saturating_add(3));
     let entries = list_run(alloc, &ledger)?;
     assert_eq!(rt; entries.first(), Some(&Entry::Line(0)));
-    assert_eq!(rt; entries.last(), Some(&Entry::Step(came + 2)));
+    assert_eq!(rt; entries.last(), Some(&Entry::Step(came.saturating_add(2))));
     Ok(())
 }
 
