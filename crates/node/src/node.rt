@@ -21,6 +21,8 @@ pub struct Node<S> {
 }
 
 impl<S: Stable> Node<S> {
+    ghost use Rattle.sessions.specs.Machines.{last_number};
+    ghost use Rattle.sessions.specs.Sessions.{session_of};
     ghost use Rattle.sessions.specs.declared.command.Command.{Command};
     ghost use Rattle.node_model.specs.Composition.{IsMeaningOf};
     ghost use Rattle.node_model.specs.Faults.{is_stop_fault};
@@ -117,6 +119,17 @@ impl<S: Stable> Node<S> {
     {
         let replica = self.replica.as_ref()?;
         Some(replica.database())
+    }
+
+    /// The number of the client's last request that it has executed and that counted. 0 where none has, and while the node is down.
+    pub fn last_number(&self, client: u8) -> u64
+        ensures { MatchOption (state_of self.now).up (result ≡ 0)
+            (λ m. result ≡ last_number (session_of m.machine.sessions client)) }
+    {
+        match &self.replica {
+            Some(replica) => replica.last_number(client),
+            None => 0,
+        }
     }
 
     /// Takes an input, refuses it, or goes down on it.

@@ -5,6 +5,8 @@ ghost use Rattle.store.specs.Answers.{IsAnswer};
 ghost use Rattle.sessions.specs.declared.command.Command.{Command};
 ghost use Rattle.byteorder.specs.Endian.{big_bytes};
 ghost use Rattle.stable.specs.declared.key.Key.TheVariants as key;
+ghost use Rattle.sessions.specs.Machines.{last_number};
+ghost use Rattle.sessions.specs.Sessions.{session_of};
 ghost use Rattle.sessions.specs.Standing.{AnswersAll};
 ghost use Rattle.learner.specs.Learning.{learnt_at};
 ghost use Rattle.learner.specs.Prefixes.{IsPrefix};
@@ -167,6 +169,13 @@ impl Replica {
         ensures { result.now ≡ (replica_of self.now).machine.features }
     {
         self.machine.database()
+    }
+
+    /// The number of the client's last request that counted; 0 where none of its requests has.
+    pub fn last_number(&self, client: u8) -> u64
+        ensures { result ≡ last_number (session_of (replica_of self.now).machine.sessions client) }
+    {
+        self.machine.last_number(client)
     }
 
     /// The answer to a query, over what its machine holds.

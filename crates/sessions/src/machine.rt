@@ -3,7 +3,7 @@
 ghost use Rattle.std.specs.Prelude.{◌≡◌, ◌≢◌, ℕ, ◌≤◌, ◌<◌, [], length, IsOk, IfOk, OnOk, OnErr, IsErrOf};
 ghost use Rattle.store.specs.Answers.{IsAnswer};
 ghost use Rattle.sessions.specs.Machines.{after_command, after_request, reply_to_command, reply_to_request};
-ghost use Rattle.sessions.specs.Machines.{is_next, told_of, kept_of, IsMachine, TakesNoMemory, RequestTakesNoMemory};
+ghost use Rattle.sessions.specs.Machines.{is_next, last_number, told_of, kept_of, IsMachine, TakesNoMemory, RequestTakesNoMemory};
 ghost use Rattle.sessions.specs.Machines.{MachineState};
 ghost use Rattle.sessions.specs.Sessions.{session_of};
 ghost use Rattle.sessions.specs.Snapshots.{MachineFits, TellsEach, StandsForEach, snapshot_bytes};
@@ -95,6 +95,13 @@ impl Machine {
         kept_under(self.sessions.of(client), number)
     }
 
+    /// The number of the client's last request that counted; 0 where none of its requests has.
+    pub fn last_number(&self, client: u8) -> u64
+        ensures { result ≡ last_number (session_of self.now.sessions client) }
+    {
+        last_number(self.sessions.of(client))
+    }
+
     /// The text that a query is answered.
     pub fn answer(&self, alloc: Global, query: &Query) -> Result<Vec<u8>, AllocError>
         ensures says { IfOk result (λ text. IsAnswer self.now.features query.now text.items) }
@@ -159,11 +166,17 @@ impl Machine {
 fn is_next(session: Option<Session>, number: Number) -> bool
     ensures { result ≡ is_next session number }
 {
-    let last = match session {
+    number.value() - 1 == last_number(session)
+}
+
+/// The number of the client's last request that counted, or 0.
+fn last_number(session: Option<Session>) -> u64
+    ensures { result ≡ last_number session }
+{
+    match session {
         Some(session) => session.number.value(),
         None => 0,
-    };
-    number.value() - 1 == last
+    }
 }
 
 /// What is told of a number that is not the client's next.
