@@ -3,7 +3,7 @@
 //! An example is two files of the folder that this is run in, by one name: a schedule or a document,
 //! and beside it what comes of it. The names of all schedules and documents are printed, in their
 //! order, and below each what came of it. An example that comes to something else is reported and ends
-//! the run with status 1, and so does a file that belongs to no example.
+//! the run with status 1, and so does a file that belongs to no example. Folders are passed over.
 
 use crate::fault::Fault;
 use crate::outcome::{Kind, Outcome, kind_of, outcome_of};
@@ -33,16 +33,22 @@ fn names_in(rt: &HostRuntime, folder: &str) -> Result<Vec<String>, Fault> {
     };
     let mut names = Vec::new(rt.alloc());
     for entry in entries {
-        names.push(name_of(rt, entry)?)?;
+        if let Some(name) = name_of(rt, entry)? {
+            names.push(name)?;
+        }
     }
     names.sort()?;
     Ok(names)
 }
 
-/// The name of a file.
-fn name_of(rt: &HostRuntime, entry: io::Result<DirEntry>) -> Result<String, Fault> {
-    match entry {
-        Ok(entry) => Ok(String::from_str(rt.alloc(), entry.file_name())?),
+/// The name of a file; None of a folder, which holds no examples.
+fn name_of(rt: &HostRuntime, entry: io::Result<DirEntry>) -> Result<Option<String>, Fault> {
+    let Ok(entry) = entry else {
+        return Err(Fault::Device);
+    };
+    match entry.file_type() {
+        Ok(kind) if kind.is_dir() => Ok(None),
+        Ok(_) => Ok(Some(String::from_str(rt.alloc(), entry.file_name())?)),
         Err(_) => Err(Fault::Device),
     }
 }
