@@ -1,0 +1,10 @@
+pub mod Answering
+pub mod ClusterLemmas
+pub mod Coming
+pub mod Growing
+pub mod Holding
+pub mod Leading
+pub mod LettingOut
+pub mod Lists
+pub mod Passing
+pub mod Places

@@ -1,0 +1,7 @@
+use Rattle.serving.specs.Seen.{server_of}
+use Rattle.serving.specs.Serving.{ServesNodes}
+use Rattle.serving.proofs.server.Server.hand_on.Given as goal
+
+abbrev pub invariant-packets : goal.invariant-packets
+invariant-packets g l =
+    ServesNodes g.S.Stable g.N.Network.tape g.N.Network.Tells (server_of l.initial.self) l.initial.network (server_of l.self) l.network

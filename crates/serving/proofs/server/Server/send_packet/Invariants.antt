@@ -1,0 +1,7 @@
+use Rattle.serving.specs.Outgoing.{IsPacketOf}
+use Rattle.serving.specs.Serving.{PassesOnly}
+use Rattle.serving.proofs.server.Server.send_packet.Given as goal
+
+abbrev pub invariant-nodes : goal.invariant-nodes
+invariant-nodes g l =
+    PassesOnly g.N.Network.tape g.N.Network.Tells (IsPacketOf l.packet) l.initial.network l.network

@@ -1,0 +1,68 @@
+use Rattle.std.proofs.Common.{ℕ, [], ◌∷◌, ap, refl, subst, ◌∙◌}
+use Rattle.serving.specs.Seen.{server_of}
+use Rattle.life.specs.Seen.{life_of}
+use Rattle.life.specs.Lives.{Does}
+use Rattle.node_model.specs.declared.input.Input.{Input}
+use Rattle.world_model.specs.Lives.{Took}
+use Rattle.clients.specs.AnswerLines.{answer_line}
+use Rattle.clients.specs.declared.answer.ClientAnswer.TheVariants as answer
+use Rattle.clients.specs.declared.line.ClientLine.TheVariants as client_line
+use Rattle.serving.specs.Requesting.{fresh_request, is_known}
+use Rattle.serving.specs.Tapes.{Heard}
+use Rattle.serving.specs.Turns.{MayBeHandedOn, refused}
+use Rattle.serving.specs.declared.waiting.Due.TheVariants as due
+use Rattle.serving.proofs.Coming.{just_asked, just_handed_on, just_written, requests_added, serves_submitting}
+use Rattle.serving.proofs.Holding.{holds_claim, holds_due, holds_same}
+use Rattle.serving.proofs.server.Server.submit.Goals as goal
+
+pub returns-in_err-fault : goal.returns-in_err-fault
+returns-in_err-fault g c =
+    serves_submitting g.S.Stable (server_of c.args.self.now) _ c.args.connection c.args.text.now c.args.submission c.take-outcome.result c.requires
+    (subst (λ (i : Input). Does g.S.Stable (life_of c.args.self.now.life) (Took i) c.take-outcome.result (life_of c.take-outcome.new.self)) c.input_of.ensures c.take-outcome.ensures)
+    (holds_same (Heard c.args.connection c.args.text.now ∷ []) (server_of c.args.self.now) _ refl refl)
+
+pub returns-in_err-line-in-Some : goal.returns-in_err-line-in-Some
+returns-in_err-line-in-Some g c =
+    serves_submitting g.S.Stable (server_of c.args.self.now) _ c.args.connection c.args.text.now c.args.submission c.take-outcome.result c.requires
+    (subst (λ (i : Input). Does g.S.Stable (life_of c.args.self.now.life) (Took i) c.take-outcome.result (life_of c.take-outcome.new.self)) c.input_of.ensures c.take-outcome.ensures)
+    (holds_same (Heard c.args.connection c.args.text.now ∷ []) (server_of c.args.self.now) _ refl refl)
+
+pub returns-in_err-add_due-in-Some : goal.returns-in_err-add_due-in-Some
+returns-in_err-add_due-in-Some g c =
+    serves_submitting g.S.Stable (server_of c.args.self.now) _ c.args.connection c.args.text.now c.args.submission c.take-outcome.result c.requires
+    (subst (λ (i : Input). Does g.S.Stable (life_of c.args.self.now.life) (Took i) c.take-outcome.result (life_of c.take-outcome.new.self)) c.input_of.ensures c.take-outcome.ensures)
+    (holds_same (Heard c.args.connection c.args.text.now ∷ []) (server_of c.args.self.now) _ c.in_err-add_due-in-Some.ensures.err refl)
+
+pub returns-in_ok-add_due-in-Some : goal.returns-in_ok-add_due-in-Some
+returns-in_ok-add_due-in-Some g c =
+    serves_submitting g.S.Stable (server_of c.args.self.now) _ c.args.connection c.args.text.now c.args.submission c.take-outcome.result c.requires
+    (subst (λ (i : Input). Does g.S.Stable (life_of c.args.self.now.life) (Took i) c.take-outcome.result (life_of c.take-outcome.new.self)) c.input_of.ensures c.take-outcome.ensures)
+    (holds_due (Heard c.args.connection c.args.text.now ∷ []) (server_of c.args.self.now) _ (due.Line c.args.connection c.in_ok-line-in-Some.line)
+    (refused c.args.submission c.code-code.result (just_written c.args.connection c.args.text.now (client_line.Submit c.args.submission) c.requires)
+    (c.in_ok-line-in-Some.ensures ∙ ap (λ (n : ℕ). answer_line (answer.Refused c.args.submission.client n c.code-code.result)) c.value-number.ensures.value)) c.in_ok-add_due-in-Some.ensures.added refl)
+
+pub returns-in_err-add_claim-in-None : goal.returns-in_err-add_claim-in-None
+returns-in_err-add_claim-in-None g c =
+    serves_submitting g.S.Stable (server_of c.args.self.now) _ c.args.connection c.args.text.now c.args.submission c.take-outcome.result c.requires
+    (subst (λ (i : Input). Does g.S.Stable (life_of c.args.self.now.life) (Took i) c.take-outcome.result (life_of c.take-outcome.new.self)) c.input_of.ensures c.take-outcome.ensures)
+    (holds_same (Heard c.args.connection c.args.text.now ∷ []) (server_of c.args.self.now) _ c.in_err-add_claim-in-None.ensures.err refl)
+
+pub returns-in_err-add-in-None : goal.returns-in_err-add-in-None
+returns-in_err-add-in-None g c =
+    serves_submitting g.S.Stable (server_of c.args.self.now) _ c.args.connection c.args.text.now c.args.submission c.take-outcome.result c.requires
+    (subst (λ (i : Input). Does g.S.Stable (life_of c.args.self.now.life) (Took i) c.take-outcome.result (life_of c.take-outcome.new.self)) c.input_of.ensures c.take-outcome.ensures)
+    (holds_claim (Heard c.args.connection c.args.text.now ∷ []) (server_of c.args.self.now) _ (record { connection = c.args.connection; client = c.args.submission.client; number = c.value-number.result })
+    (just_asked c.args.connection c.args.text.now c.args.submission (record { connection = c.args.connection; client = c.args.submission.client; number = c.value-number.result }) c.requires refl refl c.value-number.ensures.value) c.in_ok-add_claim-in-None.ensures.added
+    (requests_added (is_known c.args.submission.client c.value-number.result c.args.self.now.requests) c.add.result (MayBeHandedOn (Heard c.args.connection c.args.text.now ∷ []))
+    c.args.self.now.requests c.add.new.self (fresh_request c.args.submission.client c.value-number.result c.args.text.now)
+    (just_handed_on c.args.connection c.args.text.now c.args.submission c.args.submission.client c.value-number.result c.requires) c.add.ensures.again c.add.ensures.goes_last c.add.ensures.err))
+
+pub returns-in_ok-add-in-None : goal.returns-in_ok-add-in-None
+returns-in_ok-add-in-None g c =
+    serves_submitting g.S.Stable (server_of c.args.self.now) _ c.args.connection c.args.text.now c.args.submission c.take-outcome.result c.requires
+    (subst (λ (i : Input). Does g.S.Stable (life_of c.args.self.now.life) (Took i) c.take-outcome.result (life_of c.take-outcome.new.self)) c.input_of.ensures c.take-outcome.ensures)
+    (holds_claim (Heard c.args.connection c.args.text.now ∷ []) (server_of c.args.self.now) _ (record { connection = c.args.connection; client = c.args.submission.client; number = c.value-number.result })
+    (just_asked c.args.connection c.args.text.now c.args.submission (record { connection = c.args.connection; client = c.args.submission.client; number = c.value-number.result }) c.requires refl refl c.value-number.ensures.value) c.in_ok-add_claim-in-None.ensures.added
+    (requests_added (is_known c.args.submission.client c.value-number.result c.args.self.now.requests) c.add.result (MayBeHandedOn (Heard c.args.connection c.args.text.now ∷ []))
+    c.args.self.now.requests c.add.new.self (fresh_request c.args.submission.client c.value-number.result c.args.text.now)
+    (just_handed_on c.args.connection c.args.text.now c.args.submission c.args.submission.client c.value-number.result c.requires) c.add.ensures.again c.add.ensures.goes_last c.add.ensures.err))

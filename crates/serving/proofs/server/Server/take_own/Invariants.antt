@@ -1,0 +1,8 @@
+use Rattle.std.proofs.Common.{[]}
+use Rattle.serving.specs.Seen.{server_of}
+use Rattle.serving.specs.Serving.{Serves}
+use Rattle.serving.proofs.server.Server.take_own.Given as goal
+
+abbrev pub invariant-own : goal.invariant-own
+invariant-own g l =
+    Serves g.S.Stable (server_of l.initial.self) [] [] (server_of l.self)

@@ -1,0 +1,30 @@
+use Rattle.std.proofs.Common.{List, [], ◌∷◌, All, Contains, refl, sym, subst, ◌∙◌}
+use Rattle.serving.specs.Seen.{server_of}
+use Rattle.serving.specs.Outgoing.{IsReplyIn}
+use Rattle.serving.specs.declared.claims.Claim.{Claim}
+use Rattle.serving.proofs.Holding.{less_itself, less_settled, less_then}
+use Rattle.serving.proofs.Lists.{reply_of_one}
+use Rattle.serving.proofs.Passing.{only_none, only_then, only_weaker}
+use Rattle.serving.proofs.server.Server.tell_replies.Goals as goal
+
+pub replies-init : goal.replies-init
+replies-init g c =
+    (refl, less_itself (server_of c.args.self.now), only_none g.D.Desk.tape g.D.Desk.Tells (IsReplyIn c.args.replies.now c.args.self.now.waiting.claims) c.args.desk.now)
+
+pub returns-in_err-tell_reply-clause-tells : goal.returns-in_err-tell_reply-clause-tells
+returns-in_err-tell_reply-clause-tells g c =
+    only_then g.D.Desk.tape g.D.Desk.Tells (IsReplyIn c.args.replies.now c.args.self.now.waiting.claims) _ _ _ c.replies.invariant.2
+    (only_weaker g.D.Desk.tape g.D.Desk.Tells (IsReplyIn (c.replied-item.result ∷ []) c.claims.result.now) (IsReplyIn c.args.replies.now c.args.self.now.waiting.claims)
+    (reply_of_one c.args.replies.now c.replied-item.result c.claims.result.now c.args.self.now.waiting.claims (c.replies.replied-index, c.replies-test.true, sym c.replied-item.is)
+    (subst (λ (xs : List Claim). All (Contains c.args.self.now.waiting.claims) xs) (sym c.claims.ensures) c.replies.invariant.1.claims)) _ _ c.tell_reply.ensures)
+
+pub replies-preserved : goal.replies-preserved
+replies-preserved g c = (
+  c.replies.invariant.0,
+  less_then (server_of c.args.self.now) (server_of c.replies.self) _ c.replies.invariant.1
+      (less_settled (server_of c.replies.self) _ _ _ c.settle.ensures c.remove.ensures),
+  only_then g.D.Desk.tape g.D.Desk.Tells (IsReplyIn c.args.replies.now c.args.self.now.waiting.claims) _ _ _ c.replies.invariant.2
+      (only_weaker g.D.Desk.tape g.D.Desk.Tells (IsReplyIn (c.replied-item.result ∷ []) c.claims.result.now) (IsReplyIn c.args.replies.now c.args.self.now.waiting.claims)
+      (reply_of_one c.args.replies.now c.replied-item.result c.claims.result.now c.args.self.now.waiting.claims (c.replies.replied-index, c.replies-test.true, sym c.replied-item.is)
+      (subst (λ (xs : List Claim). All (Contains c.args.self.now.waiting.claims) xs) (sym c.claims.ensures) c.replies.invariant.1.claims)) _ _ c.tell_reply.ensures),
+)

@@ -1,0 +1,11 @@
+use Rattle.std.proofs.Common.{◌≡◌}
+use Rattle.serving.specs.Seen.{server_of}
+use Rattle.serving.specs.Outgoing.{IsReplyIn, KeepsLess}
+use Rattle.serving.specs.Serving.{PassesOnly}
+use Rattle.serving.proofs.server.Server.tell_replies.Given as goal
+
+abbrev pub invariant-replies : goal.invariant-replies
+invariant-replies g l =
+    (l.self.life ≡ l.initial.self.life)
+    × KeepsLess (server_of l.initial.self) (server_of l.self)
+    × PassesOnly g.D.Desk.tape g.D.Desk.Tells (IsReplyIn l.replies l.initial.self.waiting.claims) l.initial.desk l.desk

@@ -1,0 +1,8 @@
+use Rattle.std.proofs.Common.{◌∷◌, []}
+use Rattle.serving.specs.Outgoing.{IsReplyIn}
+use Rattle.serving.specs.Serving.{PassesOnly}
+use Rattle.serving.proofs.server.answers.tell_reply.Given as goal
+
+abbrev pub invariant-claims : goal.invariant-claims
+invariant-claims g l =
+    PassesOnly g.D.Desk.tape g.D.Desk.Tells (IsReplyIn (l.replied ∷ []) l.claims) l.initial.desk l.desk

@@ -1,0 +1,31 @@
+use Rattle.std.proofs.Common.{ℕ, List, [], ◌∷◌, subst, sym}
+use Rattle.std.proofs.lemmas.List.Elements.{Contains-push}
+use Rattle.wire.specs.FrameSpelling.{IsFrame}
+use Rattle.serving.specs.Outgoing.{IsFrameOf}
+use Rattle.serving.specs.Tapes.{Sent}
+use Rattle.serving.proofs.Passing.{only_none, only_one_by}
+use Rattle.serving.proofs.server.departures.send_frame.Goals as goal
+
+pub returns-in_err-bytes : goal.returns-in_err-bytes
+returns-in_err-bytes g c =
+    only_none g.N.Network.tape g.N.Network.Tells (IsFrameOf (c.args.frame.now ∷ [])) c.args.network.now
+
+pub returns-in_err-send : goal.returns-in_err-send
+returns-in_err-send g c =
+    only_one_by g.N.Network.tape g.N.Network.Tells (IsFrameOf (c.args.frame.now ∷ [])) c.args.network.now c.send.new.self (Sent c.receiver.result c.as_slice.result.now) c.send.ensures.tape
+    c.send.ensures.told (record {
+      frame = c.args.frame.now;
+      listed = Contains-push [] c.args.frame.now;
+      receiver = sym c.receiver.ensures.receiver;
+      spelled = subst (λ (b : List ℕ). IsFrame 7 b c.args.frame.now) (sym c.as_slice.ensures.value) c.in_ok-bytes.ensures;
+    })
+
+pub returns : goal.returns
+returns g c =
+    only_one_by g.N.Network.tape g.N.Network.Tells (IsFrameOf (c.args.frame.now ∷ [])) c.args.network.now c.send.new.self (Sent c.receiver.result c.as_slice.result.now) c.send.ensures.tape
+    c.send.ensures.told (record {
+      frame = c.args.frame.now;
+      listed = Contains-push [] c.args.frame.now;
+      receiver = sym c.receiver.ensures.receiver;
+      spelled = subst (λ (b : List ℕ). IsFrame 7 b c.args.frame.now) (sym c.as_slice.ensures.value) c.in_ok-bytes.ensures;
+    })

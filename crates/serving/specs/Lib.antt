@@ -1,0 +1,15 @@
+pub mod Claiming
+pub mod Clusters
+pub mod HandingOn
+pub mod Outgoing
+pub mod Patiences
+pub mod Recovery
+pub mod Refusals
+pub mod Requesting
+pub mod Seen
+pub mod Serving
+pub mod Tapes
+pub mod Ticking
+pub mod Timings
+pub mod Turns
+pub mod Waitings

@@ -1,0 +1,57 @@
+-- What a process lets out in one go: each frame, packet and text is what the life handed out, or what a client wrote.
+use Rattle.std.specs.Prelude.{◌≡◌, ◌≤◌, ℕ, List, All, Contains}
+use Rattle.sessions.specs.SessionReplies.{outcome_code}
+use Rattle.wire.specs.FrameSpelling.{IsFrame}
+use Rattle.wire.specs.declared.frames.envelope.Envelope.{Envelope}
+use Rattle.world_model.specs.declared.lists.Answered.{Answered}
+use Rattle.world_model.specs.declared.lists.Replied.{Replied}
+use Rattle.clients.specs.AnswerLines.{answer_line, text_line}
+use Rattle.clients.specs.declared.answer.ClientAnswer.TheVariants as answer
+use Rattle.serving.specs.declared.claims.Claim.{Claim}
+use Rattle.serving.specs.Serving.{ServerState}
+use Rattle.serving.specs.Tapes.{Carried, Sent, Arrived, Talk, Heard, Went, Told}
+
+-- one of these frames goes to its receiver
+pub record SpellsOneOf (frames : List Envelope) (to : ℕ) (bytes : List ℕ) : Type 0 where
+  pub frame : Envelope
+  pub listed : Contains frames frame
+  pub receiver : frame.to ≡ to
+  pub spelled : IsFrame 7 bytes frame
+
+abbrev pub IsFrameOf : List Envelope → Carried → Type 0
+IsFrameOf frames (Sent to bytes) = SpellsOneOf frames to bytes
+IsFrameOf frames (Arrived bytes) = ⊥
+
+-- this packet goes to some node
+abbrev pub IsPacketOf : List ℕ → Carried → Type 0
+IsPacketOf packet (Sent to bytes) = bytes ≡ packet
+IsPacketOf packet (Arrived bytes) = ⊥
+
+-- one of these replies is told to a connection that waits for it by one of these claims
+pub record SettlesOneOf (replies : List Replied) (claims : List Claim) (connection : ℕ) (text : List ℕ) : Type 0 where
+  pub replied : Replied
+  pub listed : Contains replies replied
+  pub claim : Claim
+  pub waits : Contains claims claim
+  pub receiver : claim.connection ≡ connection
+  pub client : claim.client ≡ replied.client
+  pub number : claim.number ≡ replied.number
+  pub spelled : text ≡ answer_line (answer.Reply replied.client replied.number (outcome_code replied.reply) replied.position)
+
+abbrev pub IsReplyIn : List Replied → List Claim → Talk → Type 0
+IsReplyIn replies claims (Told connection text) = SettlesOneOf replies claims connection text
+IsReplyIn replies claims (Heard connection text) = ⊥
+IsReplyIn replies claims (Went connection) = ⊥
+
+-- the connection is told this answer
+abbrev pub IsTextTo : ℕ → Answered → Talk → Type 0
+IsTextTo connection answered (Told to text) = (to ≡ connection) × (text ≡ text_line answered.position answered.text)
+IsTextTo connection answered (Heard to text) = ⊥
+IsTextTo connection answered (Went to) = ⊥
+
+-- what a process keeps of what waits, it had
+pub record KeepsLess {S : Type 0} (old new : ServerState S) : Type 0 where
+  pub claims : All (Contains old.waiting.claims) new.waiting.claims
+  pub questions : All (Contains old.waiting.questions) new.waiting.questions
+  pub due : All (Contains old.waiting.due) new.waiting.due
+  pub requests : All (Contains old.requests) new.requests

@@ -1,0 +1,30 @@
+//! What the clients of all processes of a run may conclude. Nothing runs.
+
+ghost use Rattle.std.specs.Prelude.{◌≡◌, ℕ, List};
+ghost use Rattle.sessions.specs.SessionReplies.{outcome_code};
+ghost use Rattle.node_model.specs.Nodes.{NodeState};
+ghost use Rattle.world_model.specs.Lives.{AreLives, Moment, StoragesAreHonest};
+ghost use Rattle.serving.specs.Clusters.{IsLogOf, IsServed};
+ghost use Rattle.serving.specs.Turns.{IsAnswerToOwn, IsReplyToOwn, Past};
+
+use stable::Stable;
+
+/// One list of submitted commands and no-ops explains every reply and every answer that any client of any process was ever told, where
+/// every storage is honest to the end.
+pub fn one_list_explains_clients<S: Stable>()
+    ensures { (moments : List Moment) (first last : List (NodeState S)) → AreLives S.Stable moments first last
+        → StoragesAreHonest S.Stable last → IsLogOf S.Stable moments }
+{}
+
+/// Two answers to one query at one position are equal, byte for byte, whichever clients were told them by whichever processes, and two
+/// replies at one position have one number, where every storage is honest to the end.
+pub fn clients_are_told_the_same<S: Stable>()
+    ensures answers { (moments : List Moment) (first last : List (NodeState S)) → AreLives S.Stable moments first last
+        → StoragesAreHonest S.Stable last → (one other : Past) → IsServed S.Stable moments one → IsServed S.Stable moments other
+        → (here there : ℕ) (a b : List ℕ) → (mine : IsAnswerToOwn one here a) → (yours : IsAnswerToOwn other there b)
+        → mine.answered.query ≡ yours.answered.query → mine.answered.position ≡ yours.answered.position → a ≡ b }
+    ensures replies { (moments : List Moment) (first last : List (NodeState S)) → AreLives S.Stable moments first last
+        → StoragesAreHonest S.Stable last → (one other : Past) → IsServed S.Stable moments one → IsServed S.Stable moments other
+        → (here there : ℕ) (a b : List ℕ) → (mine : IsReplyToOwn one here a) → (yours : IsReplyToOwn other there b)
+        → mine.replied.position ≡ yours.replied.position → outcome_code mine.replied.reply ≡ outcome_code yours.replied.reply }
+{}

@@ -1,0 +1,221 @@
+//! A process that serves a node.
+
+ghost use Rattle.std.specs.Prelude.{◌≡◌, [], Result};
+ghost use Rattle.stable.specs.declared.stable.Stable.{Ghosts};
+ghost use Rattle.node_model.specs.declared.fault.NodeFault.{NodeFault};
+ghost use Rattle.world_model.specs.Lives.{down_over};
+ghost use Rattle.serving.specs.Serving.{IsPosition, IsServing, Serves, ServesOver, begun};
+ghost use Rattle.serving.specs.Turns.{IsOfProcess};
+
+mod answers;
+mod arrivals;
+mod departures;
+mod lines;
+
+use crate::checkpoints::is_checkpoint_due;
+use crate::desk::Desk;
+use crate::fault::{TurnFault, refusal};
+use crate::horizon::Horizon;
+use crate::network::Network;
+use crate::requests::Requests;
+use crate::timing::Timing;
+use crate::waiting::Waiting;
+use life::Life;
+use node_model::Input;
+use stable::Stable;
+use std::alloc::Global;
+use wire::{NodeId, Nodes};
+
+/// So many packets and so many lines a turn takes at most, so that what comes of them isn't held back for long.
+pub const MOST_IN_A_TURN: usize = 256;
+
+/// A process that serves a node: what the node's life makes of frames, lines and the time.
+///
+/// A client is told nothing but the replies and the answers that the life handed out, refusals, faults of its own lines, and how far
+/// the node is. Nothing is sent but frames that the life handed out, and lines of clients that are handed on. The life hands out only
+/// what rests on puts that returned Ok.
+#[derive(Drop)]
+pub struct Server<S> {
+    own: NodeId,
+    nodes: Nodes,
+    life: Life<S>,
+    timing: Timing,
+    waiting: Waiting,
+    requests: Requests,
+}
+
+impl<S: Stable + Drop> Server<S> {
+    ghost use Rattle.std.specs.Prelude.{ℕ};
+    ghost use Rattle.life.specs.Lives.{IsBorn};
+    ghost use Rattle.life.specs.Seen.{life_of};
+    ghost use Rattle.serving.specs.Seen.{server_of};
+
+    /// Serves the node of this life, whose records have votes up to the horizon.
+    pub fn new(
+        alloc: Global,
+        life: Life<S>,
+        own: NodeId,
+        nodes: Nodes,
+        horizon: Horizon,
+        now: u64,
+    ) -> Server<S>
+        ensures { (id count : ℕ) (storage : S) → IsBorn S.Stable id count storage (life_of life)
+            → (loaded : Result (Unit {0}) NodeFault)
+            × IsServing S.Stable (down_over id count storage) (begun loaded) (server_of result) }
+    {
+        Server {
+            own,
+            nodes,
+            life,
+            timing: Timing::new(own, horizon, now),
+            waiting: Waiting::none(alloc),
+            requests: Requests::none(alloc),
+        }
+    }
+
+    /// What the process has seen of the run.
+    pub fn timing(&self) -> &Timing
+        ensures { result.now ≡ self.now.timing }
+    {
+        &self.timing
+    }
+
+    /// The node's position.
+    pub fn position(&self) -> u32
+        ensures { IsPosition (life_of self.now.life).node result }
+    {
+        self.life.node().position()
+    }
+
+    /// In how many milliseconds something is due.
+    pub fn left(&self, now: u64) -> u64 {
+        self.timing.left(self.position(), self.is_asked(), now)
+    }
+
+    /// Takes what has come, and hands out what comes of it: whether more may have come. After a fault the process is to end; what it
+    /// let out before that is as right as ever.
+    pub fn turn<N: Network, D: Desk>(
+        &mut self,
+        alloc: Global,
+        network: &mut N,
+        desk: &mut D,
+        now: u64,
+    ) -> Result<bool, TurnFault>
+        ensures { ServesOver S.Stable N.tape N.Tells D.tape D.Tells (server_of self.old) network.old desk.old
+            (server_of self.new) network.new desk.new }
+    {
+        let more_came = self.take(alloc, network, desk, now)?;
+        let has_told = self.tell(alloc, network, desk, now)?;
+        let is_asked = self.is_asked();
+        let position = self.position();
+        self.timing.see_position(position, is_asked, now);
+        // A connection that was told something may have lines that wait unread.
+        Ok(more_came || has_told)
+    }
+
+    // Takes frames, lines, and what is due by the clock: whether more may have come.
+    fn take<N: Network, D: Desk>(
+        &mut self,
+        alloc: Global,
+        network: &mut N,
+        desk: &mut D,
+        now: u64,
+    ) -> Result<bool, TurnFault>
+        ensures { ServesOver S.Stable N.tape N.Tells D.tape D.Tells (server_of self.old) network.old desk.old
+            (server_of self.new) network.new desk.new }
+    {
+        let more_frames = self.take_frames(alloc, network, now)?;
+        let more_lines = self.take_lines(alloc, desk)?;
+        self.keep_time(alloc, now)?;
+        self.take_own(alloc)?;
+        Ok(more_frames || more_lines)
+    }
+
+    // Lets out what came of it: whether a client was told anything that it waited for.
+    fn tell<N: Network, D: Desk>(
+        &mut self,
+        alloc: Global,
+        network: &mut N,
+        desk: &mut D,
+        now: u64,
+    ) -> Result<bool, TurnFault>
+        ensures { ServesOver S.Stable N.tape N.Tells D.tape D.Tells (server_of self.old) network.old desk.old
+            (server_of self.new) network.new desk.new }
+    {
+        let has_replied = self.let_out(alloc, network, desk, now)?;
+        let has_answered = self.tell_ripe(alloc, desk)?;
+        self.tell_due(alloc, desk)?;
+        self.hand_on(alloc, network, now)?;
+        Ok(has_replied || has_answered)
+    }
+
+    // Whether a client waits for a reply.
+    fn is_asked(&self) -> bool {
+        self.waiting.is_for_replies()
+    }
+
+    // What is due by the clock, and a checkpoint where one is.
+    fn keep_time(&mut self, alloc: Global, now: u64) -> Result<(), TurnFault>
+        ensures { Serves S.Stable (server_of self.old) [] [] (server_of self.new) }
+    {
+        let is_asked = self.is_asked();
+        let position = self.position();
+        self.timing.see_position(position, is_asked, now);
+        self.campaign_if_due(alloc, position, is_asked, now)?;
+        self.tick_if_due(alloc, position, is_asked, now)?;
+        self.keep_records(alloc, position)
+    }
+
+    // A campaign where one is due.
+    fn campaign_if_due(
+        &mut self,
+        alloc: Global,
+        position: u32,
+        is_asked: bool,
+        now: u64,
+    ) -> Result<(), TurnFault>
+        ensures { Serves S.Stable (server_of self.old) [] [] (server_of self.new) }
+    {
+        if !self.timing.is_campaign_due(position, is_asked, now) {
+            return Ok(());
+        }
+        self.timing.campaign(now);
+        self.give(alloc, Input::Timeout)
+    }
+
+    // A tick where one is due.
+    fn tick_if_due(
+        &mut self,
+        alloc: Global,
+        position: u32,
+        is_asked: bool,
+        now: u64,
+    ) -> Result<(), TurnFault>
+        ensures { Serves S.Stable (server_of self.old) [] [] (server_of self.new) }
+    {
+        if !self.timing.tick(position, is_asked, now) {
+            return Ok(());
+        }
+        self.give(alloc, Input::Tick)
+    }
+
+    // A checkpoint where one is due, and what it stands for is taken out.
+    fn keep_records(&mut self, alloc: Global, position: u32) -> Result<(), TurnFault>
+        ensures { Serves S.Stable (server_of self.old) [] [] (server_of self.new) }
+    {
+        if !is_checkpoint_due(position, self.life.node().floor()) {
+            return Ok(());
+        }
+        self.give(alloc, Input::Checkpoint)?;
+        self.give(alloc, Input::Trim)
+    }
+
+    // The node takes what the process gives it by itself.
+    fn give(&mut self, alloc: Global, input: Input) -> Result<(), TurnFault>
+        requires { IsOfProcess input }
+        ensures { Serves S.Stable (server_of self.old) [] [] (server_of self.new) }
+    {
+        refusal(self.life.take(alloc, input))?;
+        Ok(())
+    }
+}

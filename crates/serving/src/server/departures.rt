@@ -1,0 +1,135 @@
+//! What a process sends to the other nodes.
+
+ghost use Rattle.std.specs.Prelude.{◌≡◌, ◌∷◌, []};
+ghost use Rattle.serving.specs.Outgoing.{IsFrameOf, IsPacketOf};
+ghost use Rattle.serving.specs.Serving.{PassesOnly, ServesNodes, ServesOver};
+
+use super::Server;
+use crate::desk::Desk;
+use crate::fault::TurnFault;
+use crate::hand_on::is_handed_to;
+use crate::network::Network;
+use life::Told;
+use stable::Stable;
+use std::alloc::Global;
+use wire::{Frame, Message};
+
+impl<S: Stable + Drop> Server<S> {
+    ghost use Rattle.serving.specs.Seen.{server_of};
+
+    // What the life holds goes out: frames to the other nodes, and replies to those who wait for them. Whether there was a reply.
+    pub(super) fn let_out<N: Network, D: Desk>(
+        &mut self,
+        alloc: Global,
+        network: &mut N,
+        desk: &mut D,
+        now: u64,
+    ) -> Result<bool, TurnFault>
+        ensures { ServesOver S.Stable N.tape N.Tells D.tape D.Tells (server_of self.old) network.old desk.old
+            (server_of self.new) network.new desk.new }
+    {
+        let Told {
+            frames,
+            learnt: _,
+            replies,
+            answers: _,
+        } = self.life.hand_out(alloc);
+        self.send_frames(alloc, network, frames.as_slice(), now)?;
+        self.tell_replies(alloc, desk, replies.as_slice())?;
+        Ok(!replies.is_empty())
+    }
+
+    // The frames go to their receivers.
+    fn send_frames<N: Network>(
+        &mut self,
+        alloc: Global,
+        network: &mut N,
+        frames: &[Frame],
+        now: u64,
+    ) -> Result<(), TurnFault>
+        ensures sends { PassesOnly N.tape N.Tells (IsFrameOf frames.now) network.old network.new }
+        ensures same { server_of self.new ≡ server_of self.old }
+    {
+        'frames: for frame in frames.iter() {
+            self.note_sent(alloc, frame, now)?;
+            send_frame(alloc, network, frame)?;
+        }
+        Ok(())
+    }
+
+    // What its own frames tell: of its campaigns, and of its votes.
+    fn note_sent(&mut self, alloc: Global, frame: &Frame, now: u64) -> Result<(), TurnFault>
+        ensures { server_of self.new ≡ server_of self.old }
+    {
+        if let Some(slot) = frame.voted_slot() {
+            self.timing.see_vote(slot);
+            return Ok(());
+        }
+        let envelope = frame.open(alloc)?;
+        if let Message::Prepare { ballot, .. } = &envelope.message {
+            self.timing.see_ballot(*ballot, now);
+        }
+        Ok(())
+    }
+
+    // The requests that wait here are handed on to the node that leads, or to all.
+    pub(super) fn hand_on<N: Network>(
+        &mut self,
+        alloc: Global,
+        network: &mut N,
+        now: u64,
+    ) -> Result<(), TurnFault>
+        ensures { ServesNodes S.Stable N.tape N.Tells (server_of self.old) network.old (server_of self.new) network.new }
+    {
+        'packets: for _ in 0..u64::MAX {
+            if !self.hand_on_next(alloc, network, now)? {
+                return Ok(());
+            }
+        }
+        Ok(())
+    }
+
+    // The next request that is to be handed on: whether there is one.
+    fn hand_on_next<N: Network>(
+        &mut self,
+        alloc: Global,
+        network: &mut N,
+        now: u64,
+    ) -> Result<bool, TurnFault>
+        ensures { ServesNodes S.Stable N.tape N.Tells (server_of self.old) network.old (server_of self.new) network.new }
+    {
+        let Some(place) = self.requests.next_due(now) else {
+            return Ok(false);
+        };
+        self.send_packet(alloc, network, self.requests.packet(place))?;
+        Ok(true)
+    }
+
+    // The packet goes to the nodes to which a request is handed on.
+    fn send_packet<N: Network>(
+        &self,
+        alloc: Global,
+        network: &mut N,
+        packet: &[u8],
+    ) -> Result<(), TurnFault>
+        ensures { PassesOnly N.tape N.Tells (IsPacketOf packet.now) network.old network.new }
+    {
+        let leader = self.timing.leader();
+        'nodes: for node in 0..self.nodes.count() {
+            if !is_handed_to(leader, self.own.value(), node) {
+                continue;
+            }
+            network.send(alloc, self.nodes.node(node), packet)?;
+        }
+        Ok(())
+    }
+}
+
+// The frame goes to its receiver.
+fn send_frame<N: Network>(alloc: Global, network: &mut N, frame: &Frame) -> Result<(), TurnFault>
+    ensures { PassesOnly N.tape N.Tells (IsFrameOf (frame.now ∷ [])) network.old network.new }
+{
+    let bytes = frame.bytes(alloc)?;
+    network.send(alloc, frame.receiver(), bytes.as_slice())?;
+    Ok(())
+}
