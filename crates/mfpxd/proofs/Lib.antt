@@ -1,0 +1,3 @@
+mod Feeds
+mod Horizons
+mod Written

@@ -1,0 +1,82 @@
+//! Why the program stops.
+
+ghost use Rattle.std.specs.Prelude.{◌≡◌};
+ghost use Rattle.mfpxd.specs.Stops.{status_of};
+
+use crate::refusal::Refusal;
+use serving::TurnFault;
+use stable::StableFault;
+use std::alloc::{AllocError, AllocFailed};
+use std::{fmt, io};
+
+/// Why the program stops.
+#[derive(Drop)]
+pub enum Stop {
+    /// What it was given is refused.
+    Refused(Refusal),
+    /// A file, a socket or the clock failed.
+    Device(io::Error),
+    /// The records can't be opened.
+    Records(StableFault),
+    /// The node went down, or memory ran out.
+    Turn(TurnFault),
+}
+
+impl Stop {
+    /// The exit status.
+    pub fn status(&self) -> u8
+        ensures { result ≡ status_of self.now }
+    {
+        match self {
+            Stop::Refused(_) => 2,
+            _ => 3,
+        }
+    }
+}
+
+impl fmt::Display for Stop {
+    fn fmt<W: fmt::Write>(&self, f: &mut fmt::Formatter<W>) -> fmt::Result {
+        match self {
+            Stop::Refused(refusal) => write!(f, "{refusal}"),
+            Stop::Device(error) => write!(f, "{error}"),
+            Stop::Records(fault) => write!(f, "the records: {fault}"),
+            Stop::Turn(fault) => write!(f, "{fault}"),
+        }
+    }
+}
+
+impl From<Refusal> for Stop {
+    fn from(refusal: Refusal) -> Stop {
+        Stop::Refused(refusal)
+    }
+}
+
+impl From<io::Error> for Stop {
+    fn from(error: io::Error) -> Stop {
+        Stop::Device(error)
+    }
+}
+
+impl From<StableFault> for Stop {
+    fn from(fault: StableFault) -> Stop {
+        Stop::Records(fault)
+    }
+}
+
+impl From<TurnFault> for Stop {
+    fn from(fault: TurnFault) -> Stop {
+        Stop::Turn(fault)
+    }
+}
+
+impl From<AllocError> for Stop {
+    fn from(_: AllocError) -> Stop {
+        Stop::Turn(TurnFault::Memory)
+    }
+}
+
+impl<T: Drop> From<AllocFailed<T>> for Stop {
+    fn from(_: AllocFailed<T>) -> Stop {
+        Stop::Turn(TurnFault::Memory)
+    }
+}
