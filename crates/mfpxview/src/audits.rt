@@ -3,6 +3,7 @@
 use crate::failure::{Failure, FileFailure};
 use crate::faults::tell_faults;
 use crate::files::{read_file, write_file};
+use crate::progress::Progress;
 use audit::{AuditFault, audit, report, status};
 use events::WorldFault;
 use schedule::ReplayCause;
@@ -14,6 +15,7 @@ pub(crate) fn show_audit<'a>(
     rt: &HostRuntime,
     schedule: &'a str,
     transcripts: &[&'a str],
+    progress: Progress,
 ) -> Result<u8, FileFailure<'a>> {
     if names_input_twice(schedule, transcripts) {
         return Err(FileFailure {
@@ -21,10 +23,10 @@ pub(crate) fn show_audit<'a>(
             failure: Failure::InputTwice,
         });
     }
-    let bytes = read_named(rt, schedule)?;
+    let bytes = read_named(rt, schedule, progress)?;
     let mut read = Vec::new(rt.alloc());
     for file in transcripts {
-        let transcript = read_named(rt, file)?;
+        let transcript = read_named(rt, file, progress)?;
         if let Err(_) = read.push(transcript) {
             return Err(FileFailure {
                 file,
@@ -32,7 +34,14 @@ pub(crate) fn show_audit<'a>(
             });
         }
     }
-    match tell_audit(rt, schedule, bytes.as_slice(), transcripts, read.as_slice()) {
+    match tell_audit(
+        rt,
+        schedule,
+        bytes.as_slice(),
+        transcripts,
+        read.as_slice(),
+        progress,
+    ) {
         Ok(status) => Ok(status),
         Err(failure) => Err(FileFailure {
             file: schedule,
@@ -55,8 +64,12 @@ fn names_input_twice(schedule: &str, transcripts: &[&str]) -> bool {
 }
 
 /// The bytes of the file, or that it fails.
-fn read_named<'a>(rt: &HostRuntime, file: &'a str) -> Result<Vec<u8>, FileFailure<'a>> {
-    match read_file(rt, file) {
+fn read_named<'a>(
+    rt: &HostRuntime,
+    file: &'a str,
+    progress: Progress,
+) -> Result<Vec<u8>, FileFailure<'a>> {
+    match read_file(rt, file, progress) {
         Ok(bytes) => Ok(bytes),
         Err(failure) => Err(FileFailure { file, failure }),
     }
@@ -69,9 +82,10 @@ fn tell_audit(
     bytes: &[u8],
     names: &[&str],
     transcripts: &[Vec<u8>],
+    progress: Progress,
 ) -> Result<u8, Failure> {
     match audit(rt.alloc(), bytes, transcripts) {
-        Ok(verdict) => write_verdict(rt, &verdict, names),
+        Ok(verdict) => write_verdict(rt, &verdict, names, progress),
         Err(AuditFault::Schedule(fault)) => match fault.cause {
             ReplayCause::World(WorldFault::Memory) => Err(Failure::Memory),
             _ => tell_faults(rt, schedule, bytes),
@@ -81,9 +95,16 @@ fn tell_audit(
 }
 
 /// Writes the verdict as a line, and answers its status.
-fn write_verdict(rt: &HostRuntime, verdict: &Verdict, names: &[&str]) -> Result<u8, Failure> {
+fn write_verdict(
+    rt: &HostRuntime,
+    verdict: &Verdict,
+    names: &[&str],
+    progress: Progress,
+) -> Result<u8, Failure> {
     let text = report(rt.alloc(), verdict, names)?;
     let line = format!(in rt.alloc(); "{text}\n")?;
-    write_file(rt, "-", line.as_str().as_bytes())?;
+    let text = line.as_str().as_bytes();
+    progress.tell_done(rt, text.len());
+    write_file(rt, "-", text, progress)?;
     Ok(status(verdict))
 }

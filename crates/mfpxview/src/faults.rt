@@ -2,11 +2,12 @@
 
 use crate::failure::Failure;
 use crate::files::{read_file, write_file};
+use crate::progress::UNTOLD;
 use fault_report::{report_document, report_schedule};
 
 /// Shows what is wrong with the file, and answers 1 where anything is.
 pub(crate) fn show_faults(rt: &HostRuntime, file: &str) -> Result<u8, Failure> {
-    let bytes = read_file(rt, file)?;
+    let bytes = read_file(rt, file, UNTOLD)?;
     tell_faults(rt, file, bytes.as_slice())
 }
 
@@ -19,7 +20,7 @@ pub(crate) fn tell_faults(rt: &HostRuntime, file: &str, bytes: &[u8]) -> Result<
     };
     match told {
         Some(text) => {
-            write_file(rt, "-", text.as_str().as_bytes())?;
+            write_file(rt, "-", text.as_str().as_bytes(), UNTOLD)?;
             Ok(1)
         }
         None => Ok(0),

@@ -9,9 +9,10 @@
 //! | `mfpxview audit SCHEDULE TRANSCRIPT..` | whether one list of commands explains what transcripts tell of its runs |
 //! | `mfpxview --help`, `--version` | how it is called |
 //!
-//! `-` in the place of a file that is read is standard input, and in the place of OUT standard output. The exit status is 0 where nothing is
-//! wrong, 1 where faults or a contradiction are told or the run ends with a fault, 2 where the words are none of the forms, and 3 where an
-//! audit is undecided, a file or a stream fails, or memory runs out.
+//! `-` in the place of a file that is read is standard input, and in the place of OUT standard output. With `--progress`, which all but
+//! `why` take, it is told on standard error what is read, done and written. The exit status is 0 where nothing is wrong, 1 where faults or a
+//! contradiction are told or the run ends with a fault, 2 where the words are none of the forms, and 3 where an audit is undecided, a file
+//! or a stream fails, or memory runs out.
 #![tactic(auto)]
 
 mod audits;
@@ -19,6 +20,7 @@ mod failure;
 mod faults;
 mod files;
 mod maps;
+mod progress;
 mod runs;
 mod show;
 

@@ -3,6 +3,7 @@
 use crate::failure::Failure;
 use crate::faults::tell_faults;
 use crate::files::{read_file, write_file};
+use crate::progress::Progress;
 use events::WorldFault;
 use mfjson::datetime_read;
 use run_map::{MapFault, map};
@@ -18,13 +19,16 @@ pub(crate) fn show_map(
     output: &str,
     at: Option<&str>,
     node: Option<&str>,
+    progress: Progress,
 ) -> Result<u8, Failure> {
     let at = instant_of(at)?;
     let node = node_of(node)?;
-    let bytes = read_file(rt, file)?;
+    let bytes = read_file(rt, file, progress)?;
     match map(rt.alloc(), bytes.as_slice(), at, node) {
         Ok(drawn) => {
-            write_file(rt, output, drawn.text.as_slice())?;
+            let text = drawn.text.as_slice();
+            progress.tell_done(rt, text.len());
+            write_file(rt, output, text, progress)?;
             Ok(if drawn.end.is_some() { 1 } else { 0 })
         }
         Err(MapFault::Memory) => Err(Failure::Memory),

@@ -3,6 +3,7 @@
 use crate::failure::Failure;
 use crate::faults::tell_faults;
 use crate::files::{read_file, write_file};
+use crate::progress::Progress;
 use events::WorldFault;
 use schedule::forms::decimal;
 use schedule::{ReplayCause, ReplayFault};
@@ -14,11 +15,12 @@ pub(crate) fn show_run(
     file: &str,
     frames: bool,
     json: bool,
+    progress: Progress,
 ) -> Result<u8, Failure> {
-    let bytes = read_file(rt, file)?;
+    let bytes = read_file(rt, file, progress)?;
     let form = if json { Form::Json } else { Form::Words };
     let told = tell(rt.alloc(), bytes.as_slice(), form, frames);
-    write_account(rt, file, "-", bytes.as_slice(), told)
+    write_account(rt, file, "-", bytes.as_slice(), told, progress)
 }
 
 /// Draws the frames of its run, from and to these, where they are named.
@@ -28,12 +30,13 @@ pub(crate) fn show_drawing(
     output: &str,
     from: Option<&str>,
     to: Option<&str>,
+    progress: Progress,
 ) -> Result<u8, Failure> {
     let from = frame_of(from)?;
     let to = frame_of(to)?;
-    let bytes = read_file(rt, file)?;
+    let bytes = read_file(rt, file, progress)?;
     let drawn = draw(rt.alloc(), bytes.as_slice(), from, to);
-    write_account(rt, file, output, bytes.as_slice(), drawn)
+    write_account(rt, file, output, bytes.as_slice(), drawn, progress)
 }
 
 /// The number of a frame, where one is named.
@@ -54,10 +57,13 @@ fn write_account(
     output: &str,
     bytes: &[u8],
     made: Result<Account, ReplayFault>,
+    progress: Progress,
 ) -> Result<u8, Failure> {
     match made {
         Ok(account) => {
-            write_file(rt, output, account.text.as_slice())?;
+            let text = account.text.as_slice();
+            progress.tell_done(rt, text.len());
+            write_file(rt, output, text, progress)?;
             Ok(if account.fault.is_some() { 1 } else { 0 })
         }
         Err(fault) => match fault.cause {

@@ -4,6 +4,7 @@ use crate::audits::show_audit;
 use crate::failure::Failure;
 use crate::faults::show_faults;
 use crate::maps::show_map;
+use crate::progress::Progress;
 use crate::runs::{show_drawing, show_run};
 use clap::Error;
 use clap::error::ErrorKind;
@@ -54,26 +55,46 @@ fn print_error(rt: &HostRuntime, error: &Error) -> u8 {
 fn show_view(rt: &HostRuntime, view: View<'_>) -> u8 {
     match view {
         View::Why { file } => ended(rt, file, show_faults(rt, file)),
-        View::Run { file, frames, json } => ended(rt, file, show_run(rt, file, frames, json)),
+        View::Run {
+            file,
+            frames,
+            json,
+            progress,
+        } => {
+            let progress = Progress { is_told: progress };
+            ended(rt, file, show_run(rt, file, frames, json, progress))
+        }
         View::Draw {
             file,
             output,
             from,
             to,
-        } => ended(rt, file, show_drawing(rt, file, output, from, to)),
+            progress,
+        } => {
+            let progress = Progress { is_told: progress };
+            ended(rt, file, show_drawing(rt, file, output, from, to, progress))
+        }
         View::Map {
             file,
             output,
             at,
             node,
-        } => ended(rt, file, show_map(rt, file, output, at, node)),
+            progress,
+        } => {
+            let progress = Progress { is_told: progress };
+            ended(rt, file, show_map(rt, file, output, at, node, progress))
+        }
         View::Audit {
             schedule,
             transcripts,
-        } => match show_audit(rt, schedule, transcripts.as_slice()) {
-            Ok(status) => status,
-            Err(stop) => tell(rt, stop.file, stop.failure),
-        },
+            progress,
+        } => {
+            let progress = Progress { is_told: progress };
+            match show_audit(rt, schedule, transcripts.as_slice(), progress) {
+                Ok(status) => status,
+                Err(stop) => tell(rt, stop.file, stop.failure),
+            }
+        }
     }
 }
 

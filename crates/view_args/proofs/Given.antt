@@ -1,5 +1,5 @@
 -- The name of a command and its values stand in what its matches hold.
-use Rattle.std.proofs.Common.{◌≡◌, ◌∙◌, ◌||◌, ap, sym, refl, Bool, true, false, List, Option, Some, None, option_map}
+use Rattle.std.proofs.Common.{◌≡◌, ◌∙◌, ◌||◌, ap, sym, subst, refl, Bool, true, false, List, Option, Some, None, option_map}
 use Rattle.std.specs.Prelude.{option_and_then}
 use Rattle.std.specs.Box.{box_value}
 use Rattle.clap.proofs.WalkLemmas.{first_value-rows, raw_values-rows}
@@ -8,7 +8,7 @@ use Rattle.clap.specs.Words.{Row, Text, all_of, first_of, first_value, matched_o
 use Rattle.clap.specs.declared.parser.matches.ArgMatches.{ArgMatches}
 use Rattle.clap.specs.declared.parser.matches.ArgMatches.TheViews.{out-ArgMatches, out-SubCommand}
 use Rattle.clap.specs.declared.parser.matches.Found.{Found}
-use Rattle.view_args.specs.Forms.{given_name, given_value, given_values}
+use Rattle.view_args.specs.Forms.{IsFlag, given_name, given_value, given_values}
 
 -- only the values of a command count
 given_by_rows : (id : Text) (given : Option (Text × List Row))
@@ -21,6 +21,12 @@ pub value_is_given : (id : Text) (given : Option (Text × List Row)) (found : Fo
     → Some (rows_of found) ≡ option_map (λ p. p.1) given → text ≡ first_value found id → given_value id given ≡ text
 value_is_given id given found text rows read =
     given_by_rows id given ∙ ap (option_and_then (first_of id)) (sym rows) ∙ sym (read ∙ first_value-rows found id)
+
+-- so is a flag
+pub flag_is_given : (id : Text) (given : Option (Text × List Row)) (found : Found) (set : Bool)
+    → Some (rows_of found) ≡ option_map (λ p. p.1) given → IsFlag (first_value found id) set → IsFlag (given_value id given) set
+flag_is_given id given found set rows flag =
+    subst (λ (o : Option Text). IsFlag o set) (sym (value_is_given id given found (first_value found id) rows refl)) flag
 
 all_by_rows : (id : Text) (given : Option (Text × List Row))
     → given_values id given ≡ option_and_then (all_of id) (option_map (λ p. p.1) given)

@@ -23,6 +23,10 @@ option name = record (new_rule name) { long = Some name }
 abbrev pub flag : Text → Rule
 flag name = record (new_rule name) { long = Some name; action = Some SetTrue }
 
+-- the flag that asks for how far a view is
+abbrev pub progress : Rule
+progress = flag (codes "progress")
+
 -- the files that are audited, one or more
 abbrev pub transcripts : Rule
 transcripts = record (new_rule (codes "TRANSCRIPT")) { action = Some Append; required = true }
@@ -32,16 +36,18 @@ abbrev pub file_form : Text → App
 file_form name = with_rule (new_app name) file
 
 abbrev pub run_form : App
-run_form = with_rule (with_rule (file_form (codes "run")) (flag (codes "frames"))) (flag (codes "json"))
+run_form = with_rule (with_rule (with_rule (file_form (codes "run")) (flag (codes "frames"))) (flag (codes "json"))) progress
 
 abbrev pub draw_form : App
-draw_form = with_rule (with_rule (with_rule (file_form (codes "draw")) output) (option (codes "from"))) (option (codes "to"))
+draw_form = with_rule (with_rule (with_rule (with_rule (file_form (codes "draw")) output) (option (codes "from")))
+    (option (codes "to"))) progress
 
 abbrev pub map_form : App
-map_form = with_rule (with_rule (with_rule (file_form (codes "map")) output) (option (codes "at"))) (option (codes "node"))
+map_form = with_rule (with_rule (with_rule (with_rule (file_form (codes "map")) output) (option (codes "at")))
+    (option (codes "node"))) progress
 
 abbrev pub audit_form : App
-audit_form = with_rule (file_form (codes "audit")) transcripts
+audit_form = with_rule (with_rule (file_form (codes "audit")) transcripts) progress
 
 -- the program without its commands: it begins with its first word, is nothing without the name of a command, and has a version
 abbrev pub bare_form : App
@@ -78,20 +84,26 @@ IsFlag given set = IsTrue set ↔ (given ≡ Some (codes "true"))
 abbrev pub text_of : Option (Bor Text) → Option Text
 text_of = option_map (λ text. text.now)
 
+-- what was given asks for how far a view is, or doesn't
+abbrev pub IsProgress : Option (Text × List Row) → Bool → Type 0
+IsProgress given told = IsFlag (given_value (codes "progress") given) told
+
 -- what was given asks for an audit of these files
-abbrev pub AsksForAudit : Option (Text × List Row) → Text → List Text → Type 0
-AsksForAudit given schedule transcripts = (given_name given ≡ Some (codes "audit")) × (given_value (codes "FILE") given ≡ Some schedule)
-    × (given_values (codes "TRANSCRIPT") given ≡ Some transcripts)
+abbrev pub AsksForAudit : Option (Text × List Row) → Text → List Text → Bool → Type 0
+AsksForAudit given schedule transcripts told = (given_name given ≡ Some (codes "audit"))
+    × (given_value (codes "FILE") given ≡ Some schedule) × (given_values (codes "TRANSCRIPT") given ≡ Some transcripts)
+    × IsProgress given told
 
 -- what was given asks for this
 abbrev pub Says : Option (Text × List Row) → View → Type 0
 Says given (Why file) = (given_name given ≡ Some (codes "why")) × (given_value (codes "FILE") given ≡ Some file.now)
-Says given (Run file frames json) = (given_name given ≡ Some (codes "run")) × (given_value (codes "FILE") given ≡ Some file.now)
+Says given (Run file frames json told) = (given_name given ≡ Some (codes "run")) × (given_value (codes "FILE") given ≡ Some file.now)
     × IsFlag (given_value (codes "frames") given) frames × IsFlag (given_value (codes "json") given) json
-Says given (Draw file out from to) = (given_name given ≡ Some (codes "draw")) × (given_value (codes "FILE") given ≡ Some file.now)
+    × IsProgress given told
+Says given (Draw file out from to told) = (given_name given ≡ Some (codes "draw")) × (given_value (codes "FILE") given ≡ Some file.now)
     × (given_value (codes "OUT") given ≡ Some out.now) × (given_value (codes "from") given ≡ text_of from)
-    × (given_value (codes "to") given ≡ text_of to)
-Says given (Map file out at node) = (given_name given ≡ Some (codes "map")) × (given_value (codes "FILE") given ≡ Some file.now)
+    × (given_value (codes "to") given ≡ text_of to) × IsProgress given told
+Says given (Map file out at node told) = (given_name given ≡ Some (codes "map")) × (given_value (codes "FILE") given ≡ Some file.now)
     × (given_value (codes "OUT") given ≡ Some out.now) × (given_value (codes "at") given ≡ text_of at)
-    × (given_value (codes "node") given ≡ text_of node)
-Says given (Audit schedule transcripts) = AsksForAudit given schedule.now (map (λ text. text.now) transcripts.items)
+    × (given_value (codes "node") given ≡ text_of node) × IsProgress given told
+Says given (Audit schedule transcripts told) = AsksForAudit given schedule.now (map (λ text. text.now) transcripts.items) told

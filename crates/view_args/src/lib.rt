@@ -4,6 +4,7 @@
 //! as it is told them, and which words ask for what.
 #![tactic(auto)]
 
+mod commands;
 mod view;
 mod words;
 

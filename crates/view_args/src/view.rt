@@ -1,6 +1,7 @@
 //! What can be asked for.
 
-/// What is to be seen, and of which file. A FILE of `-` is standard input, and an output of `-` standard output.
+/// What is to be seen, and of which file. A FILE of `-` is standard input, and an output of `-` standard output. Of the longer ones it is
+/// told on standard error how far they are, where `progress` says so.
 #[derive(Debug, Drop, PartialEq, Eq)]
 pub enum View<'a> {
     /// What is wrong with a schedule or a document.
@@ -14,6 +15,7 @@ pub enum View<'a> {
         frames: bool,
         /// Whether it is told as JSON.
         json: bool,
+        progress: bool,
     },
     /// The frames of a schedule's run between its nodes, as a picture.
     Draw {
@@ -23,6 +25,7 @@ pub enum View<'a> {
         from: Option<&'a str>,
         /// The number of the last frame, where it is named.
         to: Option<&'a str>,
+        progress: bool,
     },
     /// The fleet that a schedule's run leaves at a node, on a map.
     Map {
@@ -32,10 +35,12 @@ pub enum View<'a> {
         at: Option<&'a str>,
         /// The number of the node, where it is named.
         node: Option<&'a str>,
+        progress: bool,
     },
     /// Whether one list of commands explains what transcripts tell of runs of a schedule.
     Audit {
         schedule: &'a str,
         transcripts: Vec<&'a str>,
+        progress: bool,
     },
 }

@@ -1,12 +1,12 @@
 //! From words to a view.
 
-ghost use Rattle.std.specs.Prelude.{◌≡◌, map, string_bytes, IfOk, IfSome, false};
-ghost use Rattle.clap.specs.Words.{FailsBy, app_of, fault_of, first_value, found_of, rule_of, subcommand_of, subcommand_rows_of};
-ghost use Rattle.clap.specs.declared.builder.command.Command.TheViews.{out-Command};
-ghost use Rattle.view_args.specs.Forms.{AsksForAudit, IsFlag, Says, audit_form, bare_form, draw_form, file_form, flag, forms, map_form, option, output, run_form, transcripts};
+ghost use Rattle.std.specs.Prelude.{◌≡◌, map, string_bytes, IfOk, IfSome};
+ghost use Rattle.clap.specs.Words.{FailsBy, fault_of, first_value, found_of, subcommand_of, subcommand_rows_of};
+ghost use Rattle.view_args.specs.Forms.{AsksForAudit, IsFlag, Says, forms};
 
+use crate::commands::program;
 use crate::view::View;
-use clap::{Arg, ArgAction, ArgMatches, Command, Error};
+use clap::{ArgMatches, Error};
 use std::alloc::{AllocError, Global};
 
 /// The view that the words ask for.
@@ -26,167 +26,6 @@ pub fn view_of<'a>(alloc: Global, words: &'a [String]) -> Result<View<'a>, Error
     }
 }
 
-/// The forms that `clap` accepts.
-fn program<'a>(alloc: Global) -> Result<Command<'a>, AllocError>
-    ensures { IfOk result (λ command. app_of command ≡ forms) }
-{
-    let why = file_command(
-        alloc,
-        "why",
-        "What is wrong with a schedule or a document",
-        "A schedule; or a document, if its name ends in .json or .mfjson or it begins with {. - is standard input",
-    )?;
-    let run = run_command(alloc)?;
-    let draw = draw_command(alloc)?;
-    let map = map_command(alloc)?;
-    let audit = audit_command(alloc)?;
-    bare_program(alloc)
-        .subcommand(why)?
-        .subcommand(run)?
-        .subcommand(draw)?
-        .subcommand(map)?
-        .subcommand(audit)
-}
-
-/// The program without its commands.
-fn bare_program<'a>(alloc: Global) -> Command<'a>
-    ensures { app_of result ≡ bare_form }
-{
-    Command::new(alloc, "mfpxview")
-        .about("What people want to see of schedules, runs and documents of mfpx")
-        .version("1")
-        .no_binary_name(true)
-        .subcommand_required(true)
-}
-
-/// The form of a command of this name, with a FILE.
-fn file_command<'a>(
-    alloc: Global,
-    name: &'static str,
-    about: &'static str,
-    help: &'static str,
-) -> Result<Command<'a>, AllocError>
-    ensures app { IfOk result (λ command. app_of command ≡ file_form name.now) }
-    ensures local { IfOk result (λ command. (out-Command command).has_globals ≡ false) }
-{
-    Command::new(alloc, name)
-        .about(about)
-        .arg(Arg::new(alloc, "FILE").required(true).help(help))
-}
-
-/// The form of `run`.
-fn run_command<'a>(alloc: Global) -> Result<Command<'a>, AllocError>
-    ensures app { IfOk result (λ command. app_of command ≡ run_form) }
-    ensures local { IfOk result (λ command. (out-Command command).has_globals ≡ false) }
-{
-    let command = file_command(
-        alloc,
-        "run",
-        "What came of each line of a schedule",
-        "A schedule. - is standard input",
-    )?;
-    command
-        .arg(flag_arg(alloc, "frames", "Tells each frame"))?
-        .arg(flag_arg(alloc, "json", "One JSON object a line, for programs"))
-}
-
-/// The form of `draw`.
-fn draw_command<'a>(alloc: Global) -> Result<Command<'a>, AllocError>
-    ensures app { IfOk result (λ command. app_of command ≡ draw_form) }
-    ensures local { IfOk result (λ command. (out-Command command).has_globals ≡ false) }
-{
-    let command = file_command(
-        alloc,
-        "draw",
-        "The frames of a run between its nodes, as a picture in SVG",
-        "A schedule. - is standard input",
-    )?;
-    command
-        .arg(output_arg(alloc))?
-        .arg(option_arg(alloc, "from", "The first frame that is drawn"))?
-        .arg(option_arg(alloc, "to", "The last frame that is drawn"))
-}
-
-/// The form of `map`.
-fn map_command<'a>(alloc: Global) -> Result<Command<'a>, AllocError>
-    ensures app { IfOk result (λ command. app_of command ≡ map_form) }
-    ensures local { IfOk result (λ command. (out-Command command).has_globals ≡ false) }
-{
-    let command = file_command(
-        alloc,
-        "map",
-        "The fleet that a run leaves at a node, on a map in SVG",
-        "A schedule. - is standard input",
-    )?;
-    command
-        .arg(output_arg(alloc))?
-        .arg(option_arg(
-            alloc,
-            "at",
-            "The datetime that is shown; without it the last of any feature",
-        ))?
-        .arg(option_arg(
-            alloc,
-            "node",
-            "The node whose features are shown; without it node 0",
-        ))
-}
-
-/// The form of `audit`.
-fn audit_command<'a>(alloc: Global) -> Result<Command<'a>, AllocError>
-    ensures app { IfOk result (λ command. app_of command ≡ audit_form) }
-    ensures local { IfOk result (λ command. (out-Command command).has_globals ≡ false) }
-{
-    let command = file_command(
-        alloc,
-        "audit",
-        "Whether one list of commands explains what transcripts tell",
-        "The schedule of the runs. One of the files may be -, standard input",
-    )?;
-    command.arg(transcripts_arg(alloc))
-}
-
-/// Transcripts, one or more.
-fn transcripts_arg<'a>(alloc: Global) -> Arg<'a>
-    ensures rule { rule_of result ≡ transcripts }
-    ensures local { result.global ≡ false }
-{
-    Arg::new(alloc, "TRANSCRIPT")
-        .action(ArgAction::Append)
-        .required(true)
-        .help("Transcripts of whole runs, or of single nodes")
-}
-
-/// The file to which a picture is written.
-fn output_arg<'a>(alloc: Global) -> Arg<'a>
-    ensures rule { rule_of result ≡ output }
-    ensures local { result.global ≡ false }
-{
-    Arg::new(alloc, "OUT")
-        .short('o')
-        .required(true)
-        .help("The file to be written. - is standard output")
-}
-
-/// An option with a value, of which this is the long name.
-fn option_arg<'a>(alloc: Global, name: &'static str, help: &'static str) -> Arg<'a>
-    ensures rule { rule_of result ≡ option name.now }
-    ensures local { result.global ≡ false }
-{
-    Arg::new(alloc, name).long(name).help(help)
-}
-
-/// A flag, of which this is the long name.
-fn flag_arg<'a>(alloc: Global, name: &'static str, help: &'static str) -> Arg<'a>
-    ensures rule { rule_of result ≡ flag name.now }
-    ensures local { result.global ≡ false }
-{
-    Arg::new(alloc, name)
-        .long(name)
-        .action(ArgAction::SetTrue)
-        .help(help)
-}
-
 /// The view of words that were accepted.
 fn any_view<'a>(alloc: Global, matches: &ArgMatches<'a>) -> Result<Option<View<'a>>, AllocError>
     ensures { IfOk result (λ view. IfSome view (Says (subcommand_rows_of matches.now))) }
@@ -203,12 +42,18 @@ fn view_in<'a>(matches: &ArgMatches<'a>) -> Option<View<'a>>
 {
     let (name, inner) = matches.subcommand()?;
     let file = inner.get_str("FILE")?;
+    let progress = has_flag(inner, "progress");
     match name {
         "why" => Some(View::Why { file }),
         "run" => {
             let frames = has_flag(inner, "frames");
             let json = has_flag(inner, "json");
-            Some(View::Run { file, frames, json })
+            Some(View::Run {
+                file,
+                frames,
+                json,
+                progress,
+            })
         }
         "draw" => {
             let output = inner.get_str("OUT")?;
@@ -219,6 +64,7 @@ fn view_in<'a>(matches: &ArgMatches<'a>) -> Option<View<'a>>
                 output,
                 from,
                 to,
+                progress,
             })
         }
         "map" => {
@@ -230,6 +76,7 @@ fn view_in<'a>(matches: &ArgMatches<'a>) -> Option<View<'a>>
                 output,
                 at,
                 node,
+                progress,
             })
         }
         _ => None,
@@ -241,27 +88,30 @@ fn audit_in<'a>(alloc: Global, matches: &ArgMatches<'a>) -> Result<Option<View<'
     ensures { IfOk result (λ view. IfSome view (Says (subcommand_rows_of matches.now))) }
 {
     match audited_files(matches) {
-        Some((schedule, named)) => {
+        Some((schedule, named, progress)) => {
             let transcripts = Vec::from_slice(alloc, named)?;
             Ok(Some(View::Audit {
                 schedule,
                 transcripts,
+                progress,
             }))
         }
         None => Ok(None),
     }
 }
 
-/// The schedule and the transcripts that are to be audited.
-fn audited_files<'a, 'b>(matches: &'b ArgMatches<'a>) -> Option<(&'a str, &'b [&'a str])>
-    ensures { IfSome result (λ files. AsksForAudit (subcommand_rows_of matches.now) files.0.now (map (λ text. text.now) files.1.now)) }
+/// The schedule and the transcripts that are to be audited, and whether it is told how far that is.
+fn audited_files<'a, 'b>(matches: &'b ArgMatches<'a>) -> Option<(&'a str, &'b [&'a str], bool)>
+    ensures { IfSome result (λ asked. AsksForAudit (subcommand_rows_of matches.now) asked.0.now
+        (map (λ text. text.now) asked.1.now) asked.2) }
 {
     let (name, inner) = matches.subcommand()?;
     let schedule = inner.get_str("FILE")?;
     match name {
         "audit" => {
             let named = inner.get_strs("TRANSCRIPT")?;
-            Some((schedule, named))
+            let progress = has_flag(inner, "progress");
+            Some((schedule, named, progress))
         }
         _ => None,
     }

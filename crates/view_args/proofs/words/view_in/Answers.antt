@@ -1,7 +1,6 @@
-use Rattle.std.proofs.Common.{rules, ◌≡◌, ◌∙◌, ap, sym, subst, refl, codes, Option, Some}
-use Rattle.clap.specs.Words.{Text, first_value, found_of, subcommand_rows_of}
-use Rattle.view_args.specs.Forms.{IsFlag, given_value}
-use Rattle.view_args.proofs.Given.{given_name_is, value_is_given}
+use Rattle.std.proofs.Common.{rules, ◌∙◌, ap, sym, codes, Some}
+use Rattle.clap.specs.Words.{Text, found_of, subcommand_rows_of}
+use Rattle.view_args.proofs.Given.{flag_is_given, given_name_is, value_is_given}
 use Rattle.view_args.proofs.words.view_in.Goals as goal
 
 pub returns-in-why : goal.returns-in-why
@@ -14,13 +13,12 @@ returns-in-why c = (
 pub returns-in-run : goal.returns-in-run
 returns-in-run c =
     let given = subcommand_rows_of c.args.matches.now in
-    let found = found_of c.in_ok-name.inner.now in
-    let value : (id : Text) → first_value found id ≡ given_value id given =
-    λ id. sym (value_is_given id given found (first_value found id) c.in_ok-name.ensures.rows refl) in (
+    let found = found_of c.in_ok-name.inner.now in (
       given_name_is c.args.matches.now ∙ sym c.in_ok-name.ensures.name ∙ ap (λ (t : Text). Some t) (search rules),
       value_is_given (codes "FILE") given found (Some c.in_ok-file.file.now) c.in_ok-name.ensures.rows (search rules),
-      subst (λ (o : Option Text). IsFlag o c.has_flag-frames.result) (value (codes "frames")) c.has_flag-frames.ensures,
-      subst (λ (o : Option Text). IsFlag o c.has_flag-json.result) (value (codes "json")) c.has_flag-json.ensures,
+      flag_is_given (codes "frames") given found c.has_flag-frames.result c.in_ok-name.ensures.rows c.has_flag-frames.ensures,
+      flag_is_given (codes "json") given found c.has_flag-json.result c.in_ok-name.ensures.rows c.has_flag-json.ensures,
+      flag_is_given (codes "progress") given found c.has_flag-progress.result c.in_ok-name.ensures.rows c.has_flag-progress.ensures,
     )
 
 pub returns-in_ok-output-in-draw : goal.returns-in_ok-output-in-draw
@@ -32,6 +30,7 @@ returns-in_ok-output-in-draw c =
       value_is_given (codes "OUT") given found (Some c.in_ok-output-in-draw.output.now) c.in_ok-name.ensures.rows (search rules),
       value_is_given (codes "from") given found _ c.in_ok-name.ensures.rows c.get_str-from.ensures,
       value_is_given (codes "to") given found _ c.in_ok-name.ensures.rows c.get_str-to.ensures,
+      flag_is_given (codes "progress") given found c.has_flag-progress.result c.in_ok-name.ensures.rows c.has_flag-progress.ensures,
     )
 
 pub returns-in_ok-output-in-map : goal.returns-in_ok-output-in-map
@@ -43,4 +42,5 @@ returns-in_ok-output-in-map c =
       value_is_given (codes "OUT") given found (Some c.in_ok-output-in-map.output.now) c.in_ok-name.ensures.rows (search rules),
       value_is_given (codes "at") given found _ c.in_ok-name.ensures.rows c.get_str-at.ensures,
       value_is_given (codes "node") given found _ c.in_ok-name.ensures.rows c.get_str-node.ensures,
+      flag_is_given (codes "progress") given found c.has_flag-progress.result c.in_ok-name.ensures.rows c.has_flag-progress.ensures,
     )

@@ -5,7 +5,7 @@ use Rattle.clap.specs.Simple.{app_of_fields}
 use Rattle.clap.specs.Words.{app_of, new_app, rule_of, with_rule}
 use Rattle.view_args.specs.Forms.{file}
 use Rattle.view_args.proofs.Given.{neither}
-use Rattle.view_args.proofs.words.file_command.Goals as goal
+use Rattle.view_args.proofs.commands.file_command.Goals as goal
 
 pub returns-clause-app : goal.returns-clause-app
 returns-clause-app c =

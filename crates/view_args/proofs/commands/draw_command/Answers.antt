@@ -3,18 +3,20 @@ use Rattle.std.proofs.Common.{◌∙◌, ap₂}
 use Rattle.std.proofs.lemmas.Result.{IfOk-weaker}
 use Rattle.clap.specs.Words.{with_rule}
 use Rattle.view_args.proofs.Given.{neither}
-use Rattle.view_args.proofs.words.draw_command.Goals as goal
+use Rattle.view_args.proofs.commands.draw_command.Goals as goal
 
 pub returns-clause-app : goal.returns-clause-app
 returns-clause-app c =
     let one = c.in_ok-arg.ensures.shape c.output_arg.ensures.local
     ∙ ap₂ with_rule c.in_ok-command.ensures.app c.output_arg.ensures.rule in
     let two = c.in_ok-arg-2.ensures.shape c.option_arg.ensures.local ∙ ap₂ with_rule one c.option_arg.ensures.rule in
-    IfOk-weaker c.arg-3.result _ _
-    (λ r h. h.shape c.option_arg-2.ensures.local ∙ ap₂ with_rule two c.option_arg-2.ensures.rule) c.arg-3.ensures
+    let three = c.in_ok-arg-3.ensures.shape c.option_arg-2.ensures.local ∙ ap₂ with_rule two c.option_arg-2.ensures.rule in
+    IfOk-weaker c.arg-4.result _ _
+    (λ r h. h.shape c.progress_arg.ensures.local ∙ ap₂ with_rule three c.progress_arg.ensures.rule) c.arg-4.ensures
 
 pub returns-clause-local : goal.returns-clause-local
 returns-clause-local c =
     let one = c.in_ok-arg.ensures.globals ∙ neither _ _ c.in_ok-command.ensures.local c.output_arg.ensures.local in
     let two = c.in_ok-arg-2.ensures.globals ∙ neither _ _ one c.option_arg.ensures.local in
-    IfOk-weaker c.arg-3.result _ _ (λ r h. h.globals ∙ neither _ _ two c.option_arg-2.ensures.local) c.arg-3.ensures
+    let three = c.in_ok-arg-3.ensures.globals ∙ neither _ _ two c.option_arg-2.ensures.local in
+    IfOk-weaker c.arg-4.result _ _ (λ r h. h.globals ∙ neither _ _ three c.progress_arg.ensures.local) c.arg-4.ensures

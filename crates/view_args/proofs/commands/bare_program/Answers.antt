@@ -2,7 +2,7 @@
 use Rattle.std.proofs.Common.{◌∙◌, ap, true}
 use Rattle.clap.specs.Simple.{app_of_fields}
 use Rattle.clap.specs.Words.{App}
-use Rattle.view_args.proofs.words.bare_program.Goals as goal
+use Rattle.view_args.proofs.commands.bare_program.Goals as goal
 
 abbrev versioned : App → App
 versioned a = record a { top = record a.top { has_version = true } }

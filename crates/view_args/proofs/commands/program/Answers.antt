@@ -3,7 +3,7 @@ use Rattle.std.proofs.Common.{◌∙◌, ap, ap₂}
 use Rattle.std.proofs.lemmas.Result.{IfOk-weaker}
 use Rattle.clap.specs.Simple.{Shape}
 use Rattle.clap.specs.Words.{App, with_subcommand}
-use Rattle.view_args.proofs.words.program.Goals as goal
+use Rattle.view_args.proofs.commands.program.Goals as goal
 
 abbrev top : App → Shape
 top a = a.top

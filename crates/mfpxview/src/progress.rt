@@ -1,0 +1,48 @@
+//! How far a view is, told on standard error.
+
+/// Whether it is told how far a view is.
+#[derive(Clone, Copy)]
+pub(crate) struct Progress {
+    pub is_told: bool,
+}
+
+/// Nothing is told.
+pub(crate) const UNTOLD: Progress = Progress { is_told: false };
+
+impl Progress {
+    /// A file of so many bytes was read.
+    pub fn tell_read(self, rt: &HostRuntime, file: &str, bytes: &[u8]) {
+        if self.is_told {
+            let lines = count_lines(bytes);
+            let _ = eprintln!(rt; "mfpxview: read {lines} lines of {file}");
+        }
+    }
+
+    /// What was asked for is done, and so many bytes tell it.
+    pub fn tell_done(self, rt: &HostRuntime, size: usize) {
+        if self.is_told {
+            let _ = eprintln!(rt; "mfpxview: done, with {size} bytes to write");
+        }
+    }
+
+    /// So many of these bytes are written.
+    pub fn tell_written(self, rt: &HostRuntime, written: usize, size: usize) {
+        if self.is_told {
+            let _ = eprintln!(rt; "mfpxview: wrote {written} of {size} bytes");
+        }
+    }
+}
+
+/// How many lines a text has. The last may lack its end.
+fn count_lines(text: &[u8]) -> usize {
+    let mut ended = 0usize;
+    for byte in text {
+        if *byte == b'\n' {
+            ended = ended.saturating_add(1);
+        }
+    }
+    match text.last() {
+        Some(b'\n') | None => ended,
+        Some(_) => ended.saturating_add(1),
+    }
+}
