@@ -5,7 +5,7 @@
 
 What it complains of, as `file:line: what`:
 
-    sizes       README.md above 10 KB; a file of docs above 30 KB; docs together above 125 KB; the other *.md together above 30 KB
+    sizes       README.md above 10 KB; a file of docs above 30 KB; docs together above 155 KB; the other *.md together above 33 KB
     paths       a path in backquotes that isn't in the tree
     names       a name in backquotes that stands in no file of code, definitions, examples or scripts
     counts      a figure of crates, examples, schedules, documents, mutants or tests that isn't the tree's; a figure below half of the
@@ -29,7 +29,7 @@ import spec_closure
 
 TOP = os.path.dirname(os.path.dirname(os.path.abspath(__file__)))
 KB = 1000
-README, ONE, DOCS, REST = 10 * KB, 30 * KB, 155 * KB, 30 * KB
+README, ONE, DOCS, REST = 10 * KB, 30 * KB, 155 * KB, 33 * KB
 LONGEST = 45
 HOUSE_WORDS = ("want of memory", "wrong body", "wrong bodies", "is told", "hundredths", "from nothing")
 MAINS = "crates/mfpx/src/main.rt", "crates/mfpx_files/src/main.rt"
