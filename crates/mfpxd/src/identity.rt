@@ -3,15 +3,15 @@
 //! Records are a node's memory of its promises. A node that loses them, or takes another's, breaks what it promised. So a text beside
 //! the database says of which run, which node and how many nodes it is. It is written and synced before the database is made.
 
-ghost use Rattle.std.specs.Prelude.{◌≡◌, string_bytes, IfOk};
-ghost use Rattle.mfpxd.specs.Identities.{identity_text};
+ghost use Rattle.std.specs.Prelude.{◌≡◌, ◌↔◌, None, option_map, string_bytes, IfOk};
+ghost use Rattle.mfpxd.specs.Identities.{MayStart, identity_text};
 
 use crate::refusal::Refusal;
 use crate::stop::Stop;
 use peers::NAME;
 use std::alloc::{AllocError, Global};
 use std::fs::OpenOptions;
-use std::io::{ErrorKind, Write};
+use std::io::Write;
 use std::{fs, io};
 use wire::{NodeId, Nodes};
 
@@ -28,54 +28,41 @@ pub fn see_identity(
     let path = format!(in alloc; "{db}.node")?;
     let own = identity_of(alloc, name, id, nodes)?;
     let has_database = fs::exists(rt, db)?;
-    let outcome = if is_new {
-        begin_identity(rt, path.as_str(), own.as_str(), has_database)?
-    } else {
-        compare_identity(rt, path.as_str(), own.as_str(), has_database)?
-    };
-    match outcome {
+    let found = read_identity(rt, path.as_str())?;
+    match refusal_of(is_new, has_database, &found, own.as_bytes()) {
         Some(refusal) => Err(Stop::Refused(refusal)),
+        None if is_new => Ok(write_new(rt, path.as_str(), own.as_str())?),
         None => Ok(()),
     }
 }
 
-/// Writes the text of a node that starts for the first time, or says why it doesn't.
-fn begin_identity(
-    rt: &HostRuntime,
-    path: &str,
-    own: &str,
-    has_database: bool,
-) -> io::Result<Option<Refusal>> {
-    if has_database {
-        return Ok(Some(Refusal::SecondHand));
-    }
-    match write_new(rt, path, own) {
-        Ok(()) => Ok(None),
-        Err(error) => match error.kind() {
-            ErrorKind::AlreadyExists => Ok(Some(Refusal::SecondStart)),
-            _ => Err(error),
-        },
+/// The text that stands there, or None where there is no such file.
+fn read_identity(rt: &HostRuntime, path: &str) -> io::Result<Option<Vec<u8>>> {
+    if fs::exists(rt, path)? {
+        Ok(Some(fs::read(rt, path)?))
+    } else {
+        Ok(None)
     }
 }
 
-/// Whether the text that stands there is the node's own, and if not, why the node doesn't start again.
-fn compare_identity(
-    rt: &HostRuntime,
-    path: &str,
-    own: &str,
+/// Why a node whose text is this one doesn't start over what stands there; None where it does.
+fn refusal_of(
+    is_new: bool,
     has_database: bool,
-) -> io::Result<Option<Refusal>> {
-    if !fs::exists(rt, path)? {
-        return Ok(Some(Refusal::NoIdentity));
-    }
-    if !has_database {
-        return Ok(Some(Refusal::NoDatabase));
-    }
-    let found = fs::read(rt, path)?;
-    if found.as_slice() == own.as_bytes() {
-        Ok(None)
-    } else {
-        Ok(Some(Refusal::Foreign))
+    found: &Option<Vec<u8>>,
+    own: &[u8],
+) -> Option<Refusal>
+    ensures { result ≡ None ↔ MayStart is_new has_database (option_map (λ text. text.items) found.now) own.now }
+{
+    match found {
+        None if is_new && !has_database => None,
+        None if is_new => Some(Refusal::SecondHand),
+        None => Some(Refusal::NoIdentity),
+        Some(_) if is_new && has_database => Some(Refusal::SecondHand),
+        Some(_) if is_new => Some(Refusal::SecondStart),
+        Some(_) if !has_database => Some(Refusal::NoDatabase),
+        Some(text) if text.as_slice() == own => None,
+        Some(_) => Some(Refusal::Foreign),
     }
 }
 

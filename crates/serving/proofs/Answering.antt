@@ -4,7 +4,6 @@ use Rattle.std.proofs.lemmas.List.Elements.{All-nil, Contains-push}
 use Rattle.stable.specs.declared.stable.Stable.{Ghosts}
 use Rattle.wire.specs.declared.frames.envelope.Envelope.{Envelope}
 use Rattle.store.specs.declared.query.Query.{Query}
-use Rattle.node_model.specs.declared.fault.NodeFault.{NodeFault}
 use Rattle.node_model.specs.Nodes.{NodeAnswers, NodeState}
 use Rattle.node_model.specs.Replicas.{ReplicaState, position}
 use Rattle.world_model.specs.Lives.{Asked}

@@ -10,7 +10,7 @@ use Rattle.world_model.proofs.Weaving.Woven.{lives_explained}
 use Rattle.life.specs.Lives.{IsHandedOut}
 use Rattle.life.proofs.HandedLemmas.{handed_answers_one, handed_replies_one, handed_told}
 use Rattle.clients.specs.AnswerLines.{text_line}
-use Rattle.serving.specs.Clusters.{ExplainsClients, IsLogOf, IsServed}
+use Rattle.serving.specs.Clusters.{IsLogOf, IsServed}
 use Rattle.serving.specs.Turns.{IsAnswerToOwn, IsReplyToOwn, Past}
 
 module _ {S : Type 0} (storages : Ghosts S) where

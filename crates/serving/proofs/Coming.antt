@@ -1,6 +1,6 @@
 -- What comes to a process, and what it makes of it.
-use Rattle.std.proofs.Common.{◌≡◌, ℕ, List, [], ◌∷◌, ◌++◌, Option, Some, None, IfSome, IsTrue, OnOk, OnErr, Result, Ok, Err, Bool, true, false, All, Contains}
-use Rattle.std.proofs.Common.{refl, sym, ap, ◌∙◌, subst, inl, inr, rules}
+use Rattle.std.proofs.Common.{◌≡◌, ℕ, List, [], ◌∷◌, ◌++◌, Option, Some, None, IfSome, IsTrue, OnOk, OnErr, Result, Ok, Err, Bool, true, false, All}
+use Rattle.std.proofs.Common.{refl, sym, ap, subst, inl, inr, rules}
 use Rattle.std.proofs.lemmas.List.Elements.{All-cons, All-nil, Contains-append_right, Contains-push}
 use Rattle.sessions.specs.declared.submission.Submission.{Submission}
 use Rattle.store.specs.declared.query.Query.{Query}
@@ -18,12 +18,11 @@ use Rattle.clients.specs.declared.line.ClientLine.{ClientLine}
 use Rattle.clients.specs.declared.line.ClientLine.TheVariants as line
 use Rattle.serving.specs.declared.claims.Claim.{Claim}
 use Rattle.serving.specs.declared.waiting.Due.{Due}
-use Rattle.serving.specs.declared.waiting.Due.TheVariants as due
 use Rattle.serving.specs.declared.waiting.Question.{Question}
 use Rattle.serving.specs.Requesting.{RequestState, fresh_request}
 use Rattle.serving.specs.Serving.{ServerState, Serves}
-use Rattle.serving.specs.Tapes.{Carried, Arrived, Talk, Heard, Went}
-use Rattle.serving.specs.Turns.{Past, later, handed_on, HasAsked, HasQueried, HasWritten, IsOfProcess, IsPlain, MayBeDue, MayBeHandedOn, MayBeSaid, MayCome, MayPass}
+use Rattle.serving.specs.Tapes.{Arrived, Heard, Went}
+use Rattle.serving.specs.Turns.{Past, later, handed_on, HasAsked, HasQueried, HasWritten, IsOfProcess, MayBeDue, MayBeHandedOn, MayBeSaid, MayCome, MayPass}
 use Rattle.serving.proofs.Holding.{EachOld, Holds, each_pushed, each_same, holds_same}
 use Rattle.serving.proofs.Leading.{serves_doing, serves_quiet}
 

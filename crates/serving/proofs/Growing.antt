@@ -1,5 +1,5 @@
 -- What a process may let out and take, it may later as well.
-use Rattle.std.proofs.Common.{◌≡◌, ℕ, List, ◌++◌, ◌⊎◌, Option, Contains, inl, inr, sym, subst}
+use Rattle.std.proofs.Common.{ℕ, List, ◌++◌, Contains, inl, inr, sym, subst}
 use Rattle.std.specs.List.{flat_map}
 use Rattle.std.proofs.lemmas.Grind.{flat_map-append}
 use Rattle.std.proofs.lemmas.List.Elements.{Contains-append_left, Contains-append_right}
@@ -8,8 +8,6 @@ use Rattle.node_model.specs.declared.input.Input.{Input}
 use Rattle.node_model.specs.declared.input.Input.TheVariants as input
 use Rattle.node_model.specs.Replicas.{submission_of}
 use Rattle.world_model.specs.Lives.{Happening, Took, Killed, Asked, Opened, Loaded, sent_at}
-use Rattle.world_model.specs.declared.lists.Answered.{Answered}
-use Rattle.world_model.specs.declared.lists.Replied.{Replied}
 use Rattle.life.specs.Telling.{ToldLists}
 use Rattle.clients.specs.declared.line.ClientLine.{ClientLine}
 use Rattle.clients.specs.declared.line.ClientLine.TheVariants as line
@@ -21,7 +19,7 @@ use Rattle.serving.specs.declared.waiting.Question.{Question}
 use Rattle.serving.specs.Requesting.{RequestState}
 use Rattle.serving.specs.Tapes.{Carried, Sent, Arrived, Talk, Heard, Went, Told}
 use Rattle.serving.specs.Turns.{Past, later, HasWritten, HasAsked, HasQueried, IsHandedOnLine, IsPlain, refused, faulty, status, last}
-use Rattle.serving.specs.Turns.{MayBeDue, MayBeHandedOn, MayBeSaid, MayCome, MayHappen, MayPass, IsOfClient, IsHandedOn}
+use Rattle.serving.specs.Turns.{MayBeDue, MayBeHandedOn, MayBeSaid, MayCome, MayHappen, MayPass, IsOfClient}
 
 -- ---- one list in another
 pub record IsIn {A : Type 0} (xs ys : List A) : Type 0 where

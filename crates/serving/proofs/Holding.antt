@@ -1,8 +1,7 @@
 -- What a process keeps of what waits, and what it adds.
-use Rattle.std.proofs.Common.{◌≡◌, ℕ, List, [], ◌∷◌, ◌++◌, ◌⊎◌, Bool, not, All, Contains, inl, inr, refl, sym, ap, subst}
+use Rattle.std.proofs.Common.{◌≡◌, ℕ, List, [], ◌∷◌, ◌++◌, ◌⊎◌, Bool, not, All, Contains, inl, inr, refl, ap}
 use Rattle.std.specs.List.{filter}
-use Rattle.std.proofs.lemmas.List.Elements.{All-append, All-contains, All-contains_itself, All-filter, All-nil, All-push, All-same, All-weaker}
-use Rattle.std.proofs.lemmas.List.Elements.{Contains-append_left, Contains-append_right}
+use Rattle.std.proofs.lemmas.List.Elements.{All-contains, All-contains_itself, All-filter, All-push, All-same, All-weaker}
 use Rattle.serving.specs.declared.claims.Claim.{Claim}
 use Rattle.serving.specs.declared.waiting.Due.{Due}
 use Rattle.serving.specs.declared.waiting.Question.{Question}

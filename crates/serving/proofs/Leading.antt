@@ -1,6 +1,6 @@
 -- A part of a turn leads from a process to another one.
-use Rattle.std.proofs.Common.{◌≡◌, ℕ, List, [], ◌∷◌, ◌++◌, Result, Ok, Err, Bool, true, false, All, Contains, refl, sym, ap, ◌∙◌, subst}
-use Rattle.std.proofs.Common.{append-nil, append_assoc, inl, inr}
+use Rattle.std.proofs.Common.{◌≡◌, ℕ, List, [], ◌∷◌, ◌++◌, Result, Ok, Err, Bool, true, false, All, Contains, sym, subst}
+use Rattle.std.proofs.Common.{append-nil, append_assoc, inl}
 use Rattle.std.specs.List.{flat_map}
 use Rattle.std.proofs.lemmas.List.Elements.{All-append, All-cons, All-head, All-nil, All-rest, All-same, All-weaker}
 use Rattle.stable.specs.declared.stable.Stable.{Ghosts}
@@ -19,7 +19,7 @@ use Rattle.serving.specs.Serving.{IsServing, ServerState, Serves, begun}
 use Rattle.serving.specs.Tapes.{Carried, Talk}
 use Rattle.serving.specs.Turns.{Past, later, HasAsked, HasQueried, MayBeDue, MayBeHandedOn, MayBeSaid, MayHappen, MayPass}
 use Rattle.serving.proofs.Growing.{asked_in, due_in, grows_later, happens_still, in_left, in_right, passes_still, queried_in, request_in, said_still}
-use Rattle.serving.proofs.Holding.{Holds, each_holds, holds_same}
+use Rattle.serving.proofs.Holding.{Holds, each_holds}
 
 -- ---- pasts
 pub joined_nothing : (told : ToldLists) → joined told nothing ≡ told

@@ -1,22 +1,20 @@
 -- What a process lets out is what it may.
-use Rattle.std.proofs.Common.{◌≡◌, ◌≤◌, ℕ, List, [], ◌∷◌, ◌++◌, ◌⊎◌, Option, Some, None, IfSome, Result, Ok, Err, All, Contains, refl, sym, ap, ◌∙◌, subst, inl, inr}
+use Rattle.std.proofs.Common.{◌≡◌, ◌≤◌, ℕ, List, [], ◌∷◌, ◌++◌, Option, Some, None, IfSome, All, Contains, refl, sym, ◌∙◌, subst, inl, inr}
 use Rattle.std.proofs.Common.{append-nil, length, take, drop}
 use Rattle.std.proofs.Math.Seq.{take-append_seam, drop-append_seam, get_or-append_seam}
 use Rattle.std.specs.Global.{Vec}
 use Rattle.std.proofs.lemmas.List.Elements.{All-append, All-cons, All-contains, All-contains_itself, All-drop, All-head, All-nil, All-push}
 use Rattle.std.proofs.lemmas.List.Elements.{All-same, All-tail, All-take, All-weaker}
-use Rattle.std.proofs.lemmas.List.Elements.{Contains-append_left, Contains-append_right, Contains-push}
+use Rattle.std.proofs.lemmas.List.Elements.{Contains-append_right}
 use Rattle.stable.specs.declared.stable.Stable.{Ghosts}
-use Rattle.node_model.specs.declared.fault.NodeFault.{NodeFault}
 use Rattle.node_model.specs.Nodes.{NodeState}
-use Rattle.world_model.specs.Lives.{Asked, Happening}
+use Rattle.world_model.specs.Lives.{Happening}
 use Rattle.world_model.specs.declared.lists.Answered.{Answered}
-use Rattle.world_model.specs.declared.lists.Replied.{Replied}
-use Rattle.life.specs.Lives.{Does, GoesOn, IsLifeOf, LifeState}
+use Rattle.life.specs.Lives.{IsLifeOf, LifeState}
 use Rattle.life.specs.Telling.{ToldLists, joined, nothing}
-use Rattle.life.proofs.TellingLemmas.{told_goes_on, told_hands_out}
+use Rattle.life.proofs.TellingLemmas.{told_hands_out}
 use Rattle.serving.specs.Outgoing.{IsFrameOf, IsPacketOf, IsReplyIn, IsTextTo, KeepsLess}
-use Rattle.serving.specs.Serving.{IsServing, PassesOnly, ServerState, Serves, ServesClients, ServesNodes, ServesOver, asking}
+use Rattle.serving.specs.Serving.{IsServing, ServerState, Serves, asking}
 use Rattle.serving.specs.Tapes.{Carried, Sent, Arrived, Talk, Heard, Went, Told}
 use Rattle.std.specs.List.{HoldsAt}
 use Rattle.std.proofs.Math.ListN.{get_or}

@@ -1,5 +1,5 @@
 -- What a process lets out in one go: each frame, packet and text is what the life handed out, or what a client wrote.
-use Rattle.std.specs.Prelude.{◌≡◌, ◌≤◌, ℕ, List, All, Contains}
+use Rattle.std.specs.Prelude.{◌≡◌, ℕ, List, All, Contains}
 use Rattle.sessions.specs.SessionReplies.{outcome_code}
 use Rattle.wire.specs.FrameSpelling.{IsFrame}
 use Rattle.wire.specs.declared.frames.envelope.Envelope.{Envelope}

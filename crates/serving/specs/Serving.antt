@@ -1,7 +1,7 @@
 -- A process that serves a node, over all that it did so far.
 --
 -- Nothing leaves it that its life didn't hand out, and that hands out only what steps of the node told, whose puts were answered.
-use Rattle.std.specs.Prelude.{◌≡◌, ◌≤◌, ℕ, List, [], ◌∷◌, All, Result, MatchOption}
+use Rattle.std.specs.Prelude.{◌≡◌, ℕ, List, [], ◌∷◌, All, Result, MatchOption}
 use Rattle.sessions.specs.Machines.{last_number}
 use Rattle.sessions.specs.Sessions.{session_of}
 use Rattle.stable.specs.declared.stable.Stable.{Ghosts}

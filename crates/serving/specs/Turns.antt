@@ -1,9 +1,8 @@
 -- What a process may let out, to other nodes and to its clients, and what its node may take.
-use Rattle.std.specs.Prelude.{◌≡◌, ◌≤◌, ℕ, List, ◌∷◌, ◌++◌, ◌⊎◌, ⊤, Contains, Option, None, Some, IfSome}
+use Rattle.std.specs.Prelude.{◌≡◌, ◌≤◌, ℕ, List, ◌∷◌, ◌++◌, ◌⊎◌, ⊤, Contains, Option, IfSome}
 use Rattle.std.specs.List.{flat_map}
 use Rattle.sessions.specs.SessionReplies.{outcome_code}
 use Rattle.sessions.specs.declared.submission.Submission.{Submission}
-use Rattle.store.specs.declared.query.Query.{Query}
 use Rattle.wire.specs.FrameSpelling.{IsFrame}
 use Rattle.wire.specs.declared.frames.envelope.Envelope.{Envelope}
 use Rattle.node_model.specs.declared.input.Input.{Input}

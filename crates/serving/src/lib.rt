@@ -1,8 +1,11 @@
-//! What a process that runs a node decides by itself: when it ticks, how long it is patient, who leads, to whom a request is handed on,
-//! how a run that was down as a whole comes back, and which connection waits for which reply.
+//! What a process that runs a node does: when it ticks, how long it is patient, who leads, to whom a request is handed on, how a run
+//! that was down as a whole comes back, and which connection waits for which reply; and the turn in which it does all of it.
 //!
-//! No promise of a run rests on any of it: a node is right whenever a tick or a time-out comes. Whether it gets on does. Nothing here
-//! reads a clock or sends anything: times are given, in milliseconds.
+//! No promise of a run rests on the first of these: a node is right whenever a tick or a time-out comes. Whether it gets on does. Nothing
+//! there reads a clock or sends anything: times are given, in milliseconds.
+//!
+//! `Server::turn` lets something out, over a `Network` and a `Desk`. `specs/Turns.antt` says what may leave a process and what its node
+//! may take, and `specs/Serving.antt` that each part of a turn leads from one process that kept to it to another.
 #![tactic(auto)]
 
 mod campaign;

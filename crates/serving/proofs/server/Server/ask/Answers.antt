@@ -1,7 +1,6 @@
-use Rattle.std.proofs.Common.{ℕ, List, [], ◌∷◌, refl, subst, sym}
+use Rattle.std.proofs.Common.{[], ◌∷◌, refl}
 use Rattle.serving.specs.Seen.{server_of}
 use Rattle.serving.specs.Tapes.{Heard}
-use Rattle.serving.specs.Turns.{IsPlain}
 use Rattle.serving.specs.declared.waiting.Due.TheVariants as due
 use Rattle.serving.proofs.Coming.{just_queried, serves_line_heard, serves_owing}
 use Rattle.serving.proofs.Holding.{holds_same}

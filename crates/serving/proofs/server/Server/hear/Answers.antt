@@ -1,8 +1,7 @@
-use Rattle.std.proofs.Common.{◌≡◌, ℕ, List, [], ◌∷◌, ap, refl, subst, sym}
+use Rattle.std.proofs.Common.{ℕ, List, [], ◌∷◌, refl, subst, sym}
 use Rattle.serving.specs.Seen.{server_of}
-use Rattle.serving.specs.Claiming.{is_for}
-use Rattle.serving.specs.Serving.{ServerState, Serves}
-use Rattle.serving.specs.Tapes.{Heard, Talk, Went, heard}
+use Rattle.serving.specs.Serving.{Serves}
+use Rattle.serving.specs.Tapes.{Heard, Went, heard}
 use Rattle.serving.specs.declared.desk.Came.{Came}
 use Rattle.serving.proofs.Coming.{serves_gone}
 use Rattle.serving.proofs.Holding.{holds_forgetting}

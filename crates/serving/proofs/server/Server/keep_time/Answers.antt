@@ -1,4 +1,3 @@
-use Rattle.serving.specs.Seen.{server_of}
 use Rattle.std.proofs.Common.{[]}
 use Rattle.serving.proofs.Leading.{serves_then}
 use Rattle.serving.proofs.server.Server.keep_time.Goals as goal

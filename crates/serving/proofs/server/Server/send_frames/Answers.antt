@@ -1,5 +1,4 @@
 use Rattle.std.proofs.Common.{[], ◌∷◌, refl, sym, ◌∙◌}
-use Rattle.serving.specs.Seen.{server_of}
 use Rattle.serving.specs.Outgoing.{IsFrameOf}
 use Rattle.serving.proofs.Lists.{frame_of_one}
 use Rattle.serving.proofs.Passing.{only_none, only_then, only_weaker}

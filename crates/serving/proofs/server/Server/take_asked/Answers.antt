@@ -1,4 +1,4 @@
-use Rattle.std.proofs.Common.{List, ℕ, [], ◌∷◌, refl, subst}
+use Rattle.std.proofs.Common.{refl, subst}
 use Rattle.clients.specs.ClientLines.{IsClientLine}
 use Rattle.clients.specs.declared.line.ClientLine.{ClientLine}
 use Rattle.clients.specs.declared.line.ClientLine.TheVariants as client_line

@@ -1,4 +1,4 @@
-use Rattle.serving.proofs.Passing.{over_clients, over_nodes, over_quiet, over_then}
+use Rattle.serving.proofs.Passing.{over_clients, over_nodes, over_then}
 use Rattle.serving.proofs.server.Server.tell.Goals as goal
 
 pub returns-in_err-has_answered : goal.returns-in_err-has_answered

@@ -1,4 +1,4 @@
-use Rattle.std.proofs.Common.{List, [], ◌∷◌, All, Contains, refl, sym, subst, ◌∙◌}
+use Rattle.std.proofs.Common.{List, [], ◌∷◌, All, Contains, refl, sym, subst}
 use Rattle.serving.specs.Seen.{server_of}
 use Rattle.serving.specs.Outgoing.{IsReplyIn}
 use Rattle.serving.specs.declared.claims.Claim.{Claim}

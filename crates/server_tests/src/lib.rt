@@ -1,0 +1,7 @@
+//! Tests of processes that serve nodes, over fakes of the network, the clients and the clock, and over records in files.
+#![tactic(auto)]
+
+#[cfg(test)]
+mod processes;
+#[cfg(test)]
+mod servers;

@@ -1,0 +1,236 @@
+//! Three processes that serve nodes: packets in queues, clients in lists, a clock that is told, and records in files.
+
+ghost use Rattle.std.specs.Prelude.{[], ◌<◌};
+
+use life::Life;
+use record_files::RecordFile;
+use serving::{Came, Desk, Horizon, Network, Server, TurnFault, Waiting};
+use std::alloc::{AllocError, Global};
+use std::collections::VecDeque;
+use std::test::Fail;
+use std::{fs, mem};
+use wire::{NodeId, Nodes};
+
+/// What came to a node, and what it sent.
+#[derive(Drop)]
+struct Post {
+    came: VecDeque<Vec<u8>>,
+    sent: Vec<(u8, Vec<u8>)>,
+}
+
+impl Network for Post {
+    ghost tape = { λ _. [] };
+
+    ghost Tells = { λ _. ⊥ };
+
+    fn send(&mut self, alloc: Global, to: NodeId, bytes: &[u8]) -> Result<(), AllocError> {
+        let packet = Vec::from_slice(alloc, bytes)?;
+        self.sent.push((to.value(), packet))?;
+        Ok(())
+    }
+
+    fn poll(&mut self, _alloc: Global) -> Result<Option<Vec<u8>>, AllocError> {
+        Ok(self.came.pop_front())
+    }
+}
+
+/// What clients did, and what they were told.
+#[derive(Drop)]
+struct Counter {
+    came: VecDeque<Came>,
+    told: Vec<(u64, Vec<u8>)>,
+}
+
+impl Desk for Counter {
+    ghost tape = { λ _. [] };
+
+    ghost Tells = { λ _. ⊥ };
+
+    fn next(&mut self, _alloc: Global, _waiting: &Waiting) -> Result<Option<Came>, AllocError> {
+        Ok(self.came.pop_front())
+    }
+
+    fn tell(&mut self, alloc: Global, connection: u64, text: &[u8]) -> Result<(), AllocError> {
+        let line = Vec::from_slice(alloc, text)?;
+        self.told.push((connection, line))?;
+        Ok(())
+    }
+}
+
+/// A process and what it is joined to.
+#[derive(Drop)]
+struct Process {
+    server: Server<RecordFile>,
+    post: Post,
+    counter: Counter,
+}
+
+impl Process {
+    /// A process that finds its records in the file.
+    fn start(
+        rt: &HostRuntime,
+        path: &str,
+        id: NodeId,
+        nodes: Nodes,
+        now: u64,
+    ) -> Result<Process, Fail> {
+        let alloc = rt.alloc();
+        let life = Life::start(alloc, RecordFile::open(rt, path)?, id, nodes);
+        Ok(Process {
+            server: Server::new(alloc, life, id, nodes, Horizon::none(), now),
+            post: Post {
+                came: VecDeque::new(alloc),
+                sent: Vec::new(alloc),
+            },
+            counter: Counter {
+                came: VecDeque::new(alloc),
+                told: Vec::new(alloc),
+            },
+        })
+    }
+
+    fn turn(&mut self, alloc: Global, now: u64) -> Result<(), TurnFault> {
+        self.server
+            .turn(alloc, &mut self.post, &mut self.counter, now)?;
+        Ok(())
+    }
+
+    /// What the connection was told, one line behind the other.
+    fn told(&self, alloc: Global, connection: u64) -> Result<Vec<u8>, AllocError> {
+        let mut all = Vec::new(alloc);
+        for (receiver, line) in self.counter.told.iter() {
+            if *receiver == connection {
+                all.extend_from_slice(line.as_slice())?;
+            }
+        }
+        Ok(all)
+    }
+}
+
+/// Three nodes, and which of their processes are there.
+#[derive(Drop)]
+pub(crate) struct Trio {
+    folder: &'static str,
+    nodes: Nodes,
+    processes: Vec<Option<Process>>,
+    now: u64,
+}
+
+impl Trio {
+    /// All three begin, over an empty folder of this name.
+    pub(crate) fn start(rt: &HostRuntime, folder: &'static str) -> Result<Trio, Fail> {
+        fs::create_dir(rt, folder)?;
+        let mut trio = Trio {
+            folder,
+            nodes: Nodes::new(3).unwrap(),
+            processes: Vec::new(rt.alloc()),
+            now: 0,
+        };
+        for number in 0..3 {
+            let process = trio.process(rt, number)?;
+            trio.processes.push(Some(process))?;
+        }
+        Ok(trio)
+    }
+
+    // A process that serves this node.
+    fn process(&self, rt: &HostRuntime, number: u8) -> Result<Process, Fail>
+        requires { number < 7 }
+    {
+        let folder = self.folder;
+        let path = format!(in rt.alloc(); "{folder}/node{number}.db")?;
+        let id = NodeId::new(number).unwrap();
+        Process::start(rt, path.as_str(), id, self.nodes, self.now)
+    }
+
+    /// The node's process ends as it stands.
+    pub(crate) fn stop(&mut self, number: usize) {
+        if let Some(process) = self.processes.get_mut(number) {
+            *process = None;
+        }
+    }
+
+    /// Another one begins over its records.
+    pub(crate) fn begin_again(&mut self, rt: &HostRuntime, number: u8) -> Result<(), Fail>
+        requires { number < 7 }
+    {
+        let begun = self.process(rt, number)?;
+        if let Some(process) = self.processes.get_mut(usize::from(number)) {
+            *process = Some(begun);
+        }
+        Ok(())
+    }
+
+    // A client of the node does this.
+    fn comes(&mut self, number: usize, came: Came) -> Result<(), AllocError> {
+        if let Some(Some(process)) = self.processes.get_mut(number) {
+            process.counter.came.push_back(came)?;
+        }
+        Ok(())
+    }
+
+    /// A client of the node writes a line.
+    pub(crate) fn write(
+        &mut self,
+        alloc: Global,
+        number: usize,
+        connection: u64,
+        line: &str,
+    ) -> Result<(), AllocError> {
+        let text = Vec::from_slice(alloc, line.as_bytes())?;
+        self.comes(number, Came::Line { connection, text })
+    }
+
+    /// Lets so many milliseconds pass, ten at a time. What is sent comes ten later.
+    pub(crate) fn pass(&mut self, alloc: Global, milliseconds: u64) -> Result<(), TurnFault> {
+        for _ in 0..milliseconds / 10 {
+            self.now = self.now.saturating_add(10);
+            let mut sent = Vec::new(alloc);
+            for process in self.processes.iter_mut() {
+                if let Some(process) = process {
+                    process.turn(alloc, self.now)?;
+                    let packets = mem::replace(&mut process.post.sent, Vec::new(alloc));
+                    sent.push(packets)?;
+                }
+            }
+            for packets in sent {
+                self.deliver(packets)?;
+            }
+        }
+        Ok(())
+    }
+
+    // The packets come to those processes that are there.
+    fn deliver(&mut self, packets: Vec<(u8, Vec<u8>)>) -> Result<(), AllocError> {
+        for (to, packet) in packets {
+            if let Some(Some(process)) = self.processes.get_mut(usize::from(to)) {
+                process.post.came.push_back(packet)?;
+            }
+        }
+        Ok(())
+    }
+
+    /// What the connection of the node was told.
+    pub(crate) fn told(
+        &self,
+        alloc: Global,
+        number: usize,
+        connection: u64,
+    ) -> Result<Vec<u8>, AllocError> {
+        match self.processes.get(number) {
+            Some(Some(process)) => process.told(alloc, connection),
+            _ => Ok(Vec::new(alloc)),
+        }
+    }
+
+    /// How many campaigns there were.
+    pub(crate) fn campaigns(&self) -> u64 {
+        let mut all: u64 = 0;
+        for process in self.processes.iter() {
+            if let Some(process) = process {
+                all = all.saturating_add(process.server.timing().campaigns());
+            }
+        }
+        all
+    }
+}
