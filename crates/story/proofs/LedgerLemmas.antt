@@ -1,6 +1,5 @@
 -- One more step and one more line leave those before in order.
 use Rattle.std.proofs.Common.{◌≡◌, ◌⊎◌, inl, inr, ℕ, zero, suc, ◌+◌, ◌<◌, ◌≤◌, List, [], ◌∷◌, ◌++◌, length, slice_get, Option, Some, None, get_or, add-one, refl, sym, ap, ◌∙◌, subst, arith}
-use Rattle.std.proofs.lemmas.List.{length-append}
 use Rattle.std.proofs.lemmas.Option.{slice_get_within, slice_get-get_or}
 use Rattle.story.specs.declared.ledger.Counts.{Counts}
 use Rattle.story.specs.declared.ledger.LineBegin.{LineBegin}
@@ -15,7 +14,8 @@ pushed_get [] x (suc k) y e = absurd (cc)
 pushed_get (z ∷ xs) x zero y e = inl e
 pushed_get (z ∷ xs) x (suc k) y e = elim (pushed_get xs x k y e) [ inl h ↦ inl h | inr h ↦ inr (ap suc h.0, h.1) ]
 
-same_below : {A : Type 0} (xs ys : List A) (k : ℕ) → k < length xs → slice_get (xs ++ ys) k ≡ slice_get xs k
+-- what stands below the end stands there still
+pub same_below : {A : Type 0} (xs ys : List A) (k : ℕ) → k < length xs → slice_get (xs ++ ys) k ≡ slice_get xs k
 same_below [] ys k h = absurd (omega (arith, h))
 same_below (z ∷ xs) ys zero h = refl
 same_below (z ∷ xs) ys (suc k) h = same_below xs ys k (omega (arith, h))

@@ -1,3 +1,4 @@
+pub mod FollowLemmas
 pub mod Growing
 pub mod LedgerLemmas
 pub mod TellingLemmas

@@ -1,13 +1,12 @@
 -- What one more entry tells.
-use Rattle.std.proofs.Common.{◌≡◌, ℕ, ◌+◌, ◌<◌, List, [], ◌∷◌, ◌++◌, length, slice_get, Some, Result, Ok, Err, OnOk, refl, sym, ap, ◌∙◌, subst}
+use Rattle.std.proofs.Common.{◌≡◌, ℕ, ◌+◌, ◌<◌, List, [], ◌∷◌, ◌++◌, length, slice_get, Some, Result, Ok, Err, OnOk, sym, ap, ◌∙◌, subst}
 use Rattle.story.specs.declared.entries.Entry.{Entry}
 use Rattle.story.specs.declared.entries.Entry.TheVariants.{Line, Step as AStep, Frame, Outcome, Learnt, Replied, Answered}
 use Rattle.story.specs.declared.entries.Told.{Told}
 use Rattle.story.specs.declared.entries.Listing.{Listing}
-use Rattle.story.specs.declared.ledger.Counts.{Counts}
 use Rattle.story.specs.declared.ledger.LineBegin.{LineBegin}
 use Rattle.story.specs.declared.ledger.Step.{Step}
-use Rattle.story.specs.Telling.{Tells, none, line, step, frame, outcome, learnt, replied, answered, IsUpToDate, GoesOn, GoesOnBy}
+use Rattle.story.specs.Telling.{Tells, line, step, frame, outcome, learnt, replied, answered, IsUpToDate, GoesOn, GoesOnBy}
 
 -- the same by equal entries, which tell equally much
 pub same_tells : (lines : List LineBegin) (steps : List Step) (es fs : List Entry) (t u : Told) → es ≡ fs → t ≡ u

@@ -1,5 +1,5 @@
 -- How long a world's lists are behind each step of a run, and with which step each line begins.
-use Rattle.std.specs.Prelude.{◌≡◌, ℕ, zero, suc, ◌≤◌, List, length, slice_get, Option, Some, None}
+use Rattle.std.specs.Prelude.{◌≡◌, ℕ, zero, suc, ◌≤◌, List, slice_get, Option, Some, None}
 use Rattle.story.specs.declared.ledger.Counts.{Counts}
 use Rattle.story.specs.declared.ledger.LineBegin.{LineBegin}
 use Rattle.story.specs.declared.ledger.Step.{Step}

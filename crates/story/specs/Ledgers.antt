@@ -1,12 +1,10 @@
 -- What a run was noted to be.
-use Rattle.std.specs.Prelude.{◌≡◌, ℕ, List, ◌∷◌, ◌++◌, length, map}
-use Rattle.schedule.specs.Schedules.{Plan}
+use Rattle.std.specs.Prelude.{◌≡◌, ℕ, ◌≤◌, Bool, List, length}
 use Rattle.world.specs.Seen.{world_of}
+use Rattle.world_model.specs.Waiting.{NoneWaitsBelow}
 use Rattle.world_model.specs.Worlds.{WorldState}
-use Rattle.schedule.specs.declared.schedule.ScheduleLine.{ScheduleLine}
 use Rattle.story.specs.declared.ledger.Counts.{Counts}
 use Rattle.story.specs.declared.ledger.Ledger.{Ledger}
-use Rattle.story.specs.declared.ledger.LineBegin.{LineBegin}
 use Rattle.story.specs.declared.entries.Entry.{Entry}
 use Rattle.story.specs.Telling.{Tells}
 use Rattle.story.specs.Counted.{AreWithin, BeginInOrder, NeverFall, counts_before}
@@ -25,12 +23,19 @@ counts_of w = record {
 abbrev pub counted : Ledger → Counts
 counted l = counts_before l.steps.items (length l.steps.items)
 
+-- a flag for each frame says whether it waits, and none does below this one
+pub record AreSearched (waiting : List Bool) (frames lowest : ℕ) : Type 0 where
+  pub none_below : NoneWaitsBelow waiting lowest
+  pub within : lowest ≤ length waiting
+  pub one_each : length waiting ≡ frames
+
 -- lines begin in order, and no list gets shorter; nothing is counted that isn't there, and each frame that was counted has its passage
 pub record IsKept (l : Ledger) : Type 0 where
   pub lines : BeginInOrder l.lines.items (length l.steps.items)
   pub counts : NeverFall l.steps.items
   pub within : AreWithin (counted l) (counts_of (world_of l.world))
   pub passages : length l.passages.items ≡ (counted l).frames
+  pub searched : AreSearched (world_of l.world).waiting (length (world_of l.world).frames) l.lowest
 
 -- and all is counted that is there
 pub record IsComplete (l : Ledger) : Type 0 where
@@ -38,6 +43,12 @@ pub record IsComplete (l : Ledger) : Type 0 where
   pub counts : NeverFall l.steps.items
   pub ends : counted l ≡ counts_of (world_of l.world)
   pub passages : length l.passages.items ≡ length (world_of l.world).frames
+
+-- a run stands where it stood: its lines, its fault and its world are the same
+pub record StandsStill (old new : Ledger) : Type 0 where
+  pub lines : new.lines.items ≡ old.lines.items
+  pub fault : new.fault ≡ old.fault
+  pub world : world_of new.world ≡ world_of old.world
 
 -- the entries tell of each line and each step of the run, and of each entry of the world's lists, once and in order
 pub record TellsRun (l : Ledger) (es : List Entry) : Type 0 where

@@ -1,3 +1,4 @@
 pub mod Counted
+pub mod Following
 pub mod Ledgers
 pub mod Telling

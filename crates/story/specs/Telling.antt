@@ -1,10 +1,9 @@
 -- What is told of a run: its lines, its steps and the entries of the world's lists, each once and in order.
-use Rattle.std.specs.Prelude.{◌≡◌, ℕ, ◌+◌, ◌<◌, List, [], ◌∷◌, ◌++◌, length, slice_get, Some}
+use Rattle.std.specs.Prelude.{◌≡◌, ◌+◌, ◌<◌, List, [], ◌∷◌, ◌++◌, length, slice_get, Some}
 use Rattle.story.specs.declared.entries.Entry.{Entry}
 use Rattle.story.specs.declared.entries.Entry.TheVariants.{Line, Step as AStep, Frame, Outcome, Learnt, Replied, Answered}
 use Rattle.story.specs.declared.entries.Told.{Told}
 use Rattle.story.specs.declared.entries.Listing.{Listing}
-use Rattle.story.specs.declared.ledger.Counts.{Counts}
 use Rattle.story.specs.declared.ledger.LineBegin.{LineBegin}
 use Rattle.story.specs.declared.ledger.Step.{Step}
 use Rattle.story.specs.Counted.{no_counts, counts_before}

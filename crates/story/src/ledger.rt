@@ -1,17 +1,22 @@
 //! A run, step by step.
 
-ghost use Rattle.std.specs.Prelude.{◌≡◌, ◌≤◌, length, vec_len, IfOk, OnOk};
-ghost use Rattle.story.specs.Ledgers.{IsComplete, IsKept, counts_of};
+ghost use Rattle.std.specs.Prelude.{◌≡◌, ◌++◌, ◌∷◌, [], IfOk, MatchOption, None, OnOk};
+ghost use Rattle.story.specs.Following.{AreFollowed, ComesNext, IsRunOf, LineEndsBy, begun_numbers};
+ghost use Rattle.story.specs.Ledgers.{IsComplete, IsKept, StandsStill, counts_of};
 ghost use Rattle.world.specs.Seen.{world_of};
+ghost use Rattle.world_model.specs.Flushing.{IsStart};
+ghost use Rattle.world_model.specs.Waiting.{IsLowestWaiting, NoneWaits};
 
 use super::deeds::{Deed, deed_of};
+use super::flags::first_set;
+use super::passages::{is_over, note_passages, send_late};
 use diagram::Passage;
 use events::{Event, WorldFault};
 use replay::do_line;
 use schedule::{Action, ReplayCause, ReplayFault, ScheduleLine, parse_schedule};
-use stable::MemStable;
-use std::alloc::{AllocError, Global};
-use wire::{Frame, Nodes};
+use stable::{MemStable, Scripted, Stable};
+use std::alloc::Global;
+use wire::Nodes;
 use world::{MOST_DELIVERIES, World};
 
 /// How long the lists of a world are.
@@ -57,7 +62,9 @@ pub struct Ledger {
 ///
 /// An error is the first faulty line, or out of memory before the first step.
 pub fn follow(alloc: Global, bytes: &[u8]) -> Result<Ledger, ReplayFault>
-    ensures { IfOk result IsComplete }
+    ensures complete { IfOk result IsComplete }
+    ensures run { IfOk result (λ ledger. IsRunOf (⟦<Scripted<MemStable> as Stable>⟧)
+        bytes.now ledger.lines.items ledger.fault (world_of ledger.world)) }
 {
     let schedule = parse_schedule(alloc, bytes)?;
     let (first, last) = (schedule.first(), schedule.last());
@@ -70,7 +77,10 @@ pub fn follow(alloc: Global, bytes: &[u8]) -> Result<Ledger, ReplayFault>
 
 /// A run of which nothing is done yet.
 fn begin(alloc: Global, line: u64, nodes: Nodes) -> Result<Ledger, ReplayFault>
-    ensures { IfOk result IsKept }
+    ensures kept { IfOk result IsKept }
+    ensures starts { IfOk result (λ ledger. IsStart (⟦<Scripted<MemStable> as Stable>⟧) nodes (world_of ledger.world)) }
+    ensures lines { IfOk result (λ ledger. ledger.lines.items ≡ []) }
+    ensures fault { IfOk result (λ ledger. ledger.fault ≡ None) }
 {
     match World::new(alloc, nodes) {
         Ok(world) => Ok(Ledger {
@@ -101,13 +111,19 @@ fn count_lists(world: &World<MemStable>) -> Counts
 impl Ledger {
     /// Does the lines in order, up to the first that can't be done.
     fn do_lines(&mut self, alloc: Global, lines: Vec<ScheduleLine>) -> Result<(), ReplayFault>
-        requires { IsKept self.old }
-        ensures { OnOk result (IsKept self.new) }
+        requires kept { IsKept self.old }
+        requires goes_on { self.old.fault ≡ None }
+        ensures kept { OnOk result (IsKept self.new) }
+        ensures followed { OnOk result (AreFollowed (⟦<Scripted<MemStable> as Stable>⟧) lines.items
+            (begun_numbers self.old.lines.items) (begun_numbers self.new.lines.items)
+            (world_of self.old.world) self.new.fault (world_of self.new.world)) }
     {
         for line in lines {
-            if self.fault.is_none() {
-                self.begin_line(line.number)?;
-                self.do_line(alloc, line)?;
+            self.begin_line(line.number)?;
+            self.do_line(alloc, line)?;
+            match self.fault {
+                Some(_) => return Ok(()),
+                None => {}
             }
         }
         Ok(())
@@ -116,7 +132,11 @@ impl Ledger {
     /// A line begins, with the step that comes next.
     fn begin_line(&mut self, number: u64) -> Result<(), ReplayFault>
         requires { IsKept self.old }
-        ensures { OnOk result (IsKept self.new) }
+        ensures kept { OnOk result (IsKept self.new) }
+        ensures begun { OnOk result (begun_numbers self.new.lines.items
+            ≡ begun_numbers self.old.lines.items ++ number ∷ []) }
+        ensures fault { OnOk result (self.new.fault ≡ self.old.fault) }
+        ensures world { OnOk result (world_of self.new.world ≡ world_of self.old.world) }
     {
         let step = self.steps.len();
         match self.lines.push(LineBegin { number, step }) {
@@ -127,8 +147,12 @@ impl Ledger {
 
     /// Does a line, step by step.
     fn do_line(&mut self, alloc: Global, line: ScheduleLine) -> Result<(), ReplayFault>
-        requires { IsKept self.old }
-        ensures { OnOk result (IsKept self.new) }
+        requires kept { IsKept self.old }
+        requires goes_on { self.old.fault ≡ None }
+        ensures kept { OnOk result (IsKept self.new) }
+        ensures lines { OnOk result (self.new.lines.items ≡ self.old.lines.items) }
+        ensures done { OnOk result (LineEndsBy (⟦<Scripted<MemStable> as Stable>⟧) line
+            (world_of self.old.world) self.new.fault (world_of self.new.world)) }
     {
         let ScheduleLine { number, action } = line;
         match action {
@@ -144,44 +168,77 @@ impl Ledger {
 
     /// Delivers the lowest waiting frame until none waits, as a world's own flush does.
     fn flush(&mut self, alloc: Global, line: u64) -> Result<(), ReplayFault>
-        requires { IsKept self.old }
-        ensures { OnOk result (IsKept self.new) }
+        requires kept { IsKept self.old }
+        requires goes_on { self.old.fault ≡ None }
+        ensures kept { OnOk result (IsKept self.new) }
+        ensures lines { OnOk result (self.new.lines.items ≡ self.old.lines.items) }
+        ensures done { OnOk result (LineEndsBy (⟦<Scripted<MemStable> as Stable>⟧)
+            (record { number = line; action = Action.Flush })
+            (world_of self.old.world) self.new.fault (world_of self.new.world)) }
     {
-        'deliveries: for _ in 0..MOST_DELIVERIES {
-            match self.next_waiting() {
-                Some(frame) => self.take(alloc, line, Action::Step(Event::Deliver(frame)))?,
-                None => return Ok(()),
-            }
-            if self.fault.is_some() {
-                return Ok(());
+        for delivered in 0..MOST_DELIVERIES {
+            let goes_on = self.deliver_lowest(alloc, line)?;
+            match goes_on {
+                true => {}
+                false => return Ok(()),
             }
         }
-        if self.next_waiting().is_some() {
-            self.fault = Some(ends_at(line, WorldFault::FlushLimit));
+        match self.next_waiting() {
+            Some(_) => self.fault = Some(ends_at(line, WorldFault::FlushLimit)),
+            None => {}
         }
         Ok(())
+    }
+
+    /// Delivers the lowest waiting frame, and tells whether the flush at this line goes on.
+    fn deliver_lowest(&mut self, alloc: Global, line: u64) -> Result<bool, ReplayFault>
+        requires kept { IsKept self.old }
+        requires goes_on { self.old.fault ≡ None }
+        ensures kept { OnOk result (IsKept self.new) }
+        ensures lines { OnOk result (self.new.lines.items ≡ self.old.lines.items) }
+        ensures comes { IfOk result (λ goes_on. ComesNext (⟦<Scripted<MemStable> as Stable>⟧) line
+            (world_of self.old.world) goes_on self.new.fault (world_of self.new.world)) }
+    {
+        match self.next_waiting() {
+            Some(frame) => {
+                self.take(alloc, line, Action::Step(Event::Deliver(frame)))?;
+                match self.fault {
+                    Some(_) => Ok(false),
+                    None => Ok(true),
+                }
+            }
+            None => Ok(false),
+        }
     }
 
     /// The lowest frame that waits. One that waits no more never waits again, so the search goes on where it ended.
     fn next_waiting(&mut self) -> Option<u64>
         requires { IsKept self.old }
-        ensures { IsKept self.new }
+        ensures kept { IsKept self.new }
+        ensures still { StandsStill self.old self.new }
+        ensures lowest { MatchOption result (NoneWaits (world_of self.old.world).waiting)
+            (IsLowestWaiting (world_of self.old.world).waiting) }
     {
         let waiting = self.world.waiting();
-        for index in self.lowest..waiting.len() {
-            if waiting[index] {
-                self.lowest = index;
-                return Some(index as u64);
-            }
+        let count = waiting.len();
+        let lowest = first_set(waiting, self.lowest);
+        self.lowest = lowest;
+        if lowest < count {
+            Some(lowest as u64)
+        } else {
+            None
         }
-        self.lowest = waiting.len();
-        None
     }
 
     /// Does one thing, and notes it; or notes the fault that ends the run.
     fn take(&mut self, alloc: Global, line: u64, action: Action) -> Result<(), ReplayFault>
-        requires { IsKept self.old }
-        ensures { OnOk result (IsKept self.new) }
+        requires kept { IsKept self.old }
+        requires goes_on { self.old.fault ≡ None }
+        ensures kept { OnOk result (IsKept self.new) }
+        ensures lines { OnOk result (self.new.lines.items ≡ self.old.lines.items) }
+        ensures done { OnOk result (LineEndsBy (⟦<Scripted<MemStable> as Stable>⟧)
+            (record { number = line; action = action })
+            (world_of self.old.world) self.new.fault (world_of self.new.world)) }
     {
         let deed = deed_of(&action);
         let number = line;
@@ -200,6 +257,7 @@ impl Ledger {
         requires { IsKept self.old }
         ensures complete { OnOk result (IsComplete self.new) }
         ensures kept { OnOk result (IsKept self.new) }
+        ensures still { OnOk result (StandsStill self.old self.new) }
     {
         let ends = count_lists(&self.world);
         let step = self.steps.len();
@@ -215,7 +273,8 @@ impl Ledger {
     /// Parts a round by hand into a step for each frame that was sent and delivered in it, in their order, which is that of the deliveries.
     fn part_round(&mut self, line: u64, first: usize) -> Result<(), ReplayFault>
         requires { IsKept self.old }
-        ensures { OnOk result (IsKept self.new) }
+        ensures kept { OnOk result (IsKept self.new) }
+        ensures still { OnOk result (StandsStill self.old self.new) }
     {
         let end = self.world.frames().len();
         for index in first..end {
@@ -228,82 +287,10 @@ impl Ledger {
     }
 }
 
-/// Whether the frame of this number waits no more.
-fn is_over(waiting: &[bool], index: usize) -> bool {
-    match waiting.get(index) {
-        Some(waits) => !*waits,
-        None => false,
-    }
-}
-
-/// A frame of a round was sent when its sender had heard the last of what came to it before.
-fn send_late(frames: &[Frame], passages: &mut [Passage], first: usize) {
-    for index in first..frames.len() {
-        let sent = heard_before(frames, passages, first, index);
-        if let Some(passage) = passages.get_mut(index) {
-            passage.sent = passage.sent.max(sent);
-        }
-    }
-}
-
-/// The last step at which the sender of a frame heard one of those from `first` on that were sent before it.
-fn heard_before(frames: &[Frame], passages: &[Passage], first: usize, index: usize) -> usize {
-    let mut heard = 0;
-    if let Some(frame) = frames.get(index) {
-        let sender = frame.sender();
-        for before in first..index {
-            if let Some(other) = frames.get(before) {
-                if other.receiver() == sender {
-                    heard = came_at(passages, before).max(heard);
-                }
-            }
-        }
-    }
-    heard
-}
-
-/// The step at which a frame came; 0 where it didn't.
-fn came_at(passages: &[Passage], index: usize) -> usize {
-    match passages.get(index) {
-        Some(passage) => passage.came.unwrap_or(0),
-        None => 0,
-    }
-}
-
-/// Notes the frames that were sent at a step, up to so many in all, and the one that came. It may have come before.
-fn note_passages(
-    passages: &mut Vec<Passage>,
-    step: usize,
-    count: usize,
-    deed: &Deed,
-) -> Result<(), AllocError>
-    requires { vec_len passages.old ≤ count }
-    ensures { OnOk result (length passages.new.items ≡ count) }
-{
-    let sent = Passage {
-        sent: step,
-        came: None,
-    };
-    passages.resize(count, sent)?;
-    if let Deed::Delivered(frame) = deed {
-        if let Ok(index) = usize::try_from(*frame) {
-            come(passages.as_mut_slice(), index, step);
-        }
-    }
-    Ok(())
-}
-
-/// A frame came at a step.
-fn come(passages: &mut [Passage], index: usize, step: usize) {
-    if let Some(passage) = passages.get_mut(index) {
-        if passage.came.is_none() {
-            passage.came = Some(step);
-        }
-    }
-}
-
 /// The fault that ends a run at a line.
-fn ends_at(line: u64, fault: WorldFault) -> ReplayFault {
+fn ends_at(line: u64, fault: WorldFault) -> ReplayFault
+    ensures { result ≡ record { line = line; cause = ReplayCause.World fault } }
+{
     ReplayFault {
         line,
         cause: ReplayCause::World(fault),

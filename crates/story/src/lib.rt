@@ -7,9 +7,11 @@
 mod account;
 mod deeds;
 mod entries;
+mod flags;
 mod items;
 mod ledger;
 mod objects;
+mod passages;
 mod ranges;
 mod sketch;
 mod words;

@@ -33,4 +33,5 @@ returns-in-Ok-clause-kept c =
       counts = falls_noted _ _ s e c.requires.counts within;
       within = equal_within _ _ (ends_noted _ _ s e ∙ c.count_lists-ends.ensures);
       passages = passages ∙ ap (λ (k : Counts). k.frames) (sym (ends_noted _ _ s e));
+      searched = c.requires.searched;
     }

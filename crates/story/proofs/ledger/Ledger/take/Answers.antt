@@ -1,21 +1,23 @@
--- Whatever a line does, no list gets shorter.
+-- Whatever a line does, no list gets shorter, and no frame waits again.
 use Rattle.story.specs.Ledgers.{counted}
-use Rattle.story.proofs.Growing.{done_has, refused_has}
+use Rattle.story.proofs.Growing.{done_has, done_searched, refused_has, refused_searched}
 use Rattle.story.proofs.ledger.Ledger.take.Goals as goal
 
 pub note-requires : goal.note-requires
 note-requires c = record {
-  lines = c.requires.lines;
-  counts = c.requires.counts;
-  within = done_has (counted c.args.self.now) _ c.args.action _ _ c.in-Ok.ensures.done c.requires.within;
-  passages = c.requires.passages;
+  lines = c.requires.kept.lines;
+  counts = c.requires.kept.counts;
+  within = done_has (counted c.args.self.now) _ c.args.action _ _ c.in-Ok.ensures.done c.requires.kept.within;
+  passages = c.requires.kept.passages;
+  searched = done_searched c.args.self.now.lowest _ c.args.action _ _ c.in-Ok.ensures.done c.requires.kept.searched;
 }
 
-pub returns-in-Err : goal.returns-in-Err
-returns-in-Err c =
+pub returns-in-Err-clause-kept : goal.returns-in-Err-clause-kept
+returns-in-Err-clause-kept c =
     let h = c.in-Err.ensures.done in record {
-      lines = c.requires.lines;
-      counts = c.requires.counts;
-      within = refused_has (counted c.args.self.now) _ c.args.action _ h.why _ h.refused c.requires.within;
-      passages = c.requires.passages;
+      lines = c.requires.kept.lines;
+      counts = c.requires.kept.counts;
+      within = refused_has (counted c.args.self.now) _ c.args.action _ h.why _ h.refused c.requires.kept.within;
+      passages = c.requires.kept.passages;
+      searched = refused_searched c.args.self.now.lowest _ c.args.action _ h.why _ h.refused c.requires.kept.searched;
     }
