@@ -3,6 +3,9 @@
 use clap::{Arg, ArgAction, ArgMatches, Command, Error};
 use std::alloc::{AllocError, Global};
 
+/// Where clients are listened to unless the words say otherwise: at this machine alone.
+const LOCAL_CLIENTS: &str = "127.0.0.1:8100";
+
 /// What the words ask for.
 #[derive(Drop)]
 pub struct Options<'a> {
@@ -65,12 +68,14 @@ fn with_addresses<'a>(alloc: Global) -> Result<Command<'a>, AllocError> {
             "ADDRESSES",
             "The addresses of all 3, 5 or 7 nodes, HOST:PORT, by number, with commas between them",
         ))?
-        .arg(option_arg(
-            alloc,
-            "listen",
-            "ADDRESS",
-            "Where clients are listened to: 127.0.0.1:PORT is meant, for clients of this machine alone",
-        ))
+        .arg(
+            Arg::new(alloc, "listen")
+                .long("listen")
+                .value_name("ADDRESS")
+                .help(
+                    "Where clients are listened to; 127.0.0.1:8100, for those of this machine, unless given",
+                ),
+        )
 }
 
 /// The program without options.
@@ -99,7 +104,7 @@ fn options_in<'a>(matches: &ArgMatches<'a>) -> Option<Options<'a>> {
     Some(Options {
         id: matches.get_str("id")?,
         peers: matches.get_str("peers")?,
-        listen: matches.get_str("listen")?,
+        listen: matches.get_str("listen").unwrap_or(LOCAL_CLIENTS),
         db: matches.get_str("db")?,
         key: matches.get_str("key")?,
         is_new: matches.get_flag("new"),

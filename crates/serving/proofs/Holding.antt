@@ -8,7 +8,7 @@ use Rattle.serving.specs.declared.waiting.Question.{Question}
 use Rattle.serving.specs.Claiming.{is_for}
 use Rattle.serving.specs.Outgoing.{KeepsLess}
 use Rattle.serving.specs.Requesting.{RequestState}
-use Rattle.serving.specs.Waitings.{is_asked_by}
+use Rattle.serving.specs.Waitings.{is_asked_by, is_told_to}
 use Rattle.serving.specs.Serving.{ServerState}
 use Rattle.serving.specs.Tapes.{Talk}
 use Rattle.serving.specs.Turns.{HasAsked, HasQueried, MayBeDue, MayBeHandedOn}
@@ -114,13 +114,16 @@ same_kept : {A : Type 0} (olds news : List A) → news ≡ olds → All (Contain
 same_kept olds news e = All-same (Contains olds) news olds e (All-contains_itself olds)
 
 -- a connection is gone
-pub less_forgetting : {S : Type 0} (old new : ServerState S) (claim : Claim → Bool) (question : Question → Bool)
-    → new.waiting ≡ record old.waiting { claims = filter claim old.waiting.claims; questions = filter question old.waiting.questions }
-    → new.requests ≡ old.requests → KeepsLess old new
-less_forgetting old new claim question waiting requests = record {
+pub less_forgetting : {S : Type 0} (old new : ServerState S) (claim : Claim → Bool) (question : Question → Bool) (due : Due → Bool)
+    → new.waiting ≡ record {
+      claims = filter claim old.waiting.claims;
+      questions = filter question old.waiting.questions;
+      due = filter due old.waiting.due;
+    } → new.requests ≡ old.requests → KeepsLess old new
+less_forgetting old new claim question due waiting requests = record {
   claims = filtered_kept claim old.waiting.claims new.waiting.claims (ap (λ w. w.claims) waiting);
   questions = filtered_kept question old.waiting.questions new.waiting.questions (ap (λ w. w.questions) waiting);
-  due = same_kept old.waiting.due new.waiting.due (ap (λ w. w.due) waiting);
+  due = filtered_kept due old.waiting.due new.waiting.due (ap (λ w. w.due) waiting);
   requests = same_kept old.requests new.requests requests;
 }
 
@@ -128,10 +131,12 @@ pub holds_forgetting : {S : Type 0} (talk : List Talk) (old new : ServerState S)
     → new.waiting ≡ record old.waiting {
       claims = filter (λ claim. not (is_for connection claim)) old.waiting.claims;
       questions = filter (λ question. not (is_asked_by connection question)) old.waiting.questions;
+      due = filter (λ due. not (is_told_to connection due)) old.waiting.due;
     } → new.requests ≡ old.requests → Holds talk old new
 holds_forgetting talk old new connection waiting requests =
     holds_less talk old new
-    (less_forgetting old new (λ claim. not (is_for connection claim)) (λ question. not (is_asked_by connection question)) waiting requests)
+    (less_forgetting old new (λ claim. not (is_for connection claim)) (λ question. not (is_asked_by connection question))
+    (λ due. not (is_told_to connection due)) waiting requests)
 
 -- a reply was told
 pub less_settled : {S : Type 0} (old new : ServerState S) (claim : Claim → Bool) (request : RequestState → Bool)

@@ -149,9 +149,9 @@ impl<S: Stable + Drop> Server<S> {
         Ok(has_replied || has_answered)
     }
 
-    // Whether a client waits for a reply.
+    // Whether a request waits here. The client that made it may be gone.
     fn is_asked(&self) -> bool {
-        self.waiting.is_for_replies()
+        self.waiting.is_for_replies() || self.requests.count() > 0
     }
 
     // What is due by the clock, and a checkpoint where one is.

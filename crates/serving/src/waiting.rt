@@ -174,11 +174,13 @@ impl Waiting {
         ensures { self.new ≡ record self.old {
           claims = filter (λ claim. not (is_for connection claim)) self.old.claims;
           questions = filter (λ question. not (is_asked_by connection question)) self.old.questions;
+          due = filter (λ due. not (is_told_to connection due)) self.old.due;
         } }
     {
         self.claims.forget(connection);
         self.questions
             .retain(|question| question.connection != connection);
+        self.due.retain(|due| !due.is_to(connection));
     }
 
     // Whether a query of the connection is held back.
