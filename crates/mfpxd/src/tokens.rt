@@ -1,6 +1,6 @@
 //! Which token stands for which source.
 
-ghost use Rattle.std.specs.Prelude.{◌≡◌, IfSome};
+ghost use Rattle.std.specs.Prelude.{◌≡◌, ◌≤◌, IfNone, IfSome};
 ghost use Rattle.mfpxd.specs.Tokens.{IsTokenOf};
 
 use crate::lines::MOST_CLIENTS;
@@ -40,7 +40,8 @@ pub enum Source {
 
 /// What the token stands for, or None where it is none.
 pub fn source_of(token: usize) -> Option<Source>
-    ensures { IfSome result (IsTokenOf token) }
+    ensures source { IfSome result (IsTokenOf token) }
+    ensures none { IfNone result (END ≤ token) }
 {
     if token == PEERS {
         Some(Source::Peers)
