@@ -1,7 +1,7 @@
 //! A picture, element by element.
 
-ghost use Rattle.std.specs.Prelude.{◌≡◌, ◌++◌, OnOk};
-ghost use Rattle.picture.specs.Elements.{Extends, ExtendsBy};
+ghost use Rattle.std.specs.Prelude.{◌≡◌, ◌++◌, flat_map, IfOk, OnOk};
+ghost use Rattle.picture.specs.Elements.{arrow_text, begun, circle_text, closed, ends, line_text, measure, opened, picture_begun, picture_ended, point, rectangle_text, sized, units, way_text, words_begun, words_text};
 
 use super::escape::push_escaped;
 use super::number::push_hundredths;
@@ -39,12 +39,11 @@ impl Model for Picture {
 
 impl Picture {
     /// An empty picture of so many units, with the style sheet in which its classes stand.
-    pub fn new(alloc: Global, width: u32, height: u32, style: &[u8]) -> io::Result<Picture> {
+    pub fn new(alloc: Global, width: u32, height: u32, style: &[u8]) -> io::Result<Picture>
+        ensures { IfOk result (λ p. p ≡ picture_begun width height style.now) }
+    {
         let mut text = Vec::new(alloc);
-        write!(
-            &mut text,
-            "<svg xmlns=\"http://www.w3.org/2000/svg\" viewBox=\"0 0 {width} {height}\" width=\"{width}\" height=\"{height}\">\n<style>"
-        )?;
+        push_size(&mut text, width, height)?;
         push_escaped(&mut text, style)?;
         text.extend_from_slice(b"</style>\n")?;
         text.extend_from_slice(HEAD)?;
@@ -52,34 +51,37 @@ impl Picture {
     }
 
     /// A line from one place to another.
-    pub fn line(&mut self, class: &[u8], from: Place, to: Place) -> io::Result<()> {
+    pub fn line(&mut self, class: &[u8], from: Place, to: Place) -> io::Result<()>
+        ensures { OnOk result (self.new ≡ self.old ++ line_text class.now from to) }
+    {
         self.begin(b"<line", class)?;
         self.ends(from, to)?;
         self.put(b"/>\n")
     }
 
     /// A line with a head at its end.
-    pub fn arrow(&mut self, class: &[u8], from: Place, to: Place) -> io::Result<()> {
+    pub fn arrow(&mut self, class: &[u8], from: Place, to: Place) -> io::Result<()>
+        ensures { OnOk result (self.new ≡ self.old ++ arrow_text class.now from to) }
+    {
         self.begin(b"<line", class)?;
         self.ends(from, to)?;
         self.put(b" marker-end=\"url(#head)\"/>\n")
     }
 
     /// A line through these places, in their order.
-    pub fn way(&mut self, class: &[u8], places: &[Place]) -> io::Result<()> {
+    pub fn way(&mut self, class: &[u8], places: &[Place]) -> io::Result<()>
+        ensures { OnOk result (self.new ≡ self.old ++ way_text class.now places.now) }
+    {
         self.begin(b"<polyline", class)?;
         self.put(b" points=\"")?;
-        for place in places {
-            push_hundredths(&mut self.text, place.x)?;
-            self.put(b",")?;
-            push_hundredths(&mut self.text, place.y)?;
-            self.put(b" ")?;
-        }
+        push_points(&mut self.text, places)?;
         self.put(b"\"/>\n")
     }
 
     /// A circle around a place.
-    pub fn circle(&mut self, class: &[u8], center: Place, radius: u32) -> io::Result<()> {
+    pub fn circle(&mut self, class: &[u8], center: Place, radius: u32) -> io::Result<()>
+        ensures { OnOk result (self.new ≡ self.old ++ circle_text class.now center radius) }
+    {
         self.begin(b"<circle", class)?;
         self.measure(b" cx=\"", center.x)?;
         self.measure(b" cy=\"", center.y)?;
@@ -94,7 +96,9 @@ impl Picture {
         corner: Place,
         width: u32,
         height: u32,
-    ) -> io::Result<()> {
+    ) -> io::Result<()>
+        ensures { OnOk result (self.new ≡ self.old ++ rectangle_text class.now corner width height) }
+    {
         self.begin(b"<rect", class)?;
         self.measure(b" x=\"", corner.x)?;
         self.measure(b" y=\"", corner.y)?;
@@ -105,36 +109,42 @@ impl Picture {
 
     /// A text that stands at a place: any bytes, escaped.
     pub fn text(&mut self, class: &[u8], at: Place, text: &[u8]) -> io::Result<()>
-        ensures { OnOk result (ExtendsBy text.now self.old self.new) }
+        ensures { OnOk result (self.new ≡ self.old ++ words_text class.now at text.now) }
     {
-        self.begin_text(class, at)?;
+        self.begin_words(class, at)?;
         push_escaped(&mut self.text, text)?;
         self.put(b"</text>\n")
     }
 
     /// A group begins, which shows a title where the pointer rests on it: any bytes, escaped. `close` ends it.
     pub fn open(&mut self, class: &[u8], title: &[u8]) -> io::Result<()>
-        ensures { OnOk result (ExtendsBy title.now self.old self.new) }
+        ensures { OnOk result (self.new ≡ self.old ++ opened class.now title.now) }
     {
-        self.begin_group(class)?;
+        self.begin(b"<g", class)?;
+        self.put(b"><title>")?;
         push_escaped(&mut self.text, title)?;
         self.put(b"</title>\n")
     }
 
     /// The group that was opened last ends.
-    pub fn close(&mut self) -> io::Result<()> {
+    pub fn close(&mut self) -> io::Result<()>
+        ensures { OnOk result (self.new ≡ self.old ++ closed) }
+    {
         self.put(b"</g>\n")
     }
 
     /// The text of the picture.
-    pub fn finish(self) -> io::Result<Vec<u8>> {
+    pub fn finish(self) -> io::Result<Vec<u8>>
+        ensures { IfOk result (λ text. text.items ≡ self ++ picture_ended) }
+    {
         let Picture { mut text } = self;
         text.extend_from_slice(b"</svg>\n")?;
         Ok(text)
     }
 
-    fn begin_text(&mut self, class: &[u8], at: Place) -> io::Result<()>
-        ensures { OnOk result (Extends self.old self.new) }
+    /// How a text begins that stands at a place.
+    fn begin_words(&mut self, class: &[u8], at: Place) -> io::Result<()>
+        ensures { OnOk result (self.new ≡ self.old ++ words_begun class.now at) }
     {
         self.begin(b"<text", class)?;
         self.measure(b" x=\"", at.x)?;
@@ -142,16 +152,9 @@ impl Picture {
         self.put(b">")
     }
 
-    fn begin_group(&mut self, class: &[u8]) -> io::Result<()>
-        ensures { OnOk result (Extends self.old self.new) }
-    {
-        self.begin(b"<g", class)?;
-        self.put(b"><title>")
-    }
-
     /// How an element begins, and its class.
     fn begin(&mut self, element: &[u8], class: &[u8]) -> io::Result<()>
-        ensures { OnOk result (Extends self.old self.new) }
+        ensures { OnOk result (self.new ≡ self.old ++ begun element.now class.now) }
     {
         self.put(element)?;
         self.put(b" class=\"")?;
@@ -160,7 +163,9 @@ impl Picture {
     }
 
     /// Where a line begins and ends.
-    fn ends(&mut self, from: Place, to: Place) -> io::Result<()> {
+    fn ends(&mut self, from: Place, to: Place) -> io::Result<()>
+        ensures { OnOk result (self.new ≡ self.old ++ ends from to) }
+    {
         self.measure(b" x1=\"", from.x)?;
         self.measure(b" y1=\"", from.y)?;
         self.measure(b" x2=\"", to.x)?;
@@ -169,7 +174,7 @@ impl Picture {
 
     /// A number of an element, behind what begins it.
     fn measure(&mut self, name: &[u8], n: u32) -> io::Result<()>
-        ensures { OnOk result (Extends self.old self.new) }
+        ensures { OnOk result (self.new ≡ self.old ++ measure name.now n) }
     {
         self.put(name)?;
         push_hundredths(&mut self.text, n)?;
@@ -182,4 +187,49 @@ impl Picture {
         self.text.extend_from_slice(bytes)?;
         Ok(())
     }
+}
+
+/// Adds how a picture begins, before its style sheet.
+fn push_size(text: &mut Vec<u8>, width: u32, height: u32) -> io::Result<()>
+    ensures { OnOk result (text.new.items ≡ text.old.items ++ sized width height) }
+{
+    push_units(
+        text,
+        b"<svg xmlns=\"http://www.w3.org/2000/svg\" viewBox=\"0 0 ",
+        width,
+    )?;
+    push_units(text, b" ", height)?;
+    push_units(text, b"\" width=\"", width)?;
+    push_units(text, b"\" height=\"", height)?;
+    text.extend_from_slice(b"\">\n<style>")?;
+    Ok(())
+}
+
+/// Adds a number of whole units, behind its name.
+fn push_units(text: &mut Vec<u8>, name: &[u8], n: u32) -> io::Result<()>
+    ensures { OnOk result (text.new.items ≡ text.old.items ++ units name.now n) }
+{
+    text.extend_from_slice(name)?;
+    write!(text, "{n}")
+}
+
+/// Adds the places of a way, one behind another.
+fn push_points(text: &mut Vec<u8>, places: &[Place]) -> io::Result<()>
+    ensures { OnOk result (text.new.items ≡ text.old.items ++ flat_map point places.now) }
+{
+    for place in places {
+        push_point(text, *place)?;
+    }
+    Ok(())
+}
+
+/// Adds a place of a way.
+fn push_point(text: &mut Vec<u8>, place: Place) -> io::Result<()>
+    ensures { OnOk result (text.new.items ≡ text.old.items ++ point place) }
+{
+    push_hundredths(text, place.x)?;
+    text.extend_from_slice(b",")?;
+    push_hundredths(text, place.y)?;
+    text.extend_from_slice(b" ")?;
+    Ok(())
 }
