@@ -1,5 +1,5 @@
 -- The envelope that a frame's bytes carry, and what is read of it alone.
-use Rattle.std.specs.Prelude.{ℕ, List, Result, Ok, Err, Option, Some, None}
+use Rattle.std.specs.Prelude.{◌≡◌, ℕ, List, Result, Ok, Err, Option, Some, None}
 use Rattle.wire.specs.FrameReading.{frame_in}
 use Rattle.wire.specs.declared.frames.envelope.Envelope.{Envelope}
 use Rattle.wire.specs.declared.frames.fault.WireFault.{WireFault}
@@ -25,6 +25,10 @@ envelope_in bytes = read_or_ask (frame_in 7 bytes)
 -- the same message from the same node to another
 abbrev pub readdressed : Envelope → ℕ → Envelope
 readdressed e to = record e { to = to }
+
+-- the bytes spell this envelope, whichever node it goes to
+abbrev pub Carries : List ℕ → Envelope → Type 0
+Carries bytes e = readdressed (envelope_in bytes) e.to ≡ e
 
 -- the slot of the vote of which a message tells that it was cast
 abbrev pub voted_slot : Message → Option ℕ

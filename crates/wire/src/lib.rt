@@ -11,8 +11,8 @@ mod shared_command;
 mod sizes;
 
 pub use frames::{
-    Checkpoint, Entries, Entry, Envelope, Frame, Kind, LONGEST_FRAME, MAGIC, MOST_ENTRIES,
-    MOST_PARTS, Message, Nack, PART, Part, PartNumber, Position, Promise, WireFault,
+    Checkpoint, Entries, Entry, Envelope, Frame, Kind, LONGEST_FRAME, LastOpened, MAGIC,
+    MOST_ENTRIES, MOST_PARTS, Message, Nack, PART, Part, PartNumber, Position, Promise, WireFault,
     ballot_of_record, ballot_record, checkpoint_of_record, checkpoint_record, decode, encode,
     no_frame_begins_another, parts_make_the_text, round_of_record, round_record, vote_of_record,
     vote_record,

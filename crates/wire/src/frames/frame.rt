@@ -1,10 +1,10 @@
 //! A frame: a message on its way, as bytes.
 
-ghost use Rattle.std.specs.Prelude.{◌≡◌, ◌≤◌, Some, IfOk, IsOk, vec_capacity};
+ghost use Rattle.std.specs.Prelude.{◌≡◌, ◌≤◌, Some, IfSome, IfOk, IsOk, vec_capacity};
 ghost use Rattle.sessions.specs.declared.command.Command.{Command};
 ghost use Rattle.synod.specs.declared.vote.Vote.{Vote};
 ghost use Rattle.wire.specs.FrameSpelling.{IsFrame, Fits, VoteFits, vote_bytes};
-ghost use Rattle.wire.specs.Framing.{readdressed, voted_slot};
+ghost use Rattle.wire.specs.Framing.{Carries, readdressed, voted_slot};
 ghost use Rattle.wire.specs.Puts.{TakesMemory};
 ghost use Rattle.wire.specs.declared.frames.message.Message.TheVariants as message;
 
@@ -20,6 +20,7 @@ use fields::Input;
 use sessions::Command;
 use std::alloc::{AllocError, Global};
 use std::marker::Model;
+use std::rc::Rc;
 use synod::MOST_NODES;
 
 /// Where a frame names its receiver: behind how it begins, the version, the kind and the sender.
@@ -166,6 +167,13 @@ impl Frame {
             }
             _ => unreachable!(),
         }
+    }
+
+    /// Its bytes, where it shares them with the frames of the same message to other nodes.
+    pub(super) fn shared_bytes(&self) -> Option<&Rc<Vec<u8>>>
+        ensures { IfSome result (λ bytes. Carries bytes.now.value.items self.now) }
+    {
+        self.spelled.shared_bytes()
     }
 
     /// The envelope, decoded from the bytes.

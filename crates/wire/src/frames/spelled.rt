@@ -1,6 +1,6 @@
 //! The bytes of a frame.
 
-ghost use Rattle.std.specs.Prelude.{◌≡◌, IfOk};
+ghost use Rattle.std.specs.Prelude.{◌≡◌, IfSome, IfOk};
 ghost use Rattle.wire.specs.Framing.{bytes_in};
 
 use std::alloc::{AllocError, Global};
@@ -28,6 +28,16 @@ impl Spelled {
         match self {
             Spelled::Alone(bytes) => bytes.as_slice(),
             Spelled::Shared(bytes) => bytes.as_slice(),
+        }
+    }
+
+    /// The bytes, where they are shared.
+    pub(super) fn shared_bytes(&self) -> Option<&Rc<Vec<u8>>>
+        ensures { IfSome result (λ bytes. bytes.now.value.items ≡ bytes_in self.now) }
+    {
+        match self {
+            Spelled::Alone(_) => None,
+            Spelled::Shared(bytes) => Some(bytes),
         }
     }
 
