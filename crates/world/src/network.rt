@@ -14,7 +14,7 @@ use super::log::MOST_DELIVERIES;
 use events::WorldFault;
 use stable::{Scripted, Stable};
 use std::alloc::Global;
-use wire::{Envelope, NodeId};
+use wire::{Envelope, LastOpened, NodeId};
 use world_model::StepOutcome;
 
 impl<S: Stable> Inner<S> {
@@ -40,9 +40,10 @@ impl<S: Stable> Inner<S> {
         ensures not_to_the_end { OnErr result (OneWaits (inner_of self.new).waiting) }
         ensures faults { IfErr result (λ f. (f ≡ WorldFault.FlushLimit) ⊎ (f ≡ WorldFault.Memory)) }
     {
+        let mut last = LastOpened::new();
         for delivered in 0..MOST_DELIVERIES {
             match self.next_waiting() {
-                Some(frame) => self.deliver(alloc, frame)?,
+                Some(frame) => self.deliver(alloc, frame, &mut last)?,
                 None => return Ok(delivered),
             }
         }
@@ -66,8 +67,13 @@ impl<S: Stable> Inner<S> {
         }
     }
 
-    /// A frame comes to its receiver.
-    pub fn deliver(&mut self, alloc: Global, frame: u64) -> Result<(), WorldFault>
+    /// A frame comes to its receiver. What was opened last serves where it is the same message to another node.
+    pub fn deliver(
+        &mut self,
+        alloc: Global,
+        frame: u64,
+        last: &mut LastOpened,
+    ) -> Result<(), WorldFault>
         ensures delivers { OnOk result (DeliversFrame (⟦<Scripted<S> as Stable>⟧)
             (inner_of self.old) frame (inner_of self.new)) }
         ensures err { OnErr result (inner_of self.new ≡ inner_of self.old) }
@@ -81,8 +87,7 @@ impl<S: Stable> Inner<S> {
             return Ok(());
         }
         // What is opened stays where it is, as most of it is only looked at.
-        let opened = self.frames[index].open(alloc);
-        let Ok(envelope) = &opened else {
+        let Ok(envelope) = last.open(alloc, &self.frames[index]) else {
             return Err(WorldFault::Memory);
         };
         self.stop_waiting(index);

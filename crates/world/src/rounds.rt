@@ -12,7 +12,7 @@ use node_model::NodeFault;
 use stable::{Scripted, Stable};
 use std::alloc::Global;
 use synod::{Ballot, Slot};
-use wire::{Envelope, Frame, Message, NodeId};
+use wire::{Envelope, Frame, LastOpened, Message, NodeId};
 use world_model::RoundEnd;
 
 impl<S: Stable> Inner<S> {
@@ -231,11 +231,12 @@ impl<S: Stable> Inner<S> {
         ensures memory { IfErr result (λ f. f ≡ WorldFault.Memory) }
         ensures more { vec_len self.old.frames ≤ vec_len self.new.frames }
     {
+        let mut last = LastOpened::new();
         let end = self.frames().len();
         for index in first..end {
             let receiver = self.frames()[index].receiver();
             if is_among(receivers, receiver) {
-                self.deliver(alloc, index as u64)?;
+                self.deliver(alloc, index as u64, &mut last)?;
                 if !self.is_up(receiver) {
                     return Ok(Some(receiver));
                 }

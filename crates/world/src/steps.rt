@@ -10,7 +10,7 @@ use sessions::Submission;
 use stable::{Failing, Scripted, Stable};
 use std::alloc::Global;
 use store::Query;
-use wire::NodeId;
+use wire::{LastOpened, NodeId};
 use world_model::{Answered, StepOutcome, Submitted};
 
 impl<S: Stable> Inner<S> {
@@ -35,7 +35,7 @@ impl<S: Stable> Inner<S> {
     {
         match event {
             Event::Submit { node, submission } => self.submit(alloc, node, submission),
-            Event::Deliver(frame) => self.deliver(alloc, frame),
+            Event::Deliver(frame) => self.deliver(alloc, frame, &mut LastOpened::new()),
             Event::Drop(frame) => self.drop_frame(frame),
             Event::Timeout(node) => self.input(alloc, node, Input::Timeout),
             Event::Tick(node) => self.input(alloc, node, Input::Tick),

@@ -1,7 +1,6 @@
-use Rattle.std.proofs.Common.{inl, inr, refl, ◌≡◌, rules, ap, ◌∙◌, subst, vec_len, slice_get, Some, IfOk}
+use Rattle.std.proofs.Common.{inl, inr, refl, ◌≡◌, rules, ap, ◌∙◌, vec_len, slice_get, Some}
 use Rattle.std.proofs.lemmas.Option.{slice_get_read}
 use Rattle.std.proofs.lemmas.Result.{err_from_is_err_and}
-use Rattle.wire.specs.FrameSpelling.{Fits}
 use Rattle.world_model.specs.Worlds.{without_wait}
 use Rattle.world.specs.Inner.{inner_of}
 use Rattle.world.proofs.Missing.{missing, frame_there, not_missing}
@@ -44,9 +43,9 @@ returns g c =
     (ap (λ r. inner_of r) (c.skip_stale_vote.ensures.stays c.if-skip_stale_vote.false) ∙ c.reserve.ensures.same))) in
     record {
       delivers = record {
-        frame = c.in-Ok.envelope;
+        frame = c.in-Ok.envelope.now;
         sent = rw (← named) (read ∙ search rules);
-        fits = subst (λ o. IfOk o (Fits 7)) c.in-Ok.is c.open-opened.ensures.fits;
+        fits = c.in-Ok.ensures.fits;
         receives = rw waits at c.deliver_to.ensures;
       };
       err = tt;
