@@ -19,7 +19,7 @@ use Rattle.restrict.proofs.Latest.{not_after_or_after}
 use Rattle.predicates.proofs.EndLemmas.{shares}
 use Rattle.predicates.proofs.SequenceLemmas.{Whole}
 
-is_place : (v : Position) → IsPositionOf v v
+pub is_place : (v : Position) → IsPositionOf v v
 is_place v = record { same_x = ≈_refl v.x; same_y = ≈_refl v.y }
 
 pub listed : (ps : List Point) (i : ℕ) → i < length ps → (p : Point) × (slice_get ps i ≡ Some p)

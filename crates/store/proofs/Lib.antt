@@ -12,3 +12,4 @@ pub mod IndexLemmas
 pub mod KeptLemmas
 pub mod BoundsLemmas
 pub mod GaplessLemmas
+pub mod ListedLemmas

@@ -109,7 +109,9 @@ pub(crate) fn document_text(alloc: Global, found: Option<&Feature>) -> Result<Ve
     let Some(feature) = found else {
         return absent(alloc);
     };
-    mfjson::write_after(alloc, b"get ", feature)
+    let mut text = mfjson::write_after(alloc, b"get ", feature)?;
+    text.shrink_to_fit();
+    Ok(text)
 }
 
 /// How many features there are.
@@ -159,6 +161,8 @@ fn part_text(alloc: Global, part: &Cut) -> Result<Vec<u8>, AllocError>
     text.extend_from_slice(Buffer::new().format(count).as_bytes())?;
     text.extend_from_slice(mark_text(part.begin_in, part.end_in))?;
     push_fixes(&mut text, &part.points)?;
+    // Runs keep what was answered, and most of these texts take some half of their room.
+    text.shrink_to_fit();
     Ok(text)
 }
 

@@ -6,7 +6,7 @@
 //!
 //! A feature is found by binary search. `Query::Within` asks the features that the time index finds in its period, and no other.
 //! A feature keeps the least rectangle that has its positions. Where that is apart from a query's rectangle, or inside it, the answer
-//! takes no look at the points of steps or legs.
+//! takes no look at its steps or legs, and only a binary search of its instants where it has values at these alone.
 #![tactic(auto)]
 
 mod answers;

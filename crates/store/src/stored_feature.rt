@@ -1,6 +1,6 @@
 //! A feature as a database holds it.
 
-ghost use Rattle.std.specs.Prelude.{◌≡◌, ◌≤◌, ◌↔◌, false, IsTrue, IsOk, IfOk, OnOk, OnErr};
+ghost use Rattle.std.specs.Prelude.{◌≡◌, ◌≤◌, ◌↔◌, false, nat_lt, IsTrue, IsOk, IfOk, OnOk, OnErr};
 ghost use Rattle.tpoint.specs.Moving.{At, InBounds};
 ghost use Rattle.tpoint.specs.Extents.{HasInstant, Shares, first_whole, last_whole};
 ghost use Rattle.predicates.specs.Predicates.{IsEver, IsAlways};
@@ -63,19 +63,15 @@ impl StoredFeature {
         ensures { IsEver self.now.seq period.now area.now result }
     {
         let seq = &self.feature().seq;
-        if seq.interp() == Interp::Discrete {
+        let is_out = self.stays_out_of(area);
+        let is_in = self.stays_in(area);
+        if !is_out && !is_in {
             return ever(seq, period, area);
         }
         if !is_there(seq, period) {
             return Tri::None;
         }
-        if self.stays_out_of(area) {
-            return Tri::No;
-        }
-        if self.stays_in(area) {
-            return Tri::Yes;
-        }
-        ever(seq, period, area)
+        if is_out { Tri::No } else { Tri::Yes }
     }
 
     /// Whether it is always in a rectangle.
@@ -83,7 +79,7 @@ impl StoredFeature {
         ensures { IsAlways self.now.seq period.now area.now result }
     {
         let seq = &self.feature().seq;
-        if seq.interp() == Interp::Discrete || !self.stays_in(area) {
+        if !self.stays_in(area) {
             return always(seq, period, area);
         }
         if is_there(seq, period) {
@@ -140,8 +136,37 @@ impl StoredFeature {
     }
 }
 
-/// Whether a sequence that has a value at each instant of its span has one in the period.
+/// Whether a sequence has a value in the period.
 fn is_there(seq: &Seq, period: &Period) -> bool
+    ensures { IsTrue result ↔ Shares (At seq.now) period.now }
+{
+    if seq.interp() == Interp::Discrete {
+        is_listed_in(seq, period)
+    } else {
+        is_between_ends_in(seq, period)
+    }
+}
+
+/// Whether a sequence that has values at its listed instants alone has one in the period.
+fn is_listed_in(seq: &Seq, period: &Period) -> bool
+    requires { seq.now.interp ≡ Interp.Discrete }
+    ensures { IsTrue result ↔ Shares (At seq.now) period.now }
+{
+    let points = seq.points();
+    let from = period.first_whole();
+    let earlier = points.partition_point(
+        |point: &Point| -> bool
+            ensures { result ≡ nat_lt point.now.t from }
+        { point.t < from },
+    );
+    match points.get(earlier) {
+        Some(first) => first.t <= period.last_whole(),
+        None => false,
+    }
+}
+
+/// Whether a sequence that has a value at each instant of its span has one in the period.
+fn is_between_ends_in(seq: &Seq, period: &Period) -> bool
     requires { ¬ (seq.now.interp ≡ Interp.Discrete) }
     ensures { IsTrue result ↔ Shares (At seq.now) period.now }
 {

@@ -1,7 +1,7 @@
 use Rattle.std.proofs.Common.{◌≡◌, ◌≤◌, ◌↔◌, true, subst}
 use Rattle.tpoint.specs.Extents.{Span, first_whole, last_whole}
 use Rattle.store.proofs.GaplessLemmas.{there}
-use Rattle.store.proofs.stored_feature.is_there.Goals as goal
+use Rattle.store.proofs.stored_feature.is_between_ends_in.Goals as goal
 
 pub returns : goal.returns
 returns c =
