@@ -78,7 +78,7 @@ values_inside s r valid all t v h =
     piece_inside s.interp s.points r h.i own.0 valid.increasing all own.1 t v h.at_i
 
 -- ---- rectangles with nothing in common
-apart_inside : (v : Position) (q r : Area) → Inside v q → Inside v r →
+pub apart_inside : (v : Position) (q r : Area) → Inside v q → Inside v r →
     ¬ (AreApart q.x0 q.x1 r.x0 r.x1 ⊎ AreApart q.y0 q.y1 r.y0 r.y1)
 apart_inside v q r a b h =
     let x = (whole_le r.x0 q.x1).1 (≤ᶠ_trans b.across.from a.across.to) in
@@ -88,10 +88,10 @@ apart_inside v q r a b h =
     omega (arith, ints, x, x', y, y', h)
 
 -- ---- the bounds of what is held
-abbrev area_of : Bounds → Area
+abbrev pub area_of : Bounds → Area
 area_of b = record { x0 = b.x0; y0 = b.y0; x1 = b.x1; y1 = b.y1 }
 
-held_inside : (b : Bounds) (p : Point) → Holds b p → Inside (place p) (area_of b)
+pub held_inside : (b : Bounds) (p : Point) → Holds b p → Inside (place p) (area_of b)
 held_inside b p h =
     record {
       across = record { from = (whole_le b.x0 p.x).0 h.from_x; to = (whole_le p.x b.x1).0 h.to_x };

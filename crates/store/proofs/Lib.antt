@@ -13,3 +13,5 @@ pub mod KeptLemmas
 pub mod BoundsLemmas
 pub mod GaplessLemmas
 pub mod ListedLemmas
+pub mod PartLemmas
+pub mod BlockLemmas

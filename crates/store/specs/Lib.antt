@@ -7,3 +7,4 @@ pub mod Places
 pub mod Answers
 pub mod Indexed
 pub mod Bounds
+pub mod Blocks

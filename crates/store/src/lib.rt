@@ -7,9 +7,11 @@
 //! A feature is found by binary search. `Query::Within` asks the features that the time index finds in its period, and no other.
 //! A feature keeps the least rectangle that has its positions. Where that is apart from a query's rectangle, or inside it, the answer
 //! takes no look at its steps or legs, and only a binary search of its instants where it has values at these alone.
+//! Of each block of legs it keeps a rectangle, too: over long periods the legs of blocks that are apart from a query's are passed.
 #![tactic(auto)]
 
 mod answers;
+mod blocks;
 mod bounds;
 mod db;
 mod laws;

@@ -7,6 +7,7 @@ ghost use Rattle.predicates.specs.Predicates.{IsEver, IsAlways};
 ghost use Rattle.store.specs.Operations.{append_reply, append_effect, is_done};
 ghost use Rattle.store.specs.Bounds.{StaysIn, StaysOutOf};
 
+use crate::blocks::Blocks;
 use crate::bounds::Bounds;
 use crate::reply::Reply;
 use mfjson::Feature;
@@ -21,17 +22,21 @@ pub(crate) struct StoredFeature {
     feature: Box<Feature>,
     /// The least rectangle that has its listed positions. It may tell with no look at them.
     bounds: Bounds,
+    /// The same of each block of its legs.
+    blocks: Blocks,
 }
 
 impl Model for StoredFeature {
     ghost use Rattle.mfjson.specs.declared.feature.Feature.{Feature};
     ghost use Rattle.store.specs.Bounds.{HoldsAll};
+    ghost use Rattle.store.specs.Blocks.{BlocksHold};
 
     ghost Value = { Feature };
 
     ghost view = { λ held. held.feature.value };
 
-    ghost invariant = { λ held. HoldsAll held.bounds held.feature.value.seq.points };
+    ghost invariant = { λ held. HoldsAll held.bounds held.feature.value.seq.points
+        × BlocksHold held.blocks.bounds.items held.feature.value.seq.points };
 }
 
 impl StoredFeature {
@@ -47,8 +52,13 @@ impl StoredFeature {
         ensures { IfOk result (λ held. held ≡ record { id = id; seq = seq }) }
     {
         let bounds = Bounds::of(seq.points());
+        let blocks = Blocks::of(alloc, &seq);
         let feature = Box::new(alloc, Feature { id, seq })?;
-        Ok(StoredFeature { feature, bounds })
+        Ok(StoredFeature {
+            feature,
+            bounds,
+            blocks,
+        })
     }
 
     /// What is held.
@@ -66,12 +76,31 @@ impl StoredFeature {
         let is_out = self.stays_out_of(area);
         let is_in = self.stays_in(area);
         if !is_out && !is_in {
-            return ever(seq, period, area);
+            return self.search(period, area);
         }
         if !is_there(seq, period) {
             return Tri::None;
         }
         if is_out { Tri::No } else { Tri::Yes }
+    }
+
+    /// Whether it is ever in a rectangle, as its legs tell. Those of blocks that are apart from it are passed.
+    fn search(&self, period: &Period, area: &Rect) -> Tri
+        ensures { IsEver self.now.seq period.now area.now result }
+    {
+        let seq = &self.feature.seq;
+        let covered = self.blocks.cover(seq);
+        if !covered || seq.interp() != Interp::Linear || !is_long(period, &seq.span()) {
+            return ever(seq, period, area);
+        }
+        if self.blocks.enter(seq, period, area) {
+            return Tri::Yes;
+        }
+        if is_there(seq, period) {
+            Tri::No
+        } else {
+            Tri::None
+        }
     }
 
     /// Whether it is always in a rectangle.
@@ -112,6 +141,7 @@ impl StoredFeature {
         ensures { self.new ≡ record self.old { seq = seq } }
     {
         self.bounds = Bounds::of(seq.points());
+        self.blocks.renew(&seq);
         self.feature.seq = seq;
     }
 
@@ -126,6 +156,7 @@ impl StoredFeature {
         match self.feature.seq.append(point) {
             Ok(()) => {
                 self.bounds = self.bounds.with(&point);
+                self.blocks.append(&self.feature.seq, &point);
                 Ok(Reply::Done)
             }
             Err(AppendFault::NotLater) => Ok(Reply::NotLater),
@@ -134,6 +165,13 @@ impl StoredFeature {
             Err(AppendFault::Range) => unreachable!(),
         }
     }
+}
+
+/// Whether a period is so long that it takes less to ask the blocks of a span than to find the legs in the period.
+fn is_long(period: &Period, span: &Period) -> bool {
+    let length = period.end().ms() - period.begin().ms();
+    let whole = span.end().ms() - span.begin().ms();
+    whole / 4 <= length
 }
 
 /// Whether a sequence has a value in the period.

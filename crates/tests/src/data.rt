@@ -4,6 +4,7 @@
 //! Values, cuts, rectangles, periods and replies that were worked out by hand are schedules of `examples`; documents, frames and votes are
 //! lines of `conformance`' input. These cost no proof.
 
+mod blocks;
 mod client_lines;
 mod documents;
 mod frames;

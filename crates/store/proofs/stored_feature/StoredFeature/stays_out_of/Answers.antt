@@ -8,5 +8,5 @@ use Rattle.store.proofs.stored_feature.StoredFeature.stays_out_of.Goals as goal
 pub returns : goal.returns
 returns c = λ told.
     let valid = subst (λ (f : Feature). IsValid f.seq) (c.deref.ensures ∙ c.self.view_is) c.points-points.ensures.valid in
-    let all = subst (λ (f : Feature). HoldsAll c.self.inside.bounds f.seq.points) c.self.view_is c.self.invariant in
+    let all = subst (λ (f : Feature). HoldsAll c.self.inside.bounds f.seq.points) c.self.view_is c.self.invariant.0 in
     stays_out_of c.args.self.now.seq c.self.inside.bounds c.args.area.now valid all (c.is_apart.ensures.0 told)
