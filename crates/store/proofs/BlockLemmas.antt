@@ -16,7 +16,8 @@ use Rattle.tpoint.specs.declared.interp.Interp.{Interp}
 use Rattle.tpoint.specs.declared.interp.Interp.TheVariants.{Linear}
 use Rattle.tpoint.proofs.Appending.{kept_at, added_at}
 use Rattle.tpoint.proofs.Fractions.{≤ᶠ_trans, moment_le}
-use Rattle.tpoint.proofs.PieceLemmas.{place_within, piece_from, piece_until, leg_from, no_leg, rises_le}
+use Rattle.tpoint.proofs.PieceLemmas.{piece_from, piece_until, leg_from, no_leg, rises_le}
+use Rattle.mfjson.specs.declared.feature.Feature.{Feature}
 use Rattle.predicates.specs.Predicates.{SomeInside}
 use Rattle.store.specs.Blocks.{BlocksHold, Cover, IsIn}
 use Rattle.store.specs.Bounds.{Holds, HoldsAll, IsWithin, IsApart}
@@ -165,3 +166,7 @@ leg_inside_part s leg p q r linear h lies =
       value = record { i = leg; at_i = subst (λ (k : Interp). OnPiece k s.points leg h.t h.v) (sym linear) h.value };
       inside = h.inside;
     }
+
+-- ---- of a feature, as it is written in two ways
+pub of_feature : {bs : List Bounds} (f g : Feature) → f ≡ g → BlocksHold bs f.seq.points → BlocksHold bs g.seq.points
+of_feature {bs} f g same hold = subst (λ (h : Feature). BlocksHold bs h.seq.points) same hold

@@ -97,6 +97,14 @@ impl Blocks {
         !self.bounds.is_empty() && blocks_of(points) <= self.bounds.len()
     }
 
+    /// Whether they are likely to be apart from what the whole isn't apart from, as their first one tells.
+    pub fn are_small_beside(&self, whole: Bounds) -> bool {
+        match self.bounds.first() {
+            Some(first) => first.is_small_beside(whole),
+            None => false,
+        }
+    }
+
     /// Whether the sequence, one of legs, is ever in a rectangle. Blocks apart from it are passed.
     pub fn enter(&self, seq: &Seq, period: &Period, area: &Rect) -> bool
         requires linear { seq.now.interp ≡ Interp.Linear }

@@ -55,6 +55,15 @@ impl Bounds {
         across || along
     }
 
+    /// Whether other bounds are more than twice as wide, or more than twice as high.
+    pub fn is_small_beside(self, other: Bounds) -> bool {
+        let width = self.x1.wrapping_sub(self.x0);
+        let height = self.y1.wrapping_sub(self.y0);
+        let other_width = other.x1.wrapping_sub(other.x0);
+        let other_height = other.y1.wrapping_sub(other.y0);
+        width < other_width / 2 || height < other_height / 2
+    }
+
     /// Whether a rectangle has all of it.
     pub fn is_inside(self, area: &Rect) -> bool
         ensures { IsTrue result ↔ IsInside self area.now }

@@ -90,7 +90,7 @@ impl StoredFeature {
     {
         let seq = &self.feature.seq;
         let covered = self.blocks.cover(seq);
-        if !covered || seq.interp() != Interp::Linear || !is_long(period, &seq.span()) {
+        if !covered || seq.interp() != Interp::Linear || !self.passes_many(period) {
             return ever(seq, period, area);
         }
         if self.blocks.enter(seq, period, area) {
@@ -101,6 +101,11 @@ impl StoredFeature {
         } else {
             Tri::None
         }
+    }
+
+    /// Whether it is likely that blocks are passed, and that it takes less to ask them than to find the legs in a period.
+    fn passes_many(&self, period: &Period) -> bool {
+        self.blocks.are_small_beside(self.bounds) && is_long(period, &self.feature.seq.span())
     }
 
     /// Whether it is always in a rectangle.
@@ -167,7 +172,7 @@ impl StoredFeature {
     }
 }
 
-/// Whether a period is so long that it takes less to ask the blocks of a span than to find the legs in the period.
+/// Whether a period is no shorter than a quarter of a span.
 fn is_long(period: &Period, span: &Period) -> bool {
     let length = period.end().ms() - period.begin().ms();
     let whole = span.end().ms() - span.begin().ms();

@@ -24,6 +24,7 @@ const PERIODS: [(u16, u16); 4] = [(0, 97), (20, 80), (32, 64), (90, 300)];
 const SIDES: [i64; 4] = [10, 300, 2_000, 9_000];
 
 /// Numbers that come as if by chance.
+#[derive(Drop)]
 struct Numbers {
     last: u64,
 }
@@ -79,7 +80,9 @@ fn points(alloc: Global, numbers: &mut Numbers, motion: u16) -> Result<Vec<Point
 
 /// The feature is put with its first points, and the others are added one by one.
 fn put(alloc: Global, db: &mut Db, feature: u16, points: &[Point]) -> Result<(), Fail> {
-    let first = usize::from(feature % LEGS).wrapping_add(1).min(points.len());
+    let first = usize::from(feature % LEGS)
+        .wrapping_add(1)
+        .min(points.len());
     let begun = Vec::from_slice(alloc, &points[..first])?;
     db.apply(&Op::Put(id(feature)?, Seq::new(Interp::Linear, begun)?))?;
     for point in &points[first..] {
@@ -134,13 +137,7 @@ fn asked(
 }
 
 /// Whether the database finds as many features in a rectangle as are there by the legs, and tells each as they do.
-fn agrees(
-    alloc: Global,
-    db: &Db,
-    seqs: &[Seq],
-    period: Period,
-    area: Rect,
-) -> Result<bool, Fail> {
+fn agrees(alloc: Global, db: &Db, seqs: &[Seq], period: Period, area: Rect) -> Result<bool, Fail> {
     let (wrong, inside) = asked(alloc, db, seqs, period, area)?;
     let told = db.answer(alloc, &Query::Within(period, area))?;
     let start = format!(in alloc; "within {inside}")?;
@@ -158,8 +155,13 @@ fn blocks(rt: HostRuntime) -> Result<(), Fail> {
         for side in SIDES {
             let x = numbers.below(WIDTH);
             let y = numbers.below(WIDTH);
-            let area = Rect::new(x, y, x.wrapping_add(side), y.wrapping_add(side)).ok_or("a rectangle")?;
-            assert!(rt; agrees(rt.alloc(), &db, &seqs, period, area)?, "{x} {y} {side} from {begin} to {end}");
+            let area = Rect::new(x, y, x.wrapping_add(side), y.wrapping_add(side)).ok_or(
+                "a rectangle",
+            )?;
+            assert!(rt;
+                agrees(rt.alloc(), &db, &seqs, period, area)?,
+                "{x} {y} {side} from {begin} to {end}"
+            );
         }
     }
     Ok(())

@@ -2,7 +2,7 @@ use Rattle.std.proofs.Common.{true, rules}
 use Rattle.tpoint.specs.Fraction.{◌≤ᶠ◌}
 use Rattle.tpoint.specs.Moving.{moment}
 use Rattle.tpoint.specs.Extents.{LiesIn}
-use Rattle.store.proofs.PartLemmas.{part_made, all_to, rest_to}
+use Rattle.store.proofs.PartLemmas.{part_made, rest_to}
 use Rattle.store.proofs.blocks.up_to.Goals as goal
 
 pub returns : goal.returns

@@ -1,4 +1,4 @@
-use Rattle.std.proofs.Common.{ℕ, ◌*◌, ◌<◌, ◌≤◌, ◌-◌, vec_len}
+use Rattle.std.proofs.Common.{ℕ, ◌*◌, ◌<◌, ◌-◌, vec_len}
 use Rattle.tpoint.specs.Pieces.{OnPiece}
 use Rattle.tpoint.specs.declared.interp.Interp.TheVariants.{Linear}
 use Rattle.predicates.specs.Predicates.{SomeInside}

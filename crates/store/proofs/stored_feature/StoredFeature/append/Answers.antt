@@ -3,6 +3,7 @@ use Rattle.tpoint.specs.Moving.{Sequence}
 use Rattle.mfjson.specs.declared.feature.Feature.{Feature}
 use Rattle.store.specs.Blocks.{BlocksHold}
 use Rattle.store.specs.Bounds.{HoldsAll}
+use Rattle.store.proofs.BlockLemmas.{of_feature}
 use Rattle.store.proofs.BoundsLemmas.{appended_all}
 use Rattle.store.proofs.stored_feature.StoredFeature.append.Goals as goal
 
@@ -14,7 +15,7 @@ invariant_of-self c =
     let all = subst (λ (f : Feature). HoldsAll c.self.inside.bounds f.seq.points) (sym c.deref_mut.ensures.value) c.self.invariant.0 in
     let longer = ap (λ (f : Feature). f.seq.points) c.deref.ensures ∙ ap (λ (s : Sequence). s.points) c.in-Ok.ensures.value in
     let hold = c.append-in-Ok.ensures old.points longer
-    (subst (λ (f : Feature). BlocksHold _ f.seq.points) (sym c.deref_mut.ensures.value) c.self.invariant.1) in (
+    (of_feature _ _ (sym c.deref_mut.ensures.value) c.self.invariant.1) in (
       subst (λ (s : Sequence). HoldsAll bounds.result s.points) (sym c.in-Ok.ensures.value)
           (appended_all c.self.inside.bounds bounds.result old.points c.args.point bounds.ensures.had bounds.ensures.added all),
       subst (λ (f : Feature). BlocksHold c.append-in-Ok.new.self.bounds.items f.seq.points) c.deref.ensures hold,

@@ -1,14 +1,14 @@
-use Rattle.std.proofs.Common.{◌≡◌, ◌∙◌, sym, subst, rules}
+use Rattle.std.proofs.Common.{◌≡◌, ◌∙◌, sym, subst}
 use Rattle.tpoint.specs.Moving.{At}
 use Rattle.tpoint.specs.Extents.{Shares}
 use Rattle.mfjson.specs.declared.feature.Feature.{Feature}
 use Rattle.predicates.specs.Predicates.{SomeInside}
-use Rattle.store.specs.Blocks.{BlocksHold}
+use Rattle.store.proofs.BlockLemmas.{of_feature}
 use Rattle.store.proofs.stored_feature.StoredFeature.search.Goals as goal
 
 pub enter-requires-clause-hold : goal.enter-requires-clause-hold
 enter-requires-clause-hold c =
-    subst (λ (f : Feature). BlocksHold _ f.seq.points) (sym c.deref.ensures) c.self.invariant.1
+    of_feature _ _ (sym c.deref.ensures) c.self.invariant.1
 
 -- a leg is in the rectangle
 pub returns-then-enter : goal.returns-then-enter
