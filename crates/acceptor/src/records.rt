@@ -16,7 +16,8 @@ use stable::{Key, Stable, StableFault};
 use std::alloc::Global;
 use synod::{Ballot, Slot};
 use wire::{
-    ballot_of_record, ballot_record, checkpoint_of_record, checkpoint_record, vote_of_record,
+    SharedCommand, ballot_of_record, ballot_record, checkpoint_of_record, checkpoint_record,
+    vote_of_record,
 };
 
 /// What was found under key Checkpoint.
@@ -163,6 +164,7 @@ pub(super) fn voted<S: Stable>(
     match vote_of_record(alloc, &bytes)? {
         Some(choice) => {
             let (ballot, command) = choice;
+            let command = SharedCommand::new(alloc, command)?;
             Ok(Some(AcceptedValue { ballot, command }))
         }
         None => Err(StableFault::Damaged),

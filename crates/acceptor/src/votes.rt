@@ -37,7 +37,7 @@ impl Votes {
         ensures { IsTrue result ↔ (vote_held self.now vote.now.slot ≡ Some vote.now) }
     {
         match self.by_slot.get(vote.slot) {
-            Some(cast) => cast.ballot == vote.ballot && cast.command == *vote.command.command(),
+            Some(cast) => cast.ballot == vote.ballot && cast.command == vote.command,
             None => false,
         }
     }
@@ -66,7 +66,7 @@ impl Votes {
             entries.push(Entry::new(Vote {
                 slot,
                 ballot: cast.ballot,
-                command: SharedCommand::copy_of(alloc, &cast.command)?,
+                command: cast.command.share()?,
             }))?;
             from = Slot::new(slot.value() + 1);
         }
@@ -124,7 +124,7 @@ impl Votes {
         let bytes = vote_record(alloc, vote.ballot, vote.command.command())?;
         let cast = AcceptedValue {
             ballot: vote.ballot,
-            command: vote.command.command().clone()?,
+            command: vote.command.share()?,
         };
         // It takes its place before it is written: after the write nothing may be refused.
         let before = self.by_slot.insert(vote.slot, cast)?;

@@ -23,6 +23,9 @@ returns-in_err-bytes g c = search rules
 pub returns-in_default : goal.returns-in_default
 returns-in_default g c = search rules
 
+pub returns-in_err-command-in-Some-2 : goal.returns-in_err-command-in-Some-2
+returns-in_err-command-in-Some-2 g c = search rules
+
 pub returns-in_err-choice : goal.returns-in_err-choice
 returns-in_err-choice g c = search rules
 

@@ -1,4 +1,4 @@
-use Rattle.std.proofs.Common.{rules, arith, ◌≡◌, ◌∙◌, ap, sym, Some}
+use Rattle.std.proofs.Common.{rules, arith, ◌≡◌, ap, Some}
 use Rattle.std.proofs.lemmas.Bool.Decides.{nat_tests}
 use Rattle.wire.specs.OneBallot.{same_ballot}
 use Rattle.acceptor.specs.AcceptedValues.{cast_at}
@@ -14,6 +14,6 @@ returns-then-eq c =
     let round : cast.ballot.round ≡ vote.ballot.round = grind (arith, nat_tests, c.eq.ensures, c.if-eq.true) in
     let node : cast.ballot.node ≡ vote.ballot.node = grind (arith, nat_tests, c.eq.ensures, c.if-eq.true) in
     let ballot = same_ballot cast.ballot vote.ballot round node in (
-      λ same. rw found (ap Some (same_vote cast vote ballot (c.eq-then-eq.ensures.same.0 same ∙ c.command.ensures))),
-      λ told. c.eq-then-eq.ensures.same.1 (command_told cast vote _ found told ∙ sym c.command.ensures),
+      λ same. rw found (ap Some (same_vote cast vote ballot (c.eq-then-eq.ensures.same.0 same))),
+      λ told. c.eq-then-eq.ensures.same.1 (command_told cast vote _ found told),
     )

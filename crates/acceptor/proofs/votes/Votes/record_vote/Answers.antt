@@ -14,7 +14,7 @@ returns-in-Ok g c = record {
   written = search rules;
   votes = λ s.
       let vote = c.args.vote.now in
-      let cast : AcceptedValue = record { ballot = vote.ballot; command = c.in_ok-clone.field-0 } in
+      let cast : AcceptedValue = record { ballot = vote.ballot; command = c.in_ok-share.field-0 } in
       let same = same_vote cast vote refl (search rules) in
       ap (option_map (vote_at s)) (ap (λ f. f s) c.in_ok-before.ensures.stands)
       ∙ votes-put (cast_at c.args.self.now) cast vote same s;
@@ -59,5 +59,5 @@ put_back-requires g c =
 pub returns-in_err-bytes : goal.returns-in_err-bytes
 returns-in_err-bytes g c = search rules
 
-pub returns-in_err-clone : goal.returns-in_err-clone
-returns-in_err-clone g c = search rules
+pub returns-in_err-share : goal.returns-in_err-share
+returns-in_err-share g c = search rules
