@@ -36,7 +36,8 @@ impl Numbers {
             .last
             .wrapping_mul(6_364_136_223_846_793_005)
             .wrapping_add(1_442_695_040_888_963_407);
-        ((self.last >> 33) as i64).wrapping_rem(bound.max(1))
+        let number = i64::try_from(self.last >> 33).unwrap_or(0);
+        number.checked_rem(bound).unwrap_or(0)
     }
 }
 
@@ -46,8 +47,8 @@ fn instant(second: u16) -> Result<Instant, Fail> {
 }
 
 fn id(feature: u16) -> Result<Id, Fail> {
-    let first = b'a'.wrapping_add((feature / 16) as u8);
-    let last = b'a'.wrapping_add((feature % 16) as u8);
+    let first = b'a'.wrapping_add(u8::try_from(feature / 16).unwrap_or(0));
+    let last = b'a'.wrapping_add(u8::try_from(feature % 16).unwrap_or(0));
     Ok(Id::new(&[first, last]).ok_or("an id")?)
 }
 
