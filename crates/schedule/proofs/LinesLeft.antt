@@ -107,8 +107,7 @@ spelled_to_the_end start now read rest so_far others =
 pub refused_behind : (start now : Unread) (read : List ScheduleLine) (fault : ReplayFault) → IsReadSoFar start now read
     → IsLaterRefusal now.nodes now.left fault → IsLaterRefusal start.nodes start.left fault
 refused_behind start now read fault so_far refused =
-    let (line, next, refusal) = subst (λ (n : ℕ). IsLaterRefusal n now.left fault) so_far.nodes refused in
-    (
+    let (line, next, refusal) = subst (λ (n : ℕ). IsLaterRefusal n now.left fault) so_far.nodes refused in (
       line,
       record {
         before = so_far.lines.before ++ next.before;
