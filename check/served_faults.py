@@ -5,6 +5,7 @@
 
     relay       packets are lost, repeated, reordered, changed and forged on the way, under load and kills, for --seconds
     files       databases and identities that are deleted, swapped, copied or second-hand are refused, and one database isn't used twice
+    begun       a first start that is cut off, before the database is made or behind that, is made again, but not once the node has served
     key         a key that others may read, or that is short, is refused; a node with another key hears and tells nothing
     full        a database can't grow: its process ends with 3, the others go on, and it comes back
     sync        a sync fails (strace injects EIO): the same
@@ -47,6 +48,26 @@ class Relayed(Nodes):
         words = super().words(node)
         words[words.index("--peers") + 1] = ",".join(f"127.0.0.1:{port}" for port in ports)
         return words
+
+
+class CutOff(Nodes):
+    """Nodes 1 and 2 of which find what a first start leaves that was cut off: 1 an empty database too, 2 none."""
+
+    said = ()
+
+    def start(self, node, *more):
+        if more and node > 0:
+            with open(self.key, "rb") as it:
+                name = it.read(16).hex()
+            with open(f"{self.folder}/node{node}.db.node", "w") as it:
+                it.write(f"run {name}\nnode {node}\nnodes 3\nbegun\n")
+            if node == 1:
+                with open(f"{self.folder}/node1.db", "w"):
+                    pass
+            other, right = ([], ["--new"]) if node == 2 else (["--new"], [])
+            self.said += (refused(self, node, 2, *other),)
+            more = right
+        super().start(node, *more)
 
 
 def refused(nodes, node, status, *more):
@@ -112,6 +133,26 @@ def files(program, folder, _seconds, _seed):
         put(nodes, 2, 20)
         served.come_together(nodes)
         print(*said, sep="\n")
+    finally:
+        nodes.end()
+
+
+def begun(program, folder, _seconds, _seed):
+    nodes = CutOff(program, 3, folder)
+    try:
+        time.sleep(1)
+        for number in range(1, 10):
+            put(nodes, number % 3, number)
+        print(*nodes.said, sep="\n")
+        for node in (1, 2):
+            nodes.kill(node)
+            own = f"{folder}/node{node}.db"
+            os.rename(own, f"{folder}/aside")
+            for more in ((), ("--new",)):
+                print(refused(nodes, node, 2, *more))
+            os.rename(f"{folder}/aside", own)
+            nodes.start(node)
+            served.come_together(nodes)
     finally:
         nodes.end()
 
@@ -210,7 +251,7 @@ def main():
     words.add_argument("--seed", type=int, default=1)
     given = words.parse_args()
     random.seed(given.seed)
-    for case in (relay, files, key, full, sync):
+    for case in (relay, files, begun, key, full, sync):
         print(f"{case.__name__}:", flush=True)
         with tempfile.TemporaryDirectory() as folder:
             case(os.path.abspath(given.mfpxd), folder, given.seconds, given.seed)

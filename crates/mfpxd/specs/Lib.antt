@@ -1,4 +1,5 @@
 pub mod Identities
+pub mod Places
 pub mod Records
 pub mod Stops
 pub mod Streams

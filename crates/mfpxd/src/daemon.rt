@@ -1,7 +1,7 @@
 //! The process: its node, its sockets and its clock.
 
 use crate::addresses::{address_of, addresses_in};
-use crate::identity::see_identity;
+use crate::identity::Identity;
 use crate::key::read_run;
 use crate::lines::Lines;
 use crate::links::Links;
@@ -76,9 +76,11 @@ fn begin(rt: &HostRuntime, options: &Options<'_>) -> Result<Daemon, Stop> {
     };
     let clients = TcpListener::bind(rt, address_of(rt, options.listen)?)?;
     let peers = TcpListener::bind(rt, *own)?;
-    see_identity(rt, options.db, &name, id, nodes, options.is_new)?;
+    let identity = Identity::see(rt, options.db, &name, id, nodes, options.is_new)?;
+    let server = open_server(rt, options.db, id, nodes)?;
+    identity.note_served(rt)?;
     let mut daemon = Daemon {
-        server: open_server(rt, options.db, id, nodes)?,
+        server,
         links: Links::new(alloc, run, id, addresses.as_slice())?,
         lines: Lines::new(alloc)?,
         poll: Poll::new(rt)?,

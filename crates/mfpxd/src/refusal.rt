@@ -25,6 +25,10 @@ pub enum Refusal {
     SecondHand,
     #[error("--new: there is an identity already; its database is missing")]
     SecondStart,
+    #[error("a first start was cut off before it made a database: start with --new once more")]
+    CutOff,
+    #[error("--new: a first start was cut off, but its database is there: start without --new")]
+    Made,
     #[error("the identity beside the database is missing; --new is for a first start alone")]
     NoIdentity,
     #[error("the database is missing: without it this node must not start again")]

@@ -1,61 +1,18 @@
 //! Three processes that serve nodes: packets in queues, clients in lists, a clock that is told, and records in files.
 
-ghost use Rattle.std.specs.Prelude.{[], ◌<◌};
+ghost use Rattle.std.specs.Prelude.{◌<◌};
+ghost use Rattle.serving.specs.Seen.{server_of};
+ghost use Rattle.serving.specs.Serving.{ServesOver};
 
+use crate::fakes::{Counter, Post};
 use life::Life;
 use record_files::RecordFile;
-use serving::{Came, Desk, Horizon, Network, Server, TurnFault, Waiting};
+use serving::{Came, Desk, Horizon, Network, Server, TurnFault};
+use stable::Stable;
 use std::alloc::{AllocError, Global};
-use std::collections::VecDeque;
 use std::test::Fail;
 use std::{fs, mem};
 use wire::{NodeId, Nodes};
-
-/// What came to a node, and what it sent.
-#[derive(Drop)]
-struct Post {
-    came: VecDeque<Vec<u8>>,
-    sent: Vec<(u8, Vec<u8>)>,
-}
-
-impl Network for Post {
-    ghost tape = { λ _. [] };
-
-    ghost Tells = { λ _. ⊥ };
-
-    fn send(&mut self, alloc: Global, to: NodeId, bytes: &[u8]) -> Result<(), AllocError> {
-        let packet = Vec::from_slice(alloc, bytes)?;
-        self.sent.push((to.value(), packet))?;
-        Ok(())
-    }
-
-    fn poll(&mut self, _alloc: Global) -> Result<Option<Vec<u8>>, AllocError> {
-        Ok(self.came.pop_front())
-    }
-}
-
-/// What clients did, and what they were told.
-#[derive(Drop)]
-struct Counter {
-    came: VecDeque<Came>,
-    told: Vec<(u64, Vec<u8>)>,
-}
-
-impl Desk for Counter {
-    ghost tape = { λ _. [] };
-
-    ghost Tells = { λ _. ⊥ };
-
-    fn next(&mut self, _alloc: Global, _waiting: &Waiting) -> Result<Option<Came>, AllocError> {
-        Ok(self.came.pop_front())
-    }
-
-    fn tell(&mut self, alloc: Global, connection: u64, text: &[u8]) -> Result<(), AllocError> {
-        let line = Vec::from_slice(alloc, text)?;
-        self.told.push((connection, line))?;
-        Ok(())
-    }
-}
 
 /// A process and what it is joined to.
 #[derive(Drop)]
@@ -78,32 +35,20 @@ impl Process {
         let life = Life::start(alloc, RecordFile::open(rt, path)?, id, nodes);
         Ok(Process {
             server: Server::new(alloc, life, id, nodes, Horizon::none(), now),
-            post: Post {
-                came: VecDeque::new(alloc),
-                sent: Vec::new(alloc),
-            },
-            counter: Counter {
-                came: VecDeque::new(alloc),
-                told: Vec::new(alloc),
-            },
+            post: Post::new(alloc),
+            counter: Counter::new(alloc),
         })
     }
 
-    fn turn(&mut self, alloc: Global, now: u64) -> Result<(), TurnFault> {
+    /// One turn. The post and the counter record all that passes in it, and that is what a process may let out, of what came.
+    fn turn(&mut self, alloc: Global, now: u64) -> Result<(), TurnFault>
+        ensures { ServesOver (⟦<RecordFile as Stable>⟧) ⟦<Post as Network>⟧.tape ⟦<Post as Network>⟧.Tells ⟦<Counter as Desk>⟧.tape
+            ⟦<Counter as Desk>⟧.Tells (server_of self.old.server) self.old.post self.old.counter (server_of self.new.server)
+            self.new.post self.new.counter }
+    {
         self.server
             .turn(alloc, &mut self.post, &mut self.counter, now)?;
         Ok(())
-    }
-
-    /// What the connection was told, one line behind the other.
-    fn told(&self, alloc: Global, connection: u64) -> Result<Vec<u8>, AllocError> {
-        let mut all = Vec::new(alloc);
-        for (receiver, line) in self.counter.told.iter() {
-            if *receiver == connection {
-                all.extend_from_slice(line.as_slice())?;
-            }
-        }
-        Ok(all)
     }
 }
 
@@ -218,7 +163,7 @@ impl Trio {
         connection: u64,
     ) -> Result<Vec<u8>, AllocError> {
         match self.processes.get(number) {
-            Some(Some(process)) => process.told(alloc, connection),
+            Some(Some(process)) => process.counter.told(alloc, connection),
             _ => Ok(Vec::new(alloc)),
         }
     }

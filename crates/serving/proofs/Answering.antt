@@ -20,12 +20,14 @@ use Rattle.serving.specs.declared.waiting.Due.{Due}
 use Rattle.serving.specs.declared.waiting.Due.TheVariants as due
 use Rattle.serving.specs.declared.waiting.Question.{Question}
 use Rattle.serving.specs.Outgoing.{IsFrameOf, IsPacketOf, IsReplyIn, IsTextTo, KeepsLess}
-use Rattle.serving.specs.Serving.{IsPosition, PassesOnly, ServerState, Serves, ServesClients, ServesNodes, ServesOver, asking}
+use Rattle.serving.specs.Knowing.{IsPosition}
+use Rattle.serving.specs.Serving.{PassesOnly, ServerState, Serves, ServesClients, ServesNodes, ServesOver, asking}
 use Rattle.serving.specs.Tapes.{Carried, Talk, Told}
 use Rattle.serving.proofs.Coming.{none_passes, none_said}
 use Rattle.serving.proofs.Holding.{holds_less, holds_same, less_itself}
 use Rattle.serving.proofs.Leading.{serves_doing, serves_quiet, serves_then}
-use Rattle.serving.proofs.LettingOut.{less_due, serves_answering, serves_handing_on, serves_letting_out, serves_line, serves_ripening}
+use Rattle.serving.proofs.HandingOn.{serves_handing_on}
+use Rattle.serving.proofs.LettingOut.{less_due, serves_answering, serves_letting_out, serves_line, serves_ripening}
 use Rattle.serving.proofs.Passing.{clients_quiet, clients_then, nodes_quiet, passes_as}
 
 -- ---- what is held goes out
@@ -77,7 +79,7 @@ module _ {S : Type 0} (storages : Ghosts S) where
   pub serves_dropping : (old new : ServerState S) (question : Question) → new.life ≡ old.life → new.waiting ≡ old.waiting
       → new.requests ≡ old.requests → Serves storages (asking old question) [] [] new
   serves_dropping old new question life waiting requests =
-      serves_quiet storages (asking old question) new [] [] life none_passes none_said
+      serves_quiet storages (asking old question) new [] [] life none_passes (none_said storages)
       (holds_less [] (asking old question) new (less_due storages old question new waiting requests))
 
   -- the node is asked
@@ -86,7 +88,7 @@ module _ {S : Type 0} (storages : Ghosts S) where
       → Serves storages (asking old question) [] [] (asking (record old { life = life }) question)
   serves_asked old life question result does =
       serves_doing storages (Asked question.query) result (asking old question) (asking (record old { life = life }) question) [] [] does
-      (λ answer first past is. tt) none_passes none_said
+      (λ answer first past is. tt) none_passes (none_said storages)
       (holds_same [] (asking old question) (asking (record old { life = life }) question) refl refl)
 
   -- and that is all
@@ -197,7 +199,7 @@ module _ {S D : Type 0} (storages : Ghosts S) (tape : D → List Talk) (Talks : 
       → ServesClients storages tape Talks old d (record old { waiting = waiting }) d
   clients_still old waiting d same =
       clients_quiet storages tape Talks old (record old { waiting = waiting }) d
-      (serves_quiet storages old (record old { waiting = waiting }) [] [] refl none_passes none_said
+      (serves_quiet storages old (record old { waiting = waiting }) [] [] refl none_passes (none_said storages)
       (holds_same [] old (record old { waiting = waiting }) same refl))
 
 module _ {S N : Type 0} (storages : Ghosts S) (carried : N → List Carried) (Carries : N → Type 0) where
@@ -215,5 +217,5 @@ module _ {S N : Type 0} (storages : Ghosts S) (carried : N → List Carried) (Ca
       → ServesNodes storages carried Carries old n (record old { requests = requests }) n
   nodes_still old requests n same =
       nodes_quiet storages carried Carries old (record old { requests = requests }) n
-      (serves_quiet storages old (record old { requests = requests }) [] [] refl none_passes none_said
+      (serves_quiet storages old (record old { requests = requests }) [] [] refl none_passes (none_said storages)
       (holds_same [] old (record old { requests = requests }) refl same))

@@ -1,5 +1,5 @@
 -- What comes to a process, and what it makes of it.
-use Rattle.std.proofs.Common.{◌≡◌, ℕ, List, [], ◌∷◌, ◌++◌, Option, Some, None, IfSome, IsTrue, OnOk, OnErr, Result, Ok, Err, Bool, true, false, All}
+use Rattle.std.proofs.Common.{◌≡◌, ℕ, List, [], ◌∷◌, ◌++◌, Option, IsTrue, OnOk, OnErr, Result, Ok, Err, Bool, true, false, All}
 use Rattle.std.proofs.Common.{refl, sym, ap, subst, inl, inr, rules}
 use Rattle.std.proofs.lemmas.List.Elements.{All-cons, All-nil, Contains-append_right, Contains-push}
 use Rattle.sessions.specs.declared.submission.Submission.{Submission}
@@ -7,6 +7,7 @@ use Rattle.store.specs.declared.query.Query.{Query}
 use Rattle.stable.specs.declared.stable.Stable.{Ghosts}
 use Rattle.wire.specs.FrameSpelling.{IsFrame}
 use Rattle.wire.specs.declared.frames.envelope.Envelope.{Envelope}
+use Rattle.node_model.specs.Nodes.{NodeState}
 use Rattle.node_model.specs.declared.input.Input.{Input}
 use Rattle.node_model.specs.declared.input.Input.TheVariants as input
 use Rattle.world_model.specs.Lives.{Took}
@@ -22,8 +23,8 @@ use Rattle.serving.specs.declared.waiting.Question.{Question}
 use Rattle.serving.specs.Requesting.{RequestState, fresh_request}
 use Rattle.serving.specs.Serving.{ServerState, Serves}
 use Rattle.serving.specs.Tapes.{Arrived, Heard, Went}
-use Rattle.serving.specs.Turns.{Past, later, handed_on, HasAsked, HasQueried, HasWritten, IsOfProcess, MayBeDue, MayBeHandedOn, MayBeSaid, MayCome, MayPass}
-use Rattle.serving.proofs.Holding.{EachOld, Holds, each_pushed, each_same, holds_same}
+use Rattle.serving.specs.Turns.{Past, first_position, later, handed_on, HasAsked, HasQueried, HasWritten, IsOfProcess, MayBeDue, MayBeHandedOn, MayBeSaid, MayCome, MayPass}
+use Rattle.serving.proofs.Holding.{EachOld, Holds, IsNow, each_pushed, each_same, holds_same}
 use Rattle.serving.proofs.Leading.{serves_doing, serves_quiet}
 
 -- ---- anything may come, and be heard
@@ -33,14 +34,20 @@ none_passes past = All-nil (MayPass past)
 arrival_passes : (bytes : List ℕ) (past : Past) → All (MayPass past) (Arrived bytes ∷ [])
 arrival_passes bytes past = All-cons (MayPass past) (Arrived bytes) [] tt (All-nil (MayPass past))
 
-pub none_said : (past : Past) → All (MayBeSaid past) []
-none_said past = All-nil (MayBeSaid past)
+pub none_said : {S : Type 0} (storages : Ghosts S) (first : NodeState S) (past : Past) → All (MayBeSaid storages first past) []
+none_said storages first past = All-nil (MayBeSaid storages first past)
 
-line_said : (connection : ℕ) (text : List ℕ) (past : Past) → All (MayBeSaid past) (Heard connection text ∷ [])
-line_said connection text past = All-cons (MayBeSaid past) (Heard connection text) [] tt (All-nil (MayBeSaid past))
+line_said : {S : Type 0} (storages : Ghosts S) (connection : ℕ) (text : List ℕ) (first : NodeState S) (past : Past)
+    → All (MayBeSaid storages first past) (Heard connection text ∷ [])
+line_said storages connection text first past =
+    let P = MayBeSaid storages first past in
+    All-cons P (Heard connection text) [] tt (All-nil P)
 
-going_said : (connection : ℕ) (past : Past) → All (MayBeSaid past) (Went connection ∷ [])
-going_said connection past = All-cons (MayBeSaid past) (Went connection) [] tt (All-nil (MayBeSaid past))
+going_said : {S : Type 0} (storages : Ghosts S) (connection : ℕ) (first : NodeState S) (past : Past)
+    → All (MayBeSaid storages first past) (Went connection ∷ [])
+going_said storages connection first past =
+    let P = MayBeSaid storages first past in
+    All-cons P (Went connection) [] tt (All-nil P)
 
 -- ---- what was just written
 pub just_written : (connection : ℕ) (text : List ℕ) (asked : ClientLine) → IsClientLine text asked
@@ -59,19 +66,15 @@ just_asked connection text submission claim asks by client number = record {
   number = sym number;
 }
 
-just_from : (position : Option ℕ) (from : ℕ) → IfSome position (λ p. from ≡ p) → IfSome position (λ p. p ≡ from)
-just_from None from is = tt
-just_from (Some p) from is = sym is
-
 pub just_queried : (connection : ℕ) (text : List ℕ) (query : Query) (position : Option ℕ) (question : Question)
     → IsClientLine text (line.Query query position) → question.connection ≡ connection → question.query ≡ query
-    → IfSome position (λ p. question.from ≡ p) → HasQueried (Heard connection text ∷ []) question
+    → question.from ≡ first_position position → HasQueried (Heard connection text ∷ []) question
 just_queried connection text query position question asks by of from = record {
   position = position;
   written = subst (λ (c : ℕ). HasWritten (Heard connection text ∷ []) c (line.Query question.query position)) (sym by)
       (subst (λ (q : Query). HasWritten (Heard connection text ∷ []) connection (line.Query q position)) (sym of)
       (just_written connection text (line.Query query position) asks));
-  from = just_from position question.from from;
+  from = from;
 }
 
 pub just_handed_on : (connection : ℕ) (text : List ℕ) (submission : Submission) (client number : ℕ)
@@ -107,7 +110,7 @@ module _ {S : Type 0} (storages : Ghosts S) where
   pub serves_passing_over : (old new : ServerState S) (bytes : List ℕ) → new.life ≡ old.life → new.waiting ≡ old.waiting
       → new.requests ≡ old.requests → Serves storages old (Arrived bytes ∷ []) [] new
   serves_passing_over old new bytes life waiting requests =
-      serves_quiet storages old new (Arrived bytes ∷ []) [] life (arrival_passes bytes) none_said
+      serves_quiet storages old new (Arrived bytes ∷ []) [] life (arrival_passes bytes) (none_said storages)
       (holds_same [] old new waiting requests)
 
   -- a message
@@ -122,7 +125,7 @@ module _ {S : Type 0} (storages : Ghosts S) where
         nodes = nodes;
         frame = frame;
       }))
-      (arrival_passes bytes) none_said (holds_same [] old new waiting requests)
+      (arrival_passes bytes) (none_said storages) (holds_same [] old new waiting requests)
 
   -- a request that was handed on
   pub serves_handed_on : (old new : ServerState S) (text : List ℕ) (submission : Submission) (result : Result (Unit {0}) LifeFault)
@@ -138,7 +141,7 @@ module _ {S : Type 0} (storages : Ghosts S) where
             (Contains-push [] (Arrived (handed_on text)));
         asks = asks;
       }))
-      (arrival_passes (handed_on text)) none_said (holds_same [] old new waiting requests)
+      (arrival_passes (handed_on text)) (none_said storages) (holds_same [] old new waiting requests)
 
   -- ---- by itself
   pub serves_given : (old new : ServerState S) (given : Input) (result : Result (Unit {0}) LifeFault) → IsOfProcess given
@@ -147,23 +150,23 @@ module _ {S : Type 0} (storages : Ghosts S) where
   serves_given old new given result of does waiting requests =
       serves_doing storages (Took given) result old new [] [] does
       (λ answer first past is. of_process_comes first.id (later past (Took given answer ∷ []) nothing [] []) given of)
-      none_passes none_said (holds_same [] old new waiting requests)
+      none_passes (none_said storages) (holds_same [] old new waiting requests)
 
   -- ---- from clients
   -- a line of which nothing comes at once
   pub serves_line_heard : (old new : ServerState S) (connection : ℕ) (text : List ℕ) → new.life ≡ old.life
       → Holds (Heard connection text ∷ []) old new → Serves storages old [] (Heard connection text ∷ []) new
   serves_line_heard old new connection text life holds =
-      serves_quiet storages old new [] (Heard connection text ∷ []) life none_passes (line_said connection text) holds
+      serves_quiet storages old new [] (Heard connection text ∷ []) life none_passes (line_said storages connection text) holds
 
   pub serves_gone : (old new : ServerState S) (connection : ℕ) → new.life ≡ old.life → Holds (Went connection ∷ []) old new
       → Serves storages old [] (Went connection ∷ []) new
   serves_gone old new connection life holds =
-      serves_quiet storages old new [] (Went connection ∷ []) life none_passes (going_said connection) holds
+      serves_quiet storages old new [] (Went connection ∷ []) life none_passes (going_said storages connection) holds
 
   -- a line by which something more is due
   pub serves_owing : (old new : ServerState S) (connection : ℕ) (text : List ℕ) (what : Due) → new.life ≡ old.life
-      → MayBeDue (Heard connection text ∷ []) what
+      → MayBeDue (IsNow old) (Heard connection text ∷ []) what
       → new.waiting ≡ record old.waiting { due = old.waiting.due ++ what ∷ [] } → new.requests ≡ old.requests
       → Serves storages old [] (Heard connection text ∷ []) new
   serves_owing old new connection text what life may waiting requests =
@@ -171,7 +174,7 @@ module _ {S : Type 0} (storages : Ghosts S) where
       serves_line_heard old new connection text life (record {
         claims = each_same (HasAsked talk) old.waiting.claims new.waiting.claims (ap (λ w. w.claims) waiting);
         questions = each_same (HasQueried talk) old.waiting.questions new.waiting.questions (ap (λ w. w.questions) waiting);
-        due = each_pushed (MayBeDue talk) old.waiting.due new.waiting.due what may (ap (λ w. w.due) waiting);
+        due = each_pushed (MayBeDue (IsNow old) talk) old.waiting.due new.waiting.due what may (ap (λ w. w.due) waiting);
         requests = each_same (MayBeHandedOn talk) old.requests new.requests requests;
       })
 
@@ -192,4 +195,4 @@ module _ {S : Type 0} (storages : Ghosts S) where
           asks = asks;
         };
       }))
-      none_passes (line_said connection text) holds
+      none_passes (line_said storages connection text) holds

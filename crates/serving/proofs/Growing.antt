@@ -1,13 +1,15 @@
 -- What a process may let out and take, it may later as well.
-use Rattle.std.proofs.Common.{ℕ, List, ◌++◌, Contains, inl, inr, sym, subst}
+use Rattle.std.proofs.Common.{◌≡◌, ◌∙◌, ℕ, List, ◌++◌, Contains, ap, append_assoc, inl, inr, refl, sym, subst}
 use Rattle.std.specs.List.{flat_map}
 use Rattle.std.proofs.lemmas.Grind.{flat_map-append}
 use Rattle.std.proofs.lemmas.List.Elements.{Contains-append_left, Contains-append_right}
 use Rattle.wire.specs.declared.frames.envelope.Envelope.{Envelope}
 use Rattle.node_model.specs.declared.input.Input.{Input}
 use Rattle.node_model.specs.declared.input.Input.TheVariants as input
+use Rattle.node_model.specs.Nodes.{NodeState}
 use Rattle.node_model.specs.Replicas.{submission_of}
-use Rattle.world_model.specs.Lives.{Happening, Took, Killed, Asked, Opened, Loaded, sent_at}
+use Rattle.world_model.specs.Lives.{Happening, Took, Killed, Asked, Opened, Loaded, IsLife, sent_at}
+use Rattle.stable.specs.declared.stable.Stable.{Ghosts}
 use Rattle.life.specs.Telling.{ToldLists}
 use Rattle.clients.specs.declared.line.ClientLine.{ClientLine}
 use Rattle.clients.specs.declared.line.ClientLine.TheVariants as line
@@ -16,6 +18,7 @@ use Rattle.serving.specs.declared.claims.Claim.{Claim}
 use Rattle.serving.specs.declared.waiting.Due.{Due}
 use Rattle.serving.specs.declared.waiting.Due.TheVariants as due
 use Rattle.serving.specs.declared.waiting.Question.{Question}
+use Rattle.serving.specs.Knowing.{WasSo}
 use Rattle.serving.specs.Requesting.{RequestState}
 use Rattle.serving.specs.Tapes.{Carried, Sent, Arrived, Talk, Heard, Went, Told}
 use Rattle.serving.specs.Turns.{Past, later, HasWritten, HasAsked, HasQueried, IsHandedOnLine, IsPlain, refused, faulty, status, last}
@@ -64,19 +67,45 @@ on_line_in t u i bytes h = record {
 pub request_in : (t u : List Talk) → IsIn t u → (request : RequestState) → MayBeHandedOn t request → MayBeHandedOn u request
 request_in t u i request h = on_line_in t u i request.packet h
 
-pub plain_in : (t u : List Talk) → IsIn t u → (connection : ℕ) (text : List ℕ) → IsPlain t connection text → IsPlain u connection text
-plain_in t u i connection text (refused submission code written spelled) =
-    refused submission code (written_in t u i connection (line.Submit submission) written) spelled
-plain_in t u i connection text (faulty asked cause heard fault spelled) =
-    faulty asked cause (i.has (Heard connection asked) heard) fault spelled
-plain_in t u i connection text (status known written spelled) =
-    status known (written_in t u i connection line.Status written) spelled
-plain_in t u i connection text (last client number written spelled) =
-    last client number (written_in t u i connection (line.Last client) written) spelled
+-- so was each node that was so
+abbrev pub IsAmong : {S : Type 0} → (NodeState S → Type 0) → (NodeState S → Type 0) → Type 0
+IsAmong {S} Was Were = (n : NodeState S) → Was n → Were n
 
-pub due_in : (t u : List Talk) → IsIn t u → (what : Due) → MayBeDue t what → MayBeDue u what
-due_in t u i (due.Answer question) h = queried_in t u i question h
-due_in t u i (due.Line connection text) h = plain_in t u i connection text.items h
+pub plain_in : {S : Type 0} (Was Were : NodeState S → Type 0) → IsAmong Was Were → (t u : List Talk) → IsIn t u → (connection : ℕ)
+    (text : List ℕ) → IsPlain Was t connection text → IsPlain Were u connection text
+plain_in Was Were among t u i connection text (refused submission code written spelled) =
+    refused submission code (written_in t u i connection (line.Submit submission) written) spelled
+plain_in Was Were among t u i connection text (faulty asked cause heard fault spelled) =
+    faulty asked cause (i.has (Heard connection asked) heard) fault spelled
+plain_in Was Were among t u i connection text (status n known was is written spelled) =
+    status n known (among n was) is (written_in t u i connection line.Status written) spelled
+plain_in Was Were among t u i connection text (last n client number was is written spelled) =
+    last n client number (among n was) is (written_in t u i connection (line.Last client) written) spelled
+
+pub due_in : {S : Type 0} (Was Were : NodeState S → Type 0) → IsAmong Was Were → (t u : List Talk) → IsIn t u → (what : Due)
+    → MayBeDue Was t what → MayBeDue Were u what
+due_in Was Were among t u i (due.Answer question) h = queried_in t u i question h
+due_in Was Were among t u i (due.Line connection text) h = plain_in Was Were among t u i connection text.items h
+
+-- what was so once, was so when more had happened
+pub was_so_still : {S : Type 0} (storages : Ghosts S) (first : NodeState S) (history happened : List Happening)
+    → IsAmong (WasSo storages first history) (WasSo storages first (history ++ happened))
+was_so_still storages first history happened n h = record {
+  before = h.before;
+  after = h.after ++ happened;
+  parts = ap (λ (xs : List Happening). xs ++ happened) h.parts ∙ append_assoc h.before h.after happened;
+  leads = h.leads;
+}
+
+-- a node that all that happened led there was so
+pub is_so : {S : Type 0} (storages : Ghosts S) (first : NodeState S) (history happened : List Happening) (now : NodeState S)
+    → IsLife storages first history now → IsAmong (λ (n : NodeState S). n ≡ now) (WasSo storages first (history ++ happened))
+is_so {S} storages first history happened now life n is = record {
+  before = history;
+  after = happened;
+  parts = refl;
+  leads = subst (λ (m : NodeState S). IsLife storages first history m) (sym is) life;
+}
 
 -- ---- one past in another
 pub record Grows (old new : Past) : Type 0 where
@@ -110,8 +139,10 @@ passes_still p q g (Sent to bytes) (inl h) = inl (record {
 passes_still p q g (Sent to bytes) (inr h) = inr (on_line_in p.talk q.talk g.talk bytes h)
 passes_still p q g (Arrived bytes) h = h
 
-pub said_still : (p q : Past) → Grows p q → (x : Talk) → MayBeSaid p x → MayBeSaid q x
-said_still p q g (Told connection text) (inl h) = inl (record {
+pub said_still : {S : Type 0} (storages : Ghosts S) (first : NodeState S) (p q : Past)
+    → IsAmong (WasSo storages first p.history) (WasSo storages first q.history) → Grows p q → (x : Talk)
+    → MayBeSaid storages first p x → MayBeSaid storages first q x
+said_still storages first p q among g (Told connection text) (inl h) = inl (record {
   replied = h.replied;
   handed_out = g.replies.has h.replied h.handed_out;
   spelled = h.spelled;
@@ -120,7 +151,7 @@ said_still p q g (Told connection text) (inl h) = inl (record {
   client = h.client;
   number = h.number;
 })
-said_still p q g (Told connection text) (inr (inl h)) = inr (inl (record {
+said_still storages first p q among g (Told connection text) (inr (inl h)) = inr (inl (record {
   answered = h.answered;
   handed_out = g.answers.has h.answered h.handed_out;
   spelled = h.spelled;
@@ -128,9 +159,10 @@ said_still p q g (Told connection text) (inr (inl h)) = inr (inl (record {
   written = written_in p.talk q.talk g.talk connection (line.Query h.answered.query h.position) h.written;
   from = h.from;
 }))
-said_still p q g (Told connection text) (inr (inr h)) = inr (inr (plain_in p.talk q.talk g.talk connection text h))
-said_still p q g (Heard connection text) h = h
-said_still p q g (Went connection) h = h
+said_still storages first p q among g (Told connection text) (inr (inr h)) =
+    inr (inr (plain_in (WasSo storages first p.history) (WasSo storages first q.history) among p.talk q.talk g.talk connection text h))
+said_still storages first p q among g (Heard connection text) h = h
+said_still storages first p q among g (Went connection) h = h
 
 of_client_still : (p q : Past) → Grows p q → (submission : Submission) → IsOfClient p.talk submission → IsOfClient q.talk submission
 of_client_still p q g submission h = record {

@@ -2,6 +2,7 @@
 use Rattle.std.proofs.Common.{◌≡◌, ℕ, List, [], ◌∷◌, ◌++◌, ◌⊎◌, Bool, not, All, Contains, inl, inr, refl, ap}
 use Rattle.std.specs.List.{filter}
 use Rattle.std.proofs.lemmas.List.Elements.{All-contains, All-contains_itself, All-filter, All-push, All-same, All-weaker}
+use Rattle.node_model.specs.Nodes.{NodeState}
 use Rattle.serving.specs.declared.claims.Claim.{Claim}
 use Rattle.serving.specs.declared.waiting.Due.{Due}
 use Rattle.serving.specs.declared.waiting.Question.{Question}
@@ -42,18 +43,22 @@ pub filter_kept : {A : Type 0} (test : A → Bool) (xs : List A) → All (Contai
 filter_kept test xs = All-filter test (Contains xs) xs (All-contains_itself xs)
 
 -- ---- of a process
+-- its node is so
+abbrev pub IsNow : {S : Type 0} → ServerState S → NodeState S → Type 0
+IsNow s n = n ≡ s.life.node
+
 -- what waits at the new one waited at the old, or was asked in what was said
 pub record Holds {S : Type 0} (talk : List Talk) (old new : ServerState S) : Type 0 where
   pub claims : EachOld old.waiting.claims (HasAsked talk) new.waiting.claims
   pub questions : EachOld old.waiting.questions (HasQueried talk) new.waiting.questions
-  pub due : EachOld old.waiting.due (MayBeDue talk) new.waiting.due
+  pub due : EachOld old.waiting.due (MayBeDue (IsNow old) talk) new.waiting.due
   pub requests : EachOld old.requests (MayBeHandedOn talk) new.requests
 
 pub holds_less : {S : Type 0} (talk : List Talk) (old new : ServerState S) → KeepsLess old new → Holds talk old new
 holds_less talk old new h = record {
   claims = each_kept (HasAsked talk) old.waiting.claims new.waiting.claims h.claims;
   questions = each_kept (HasQueried talk) old.waiting.questions new.waiting.questions h.questions;
-  due = each_kept (MayBeDue talk) old.waiting.due new.waiting.due h.due;
+  due = each_kept (MayBeDue (IsNow old) talk) old.waiting.due new.waiting.due h.due;
   requests = each_kept (MayBeHandedOn talk) old.requests new.requests h.requests;
 }
 
@@ -62,7 +67,7 @@ pub holds_same : {S : Type 0} (talk : List Talk) (old new : ServerState S) → n
 holds_same talk old new waiting requests = record {
   claims = each_same (HasAsked talk) old.waiting.claims new.waiting.claims (ap (λ w. w.claims) waiting);
   questions = each_same (HasQueried talk) old.waiting.questions new.waiting.questions (ap (λ w. w.questions) waiting);
-  due = each_same (MayBeDue talk) old.waiting.due new.waiting.due (ap (λ w. w.due) waiting);
+  due = each_same (MayBeDue (IsNow old) talk) old.waiting.due new.waiting.due (ap (λ w. w.due) waiting);
   requests = each_same (MayBeHandedOn talk) old.requests new.requests requests;
 }
 
@@ -87,12 +92,12 @@ less_then a b c h k = record {
 }
 
 -- ---- what is added
-pub holds_due : {S : Type 0} (talk : List Talk) (old new : ServerState S) (what : Due) → MayBeDue talk what
+pub holds_due : {S : Type 0} (talk : List Talk) (old new : ServerState S) (what : Due) → MayBeDue (IsNow old) talk what
     → new.waiting ≡ record old.waiting { due = old.waiting.due ++ what ∷ [] } → new.requests ≡ old.requests → Holds talk old new
 holds_due talk old new what may waiting requests = record {
   claims = each_same (HasAsked talk) old.waiting.claims new.waiting.claims (ap (λ w. w.claims) waiting);
   questions = each_same (HasQueried talk) old.waiting.questions new.waiting.questions (ap (λ w. w.questions) waiting);
-  due = each_pushed (MayBeDue talk) old.waiting.due new.waiting.due what may (ap (λ w. w.due) waiting);
+  due = each_pushed (MayBeDue (IsNow old) talk) old.waiting.due new.waiting.due what may (ap (λ w. w.due) waiting);
   requests = each_same (MayBeHandedOn talk) old.requests new.requests requests;
 }
 
@@ -102,7 +107,7 @@ pub holds_claim : {S : Type 0} (talk : List Talk) (old new : ServerState S) (cla
 holds_claim talk old new claim asked waiting requests = record {
   claims = each_pushed (HasAsked talk) old.waiting.claims new.waiting.claims claim asked (ap (λ w. w.claims) waiting);
   questions = each_same (HasQueried talk) old.waiting.questions new.waiting.questions (ap (λ w. w.questions) waiting);
-  due = each_same (MayBeDue talk) old.waiting.due new.waiting.due (ap (λ w. w.due) waiting);
+  due = each_same (MayBeDue (IsNow old) talk) old.waiting.due new.waiting.due (ap (λ w. w.due) waiting);
   requests = requests;
 }
 

@@ -1,6 +1,6 @@
 -- A part of a turn leads from a process to another one.
 use Rattle.std.proofs.Common.{◌≡◌, ℕ, List, [], ◌∷◌, ◌++◌, Result, Ok, Err, Bool, true, false, All, Contains, sym, subst}
-use Rattle.std.proofs.Common.{append-nil, append_assoc, inl}
+use Rattle.std.proofs.Common.{append-nil, inl}
 use Rattle.std.specs.List.{flat_map}
 use Rattle.std.proofs.lemmas.List.Elements.{All-append, All-cons, All-head, All-nil, All-rest, All-same, All-weaker}
 use Rattle.stable.specs.declared.stable.Stable.{Ghosts}
@@ -15,45 +15,14 @@ use Rattle.life.specs.Telling.{ToldLists, joined, nothing}
 use Rattle.life.specs.declared.fault.LifeFault.{LifeFault}
 use Rattle.life.specs.declared.fault.LifeFault.TheVariants.{Memory, Node}
 use Rattle.life.proofs.TellingLemmas.{life_begins, told_goes_on}
+use Rattle.serving.specs.Knowing.{WasSo}
 use Rattle.serving.specs.Serving.{IsServing, ServerState, Serves, begun}
 use Rattle.serving.specs.Tapes.{Carried, Talk}
 use Rattle.serving.specs.Turns.{Past, later, HasAsked, HasQueried, MayBeDue, MayBeHandedOn, MayBeSaid, MayHappen, MayPass}
-use Rattle.serving.proofs.Growing.{asked_in, due_in, grows_later, happens_still, in_left, in_right, passes_still, queried_in, request_in, said_still}
-use Rattle.serving.proofs.Holding.{Holds, each_holds}
-
--- ---- pasts
-pub joined_nothing : (told : ToldLists) → joined told nothing ≡ told
-joined_nothing told = λ i. record {
-  frames = append-nil told.frames i;
-  learnt = append-nil told.learnt i;
-  replies = append-nil told.replies i;
-  answers = append-nil told.answers i;
-}
-
-joined_twice : (a b c : ToldLists) → joined (joined a b) c ≡ joined a (joined b c)
-joined_twice a b c = λ i. record {
-  frames = append_assoc a.frames b.frames c.frames i;
-  learnt = append_assoc a.learnt b.learnt c.learnt i;
-  replies = append_assoc a.replies b.replies c.replies i;
-  answers = append_assoc a.answers b.answers c.answers i;
-}
-
-pub later_nothing : (past : Past) → later past [] nothing [] [] ≡ past
-later_nothing past = λ i. record {
-  history = append-nil past.history i;
-  handed = joined_nothing past.handed i;
-  carried = append-nil past.carried i;
-  talk = append-nil past.talk i;
-}
-
-later_twice : (past : Past) (h1 h2 : List Happening) (o1 o2 : ToldLists) (c1 c2 : List Carried) (t1 t2 : List Talk)
-    → later (later past h1 o1 c1 t1) h2 o2 c2 t2 ≡ later past (h1 ++ h2) (joined o1 o2) (c1 ++ c2) (t1 ++ t2)
-later_twice past h1 h2 o1 o2 c1 c2 t1 t2 = λ i. record {
-  history = append_assoc past.history h1 h2 i;
-  handed = joined_twice past.handed o1 o2 i;
-  carried = append_assoc past.carried c1 c2 i;
-  talk = append_assoc past.talk t1 t2 i;
-}
+use Rattle.serving.proofs.Growing.{asked_in, due_in, grows_later, happens_still, in_left, in_right, is_so, passes_still, queried_in, request_in}
+use Rattle.serving.proofs.Growing.{said_still, was_so_still}
+use Rattle.serving.proofs.Holding.{Holds, IsNow, each_holds}
+use Rattle.serving.proofs.Pasts.{joined_nothing, later_nothing, later_twice}
 
 module _ {S : Type 0} (storages : Ghosts S) where
   -- ---- one after the other
@@ -84,14 +53,18 @@ module _ {S : Type 0} (storages : Ghosts S) where
       → ((first : NodeState S) (past : Past) → IsServing storages first past old
       → All (MayPass (later past happened out carried talk)) carried)
       → ((first : NodeState S) (past : Past) → IsServing storages first past old
-      → All (MayBeSaid (later past happened out carried talk)) talk)
+      → All (MayBeSaid storages first (later past happened out carried talk)) talk)
       → Holds talk old new → Serves storages old carried talk new
   serves_by old new happened out carried talk lives takes sends tells holds = record {
     leads = λ first past is.
         let after = later past happened out carried talk in
         let grows = grows_later past happened out carried talk in
         let before = in_left past.talk talk in
-        let since = in_right past.talk talk in (
+        let since = in_right past.talk talk in
+        let Was : NodeState S → Type 0 = WasSo storages first past.history in
+        let Were : NodeState S → Type 0 = WasSo storages first after.history in
+        let still = was_so_still storages first past.history happened in
+        let now = is_so storages first past.history happened old.life.node is.life.life in (
           happened,
           out,
           record {
@@ -101,15 +74,17 @@ module _ {S : Type 0} (storages : Ghosts S) where
                 is.takes) (takes first past is);
             sends = All-append (MayPass after) past.carried carried
                 (All-weaker (MayPass past) (MayPass after) (passes_still past after grows) past.carried is.sends) (sends first past is);
-            tells = All-append (MayBeSaid after) past.talk talk
-                (All-weaker (MayBeSaid past) (MayBeSaid after) (said_still past after grows) past.talk is.tells) (tells first past is);
+            tells = All-append (MayBeSaid storages first after) past.talk talk
+                (All-weaker (MayBeSaid storages first past) (MayBeSaid storages first after) (said_still storages first past after still grows)
+                past.talk is.tells) (tells first past is);
             claims = each_holds (HasAsked past.talk) (HasAsked talk) (HasAsked after.talk) old.waiting.claims new.waiting.claims
                 (asked_in past.talk after.talk before) (asked_in talk after.talk since) is.claims holds.claims;
             questions = each_holds (HasQueried past.talk) (HasQueried talk) (HasQueried after.talk) old.waiting.questions
                 new.waiting.questions (queried_in past.talk after.talk before) (queried_in talk after.talk since) is.questions
                 holds.questions;
-            due = each_holds (MayBeDue past.talk) (MayBeDue talk) (MayBeDue after.talk) old.waiting.due new.waiting.due
-                (due_in past.talk after.talk before) (due_in talk after.talk since) is.due holds.due;
+            due = each_holds (MayBeDue Was past.talk) (MayBeDue (IsNow old) talk) (MayBeDue Were after.talk) old.waiting.due
+                new.waiting.due (due_in Was Were still past.talk after.talk before) (due_in (IsNow old) Were now talk after.talk since)
+                is.due holds.due;
             requests = each_holds (MayBeHandedOn past.talk) (MayBeHandedOn talk) (MayBeHandedOn after.talk) old.requests new.requests
                 (request_in past.talk after.talk before) (request_in talk after.talk since) is.requests holds.requests;
           },
@@ -134,14 +109,14 @@ module _ {S : Type 0} (storages : Ghosts S) where
   -- ---- parts of a turn in which a life hands out nothing
   -- nothing happens to the node
   pub serves_quiet : (old new : ServerState S) (carried : List Carried) (talk : List Talk) → new.life ≡ old.life
-      → ((past : Past) → All (MayPass past) carried) → ((past : Past) → All (MayBeSaid past) talk) → Holds talk old new
+      → ((past : Past) → All (MayPass past) carried) → ((first : NodeState S) (past : Past) → All (MayBeSaid storages first past) talk) → Holds talk old new
       → Serves storages old carried talk new
   serves_quiet old new carried talk same sends tells holds =
       serves_by old new [] nothing carried talk
       (λ first past is. life_stays first past.history past.handed old.life new.life same is.life)
       (λ first past is. All-nil (MayHappen first.id (later past [] nothing carried talk)))
       (λ first past is. sends (later past [] nothing carried talk))
-      (λ first past is. tells (later past [] nothing carried talk))
+      (λ first past is. tells first (later past [] nothing carried talk))
       holds
 
   -- this happens to it
@@ -149,7 +124,7 @@ module _ {S : Type 0} (storages : Ghosts S) where
       → GoesOn storages old.life what new.life
       → ((first : NodeState S) (past : Past) → IsServing storages first past old
       → MayHappen first.id (later past (what ∷ []) nothing carried talk) what)
-      → ((past : Past) → All (MayPass past) carried) → ((past : Past) → All (MayBeSaid past) talk) → Holds talk old new
+      → ((past : Past) → All (MayPass past) carried) → ((first : NodeState S) (past : Past) → All (MayBeSaid storages first past) talk) → Holds talk old new
       → Serves storages old carried talk new
   serves_happening old new what carried talk goes may sends tells holds =
       serves_by old new (what ∷ []) nothing carried talk
@@ -157,7 +132,7 @@ module _ {S : Type 0} (storages : Ghosts S) where
       (λ first past is. let P = MayHappen first.id (later past (what ∷ []) nothing carried talk) in
       All-cons P what [] (may first past is) (All-nil P))
       (λ first past is. sends (later past (what ∷ []) nothing carried talk))
-      (λ first past is. tells (later past (what ∷ []) nothing carried talk))
+      (λ first past is. tells first (later past (what ∷ []) nothing carried talk))
       holds
 
   -- it does something, or memory is wanting
@@ -166,7 +141,7 @@ module _ {S : Type 0} (storages : Ghosts S) where
       → Does storages old.life happening result new.life
       → ((answer : Result A NodeFault) (first : NodeState S) (past : Past) → IsServing storages first past old
       → MayHappen first.id (later past (happening answer ∷ []) nothing carried talk) (happening answer))
-      → ((past : Past) → All (MayPass past) carried) → ((past : Past) → All (MayBeSaid past) talk) → Holds talk old new
+      → ((past : Past) → All (MayPass past) carried) → ((first : NodeState S) (past : Past) → All (MayBeSaid storages first past) talk) → Holds talk old new
       → Serves storages old carried talk new
   serves_doing happening (Ok done) old new carried talk does may sends tells holds =
       serves_happening old new (happening (Ok does.0)) carried talk does.1 (may (Ok does.0)) sends tells holds
@@ -208,17 +183,17 @@ module _ {S : Type 0} (storages : Ghosts S) where
       let sent = first_was_sent first past.history past.handed old.life new.life answer is.life takes in
       All-cons P what [] (inl (((grows_later past (what ∷ []) nothing [] []).sent first.id).has takes.first sent)) (All-nil P))
       (λ first past is. All-nil (MayPass (later past (what ∷ []) nothing [] [])))
-      (λ first past is. All-nil (MayBeSaid (later past (what ∷ []) nothing [] [])))
+      (λ first past is. All-nil (MayBeSaid storages first (later past (what ∷ []) nothing [] [])))
       holds
 
   pub serves_taking_back : (result : Result Bool LifeFault) (old new : ServerState S) → TakesBack storages old.life result new.life
       → Holds [] old new → Serves storages old [] [] new
   serves_taking_back (Ok true) old new takes holds = serves_first old new (Ok takes.0) takes.1 holds
   serves_taking_back (Ok false) old new takes holds =
-      serves_quiet old new [] [] takes.1 (λ past. All-nil (MayPass past)) (λ past. All-nil (MayBeSaid past)) holds
+      serves_quiet old new [] [] takes.1 (λ past. All-nil (MayPass past)) (λ first past. All-nil (MayBeSaid storages first past)) holds
   serves_taking_back (Err (Node fault)) old new takes holds = serves_first old new (Err fault) takes holds
   serves_taking_back (Err Memory) old new same holds =
-      serves_quiet old new [] [] same (λ past. All-nil (MayPass past)) (λ past. All-nil (MayBeSaid past)) holds
+      serves_quiet old new [] [] same (λ past. All-nil (MayPass past)) (λ first past. All-nil (MayBeSaid storages first past)) holds
 
   -- ---- its beginning
   pub born_serves : (id count : ℕ) (storage : S) (s : ServerState S) → IsBorn storages id count storage s.life
@@ -226,16 +201,17 @@ module _ {S : Type 0} (storages : Ghosts S) where
       → (loaded : Result (Unit {0}) NodeFault) × IsServing storages (down_over id count storage) (begun loaded) s
   born_serves id count storage s born claims questions due requests =
       let begins = life_begins storages id count storage s.life born in
-      let past = begun begins.0 in (
+      let past = begun begins.0 in
+      let Was : NodeState S → Type 0 = WasSo storages (down_over id count storage) past.history in (
         begins.0,
         record {
           life = begins.1;
           takes = All-cons (MayHappen id past) (Loaded begins.0) [] tt (All-nil (MayHappen id past));
           sends = All-nil (MayPass past);
-          tells = All-nil (MayBeSaid past);
+          tells = All-nil (MayBeSaid storages (down_over id count storage) past);
           claims = subst (λ xs. All (HasAsked []) xs) (sym claims) (All-nil (HasAsked []));
           questions = subst (λ xs. All (HasQueried []) xs) (sym questions) (All-nil (HasQueried []));
-          due = subst (λ xs. All (MayBeDue []) xs) (sym due) (All-nil (MayBeDue []));
+          due = subst (λ xs. All (MayBeDue Was []) xs) (sym due) (All-nil (MayBeDue Was []));
           requests = subst (λ xs. All (MayBeHandedOn []) xs) (sym requests) (All-nil (MayBeHandedOn []));
         },
       )

@@ -1,10 +1,9 @@
 -- What a process lets out is what it may.
 use Rattle.std.proofs.Common.{◌≡◌, ◌≤◌, ℕ, List, [], ◌∷◌, ◌++◌, Option, Some, None, IfSome, All, Contains, refl, sym, ◌∙◌, subst, inl, inr}
-use Rattle.std.proofs.Common.{append-nil, length, take, drop}
-use Rattle.std.proofs.Math.Seq.{take-append_seam, drop-append_seam, get_or-append_seam}
+use Rattle.std.proofs.Common.{append-nil}
 use Rattle.std.specs.Global.{Vec}
-use Rattle.std.proofs.lemmas.List.Elements.{All-append, All-cons, All-contains, All-contains_itself, All-drop, All-head, All-nil, All-push}
-use Rattle.std.proofs.lemmas.List.Elements.{All-same, All-tail, All-take, All-weaker}
+use Rattle.std.proofs.lemmas.List.Elements.{All-append, All-cons, All-contains, All-contains_itself, All-head, All-nil, All-push}
+use Rattle.std.proofs.lemmas.List.Elements.{All-tail, All-weaker}
 use Rattle.std.proofs.lemmas.List.Elements.{Contains-append_right}
 use Rattle.stable.specs.declared.stable.Stable.{Ghosts}
 use Rattle.node_model.specs.Nodes.{NodeState}
@@ -13,35 +12,29 @@ use Rattle.world_model.specs.declared.lists.Answered.{Answered}
 use Rattle.life.specs.Lives.{IsLifeOf, LifeState}
 use Rattle.life.specs.Telling.{ToldLists, joined, nothing}
 use Rattle.life.proofs.TellingLemmas.{told_hands_out}
-use Rattle.serving.specs.Outgoing.{IsFrameOf, IsPacketOf, IsReplyIn, IsTextTo, KeepsLess}
+use Rattle.serving.specs.Knowing.{WasSo}
+use Rattle.serving.specs.Outgoing.{IsFrameOf, IsReplyIn, IsTextTo, KeepsLess}
 use Rattle.serving.specs.Serving.{IsServing, ServerState, Serves, asking}
 use Rattle.serving.specs.Tapes.{Carried, Sent, Arrived, Talk, Heard, Went, Told}
-use Rattle.std.specs.List.{HoldsAt}
-use Rattle.std.proofs.Math.ListN.{get_or}
-use Rattle.serving.specs.Requesting.{HandsOnFirst, RequestState}
-use Rattle.serving.specs.Turns.{Past, later, HasAsked, HasQueried, HasWritten, IsHandedOnLine, IsPlain, MayBeDue, MayBeHandedOn, MayBeSaid, MayHappen, MayPass}
+use Rattle.serving.specs.Requesting.{RequestState}
+use Rattle.serving.specs.Turns.{Past, first_position, later, HasAsked, HasQueried, HasWritten, IsPlain, MayBeDue, MayBeSaid, MayHappen, MayPass}
 use Rattle.serving.specs.Waitings.{IsFirstRipe, WaitingState}
 use Rattle.serving.specs.declared.waiting.Due.{Due}
 use Rattle.serving.specs.declared.waiting.Due.TheVariants as due
 use Rattle.serving.specs.declared.waiting.Question.{Question}
 use Rattle.clients.specs.declared.line.ClientLine.TheVariants as line
 use Rattle.store.specs.declared.query.Query.{Query}
-use Rattle.serving.proofs.Growing.{asked_in, in_left, on_line_in, plain_in, queried_in}
-use Rattle.serving.proofs.Holding.{holds_less, holds_same}
-use Rattle.serving.proofs.Leading.{later_nothing, life_stays, serves_by, serves_then}
-
--- ---- lists
-All-append_first : {A : Type 0} (P : A → Type 0) (xs ys : List A) → All P (xs ++ ys) → All P xs
-All-append_first P xs ys h = All-same P xs (take (length xs) (xs ++ ys)) (sym (take-append_seam xs ys)) (All-take P (length xs) (xs ++ ys) h)
-
-All-append_last : {A : Type 0} (P : A → Type 0) (xs ys : List A) → All P (xs ++ ys) → All P ys
-All-append_last P xs ys h = All-same P ys (drop (length xs) (xs ++ ys)) (sym (drop-append_seam xs ys)) (All-drop P (length xs) (xs ++ ys) h)
+use Rattle.serving.proofs.Growing.{asked_in, in_left, plain_in, queried_in, was_so_still}
+use Rattle.serving.proofs.Holding.{holds_less}
+use Rattle.serving.proofs.Leading.{life_stays, serves_by}
+use Rattle.serving.proofs.Pasts.{later_nothing}
+use Rattle.serving.proofs.Parts.{All-append_first, All-append_last}
 
 -- ---- one by one
 -- a position that was named is no later than one that isn't below it
-no_later : (named : Option ℕ) (from position : ℕ) → IfSome named (λ p. p ≡ from) → from ≤ position → IfSome named (λ p. p ≤ position)
+no_later : (named : Option ℕ) (from position : ℕ) → from ≡ first_position named → from ≤ position → IfSome named (λ p. p ≤ position)
 no_later None from position is h = tt
-no_later (Some p) from position is h = subst (λ (n : ℕ). n ≤ position) (sym is) h
+no_later (Some p) from position is h = subst (λ (n : ℕ). n ≤ position) is h
 
 -- a frame of those that the life hands out now
 frame_passes : (past : Past) (happened : List Happening) (out : ToldLists) (carried : List Carried) (talk : List Talk) (x : Carried)
@@ -55,9 +48,10 @@ frame_passes past happened out carried talk (Sent to bytes) h = inl (record {
 frame_passes past happened out carried talk (Arrived bytes) h = absurd h
 
 -- a reply of those, to who waits for it
-reply_is_said : (past : Past) (happened : List Happening) (out : ToldLists) (carried : List Carried) (talk : List Talk) (claims : _)
-    → All (HasAsked past.talk) claims → (x : Talk) → IsReplyIn out.replies claims x → MayBeSaid (later past happened out carried talk) x
-reply_is_said past happened out carried talk claims asked (Told connection text) h =
+reply_is_said : {S : Type 0} (storages : Ghosts S) (first : NodeState S) (past : Past) (happened : List Happening) (out : ToldLists) (carried : List Carried) (talk : List Talk) (claims : _)
+    → All (HasAsked past.talk) claims → (x : Talk) → IsReplyIn out.replies claims x
+    → MayBeSaid storages first (later past happened out carried talk) x
+reply_is_said storages first past happened out carried talk claims asked (Told connection text) h =
     let own : HasAsked past.talk h.claim = All-contains (HasAsked past.talk) claims h.claim asked h.waits in
     let now = asked_in past.talk (past.talk ++ talk) (in_left past.talk talk) h.claim own in
     inl (record {
@@ -69,15 +63,15 @@ reply_is_said past happened out carried talk claims asked (Told connection text)
       client = now.client ∙ h.client;
       number = now.number ∙ h.number;
     })
-reply_is_said past happened out carried talk claims asked (Heard connection text) h = absurd h
-reply_is_said past happened out carried talk claims asked (Went connection) h = absurd h
+reply_is_said storages first past happened out carried talk claims asked (Heard connection text) h = absurd h
+reply_is_said storages first past happened out carried talk claims asked (Went connection) h = absurd h
 
 -- the answer to a query, to the connection that asked it
-text_is_said : (past : Past) (out : ToldLists) (talk : List Talk) (question : Question) (answered : Answered)
+text_is_said : {S : Type 0} (storages : Ghosts S) (first : NodeState S) (past : Past) (out : ToldLists) (talk : List Talk) (question : Question) (answered : Answered)
     → HasQueried past.talk question → Contains out.answers answered → answered.query ≡ question.query
     → question.from ≤ answered.position → (x : Talk) → IsTextTo question.connection answered x
-    → MayBeSaid (later past [] out [] talk) x
-text_is_said past out talk question answered asked listed query from (Told connection text) h =
+    → MayBeSaid storages first (later past [] out [] talk) x
+text_is_said storages first past out talk question answered asked listed query from (Told connection text) h =
     let own = queried_in past.talk (past.talk ++ talk) (in_left past.talk talk) question asked in
     let written : HasWritten (past.talk ++ talk) connection (line.Query answered.query own.position) =
     subst (λ (c : ℕ). HasWritten (past.talk ++ talk) c (line.Query answered.query own.position)) (sym h.0)
@@ -90,8 +84,8 @@ text_is_said past out talk question answered asked listed query from (Told conne
       written = written;
       from = no_later own.position question.from answered.position own.from from;
     }))
-text_is_said past out talk question answered asked listed query from (Heard connection text) h = absurd h
-text_is_said past out talk question answered asked listed query from (Went connection) h = absurd h
+text_is_said storages first past out talk question answered asked listed query from (Heard connection text) h = absurd h
+text_is_said storages first past out talk question answered asked listed query from (Went connection) h = absurd h
 
 module _ {S : Type 0} (storages : Ghosts S) where
   -- ---- what is held goes out
@@ -114,13 +108,13 @@ module _ {S : Type 0} (storages : Ghosts S) where
       (λ first past is'. All-nil (MayHappen first.id (later past [] out carried talk)))
       (λ first past is'. All-weaker (IsFrameOf out.frames) (MayPass (later past [] out carried talk))
       (frame_passes past [] out carried talk) carried frames)
-      (λ first past is'. All-weaker (IsReplyIn out.replies old.waiting.claims) (MayBeSaid (later past [] out carried talk))
-      (reply_is_said past [] out carried talk old.waiting.claims is'.claims) talk replies)
+      (λ first past is'. All-weaker (IsReplyIn out.replies old.waiting.claims) (MayBeSaid storages first (later past [] out carried talk))
+      (reply_is_said storages first past [] out carried talk old.waiting.claims is'.claims) talk replies)
       (holds_less talk old new less)
 
   -- ---- what waits is told, or waits on
   -- a process that waits otherwise is serving as well
-  serves_still : (old new : ServerState S)
+  pub serves_still : (old new : ServerState S)
       → ((first : NodeState S) (past : Past) → IsServing storages first past old → IsServing storages first past new)
       → Serves storages old [] [] new
   serves_still old new still = record {
@@ -141,8 +135,8 @@ module _ {S : Type 0} (storages : Ghosts S) where
         tells = is.tells;
         claims = is.claims;
         questions = All-push (HasQueried past.talk) old.waiting.questions question is.questions
-            (All-head (MayBeDue past.talk) (due.Answer question) old.waiting.due is.due);
-        due = All-tail (MayBeDue past.talk) (due.Answer question) old.waiting.due is.due;
+            (All-head (MayBeDue (WasSo storages first past.history) past.talk) (due.Answer question) old.waiting.due is.due);
+        due = All-tail (MayBeDue (WasSo storages first past.history) past.talk) (due.Answer question) old.waiting.due is.due;
         requests = is.requests;
       })
 
@@ -166,7 +160,7 @@ module _ {S : Type 0} (storages : Ghosts S) where
         questions = subst (λ (xs : List Question). All P xs) (sym ripe.rest)
             (All-append P ripe.before ripe.after (All-append_first P ripe.before (question ∷ ripe.after) all)
             (All-tail P question ripe.after after));
-        due = All-cons (MayBeDue past.talk) (due.Answer question) old.waiting.due (All-head P question ripe.after after) is.due;
+        due = All-cons (MayBeDue (WasSo storages first past.history) past.talk) (due.Answer question) old.waiting.due (All-head P question ripe.after after) is.due;
         requests = is.requests;
       })
 
@@ -182,12 +176,14 @@ module _ {S : Type 0} (storages : Ghosts S) where
       (λ first past is. All-nil (MayHappen first.id (later past [] nothing [] talk)))
       (λ first past is. All-nil (MayPass (later past [] nothing [] talk)))
       (λ first past is.
-      let plain : IsPlain past.talk connection text.items =
-      All-head (MayBeDue past.talk) (due.Line connection text) others
-      (subst (λ (xs : List Due). All (MayBeDue past.talk) xs) is' is.due) in
-      let P = MayBeSaid (later past [] nothing [] talk) in
+      let after = later past [] nothing [] talk in
+      let Was : NodeState S → Type 0 = WasSo storages first past.history in
+      let plain : IsPlain Was past.talk connection text.items =
+      All-head (MayBeDue Was past.talk) (due.Line connection text) others
+      (subst (λ (xs : List Due). All (MayBeDue Was past.talk) xs) is' is.due) in
+      let P = MayBeSaid storages first after in
       All-cons P (Told connection text.items) []
-      (inr (inr (plain_in past.talk (past.talk ++ talk) (in_left past.talk talk) connection text.items plain))) (All-nil P))
+      (inr (inr (plain_in Was (WasSo storages first after.history) (was_so_still storages first past.history []) past.talk (past.talk ++ talk) (in_left past.talk talk) connection text.items plain))) (All-nil P))
       (holds_less talk old new (record {
         claims = All-contains_itself old.waiting.claims;
         questions = All-contains_itself old.waiting.questions;
@@ -227,67 +223,7 @@ module _ {S : Type 0} (storages : Ghosts S) where
       (λ first past is'. All-nil (MayPass (later past [] out [] talk)))
       (λ first past is'.
       let asked : HasQueried past.talk question =
-      All-head (MayBeDue past.talk) (due.Answer question) mid.waiting.due is'.due in
-      All-weaker (IsTextTo question.connection answered) (MayBeSaid (later past [] out [] talk))
-      (text_is_said past out talk question answered asked listed query from) talk texts)
+      All-head (MayBeDue (WasSo storages first past.history) past.talk) (due.Answer question) mid.waiting.due is'.due in
+      All-weaker (IsTextTo question.connection answered) (MayBeSaid storages first (later past [] out [] talk))
+      (text_is_said storages first past out talk question answered asked listed query from) talk texts)
       (holds_less talk (asking mid question) new (less_due mid question new waiting requests))
-
-  -- ---- requests are handed on
-  handed_now : (old : ServerState S) (requests : List RequestState) (now place : ℕ) → HandsOnFirst now place old.requests requests
-      → Serves storages old [] [] (record old { requests = requests })
-  handed_now old requests now place h =
-      serves_still old (record old { requests = requests })
-      (λ first past is.
-      let P = MayBeHandedOn past.talk in
-      let all : All P (h.before ++ h.request ∷ h.after) = subst (λ (xs : List RequestState). All P xs) h.was is.requests in
-      let after : All P (h.request ∷ h.after) = All-append_last P h.before (h.request ∷ h.after) all in
-      let again = record h.request { handed_on = Some now } in
-      record {
-        life = is.life;
-        takes = is.takes;
-        sends = is.sends;
-        tells = is.tells;
-        claims = is.claims;
-        questions = is.questions;
-        due = is.due;
-        requests = subst (λ (xs : List RequestState). All P xs) (sym h.is)
-            (All-append P h.before (again ∷ h.after) (All-append_first P h.before (h.request ∷ h.after) all)
-            (All-cons P again h.after (All-head P h.request h.after after) (All-tail P h.request h.after after)));
-      })
-
-  packet_passes : (past : Past) (carried : List Carried) (packet : List ℕ) → IsHandedOnLine past.talk packet → (x : Carried)
-      → IsPacketOf packet x → MayPass (later past [] nothing carried []) x
-  packet_passes past carried packet line (Sent to bytes) is =
-      inr (on_line_in past.talk (past.talk ++ []) (in_left past.talk []) bytes
-      (subst (λ (b : List ℕ). IsHandedOnLine past.talk b) (sym is) line))
-  packet_passes past carried packet line (Arrived bytes) h = absurd h
-
-  packets_pass : (s : ServerState S) (place : ℕ) (request : RequestState) (packet : List ℕ) (carried : List Carried)
-      → Contains s.requests request → packet ≡ request.packet → All (IsPacketOf packet) carried → Serves storages s carried [] s
-  packets_pass s place request packet carried listed is all =
-      serves_by storages s s [] nothing carried []
-      (λ first past is'. life_stays storages first past.history past.handed s.life s.life refl is'.life)
-      (λ first past is'. All-nil (MayHappen first.id (later past [] nothing carried [])))
-      (λ first past is'.
-      let own : MayBeHandedOn past.talk request = All-contains (MayBeHandedOn past.talk) s.requests request is'.requests listed in
-      let line : IsHandedOnLine past.talk packet = subst (λ (b : List ℕ). IsHandedOnLine past.talk b) (sym is) own in
-      All-weaker (IsPacketOf packet) (MayPass (later past [] nothing carried [])) (packet_passes past carried packet line) carried all)
-      (λ first past is'. All-nil (MayBeSaid (later past [] nothing carried [])))
-      (holds_same [] s s refl refl)
-
-  pub serves_handing_on : (old : ServerState S) (requests : List RequestState) (now place : ℕ) (packet : List ℕ) (carried : List Carried)
-      → HandsOnFirst now place old.requests requests → HoldsAt (λ (r : RequestState). packet ≡ r.packet) requests place
-      → All (IsPacketOf packet) carried → Serves storages old carried [] (record old { requests = requests })
-  serves_handing_on old requests now place packet carried h at all =
-      let again = record h.request { handed_on = Some now } in
-      let new = record old { requests = requests } in
-      let here : get_or requests place again ≡ again =
-      subst (λ (xs : List RequestState). get_or xs place again ≡ again) (sym h.is)
-      (subst (λ (n : ℕ). get_or (h.before ++ again ∷ h.after) n again ≡ again) h.at_place (get_or-append_seam h.before again h.after again)) in
-      let listed : Contains requests again =
-      subst (λ (xs : List RequestState). Contains xs again) (sym h.is)
-      (Contains-append_right h.before (again ∷ h.after) again (All-head (Contains (again ∷ h.after)) again h.after
-      (All-contains_itself (again ∷ h.after)))) in
-      let is : packet ≡ again.packet = subst (λ (r : RequestState). packet ≡ r.packet) here (at again) in
-      serves_then storages old new new [] carried [] [] (handed_now old requests now place h)
-      (packets_pass new place again packet carried listed is all)

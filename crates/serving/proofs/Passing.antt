@@ -26,6 +26,13 @@ module _ {T A : Type 0} (tape : T → List A) (Tells : T → Type 0) where
     passed_ = λ tells. is tells ∙ ap (λ (xs : List A). tape a ++ xs) same;
   }
 
+  -- and then so, as a call's clauses have it
+  pub passes_as_more : (a b c : T) (one two both : List A) → HasPassed tape Tells a one b → (Tells c → tape c ≡ tape b ++ two)
+      → (Tells c → Tells b) → both ≡ one ++ two → HasPassed tape Tells a both c
+  passes_as_more a b c one two both h is told same =
+      let all = passes_then a b c one two h (record { told = told; passed_ = is }) in
+      record { told = all.told; passed_ = λ tells. all.passed_ tells ∙ ap (λ (xs : List A). tape a ++ xs) (sym same) }
+
   -- ---- nothing but what is so
   module _ (IsSo : A → Type 0) where
     pub only_none : (t : T) → PassesOnly tape Tells IsSo t t

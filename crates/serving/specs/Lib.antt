@@ -1,13 +1,17 @@
 pub mod Claiming
 pub mod Clusters
 pub mod HandingOn
+pub mod Knowing
 pub mod Outgoing
+pub mod Owing
 pub mod Patiences
 pub mod Recovery
 pub mod Refusals
 pub mod Requesting
 pub mod Seen
 pub mod Serving
+pub mod Staying
+pub mod Submitting
 pub mod Tapes
 pub mod Ticking
 pub mod Timings

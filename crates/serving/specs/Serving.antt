@@ -1,22 +1,20 @@
 -- A process that serves a node, over all that it did so far.
 --
 -- Nothing leaves it that its life didn't hand out, and that hands out only what steps of the node told, whose puts were answered.
-use Rattle.std.specs.Prelude.{◌≡◌, ℕ, List, [], ◌∷◌, All, Result, MatchOption}
-use Rattle.sessions.specs.Machines.{last_number}
-use Rattle.sessions.specs.Sessions.{session_of}
+use Rattle.std.specs.Prelude.{Bool, ◌||◌, List, [], ◌∷◌, All, Result}
 use Rattle.stable.specs.declared.stable.Stable.{Ghosts}
 use Rattle.node_model.specs.declared.fault.NodeFault.{NodeFault}
 use Rattle.node_model.specs.Nodes.{NodeState}
-use Rattle.node_model.specs.Replicas.{position}
 use Rattle.world_model.specs.Lives.{Happening, Loaded}
 use Rattle.life.specs.Lives.{IsLifeOf, LifeState}
 use Rattle.life.specs.Telling.{ToldLists, nothing}
 use Rattle.serving.specs.declared.waiting.Due.TheVariants as due
 use Rattle.serving.specs.declared.waiting.Question.{Question}
+use Rattle.serving.specs.Knowing.{WasSo}
 use Rattle.serving.specs.Requesting.{RequestState}
 use Rattle.serving.specs.Tapes.{Carried, Talk, HasPassed}
 use Rattle.serving.specs.Turns.{Past, later, HasAsked, HasQueried, MayBeDue, MayBeHandedOn, MayBeSaid, MayHappen, MayPass}
-use Rattle.serving.specs.Waitings.{WaitingState}
+use Rattle.serving.specs.Waitings.{WaitingState, has_any}
 
 pub record ServerState (S : Type 0) : Type 0 where
   pub life : LifeState S
@@ -24,6 +22,10 @@ pub record ServerState (S : Type 0) : Type 0 where
   pub waiting : WaitingState
   -- the requests of its clients that it hands on
   pub requests : List RequestState
+
+-- a request waits: a connection for its reply, or it itself to be handed on, whose client may be gone
+abbrev pub has_requests : {S : Type 0} → ServerState S → Bool
+has_requests s = has_any s.waiting.claims || has_any s.requests
 
 -- ---- a process so far
 -- from the first state of its node it did this, and so it is
@@ -33,11 +35,11 @@ pub record IsServing {S : Type 0} (storages : Ghosts S) (first : NodeState S) (p
   pub takes : All (MayHappen first.id past) past.history
   -- it sent nothing else, and told its clients nothing else
   pub sends : All (MayPass past) past.carried
-  pub tells : All (MayBeSaid past) past.talk
+  pub tells : All (MayBeSaid storages first past) past.talk
   -- each connection that waits asked for what it waits for
   pub claims : All (HasAsked past.talk) now.waiting.claims
   pub questions : All (HasQueried past.talk) now.waiting.questions
-  pub due : All (MayBeDue past.talk) now.waiting.due
+  pub due : All (MayBeDue (WasSo storages first past.history) past.talk) now.waiting.due
   pub requests : All (MayBeHandedOn past.talk) now.requests
 
 -- a process that has only begun
@@ -86,13 +88,3 @@ pub record PassesOnly {T A : Type 0} (tape : T → List A) (Tells : T → Type 0
   pub passed : List A
   pub each : All IsSo passed
   pub passes : HasPassed tape Tells old passed new
-
--- ---- what a node tells of itself
--- its position: 0 while it is down
-abbrev pub IsPosition : {S : Type 0} → NodeState S → ℕ → Type 0
-IsPosition n number = MatchOption n.up (number ≡ 0) (λ m. number ≡ position m)
-
--- the number of the client's last request that a node has executed and that counted: 0 where none has, and while it is down
-abbrev pub IsLastNumber : {S : Type 0} → NodeState S → ℕ → ℕ → Type 0
-IsLastNumber n client number =
-    MatchOption n.up (number ≡ 0) (λ m. number ≡ last_number (session_of m.machine.sessions client))

@@ -1,5 +1,5 @@
 -- What a process has seen of the run, and what is due by the clock. Times are in milliseconds.
-use Rattle.std.specs.Prelude.{ℕ, ◌==◌, ◌||◌, ◌&&◌, ◌⊎◌, ◌+◌, ◌-◌, ◌≤◌, ◌^◌, nat_lt, min, max, Bool, true, false, IsTrue, Option, Some, None, List, fold, if◌then◌else◌}
+use Rattle.std.specs.Prelude.{ℕ, ◌==◌, ◌||◌, ◌&&◌, ◌⊎◌, ◌+◌, ◌-◌, ◌<◌, ◌≤◌, ◌^◌, nat_lt, min, max, Bool, true, false, IsTrue, Option, Some, None, List, fold, if◌then◌else◌}
 use Rattle.synod.specs.Ballots.{rank, rank_of}
 use Rattle.synod.specs.declared.ballot.Ballot.{Ballot}
 use Rattle.synod.specs.declared.vote.Vote.{Vote}
@@ -133,6 +133,15 @@ campaigned now t = record t {
 -- a node ticks where the period since its last tick has passed
 abbrev pub IsTickDue : ℕ → Bool → ℕ → TimingState → Type 0
 IsTickDue position is_asked now t = period_of (wants position is_asked t) ≤ now - t.ticked
+
+-- ---- how long nothing is due
+abbrev pub IsDueByClock : ℕ → Bool → ℕ → TimingState → Type 0
+IsDueByClock position is_asked now t = IsCampaignDue position is_asked now t ⊎ IsTickDue position is_asked now t
+
+-- nothing is due before so many milliseconds have passed, and then something is, unless the clock was set back
+pub record IsTimeLeft (position : ℕ) (is_asked : Bool) (now left : ℕ) (t : TimingState) : Type 0 where
+  pub never_late : (earlier : ℕ) → earlier < left → ¬ IsDueByClock position is_asked (now + earlier) t
+  pub due : t.ticked ≤ now → t.patience.since ≤ now → IsDueByClock position is_asked (now + left) t
 
 -- in how many milliseconds it ticks, or is impatient
 abbrev pub time_left : ℕ → Bool → ℕ → TimingState → ℕ

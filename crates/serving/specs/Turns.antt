@@ -1,12 +1,14 @@
 -- What a process may let out, to other nodes and to its clients, and what its node may take.
-use Rattle.std.specs.Prelude.{◌≡◌, ◌≤◌, ℕ, List, ◌∷◌, ◌++◌, ◌⊎◌, ⊤, Contains, Option, IfSome}
+use Rattle.std.specs.Prelude.{◌≡◌, ◌≤◌, ℕ, List, ◌∷◌, ◌++◌, ◌⊎◌, ⊤, Contains, Option, Some, None, IfSome}
 use Rattle.std.specs.List.{flat_map}
 use Rattle.sessions.specs.SessionReplies.{outcome_code}
 use Rattle.sessions.specs.declared.submission.Submission.{Submission}
+use Rattle.stable.specs.declared.stable.Stable.{Ghosts}
 use Rattle.wire.specs.FrameSpelling.{IsFrame}
 use Rattle.wire.specs.declared.frames.envelope.Envelope.{Envelope}
 use Rattle.node_model.specs.declared.input.Input.{Input}
 use Rattle.node_model.specs.declared.input.Input.TheVariants as input
+use Rattle.node_model.specs.Nodes.{NodeState}
 use Rattle.node_model.specs.Replicas.{submission_of}
 use Rattle.world_model.specs.Lives.{Happening, Took, Killed, sent_at}
 use Rattle.world_model.specs.declared.lists.Answered.{Answered}
@@ -25,6 +27,7 @@ use Rattle.serving.specs.declared.requests.TheConstants.{HANDED_ON}
 use Rattle.serving.specs.declared.waiting.Due.{Due}
 use Rattle.serving.specs.declared.waiting.Due.TheVariants as due
 use Rattle.serving.specs.declared.waiting.Question.{Question}
+use Rattle.serving.specs.Knowing.{IsLastNumber, IsPosition, WasSo}
 use Rattle.serving.specs.Requesting.{RequestState}
 use Rattle.serving.specs.Tapes.{Carried, Sent, Arrived, Talk, Heard, Went, Told}
 
@@ -62,11 +65,16 @@ pub record HasAsked (talk : List Talk) (claim : Claim) : Type 0 where
   pub client : submission.client ≡ claim.client
   pub number : submission.number ≡ claim.number
 
--- a query that is held back was asked by its connection, from this position on where it named one
+-- from where a query that names this position, or none, may be answered
+abbrev pub first_position : Option ℕ → ℕ
+first_position None = 0
+first_position (Some position) = position
+
+-- a query that is held back was asked by its connection, from this position on
 pub record HasQueried (talk : List Talk) (question : Question) : Type 0 where
   pub position : Option ℕ
   pub written : HasWritten talk question.connection (line.Query question.query position)
-  pub from : IfSome position (λ p. p ≡ question.from)
+  pub from : question.from ≡ first_position position
 
 -- ---- to other nodes
 -- a request is handed on as the mark and the line of the client that made it
@@ -112,31 +120,32 @@ pub record IsAnswerToOwn (past : Past) (connection : ℕ) (text : List ℕ) : Ty
   pub written : HasWritten past.talk connection (line.Query answered.query position)
   pub from : IfSome position (λ p. p ≤ answered.position)
 
--- what a connection is told of its own line, which no promise of the run is about
-pub data IsPlain (talk : List Talk) (connection : ℕ) (text : List ℕ) : Type 0 where
+-- what a connection is told of its own line, which no promise of the run is about, where the node was so at some time
+pub data IsPlain {S : Type 0} (Was : NodeState S → Type 0) (talk : List Talk) (connection : ℕ) (text : List ℕ) : Type 0 where
   -- its request was refused
   refused : (submission : Submission) (code : ℕ) → HasWritten talk connection (line.Submit submission)
-      → text ≡ answer_line (answer.Refused submission.client submission.number code) → IsPlain talk connection text
+      → text ≡ answer_line (answer.Refused submission.client submission.number code) → IsPlain Was talk connection text
   -- its line has a fault
   faulty : (asked : List ℕ) (cause : ReplayCause) → Contains talk (Heard connection asked) → IsClientFault asked cause
-      → text ≡ answer_line (answer.Fault (cause_code cause)) → IsPlain talk connection text
-  -- how far the node is
-  status : (known : Status) → HasWritten talk connection line.Status → text ≡ status_line known → IsPlain talk connection text
-  -- which number of the client counted last
-  last : (client number : ℕ) → HasWritten talk connection (line.Last client) → text ≡ answer_line (answer.Last client number)
-      → IsPlain talk connection text
+      → text ≡ answer_line (answer.Fault (cause_code cause)) → IsPlain Was talk connection text
+  -- how far the node was
+  status : (n : NodeState S) (known : Status) → Was n → IsPosition n known.position → HasWritten talk connection line.Status
+      → text ≡ status_line known → IsPlain Was talk connection text
+  -- which number of the client had counted last
+  last : (n : NodeState S) (client number : ℕ) → Was n → IsLastNumber n client number → HasWritten talk connection (line.Last client)
+      → text ≡ answer_line (answer.Last client number) → IsPlain Was talk connection text
 
 -- a connection is told nothing but these; it may write anything, and go
-abbrev pub MayBeSaid : Past → Talk → Type 0
-MayBeSaid past (Told connection text) =
-    IsReplyToOwn past connection text ⊎ IsAnswerToOwn past connection text ⊎ IsPlain past.talk connection text
-MayBeSaid past (Heard connection text) = ⊤
-MayBeSaid past (Went connection) = ⊤
+abbrev pub MayBeSaid : {S : Type 0} → Ghosts S → NodeState S → Past → Talk → Type 0
+MayBeSaid storages first past (Told connection text) = IsReplyToOwn past connection text ⊎ IsAnswerToOwn past connection text
+    ⊎ IsPlain (WasSo storages first past.history) past.talk connection text
+MayBeSaid storages first past (Heard connection text) = ⊤
+MayBeSaid storages first past (Went connection) = ⊤
 
 -- what is due at the end of a turn: a query to be answered, or a plain line
-abbrev pub MayBeDue : List Talk → Due → Type 0
-MayBeDue talk (due.Answer question) = HasQueried talk question
-MayBeDue talk (due.Line connection text) = IsPlain talk connection text.items
+abbrev pub MayBeDue : {S : Type 0} → (NodeState S → Type 0) → List Talk → Due → Type 0
+MayBeDue Was talk (due.Answer question) = HasQueried talk question
+MayBeDue Was talk (due.Line connection text) = IsPlain Was talk connection text.items
 
 -- a request that waits to be handed on is a line of a client
 abbrev pub MayBeHandedOn : List Talk → RequestState → Type 0

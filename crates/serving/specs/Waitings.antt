@@ -1,5 +1,5 @@
 -- What connections wait for.
-use Rattle.std.specs.Prelude.{◌≡◌, ℕ, ◌==◌, ◌||◌, ◌<◌, ◌≤◌, ◌+◌, Bool, List, ◌∷◌, ◌++◌, All, count_by}
+use Rattle.std.specs.Prelude.{◌≡◌, ℕ, ◌==◌, ◌||◌, ◌<◌, ◌≤◌, ◌+◌, Bool, List, [], ◌∷◌, ◌++◌, All, count_by, true, false}
 use Rattle.std.specs.List.{list_any}
 use Rattle.serving.specs.declared.claims.Claim.{Claim}
 use Rattle.serving.specs.declared.waiting.Question.{Question}
@@ -28,6 +28,11 @@ abbrev pub is_waiting : ℕ → WaitingState → Bool
 is_waiting connection waiting = list_any (is_for connection) waiting.claims
     || list_any (is_asked_by connection) waiting.questions
     || list_any (is_told_to connection) waiting.due
+
+-- anything is in the list
+abbrev pub has_any : {A : Type 0} → List A → Bool
+has_any [] = false
+has_any (x ∷ xs) = true
 
 -- so many of its lines wait for a reply or a position
 abbrev pub lines_of : ℕ → WaitingState → ℕ

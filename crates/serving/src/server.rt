@@ -1,10 +1,14 @@
 //! A process that serves a node.
 
-ghost use Rattle.std.specs.Prelude.{◌≡◌, [], Result};
+ghost use Rattle.std.specs.Prelude.{◌≡◌, [], OnOk, Result};
 ghost use Rattle.stable.specs.declared.stable.Stable.{Ghosts};
 ghost use Rattle.node_model.specs.declared.fault.NodeFault.{NodeFault};
 ghost use Rattle.world_model.specs.Lives.{down_over};
-ghost use Rattle.serving.specs.Serving.{IsPosition, IsServing, Serves, ServesOver, begun};
+ghost use Rattle.serving.specs.Knowing.{IsPosition};
+ghost use Rattle.serving.specs.Owing.{KeepsEachOver};
+ghost use Rattle.serving.specs.Serving.{IsServing, Serves, ServesOver, begun, has_requests};
+ghost use Rattle.serving.specs.Staying.{StaysUp};
+ghost use Rattle.serving.specs.Timings.{IsTimeLeft, first_timing};
 ghost use Rattle.serving.specs.Turns.{IsOfProcess};
 
 mod answers;
@@ -59,7 +63,8 @@ impl<S: Stable + Drop> Server<S> {
         horizon: Horizon,
         now: u64,
     ) -> Server<S>
-        ensures { (id count : ℕ) (storage : S) → IsBorn S.Stable id count storage (life_of life)
+        ensures timing { result.timing ≡ first_timing own horizon now }
+        ensures born { (id count : ℕ) (storage : S) → IsBorn S.Stable id count storage (life_of life)
             → (loaded : Result (Unit {0}) NodeFault)
             × IsServing S.Stable (down_over id count storage) (begun loaded) (server_of result) }
     {
@@ -88,8 +93,13 @@ impl<S: Stable + Drop> Server<S> {
     }
 
     /// In how many milliseconds something is due.
-    pub fn left(&self, now: u64) -> u64 {
-        self.timing.left(self.position(), self.is_asked(), now)
+    pub fn left(&self, now: u64) -> u64
+        ensures { (position : ℕ) → IsPosition (life_of self.now.life).node position
+            → IsTimeLeft position (has_requests (server_of self.now)) now result self.now.timing }
+    {
+        let position = self.position();
+        let is_asked = self.is_asked();
+        self.timing.left(position, is_asked, now)
     }
 
     /// Takes what has come, and hands out what comes of it: whether more may have come. After a fault the process is to end; what it
@@ -101,8 +111,10 @@ impl<S: Stable + Drop> Server<S> {
         desk: &mut D,
         now: u64,
     ) -> Result<bool, TurnFault>
-        ensures { ServesOver S.Stable N.tape N.Tells D.tape D.Tells (server_of self.old) network.old desk.old
+        ensures serves { ServesOver S.Stable N.tape N.Tells D.tape D.Tells (server_of self.old) network.old desk.old
             (server_of self.new) network.new desk.new }
+        ensures each { OnOk result (KeepsEachOver D.tape D.Tells self.old.waiting desk.old self.new.waiting desk.new) }
+        ensures stays { OnOk result (StaysUp (life_of self.old.life).node (life_of self.new.life).node) }
     {
         let more_came = self.take(alloc, network, desk, now)?;
         let has_told = self.tell(alloc, network, desk, now)?;
@@ -121,8 +133,10 @@ impl<S: Stable + Drop> Server<S> {
         desk: &mut D,
         now: u64,
     ) -> Result<bool, TurnFault>
-        ensures { ServesOver S.Stable N.tape N.Tells D.tape D.Tells (server_of self.old) network.old desk.old
+        ensures serves { ServesOver S.Stable N.tape N.Tells D.tape D.Tells (server_of self.old) network.old desk.old
             (server_of self.new) network.new desk.new }
+        ensures each { OnOk result (KeepsEachOver D.tape D.Tells self.old.waiting desk.old self.new.waiting desk.new) }
+        ensures stays { OnOk result (StaysUp (life_of self.old.life).node (life_of self.new.life).node) }
     {
         let more_frames = self.take_frames(alloc, network, now)?;
         let more_lines = self.take_lines(alloc, desk)?;
@@ -139,8 +153,10 @@ impl<S: Stable + Drop> Server<S> {
         desk: &mut D,
         now: u64,
     ) -> Result<bool, TurnFault>
-        ensures { ServesOver S.Stable N.tape N.Tells D.tape D.Tells (server_of self.old) network.old desk.old
+        ensures serves { ServesOver S.Stable N.tape N.Tells D.tape D.Tells (server_of self.old) network.old desk.old
             (server_of self.new) network.new desk.new }
+        ensures each { OnOk result (KeepsEachOver D.tape D.Tells self.old.waiting desk.old self.new.waiting desk.new) }
+        ensures stays { OnOk result (StaysUp (life_of self.old.life).node (life_of self.new.life).node) }
     {
         let has_replied = self.let_out(alloc, network, desk, now)?;
         let has_answered = self.tell_ripe(alloc, desk)?;
@@ -150,13 +166,17 @@ impl<S: Stable + Drop> Server<S> {
     }
 
     // Whether a request waits here. The client that made it may be gone.
-    fn is_asked(&self) -> bool {
+    fn is_asked(&self) -> bool
+        ensures { result ≡ has_requests (server_of self.now) }
+    {
         self.waiting.is_for_replies() || self.requests.count() > 0
     }
 
     // What is due by the clock, and a checkpoint where one is.
     fn keep_time(&mut self, alloc: Global, now: u64) -> Result<(), TurnFault>
-        ensures { Serves S.Stable (server_of self.old) [] [] (server_of self.new) }
+        ensures serves { Serves S.Stable (server_of self.old) [] [] (server_of self.new) }
+        ensures waits { self.new.waiting ≡ self.old.waiting }
+        ensures stays { OnOk result (StaysUp (life_of self.old.life).node (life_of self.new.life).node) }
     {
         let is_asked = self.is_asked();
         let position = self.position();
@@ -174,7 +194,9 @@ impl<S: Stable + Drop> Server<S> {
         is_asked: bool,
         now: u64,
     ) -> Result<(), TurnFault>
-        ensures { Serves S.Stable (server_of self.old) [] [] (server_of self.new) }
+        ensures serves { Serves S.Stable (server_of self.old) [] [] (server_of self.new) }
+        ensures waits { self.new.waiting ≡ self.old.waiting }
+        ensures stays { OnOk result (StaysUp (life_of self.old.life).node (life_of self.new.life).node) }
     {
         if !self.timing.is_campaign_due(position, is_asked, now) {
             return Ok(());
@@ -191,7 +213,9 @@ impl<S: Stable + Drop> Server<S> {
         is_asked: bool,
         now: u64,
     ) -> Result<(), TurnFault>
-        ensures { Serves S.Stable (server_of self.old) [] [] (server_of self.new) }
+        ensures serves { Serves S.Stable (server_of self.old) [] [] (server_of self.new) }
+        ensures waits { self.new.waiting ≡ self.old.waiting }
+        ensures stays { OnOk result (StaysUp (life_of self.old.life).node (life_of self.new.life).node) }
     {
         if !self.timing.tick(position, is_asked, now) {
             return Ok(());
@@ -201,7 +225,9 @@ impl<S: Stable + Drop> Server<S> {
 
     // A checkpoint where one is due, and what it stands for is taken out.
     fn keep_records(&mut self, alloc: Global, position: u32) -> Result<(), TurnFault>
-        ensures { Serves S.Stable (server_of self.old) [] [] (server_of self.new) }
+        ensures serves { Serves S.Stable (server_of self.old) [] [] (server_of self.new) }
+        ensures waits { self.new.waiting ≡ self.old.waiting }
+        ensures stays { OnOk result (StaysUp (life_of self.old.life).node (life_of self.new.life).node) }
     {
         if !is_checkpoint_due(position, self.life.node().floor()) {
             return Ok(());
@@ -213,7 +239,9 @@ impl<S: Stable + Drop> Server<S> {
     // The node takes what the process gives it by itself.
     fn give(&mut self, alloc: Global, input: Input) -> Result<(), TurnFault>
         requires { IsOfProcess input }
-        ensures { Serves S.Stable (server_of self.old) [] [] (server_of self.new) }
+        ensures serves { Serves S.Stable (server_of self.old) [] [] (server_of self.new) }
+        ensures waits { self.new.waiting ≡ self.old.waiting }
+        ensures stays { OnOk result (StaysUp (life_of self.old.life).node (life_of self.new.life).node) }
     {
         refusal(self.life.take(alloc, input))?;
         Ok(())

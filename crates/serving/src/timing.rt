@@ -1,7 +1,7 @@
 //! What a process has seen of the run, and what is due by the clock.
 
 ghost use Rattle.std.specs.Prelude.{◌≡◌, ◌≤◌, ◌↔◌, IsTrue, fold, option_map};
-ghost use Rattle.serving.specs.Timings.{above_votes, ballot_seen, campaigned, first_timing, position_seen, promise_seen, seen, slot_seen, time_left, wants, IsCampaignDue, IsTickDue};
+ghost use Rattle.serving.specs.Timings.{above_votes, ballot_seen, campaigned, first_timing, position_seen, promise_seen, seen, slot_seen, time_left, wants, IsCampaignDue, IsTickDue, IsTimeLeft, Resumes};
 
 use super::campaign::Campaign;
 use super::horizon::Horizon;
@@ -143,13 +143,10 @@ impl Timing {
     pub fn is_campaign_due(&self, position: u32, is_asked: bool, now: u64) -> bool
         ensures { IsTrue result ↔ IsCampaignDue position is_asked now self.now }
     {
-        let is_leader = self.leader.is_node(self.own.value());
-        let goes_on = self
-            .campaign
-            .goes_on(is_leader, position, self.horizon.end());
+        let resumes = self.resumes(position, is_asked);
         let is_over = self.patience.is_over(now);
         let is_wanting = self.is_wanting(position, is_asked);
-        goes_on && !is_asked || is_over && is_wanting
+        resumes || is_over && is_wanting
     }
 
     /// The node campaigns.
@@ -175,10 +172,15 @@ impl Timing {
         is_due
     }
 
-    /// In how many milliseconds something is due.
+    /// In how many milliseconds something is due: 0 where something is now.
     pub fn left(&self, position: u32, is_asked: bool, now: u64) -> u64
-        ensures { result ≡ time_left position is_asked now self.now }
+        ensures resumes { Resumes position is_asked self.now → result ≡ 0 }
+        ensures waits { ¬ Resumes position is_asked self.now → result ≡ time_left position is_asked now self.now }
+        ensures left { IsTimeLeft position is_asked now result self.now }
     {
+        if self.resumes(position, is_asked) {
+            return 0;
+        }
         let is_wanting = self.is_wanting(position, is_asked);
         let until_tick = self.ticks.left(now, is_wanting);
         if is_wanting {
@@ -186,6 +188,17 @@ impl Timing {
         } else {
             until_tick
         }
+    }
+
+    // Whether the node's own campaign is to go on where it ended.
+    fn resumes(&self, position: u32, is_asked: bool) -> bool
+        ensures { IsTrue result ↔ Resumes position is_asked self.now }
+    {
+        let is_leader = self.leader.is_node(self.own.value());
+        let goes_on = self
+            .campaign
+            .goes_on(is_leader, position, self.horizon.end());
+        goes_on && !is_asked
     }
 
     // A promise came, to this node's own ballot or to another's.

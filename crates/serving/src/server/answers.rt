@@ -1,8 +1,12 @@
 //! What a process tells its clients.
 
-ghost use Rattle.std.specs.Prelude.{◌≡◌, ◌∷◌, []};
+ghost use Rattle.std.specs.Prelude.{◌≡◌, ◌≤◌, ℕ, ◌∷◌, [], OnOk};
+ghost use Rattle.clients.specs.AnswerLines.{text_line};
 ghost use Rattle.serving.specs.Outgoing.{IsReplyIn, IsTextTo, KeepsLess};
-ghost use Rattle.serving.specs.Serving.{PassesOnly, ServesClients, asking};
+ghost use Rattle.serving.specs.Owing.{AllSettled, KeepsEachOver, reply_told};
+ghost use Rattle.serving.specs.Serving.{IsPosition, PassesOnly, ServesClients, asking};
+ghost use Rattle.serving.specs.Staying.{StaysUp};
+ghost use Rattle.serving.specs.Tapes.{HasPassed, Told};
 
 use super::Server;
 use crate::claims::Claim;
@@ -15,6 +19,7 @@ use std::alloc::Global;
 use world_model::{Answered, Replied};
 
 impl<S: Stable + Drop> Server<S> {
+    ghost use Rattle.life.specs.Seen.{life_of};
     ghost use Rattle.serving.specs.Seen.{server_of};
 
     // Each reply goes to those who wait for it.
@@ -27,6 +32,8 @@ impl<S: Stable + Drop> Server<S> {
         ensures tells { PassesOnly D.tape D.Tells (IsReplyIn replies.now self.old.waiting.claims) desk.old desk.new }
         ensures keeps { KeepsLess (server_of self.old) (server_of self.new) }
         ensures life { self.new.life ≡ self.old.life }
+        ensures settled { OnOk result (AllSettled replies.now self.new.waiting.claims) }
+        ensures each { OnOk result (KeepsEachOver D.tape D.Tells self.old.waiting desk.old self.new.waiting desk.new) }
     {
         'replies: for replied in replies.iter() {
             tell_reply(alloc, desk, self.waiting.claims(), replied)?;
@@ -43,7 +50,9 @@ impl<S: Stable + Drop> Server<S> {
         alloc: Global,
         desk: &mut D,
     ) -> Result<bool, TurnFault>
-        ensures { ServesClients S.Stable D.tape D.Tells (server_of self.old) desk.old (server_of self.new) desk.new }
+        ensures serves { ServesClients S.Stable D.tape D.Tells (server_of self.old) desk.old (server_of self.new) desk.new }
+        ensures each { OnOk result (KeepsEachOver D.tape D.Tells self.old.waiting desk.old self.new.waiting desk.new) }
+        ensures stays { OnOk result (StaysUp (life_of self.old.life).node (life_of self.new.life).node) }
     {
         let mut has_told = false;
         'questions: for _ in 0..u64::MAX {
@@ -57,7 +66,9 @@ impl<S: Stable + Drop> Server<S> {
 
     // The first such query: whether there is one.
     fn tell_next_ripe<D: Desk>(&mut self, alloc: Global, desk: &mut D) -> Result<bool, TurnFault>
-        ensures { ServesClients S.Stable D.tape D.Tells (server_of self.old) desk.old (server_of self.new) desk.new }
+        ensures serves { ServesClients S.Stable D.tape D.Tells (server_of self.old) desk.old (server_of self.new) desk.new }
+        ensures each { OnOk result (KeepsEachOver D.tape D.Tells self.old.waiting desk.old self.new.waiting desk.new) }
+        ensures stays { OnOk result (StaysUp (life_of self.old.life).node (life_of self.new.life).node) }
     {
         let position = self.position();
         let Some(question) = self.waiting.ripe(position) else {
@@ -69,7 +80,9 @@ impl<S: Stable + Drop> Server<S> {
 
     // What is due is told in the order of the lines.
     pub(super) fn tell_due<D: Desk>(&mut self, alloc: Global, desk: &mut D) -> Result<(), TurnFault>
-        ensures { ServesClients S.Stable D.tape D.Tells (server_of self.old) desk.old (server_of self.new) desk.new }
+        ensures serves { ServesClients S.Stable D.tape D.Tells (server_of self.old) desk.old (server_of self.new) desk.new }
+        ensures each { OnOk result (KeepsEachOver D.tape D.Tells self.old.waiting desk.old self.new.waiting desk.new) }
+        ensures stays { OnOk result (StaysUp (life_of self.old.life).node (life_of self.new.life).node) }
     {
         'due: for _ in 0..u64::MAX {
             if !self.tell_next_due(alloc, desk)? {
@@ -81,7 +94,9 @@ impl<S: Stable + Drop> Server<S> {
 
     // What is due next: whether anything is.
     fn tell_next_due<D: Desk>(&mut self, alloc: Global, desk: &mut D) -> Result<bool, TurnFault>
-        ensures { ServesClients S.Stable D.tape D.Tells (server_of self.old) desk.old (server_of self.new) desk.new }
+        ensures serves { ServesClients S.Stable D.tape D.Tells (server_of self.old) desk.old (server_of self.new) desk.new }
+        ensures each { OnOk result (KeepsEachOver D.tape D.Tells self.old.waiting desk.old self.new.waiting desk.new) }
+        ensures stays { OnOk result (StaysUp (life_of self.old.life).node (life_of self.new.life).node) }
     {
         let Some(what) = self.waiting.take_due() else {
             return Ok(false);
@@ -105,8 +120,13 @@ impl<S: Stable + Drop> Server<S> {
         desk: &mut D,
         question: Question,
     ) -> Result<(), TurnFault>
-        ensures { ServesClients S.Stable D.tape D.Tells (asking (server_of self.old) question) desk.old
+        ensures serves { ServesClients S.Stable D.tape D.Tells (asking (server_of self.old) question) desk.old
             (server_of self.new) desk.new }
+        ensures each { OnOk result (KeepsEachOver D.tape D.Tells (asking (server_of self.old) question).waiting desk.old
+            self.new.waiting desk.new) }
+        ensures asked { (position : ℕ) → IsPosition (life_of self.old.life).node position → question.from ≤ position
+            → self.new.waiting ≡ self.old.waiting }
+        ensures stays { OnOk result (StaysUp (life_of self.old.life).node (life_of self.new.life).node) }
     {
         if self.position() < question.from {
             self.waiting
@@ -132,7 +152,8 @@ fn tell_reply<D: Desk>(
     claims: &[Claim],
     replied: &Replied,
 ) -> Result<(), TurnFault>
-    ensures { PassesOnly D.tape D.Tells (IsReplyIn (replied.now ∷ []) claims.now) desk.old desk.new }
+    ensures only { PassesOnly D.tape D.Tells (IsReplyIn (replied.now ∷ []) claims.now) desk.old desk.new }
+    ensures each { OnOk result (HasPassed D.tape D.Tells desk.old (reply_told replied.now claims.now) desk.new) }
 {
     let number = replied.number.value();
     let answer = ClientAnswer::Reply {
@@ -158,7 +179,9 @@ fn tell_answer<D: Desk>(
     connection: u64,
     answered: &Answered,
 ) -> Result<(), TurnFault>
-    ensures { PassesOnly D.tape D.Tells (IsTextTo connection answered.now) desk.old desk.new }
+    ensures only { PassesOnly D.tape D.Tells (IsTextTo connection answered.now) desk.old desk.new }
+    ensures once { OnOk result (HasPassed D.tape D.Tells desk.old
+        (Told connection (text_line answered.now.position answered.now.text) ∷ []) desk.new) }
 {
     let answer = ClientAnswer::Text {
         position: answered.position,

@@ -1,10 +1,12 @@
 //! What comes to a process from the other nodes, and from its own.
 
-ghost use Rattle.std.specs.Prelude.{◌≡◌, ◌≤◌, ℕ, ◌∷◌, [], IfSome, IsTrue, ◌↔◌};
+ghost use Rattle.std.specs.Prelude.{◌≡◌, ◌≤◌, ℕ, ◌∷◌, [], IfSome, IsTrue, OnOk, ◌↔◌};
 ghost use Rattle.node_model.specs.declared.input.Input.TheVariants as input;
 ghost use Rattle.clients.specs.ClientLines.{IsClientLine};
 ghost use Rattle.clients.specs.declared.line.ClientLine.TheVariants as client_line;
-ghost use Rattle.serving.specs.Serving.{IsLastNumber, Serves, ServesNodes};
+ghost use Rattle.serving.specs.Knowing.{IsLastNumber};
+ghost use Rattle.serving.specs.Serving.{Serves, ServesNodes};
+ghost use Rattle.serving.specs.Staying.{StaysUp};
 ghost use Rattle.serving.specs.Tapes.{Arrived};
 ghost use Rattle.serving.specs.Turns.{handed_on};
 
@@ -30,7 +32,9 @@ impl<S: Stable + Drop> Server<S> {
         network: &mut N,
         now: u64,
     ) -> Result<bool, TurnFault>
-        ensures { ServesNodes S.Stable N.tape N.Tells (server_of self.old) network.old (server_of self.new) network.new }
+        ensures serves { ServesNodes S.Stable N.tape N.Tells (server_of self.old) network.old (server_of self.new) network.new }
+        ensures waits { self.new.waiting ≡ self.old.waiting }
+        ensures stays { OnOk result (StaysUp (life_of self.old.life).node (life_of self.new.life).node) }
     {
         'frames: for _ in 0..MOST_IN_A_TURN {
             if !self.take_next_frame(alloc, network, now)? {
@@ -47,7 +51,9 @@ impl<S: Stable + Drop> Server<S> {
         network: &mut N,
         now: u64,
     ) -> Result<bool, TurnFault>
-        ensures { ServesNodes S.Stable N.tape N.Tells (server_of self.old) network.old (server_of self.new) network.new }
+        ensures serves { ServesNodes S.Stable N.tape N.Tells (server_of self.old) network.old (server_of self.new) network.new }
+        ensures waits { self.new.waiting ≡ self.old.waiting }
+        ensures stays { OnOk result (StaysUp (life_of self.old.life).node (life_of self.new.life).node) }
     {
         let came = network.poll(alloc)?;
         let Some(bytes) = came else {
@@ -60,7 +66,9 @@ impl<S: Stable + Drop> Server<S> {
 
     // A frame of another node, or a request that it hands on. Anything else is passed over.
     fn take_frame(&mut self, alloc: Global, bytes: &[u8], now: u64) -> Result<(), TurnFault>
-        ensures { Serves S.Stable (server_of self.old) (Arrived bytes.now ∷ []) [] (server_of self.new) }
+        ensures serves { Serves S.Stable (server_of self.old) (Arrived bytes.now ∷ []) [] (server_of self.new) }
+        ensures waits { self.new.waiting ≡ self.old.waiting }
+        ensures stays { OnOk result (StaysUp (life_of self.old.life).node (life_of self.new.life).node) }
     {
         if let Some(line) = bytes.strip_prefix(&[HANDED_ON]) {
             return self.take_handed_on(alloc, line);
@@ -78,7 +86,9 @@ impl<S: Stable + Drop> Server<S> {
 
     // A line that another process hands on: a request that its client waits for. Anything else is passed over.
     fn take_handed_on(&mut self, alloc: Global, line: &[u8]) -> Result<(), TurnFault>
-        ensures { Serves S.Stable (server_of self.old) (Arrived (handed_on line.now) ∷ []) [] (server_of self.new) }
+        ensures serves { Serves S.Stable (server_of self.old) (Arrived (handed_on line.now) ∷ []) [] (server_of self.new) }
+        ensures waits { self.new.waiting ≡ self.old.waiting }
+        ensures stays { OnOk result (StaysUp (life_of self.old.life).node (life_of self.new.life).node) }
     {
         let Some(submission) = submission_in(alloc, line) else {
             return Ok(());
@@ -97,6 +107,8 @@ impl<S: Stable + Drop> Server<S> {
         ensures serves { Serves S.Stable (server_of self.old) (Arrived (handed_on line.now) ∷ []) [] (server_of self.new) }
         ensures once { (last : ℕ) → IsLastNumber (life_of self.old.life).node submission.client last
             → submission.number ≤ last → life_of self.new.life ≡ life_of self.old.life }
+        ensures waits { self.new.waiting ≡ self.old.waiting }
+        ensures stays { OnOk result (StaysUp (life_of self.old.life).node (life_of self.new.life).node) }
     {
         if self.has_counted(submission.client, submission.number.value()) {
             return Ok(());
@@ -122,7 +134,9 @@ impl<S: Stable + Drop> Server<S> {
 
     // The node's frames to itself, and those that come of them.
     pub(super) fn take_own(&mut self, alloc: Global) -> Result<(), TurnFault>
-        ensures { Serves S.Stable (server_of self.old) [] [] (server_of self.new) }
+        ensures serves { Serves S.Stable (server_of self.old) [] [] (server_of self.new) }
+        ensures waits { self.new.waiting ≡ self.old.waiting }
+        ensures stays { OnOk result (StaysUp (life_of self.old.life).node (life_of self.new.life).node) }
     {
         'own: for _ in 0..u64::MAX {
             if !self.take_back(alloc)? {
@@ -134,7 +148,9 @@ impl<S: Stable + Drop> Server<S> {
 
     // The node's frame to itself that has waited longest: whether there is one. One that it refuses is gone.
     fn take_back(&mut self, alloc: Global) -> Result<bool, TurnFault>
-        ensures { Serves S.Stable (server_of self.old) [] [] (server_of self.new) }
+        ensures serves { Serves S.Stable (server_of self.old) [] [] (server_of self.new) }
+        ensures waits { self.new.waiting ≡ self.old.waiting }
+        ensures stays { OnOk result (StaysUp (life_of self.old.life).node (life_of self.new.life).node) }
     {
         match self.life.take_back(alloc) {
             Ok(taken) => Ok(taken),

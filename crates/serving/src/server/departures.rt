@@ -1,8 +1,10 @@
 //! What a process sends to the other nodes.
 
-ghost use Rattle.std.specs.Prelude.{◌≡◌, ◌∷◌, []};
+ghost use Rattle.std.specs.Prelude.{◌≡◌, ◌∷◌, [], OnOk};
 ghost use Rattle.serving.specs.Outgoing.{IsFrameOf, IsPacketOf};
+ghost use Rattle.serving.specs.Owing.{AllSettled, KeepsEachOver};
 ghost use Rattle.serving.specs.Serving.{PassesOnly, ServesNodes, ServesOver};
+ghost use Rattle.serving.specs.Staying.{StaysUp};
 
 use super::Server;
 use crate::desk::Desk;
@@ -15,6 +17,7 @@ use std::alloc::Global;
 use wire::{Frame, Message};
 
 impl<S: Stable + Drop> Server<S> {
+    ghost use Rattle.life.specs.Seen.{life_of};
     ghost use Rattle.serving.specs.Seen.{server_of};
 
     // What the life holds goes out: frames to the other nodes, and replies to those who wait for them. Whether there was a reply.
@@ -25,8 +28,11 @@ impl<S: Stable + Drop> Server<S> {
         desk: &mut D,
         now: u64,
     ) -> Result<bool, TurnFault>
-        ensures { ServesOver S.Stable N.tape N.Tells D.tape D.Tells (server_of self.old) network.old desk.old
+        ensures serves { ServesOver S.Stable N.tape N.Tells D.tape D.Tells (server_of self.old) network.old desk.old
             (server_of self.new) network.new desk.new }
+        ensures each { OnOk result (KeepsEachOver D.tape D.Tells self.old.waiting desk.old self.new.waiting desk.new) }
+        ensures settled { OnOk result (AllSettled (life_of self.old.life).held.replies self.new.waiting.claims) }
+        ensures stays { OnOk result (StaysUp (life_of self.old.life).node (life_of self.new.life).node) }
     {
         let Told {
             frames,
@@ -79,7 +85,9 @@ impl<S: Stable + Drop> Server<S> {
         network: &mut N,
         now: u64,
     ) -> Result<(), TurnFault>
-        ensures { ServesNodes S.Stable N.tape N.Tells (server_of self.old) network.old (server_of self.new) network.new }
+        ensures serves { ServesNodes S.Stable N.tape N.Tells (server_of self.old) network.old (server_of self.new) network.new }
+        ensures waits { self.new.waiting ≡ self.old.waiting }
+        ensures stays { OnOk result (StaysUp (life_of self.old.life).node (life_of self.new.life).node) }
     {
         'packets: for _ in 0..u64::MAX {
             if !self.hand_on_next(alloc, network, now)? {
@@ -96,7 +104,9 @@ impl<S: Stable + Drop> Server<S> {
         network: &mut N,
         now: u64,
     ) -> Result<bool, TurnFault>
-        ensures { ServesNodes S.Stable N.tape N.Tells (server_of self.old) network.old (server_of self.new) network.new }
+        ensures serves { ServesNodes S.Stable N.tape N.Tells (server_of self.old) network.old (server_of self.new) network.new }
+        ensures waits { self.new.waiting ≡ self.old.waiting }
+        ensures stays { OnOk result (StaysUp (life_of self.old.life).node (life_of self.new.life).node) }
     {
         let Some(place) = self.requests.next_due(now) else {
             return Ok(false);

@@ -1,12 +1,16 @@
 //! What the clients of a process write.
 
-ghost use Rattle.std.specs.Prelude.{◌≡◌, ◌∷◌, [], IfSome};
+ghost use Rattle.std.specs.Prelude.{◌≡◌, ◌∷◌, [], IfSome, OnOk};
 ghost use Rattle.clients.specs.AnswerLines.{answer_line};
 ghost use Rattle.clients.specs.ClientLines.{IsClientFault, IsClientLine};
 ghost use Rattle.clients.specs.declared.line.ClientLine.TheVariants as client_line;
+ghost use Rattle.serving.specs.Knowing.{IsPosition};
+ghost use Rattle.serving.specs.Owing.{KeepsEach, KeepsEachOver};
 ghost use Rattle.serving.specs.Serving.{Serves, ServesClients};
+ghost use Rattle.serving.specs.Staying.{StaysUp};
+ghost use Rattle.serving.specs.Submitting.{IsSubmitted};
 ghost use Rattle.serving.specs.Tapes.{Heard, heard};
-ghost use Rattle.serving.specs.Turns.{IsPlain};
+ghost use Rattle.serving.specs.Turns.{IsPlain, first_position};
 
 use super::arrivals::input_of;
 use super::{MOST_IN_A_TURN, Server};
@@ -23,6 +27,7 @@ use std::alloc::Global;
 use store::Query;
 
 impl<S: Stable + Drop> Server<S> {
+    ghost use Rattle.life.specs.Seen.{life_of};
     ghost use Rattle.serving.specs.Seen.{server_of};
 
     // What clients did: whether they may have done more.
@@ -31,7 +36,9 @@ impl<S: Stable + Drop> Server<S> {
         alloc: Global,
         desk: &mut D,
     ) -> Result<bool, TurnFault>
-        ensures { ServesClients S.Stable D.tape D.Tells (server_of self.old) desk.old (server_of self.new) desk.new }
+        ensures serves { ServesClients S.Stable D.tape D.Tells (server_of self.old) desk.old (server_of self.new) desk.new }
+        ensures each { OnOk result (KeepsEachOver D.tape D.Tells self.old.waiting desk.old self.new.waiting desk.new) }
+        ensures stays { OnOk result (StaysUp (life_of self.old.life).node (life_of self.new.life).node) }
     {
         'lines: for _ in 0..MOST_IN_A_TURN {
             if !self.take_next_line(alloc, desk)? {
@@ -43,7 +50,9 @@ impl<S: Stable + Drop> Server<S> {
 
     // What a client did: whether any did anything.
     fn take_next_line<D: Desk>(&mut self, alloc: Global, desk: &mut D) -> Result<bool, TurnFault>
-        ensures { ServesClients S.Stable D.tape D.Tells (server_of self.old) desk.old (server_of self.new) desk.new }
+        ensures serves { ServesClients S.Stable D.tape D.Tells (server_of self.old) desk.old (server_of self.new) desk.new }
+        ensures each { OnOk result (KeepsEachOver D.tape D.Tells self.old.waiting desk.old self.new.waiting desk.new) }
+        ensures stays { OnOk result (StaysUp (life_of self.old.life).node (life_of self.new.life).node) }
     {
         let came = desk.next(alloc, &self.waiting)?;
         let Some(what) = came else {
@@ -55,7 +64,9 @@ impl<S: Stable + Drop> Server<S> {
 
     // A client did this.
     fn hear(&mut self, alloc: Global, what: Came) -> Result<(), TurnFault>
-        ensures { Serves S.Stable (server_of self.old) [] (heard what ∷ []) (server_of self.new) }
+        ensures serves { Serves S.Stable (server_of self.old) [] (heard what ∷ []) (server_of self.new) }
+        ensures each { OnOk result (KeepsEach (heard what ∷ []) self.old.waiting self.new.waiting) }
+        ensures stays { OnOk result (StaysUp (life_of self.old.life).node (life_of self.new.life).node) }
     {
         match what {
             Came::Line { connection, text } => self.take_line(alloc, connection, text.as_slice()),
@@ -68,7 +79,9 @@ impl<S: Stable + Drop> Server<S> {
 
     // The connection wrote this line.
     fn take_line(&mut self, alloc: Global, connection: u64, text: &[u8]) -> Result<(), TurnFault>
-        ensures { Serves S.Stable (server_of self.old) [] (Heard connection text.now ∷ []) (server_of self.new) }
+        ensures serves { Serves S.Stable (server_of self.old) [] (Heard connection text.now ∷ []) (server_of self.new) }
+        ensures each { OnOk result (KeepsEach (Heard connection text.now ∷ []) self.old.waiting self.new.waiting) }
+        ensures stays { OnOk result (StaysUp (life_of self.old.life).node (life_of self.new.life).node) }
     {
         match read_line(alloc, text) {
             Ok(asked) => self.take_asked(alloc, connection, asked, text),
@@ -85,7 +98,9 @@ impl<S: Stable + Drop> Server<S> {
         text: &[u8],
     ) -> Result<(), TurnFault>
         requires { IsClientLine text.now asked }
-        ensures { Serves S.Stable (server_of self.old) [] (Heard connection text.now ∷ []) (server_of self.new) }
+        ensures serves { Serves S.Stable (server_of self.old) [] (Heard connection text.now ∷ []) (server_of self.new) }
+        ensures each { OnOk result (KeepsEach (Heard connection text.now ∷ []) self.old.waiting self.new.waiting) }
+        ensures stays { OnOk result (StaysUp (life_of self.old.life).node (life_of self.new.life).node) }
     {
         match asked {
             ClientLine::Submit(submission) => self.submit(alloc, connection, submission, text),
@@ -111,7 +126,9 @@ impl<S: Stable + Drop> Server<S> {
         text: &[u8],
     ) -> Result<(), TurnFault>
         requires { IsClientFault text.now cause }
-        ensures { Serves S.Stable (server_of self.old) [] (Heard connection text.now ∷ []) (server_of self.new) }
+        ensures serves { Serves S.Stable (server_of self.old) [] (Heard connection text.now ∷ []) (server_of self.new) }
+        ensures each { OnOk result (KeepsEach (Heard connection text.now ∷ []) self.old.waiting self.new.waiting) }
+        ensures stays { OnOk result (StaysUp (life_of self.old.life).node (life_of self.new.life).node) }
     {
         if let ReplayCause::World(WorldFault::Memory) = cause {
             return Err(TurnFault::Memory);
@@ -128,8 +145,10 @@ impl<S: Stable + Drop> Server<S> {
         answer: &ClientAnswer,
         text: &[u8],
     ) -> Result<(), TurnFault>
-        requires { IsPlain (Heard connection text.now ∷ []) connection (answer_line answer.now) }
-        ensures { Serves S.Stable (server_of self.old) [] (Heard connection text.now ∷ []) (server_of self.new) }
+        requires { IsPlain (λ n. n ≡ (life_of self.old.life).node) (Heard connection text.now ∷ []) connection (answer_line answer.now) }
+        ensures serves { Serves S.Stable (server_of self.old) [] (Heard connection text.now ∷ []) (server_of self.new) }
+        ensures each { OnOk result (KeepsEach (Heard connection text.now ∷ []) self.old.waiting self.new.waiting) }
+        ensures stays { OnOk result (StaysUp (life_of self.old.life).node (life_of self.new.life).node) }
     {
         let line = answer.spell(alloc)?;
         self.waiting.add_due(Due::Line { connection, line })?;
@@ -145,7 +164,10 @@ impl<S: Stable + Drop> Server<S> {
         text: &[u8],
     ) -> Result<(), TurnFault>
         requires { IsClientLine text.now (client_line.Submit submission) }
-        ensures { Serves S.Stable (server_of self.old) [] (Heard connection text.now ∷ []) (server_of self.new) }
+        ensures serves { Serves S.Stable (server_of self.old) [] (Heard connection text.now ∷ []) (server_of self.new) }
+        ensures each { OnOk result (KeepsEach (Heard connection text.now ∷ []) self.old.waiting self.new.waiting) }
+        ensures stays { OnOk result (StaysUp (life_of self.old.life).node (life_of self.new.life).node) }
+        ensures outcome { OnOk result (IsSubmitted S.Stable (server_of self.old) connection submission (server_of self.new)) }
     {
         let client = submission.client;
         let number = submission.number.value();
@@ -183,9 +205,11 @@ impl<S: Stable + Drop> Server<S> {
         text: &[u8],
     ) -> Result<(), TurnFault>
         requires { IsClientLine text.now (client_line.Query query position) }
-        ensures { Serves S.Stable (server_of self.old) [] (Heard connection text.now ∷ []) (server_of self.new) }
+        ensures serves { Serves S.Stable (server_of self.old) [] (Heard connection text.now ∷ []) (server_of self.new) }
+        ensures each { OnOk result (KeepsEach (Heard connection text.now ∷ []) self.old.waiting self.new.waiting) }
+        ensures stays { OnOk result (StaysUp (life_of self.old.life).node (life_of self.new.life).node) }
     {
-        let from = first_position(position);
+        let from = least_position(position);
         self.waiting.add_due(Due::Answer(Question {
             connection,
             query,
@@ -195,7 +219,9 @@ impl<S: Stable + Drop> Server<S> {
     }
 
     // How far the node is.
-    fn status(&self) -> Status {
+    fn status(&self) -> Status
+        ensures { IsPosition (life_of self.now.life).node result.position }
+    {
         Status {
             node: self.own.value(),
             position: self.position(),
@@ -206,9 +232,9 @@ impl<S: Stable + Drop> Server<S> {
     }
 }
 
-// The position from which a query may be answered.
-fn first_position(named: Option<u32>) -> u32
-    ensures { IfSome named (λ position. result ≡ position) }
+// The position from which a query may be answered. One that names none is held back nowhere.
+fn least_position(named: Option<u32>) -> u32
+    ensures { result ≡ first_position named }
 {
     match named {
         Some(position) => position,

@@ -10,37 +10,76 @@ use Rattle.serving.proofs.Answering.{clients_answering, serves_asked_only, serve
 use Rattle.serving.proofs.LettingOut.{serves_holding_back}
 use Rattle.serving.proofs.Lists.{last_is_pushed}
 use Rattle.serving.proofs.Passing.{clients_quiet}
+use Rattle.serving.proofs.KeepingEach.{keeps_held}
+use Rattle.serving.proofs.KeepingEachOver.{each_quiet, on_told}
+use Rattle.serving.proofs.Submitted.{asked_is_last}
+use Rattle.clients.specs.AnswerLines.{text_line}
+use Rattle.serving.proofs.Staying.{stays_asked, stays_itself, stays_on}
 use Rattle.serving.proofs.server.Server.answer.Goals as goal
 
-pub returns-in_err-hold : goal.returns-in_err-hold
-returns-in_err-hold g c =
+pub returns-in_err-hold-clause-serves : goal.returns-in_err-hold-clause-serves
+returns-in_err-hold-clause-serves g c =
     clients_quiet g.S.Stable g.D.Desk.tape g.D.Desk.Tells _ _ c.args.desk.now
     (serves_dropping g.S.Stable (server_of c.args.self.now) (record (server_of c.args.self.now) { waiting = c.hold.new.self }) c.args.question refl c.in_err-hold.ensures.err refl)
 
-pub returns-then-position-question : goal.returns-then-position-question
-returns-then-position-question g c =
+pub returns-then-position-question-clause-serves : goal.returns-then-position-question-clause-serves
+returns-then-position-question-clause-serves g c =
     clients_quiet g.S.Stable g.D.Desk.tape g.D.Desk.Tells _ _ c.args.desk.now
     (subst (λ (w : WaitingState). Serves g.S.Stable (asking (server_of c.args.self.now) c.args.question) [] [] (record (server_of c.args.self.now) { waiting = w })) (sym c.in_ok-hold.ensures.added)
     (serves_holding_back g.S.Stable (server_of c.args.self.now) c.args.question))
 
-pub returns-in_err-fault : goal.returns-in_err-fault
-returns-in_err-fault g c =
+pub returns-in_err-fault-clause-serves : goal.returns-in_err-fault-clause-serves
+returns-in_err-fault-clause-serves g c =
     clients_quiet g.S.Stable g.D.Desk.tape g.D.Desk.Tells _ _ c.args.desk.now (serves_asked_only g.S.Stable (server_of c.args.self.now) (life_of c.ask.new.self) c.args.question c.ask.result c.ask.ensures)
 
-pub returns-in-Some : goal.returns-in-Some
-returns-in-Some g c =
+pub returns-in-Some-clause-serves : goal.returns-in-Some-clause-serves
+returns-in-Some-clause-serves g c =
     clients_quiet g.S.Stable g.D.Desk.tape g.D.Desk.Tells _ _ c.args.desk.now (serves_asked_only g.S.Stable (server_of c.args.self.now) (life_of c.ask.new.self) c.args.question c.ask.result c.ask.ensures)
 
-pub returns-in-Some-last : goal.returns-in-Some-last
-returns-in-Some-last g c =
+pub returns-in-Some-last-clause-serves : goal.returns-in-Some-last-clause-serves
+returns-in-Some-last-clause-serves g c =
     clients_answering g.S.Stable g.D.Desk.tape g.D.Desk.Tells (server_of c.args.self.now) (life_of c.ask.new.self) (life_of c.hand_out-told.new.self) c.args.question c.ask.result
     c.position.result c.deref.result.now c.in-Some-last.answered.now c.args.desk.now c.tell_answer.new.desk c.ask.ensures
     (subst (λ (o : Option NodeFault). IsRefusal c.ask.result (Ok o)) c.in_default.is c.in_ok-fault.ensures) c.hand_out-told.ensures.left
     (c.deref.ensures.value ∙ ap (λ (t : ToldLists). t.answers) c.hand_out-told.ensures.told)
     (λ front x pushed. last_is_pushed c.deref.result.now front x c.in-Some-last.answered.now (sym c.in-Some-last.ensures.value) pushed)
-    c.position.ensures c.if-position-question.false c.tell_answer.ensures
+    c.position.ensures c.if-position-question.false c.tell_answer.ensures.only
 
-pub returns : goal.returns
-returns g c =
+pub returns-clause-serves : goal.returns-clause-serves
+returns-clause-serves g c =
     clients_quiet g.S.Stable g.D.Desk.tape g.D.Desk.Tells _ _ c.args.desk.now
     (serves_silent g.S.Stable (server_of c.args.self.now) (life_of c.ask.new.self) (life_of c.hand_out-told.new.self) c.args.question c.ask.result c.ask.ensures c.hand_out-told.ensures.left)
+
+pub returns-then-position-question-clause-each : goal.returns-then-position-question-clause-each
+returns-then-position-question-clause-each g c =
+    each_quiet g.D.Desk.tape g.D.Desk.Tells (asking (server_of c.args.self.now) c.args.question).waiting c.hold.new.self c.args.desk.now
+    (keeps_held c.args.self.now.waiting c.hold.new.self c.args.question c.in_ok-hold.ensures.added)
+
+pub returns-in-Some-last-clause-each : goal.returns-in-Some-last-clause-each
+returns-in-Some-last-clause-each g c =
+    on_told g.D.Desk.tape g.D.Desk.Tells c.tell_answer.result c.args.self.now.waiting c.args.question
+    (text_line c.in-Some-last.answered.now.position c.in-Some-last.answered.now.text) c.args.desk.now c.tell_answer.new.desk c.tell_answer.ensures.once
+
+pub returns-clause-each : goal.returns-clause-each
+returns-clause-each g c =
+    absurd (asked_is_last g.S.Stable (life_of c.args.self.now.life) (life_of c.ask.new.self) c.args.question.query c.ask.result
+    c.deref.result.now c.ask.ensures
+    (subst (λ (o : Option NodeFault). IsRefusal c.ask.result (Ok o)) c.in_default.is c.in_ok-fault.ensures)
+    (c.deref.ensures.value ∙ ap (λ (t : ToldLists). t.answers) c.hand_out-told.ensures.told) (sym c.in-None.ensures.value))
+
+pub returns-then-position-question-clause-stays : goal.returns-then-position-question-clause-stays
+returns-then-position-question-clause-stays g c =
+    stays_itself g.S.Stable (life_of c.args.self.now.life).node
+
+pub returns-in-Some-last-clause-stays : goal.returns-in-Some-last-clause-stays
+returns-in-Some-last-clause-stays g c =
+    stays_on g.S.Stable c.tell_answer.result _ _
+    (stays_asked g.S.Stable (life_of c.args.self.now.life) (life_of c.ask.new.self) (life_of c.hand_out-told.new.self) c.args.question.query c.ask.result
+    c.ask.ensures (subst (λ (o : Option NodeFault). IsRefusal c.ask.result (Ok o)) c.in_default.is c.in_ok-fault.ensures)
+    c.hand_out-told.ensures.left)
+
+pub returns-clause-stays : goal.returns-clause-stays
+returns-clause-stays g c =
+    stays_asked g.S.Stable (life_of c.args.self.now.life) (life_of c.ask.new.self) (life_of c.hand_out-told.new.self) c.args.question.query c.ask.result
+    c.ask.ensures (subst (λ (o : Option NodeFault). IsRefusal c.ask.result (Ok o)) c.in_default.is c.in_ok-fault.ensures)
+    c.hand_out-told.ensures.left

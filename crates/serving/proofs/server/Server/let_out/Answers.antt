@@ -1,29 +1,48 @@
-use Rattle.std.proofs.Common.{ap, refl, ◌∙◌}
+use Rattle.std.proofs.Common.{List, ap, refl, ◌∙◌, subst}
 use Rattle.life.specs.Seen.{life_of}
 use Rattle.serving.specs.Seen.{server_of}
 use Rattle.life.specs.Telling.{ToldLists}
 use Rattle.serving.proofs.Answering.{over_letting_out}
 use Rattle.serving.proofs.Holding.{less_itself}
 use Rattle.serving.proofs.Passing.{only_none}
+use Rattle.world_model.specs.declared.lists.Replied.{Replied}
+use Rattle.serving.specs.Owing.{AllSettled, KeepsEachOver}
+use Rattle.serving.specs.Waitings.{WaitingState}
+use Rattle.serving.proofs.Staying.{stays_same}
 use Rattle.serving.proofs.server.Server.let_out.Goals as goal
 
-pub returns-in_err-send_frames : goal.returns-in_err-send_frames
-returns-in_err-send_frames g c =
+pub returns-in_err-send_frames-clause-serves : goal.returns-in_err-send_frames-clause-serves
+returns-in_err-send_frames-clause-serves g c =
     over_letting_out g.S.Stable g.N.Network.tape g.N.Network.Tells g.D.Desk.tape g.D.Desk.Tells (server_of c.args.self.now) (life_of c.hand_out-frames.new.self) (server_of c.send_frames.new.self) (server_of c.send_frames.new.self) c.args.network.now c.send_frames.new.network c.args.desk.now c.args.desk.now
     c.as_slice.result.now (life_of c.args.self.now.life).held.replies c.hand_out-frames.ensures.left c.send_frames.ensures.same refl (less_itself (server_of c.send_frames.new.self))
     (c.as_slice.ensures.value ∙ ap (λ (t : ToldLists). t.frames) c.hand_out-frames.ensures.told) refl
     c.send_frames.ensures.sends (only_none g.D.Desk.tape g.D.Desk.Tells _ c.args.desk.now)
 
-pub returns-in_err-tell_replies : goal.returns-in_err-tell_replies
-returns-in_err-tell_replies g c =
+pub returns-in_err-tell_replies-clause-serves : goal.returns-in_err-tell_replies-clause-serves
+returns-in_err-tell_replies-clause-serves g c =
     over_letting_out g.S.Stable g.N.Network.tape g.N.Network.Tells g.D.Desk.tape g.D.Desk.Tells (server_of c.args.self.now) (life_of c.hand_out-frames.new.self) (server_of c.send_frames.new.self) (server_of c.tell_replies.new.self) c.args.network.now c.send_frames.new.network c.args.desk.now c.tell_replies.new.desk
     c.as_slice.result.now c.as_slice-2.result.now c.hand_out-frames.ensures.left c.send_frames.ensures.same (ap life_of c.tell_replies.ensures.life) c.tell_replies.ensures.keeps
     (c.as_slice.ensures.value ∙ ap (λ (t : ToldLists). t.frames) c.hand_out-frames.ensures.told) (c.as_slice-2.ensures.value ∙ ap (λ (t : ToldLists). t.replies) c.hand_out-frames.ensures.told)
     c.send_frames.ensures.sends c.tell_replies.ensures.tells
 
-pub returns : goal.returns
-returns g c =
+pub returns-clause-serves : goal.returns-clause-serves
+returns-clause-serves g c =
     over_letting_out g.S.Stable g.N.Network.tape g.N.Network.Tells g.D.Desk.tape g.D.Desk.Tells (server_of c.args.self.now) (life_of c.hand_out-frames.new.self) (server_of c.send_frames.new.self) (server_of c.tell_replies.new.self) c.args.network.now c.send_frames.new.network c.args.desk.now c.tell_replies.new.desk
     c.as_slice.result.now c.as_slice-2.result.now c.hand_out-frames.ensures.left c.send_frames.ensures.same (ap life_of c.tell_replies.ensures.life) c.tell_replies.ensures.keeps
     (c.as_slice.ensures.value ∙ ap (λ (t : ToldLists). t.frames) c.hand_out-frames.ensures.told) (c.as_slice-2.ensures.value ∙ ap (λ (t : ToldLists). t.replies) c.hand_out-frames.ensures.told)
     c.send_frames.ensures.sends c.tell_replies.ensures.tells
+
+pub returns-clause-each : goal.returns-clause-each
+returns-clause-each g c =
+    subst (λ (w : WaitingState). KeepsEachOver g.D.Desk.tape g.D.Desk.Tells w c.args.desk.now c.tell_replies.new.self.waiting c.tell_replies.new.desk)
+    (ap (λ s. s.waiting) c.send_frames.ensures.same) c.in_ok-tell_replies.ensures.each
+
+pub returns-clause-settled : goal.returns-clause-settled
+returns-clause-settled g c =
+    subst (λ (rs : List Replied). AllSettled rs c.tell_replies.new.self.waiting.claims)
+    (c.as_slice-2.ensures.value ∙ ap (λ (t : ToldLists). t.replies) c.hand_out-frames.ensures.told) c.in_ok-tell_replies.ensures.settled
+
+pub returns-clause-stays : goal.returns-clause-stays
+returns-clause-stays g c =
+    stays_same g.S.Stable _ _ (ap (λ l. (life_of l).node) c.tell_replies.ensures.life ∙ ap (λ s. s.life.node) c.send_frames.ensures.same
+    ∙ ap (λ l. l.node) c.hand_out-frames.ensures.left)

@@ -4,8 +4,8 @@ use Rattle.serving.specs.Waitings.{WaitingState}
 use Rattle.serving.proofs.Leading.{born_serves}
 use Rattle.serving.proofs.server.Server.new.Goals as goal
 
-pub returns : goal.returns
-returns g c = λ id count storage born.
+pub returns-clause-born : goal.returns-clause-born
+returns-clause-born g c = λ id count storage born.
     born_serves g.S.Stable id count storage
     (record { life = life_of c.args.life; waiting = c.none.result; requests = c.none-2.result }) born
     (ap (λ (w : WaitingState). w.claims) c.none.ensures) (ap (λ (w : WaitingState). w.questions) c.none.ensures)

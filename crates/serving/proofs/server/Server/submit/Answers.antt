@@ -1,4 +1,4 @@
-use Rattle.std.proofs.Common.{ℕ, [], ◌∷◌, ap, refl, subst, ◌∙◌}
+use Rattle.std.proofs.Common.{ℕ, [], ◌∷◌, ap, refl, subst, ◌∙◌, Ok, Option}
 use Rattle.serving.specs.Seen.{server_of}
 use Rattle.life.specs.Seen.{life_of}
 use Rattle.life.specs.Lives.{Does}
@@ -13,42 +13,47 @@ use Rattle.serving.specs.Turns.{MayBeHandedOn, refused}
 use Rattle.serving.specs.declared.waiting.Due.TheVariants as due
 use Rattle.serving.proofs.Coming.{just_asked, just_handed_on, just_written, requests_added, serves_submitting}
 use Rattle.serving.proofs.Holding.{holds_claim, holds_due, holds_same}
+use Rattle.serving.proofs.KeepingEach.{keeps_claim, keeps_line_due}
+use Rattle.serving.proofs.Submitted.{was_taken, was_turned_away}
+use Rattle.node_model.specs.declared.fault.NodeFault.{NodeFault}
+use Rattle.serving.specs.Refusals.{IsRefusal}
+use Rattle.serving.proofs.Staying.{stays_taking}
 use Rattle.serving.proofs.server.Server.submit.Goals as goal
 
-pub returns-in_err-fault : goal.returns-in_err-fault
-returns-in_err-fault g c =
+pub returns-in_err-fault-clause-serves : goal.returns-in_err-fault-clause-serves
+returns-in_err-fault-clause-serves g c =
     serves_submitting g.S.Stable (server_of c.args.self.now) _ c.args.connection c.args.text.now c.args.submission c.take-outcome.result c.requires
     (subst (λ (i : Input). Does g.S.Stable (life_of c.args.self.now.life) (Took i) c.take-outcome.result (life_of c.take-outcome.new.self)) c.input_of.ensures c.take-outcome.ensures)
     (holds_same (Heard c.args.connection c.args.text.now ∷ []) (server_of c.args.self.now) _ refl refl)
 
-pub returns-in_err-line-in-Some : goal.returns-in_err-line-in-Some
-returns-in_err-line-in-Some g c =
+pub returns-in_err-line-in-Some-clause-serves : goal.returns-in_err-line-in-Some-clause-serves
+returns-in_err-line-in-Some-clause-serves g c =
     serves_submitting g.S.Stable (server_of c.args.self.now) _ c.args.connection c.args.text.now c.args.submission c.take-outcome.result c.requires
     (subst (λ (i : Input). Does g.S.Stable (life_of c.args.self.now.life) (Took i) c.take-outcome.result (life_of c.take-outcome.new.self)) c.input_of.ensures c.take-outcome.ensures)
     (holds_same (Heard c.args.connection c.args.text.now ∷ []) (server_of c.args.self.now) _ refl refl)
 
-pub returns-in_err-add_due-in-Some : goal.returns-in_err-add_due-in-Some
-returns-in_err-add_due-in-Some g c =
+pub returns-in_err-add_due-in-Some-clause-serves : goal.returns-in_err-add_due-in-Some-clause-serves
+returns-in_err-add_due-in-Some-clause-serves g c =
     serves_submitting g.S.Stable (server_of c.args.self.now) _ c.args.connection c.args.text.now c.args.submission c.take-outcome.result c.requires
     (subst (λ (i : Input). Does g.S.Stable (life_of c.args.self.now.life) (Took i) c.take-outcome.result (life_of c.take-outcome.new.self)) c.input_of.ensures c.take-outcome.ensures)
     (holds_same (Heard c.args.connection c.args.text.now ∷ []) (server_of c.args.self.now) _ c.in_err-add_due-in-Some.ensures.err refl)
 
-pub returns-in_ok-add_due-in-Some : goal.returns-in_ok-add_due-in-Some
-returns-in_ok-add_due-in-Some g c =
+pub returns-in_ok-add_due-in-Some-clause-serves : goal.returns-in_ok-add_due-in-Some-clause-serves
+returns-in_ok-add_due-in-Some-clause-serves g c =
     serves_submitting g.S.Stable (server_of c.args.self.now) _ c.args.connection c.args.text.now c.args.submission c.take-outcome.result c.requires
     (subst (λ (i : Input). Does g.S.Stable (life_of c.args.self.now.life) (Took i) c.take-outcome.result (life_of c.take-outcome.new.self)) c.input_of.ensures c.take-outcome.ensures)
     (holds_due (Heard c.args.connection c.args.text.now ∷ []) (server_of c.args.self.now) _ (due.Line c.args.connection c.in_ok-line-in-Some.line)
     (refused c.args.submission c.code-code.result (just_written c.args.connection c.args.text.now (client_line.Submit c.args.submission) c.requires)
     (c.in_ok-line-in-Some.ensures ∙ ap (λ (n : ℕ). answer_line (answer.Refused c.args.submission.client n c.code-code.result)) c.value-number.ensures.value)) c.in_ok-add_due-in-Some.ensures.added refl)
 
-pub returns-in_err-add_claim-in-None : goal.returns-in_err-add_claim-in-None
-returns-in_err-add_claim-in-None g c =
+pub returns-in_err-add_claim-in-None-clause-serves : goal.returns-in_err-add_claim-in-None-clause-serves
+returns-in_err-add_claim-in-None-clause-serves g c =
     serves_submitting g.S.Stable (server_of c.args.self.now) _ c.args.connection c.args.text.now c.args.submission c.take-outcome.result c.requires
     (subst (λ (i : Input). Does g.S.Stable (life_of c.args.self.now.life) (Took i) c.take-outcome.result (life_of c.take-outcome.new.self)) c.input_of.ensures c.take-outcome.ensures)
     (holds_same (Heard c.args.connection c.args.text.now ∷ []) (server_of c.args.self.now) _ c.in_err-add_claim-in-None.ensures.err refl)
 
-pub returns-in_err-add-in-None : goal.returns-in_err-add-in-None
-returns-in_err-add-in-None g c =
+pub returns-in_err-add-in-None-clause-serves : goal.returns-in_err-add-in-None-clause-serves
+returns-in_err-add-in-None-clause-serves g c =
     serves_submitting g.S.Stable (server_of c.args.self.now) _ c.args.connection c.args.text.now c.args.submission c.take-outcome.result c.requires
     (subst (λ (i : Input). Does g.S.Stable (life_of c.args.self.now.life) (Took i) c.take-outcome.result (life_of c.take-outcome.new.self)) c.input_of.ensures c.take-outcome.ensures)
     (holds_claim (Heard c.args.connection c.args.text.now ∷ []) (server_of c.args.self.now) _ (record { connection = c.args.connection; client = c.args.submission.client; number = c.value-number.result })
@@ -57,8 +62,8 @@ returns-in_err-add-in-None g c =
     c.args.self.now.requests c.add.new.self (fresh_request c.args.submission.client c.value-number.result c.args.text.now)
     (just_handed_on c.args.connection c.args.text.now c.args.submission c.args.submission.client c.value-number.result c.requires) c.add.ensures.again c.add.ensures.goes_last c.add.ensures.err))
 
-pub returns-in_ok-add-in-None : goal.returns-in_ok-add-in-None
-returns-in_ok-add-in-None g c =
+pub returns-in_ok-add-in-None-clause-serves : goal.returns-in_ok-add-in-None-clause-serves
+returns-in_ok-add-in-None-clause-serves g c =
     serves_submitting g.S.Stable (server_of c.args.self.now) _ c.args.connection c.args.text.now c.args.submission c.take-outcome.result c.requires
     (subst (λ (i : Input). Does g.S.Stable (life_of c.args.self.now.life) (Took i) c.take-outcome.result (life_of c.take-outcome.new.self)) c.input_of.ensures c.take-outcome.ensures)
     (holds_claim (Heard c.args.connection c.args.text.now ∷ []) (server_of c.args.self.now) _ (record { connection = c.args.connection; client = c.args.submission.client; number = c.value-number.result })
@@ -66,3 +71,42 @@ returns-in_ok-add-in-None g c =
     (requests_added (is_known c.args.submission.client c.value-number.result c.args.self.now.requests) c.add.result (MayBeHandedOn (Heard c.args.connection c.args.text.now ∷ []))
     c.args.self.now.requests c.add.new.self (fresh_request c.args.submission.client c.value-number.result c.args.text.now)
     (just_handed_on c.args.connection c.args.text.now c.args.submission c.args.submission.client c.value-number.result c.requires) c.add.ensures.again c.add.ensures.goes_last c.add.ensures.err))
+
+pub returns-in_ok-add_due-in-Some-clause-each : goal.returns-in_ok-add_due-in-Some-clause-each
+returns-in_ok-add_due-in-Some-clause-each g c =
+    keeps_line_due c.args.self.now.waiting c.add_due.new.self c.args.connection c.args.text.now c.in_ok-line-in-Some.line
+    c.in_ok-add_due-in-Some.ensures.added
+
+pub returns-in_ok-add-in-None-clause-each : goal.returns-in_ok-add-in-None-clause-each
+returns-in_ok-add-in-None-clause-each g c =
+    keeps_claim c.args.self.now.waiting c.add_claim.new.self c.args.connection c.args.text.now
+    (record { connection = c.args.connection; client = c.args.submission.client; number = c.value-number.result }) refl
+    c.in_ok-add_claim-in-None.ensures.added
+
+pub returns-in_ok-add_due-in-Some-clause-outcome : goal.returns-in_ok-add_due-in-Some-clause-outcome
+returns-in_ok-add_due-in-Some-clause-outcome g c =
+    was_turned_away g.S.Stable (server_of c.args.self.now) _ c.args.connection c.args.submission c.in-Some.fault c.take-outcome.result
+    (subst (λ (i : Input). Does g.S.Stable (life_of c.args.self.now.life) (Took i) c.take-outcome.result (life_of c.take-outcome.new.self)) c.input_of.ensures c.take-outcome.ensures)
+    (subst (λ (o : Option NodeFault). IsRefusal c.take-outcome.result (Ok o)) c.in-Some.is c.in_ok-fault.ensures)
+    c.in_ok-line-in-Some.line
+    (c.in_ok-line-in-Some.ensures ∙ ap (λ (n : ℕ). answer_line (answer.Refused c.args.submission.client n c.code-code.result)) c.value-number.ensures.value
+    ∙ ap (λ (k : ℕ). answer_line (answer.Refused c.args.submission.client c.args.submission.number k)) c.code-code.ensures)
+    c.in_ok-add_due-in-Some.ensures.added
+
+pub returns-in_ok-add-in-None-clause-outcome : goal.returns-in_ok-add-in-None-clause-outcome
+returns-in_ok-add-in-None-clause-outcome g c =
+    was_taken g.S.Stable (server_of c.args.self.now) _ c.args.connection c.args.submission c.take-outcome.result c.value-number.result
+    c.value-number.ensures.value
+    (subst (λ (i : Input). Does g.S.Stable (life_of c.args.self.now.life) (Took i) c.take-outcome.result (life_of c.take-outcome.new.self)) c.input_of.ensures c.take-outcome.ensures)
+    (subst (λ (o : Option NodeFault). IsRefusal c.take-outcome.result (Ok o)) c.in-None.is c.in_ok-fault.ensures)
+    c.in_ok-add_claim-in-None.ensures.added
+
+pub returns-in_ok-add_due-in-Some-clause-stays : goal.returns-in_ok-add_due-in-Some-clause-stays
+returns-in_ok-add_due-in-Some-clause-stays g c =
+    stays_taking g.S.Stable (life_of c.args.self.now.life) (life_of c.take-outcome.new.self) c.input_of.result c.take-outcome.result _
+    c.take-outcome.ensures c.in_ok-fault.ensures
+
+pub returns-in_ok-add-in-None-clause-stays : goal.returns-in_ok-add-in-None-clause-stays
+returns-in_ok-add-in-None-clause-stays g c =
+    stays_taking g.S.Stable (life_of c.args.self.now.life) (life_of c.take-outcome.new.self) c.input_of.result c.take-outcome.result _
+    c.take-outcome.ensures c.in_ok-fault.ensures

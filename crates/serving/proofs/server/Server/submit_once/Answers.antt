@@ -6,37 +6,46 @@ use Rattle.node_model.specs.declared.input.Input.{Input}
 use Rattle.world_model.specs.Lives.{Took}
 use Rattle.serving.specs.Turns.{handed_on}
 use Rattle.serving.proofs.Coming.{serves_handed_on, serves_passing_over}
+use Rattle.serving.proofs.Staying.{stays_taking}
 use Rattle.serving.proofs.server.Server.submit_once.Goals as goal
 
-pub returns-then-has_counted : goal.returns-then-has_counted
-returns-then-has_counted g c =
-    record {
-      serves = serves_passing_over g.S.Stable (server_of c.args.self.now) _ (handed_on c.args.line.now) refl refl refl;
-      once = λ last is small. refl;
-    }
+pub returns-then-has_counted-clause-serves : goal.returns-then-has_counted-clause-serves
+returns-then-has_counted-clause-serves g c =
+    serves_passing_over g.S.Stable (server_of c.args.self.now) _ (handed_on c.args.line.now) refl refl refl
 
-pub returns-in_err-refusal : goal.returns-in_err-refusal
-returns-in_err-refusal g c =
-    record {
-      serves = serves_handed_on g.S.Stable (server_of c.args.self.now) _ c.args.line.now c.args.submission c.take.result c.requires
-          (subst (λ (i : Input). Does g.S.Stable (life_of c.args.self.now.life) (Took i) c.take.result (life_of c.take.new.self)) c.input_of.ensures
-          c.take.ensures) refl refl;
-      once = λ last is small.
-          let counted : c.has_counted.result ≡ true =
-          (c.has_counted.ensures last is).1 (subst (λ (n : ℕ). n ≤ last) (sym c.value.ensures.value) small) in
-          let not_counted = c.if-has_counted.false in
-          absurd (cc);
-    }
+pub returns-then-has_counted-clause-once : goal.returns-then-has_counted-clause-once
+returns-then-has_counted-clause-once g c =
+    λ last is small. refl
 
-pub returns : goal.returns
-returns g c =
-    record {
-      serves = serves_handed_on g.S.Stable (server_of c.args.self.now) _ c.args.line.now c.args.submission c.take.result c.requires
-          (subst (λ (i : Input). Does g.S.Stable (life_of c.args.self.now.life) (Took i) c.take.result (life_of c.take.new.self)) c.input_of.ensures
-          c.take.ensures) refl refl;
-      once = λ last is small.
-          let counted : c.has_counted.result ≡ true =
-          (c.has_counted.ensures last is).1 (subst (λ (n : ℕ). n ≤ last) (sym c.value.ensures.value) small) in
-          let not_counted = c.if-has_counted.false in
-          absurd (cc);
-    }
+pub returns-in_err-refusal-clause-serves : goal.returns-in_err-refusal-clause-serves
+returns-in_err-refusal-clause-serves g c =
+    serves_handed_on g.S.Stable (server_of c.args.self.now) _ c.args.line.now c.args.submission c.take.result c.requires
+    (subst (λ (i : Input). Does g.S.Stable (life_of c.args.self.now.life) (Took i) c.take.result (life_of c.take.new.self)) c.input_of.ensures
+    c.take.ensures) refl refl
+
+pub returns-in_err-refusal-clause-once : goal.returns-in_err-refusal-clause-once
+returns-in_err-refusal-clause-once g c =
+    λ last is small.
+    let counted : c.has_counted.result ≡ true =
+    (c.has_counted.ensures last is).1 (subst (λ (n : ℕ). n ≤ last) (sym c.value.ensures.value) small) in
+    let not_counted = c.if-has_counted.false in
+    absurd (cc)
+
+pub returns-clause-serves : goal.returns-clause-serves
+returns-clause-serves g c =
+    serves_handed_on g.S.Stable (server_of c.args.self.now) _ c.args.line.now c.args.submission c.take.result c.requires
+    (subst (λ (i : Input). Does g.S.Stable (life_of c.args.self.now.life) (Took i) c.take.result (life_of c.take.new.self)) c.input_of.ensures
+    c.take.ensures) refl refl
+
+pub returns-clause-once : goal.returns-clause-once
+returns-clause-once g c =
+    λ last is small.
+    let counted : c.has_counted.result ≡ true =
+    (c.has_counted.ensures last is).1 (subst (λ (n : ℕ). n ≤ last) (sym c.value.ensures.value) small) in
+    let not_counted = c.if-has_counted.false in
+    absurd (cc)
+
+pub returns-clause-stays : goal.returns-clause-stays
+returns-clause-stays g c =
+    stays_taking g.S.Stable (life_of c.args.self.now.life) (life_of c.take.new.self) c.input_of.result c.take.result
+    c.in_ok-refusal.field-0 c.take.ensures c.in_ok-refusal.ensures

@@ -1,4 +1,5 @@
 use Rattle.std.proofs.Common.{refl, subst}
+use Rattle.life.specs.Seen.{life_of}
 use Rattle.clients.specs.ClientLines.{IsClientLine}
 use Rattle.clients.specs.declared.line.ClientLine.{ClientLine}
 use Rattle.clients.specs.declared.line.ClientLine.TheVariants as client_line
@@ -16,10 +17,10 @@ ask-requires g c =
 
 pub owe-requires : goal.owe-requires
 owe-requires g c =
-    status c.status-status.result (just_written c.args.connection c.args.text.now client_line.Status
+    status (life_of c.args.self.now.life).node c.status-status.result refl c.status-status.ensures (just_written c.args.connection c.args.text.now client_line.Status
     (subst (λ (a : ClientLine). IsClientLine c.args.text.now a) c.in-Status.is c.requires)) refl
 
 pub owe-requires-in-Last : goal.owe-requires-in-Last
 owe-requires-in-Last g c =
-    last c.in-Last.client c.last_number-number.result (just_written c.args.connection c.args.text.now (client_line.Last c.in-Last.client)
+    last (life_of c.args.self.now.life).node c.in-Last.client c.last_number-number.result refl c.last_number-number.ensures (just_written c.args.connection c.args.text.now (client_line.Last c.in-Last.client)
     (subst (λ (a : ClientLine). IsClientLine c.args.text.now a) c.in-Last.is c.requires)) refl

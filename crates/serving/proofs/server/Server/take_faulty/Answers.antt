@@ -9,8 +9,8 @@ use Rattle.serving.proofs.Coming.{serves_line_heard}
 use Rattle.serving.proofs.Holding.{holds_same}
 use Rattle.serving.proofs.server.Server.take_faulty.Goals as goal
 
-pub returns-in-World-Memory : goal.returns-in-World-Memory
-returns-in-World-Memory g c =
+pub returns-in-World-Memory-clause-serves : goal.returns-in-World-Memory-clause-serves
+returns-in-World-Memory-clause-serves g c =
     serves_line_heard g.S.Stable (server_of c.args.self.now) _ c.args.connection c.args.text.now refl (holds_same (Heard c.args.connection c.args.text.now ∷ []) (server_of c.args.self.now) _ refl refl)
 
 pub owe-requires : goal.owe-requires

@@ -4,6 +4,6 @@ use Rattle.serving.specs.Turns.{handed_on}
 use Rattle.serving.proofs.Coming.{serves_passing_over}
 use Rattle.serving.proofs.server.Server.take_handed_on.Goals as goal
 
-pub returns-in_default : goal.returns-in_default
-returns-in_default g c =
+pub returns-in_default-clause-serves : goal.returns-in_default-clause-serves
+returns-in_default-clause-serves g c =
     serves_passing_over g.S.Stable (server_of c.args.self.now) _ (handed_on c.args.line.now) refl refl refl

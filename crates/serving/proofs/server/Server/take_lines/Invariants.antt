@@ -1,7 +1,12 @@
 use Rattle.serving.specs.Seen.{server_of}
+use Rattle.serving.specs.Owing.{KeepsEachOver}
 use Rattle.serving.specs.Serving.{ServesClients}
+use Rattle.life.specs.Seen.{life_of}
+use Rattle.serving.specs.Staying.{StaysUp}
 use Rattle.serving.proofs.server.Server.take_lines.Given as goal
 
 abbrev pub invariant-lines : goal.invariant-lines
 invariant-lines g l =
     ServesClients g.S.Stable g.D.Desk.tape g.D.Desk.Tells (server_of l.initial.self) l.initial.desk (server_of l.self) l.desk
+    × KeepsEachOver g.D.Desk.tape g.D.Desk.Tells l.initial.self.waiting l.initial.desk l.self.waiting l.desk
+    × StaysUp (life_of l.initial.self.life).node (life_of l.self.life).node

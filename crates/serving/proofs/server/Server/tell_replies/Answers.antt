@@ -1,22 +1,33 @@
-use Rattle.std.proofs.Common.{List, [], ◌∷◌, All, Contains, refl, sym, subst}
+use Rattle.std.proofs.Common.{List, [], ◌∷◌, All, Contains, refl, sym, ap, subst}
 use Rattle.serving.specs.Seen.{server_of}
 use Rattle.serving.specs.Outgoing.{IsReplyIn}
 use Rattle.serving.specs.declared.claims.Claim.{Claim}
 use Rattle.serving.proofs.Holding.{less_itself, less_settled, less_then}
 use Rattle.serving.proofs.Lists.{reply_of_one}
 use Rattle.serving.proofs.Passing.{only_none, only_then, only_weaker}
+use Rattle.serving.specs.Owing.{reply_told}
+use Rattle.serving.specs.Tapes.{HasPassed}
+use Rattle.serving.proofs.KeepingEach.{keeps_settled}
+use Rattle.serving.proofs.Settling.{settled_more, settled_none}
+use Rattle.serving.specs.Waitings.{WaitingState}
+use Rattle.serving.proofs.KeepingEachOver.{each_said, each_still, each_then}
 use Rattle.serving.proofs.server.Server.tell_replies.Goals as goal
 
 pub replies-init : goal.replies-init
-replies-init g c =
-    (refl, less_itself (server_of c.args.self.now), only_none g.D.Desk.tape g.D.Desk.Tells (IsReplyIn c.args.replies.now c.args.self.now.waiting.claims) c.args.desk.now)
+replies-init g c = (
+  refl,
+  less_itself (server_of c.args.self.now),
+  only_none g.D.Desk.tape g.D.Desk.Tells (IsReplyIn c.args.replies.now c.args.self.now.waiting.claims) c.args.desk.now,
+  each_still g.D.Desk.tape g.D.Desk.Tells c.args.self.now.waiting c.args.self.now.waiting c.args.desk.now refl,
+  settled_none c.args.self.now.waiting.claims,
+)
 
 pub returns-in_err-tell_reply-clause-tells : goal.returns-in_err-tell_reply-clause-tells
 returns-in_err-tell_reply-clause-tells g c =
     only_then g.D.Desk.tape g.D.Desk.Tells (IsReplyIn c.args.replies.now c.args.self.now.waiting.claims) _ _ _ c.replies.invariant.2
     (only_weaker g.D.Desk.tape g.D.Desk.Tells (IsReplyIn (c.replied-item.result ∷ []) c.claims.result.now) (IsReplyIn c.args.replies.now c.args.self.now.waiting.claims)
     (reply_of_one c.args.replies.now c.replied-item.result c.claims.result.now c.args.self.now.waiting.claims (c.replies.replied-index, c.replies-test.true, sym c.replied-item.is)
-    (subst (λ (xs : List Claim). All (Contains c.args.self.now.waiting.claims) xs) (sym c.claims.ensures) c.replies.invariant.1.claims)) _ _ c.tell_reply.ensures)
+    (subst (λ (xs : List Claim). All (Contains c.args.self.now.waiting.claims) xs) (sym c.claims.ensures) c.replies.invariant.1.claims)) _ _ c.tell_reply.ensures.only)
 
 pub replies-preserved : goal.replies-preserved
 replies-preserved g c = (
@@ -26,5 +37,15 @@ replies-preserved g c = (
   only_then g.D.Desk.tape g.D.Desk.Tells (IsReplyIn c.args.replies.now c.args.self.now.waiting.claims) _ _ _ c.replies.invariant.2
       (only_weaker g.D.Desk.tape g.D.Desk.Tells (IsReplyIn (c.replied-item.result ∷ []) c.claims.result.now) (IsReplyIn c.args.replies.now c.args.self.now.waiting.claims)
       (reply_of_one c.args.replies.now c.replied-item.result c.claims.result.now c.args.self.now.waiting.claims (c.replies.replied-index, c.replies-test.true, sym c.replied-item.is)
-      (subst (λ (xs : List Claim). All (Contains c.args.self.now.waiting.claims) xs) (sym c.claims.ensures) c.replies.invariant.1.claims)) _ _ c.tell_reply.ensures),
+      (subst (λ (xs : List Claim). All (Contains c.args.self.now.waiting.claims) xs) (sym c.claims.ensures) c.replies.invariant.1.claims)) _ _ c.tell_reply.ensures.only),
+  each_then g.D.Desk.tape g.D.Desk.Tells _ _ _ _ _ _ c.replies.invariant.3 c.tell_reply.ensures.only.passes.told
+      (each_said g.D.Desk.tape g.D.Desk.Tells (reply_told c.replied-item.result c.replies.self.waiting.claims) c.replies.self.waiting
+      c.settle.new.self c.replies.desk c.tell_reply.new.desk
+      (subst (λ (xs : List Claim). HasPassed g.D.Desk.tape g.D.Desk.Tells c.replies.desk (reply_told c.replied-item.result xs) c.tell_reply.new.desk)
+      c.claims.ensures c.in_ok-tell_reply.ensures.each)
+      (keeps_settled c.replies.self.waiting c.settle.new.self c.replied-item.result c.replied-item.result.client c.value-number.result refl
+      c.value-number.ensures.value c.settle.ensures)),
+  settled_more c.args.replies.now c.replies.replied-index c.replied-item.result c.replies-test.true c.replied-item.is
+      c.replies.self.waiting.claims c.settle.new.self.claims c.value-number.result c.value-number.ensures.value
+      (ap (λ (w : WaitingState). w.claims) c.settle.ensures) c.replies.invariant.4,
 )

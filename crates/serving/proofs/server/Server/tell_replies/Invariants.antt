@@ -1,6 +1,7 @@
-use Rattle.std.proofs.Common.{◌≡◌}
+use Rattle.std.proofs.Common.{◌≡◌, take}
 use Rattle.serving.specs.Seen.{server_of}
 use Rattle.serving.specs.Outgoing.{IsReplyIn, KeepsLess}
+use Rattle.serving.specs.Owing.{AllSettled, KeepsEachOver}
 use Rattle.serving.specs.Serving.{PassesOnly}
 use Rattle.serving.proofs.server.Server.tell_replies.Given as goal
 
@@ -9,3 +10,5 @@ invariant-replies g l =
     (l.self.life ≡ l.initial.self.life)
     × KeepsLess (server_of l.initial.self) (server_of l.self)
     × PassesOnly g.D.Desk.tape g.D.Desk.Tells (IsReplyIn l.replies l.initial.self.waiting.claims) l.initial.desk l.desk
+    × KeepsEachOver g.D.Desk.tape g.D.Desk.Tells l.initial.self.waiting l.initial.desk l.self.waiting l.desk
+    × AllSettled (take l.replied-index l.replies) l.self.waiting.claims

@@ -1,0 +1,69 @@
+-- What came of a request, and of a query.
+use Rattle.std.proofs.Common.{◌≡◌, ℕ, ◌-◌, List, [], ◌∷◌, ◌++◌, length, slice_get, Some, None, Result, Ok, Err, inl, inr, ap, subst, ◌∙◌, arith}
+use Rattle.std.specs.Global.{Vec}
+use Rattle.std.proofs.lemmas.List.{length_push}
+use Rattle.sessions.proofs.Longer.{get-push_last}
+use Rattle.sessions.specs.declared.submission.Submission.{Submission}
+use Rattle.store.specs.declared.query.Query.{Query}
+use Rattle.stable.specs.declared.stable.Stable.{Ghosts}
+use Rattle.node_model.specs.Faults.{node_code}
+use Rattle.node_model.specs.declared.fault.NodeFault.{NodeFault}
+use Rattle.node_model.specs.declared.input.Input.TheVariants as input
+use Rattle.world_model.specs.declared.lists.Answered.{Answered}
+use Rattle.world_model.specs.Lives.{Asked, Took}
+use Rattle.life.specs.Lives.{Does, LifeState}
+use Rattle.life.specs.declared.fault.LifeFault.{LifeFault}
+use Rattle.clients.specs.AnswerLines.{answer_line}
+use Rattle.clients.specs.declared.answer.ClientAnswer.TheVariants as answer
+use Rattle.serving.specs.Refusals.{IsRefusal}
+use Rattle.serving.specs.Serving.{ServerState}
+use Rattle.serving.specs.Submitting.{IsSubmitted}
+use Rattle.serving.specs.declared.waiting.Due.TheVariants as due
+
+module _ {S : Type 0} (storages : Ghosts S) where
+  pub was_turned_away : (old new : ServerState S) (connection : ℕ) (submission : Submission) (fault : NodeFault)
+      (result : Result (Unit {0}) LifeFault)
+      → Does storages old.life (Took (input.Submit submission.client submission.number submission.op)) result new.life
+      → IsRefusal result (Ok (Some fault)) → (line : Vec ℕ)
+      → line.items ≡ answer_line (answer.Refused submission.client submission.number (node_code fault))
+      → new.waiting ≡ record old.waiting { due = old.waiting.due ++ due.Line connection line ∷ [] }
+      → IsSubmitted storages old connection submission new
+  was_turned_away old new connection submission fault result does refusal line spelled owed =
+      let Did : Result (Unit {0}) LifeFault → Type 0 =
+      λ r. Does storages old.life (Took (input.Submit submission.client submission.number submission.op)) r new.life in
+      inr (record { fault = fault; refuses = subst Did refusal.0 does; line = line; spelled = spelled; due = owed })
+
+  pub was_taken : (old new : ServerState S) (connection : ℕ) (submission : Submission) (result : Result (Unit {0}) LifeFault)
+      (number : ℕ) → number ≡ submission.number
+      → Does storages old.life (Took (input.Submit submission.client submission.number submission.op)) result new.life
+      → IsRefusal result (Ok None)
+      → new.waiting ≡ record old.waiting {
+        claims = old.waiting.claims ++ (record { connection = connection; client = submission.client; number = number }) ∷ [];
+      }
+      → IsSubmitted storages old connection submission new
+  was_taken old new connection submission (Ok done) number is does refusal waits = inl (record {
+    said = does.0;
+    takes = does.1;
+    waits = waits ∙ ap (λ (n : ℕ). record old.waiting {
+      claims = old.waiting.claims ++ (record { connection = connection; client = submission.client; number = n }) ∷ [];
+    }) is;
+  })
+  was_taken old new connection submission (Err fault) number is does refusal waits = absurd (cc)
+
+  -- a query that a node answered has its answer among those that are held
+  pub asked_is_last : (old new : LifeState S) (query : Query) (result : Result (Unit {0}) LifeFault) (answers : List Answered)
+      → Does storages old (Asked query) result new → IsRefusal result (Ok None) → answers ≡ new.held.answers
+      → slice_get answers (length answers - 1) ≡ None → ⊥
+  asked_is_last old new query (Ok done) answers does refusal listed last =
+      let told = does.0 in
+      let mine : Answered = record { node = old.id; position = told.0; query = query; text = told.1 } in
+      let held : answers ≡ old.held.answers ++ mine ∷ [] = listed ∙ ap (λ t. t.answers) does.1.held in
+      let front = old.held.answers in
+      let here : slice_get (front ++ mine ∷ []) (length (front ++ mine ∷ []) - 1) ≡ None =
+      subst (λ (xs : List Answered). slice_get xs (length xs - 1) ≡ None) held last in
+      let place : length (front ++ mine ∷ []) - 1 ≡ length front = omega (arith, length_push front mine) in
+      let there : slice_get (front ++ mine ∷ []) (length front) ≡ None =
+      subst (λ (n : ℕ). slice_get (front ++ mine ∷ []) n ≡ None) place here in
+      let pushed_one = get-push_last front mine in
+      absurd (cc)
+  asked_is_last old new query (Err fault) answers does refusal listed last = absurd (cc)

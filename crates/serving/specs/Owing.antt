@@ -1,0 +1,60 @@
+-- What a process owes its clients: one text for each line.
+use Rattle.std.specs.Prelude.{◌≡◌, ℕ, ◌==◌, ◌+◌, Bool, false, List, ◌++◌, map, All, Contains, count_by}
+use Rattle.std.specs.List.{filter}
+use Rattle.sessions.specs.SessionReplies.{outcome_code}
+use Rattle.world_model.specs.declared.lists.Replied.{Replied}
+use Rattle.clients.specs.AnswerLines.{answer_line}
+use Rattle.clients.specs.declared.answer.ClientAnswer.TheVariants as answer
+use Rattle.serving.specs.declared.claims.Claim.{Claim}
+use Rattle.serving.specs.Claiming.{is_of}
+use Rattle.serving.specs.Tapes.{Talk, Heard, Went, Told}
+use Rattle.serving.specs.Waitings.{WaitingState, is_told_to, lines_of}
+
+-- ---- by connection
+-- a line that it wrote
+abbrev pub is_line_of : ℕ → Talk → Bool
+is_line_of connection (Heard by text) = by == connection
+is_line_of connection (Told to text) = false
+is_line_of connection (Went by) = false
+
+-- a text that it was told
+abbrev pub is_text_to : ℕ → Talk → Bool
+is_text_to connection (Heard by text) = false
+is_text_to connection (Told to text) = to == connection
+is_text_to connection (Went by) = false
+
+-- so many of its lines wait for their texts
+abbrev pub owed_to : ℕ → WaitingState → ℕ
+owed_to connection waiting = lines_of connection waiting + count_by (is_told_to connection) waiting.due
+
+-- ---- one text for each line
+-- each line of a connection that hasn't gone was answered by one text, or waits for it
+pub record AnswersEach (talk : List Talk) (waiting : WaitingState) : Type 0 where
+  pub each : (connection : ℕ) → ¬ Contains talk (Went connection)
+      → count_by (is_line_of connection) talk ≡ count_by (is_text_to connection) talk + owed_to connection waiting
+
+-- a part of a turn in which this was said leaves that as it was
+pub record KeepsEach (said : List Talk) (old new : WaitingState) : Type 0 where
+  pub keeps : (talk : List Talk) → AnswersEach talk old → AnswersEach (talk ++ said) new
+
+-- over a desk, as far as its tape tells
+pub record KeepsEachOver {D : Type 0} (tape : D → List Talk) (Tells : D → Type 0) (old : WaitingState) (desk : D)
+    (new : WaitingState) (desk' : D) : Type 0 where
+  pub keeps : Tells desk' → AnswersEach (tape desk) old → AnswersEach (tape desk') new
+
+-- ---- replies
+abbrev pub reply_line : Replied → List ℕ
+reply_line replied = answer_line (answer.Reply replied.client replied.number (outcome_code replied.reply) replied.position)
+
+-- the reply is told once to each who waits for it by these claims, in their order
+abbrev pub reply_told : Replied → List Claim → List Talk
+reply_told replied claims =
+    map (λ claim. Told claim.connection (reply_line replied)) (filter (is_of replied.client replied.number) claims)
+
+-- nobody waits for the reply any more
+abbrev pub IsSettled : List Claim → Replied → Type 0
+IsSettled claims replied = All (λ claim. is_of replied.client replied.number claim ≡ false) claims
+
+-- nor for any of these
+pub record AllSettled (replies : List Replied) (claims : List Claim) : Type 0 where
+  pub settled : All (IsSettled claims) replies
