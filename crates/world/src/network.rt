@@ -47,6 +47,7 @@ impl<S: Stable> Inner<S> {
                 None => return Ok(delivered),
             }
         }
+        drop(last);
         match self.next_waiting() {
             Some(_) => Err(WorldFault::FlushLimit),
             None => Ok(MOST_DELIVERIES),
