@@ -73,8 +73,8 @@ IsAmong {S} Was Were = (n : NodeState S) → Was n → Were n
 
 pub plain_in : {S : Type 0} (Was Were : NodeState S → Type 0) → IsAmong Was Were → (t u : List Talk) → IsIn t u → (connection : ℕ)
     (text : List ℕ) → IsPlain Was t connection text → IsPlain Were u connection text
-plain_in Was Were among t u i connection text (refused submission code written spelled) =
-    refused submission code (written_in t u i connection (line.Submit submission) written) spelled
+plain_in Was Were among t u i connection text (refused n submission fault was is written spelled) =
+    refused n submission fault (among n was) is (written_in t u i connection (line.Submit submission) written) spelled
 plain_in Was Were among t u i connection text (faulty asked cause heard fault spelled) =
     faulty asked cause (i.has (Heard connection asked) heard) fault spelled
 plain_in Was Were among t u i connection text (status n known was is written spelled) =

@@ -1,12 +1,15 @@
 -- What came of a request, and of a query.
-use Rattle.std.proofs.Common.{◌≡◌, ℕ, ◌-◌, List, [], ◌∷◌, ◌++◌, length, slice_get, Some, None, Result, Ok, Err, inl, inr, ap, subst, ◌∙◌, arith}
+use Rattle.std.proofs.Common.{◌≡◌, ℕ, ◌-◌, Option, List, [], ◌∷◌, ◌++◌, length, slice_get, Some, None, Result, Ok, Err, inl, inr, ap, subst, ◌∙◌, arith, Bool, true, false, MatchBool, IfSome, refl}
 use Rattle.std.specs.Global.{Vec}
 use Rattle.std.proofs.lemmas.List.{length_push}
 use Rattle.sessions.proofs.Longer.{get-push_last}
 use Rattle.sessions.specs.declared.submission.Submission.{Submission}
 use Rattle.store.specs.declared.query.Query.{Query}
 use Rattle.stable.specs.declared.stable.Stable.{Ghosts}
-use Rattle.node_model.specs.Faults.{node_code}
+use Rattle.node_model.specs.Faults.{is_stop_fault, node_code}
+use Rattle.node_model.specs.Nodes.{NodeState, NodeSteps, RefusesInput, StopsOnInput}
+use Rattle.node_model.specs.Replicas.{ReplicaState, refuses}
+use Rattle.node_model.specs.declared.input.Input.{Input}
 use Rattle.node_model.specs.declared.fault.NodeFault.{NodeFault}
 use Rattle.node_model.specs.declared.input.Input.TheVariants as input
 use Rattle.world_model.specs.declared.lists.Answered.{Answered}
@@ -15,7 +18,8 @@ use Rattle.life.specs.Lives.{Does, LifeState}
 use Rattle.life.specs.declared.fault.LifeFault.{LifeFault}
 use Rattle.clients.specs.AnswerLines.{answer_line}
 use Rattle.clients.specs.declared.answer.ClientAnswer.TheVariants as answer
-use Rattle.serving.specs.Refusals.{IsRefusal}
+use Rattle.serving.specs.Knowing.{Refuses}
+use Rattle.serving.specs.Refusals.{IsRefusal, IsRefused}
 use Rattle.serving.specs.Serving.{ServerState}
 use Rattle.serving.specs.Submitting.{IsSubmitted}
 use Rattle.serving.specs.declared.waiting.Due.TheVariants as due
@@ -32,6 +36,36 @@ module _ {S : Type 0} (storages : Ghosts S) where
       let Did : Result (Unit {0}) LifeFault → Type 0 =
       λ r. Does storages old.life (Took (input.Submit submission.client submission.number submission.op)) r new.life in
       inr (record { fault = fault; refuses = subst Did refusal.0 does; line = line; spelled = spelled; due = owed })
+
+  -- so the node was one that refuses it
+  fault_found : (old new : NodeState S) (m : ReplicaState) (given : Input) (fault : NodeFault) (stops : Bool) → stops ≡ false
+      → MatchBool stops (StopsOnInput storages old m given fault new) (RefusesInput old m given fault new)
+      → refuses m given ≡ Some fault
+  fault_found old new m given fault true is h = absurd (cc)
+  fault_found old new m given fault false is h = h.refused
+
+  found_where_up : (old new : NodeState S) (submission : Submission) (fault : NodeFault)
+      → NodeSteps storages old (input.Submit submission.client submission.number submission.op) (Err fault) new → IsRefused fault
+      → (up : Option ReplicaState) → old.up ≡ up → Refuses old submission fault
+  found_where_up old new submission fault steps refused (Some m) is =
+      let given = input.Submit submission.client submission.number submission.op in
+      let found : MatchBool (is_stop_fault fault) (StopsOnInput storages old m given fault new) (RefusesInput old m given fault new) =
+      subst (λ (o : Option ReplicaState). IfSome o (λ k. MatchBool (is_stop_fault fault) (StopsOnInput storages old k given fault new)
+      (RefusesInput old k given fault new))) is steps.refused in
+      record { replica = m; up = is; refused = fault_found old new m given fault (is_stop_fault fault) refused.0 found }
+  found_where_up old new submission fault steps refused None is =
+      let down = (steps.down is).0 in
+      let apart = refused.1 in
+      absurd (apart cc)
+
+  pub refuses_so : (old new : LifeState S) (submission : Submission) (fault : NodeFault) (result : Result (Unit {0}) LifeFault)
+      → Does storages old (Took (input.Submit submission.client submission.number submission.op)) result new
+      → IsRefusal result (Ok (Some fault)) → Refuses old.node submission fault
+  refuses_so old new submission fault result does refusal =
+      let Did : Result (Unit {0}) LifeFault → Type 0 =
+      λ r. Does storages old (Took (input.Submit submission.client submission.number submission.op)) r new in
+      let goes = subst Did refusal.0 does in
+      found_where_up old.node new.node submission fault goes.happens.0 refusal.1 old.node.up refl
 
   pub was_taken : (old new : ServerState S) (connection : ℕ) (submission : Submission) (result : Result (Unit {0}) LifeFault)
       (number : ℕ) → number ≡ submission.number

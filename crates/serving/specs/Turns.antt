@@ -6,6 +6,8 @@ use Rattle.sessions.specs.declared.submission.Submission.{Submission}
 use Rattle.stable.specs.declared.stable.Stable.{Ghosts}
 use Rattle.wire.specs.FrameSpelling.{IsFrame}
 use Rattle.wire.specs.declared.frames.envelope.Envelope.{Envelope}
+use Rattle.node_model.specs.Faults.{node_code}
+use Rattle.node_model.specs.declared.fault.NodeFault.{NodeFault}
 use Rattle.node_model.specs.declared.input.Input.{Input}
 use Rattle.node_model.specs.declared.input.Input.TheVariants as input
 use Rattle.node_model.specs.Nodes.{NodeState}
@@ -27,7 +29,7 @@ use Rattle.serving.specs.declared.requests.TheConstants.{HANDED_ON}
 use Rattle.serving.specs.declared.waiting.Due.{Due}
 use Rattle.serving.specs.declared.waiting.Due.TheVariants as due
 use Rattle.serving.specs.declared.waiting.Question.{Question}
-use Rattle.serving.specs.Knowing.{IsLastNumber, IsPosition, WasSo}
+use Rattle.serving.specs.Knowing.{IsLastNumber, IsPosition, Refuses, WasSo}
 use Rattle.serving.specs.Requesting.{RequestState}
 use Rattle.serving.specs.Tapes.{Carried, Sent, Arrived, Talk, Heard, Went, Told}
 
@@ -122,9 +124,10 @@ pub record IsAnswerToOwn (past : Past) (connection : ℕ) (text : List ℕ) : Ty
 
 -- what a connection is told of its own line, which no promise of the run is about, where the node was so at some time
 pub data IsPlain {S : Type 0} (Was : NodeState S → Type 0) (talk : List Talk) (connection : ℕ) (text : List ℕ) : Type 0 where
-  -- its request was refused
-  refused : (submission : Submission) (code : ℕ) → HasWritten talk connection (line.Submit submission)
-      → text ≡ answer_line (answer.Refused submission.client submission.number code) → IsPlain Was talk connection text
+  -- its request was refused, with the fault that the node found
+  refused : (n : NodeState S) (submission : Submission) (fault : NodeFault) → Was n → Refuses n submission fault
+      → HasWritten talk connection (line.Submit submission)
+      → text ≡ answer_line (answer.Refused submission.client submission.number (node_code fault)) → IsPlain Was talk connection text
   -- its line has a fault
   faulty : (asked : List ℕ) (cause : ReplayCause) → Contains talk (Heard connection asked) → IsClientFault asked cause
       → text ≡ answer_line (answer.Fault (cause_code cause)) → IsPlain Was talk connection text

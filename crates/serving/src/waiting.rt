@@ -1,6 +1,6 @@
 //! What connections wait for.
 
-ghost use Rattle.std.specs.Prelude.{◌≡◌, ◌≤◌, ◌↔◌, ◌++◌, ◌∷◌, [], IsTrue, OnOk, OnErr, IfSome, IfNone, MatchOption, All, filter, not};
+ghost use Rattle.std.specs.Prelude.{◌≡◌, ◌≤◌, ◌↔◌, ◌++◌, ◌∷◌, [], IsTrue, OnOk, OnErr, IfSome, IfNone, MatchOption, All, filter, length, not};
 ghost use Rattle.std.specs.List.{list_any};
 ghost use Rattle.serving.specs.Claiming.{is_for, is_of};
 ghost use Rattle.serving.specs.Waitings.{is_asked_by, is_told_to, is_waiting, lines_of, IsHeldBack, IsFirstRipe};
@@ -158,6 +158,13 @@ impl Waiting {
     {
         self.due.push_back(due)?;
         Ok(())
+    }
+
+    /// How much is due.
+    pub fn count_due(&self) -> usize
+        ensures { result ≡ length self.now.due }
+    {
+        self.due.len()
     }
 
     /// What is told next.

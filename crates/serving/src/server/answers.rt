@@ -1,10 +1,11 @@
 //! What a process tells its clients.
 
-ghost use Rattle.std.specs.Prelude.{◌≡◌, ◌≤◌, ℕ, ◌∷◌, [], OnOk};
+ghost use Rattle.std.specs.Prelude.{◌≡◌, ◌≤◌, ℕ, ◌-◌, ◌∷◌, [], OnOk, length};
 ghost use Rattle.clients.specs.AnswerLines.{text_line};
 ghost use Rattle.serving.specs.Outgoing.{IsReplyIn, IsTextTo, KeepsLess};
+ghost use Rattle.serving.specs.Knowing.{IsPosition};
 ghost use Rattle.serving.specs.Owing.{AllSettled, KeepsEachOver, reply_told};
-ghost use Rattle.serving.specs.Serving.{IsPosition, PassesOnly, ServesClients, asking};
+ghost use Rattle.serving.specs.Serving.{PassesOnly, ServesClients, asking};
 ghost use Rattle.serving.specs.Staying.{StaysUp};
 ghost use Rattle.serving.specs.Tapes.{HasPassed, Told};
 
@@ -83,11 +84,10 @@ impl<S: Stable + Drop> Server<S> {
         ensures serves { ServesClients S.Stable D.tape D.Tells (server_of self.old) desk.old (server_of self.new) desk.new }
         ensures each { OnOk result (KeepsEachOver D.tape D.Tells self.old.waiting desk.old self.new.waiting desk.new) }
         ensures stays { OnOk result (StaysUp (life_of self.old.life).node (life_of self.new.life).node) }
+        ensures told { OnOk result (self.new.waiting.due ≡ []) }
     {
-        'due: for _ in 0..u64::MAX {
-            if !self.tell_next_due(alloc, desk)? {
-                return Ok(());
-            }
+        'due: for _ in 0..self.waiting.count_due() {
+            self.tell_next_due(alloc, desk)?;
         }
         Ok(())
     }
@@ -97,6 +97,7 @@ impl<S: Stable + Drop> Server<S> {
         ensures serves { ServesClients S.Stable D.tape D.Tells (server_of self.old) desk.old (server_of self.new) desk.new }
         ensures each { OnOk result (KeepsEachOver D.tape D.Tells self.old.waiting desk.old self.new.waiting desk.new) }
         ensures stays { OnOk result (StaysUp (life_of self.old.life).node (life_of self.new.life).node) }
+        ensures less { OnOk result (length self.new.waiting.due ≡ length self.old.waiting.due - 1) }
     {
         let Some(what) = self.waiting.take_due() else {
             return Ok(false);
@@ -127,6 +128,7 @@ impl<S: Stable + Drop> Server<S> {
         ensures asked { (position : ℕ) → IsPosition (life_of self.old.life).node position → question.from ≤ position
             → self.new.waiting ≡ self.old.waiting }
         ensures stays { OnOk result (StaysUp (life_of self.old.life).node (life_of self.new.life).node) }
+        ensures due { self.new.waiting.due ≡ self.old.waiting.due }
     {
         if self.position() < question.from {
             self.waiting

@@ -1,6 +1,6 @@
 //! What the clients of a process write.
 
-ghost use Rattle.std.specs.Prelude.{◌≡◌, ◌∷◌, [], IfSome, OnOk};
+ghost use Rattle.std.specs.Prelude.{◌≡◌, ◌∷◌, [], OnOk};
 ghost use Rattle.clients.specs.AnswerLines.{answer_line};
 ghost use Rattle.clients.specs.ClientLines.{IsClientFault, IsClientLine};
 ghost use Rattle.clients.specs.declared.line.ClientLine.TheVariants as client_line;

@@ -14,7 +14,7 @@ use Rattle.serving.specs.declared.waiting.Due.TheVariants as due
 use Rattle.serving.proofs.Coming.{just_asked, just_handed_on, just_written, requests_added, serves_submitting}
 use Rattle.serving.proofs.Holding.{holds_claim, holds_due, holds_same}
 use Rattle.serving.proofs.KeepingEach.{keeps_claim, keeps_line_due}
-use Rattle.serving.proofs.Submitted.{was_taken, was_turned_away}
+use Rattle.serving.proofs.Submitted.{refuses_so, was_taken, was_turned_away}
 use Rattle.node_model.specs.declared.fault.NodeFault.{NodeFault}
 use Rattle.serving.specs.Refusals.{IsRefusal}
 use Rattle.serving.proofs.Staying.{stays_taking}
@@ -43,8 +43,13 @@ returns-in_ok-add_due-in-Some-clause-serves g c =
     serves_submitting g.S.Stable (server_of c.args.self.now) _ c.args.connection c.args.text.now c.args.submission c.take-outcome.result c.requires
     (subst (λ (i : Input). Does g.S.Stable (life_of c.args.self.now.life) (Took i) c.take-outcome.result (life_of c.take-outcome.new.self)) c.input_of.ensures c.take-outcome.ensures)
     (holds_due (Heard c.args.connection c.args.text.now ∷ []) (server_of c.args.self.now) _ (due.Line c.args.connection c.in_ok-line-in-Some.line)
-    (refused c.args.submission c.code-code.result (just_written c.args.connection c.args.text.now (client_line.Submit c.args.submission) c.requires)
-    (c.in_ok-line-in-Some.ensures ∙ ap (λ (n : ℕ). answer_line (answer.Refused c.args.submission.client n c.code-code.result)) c.value-number.ensures.value)) c.in_ok-add_due-in-Some.ensures.added refl)
+    (refused (life_of c.args.self.now.life).node c.args.submission c.in-Some.fault refl
+    (refuses_so g.S.Stable (life_of c.args.self.now.life) (life_of c.take-outcome.new.self) c.args.submission c.in-Some.fault c.take-outcome.result
+    (subst (λ (i : Input). Does g.S.Stable (life_of c.args.self.now.life) (Took i) c.take-outcome.result (life_of c.take-outcome.new.self)) c.input_of.ensures c.take-outcome.ensures)
+    (subst (λ (o : Option NodeFault). IsRefusal c.take-outcome.result (Ok o)) c.in-Some.is c.in_ok-fault.ensures))
+    (just_written c.args.connection c.args.text.now (client_line.Submit c.args.submission) c.requires)
+    (c.in_ok-line-in-Some.ensures ∙ ap (λ (n : ℕ). answer_line (answer.Refused c.args.submission.client n c.code-code.result)) c.value-number.ensures.value
+    ∙ ap (λ (k : ℕ). answer_line (answer.Refused c.args.submission.client c.args.submission.number k)) c.code-code.ensures)) c.in_ok-add_due-in-Some.ensures.added refl)
 
 pub returns-in_err-add_claim-in-None-clause-serves : goal.returns-in_err-add_claim-in-None-clause-serves
 returns-in_err-add_claim-in-None-clause-serves g c =

@@ -1,6 +1,8 @@
 use Rattle.serving.proofs.Passing.{over_clients, over_nodes, over_then}
 use Rattle.serving.proofs.KeepingEachOver.{each_then, each_waits}
 use Rattle.serving.proofs.Staying.{stays_then}
+use Rattle.std.proofs.Common.{ap, ◌∙◌}
+use Rattle.serving.specs.Waitings.{WaitingState}
 use Rattle.serving.proofs.server.Server.tell.Goals as goal
 
 pub returns-in_err-has_answered-clause-serves : goal.returns-in_err-has_answered-clause-serves
@@ -46,3 +48,11 @@ returns-then-has_replied-clause-stays g c =
 pub returns-else-has_replied-clause-stays : goal.returns-else-has_replied-clause-stays
 returns-else-has_replied-clause-stays g c =
     stays_then g.S.Stable _ _ _ (stays_then g.S.Stable _ _ _ (stays_then g.S.Stable _ _ _ c.in_ok-has_replied.ensures.stays c.in_ok-has_answered.ensures.stays) c.in_ok-tell_due.ensures.stays) c.in_ok-hand_on.ensures.stays
+
+pub returns-then-has_replied-clause-due : goal.returns-then-has_replied-clause-due
+returns-then-has_replied-clause-due g c =
+    ap (λ (w : WaitingState). w.due) c.hand_on.ensures.waits ∙ c.in_ok-tell_due.ensures.told
+
+pub returns-else-has_replied-clause-due : goal.returns-else-has_replied-clause-due
+returns-else-has_replied-clause-due g c =
+    ap (λ (w : WaitingState). w.due) c.hand_on.ensures.waits ∙ c.in_ok-tell_due.ensures.told

@@ -1,4 +1,4 @@
-use Rattle.std.proofs.Common.{refl}
+use Rattle.std.proofs.Common.{refl, arith}
 use Rattle.serving.specs.Seen.{server_of}
 use Rattle.serving.proofs.KeepingEachOver.{each_still, each_then}
 use Rattle.serving.proofs.Passing.{clients_none, clients_then}
@@ -11,18 +11,11 @@ due-init g c = (
   clients_none g.S.Stable g.D.Desk.tape g.D.Desk.Tells (server_of c.args.self.now) c.args.desk.now,
   each_still g.D.Desk.tape g.D.Desk.Tells c.args.self.now.waiting c.args.self.now.waiting c.args.desk.now refl,
   stays_itself g.S.Stable (life_of c.args.self.now.life).node,
+  omega arith,
 )
 
 pub returns-in_err-tell_next_due-clause-serves : goal.returns-in_err-tell_next_due-clause-serves
 returns-in_err-tell_next_due-clause-serves g c = clients_then g.S.Stable g.D.Desk.tape g.D.Desk.Tells _ _ _ _ _ _ c.due.invariant.0 c.tell_next_due.ensures.serves
-
-pub returns-then-not-branch-clause-serves : goal.returns-then-not-branch-clause-serves
-returns-then-not-branch-clause-serves g c = clients_then g.S.Stable g.D.Desk.tape g.D.Desk.Tells _ _ _ _ _ _ c.due.invariant.0 c.tell_next_due.ensures.serves
-
-pub returns-then-not-branch-clause-each : goal.returns-then-not-branch-clause-each
-returns-then-not-branch-clause-each g c =
-    each_then g.D.Desk.tape g.D.Desk.Tells _ _ _ _ _ _ c.due.invariant.1 c.tell_next_due.ensures.serves.talks.told
-    c.in_ok-tell_next_due.ensures.each
 
 pub due-preserved : goal.due-preserved
 due-preserved g c = (
@@ -30,8 +23,5 @@ due-preserved g c = (
   each_then g.D.Desk.tape g.D.Desk.Tells _ _ _ _ _ _ c.due.invariant.1 c.tell_next_due.ensures.serves.talks.told
       c.in_ok-tell_next_due.ensures.each,
   stays_then g.S.Stable _ _ _ c.due.invariant.2 c.in_ok-tell_next_due.ensures.stays,
+  omega (arith, c.due.invariant.3, c.in_ok-tell_next_due.ensures.less),
 )
-
-pub returns-then-not-branch-clause-stays : goal.returns-then-not-branch-clause-stays
-returns-then-not-branch-clause-stays g c =
-    stays_then g.S.Stable _ _ _ c.due.invariant.2 c.in_ok-tell_next_due.ensures.stays

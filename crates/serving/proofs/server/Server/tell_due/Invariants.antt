@@ -1,3 +1,4 @@
+use Rattle.std.proofs.Common.{◌≡◌, ◌-◌, length}
 use Rattle.serving.specs.Seen.{server_of}
 use Rattle.serving.specs.Owing.{KeepsEachOver}
 use Rattle.serving.specs.Serving.{ServesClients}
@@ -10,3 +11,4 @@ invariant-due g l =
     ServesClients g.S.Stable g.D.Desk.tape g.D.Desk.Tells (server_of l.initial.self) l.initial.desk (server_of l.self) l.desk
     × KeepsEachOver g.D.Desk.tape g.D.Desk.Tells l.initial.self.waiting l.initial.desk l.self.waiting l.desk
     × StaysUp (life_of l.initial.self.life).node (life_of l.self.life).node
+    × (length l.self.waiting.due ≡ length l.initial.self.waiting.due - l.counter)

@@ -2,11 +2,12 @@ use Rattle.serving.specs.Seen.{server_of}
 use Rattle.serving.proofs.Answering.{clients_due, clients_line, clients_still}
 use Rattle.serving.proofs.KeepingEach.{keeps_line_told}
 use Rattle.serving.proofs.KeepingEachOver.{each_asked, each_said, each_still}
-use Rattle.std.proofs.Common.{[], ◌∷◌, ap, ◌∙◌}
+use Rattle.std.proofs.Common.{[], ◌∷◌, ap, ◌∙◌, ℕ, List, length, arith}
 use Rattle.serving.specs.Tapes.{Told}
 use Rattle.serving.specs.declared.waiting.Due.{Due}
 use Rattle.serving.proofs.Staying.{stays_itself}
 use Rattle.life.specs.Seen.{life_of}
+use Rattle.serving.specs.Waitings.{WaitingState}
 use Rattle.serving.proofs.server.Server.tell_next_due.Goals as goal
 
 pub returns-in_default-clause-serves : goal.returns-in_default-clause-serves
@@ -57,3 +58,15 @@ returns-in_default-clause-stays g c =
 pub returns-in_ok-tell-in-Line-clause-stays : goal.returns-in_ok-tell-in-Line-clause-stays
 returns-in_ok-tell-in-Line-clause-stays g c =
     stays_itself g.S.Stable (life_of c.args.self.now.life).node
+
+pub returns-in_default-clause-less : goal.returns-in_default-clause-less
+returns-in_default-clause-less g c =
+    omega (arith, ap (λ (w : WaitingState). length w.due) c.in_default.ensures.unchanged, ap {B = ℕ} (λ (ds : List Due). length ds) c.in_default.ensures.next)
+
+pub returns-in_ok-tell-in-Line-clause-less : goal.returns-in_ok-tell-in-Line-clause-less
+returns-in_ok-tell-in-Line-clause-less g c =
+    omega (arith, ap {B = ℕ} (λ (ds : List Due). length ds) c.in-Some.ensures.next)
+
+pub returns-in_ok-answer-in-Answer-clause-less : goal.returns-in_ok-answer-in-Answer-clause-less
+returns-in_ok-answer-in-Answer-clause-less g c =
+    omega (arith, ap {B = ℕ} (λ (ds : List Due). length ds) c.in-Some.ensures.next, ap {B = ℕ} (λ (ds : List Due). length ds) c.answer.ensures.due)
