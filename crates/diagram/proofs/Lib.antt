@@ -1,1 +1,2 @@
 pub mod ArrowLists
+pub mod DrawnLemmas

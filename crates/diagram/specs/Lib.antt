@@ -1,2 +1,4 @@
 pub mod Arrows
+pub mod Facts
+pub mod Pictures
 pub mod Windows

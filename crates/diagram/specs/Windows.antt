@@ -1,9 +1,29 @@
 -- Which frames a picture shows.
-use Rattle.std.specs.Prelude.{ℕ, ◌+◌, ◌≤◌}
+use Rattle.std.specs.Prelude.{◌≡◌, ℕ, ◌+◌, ◌-◌, ◌/◌, ◌≤◌, min, Option, Some, None}
 use Rattle.diagram.specs.declared.layout.Window.{Window}
 
--- a window of so many frames at most
-pub record FitsIn (frames : ℕ) (window : Window) : Type 0 where
+-- the first frame that is asked for: of so many frames the one of this number, or the first of all
+abbrev pub asked_first : ℕ → Option ℕ → ℕ
+asked_first frames None = 0
+asked_first frames (Some from) = min from frames
+
+-- behind the last one: the one of this number, or the last of all
+abbrev pub asked_end : ℕ → Option ℕ → ℕ
+asked_end frames None = frames
+asked_end frames (Some to) = min (to + 1) frames
+
+-- so many frames are asked for, of which a picture shows no more than that
+abbrev pub asked : ℕ → Option ℕ → Option ℕ → ℕ
+asked frames from to = min (asked_end frames to - asked_first frames from) 200
+
+-- the window is of so many of these frames, from the first on: of all, or of an eighth at least
+pub record IsWindowOf (frames from most : ℕ) (window : Window) : Type 0 where
+  pub first : window.first ≡ from
   pub in_order : window.first ≤ window.end
   pub there : window.end ≤ frames
-  pub few : window.end ≤ window.first + 200
+  pub few : window.end ≤ from + most
+  pub enough : from + most / 8 ≤ window.end
+
+-- of so many frames those are shown that are asked for, or the first of them
+abbrev pub IsChosen : ℕ → Option ℕ → Option ℕ → Window → Type 0
+IsChosen frames from to window = IsWindowOf frames (asked_first frames from) (asked frames from to) window

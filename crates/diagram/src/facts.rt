@@ -1,5 +1,8 @@
 //! What a frame says, for people.
 
+ghost use Rattle.std.specs.Prelude.{◌≡◌, ◌++◌, OnOk};
+ghost use Rattle.diagram.specs.Facts.{ballot_text, facts_of, frame_text, kind_text, slot_text};
+
 use std::io::{self, Write};
 use synod::Ballot;
 use wire::{Kind, Message, NodeId};
@@ -13,7 +16,10 @@ pub struct Facts {
 }
 
 /// What stands in the head of a message. Of a promise and a prepare it is the first slot, of what a checkpoint's text needs its position.
-pub fn facts_of(message: &Message) -> Facts {
+pub fn facts_of(message: &Message) -> Facts
+    ensures { result ≡ facts_of message.now }
+{
+    let kind = message.kind();
     let (slot, ballot) = match message {
         Message::Prepare { ballot, first } => (Some(first.value()), Some(*ballot)),
         Message::Promise(promise) => (Some(promise.first().value()), Some(promise.ballot())),
@@ -29,15 +35,13 @@ pub fn facts_of(message: &Message) -> Facts {
         Message::SnapPart(part) => (Some(part.position().value()), None),
         Message::Behind { floor } => (Some(floor.value()), None),
     };
-    Facts {
-        kind: message.kind(),
-        slot,
-        ballot,
-    }
+    Facts { kind, slot, ballot }
 }
 
 /// The word for a kind of message.
-pub fn kind_name(kind: Kind) -> &'static str {
+pub fn kind_name(kind: Kind) -> &'static str
+    ensures { result.now ≡ kind_text kind }
+{
     match kind {
         Kind::Prepare => "prepare",
         Kind::Promise => "promise",
@@ -59,16 +63,35 @@ pub fn push_frame(
     from: NodeId,
     to: NodeId,
     facts: &Facts,
-) -> io::Result<()> {
+) -> io::Result<()>
+    ensures { OnOk result (text.new.items ≡ text.old.items ++ frame_text number from to facts.now) }
+{
     let (from, to) = (from.value(), to.value());
     let kind = kind_name(facts.kind);
     write!(text, "frame {number} {kind} {from} -> {to}")?;
-    if let Some(slot) = facts.slot {
-        write!(text, " slot {slot}")?;
+    push_slot(text, facts.slot)?;
+    push_ballot(text, facts.ballot)
+}
+
+/// Adds the slot of which a message speaks, if it speaks of one.
+fn push_slot(text: &mut Vec<u8>, slot: Option<u32>) -> io::Result<()>
+    ensures { OnOk result (text.new.items ≡ text.old.items ++ slot_text slot) }
+{
+    match slot {
+        Some(slot) => write!(text, " slot {slot}"),
+        None => Ok(()),
     }
-    if let Some(ballot) = facts.ballot {
-        let (round, node) = (ballot.round, ballot.node);
-        write!(text, " ballot {round}.{node}")?;
+}
+
+/// Adds the ballot of which it speaks.
+fn push_ballot(text: &mut Vec<u8>, ballot: Option<Ballot>) -> io::Result<()>
+    ensures { OnOk result (text.new.items ≡ text.old.items ++ ballot_text ballot) }
+{
+    match ballot {
+        Some(ballot) => {
+            let (round, node) = (ballot.round, ballot.node);
+            write!(text, " ballot {round}.{node}")
+        }
+        None => Ok(()),
     }
-    Ok(())
 }

@@ -1,7 +1,7 @@
 //! Which frames are drawn, and how high each step stands.
 
-ghost use Rattle.std.specs.Prelude.{◌≡◌, ◌+◌, ◌≤◌, length, min, IfOk};
-ghost use Rattle.diagram.specs.Windows.{FitsIn};
+ghost use Rattle.std.specs.Prelude.{◌+◌, ◌≤◌, length, IfOk};
+ghost use Rattle.diagram.specs.Windows.{IsChosen, IsWindowOf};
 
 use super::arrows::Passage;
 use super::scene::Scene;
@@ -47,7 +47,7 @@ pub fn choose_window(
     from: Option<usize>,
     to: Option<usize>,
 ) -> Result<Window, AllocError>
-    ensures { IfOk result (FitsIn (length scene.now.frames.now)) }
+    ensures { IfOk result (IsChosen (length scene.now.frames.now) from to) }
 {
     let count = scene.frames.len();
     let first = from.unwrap_or(0).min(count);
@@ -63,7 +63,7 @@ pub fn choose_window(
 fn fit_page(alloc: Global, scene: &Scene, first: usize, most: usize) -> Result<Window, AllocError>
     requires there { first + most ≤ length scene.now.frames.now }
     requires few { most ≤ MOST_FRAMES }
-    ensures { IfOk result (FitsIn (length scene.now.frames.now)) }
+    ensures { IfOk result (IsWindowOf (length scene.now.frames.now) first most) }
 {
     for eighths in 0..7usize {
         let window = Window {

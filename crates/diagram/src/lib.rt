@@ -4,11 +4,15 @@
 //! definition here: a `Scene` has its frames, and what is told beside them.
 #![tactic(auto)]
 
+mod arrow_lines;
 mod arrows;
+mod colors;
 mod facts;
 mod layout;
 mod scene;
+mod signs;
 mod space_time;
+mod strokes;
 
 pub use arrows::{Arrow, Fate, Passage, list_arrows};
 pub use facts::{Facts, facts_of, kind_name, push_frame};

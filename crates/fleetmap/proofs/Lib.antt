@@ -1,1 +1,2 @@
-mod ShownLemmas
+pub mod PageLemmas
+pub mod ShownLemmas

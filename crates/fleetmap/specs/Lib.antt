@@ -1,2 +1,3 @@
 pub mod Charts
 pub mod Fleets
+pub mod Pages

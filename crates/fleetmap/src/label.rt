@@ -1,5 +1,10 @@
 //! The ids beside the marks of a map, none over another.
 
+#![tactic(auto, using(picture::proofs::Growth::grows_by, picture::proofs::Growth::grows_on, picture::proofs::Growth::grows_not))]
+
+ghost use Rattle.std.specs.Prelude.{OnOk};
+ghost use Rattle.picture.specs.Growing.{Grows};
+
 use crate::page::{MAP_BOTTOM, MAP_LEFT, MAP_RIGHT, MAP_TOP};
 use picture::{Picture, Place};
 use std::alloc::{AllocError, Global};
@@ -59,7 +64,9 @@ impl Rooms {
 
     /// Draws a text beside a place, in the first free room around it, with a thin line to it where it is far. Where there is none it
     /// is left out.
-    pub fn draw_beside(&mut self, picture: &mut Picture, at: Place, text: &[u8]) -> io::Result<()> {
+    pub fn draw_beside(&mut self, picture: &mut Picture, at: Place, text: &[u8]) -> io::Result<()>
+        ensures { OnOk result (Grows picture.old picture.new) }
+    {
         for number in 0..ROOMS {
             let room = room_beside(at, text.len(), number);
             if self.is_free(&room) {
@@ -140,17 +147,27 @@ fn draw_in(
     room: &Room,
     number: u32,
     text: &[u8],
-) -> io::Result<()> {
-    if number >= 8 {
-        let x = i64::from(at.x).max(room.left).min(room.right);
-        let y = i64::from(at.y).max(room.top).min(room.bottom);
-        picture.line(b"lead", at, place(x, y))?;
-    }
+) -> io::Result<()>
+    ensures { OnOk result (Grows picture.old picture.new) }
+{
+    draw_lead(picture, at, room, number)?;
     picture.text(
         b"id",
         place(room.left, room.bottom.saturating_sub(BASE)),
         text,
     )
+}
+
+/// The line from a place to a room that isn't one of the nearest.
+fn draw_lead(picture: &mut Picture, at: Place, room: &Room, number: u32) -> io::Result<()>
+    ensures { OnOk result (Grows picture.old picture.new) }
+{
+    if number < 8 {
+        return Ok(());
+    }
+    let x = i64::from(at.x).max(room.left).min(room.right);
+    let y = i64::from(at.y).max(room.top).min(room.bottom);
+    picture.line(b"lead", at, place(x, y))
 }
 
 /// The place with these coordinates; one that is negative counts as 0.

@@ -1,5 +1,10 @@
 //! What stands beside the map.
 
+#![tactic(auto, using(picture::proofs::Growth::grows_by, picture::proofs::Growth::grows_on, picture::proofs::Growth::grows_not))]
+
+ghost use Rattle.std.specs.Prelude.{OnOk};
+ghost use Rattle.picture.specs.Growing.{Grows};
+
 use crate::asked::Asked;
 use crate::page::{MAP_RIGHT, MAP_TOP, color_of};
 use mfjson::datetime_text;
@@ -7,7 +12,7 @@ use picture::{Picture, Place};
 use std::alloc::{AllocError, Global};
 use std::io;
 use store::Db;
-use tpoint::{Id, Instant, Seq};
+use tpoint::{Instant, Seq};
 
 /// Where the legend begins, in hundredths of a unit, and how high one of its lines is.
 const LEFT: u32 = MAP_RIGHT + 2400;
@@ -31,24 +36,42 @@ pub(crate) fn draw_legend(
     db: &Db,
     t: Instant,
     asked: &[Asked],
-) -> io::Result<()> {
+) -> io::Result<()>
+    ensures { OnOk result (Grows picture.old picture.new) }
+{
     picture.text(b"head", line_at(0), b"Features, and where they are (mm)")?;
+    draw_features(alloc, picture, db, t)?;
+    draw_queries(alloc, picture, asked, queries_line(db.len()))
+}
+
+/// Draws the features, as far as there is room, and how many are left.
+fn draw_features(alloc: Global, picture: &mut Picture, db: &Db, t: Instant) -> io::Result<()>
+    ensures { OnOk result (Grows picture.old picture.new) }
+{
     let count = db.len();
     let mut line: u32 = 1;
     for at in 0..count {
         if line > FEATURES_END {
-            let left = count - at;
-            let text = format!(in alloc; "and {left} more")?;
-            picture.text(b"fact", line_at(line), text.as_bytes())?;
-            line = line.saturating_add(1);
-            break;
+            return draw_left(alloc, picture, (count - at) as usize, line);
         }
-        if let Some(feature) = db.feature(at) {
-            draw_feature(alloc, picture, feature, t, color_of(at), line)?;
-        }
+        draw_feature(alloc, picture, db, at, t, line)?;
         line = line.saturating_add(2);
     }
-    draw_queries(alloc, picture, asked, line.saturating_add(1))
+    Ok(())
+}
+
+/// Draws how many features are left, for which there is no room.
+fn draw_left(alloc: Global, picture: &mut Picture, left: usize, line: u32) -> io::Result<()>
+    ensures { OnOk result (Grows picture.old picture.new) }
+{
+    let text = format!(in alloc; "and {left} more")?;
+    picture.text(b"fact", line_at(line), text.as_bytes())
+}
+
+/// The line at which the queries begin: one behind the features.
+fn queries_line(count: u32) -> u32 {
+    let end = count.saturating_mul(2).saturating_add(1);
+    end.min(FEATURES_END + 2).saturating_add(1)
 }
 
 /// Where a line of the legend stands.
@@ -65,27 +88,36 @@ fn line_at(line: u32) -> Place {
 fn draw_feature(
     alloc: Global,
     picture: &mut Picture,
-    feature: (&Id, &Seq),
+    db: &Db,
+    at: u32,
     t: Instant,
-    color: &[u8],
     line: u32,
-) -> io::Result<()> {
-    let (id, seq) = feature;
-    let at = line_at(line);
+) -> io::Result<()>
+    ensures { OnOk result (Grows picture.old picture.new) }
+{
+    match db.feature(at) {
+        Some((id, seq)) => {
+            draw_id(picture, id.bytes(), color_of(at), line_at(line))?;
+            let text = position_text(alloc, seq, t)?;
+            let below = behind(line_at(line.saturating_add(1)));
+            draw_fact(picture, below, text.as_bytes())
+        }
+        None => Ok(()),
+    }
+}
+
+/// A feature's id, beside its colour.
+fn draw_id(picture: &mut Picture, id: &[u8], color: &[u8], at: Place) -> io::Result<()>
+    ensures { OnOk result (Grows picture.old picture.new) }
+{
     let middle = Place {
         x: at.x.saturating_add(500),
         y: at.y.saturating_sub(400),
     };
-    picture.open(color, id.bytes())?;
+    picture.open(color, id)?;
     picture.circle(b"dot", middle, 500)?;
     picture.close()?;
-    picture.text(b"fact", behind(at), id.bytes())?;
-    let text = position_text(alloc, seq, t)?;
-    draw_fact(
-        picture,
-        behind(line_at(line.saturating_add(1))),
-        text.as_bytes(),
-    )
+    picture.text(b"fact", behind(at), id)
 }
 
 /// A place a little to the right.
@@ -108,7 +140,9 @@ fn position_text(alloc: Global, seq: &Seq, t: Instant) -> Result<String, AllocEr
 }
 
 /// Draws a text, cut where the page ends; the whole of it is shown where the pointer rests on it.
-fn draw_fact(picture: &mut Picture, at: Place, text: &[u8]) -> io::Result<()> {
+fn draw_fact(picture: &mut Picture, at: Place, text: &[u8]) -> io::Result<()>
+    ensures { OnOk result (Grows picture.old picture.new) }
+{
     if text.len() <= LETTERS {
         return picture.text(b"fact", at, text);
     }
@@ -131,12 +165,9 @@ fn first_letters(text: &[u8]) -> &[u8] {
 }
 
 /// Draws the queries of rectangles, by the numbers that stand in these.
-fn draw_queries(
-    alloc: Global,
-    picture: &mut Picture,
-    asked: &[Asked],
-    first: u32,
-) -> io::Result<()> {
+fn draw_queries(alloc: Global, picture: &mut Picture, asked: &[Asked], first: u32) -> io::Result<()>
+    ensures { OnOk result (Grows picture.old picture.new) }
+{
     if asked.is_empty() {
         return Ok(());
     }
@@ -145,12 +176,17 @@ fn draw_queries(
         line_at(first),
         b"Rectangles, and what was answered",
     )?;
-    let mut line = first.saturating_add(1);
+    draw_answers(alloc, picture, asked, first.saturating_add(1))
+}
+
+/// Draws the queries from this line on, as far as there is room, and how many are left.
+fn draw_answers(alloc: Global, picture: &mut Picture, asked: &[Asked], first: u32) -> io::Result<()>
+    ensures { OnOk result (Grows picture.old picture.new) }
+{
+    let mut line = first;
     for k in 0..asked.len() {
         if line.saturating_add(2) > QUERIES_END {
-            let left = asked.len() - k;
-            let text = format!(in alloc; "and {left} more")?;
-            return picture.text(b"fact", line_at(line), text.as_bytes());
+            return draw_left(alloc, picture, asked.len() - k, line);
         }
         draw_query(alloc, picture, k + 1, &asked[k], line)?;
         line = line.saturating_add(2);
@@ -165,7 +201,9 @@ fn draw_query(
     number: usize,
     one: &Asked,
     line: u32,
-) -> io::Result<()> {
+) -> io::Result<()>
+    ensures { OnOk result (Grows picture.old picture.new) }
+{
     let tag = format!(in alloc; "{number}")?;
     picture.open(one.class(), tag.as_bytes())?;
     picture.text(b"tag", line_at(line), tag.as_bytes())?;

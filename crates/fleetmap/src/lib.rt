@@ -5,12 +5,14 @@
 //! says: `show_feature`, `show_fleet`. `draw_fleet` makes a picture of that.
 #![tactic(auto)]
 
+mod areas;
 mod asked;
 mod chart;
 mod corners;
 mod drawn;
 mod label;
 mod legend;
+mod marks;
 mod page;
 mod scale;
 mod shown;

@@ -1,19 +1,26 @@
 //! The page: the map, and what stands beside it.
 
+#![tactic(auto, using(picture::proofs::Growth::grows_by, picture::proofs::Growth::grows_on, picture::proofs::Growth::grows_not, picture::proofs::Growth::has_last, picture::proofs::Growth::has_still))]
+
+ghost use Rattle.std.specs.Prelude.{◌≡◌, IfOk, OnOk};
+ghost use Rattle.picture.specs.Growing.{Grows, Has};
+ghost use Rattle.fleetmap.specs.Pages.{ShowsFleet, place_of, title_text};
+
+use crate::areas::draw_areas;
 use crate::asked::Asked;
 use crate::chart::{Chart, SIDE};
 use crate::corners::chart_of;
-use crate::label::{MARK, Rooms};
 use crate::legend::draw_legend;
+use crate::marks::draw_marks;
 use crate::scale::draw_scale;
-use crate::shown::{Shown, show_fleet, spot_of};
+use crate::shown::show_fleet;
 use crate::spot::Spot;
 use crate::way::draw_way;
 use picture::{Picture, Place};
 use std::alloc::Global;
 use std::io;
 use store::Db;
-use tpoint::{Frac, Instant, Rect};
+use tpoint::Instant;
 
 /// The size of the page, in units: that of A3, of whose millimetres a unit is about a quarter.
 const WIDTH: u32 = 1588;
@@ -60,7 +67,9 @@ pub fn draw_fleet(
     asked: &[Asked],
     title: &[u8],
     note: &[u8],
-) -> io::Result<Vec<u8>> {
+) -> io::Result<Vec<u8>>
+    ensures { IfOk result (λ text. ShowsFleet db.now t title.now text.items) }
+{
     let chart = chart_of(db, asked);
     let shown = show_fleet(alloc, db, t, &chart)?;
     let mut picture = Picture::new(alloc, WIDTH, HEIGHT, STYLE)?;
@@ -83,7 +92,10 @@ pub fn draw_fleet(
 }
 
 /// The page's first lines.
-fn draw_title(picture: &mut Picture, title: &[u8], note: &[u8]) -> io::Result<()> {
+fn draw_title(picture: &mut Picture, title: &[u8], note: &[u8]) -> io::Result<()>
+    ensures grows { OnOk result (Grows picture.old picture.new) }
+    ensures titled { OnOk result (Has (title_text title.now) picture.new) }
+{
     let first = Place {
         x: MAP_LEFT,
         y: 3000,
@@ -97,7 +109,9 @@ fn draw_title(picture: &mut Picture, title: &[u8], note: &[u8]) -> io::Result<()
 }
 
 /// Where a spot of the chart is on the page.
-pub(crate) fn place_on_map(spot: &Spot) -> Place {
+pub(crate) fn place_on_map(spot: &Spot) -> Place
+    ensures { result ≡ place_of spot.now }
+{
     let spot = *spot;
     Place {
         x: MAP_LEFT + spot.x,
@@ -121,103 +135,32 @@ pub(crate) fn color_of(at: u32) -> &'static [u8] {
     }
 }
 
-fn draw_ways(alloc: Global, picture: &mut Picture, db: &Db, chart: &Chart) -> io::Result<()> {
+/// Draws the ways of the features.
+fn draw_ways(alloc: Global, picture: &mut Picture, db: &Db, chart: &Chart) -> io::Result<()>
+    ensures { OnOk result (Grows picture.old picture.new) }
+{
     for at in 0..db.len() {
-        if let Some((id, seq)) = db.feature(at) {
-            picture.open(color_of(at), id.bytes())?;
-            draw_way(alloc, picture, seq, chart)?;
-            picture.close()?;
-        }
+        draw_one_way(alloc, picture, db, chart, at)?;
     }
     Ok(())
 }
 
-/// Draws where the features are, and then their ids, so that no id is over a mark.
-fn draw_marks(alloc: Global, picture: &mut Picture, db: &Db, shown: &[Shown]) -> io::Result<()> {
-    let mut rooms = Rooms::new(alloc);
-    for at in 0..db.len() {
-        if let Some((id, spot)) = mark_of(db, shown, at) {
-            rooms.take_mark(place_on_map(&spot))?;
-            picture.open(color_of(at), id)?;
-            picture.circle(b"mark", place_on_map(&spot), MARK)?;
-            picture.close()?;
-        }
-    }
-    for at in 0..db.len() {
-        if let Some((id, spot)) = mark_of(db, shown, at) {
-            rooms.draw_beside(picture, place_on_map(&spot), id)?;
-        }
-    }
-    Ok(())
-}
-
-/// The id of the feature at a place, and where it is drawn; None where it isn't on the map.
-fn mark_of<'a>(db: &'a Db, shown: &[Shown], at: u32) -> Option<(&'a [u8], Spot)> {
-    let (id, _seq) = db.feature(at)?;
-    match shown.get(at as usize)? {
-        Shown::At(spot) => Some((id.bytes(), *spot)),
-        Shown::Nowhere | Shown::Beyond => None,
-    }
-}
-
-/// Draws the rectangles, each with its number, as far as they are on the chart.
-fn draw_areas(
+/// Draws the way of a feature, which shows its id where the pointer rests on it.
+fn draw_one_way(
     alloc: Global,
     picture: &mut Picture,
-    asked: &[Asked],
+    db: &Db,
     chart: &Chart,
-) -> io::Result<()> {
-    for k in 0..asked.len() {
-        let one = &asked[k];
-        let Some(area) = one.area() else {
-            continue;
-        };
-        let number = k + 1;
-        let text = format!(in alloc; "{number}")?;
-        draw_area(picture, &area, chart, one.class(), text.as_bytes())?;
+    at: u32,
+) -> io::Result<()>
+    ensures { OnOk result (Grows picture.old picture.new) }
+{
+    match db.feature(at) {
+        Some((id, seq)) => {
+            picture.open(color_of(at), id.bytes())?;
+            draw_way(alloc, picture, seq, chart)?;
+            picture.close()
+        }
+        None => Ok(()),
     }
-    Ok(())
-}
-
-fn draw_area(
-    picture: &mut Picture,
-    area: &Rect,
-    chart: &Chart,
-    class: &[u8],
-    number: &[u8],
-) -> io::Result<()> {
-    let Some(low) = nearest_spot(chart, area.x0(), area.y0()) else {
-        return Ok(());
-    };
-    let Some(high) = nearest_spot(chart, area.x1(), area.y1()) else {
-        return Ok(());
-    };
-    let left = place_on_map(&low);
-    let right = place_on_map(&high);
-    let corner = Place {
-        x: left.x,
-        y: right.y,
-    };
-    let width = right.x.saturating_sub(left.x);
-    let height = left.y.saturating_sub(right.y);
-    let inside = Place {
-        x: corner.x.saturating_add(400),
-        y: corner.y.saturating_add(1500),
-    };
-    picture.open(class, number)?;
-    picture.rectangle(b"area", corner, width, height)?;
-    picture.text(b"tag", inside, number)?;
-    picture.close()
-}
-
-/// The spot of the chart that is nearest to a position.
-fn nearest_spot(chart: &Chart, x: i64, y: i64) -> Option<Spot> {
-    let x = nearest(x, chart.west(), chart.span());
-    let y = nearest(y, chart.south(), chart.span());
-    spot_of(chart, &Frac::from(x), &Frac::from(y))
-}
-
-/// The number nearest to another of those at most a span above an edge.
-fn nearest(z: i64, edge: i64, span: u64) -> i64 {
-    z.max(edge).min(edge.saturating_add_unsigned(span))
 }

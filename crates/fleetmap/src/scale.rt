@@ -1,5 +1,10 @@
 //! The bar of a scale.
 
+#![tactic(auto, using(picture::proofs::Growth::grows_by, picture::proofs::Growth::grows_on, picture::proofs::Growth::grows_not))]
+
+ghost use Rattle.std.specs.Prelude.{OnOk};
+ghost use Rattle.picture.specs.Growing.{Grows};
+
 use crate::chart::{Chart, SIDE};
 use picture::{Picture, Place};
 use std::alloc::{AllocError, Global};
@@ -14,7 +19,9 @@ pub(crate) fn draw_scale(
     picture: &mut Picture,
     chart: &Chart,
     at: Place,
-) -> io::Result<()> {
+) -> io::Result<()>
+    ensures { OnOk result (Grows picture.old picture.new) }
+{
     let length = round_length(chart.span() / 4);
     let drawn = drawn_length(length, chart.span());
     let end = Place {

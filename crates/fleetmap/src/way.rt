@@ -1,5 +1,10 @@
 //! The ways of features.
 
+#![tactic(auto, using(picture::proofs::Growth::grows_by, picture::proofs::Growth::grows_on, picture::proofs::Growth::grows_not))]
+
+ghost use Rattle.std.specs.Prelude.{OnOk};
+ghost use Rattle.picture.specs.Growing.{Grows};
+
 use crate::chart::Chart;
 use crate::page::place_on_map;
 use crate::shown::spot_of;
@@ -18,7 +23,9 @@ pub(crate) fn draw_way(
     picture: &mut Picture,
     seq: &Seq,
     chart: &Chart,
-) -> io::Result<()> {
+) -> io::Result<()>
+    ensures { OnOk result (Grows picture.old picture.new) }
+{
     let places = listed_places(alloc, seq.points(), chart)?;
     match seq.interp() {
         Interp::Linear => picture.way(b"way", &places),
@@ -45,7 +52,9 @@ fn listed_places(alloc: Global, points: &[Point], chart: &Chart) -> io::Result<V
     Ok(places)
 }
 
-fn draw_dots(picture: &mut Picture, places: &[Place]) -> io::Result<()> {
+fn draw_dots(picture: &mut Picture, places: &[Place]) -> io::Result<()>
+    ensures { OnOk result (Grows picture.old picture.new) }
+{
     for place in places {
         picture.circle(b"dot", *place, DOT)?;
     }

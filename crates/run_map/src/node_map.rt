@@ -3,6 +3,7 @@
 ghost use Rattle.std.specs.Prelude.{◌≡◌, Some, IfErr, IfOk, MatchResult};
 ghost use Rattle.world.specs.Seen.{world_of};
 ghost use Rattle.run_map.specs.Endings.{fleet_at};
+ghost use Rattle.run_map.specs.Maps.{IsAsked, IsMap, IsPage, IsTitle};
 ghost use Rattle.run_map.specs.Refusals.{HasFleet, IsMapFault, IsNoFleet};
 
 use crate::fault::MapFault;
@@ -30,6 +31,7 @@ pub struct FleetMap {
 pub fn map(alloc: Global, bytes: &[u8], at: Option<Instant>, node: u8) -> Result<FleetMap, MapFault>
     ensures fleet { IfOk result (λ drawn.
         HasFleet (⟦<Scripted<MemStable> as Stable>⟧) bytes.now node drawn.end) }
+    ensures map { IfOk result (IsMap (⟦<Scripted<MemStable> as Stable>⟧) bytes.now at node) }
     ensures fault { IfErr result (IsMapFault (⟦<Scripted<MemStable> as Stable>⟧) bytes.now node) }
 {
     let survey = match survey_run(alloc, bytes) {
@@ -41,10 +43,7 @@ pub fn map(alloc: Global, bytes: &[u8], at: Option<Instant>, node: u8) -> Result
         Ok(db) => db,
         Err(fault) => return Err(fault),
     };
-    let t = match at {
-        Some(t) => t,
-        None => last_instant(db),
-    };
+    let t = instant_of(at, db);
     match draw(alloc, &survey, db, t, node) {
         Ok(text) => Ok(FleetMap { text, end }),
         Err(_) => Err(MapFault::Memory),
@@ -65,6 +64,16 @@ pub fn fleet_of(survey: &Survey, node: u8) -> Result<&Db, MapFault>
     }
 }
 
+/// The instant that is asked for, or the last of any feature.
+fn instant_of(at: Option<Instant>, db: &Db) -> Instant
+    ensures { IsAsked at result }
+{
+    match at {
+        Some(t) => t,
+        None => last_instant(db),
+    }
+}
+
 /// The last instant of any feature, or the first of all where there is no feature.
 fn last_instant(db: &Db) -> Instant {
     let mut last = Instant::new(0).unwrap();
@@ -79,17 +88,23 @@ fn last_instant(db: &Db) -> Instant {
     last
 }
 
-fn draw(alloc: Global, survey: &Survey, db: &Db, t: Instant, node: u8) -> io::Result<Vec<u8>> {
+fn draw(alloc: Global, survey: &Survey, db: &Db, t: Instant, node: u8) -> io::Result<Vec<u8>>
+    ensures { IfOk result (λ text. IsPage db.now t node text.items) }
+{
     let title = title_text(alloc, t, node)?;
     let note = note_text(alloc, survey, db.len())?;
     draw_fleet(alloc, db, t, &survey.asked, &title, note.as_bytes())
 }
 
-fn title_text(alloc: Global, t: Instant, node: u8) -> Result<Vec<u8>, AllocError> {
+/// Which instant is shown, and of which node.
+fn title_text(alloc: Global, t: Instant, node: u8) -> Result<Vec<u8>, AllocError>
+    ensures { IfOk result (λ title. IsTitle t node title.items) }
+{
+    let datetime = datetime_text(t);
+    let whose = format!(in alloc; ", as node {node} has it")?;
     let mut text = Vec::new(alloc);
     text.extend_from_slice(b"The fleet at ")?;
-    text.extend_from_slice(&datetime_text(t))?;
-    let whose = format!(in alloc; ", as node {node} has it")?;
+    text.extend_from_slice(&datetime)?;
     text.extend_from_slice(whose.as_bytes())?;
     Ok(text)
 }

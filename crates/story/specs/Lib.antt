@@ -1,3 +1,4 @@
+pub mod Accounts
 pub mod Counted
 pub mod Following
 pub mod Ledgers

@@ -1,27 +1,25 @@
 //! A run as text.
 
+ghost use Rattle.std.specs.Prelude.{◌<◌, IfOk, OnOk, length, true};
+ghost use Rattle.picture.specs.Growing.{Grows};
+ghost use Rattle.world.specs.Seen.{world_of};
+ghost use Rattle.story.specs.Accounts.{Adds, IsAccountOf, IsEnding, IsIn, IsListed, IsWritten, has_text, tells_item};
+ghost use Rattle.story.specs.Following.{IsRunOf};
 ghost use Rattle.story.specs.Ledgers.{IsComplete};
+ghost use Rattle.story.specs.declared.ledger.Ledger.{Ledger as ALedger};
 
+use super::course::follow;
 use super::entries::{Entry, list_run};
-use super::items::{Item, Teller, hand_out};
-use super::ledger::{Ledger, follow};
-use super::objects::{Objects, push_quoted};
-use super::ranges::{Range, list_ranges};
-use super::words::Words;
+use super::items::item_of;
+use super::ledger::Ledger;
+use super::line_texts::{split_lines, text_of};
+use super::ranges::list_ranges;
+use super::writer::{Form, Writer};
 use events::WorldFault;
 use schedule::{ReplayCause, ReplayFault};
+use stable::{MemStable, Scripted, Stable};
 use std::alloc::Global;
-use std::io::{self, Write};
-use std::str;
-
-/// For whom a run is told.
-#[derive(Clone, Copy, Debug, PartialEq, Eq)]
-pub enum Form {
-    /// Each line of the schedule, and below it what came of it, in words.
-    Words,
-    /// A JSON object a line, for each line of the schedule and each thing that came of it.
-    Json,
-}
+use std::io;
 
 /// What is told of a run, also where it ended with a fault, which is told at its end.
 #[derive(Drop)]
@@ -34,10 +32,14 @@ pub struct Account {
 /// so; else how many were sent.
 ///
 /// An error is the first faulty line, or out of memory.
-pub fn tell(alloc: Global, bytes: &[u8], form: Form, frames: bool) -> Result<Account, ReplayFault> {
+pub fn tell(alloc: Global, bytes: &[u8], form: Form, frames: bool) -> Result<Account, ReplayFault>
+    ensures { IfOk result (λ account. (ledger : ALedger)
+        × IsRunOf (⟦<Scripted<MemStable> as Stable>⟧) bytes.now ledger.lines.items ledger.fault (world_of ledger.world)
+        × IsAccountOf ledger frames account) }
+{
     let ledger = follow(alloc, bytes)?;
     let fault = ledger.fault;
-    match tell_in(alloc, bytes, &ledger, form, frames) {
+    match tell_run(alloc, bytes, &ledger, form, frames) {
         Ok(text) => Ok(Account { text, fault }),
         Err(_) => Err(ReplayFault {
             line: 1,
@@ -46,7 +48,8 @@ pub fn tell(alloc: Global, bytes: &[u8], form: Form, frames: bool) -> Result<Acc
     }
 }
 
-fn tell_in(
+/// Writes all that is told of a run: each line of the schedule, what came of it, and how the run ended.
+fn tell_run(
     alloc: Global,
     bytes: &[u8],
     ledger: &Ledger,
@@ -54,155 +57,30 @@ fn tell_in(
     frames: bool,
 ) -> io::Result<Vec<u8>>
     requires { IsComplete ledger.now }
-{
-    let text = Vec::new(alloc);
-    match form {
-        Form::Words => {
-            let mut teller = Words { text };
-            tell_run(alloc, bytes, ledger, frames, &mut teller)?;
-            let Words { text } = teller;
-            Ok(text)
-        }
-        Form::Json => {
-            let mut teller = Objects { alloc, text };
-            tell_run(alloc, bytes, ledger, frames, &mut teller)?;
-            let Objects { alloc: _, text } = teller;
-            Ok(text)
-        }
-    }
-}
-
-/// What takes a whole run: its lines, and how it ends, beside its items.
-trait Writer: Teller {
-    /// Takes a line of the schedule.
-    fn line(&mut self, number: u64, text: &str) -> io::Result<()>;
-
-    /// Takes the fault with which the run ends, how many frames there are, and those that wait.
-    fn fault(&mut self, fault: ReplayFault, frames: usize, waiting: &[Range]) -> io::Result<()>;
-}
-
-impl Writer for Words {
-    fn line(&mut self, number: u64, text: &str) -> io::Result<()> {
-        write!(&mut self.text, "{number:>6}  {text}\n")
-    }
-
-    fn fault(&mut self, fault: ReplayFault, frames: usize, waiting: &[Range]) -> io::Result<()> {
-        let (line, code, cause) = (fault.line, fault.cause.code(), fault.cause);
-        write!(&mut self.text, "fault {code} at line {line}: {cause}\n")?;
-        match fault.cause {
-            ReplayCause::World(WorldFault::NoSuchFrame) => {
-                write!(
-                    &mut self.text,
-                    "        frames so far: {frames}, numbered from 0\n"
-                )
-            }
-            ReplayCause::World(WorldFault::FlushLimit) => {
-                self.text.extend_from_slice(b"        frames that wait: ")?;
-                push_ranges(&mut self.text, waiting)?;
-                write!(
-                    &mut self.text,
-                    "\n        a way out: `timeout N` of a node that is up and `flush` again, which catches up with four slots each time\n"
-                )
-            }
-            _ => Ok(()),
-        }
-    }
-}
-
-impl Writer for Objects {
-    fn line(&mut self, number: u64, text: &str) -> io::Result<()> {
-        write!(
-            &mut self.text,
-            "{{\"line\":{number},\"what\":\"line\",\"text\":"
-        )?;
-        push_quoted(self.alloc, &mut self.text, text.as_bytes())?;
-        self.text.extend_from_slice(b"}\n")?;
-        Ok(())
-    }
-
-    fn fault(&mut self, fault: ReplayFault, frames: usize, waiting: &[Range]) -> io::Result<()> {
-        let (line, code, cause) = (fault.line, fault.cause.code(), fault.cause);
-        write!(
-            &mut self.text,
-            "{{\"line\":{line},\"what\":\"fault\",\"code\":{code},\"meaning\":\"{cause}\",\"frames\":{frames},\"waiting\":["
-        )?;
-        push_pairs(&mut self.text, waiting)?;
-        self.text.extend_from_slice(b"]}\n")?;
-        Ok(())
-    }
-}
-
-/// Adds the ranges of frames in words: `3, 7 to 12`.
-fn push_ranges(text: &mut Vec<u8>, ranges: &[Range]) -> io::Result<()> {
-    for (index, range) in ranges.iter().enumerate() {
-        let (first, last) = (range.first, range.last);
-        if index > 0 {
-            text.extend_from_slice(b", ")?;
-        }
-        if first == last {
-            write!(text, "{first}")?;
-        } else {
-            write!(text, "{first} to {last}")?;
-        }
-    }
-    Ok(())
-}
-
-/// Adds the ranges of frames as JSON: an array of the first and the last number for each.
-fn push_pairs(text: &mut Vec<u8>, ranges: &[Range]) -> io::Result<()> {
-    for (index, range) in ranges.iter().enumerate() {
-        let (first, last) = (range.first, range.last);
-        if index > 0 {
-            text.extend_from_slice(b",")?;
-        }
-        write!(text, "[{first},{last}]")?;
-    }
-    Ok(())
-}
-
-/// Hands out all that is told of a run: each line of the schedule, what came of it, and how the run ended.
-fn tell_run<W: Writer>(
-    alloc: Global,
-    bytes: &[u8],
-    ledger: &Ledger,
-    frames: bool,
-    writer: &mut W,
-) -> io::Result<()>
-    requires { IsComplete ledger.now }
+    ensures { IfOk result (λ text. IsWritten ledger.now frames text.items) }
 {
     let entries = list_run(alloc, ledger)?;
     let texts = split_lines(alloc, bytes)?;
+    let mut writer = Writer::new(alloc, form);
     let mut place = Place {
         line: 0,
         first: 0,
         sent: 0,
     };
-    for entry in entries.iter() {
-        place = match *entry {
-            Entry::Line(index) => begin_line(ledger, texts.as_slice(), place, index, writer)?,
-            Entry::Frame(number) if !frames => place.after_frame(number),
-            other => tell_entry(alloc, ledger, place, other, writer)?,
-        };
+    for index in 0..entries.len() {
+        let entry = entries[index];
+        place = tell_next(
+            alloc,
+            ledger,
+            texts.as_slice(),
+            frames,
+            place,
+            entry,
+            &mut writer,
+        )?;
     }
-    tell_sent(place, writer)?;
-    tell_end(alloc, ledger, writer)
-}
-
-/// The texts of all lines of the file.
-pub(crate) fn split_lines(alloc: Global, bytes: &[u8]) -> io::Result<Vec<&str>> {
-    let mut texts = Vec::new(alloc);
-    if let Ok(text) = str::from_utf8(bytes) {
-        for line in text.split('\n') {
-            texts.push(line)?;
-        }
-    }
-    Ok(texts)
-}
-
-/// The text of the line of this number, counted from 1.
-pub(crate) fn text_of<'a>(texts: &[&'a str], number: u64) -> Option<&'a str> {
-    let before = usize::try_from(number.checked_sub(1)?).ok()?;
-    texts.get(before).copied()
+    tell_end(alloc, ledger, place, &mut writer)?;
+    Ok(writer.finish())
 }
 
 /// How far a run is told: the number of the line, and how many frames of it wait to be told of as a number, from the first of them on.
@@ -224,22 +102,59 @@ impl Place {
     }
 }
 
-/// Ends the line before, and hands out a line of the schedule.
-fn begin_line<W: Writer>(
+/// Writes the next entry, or counts it where it is a frame that isn't told by itself.
+#[tactic(auto, using(picture::proofs::Growth::grows_not, crate::proofs::Texts::adds_behind, crate::proofs::Texts::adds_grows, crate::proofs::Texts::adds_not))]
+fn tell_next(
+    alloc: Global,
+    ledger: &Ledger,
+    texts: &[&str],
+    frames: bool,
+    place: Place,
+    entry: Entry,
+    writer: &mut Writer,
+) -> io::Result<Place>
+    ensures { OnOk result (IsIn ledger.now entry
+        → Adds (has_text (world_of ledger.now.world) frames entry) writer.old.text.items writer.new.text.items) }
+{
+    match entry {
+        Entry::Line(index) => begin_line(ledger, texts, place, index, writer),
+        Entry::Frame(number) => {
+            if frames {
+                tell_entry(alloc, ledger, place, entry, writer)
+            } else {
+                Ok(place.after_frame(number))
+            }
+        }
+        Entry::Step(_)
+        | Entry::Outcome(_)
+        | Entry::Learnt(_)
+        | Entry::Replied(_)
+        | Entry::Answered(_) => tell_entry(alloc, ledger, place, entry, writer),
+    }
+}
+
+/// Ends the line before, and writes a line of the schedule.
+#[tactic(auto, using(picture::proofs::Growth::grows_not, crate::proofs::Texts::adds_behind, crate::proofs::Texts::adds_grows, crate::proofs::Texts::adds_not))]
+fn begin_line(
     ledger: &Ledger,
     texts: &[&str],
     place: Place,
     index: usize,
-    writer: &mut W,
-) -> io::Result<Place> {
+    writer: &mut Writer,
+) -> io::Result<Place>
+    ensures { OnOk result (index < length ledger.now.lines.items → Adds true writer.old.text.items writer.new.text.items) }
+{
     tell_sent(place, writer)?;
     let Some(begin) = ledger.lines.get(index) else {
         return Ok(place);
     };
     let line = begin.number;
-    if let Some(text) = text_of(texts, line) {
-        writer.line(line, text)?;
-    }
+    // Whatever parses has the line.
+    let text = match text_of(texts, line) {
+        Some(text) => text,
+        None => "",
+    };
+    writer.line(line, text)?;
     Ok(Place {
         line,
         first: 0,
@@ -248,28 +163,47 @@ fn begin_line<W: Writer>(
 }
 
 /// Tells how many frames were sent at a line, where they aren't told one by one.
-fn tell_sent<W: Writer>(place: Place, writer: &mut W) -> io::Result<()> {
+#[tactic(auto, using(picture::proofs::Growth::grows_not, crate::proofs::Texts::adds_behind, crate::proofs::Texts::adds_grows, crate::proofs::Texts::adds_not))]
+fn tell_sent(place: Place, writer: &mut Writer) -> io::Result<()>
+    ensures { OnOk result (Grows writer.old.text.items writer.new.text.items) }
+{
     let Place { line, first, sent } = place;
     if sent == 0 {
         return Ok(());
     }
-    writer.tell(line, &Item::SentMany { first, count: sent })
+    writer.count(line, first, sent)
 }
 
-/// Hands out what an entry tells.
-fn tell_entry<W: Writer>(
+/// Writes what an entry tells.
+#[tactic(auto, using(picture::proofs::Growth::grows_not, crate::proofs::Texts::adds_behind, crate::proofs::Texts::adds_grows, crate::proofs::Texts::adds_not))]
+fn tell_entry(
     alloc: Global,
     ledger: &Ledger,
     place: Place,
     entry: Entry,
-    writer: &mut W,
-) -> io::Result<Place> {
-    hand_out(alloc, &ledger.world, place.line, entry, writer)?;
-    Ok(place)
+    writer: &mut Writer,
+) -> io::Result<Place>
+    ensures { OnOk result (IsListed (world_of ledger.now.world) entry
+        → Adds (tells_item (world_of ledger.now.world) entry) writer.old.text.items writer.new.text.items) }
+{
+    match item_of(alloc, &ledger.world, entry) {
+        Ok(item) => match item {
+            Some(item) => {
+                writer.item(place.line, &item)?;
+                Ok(place)
+            }
+            None => Ok(place),
+        },
+        Err(refused) => Err(io::Error::from(refused)),
+    }
 }
 
-/// Tells the fault with which a run ended, if it did.
-fn tell_end<W: Writer>(alloc: Global, ledger: &Ledger, writer: &mut W) -> io::Result<()> {
+/// Writes how many frames of the last line are not told yet, and the fault with which the run ended, if it did.
+#[tactic(auto, using(crate::proofs::Texts::adds_behind, crate::proofs::Texts::grows_adds))]
+fn tell_end(alloc: Global, ledger: &Ledger, place: Place, writer: &mut Writer) -> io::Result<()>
+    ensures { OnOk result (IsEnding ledger.now.fault writer.old.text.items writer.new.text.items) }
+{
+    tell_sent(place, writer)?;
     match ledger.fault {
         Some(fault) => {
             let waiting = list_ranges(alloc, ledger.world.waiting())?;

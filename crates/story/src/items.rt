@@ -1,12 +1,17 @@
 //! What is told of a run, entry by entry.
 
+ghost use Rattle.std.specs.Prelude.{◌≡◌, ◌<◌, IfOk, OnOk, is_some, length, slice_get, true};
+ghost use Rattle.picture.specs.Growing.{Grows};
+ghost use Rattle.world.specs.Seen.{world_of};
+ghost use Rattle.story.specs.Accounts.{IsListed, tells_item, tells_more};
+
 use super::entries::Entry;
 use diagram::{Facts, facts_of};
 use node_model::NodeFault;
 use sessions::Command;
 use stable::MemStable;
-use std::alloc::Global;
-use std::io;
+use std::alloc::{AllocError, Global};
+use std::io::{self, Write};
 use wire::{Frame, NodeId, Position};
 use world::World;
 use world_model::{Answered, LearntEntry, Replied, RoundEnd, StepOutcome};
@@ -21,11 +26,6 @@ pub(crate) enum Item<'a> {
         to: NodeId,
         facts: Facts,
     },
-    /// So many frames were sent, of which the first has this number.
-    SentMany {
-        first: usize,
-        count: usize,
-    },
     Learnt(&'a LearntEntry),
     Replied(&'a Replied),
     Answered(&'a Answered),
@@ -36,83 +36,73 @@ pub(crate) enum Item<'a> {
     Round(NodeId, RoundEnd),
 }
 
-/// What takes the items of a run, in their order.
-pub(crate) trait Teller {
-    /// Takes an item of a line. An error is out of memory.
-    fn tell(&mut self, line: u64, item: &Item) -> io::Result<()>;
-}
-
-/// Hands out what an entry tells of what came of a step. An outcome that only counts entries tells nothing: these do.
-pub(crate) fn hand_out<T: Teller>(
+/// What an entry tells of what came of a step. A line and a step have no item, nor has an outcome that only counts entries: these have.
+pub(crate) fn item_of<'a>(
     alloc: Global,
-    world: &World<MemStable>,
-    line: u64,
+    world: &'a World<MemStable>,
     entry: Entry,
-    teller: &mut T,
-) -> io::Result<()> {
+) -> Result<Option<Item<'a>>, AllocError>
+    ensures { IfOk result (λ item. IsListed (world_of world.now) entry
+        → is_some item ≡ tells_item (world_of world.now) entry) }
+{
     match entry {
-        Entry::Line(_) | Entry::Step(_) => Ok(()),
-        Entry::Frame(number) => hand_out_frame(alloc, world.frames(), line, number, teller),
-        Entry::Outcome(index) => hand_out_outcome(world.outcomes().get(index), line, teller),
+        Entry::Line(_) | Entry::Step(_) => Ok(None),
+        Entry::Frame(number) => sent_item(alloc, world.frames(), number),
+        Entry::Outcome(index) => Ok(outcome_item(world.outcomes(), index)),
         Entry::Learnt(index) => match world.learnt().get(index) {
-            Some(entry) => teller.tell(line, &Item::Learnt(entry)),
-            None => Ok(()),
+            Some(entry) => Ok(Some(Item::Learnt(entry))),
+            None => Ok(None),
         },
         Entry::Replied(index) => match world.replies().get(index) {
-            Some(entry) => teller.tell(line, &Item::Replied(entry)),
-            None => Ok(()),
+            Some(entry) => Ok(Some(Item::Replied(entry))),
+            None => Ok(None),
         },
         Entry::Answered(index) => match world.answers().get(index) {
-            Some(entry) => teller.tell(line, &Item::Answered(entry)),
-            None => Ok(()),
+            Some(entry) => Ok(Some(Item::Answered(entry))),
+            None => Ok(None),
         },
     }
 }
 
-/// Hands out a frame.
-fn hand_out_frame<T: Teller>(
+/// What is told of a frame.
+fn sent_item<'a>(
     alloc: Global,
     frames: &[Frame],
-    line: u64,
     number: usize,
-    teller: &mut T,
-) -> io::Result<()> {
+) -> Result<Option<Item<'a>>, AllocError>
+    ensures { IfOk result (λ item. number < length frames.now → is_some item ≡ true) }
+{
     let Some(frame) = frames.get(number) else {
-        return Ok(());
+        return Ok(None);
     };
     let facts = facts_of(&frame.open(alloc)?.message);
-    let item = Item::Sent {
+    Ok(Some(Item::Sent {
         number,
         from: frame.sender(),
         to: frame.receiver(),
         facts,
-    };
-    teller.tell(line, &item)
+    }))
 }
 
-/// Hands out an outcome.
-fn hand_out_outcome<T: Teller>(
-    outcome: Option<&StepOutcome>,
-    line: u64,
-    teller: &mut T,
-) -> io::Result<()> {
-    let Some(outcome) = outcome else {
-        return Ok(());
-    };
-    match *outcome {
-        StepOutcome::Done { .. } | StepOutcome::Answered => Ok(()),
-        StepOutcome::Restored { node, position, .. } => {
-            teller.tell(line, &Item::Restored(node, position))
-        }
-        StepOutcome::Lost => teller.tell(line, &Item::Lost),
-        StepOutcome::Refused(node, fault) => teller.tell(line, &Item::Refused(node, fault)),
-        StepOutcome::Stopped(node, fault) => teller.tell(line, &Item::Stopped(node, fault)),
-        StepOutcome::Round(node, end) => teller.tell(line, &Item::Round(node, end)),
+/// What is told of an outcome.
+fn outcome_item<'a>(outcomes: &[StepOutcome], index: usize) -> Option<Item<'a>>
+    ensures { is_some result ≡ tells_more (slice_get outcomes.now index) }
+{
+    match *outcomes.get(index)? {
+        StepOutcome::Done { .. } | StepOutcome::Answered => None,
+        StepOutcome::Restored { node, position, .. } => Some(Item::Restored(node, position)),
+        StepOutcome::Lost => Some(Item::Lost),
+        StepOutcome::Refused(node, fault) => Some(Item::Refused(node, fault)),
+        StepOutcome::Stopped(node, fault) => Some(Item::Stopped(node, fault)),
+        StepOutcome::Round(node, end) => Some(Item::Round(node, end)),
     }
 }
 
 /// Adds a command by its request, as 7:1, or as noop.
-pub(crate) fn push_command(text: &mut Vec<u8>, command: &Command) -> io::Result<()> {
+#[tactic(auto, using(picture::proofs::Growth::grows_by, picture::proofs::Growth::grows_on, picture::proofs::Growth::grows_not))]
+pub(crate) fn push_command(text: &mut Vec<u8>, command: &Command) -> io::Result<()>
+    ensures { OnOk result (Grows text.old.items text.new.items) }
+{
     match command {
         Command::NoOp => {
             text.extend_from_slice(b"noop")?;
@@ -125,7 +115,9 @@ pub(crate) fn push_command(text: &mut Vec<u8>, command: &Command) -> io::Result<
 }
 
 /// Adds a request by its client and number.
-pub(crate) fn push_request(text: &mut Vec<u8>, client: u8, number: u64) -> io::Result<()> {
-    use std::io::Write;
+#[tactic(auto, using(picture::proofs::Growth::grows_by, picture::proofs::Growth::grows_on, picture::proofs::Growth::grows_not))]
+pub(crate) fn push_request(text: &mut Vec<u8>, client: u8, number: u64) -> io::Result<()>
+    ensures { OnOk result (Grows text.old.items text.new.items) }
+{
     write!(text, "{client}:{number}")
 }

@@ -5,19 +5,24 @@
 #![tactic(auto)]
 
 mod account;
+mod course;
 mod deeds;
 mod entries;
 mod flags;
 mod items;
 mod ledger;
+mod line_texts;
 mod objects;
 mod passages;
 mod ranges;
 mod sketch;
 mod words;
+mod writer;
 
-pub use account::{Account, Form, tell};
+pub use account::{Account, tell};
+pub use course::follow;
 pub use deeds::Deed;
 pub use entries::{Entry, list_run};
-pub use ledger::{Counts, Ledger, LineBegin, Step, follow};
+pub use ledger::{Counts, Ledger, LineBegin, Step};
 pub use sketch::draw;
+pub use writer::Form;

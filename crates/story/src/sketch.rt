@@ -2,18 +2,22 @@
 
 ghost use Rattle.story.specs.Ledgers.{IsComplete};
 
-use super::account::{Account, split_lines, text_of};
+use super::account::Account;
+use super::course::follow;
 use super::deeds::Deed;
 use super::entries::{Entry, list_run};
-use super::items::{Item, Teller, hand_out, push_command};
-use super::ledger::{Ledger, Step, follow};
+use super::items::{Item, item_of, push_command};
+use super::ledger::{Ledger, Step};
+use super::line_texts::{split_lines, text_of};
 use super::words::push_item;
 use diagram::{Label, Mark, Scene, Sign};
 use events::WorldFault;
 use schedule::{ReplayCause, ReplayFault};
+use stable::MemStable;
 use std::alloc::Global;
 use std::io::{self, Write};
 use wire::NodeId;
+use world::World;
 
 /// The space-time diagram of the run that the bytes spell, as SVG, up to the line that ends it: of the frames from number `from`, or the
 /// first, to number `to`, or the last; of more than a picture shows, of the first ones, which it names.
@@ -88,7 +92,7 @@ fn mark_entries(alloc: Global, ledger: &Ledger) -> io::Result<Vec<Mark>>
         match *entry {
             Entry::Step(number) => marker.begin_step(ledger.steps.as_slice(), number)?,
             Entry::Frame(_) => {}
-            other => hand_out(alloc, &ledger.world, 0, other, &mut marker)?,
+            other => marker.mark_entry(&ledger.world, other)?,
         }
     }
     let Marker { marks, .. } = marker;
@@ -103,8 +107,20 @@ struct Marker {
     marks: Vec<Mark>,
 }
 
-impl Teller for Marker {
-    fn tell(&mut self, _line: u64, item: &Item) -> io::Result<()> {
+impl Marker {
+    /// Marks what an entry tells.
+    fn mark_entry(&mut self, world: &World<MemStable>, entry: Entry) -> io::Result<()> {
+        match item_of(self.alloc, world, entry) {
+            Ok(item) => match item {
+                Some(item) => self.mark(&item),
+                None => Ok(()),
+            },
+            Err(refused) => Err(io::Error::from(refused)),
+        }
+    }
+
+    /// Marks what came of a step, where that is shown at a node.
+    fn mark(&mut self, item: &Item) -> io::Result<()> {
         let mut note = Vec::new(self.alloc);
         let (node, sign) = match item {
             Item::Learnt(entry) => {
@@ -129,9 +145,7 @@ impl Teller for Marker {
         push_item(&mut title, item)?;
         self.push(node, sign, note, title)
     }
-}
 
-impl Marker {
     /// The next step begins: what is done at it is marked.
     fn begin_step(&mut self, steps: &[Step], number: usize) -> io::Result<()> {
         self.step = number;

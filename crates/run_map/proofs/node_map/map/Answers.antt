@@ -12,3 +12,17 @@ returns-in-Ok-draw-clause-fleet c = (
     held = c.in-Ok-fleet_of.ensures;
   },
 )
+
+pub returns-in-Ok-draw-clause-map : goal.returns-in-Ok-draw-clause-map
+returns-in-Ok-draw-clause-map c = record {
+  features = c.in-Ok-fleet_of.db.now;
+  left = record {
+    nodes = c.in-Ok.survey.nodes;
+    end = world_of c.in-Ok.survey.world;
+    runs = c.in-Ok.ensures.run;
+    held = c.in-Ok-fleet_of.ensures;
+  };
+  t = c.instant_of-t.result;
+  asked = c.instant_of-t.ensures;
+  page = c.in-Ok-draw.ensures;
+}

@@ -1,0 +1,6 @@
+use Rattle.picture.specs.Growing.{Grows}
+use Rattle.fleetmap.proofs.marks.draw_ids.Given as goal
+
+-- more and more is drawn
+abbrev pub invariant-loop-at : goal.invariant-loop-at
+invariant-loop-at l = Grows l.initial.picture l.picture

@@ -1,0 +1,6 @@
+use Rattle.picture.specs.Growing.{Grows}
+use Rattle.story.proofs.objects.push_pairs.Given as goal
+
+-- more and more is written
+abbrev pub invariant-loop-range : goal.invariant-loop-range
+invariant-loop-range l = Grows l.initial.text.items l.text.items

@@ -1,0 +1,142 @@
+//! The course of a run: its lines are done one after another, step by step, and noted.
+
+ghost use Rattle.std.specs.Prelude.{◌≡◌, IfOk, None, OnOk};
+ghost use Rattle.story.specs.Following.{AreFollowed, ComesNext, IsRunOf, LineEndsBy, begun_numbers};
+ghost use Rattle.story.specs.Ledgers.{IsComplete, IsKept};
+ghost use Rattle.world.specs.Seen.{world_of};
+
+use super::deeds::{Deed, deed_of};
+use super::ledger::{Ledger, begin, ends_at};
+use events::{Event, WorldFault};
+use replay::do_line;
+use schedule::{Action, ReplayFault, ScheduleLine, parse_schedule};
+use stable::{MemStable, Scripted, Stable};
+use std::alloc::Global;
+use world::MOST_DELIVERIES;
+
+/// The run that the bytes spell, over records in memory, to its end or to the line that ends it.
+///
+/// An error is the first faulty line, or out of memory before the first step.
+pub fn follow(alloc: Global, bytes: &[u8]) -> Result<Ledger, ReplayFault>
+    ensures complete { IfOk result IsComplete }
+    ensures run { IfOk result (λ ledger. IsRunOf (⟦<Scripted<MemStable> as Stable>⟧)
+        bytes.now ledger.lines.items ledger.fault (world_of ledger.world)) }
+{
+    let schedule = parse_schedule(alloc, bytes)?;
+    let (first, last) = (schedule.first(), schedule.last());
+    let mut ledger = begin(alloc, first, schedule.nodes())?;
+    ledger.begin_line(first)?;
+    ledger.do_lines(alloc, schedule.into_lines())?;
+    ledger.note(last, Deed::Ended)?;
+    Ok(ledger)
+}
+
+impl Ledger {
+    /// Does the lines in order, up to the first that can't be done.
+    fn do_lines(&mut self, alloc: Global, lines: Vec<ScheduleLine>) -> Result<(), ReplayFault>
+        requires kept { IsKept self.old }
+        requires goes_on { self.old.fault ≡ None }
+        ensures kept { OnOk result (IsKept self.new) }
+        ensures followed { OnOk result (AreFollowed (⟦<Scripted<MemStable> as Stable>⟧) lines.items
+            (begun_numbers self.old.lines.items) (begun_numbers self.new.lines.items)
+            (world_of self.old.world) self.new.fault (world_of self.new.world)) }
+    {
+        for line in lines {
+            self.begin_line(line.number)?;
+            self.do_line(alloc, line)?;
+            match self.fault {
+                Some(_) => return Ok(()),
+                None => {}
+            }
+        }
+        Ok(())
+    }
+
+    /// Does a line, step by step.
+    fn do_line(&mut self, alloc: Global, line: ScheduleLine) -> Result<(), ReplayFault>
+        requires kept { IsKept self.old }
+        requires goes_on { self.old.fault ≡ None }
+        ensures kept { OnOk result (IsKept self.new) }
+        ensures lines { OnOk result (self.new.lines.items ≡ self.old.lines.items) }
+        ensures done { OnOk result (LineEndsBy (⟦<Scripted<MemStable> as Stable>⟧) line
+            (world_of self.old.world) self.new.fault (world_of self.new.world)) }
+    {
+        let ScheduleLine { number, action } = line;
+        match action {
+            Action::Flush => self.flush(alloc, number),
+            Action::Step(event) => self.take(alloc, number, Action::Step(event)),
+            Action::Round { node, members } => {
+                let first = self.world.frames().len();
+                self.take(alloc, number, Action::Round { node, members })?;
+                self.part_round(number, first)
+            }
+        }
+    }
+
+    /// Delivers the lowest waiting frame until none waits, as a world's own flush does.
+    fn flush(&mut self, alloc: Global, line: u64) -> Result<(), ReplayFault>
+        requires kept { IsKept self.old }
+        requires goes_on { self.old.fault ≡ None }
+        ensures kept { OnOk result (IsKept self.new) }
+        ensures lines { OnOk result (self.new.lines.items ≡ self.old.lines.items) }
+        ensures done { OnOk result (LineEndsBy (⟦<Scripted<MemStable> as Stable>⟧)
+            (record { number = line; action = Action.Flush })
+            (world_of self.old.world) self.new.fault (world_of self.new.world)) }
+    {
+        for delivered in 0..MOST_DELIVERIES {
+            let goes_on = self.deliver_lowest(alloc, line)?;
+            match goes_on {
+                true => {}
+                false => return Ok(()),
+            }
+        }
+        match self.next_waiting() {
+            Some(_) => self.fault = Some(ends_at(line, WorldFault::FlushLimit)),
+            None => {}
+        }
+        Ok(())
+    }
+
+    /// Delivers the lowest waiting frame, and tells whether the flush at this line goes on.
+    fn deliver_lowest(&mut self, alloc: Global, line: u64) -> Result<bool, ReplayFault>
+        requires kept { IsKept self.old }
+        requires goes_on { self.old.fault ≡ None }
+        ensures kept { OnOk result (IsKept self.new) }
+        ensures lines { OnOk result (self.new.lines.items ≡ self.old.lines.items) }
+        ensures comes { IfOk result (λ goes_on. ComesNext (⟦<Scripted<MemStable> as Stable>⟧) line
+            (world_of self.old.world) goes_on self.new.fault (world_of self.new.world)) }
+    {
+        match self.next_waiting() {
+            Some(frame) => {
+                self.take(alloc, line, Action::Step(Event::Deliver(frame)))?;
+                match self.fault {
+                    Some(_) => Ok(false),
+                    None => Ok(true),
+                }
+            }
+            None => Ok(false),
+        }
+    }
+
+    /// Does one thing, and notes it; or notes the fault that ends the run.
+    fn take(&mut self, alloc: Global, line: u64, action: Action) -> Result<(), ReplayFault>
+        requires kept { IsKept self.old }
+        requires goes_on { self.old.fault ≡ None }
+        ensures kept { OnOk result (IsKept self.new) }
+        ensures lines { OnOk result (self.new.lines.items ≡ self.old.lines.items) }
+        ensures done { OnOk result (LineEndsBy (⟦<Scripted<MemStable> as Stable>⟧)
+            (record { number = line; action = action })
+            (world_of self.old.world) self.new.fault (world_of self.new.world)) }
+    {
+        let deed = deed_of(&action);
+        let number = line;
+        let line = ScheduleLine { number, action };
+        match do_line(alloc, &mut self.world, line) {
+            Ok(()) => self.note(number, deed),
+            Err(fault) => {
+                self.fault = Some(fault);
+                Ok(())
+            }
+        }
+    }
+}
