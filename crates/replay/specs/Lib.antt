@@ -1,4 +1,5 @@
 pub mod ClusterRuns
 pub mod LineByLine
+pub mod Parts
 pub mod Runs
 pub mod Transcripts

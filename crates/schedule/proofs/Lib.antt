@@ -7,6 +7,7 @@ pub mod Decimals
 pub mod Faults
 pub mod FirstLines
 pub mod FirstPlaces
+pub mod LinesLeft
 pub mod Naming
 pub mod NoSchedule
 pub mod One

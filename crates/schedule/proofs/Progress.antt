@@ -35,7 +35,7 @@ read_more n lines left more line read now action r next spells added = record {
 }
 
 -- what was read has no fault
-read_faultless : (n : ℕ) (before : List NumberedText) (read : List ScheduleLine) → SpellEach n before read → All (IsFaultless n) before
+pub read_faultless : (n : ℕ) (before : List NumberedText) (read : List ScheduleLine) → SpellEach n before read → All (IsFaultless n) before
 read_faultless n [] read each = All-nil (IsFaultless n)
 read_faultless n (t ∷ ts) [] each = absurd each
 read_faultless n (t ∷ ts) (r ∷ rs) each =
