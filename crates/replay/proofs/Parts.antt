@@ -75,6 +75,33 @@ module _ {K : Type 0} (takes : K → List ℕ → K → Type 0) where
   takes_all old between new waited text waits adds rest =
       subst (λ (t : List ℕ). TakesInParts takes old t new) adds.joined (takes_more old between new adds.handed waits adds.parts rest)
 
+  -- ---- in a loop
+  -- how far a text has come: some of it is added, and the rest isn't
+  pub record AddsSoFar (old : K) (waited whole rest : List ℕ) (new : K) (waits : List ℕ) : Type 0 where
+    pub text : List ℕ
+    pub adds : Adds takes old waited text new waits
+    pub joined : text ++ rest ≡ whole
+
+  pub so_far_none : (k : K) (waits whole : List ℕ) → AddsSoFar k waits whole whole k waits
+  so_far_none k waits whole = record { text = []; adds = adds_none k waits; joined = refl }
+
+  -- one line more
+  pub so_far_more : (old between new : K) (waited wait waits whole rest line more : List ℕ)
+      → AddsSoFar old waited whole rest between wait → Adds takes between wait line new waits → rest ≡ line ++ more
+      → AddsSoFar old waited whole more new waits
+  so_far_more old between new waited wait waits whole rest line more so_far adds next = record {
+    text = so_far.text ++ line;
+    adds = adds_more old between new waited so_far.text wait line waits so_far.adds adds;
+    joined = append_assoc so_far.text line more ∙ ap (λ (l : List ℕ). so_far.text ++ l) (sym next) ∙ so_far.joined;
+  }
+
+  -- none is left
+  pub so_far_all : (old new : K) (waited waits whole rest : List ℕ) → AddsSoFar old waited whole rest new waits → rest ≡ []
+      → Adds takes old waited whole new waits
+  so_far_all old new waited waits whole rest so_far none =
+      adds_same old new waited so_far.text whole waits so_far.adds
+      (sym (append-nil so_far.text) ∙ ap (λ (l : List ℕ). so_far.text ++ l) (sym none) ∙ so_far.joined)
+
 -- ---- handed to what holds them all
 module _ {K : Type 0} (items : K → List ℕ) where
   abbrev Grows : K → List ℕ → K → Type 0

@@ -2,6 +2,7 @@
 use Rattle.std.proofs.Common.{◌≡◌, ℕ, List, [], ◌∷◌, ◌++◌, append_assoc, append-nil, refl, sym, ◌∙◌, ap, subst}
 use Rattle.std.specs.List.{All}
 use Rattle.std.proofs.lemmas.List.Elements.{All-append}
+use Rattle.schedule.specs.Causes.{memory}
 use Rattle.schedule.specs.Lines.{NumberedText}
 use Rattle.schedule.specs.Reading.{LinesAreRead, IsBegun, IsLaterRefusal, IsLineRefusal, IsNextRefusal, IsPassed, IsReadAs, Unread}
 use Rattle.schedule.specs.Schedules.{SpellEach, IsFaultless, IsParseRefusal, IsScheduleOf}
@@ -9,7 +10,7 @@ use Rattle.schedule.specs.Spelling.{Spells}
 use Rattle.schedule.specs.declared.action.Action.{Action}
 use Rattle.schedule.specs.declared.replay_fault.ReplayFault.{ReplayFault}
 use Rattle.schedule.specs.declared.schedule.ScheduleLine.{ScheduleLine}
-use Rattle.schedule.proofs.Progress.{read_faultless, read_more, refused_later, stops_there}
+use Rattle.schedule.proofs.Progress.{read_faultless, read_more, refused_later, stops_for_memory, stops_there}
 
 -- a line is passed
 passed_by : (old : Unread) (first nodes : ℕ) (lines more : List NumberedText) (text : NumberedText)
@@ -70,6 +71,14 @@ pub refused_there : (start now next : Unread) (read : List ScheduleLine) (fault 
 refused_there start now next read fault so_far refusal =
     stops_there start.nodes start.left now.left next.left refusal.text read fault so_far.lines refusal.passed.next
     (subst (λ (n : ℕ). IsLineRefusal n refusal.text fault) so_far.nodes refusal.refusal)
+
+-- there was no room for it
+pub no_room : (start now next : Unread) (read : List ScheduleLine) (line : ScheduleLine) (fault : ReplayFault)
+    → IsReadSoFar start now read → IsReadAs now line next → fault ≡ record { line = line.number; cause = memory }
+    → IsLaterRefusal start.nodes start.left fault
+no_room start now next read line fault so_far is_read same =
+    stops_for_memory start.nodes start.left now.left next.left is_read.text read fault so_far.lines is_read.passed.next
+    (same ∙ ap (λ (k : ℕ). record { line = k; cause = memory }) (sym is_read.number))
 
 -- none is left
 pub all_read : (start now : Unread) (read : List ScheduleLine) → IsReadSoFar start now read → now.left ≡ []

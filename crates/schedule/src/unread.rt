@@ -117,7 +117,9 @@ impl<'a> UnreadSchedule<'a> {
             (IsLaterRefusal self.entry.nodes self.entry.left) }
     {
         let mut unread = self;
-        while let Some(_line) = unread.next(alloc)? {}
+        while let Some(seen) = unread.next(alloc)? {
+            drop(seen);
+        }
         Ok(())
     }
 }
