@@ -152,12 +152,19 @@ fn print_work<O: Write, A: Archive>(
         work (text_of folder.entry) bytes.now archive.old text archive.new × (out.new.has_failed ≡ true))) }
     ensures no_usage { IfErr result (λ failure. failure ≢ Failure.Usage) }
 {
-    let text = match (work, folder) {
-        (Work::Replay, None) => return print_replay(rt.alloc(), bytes, out),
-        (Work::Replay, Some(folder)) => replay(rt, archive, folder, bytes)?,
-        (Work::Loopback, _) => loopback(rt, &LocalSockets, bytes)?,
-        (Work::Check, _) => check(rt.alloc(), bytes)?,
-    };
+    match (work, folder) {
+        (Work::Replay, None) => print_replay(rt.alloc(), bytes, out),
+        (Work::Replay, Some(folder)) => print_text(replay(rt, archive, folder, bytes)?, out),
+        (Work::Loopback, _) => print_text(loopback(rt, &LocalSockets, bytes)?, out),
+        (Work::Check, _) => print_text(check(rt.alloc(), bytes)?, out),
+    }
+}
+
+/// Writes the text, all of it.
+fn print_text<O: Write>(text: Vec<u8>, out: &mut CheckedStream<O>) -> Result<(), Failure>
+    ensures printed { OnOk result (Takes O.contents out.old out.new text.items) }
+    ensures failed { IfErr result (λ failure. (failure ≡ Failure.Device) × (out.new.has_failed ≡ true)) }
+{
     match out.print(text.as_slice()) {
         Ok(()) => Ok(()),
         Err(_) => Err(Failure::Device),

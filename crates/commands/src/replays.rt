@@ -76,13 +76,19 @@ pub fn replay_in_memory(alloc: Global, bytes: &[u8]) -> Result<Vec<u8>, Failure>
         → ReplayStops (⟦<Scripted<MemStable> as Stable>⟧) bytes.now failure) }
 {
     match replay_text(alloc, bytes) {
-        Ok(world) => {
-            let text = world_transcript(alloc, &world);
-            mem::forget(world);
-            Ok(text?)
-        }
+        Ok(world) => tell_world(alloc, world),
         Err(fault) => Err(replay_failure(fault)),
     }
+}
+
+/// The transcript of all that happened in the world, which is not given back.
+fn tell_world(alloc: Global, world: World<MemStable>) -> Result<Vec<u8>, Failure>
+    ensures told { IfOk result (λ text. text.items ≡ told_of (world_of world)) }
+    ensures memory { IfErr result (λ failure. failure ≡ Failure.Memory) }
+{
+    let text = world_transcript(alloc, &world);
+    mem::forget(world);
+    Ok(text?)
 }
 
 /// The transcript of the schedule that the bytes spell, whose nodes keep their records under the folder's name.

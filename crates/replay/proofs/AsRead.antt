@@ -12,8 +12,8 @@ use Rattle.world_model.specs.Flushing.{IsStart}
 use Rattle.world_model.specs.Staying.{IsSafeOver}
 use Rattle.world_model.specs.Worlds.{WorldState}
 use Rattle.replay.proofs.LineByLine.{one_more_done}
-use Rattle.replay.specs.Runs.{ActionIsDone, AreDoneAsRead, EndsAsRead, IsReplay, Leads, ReplayEnds, RunIsStopped, told_of}
-use Rattle.replay.specs.Runs.{not_begun, not_read, not_run, undone, unread}
+use Rattle.replay.specs.AsRead.{AreDoneAsRead, EndsAsRead, undone, unread}
+use Rattle.replay.specs.Runs.{ActionIsDone, IsReplay, Leads, ReplayEnds, RunIsStopped, not_begun, not_read, not_run, told_of}
 use Rattle.replay.specs.LineByLine.{at_a_line}
 
 module _ {S : Type 0} (storages : Ghosts (Script S)) where
@@ -76,13 +76,13 @@ module _ {S : Type 0} (storages : Ghosts (Script S)) where
 
   -- ---- a schedule whose first line was read
   -- all its lines were done
-  pub replayed_as_read : (bytes : List ℕ) (unread : Unread) (nodes : ℕ) (start end : WorldState S) → IsBegun bytes unread
-      → nodes ≡ unread.nodes → IsStart storages nodes start → AreDoneAsRead storages unread.nodes unread.left start end
+  pub replayed_as_read : (bytes : List ℕ) (left : Unread) (nodes : ℕ) (start end : WorldState S) → IsBegun bytes left
+      → nodes ≡ left.nodes → IsStart storages nodes start → AreDoneAsRead storages left.nodes left.left start end
       → IsSafeOver storages end → (replay : IsReplay storages bytes (told_of end)) × (replay.end ≡ end)
-  replayed_as_read bytes unread nodes start end begun same starts done safe = (
+  replayed_as_read bytes left nodes start end begun same starts done safe = (
     record {
-      plan = record { first = unread.first; nodes = unread.nodes; lines = done.lines };
-      spelled = schedule_of bytes unread done.lines begun done.spelled;
+      plan = record { first = left.first; nodes = left.nodes; lines = done.lines };
+      spelled = schedule_of bytes left done.lines begun done.spelled;
       start = start;
       starts = subst (λ (n : ℕ). IsStart storages n start) same starts;
       end = end;

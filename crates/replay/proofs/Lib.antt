@@ -4,3 +4,4 @@ pub mod LineByLine
 pub mod NodeCount
 pub mod Parts
 pub mod Running
+pub mod WholeLines

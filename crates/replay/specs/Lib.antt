@@ -1,3 +1,4 @@
+pub mod AsRead
 pub mod ClusterRuns
 pub mod LineByLine
 pub mod Parts

@@ -17,9 +17,7 @@ use Rattle.world_model.specs.declared.round_end.RoundEnd.{RoundEnd}
 use Rattle.world.specs.declared.log.TheConstants.{MOST_DELIVERIES}
 use Rattle.replay.specs.LineByLine.{AllDone, EndsWithout, LineStops, StopsAtOne}
 use Rattle.schedule.specs.Causes.{memory}
-use Rattle.schedule.specs.Lines.{NumberedText}
-use Rattle.schedule.specs.Reading.{IsLaterRefusal}
-use Rattle.schedule.specs.Schedules.{Plan, IsScheduleOf, IsParseRefusal, SpellEach}
+use Rattle.schedule.specs.Schedules.{Plan, IsScheduleOf, IsParseRefusal}
 use Rattle.replay.specs.Transcripts.{transcript_of}
 use Rattle.schedule.specs.declared.action.Action.{Action}
 use Rattle.schedule.specs.declared.action.Action.TheVariants.{Step, Flush, Round}
@@ -86,18 +84,6 @@ module _ {S : Type 0} (storages : Ghosts (Script S)) where
   -- for the text
   abbrev pub RunEnds : Plan → WorldState S → ReplayFault → WorldState S → Type 0
   RunEnds = EndsWithout ActionIsDone ActionIsRefused
-
-  -- the texts spell lines, and these are done
-  pub record AreDoneAsRead (nodes : ℕ) (texts : List NumberedText) (old new : WorldState S) : Type 0 where
-    pub lines : List ScheduleLine
-    pub spelled : SpellEach nodes texts lines
-    pub led : Leads lines old new
-
-  -- one of the texts is no line, wherever the run has come to then; or all are, and the run ends at one that isn't done
-  pub data EndsAsRead (nodes : ℕ) (texts : List NumberedText) (old : WorldState S) (fault : ReplayFault) (new : WorldState S) : Type 0 where
-    unread : IsLaterRefusal nodes texts fault → EndsAsRead nodes texts old fault new
-    undone : (lines : List ScheduleLine) → SpellEach nodes texts lines → EndsAt lines old fault new
-        → EndsAsRead nodes texts old fault new
 
   -- the lines lead to a world of which the text is the transcript
   pub record RunsTo (IsHonest : S → Type 0) (plan : Plan) (start : WorldState S) (text : List ℕ) : Type 0 where

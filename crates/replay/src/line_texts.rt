@@ -14,7 +14,7 @@ use world_model::RoundEnd;
 pub(crate) const LONGEST_LINE: usize = 96;
 
 /// What stands before an answer has at most this many bytes.
-pub(crate) const LONGEST_ASKED: usize = 49;
+const LONGEST_ASKED: usize = 49;
 
 /// An answer of at most this many bytes is moved with the rest of its line.
 pub(crate) const SHORT_ANSWER: usize = 46;
@@ -88,8 +88,17 @@ pub(crate) fn write_answer(node: u8, position: u32, answer: &[u8], line: &mut [u
     write_asked(node, position, line, start)
 }
 
+/// Writes what stands before a long answer: `answer 0 1 `.
+pub(crate) fn write_question(node: u8, position: u32, line: &mut [u8]) -> usize
+    requires { length line.old ≡ LONGEST_LINE }
+    ensures in_line { result ≤ LONGEST_LINE }
+    ensures written { drop result line.new ≡ codes "answer " ++ decimal node ++ codes " " ++ decimal position ++ codes " " }
+{
+    write_asked(node, position, line, LONGEST_LINE)
+}
+
 /// Writes what stands before an answer: which node was asked, and where in the order.
-pub(crate) fn write_asked(node: u8, position: u32, line: &mut [u8], end: usize) -> usize
+fn write_asked(node: u8, position: u32, line: &mut [u8], end: usize) -> usize
     requires room { LONGEST_ASKED ≤ end }
     requires in_line { end ≤ length line.old }
     ensures start { result ≤ end }

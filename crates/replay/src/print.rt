@@ -6,8 +6,8 @@ ghost use Rattle.replay.specs.Transcripts.{answer_line, learn_line, refuse_line,
 ghost use Rattle.replay.specs.declared.line_texts.TheConstants.{LONGEST_LINE, LONGEST_WORD};
 
 use super::line_texts::{
-    LONGEST_ASKED, LONGEST_LINE, SHORT_ANSWER, write_answer, write_asked, write_event, write_learn,
-    write_noop, write_reply, write_round,
+    LONGEST_LINE, SHORT_ANSWER, write_answer, write_event, write_learn, write_noop, write_question,
+    write_reply, write_round,
 };
 use super::part::add;
 use super::sink::Sink;
@@ -139,11 +139,25 @@ fn print_long_answer<K: Sink>(
         sink.new part.new.items) }
     ensures refused { OnErr result (K.HasFailed sink.new) }
 {
-    let mut line = [0; LONGEST_ASKED];
-    let start = write_asked(node, position, &mut line, LONGEST_ASKED);
-    add(part, sink, &line[start..])?;
+    print_asked(part, sink, node, position)?;
     add(part, sink, answer)?;
     add(part, sink, b"\n")
+}
+
+/// Adds what stands before an answer.
+fn print_asked<K: Sink>(
+    part: &mut Vec<u8>,
+    sink: &mut K,
+    node: u8,
+    position: u32,
+) -> io::Result<()>
+    ensures added { OnOk result (Adds K.takes sink.old part.old.items
+        (codes "answer " ++ decimal node ++ codes " " ++ decimal position ++ codes " ") sink.new part.new.items) }
+    ensures refused { OnErr result (K.HasFailed sink.new) }
+{
+    let mut line = [0; LONGEST_LINE];
+    let start = write_question(node, position, &mut line);
+    add(part, sink, &line[start..])
 }
 
 /// Adds the line of a text that was restored: `restore 2 1`.

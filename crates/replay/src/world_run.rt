@@ -6,7 +6,8 @@ ghost use Rattle.world.specs.Seen.{world_of};
 ghost use Rattle.world_model.specs.Starting.{AreOver};
 ghost use Rattle.world_model.specs.Staying.{StaysSafe};
 ghost use Rattle.replay.specs.Runs.{EndsAt, EndsOver, ActionIsDone, ActionIsRefused, IsReplay, IsRunOver, RunIsStopped, Leads, ReplayEnds, RunFails};
-ghost use Rattle.replay.specs.Runs.{AreDoneAsRead, EndsAsRead, RunsTo, told_of};
+ghost use Rattle.replay.specs.AsRead.{AreDoneAsRead, EndsAsRead};
+ghost use Rattle.replay.specs.Runs.{RunsTo, told_of};
 ghost use Rattle.replay.specs.Parts.{TakesInParts};
 
 use super::replayed::Replayed;

@@ -6,10 +6,10 @@ use Rattle.replay.proofs.AsRead.{IsDoneSoFar}
 use Rattle.replay.proofs.world_run.do_unread.Given as goal
 
 -- what was read spells the first lines of those that were left, and the world is where they lead
-abbrev pub invariant-loop-line : goal.invariant-loop-line
-invariant-loop-line g l =
+abbrev pub invariant-loop-unread : goal.invariant-loop-unread
+invariant-loop-unread g l =
     IsDoneSoFar (scripted.ghosts g.row.S g.S.Stable g.S.Stable-dict) l.fn.unread l.unread (world_of l.fn.world) (world_of l.world)
     × StaysSafe (scripted.ghosts g.row.S g.S.Stable g.S.Stable-dict) g.S.Stable.IsHonest (world_of l.world)
 
-abbrev pub decreases-loop-line : goal.decreases-loop-line
-decreases-loop-line g l = length l.unread.left
+abbrev pub decreases-loop-unread : goal.decreases-loop-unread
+decreases-loop-unread g l = length l.unread.left
