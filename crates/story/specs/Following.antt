@@ -1,5 +1,5 @@
 -- The run of a schedule as a ledger has it: the lines that it came to, and where they led.
-use Rattle.std.specs.Prelude.{◌≡◌, ℕ, List, [], ◌∷◌, ◌++◌, map, Bool, true, false, Option, Some, None}
+use Rattle.std.specs.Prelude.{◌≡◌, ◌⊎◌, ℕ, List, [], ◌∷◌, ◌++◌, map, Bool, true, false, Option, Some, None}
 use Rattle.stable.specs.Script.{Script}
 use Rattle.stable.specs.declared.stable.Stable.{Ghosts}
 use Rattle.world_model.specs.Flushing.{IsStart}
@@ -7,7 +7,7 @@ use Rattle.world_model.specs.Waiting.{IsLowestWaiting, NoneWaits, OneWaits}
 use Rattle.world_model.specs.Worlds.{WorldState, DeliversFrame}
 use Rattle.replay.specs.Runs.{ActionIsDone, Leads, RunIsStopped}
 use Rattle.schedule.specs.Causes.{memory}
-use Rattle.schedule.specs.Schedules.{Plan, IsScheduleOf}
+use Rattle.schedule.specs.Schedules.{Plan, IsParseRefusal, IsScheduleOf}
 use Rattle.schedule.specs.declared.replay_fault.ReplayFault.{ReplayFault}
 use Rattle.schedule.specs.declared.schedule.ScheduleLine.{ScheduleLine}
 use Rattle.story.specs.declared.ledger.LineBegin.{LineBegin}
@@ -17,6 +17,10 @@ begun_numbers = map (λ l. l.number)
 
 abbrev pub line_numbers : List ScheduleLine → List ℕ
 line_numbers = map (λ l. l.number)
+
+-- nothing is told of a run: this is the first fault of the bytes, which are no schedule; or memory ran out
+abbrev pub IsUntold : List ℕ → ReplayFault → Type 0
+IsUntold bytes fault = IsParseRefusal bytes fault ⊎ (fault.cause ≡ memory)
 
 module _ {S : Type 0} (storages : Ghosts (Script S)) where
   -- one line is done, or it can't be

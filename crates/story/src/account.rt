@@ -1,22 +1,22 @@
 //! A run as text.
 
-ghost use Rattle.std.specs.Prelude.{◌<◌, IfOk, OnOk, length, true};
+ghost use Rattle.std.specs.Prelude.{◌<◌, IfErr, IfOk, OnOk, length, true};
 ghost use Rattle.picture.specs.Growing.{Grows};
 ghost use Rattle.world.specs.Seen.{world_of};
 ghost use Rattle.story.specs.Accounts.{Adds, IsAccountOf, IsEnding, IsIn, IsListed, IsWritten, has_text, tells_item};
-ghost use Rattle.story.specs.Following.{IsRunOf};
+ghost use Rattle.story.specs.Following.{IsRunOf, IsUntold};
 ghost use Rattle.story.specs.Ledgers.{IsComplete};
 ghost use Rattle.story.specs.declared.ledger.Ledger.{Ledger as ALedger};
 
 use super::course::follow;
 use super::entries::{Entry, list_run};
 use super::items::item_of;
-use super::ledger::Ledger;
+use super::ledger::{Ledger, ends_at};
 use super::line_texts::{split_lines, text_of};
 use super::ranges::list_ranges;
 use super::writer::{Form, Writer};
 use events::WorldFault;
-use schedule::{ReplayCause, ReplayFault};
+use schedule::ReplayFault;
 use stable::{MemStable, Scripted, Stable};
 use std::alloc::Global;
 use std::io;
@@ -33,18 +33,16 @@ pub struct Account {
 ///
 /// An error is the first faulty line, or out of memory.
 pub fn tell(alloc: Global, bytes: &[u8], form: Form, frames: bool) -> Result<Account, ReplayFault>
-    ensures { IfOk result (λ account. (ledger : ALedger)
+    ensures told { IfOk result (λ account. (ledger : ALedger)
         × IsRunOf (⟦<Scripted<MemStable> as Stable>⟧) bytes.now ledger.lines.items ledger.fault (world_of ledger.world)
         × IsAccountOf ledger frames account) }
+    ensures untold { IfErr result (IsUntold bytes.now) }
 {
     let ledger = follow(alloc, bytes)?;
     let fault = ledger.fault;
     match tell_run(alloc, bytes, &ledger, form, frames) {
         Ok(text) => Ok(Account { text, fault }),
-        Err(_) => Err(ReplayFault {
-            line: 1,
-            cause: ReplayCause::World(WorldFault::Memory),
-        }),
+        Err(_) => Err(ends_at(1, WorldFault::Memory)),
     }
 }
 

@@ -1,7 +1,8 @@
 //! The course of a run: its lines are done one after another, step by step, and noted.
 
-ghost use Rattle.std.specs.Prelude.{◌≡◌, IfOk, None, OnOk};
-ghost use Rattle.story.specs.Following.{AreFollowed, ComesNext, IsRunOf, LineEndsBy, begun_numbers};
+ghost use Rattle.std.specs.Prelude.{◌≡◌, IfErr, IfOk, None, OnOk};
+ghost use Rattle.schedule.specs.Causes.{memory};
+ghost use Rattle.story.specs.Following.{AreFollowed, ComesNext, IsRunOf, IsUntold, LineEndsBy, begun_numbers};
 ghost use Rattle.story.specs.Ledgers.{IsComplete, IsKept};
 ghost use Rattle.world.specs.Seen.{world_of};
 
@@ -21,6 +22,7 @@ pub fn follow(alloc: Global, bytes: &[u8]) -> Result<Ledger, ReplayFault>
     ensures complete { IfOk result IsComplete }
     ensures run { IfOk result (λ ledger. IsRunOf (⟦<Scripted<MemStable> as Stable>⟧)
         bytes.now ledger.lines.items ledger.fault (world_of ledger.world)) }
+    ensures untold { IfErr result (IsUntold bytes.now) }
 {
     let schedule = parse_schedule(alloc, bytes)?;
     let (first, last) = (schedule.first(), schedule.last());
@@ -40,6 +42,7 @@ impl Ledger {
         ensures followed { OnOk result (AreFollowed (⟦<Scripted<MemStable> as Stable>⟧) lines.items
             (begun_numbers self.old.lines.items) (begun_numbers self.new.lines.items)
             (world_of self.old.world) self.new.fault (world_of self.new.world)) }
+        ensures memory { IfErr result (λ fault. fault.cause ≡ memory) }
     {
         for line in lines {
             self.begin_line(line.number)?;
@@ -60,6 +63,7 @@ impl Ledger {
         ensures lines { OnOk result (self.new.lines.items ≡ self.old.lines.items) }
         ensures done { OnOk result (LineEndsBy (⟦<Scripted<MemStable> as Stable>⟧) line
             (world_of self.old.world) self.new.fault (world_of self.new.world)) }
+        ensures memory { IfErr result (λ fault. fault.cause ≡ memory) }
     {
         let ScheduleLine { number, action } = line;
         match action {
@@ -82,6 +86,7 @@ impl Ledger {
         ensures done { OnOk result (LineEndsBy (⟦<Scripted<MemStable> as Stable>⟧)
             (record { number = line; action = Action.Flush })
             (world_of self.old.world) self.new.fault (world_of self.new.world)) }
+        ensures memory { IfErr result (λ fault. fault.cause ≡ memory) }
     {
         for delivered in 0..MOST_DELIVERIES {
             let goes_on = self.deliver_lowest(alloc, line)?;
@@ -105,6 +110,7 @@ impl Ledger {
         ensures lines { OnOk result (self.new.lines.items ≡ self.old.lines.items) }
         ensures comes { IfOk result (λ goes_on. ComesNext (⟦<Scripted<MemStable> as Stable>⟧) line
             (world_of self.old.world) goes_on self.new.fault (world_of self.new.world)) }
+        ensures memory { IfErr result (λ fault. fault.cause ≡ memory) }
     {
         match self.next_waiting() {
             Some(frame) => {
@@ -127,6 +133,7 @@ impl Ledger {
         ensures done { OnOk result (LineEndsBy (⟦<Scripted<MemStable> as Stable>⟧)
             (record { number = line; action = action })
             (world_of self.old.world) self.new.fault (world_of self.new.world)) }
+        ensures memory { IfErr result (λ fault. fault.cause ≡ memory) }
     {
         let deed = deed_of(&action);
         let number = line;

@@ -1,6 +1,7 @@
 //! What is noted of a run: its lines and steps, and how long the world's lists were behind each.
 
-ghost use Rattle.std.specs.Prelude.{◌≡◌, ◌++◌, ◌∷◌, [], IfOk, MatchOption, None, OnOk};
+ghost use Rattle.std.specs.Prelude.{◌≡◌, ◌++◌, ◌∷◌, [], IfErr, IfOk, MatchOption, None, OnOk};
+ghost use Rattle.schedule.specs.Causes.{memory};
 ghost use Rattle.story.specs.Following.{begun_numbers};
 ghost use Rattle.story.specs.Ledgers.{IsComplete, IsKept, StandsStill, counts_of};
 ghost use Rattle.world.specs.Seen.{world_of};
@@ -63,6 +64,7 @@ pub(super) fn begin(alloc: Global, line: u64, nodes: Nodes) -> Result<Ledger, Re
     ensures starts { IfOk result (λ ledger. IsStart (⟦<Scripted<MemStable> as Stable>⟧) nodes (world_of ledger.world)) }
     ensures lines { IfOk result (λ ledger. ledger.lines.items ≡ []) }
     ensures fault { IfOk result (λ ledger. ledger.fault ≡ None) }
+    ensures memory { IfErr result (λ fault. fault.cause ≡ memory) }
 {
     match World::new(alloc, nodes) {
         Ok(world) => Ok(Ledger {
@@ -99,6 +101,7 @@ impl Ledger {
             ≡ begun_numbers self.old.lines.items ++ number ∷ []) }
         ensures fault { OnOk result (self.new.fault ≡ self.old.fault) }
         ensures world { OnOk result (world_of self.new.world ≡ world_of self.old.world) }
+        ensures memory { IfErr result (λ fault. fault.cause ≡ memory) }
     {
         let step = self.steps.len();
         match self.lines.push(LineBegin { number, step }) {
@@ -132,6 +135,7 @@ impl Ledger {
         ensures complete { OnOk result (IsComplete self.new) }
         ensures kept { OnOk result (IsKept self.new) }
         ensures still { OnOk result (StandsStill self.old self.new) }
+        ensures memory { IfErr result (λ fault. fault.cause ≡ memory) }
     {
         let ends = count_lists(&self.world);
         let step = self.steps.len();
@@ -149,6 +153,7 @@ impl Ledger {
         requires { IsKept self.old }
         ensures kept { OnOk result (IsKept self.new) }
         ensures still { OnOk result (StandsStill self.old self.new) }
+        ensures memory { IfErr result (λ fault. fault.cause ≡ memory) }
     {
         let end = self.world.frames().len();
         for index in first..end {

@@ -1,19 +1,24 @@
 //! A run as a picture.
 
+ghost use Rattle.std.specs.Prelude.{IfErr, IfOk};
+ghost use Rattle.story.specs.Following.{IsRunOf, IsUntold};
 ghost use Rattle.story.specs.Ledgers.{IsComplete};
+ghost use Rattle.story.specs.Sketches.{IsSketchOf, IsSketched};
+ghost use Rattle.story.specs.declared.ledger.Ledger.{Ledger as ALedger};
+ghost use Rattle.world.specs.Seen.{world_of};
 
 use super::account::Account;
 use super::course::follow;
 use super::deeds::Deed;
 use super::entries::{Entry, list_run};
 use super::items::{Item, item_of, push_command};
-use super::ledger::{Ledger, Step};
+use super::ledger::{Ledger, Step, ends_at};
 use super::line_texts::{split_lines, text_of};
 use super::words::push_item;
 use diagram::{Label, Mark, Scene, Sign};
 use events::WorldFault;
-use schedule::{ReplayCause, ReplayFault};
-use stable::MemStable;
+use schedule::ReplayFault;
+use stable::{MemStable, Scripted, Stable};
 use std::alloc::Global;
 use std::io::{self, Write};
 use wire::NodeId;
@@ -28,15 +33,17 @@ pub fn draw(
     bytes: &[u8],
     from: Option<usize>,
     to: Option<usize>,
-) -> Result<Account, ReplayFault> {
+) -> Result<Account, ReplayFault>
+    ensures run { IfOk result (λ account. (ledger : ALedger)
+        × IsRunOf (⟦<Scripted<MemStable> as Stable>⟧) bytes.now ledger.lines.items ledger.fault (world_of ledger.world)
+        × IsSketchOf ledger from to account) }
+    ensures untold { IfErr result (IsUntold bytes.now) }
+{
     let ledger = follow(alloc, bytes)?;
     let fault = ledger.fault;
     match draw_ledger(alloc, bytes, &ledger, from, to) {
         Ok(text) => Ok(Account { text, fault }),
-        Err(_) => Err(ReplayFault {
-            line: 1,
-            cause: ReplayCause::World(WorldFault::Memory),
-        }),
+        Err(_) => Err(ends_at(1, WorldFault::Memory)),
     }
 }
 
@@ -48,6 +55,7 @@ fn draw_ledger(
     to: Option<usize>,
 ) -> io::Result<Vec<u8>>
     requires { IsComplete ledger.now }
+    ensures { IfOk result (λ text. IsSketched ledger.now from to text.items) }
 {
     let labels = label_lines(alloc, bytes, ledger)?;
     let marks = mark_entries(alloc, ledger)?;

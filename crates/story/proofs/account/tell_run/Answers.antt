@@ -1,4 +1,4 @@
-use Rattle.std.proofs.Common.{◌≡◌, ◌<◌, List, [], ℕ, length, take, get_or, sym, subst, rules, arith}
+use Rattle.std.proofs.Common.{◌≡◌, ◌<◌, List, [], ℕ, length, get_or, sym, subst, rules}
 use Rattle.world.specs.Seen.{world_of}
 use Rattle.story.specs.Accounts.{AreWritten, none}
 use Rattle.story.proofs.AccountLemmas.{next_written}
