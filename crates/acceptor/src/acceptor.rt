@@ -111,16 +111,18 @@ impl Acceptor {
             → S.HasStrayKey storage.old ⊎ HasDamagedRecord (S.contents storage.old) }
     {
         let keys = storage.keys(alloc)?;
+        let votes = Votes::with_room(alloc, keys.len())?;
         let mut loaded = Acceptor {
             promise: None,
             floor: 0,
             sealed: None,
             text: Vec::new(alloc),
-            votes: Votes::new(alloc),
+            votes,
         };
         let mut machine = Machine::new(alloc);
+        let mut buffer = Vec::new(alloc);
         for key in &keys {
-            loaded.take_in(alloc, storage, *key, &mut machine)?;
+            loaded.take_in(alloc, storage, *key, &mut machine, &mut buffer)?;
         }
         Ok((loaded, machine))
     }
@@ -133,6 +135,7 @@ impl Acceptor {
         storage: &mut S,
         key: Key,
         machine: &mut Machine,
+        buffer: &mut Vec<u8>,
     ) -> Result<(), StableFault>
         ensures told { S.IsHonest storage.new → OnOk result ((seen : Records) → seen key ≡ None
             → RecordsSay seen (accepting_of self.old)
@@ -167,7 +170,7 @@ impl Acceptor {
             }
             Key::Round => Ok(()),
             Key::Vote(slot) => {
-                let found = voted(alloc, storage, slot)?;
+                let found = voted(alloc, storage, slot, buffer)?;
                 Ok(self.take_vote(slot, found)?)
             }
         }

@@ -137,11 +137,12 @@ pub(super) fn write_promise<S: Stable>(
     storage.put(alloc, Key::Promise, ballot_record(ballot).to_vec(alloc)?)
 }
 
-/// The vote in the record of a slot, or None without the record.
+/// The vote in the record of a slot, or None without the record, which is laid in a buffer that serves for the next.
 pub(super) fn voted<S: Stable>(
     alloc: Global,
     storage: &mut S,
     slot: Slot,
+    buffer: &mut Vec<u8>,
 ) -> Result<Option<AcceptedValue>, StableFault>
     ensures told { S.IsHonest storage.new → IfOk result (λ found.
         S.contents storage.old (Key.Vote slot)
@@ -158,10 +159,10 @@ pub(super) fn voted<S: Stable>(
     ensures damaged_record { S.IsHonest storage.new → IsErrOf result StableFault.Damaged
         → HasDamagedRecord (S.contents storage.old) }
 {
-    let Some(bytes) = storage.get(alloc, Key::Vote(slot))? else {
+    let Some(bytes) = storage.get_into(alloc, Key::Vote(slot), buffer)? else {
         return Ok(None);
     };
-    match vote_of_record(alloc, &bytes)? {
+    match vote_of_record(alloc, bytes)? {
         Some(choice) => {
             let (ballot, command) = choice;
             let command = SharedCommand::new(alloc, command)?;

@@ -23,13 +23,12 @@ pub(super) struct Votes {
 }
 
 impl Votes {
-    /// No votes.
-    pub(super) fn new(alloc: Global) -> Votes
-        ensures { (s : ℕ) → vote_held result s ≡ None }
+    /// No votes, with room for so many at slots in turn.
+    pub(super) fn with_room(alloc: Global, count: usize) -> Result<Votes, AllocError>
+        ensures { IfOk result (λ votes. (s : ℕ) → vote_held votes s ≡ None) }
     {
-        Votes {
-            by_slot: SlotTable::new(alloc),
-        }
+        let by_slot = SlotTable::with_room(alloc, count)?;
+        Ok(Votes { by_slot })
     }
 
     /// Whether the vote at its slot is this vote already.

@@ -62,6 +62,20 @@ impl<V: Drop> SlotTable<V> {
         }
     }
 
+    /// The same, with room for so many values at slots in turn: none of these wants memory.
+    pub fn with_room(alloc: Global, count: usize) -> Result<SlotTable<V>, AllocError>
+        ensures empty { IfOk result (λ table. value_at table ≡ (λ _. None)) }
+        ensures room { IfOk result (λ table. vec_capacity table.row ≡ count) }
+    {
+        let row = Vec::with_capacity(alloc, count)?;
+        Ok(SlotTable {
+            from: 0,
+            row,
+            others: BTreeMap::new(alloc),
+            empty: 0,
+        })
+    }
+
     /// The value at a slot.
     #[inline]
     pub fn get(&self, slot: Slot) -> Option<&V>
@@ -94,6 +108,7 @@ impl<V: Drop> SlotTable<V> {
     }
 
     /// Of the slots from this one on the first at which a value stands, and the value.
+    #[inline]
     pub fn first_from(&self, from: Slot) -> Option<(Slot, &V)>
         ensures { MatchOption result (IsEmptyFrom (value_at self.now) from)
             (λ found. IsFirstFrom (value_at self.now) from found.0 found.1.now) }

@@ -6,10 +6,10 @@ use Rattle.acceptor.proofs.RecordLemmas.{vote_of_its_form}
 use Rattle.acceptor.proofs.records.voted.Goals as goal
 
 -- the record spells the vote that was read
-pub returns-in-Some-2-clause-form : goal.returns-in-Some-2-clause-form
-returns-in-Some-2-clause-form g c = λ honest.
+pub returns-in_ok-command-in-Some-2-clause-form : goal.returns-in_ok-command-in-Some-2-clause-form
+returns-in_ok-command-in-Some-2-clause-form g c = λ honest.
     let told = c.in_ok-bytes.ensures.told honest in
-    let bytes = c.in-Some.bytes.items in
+    let bytes = c.in-Some.bytes.now in
     let choice = c.in-Some-2.choice in
     let found : g.S.Stable.contents c.args.storage.now (key.Vote c.args.slot) ≡ Some bytes = search rules in
     let read : IsVoteRecord bytes choice.0 choice.1 = search rules in
@@ -29,5 +29,5 @@ returns-in_err-command-in-Some-2 g c = search rules
 pub returns-in_err-choice : goal.returns-in_err-choice
 returns-in_err-choice g c = search rules
 
-pub returns : goal.returns
-returns g c = search rules
+pub returns-in-None : goal.returns-in-None
+returns-in-None g c = search rules

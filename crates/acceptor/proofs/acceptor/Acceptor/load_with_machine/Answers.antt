@@ -10,7 +10,7 @@ use Rattle.acceptor.proofs.acceptor.Acceptor.load_with_machine.Goals as goal
 pub loop-key-init : goal.loop-key-init
 loop-key-init g c = (
   g.met.S.Stable.laws.reads_none c.keys.new.self,
-  λ honest. RecordsSay-same _ _ _ (λ k. refl) (RecordsSay-holds _ _ _ refl refl refl c.new.ensures.items c.new-2.ensures RecordsSay-nothing),
+  λ honest. RecordsSay-same _ _ _ (λ k. refl) (RecordsSay-holds _ _ _ refl refl refl c.new.ensures.items c.in_ok-votes.ensures RecordsSay-nothing),
   λ honest q has. absurd cc,
   λ honest. begins_with_none _ _ refl c.new-machine.ensures.stands,
   machine_as_before _ _ _ c.new.ensures.items (c.new-machine.ensures.features, c.new-machine.ensures.sessions),
@@ -19,7 +19,7 @@ loop-key-init g c = (
 -- no vote is held yet
 pub invariant_of-loaded : goal.invariant_of-loaded
 invariant_of-loaded g c =
-    record { bounded = λ s v held. absurd (none-some v (sym (c.new-2.ensures s) ∙ held)); in_log = omega arith }
+    record { bounded = λ s v held. absurd (none-some v (sym (c.in_ok-votes.ensures s) ∙ held)); in_log = omega arith }
 
 -- a read that fails comes after reads that did not
 pub returns-in_err-take_in-clause-device : goal.returns-in_err-take_in-clause-device
