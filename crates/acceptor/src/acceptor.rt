@@ -158,11 +158,7 @@ impl Acceptor {
             → HasDamagedRecord (S.contents storage.old) }
     {
         match key {
-            Key::Checkpoint => {
-                let found = checkpointed(alloc, storage)?;
-                self.take_checkpoint(found, machine);
-                Ok(())
-            }
+            Key::Checkpoint => self.take_in_checkpoint(alloc, storage, machine),
             Key::Promise => {
                 let found = promised(alloc, storage)?;
                 self.take_promise(found);
@@ -174,6 +170,41 @@ impl Acceptor {
                 Ok(self.take_vote(slot, found)?)
             }
         }
+    }
+
+    /// Takes in record Checkpoint, as `take_in` does.
+    // Apart, so that the room of a machine, some kilobytes, isn't cleared for each vote.
+    #[cold]
+    #[inline(never)]
+    fn take_in_checkpoint<S: Stable>(
+        &mut self,
+        alloc: Global,
+        storage: &mut S,
+        machine: &mut Machine,
+    ) -> Result<(), StableFault>
+        ensures told { S.IsHonest storage.new → OnOk result ((seen : Records) → seen key.Checkpoint ≡ None
+            → RecordsSay seen (accepting_of self.old)
+            → RecordsSay (with_seen seen key.Checkpoint (S.contents storage.old key.Checkpoint))
+            (accepting_of self.new)) }
+        ensures machine { S.IsHonest storage.new → OnOk result ((seen : Records) → seen key.Checkpoint ≡ None
+            → MachineBeginsWith seen machine.old
+            → MachineBeginsWith (with_seen seen key.Checkpoint (S.contents storage.old key.Checkpoint)) machine.new) }
+        ensures restored { OnOk result (IsMachineOf (accepting_of self.old).text machine.old
+            → IsMachineOf (accepting_of self.new).text machine.new) }
+        ensures form { S.IsHonest storage.new → OnOk result
+            (IfSome (S.contents storage.old key.Checkpoint) (IsOfItsForm key.Checkpoint)) }
+        ensures reads { OnOk result (S.reads storage.old storage.new) }
+
+        // Each error.
+        ensures device { IsErrOf result StableFault.Device → S.read_fails storage.old storage.new }
+        ensures memory { IsErrOf result StableFault.Memory → S.reads storage.old storage.new }
+        ensures damaged { IsErrOf result StableFault.Damaged → S.reads storage.old storage.new }
+        ensures damaged_record { S.IsHonest storage.new → IsErrOf result StableFault.Damaged
+            → HasDamagedRecord (S.contents storage.old) }
+    {
+        let found = checkpointed(alloc, storage)?;
+        self.take_checkpoint(found, machine);
+        Ok(())
     }
 
     /// Takes in what record Checkpoint says.
