@@ -1,21 +1,23 @@
 //! Replays: a schedule's run over records in memory, or over those that an archive opens.
 
 ghost use Rattle.std.specs.Prelude.{◌≡◌, ◌≢◌, ◌⊎◌, ℕ, List, IfErr, IfOk, vec_len};
-ghost use Rattle.replay.specs.Runs.{IsReplay, IsRunOver};
+ghost use Rattle.replay.specs.Runs.{IsReplay, IsRunOver, told_of};
 ghost use Rattle.schedule.specs.Schedules.{IsScheduleOf};
 ghost use Rattle.commands.specs.Archives.{EndsKept, HandsNone, HandsOut, IsKept, IsSettledAfter};
 ghost use Rattle.commands.specs.Works.{IsUnread, ReplayStops, StopsOver};
+ghost use Rattle.world.specs.Seen.{world_of};
 
 use crate::failures::{replay_failure, run_failure};
 use crate::{Archive, Failure};
-use replay::{Replayed, run};
+use replay::{replay_text, run, world_transcript};
 use schedule::{Schedule, parse_schedule};
 use stable::{MemStable, Scripted, Stable};
 use std::alloc::Global;
 use std::mem;
 use wire::Nodes;
+use world::World;
 
-/// The transcript of the schedule that the bytes spell, run over records in memory.
+/// The transcript of the schedule that the bytes spell, run over records in memory. Each line is done once it is read.
 ///
 /// The memory of the world in which the run ended is not given back: it is kept until the process ends.
 pub fn replay_in_memory(alloc: Global, bytes: &[u8]) -> Result<Vec<u8>, Failure>
@@ -24,15 +26,22 @@ pub fn replay_in_memory(alloc: Global, bytes: &[u8]) -> Result<Vec<u8>, Failure>
     ensures ends { IfErr result (λ failure. failure ≢ Failure.Memory
         → ReplayStops (⟦<Scripted<MemStable> as Stable>⟧) bytes.now failure) }
 {
-    match replay::replay(alloc, bytes) {
-        // The process that asks for a transcript ends with it, and the system takes back at once all that it holds. Giving
-        // back hundreds of thousands of frames one by one would cost a good part of the run's time.
-        Ok(Replayed { text, world }) => {
-            mem::forget(world);
-            Ok(text)
-        }
+    match replay_text(alloc, bytes) {
+        Ok(world) => tell_world(alloc, world),
         Err(fault) => Err(replay_failure(fault)),
     }
+}
+
+/// The transcript of all that happened in the world, which is not given back.
+fn tell_world(alloc: Global, world: World<MemStable>) -> Result<Vec<u8>, Failure>
+    ensures told { IfOk result (λ text. text.items ≡ told_of (world_of world)) }
+    ensures memory { IfErr result (λ failure. failure ≡ Failure.Memory) }
+{
+    let text = world_transcript(alloc, &world);
+    // The process that asks for a transcript ends with it, and the system takes back at once all that it holds. Giving
+    // back hundreds of thousands of frames one by one would cost a good part of the run's time.
+    mem::forget(world);
+    Ok(text?)
 }
 
 /// The transcript of the schedule that the bytes spell, whose nodes keep their records under the folder's name.

@@ -1,12 +1,15 @@
 //! What is told of a run.
 
-ghost use Rattle.std.specs.Prelude.{◌≡◌, ◌++◌, drop, take, IfOk, OnOk};
+ghost use Rattle.std.specs.Prelude.{◌≡◌, ◌++◌, drop, take, IfOk, OnErr, OnOk};
+ghost use Rattle.replay.specs.Parts.{Adds, TakesInParts};
 ghost use Rattle.replay.specs.Transcripts.{transcript_of, lines_of_outcome, entries_after};
 
+use super::part::hand_on;
 use super::print::{
     print_answers, print_learnt, print_refusal, print_replies, print_restore, print_round,
     print_stop,
 };
+use super::sink::Sink;
 use std::alloc::{AllocError, Global};
 use std::io;
 use std::marker::Model;
@@ -28,18 +31,37 @@ pub fn transcript(
         (record { learnt = learnt.now; replies = replies.now; answers = answers.now })) }
 {
     let mut text = Vec::new(alloc);
+    // It has no room, so each line is handed on at once.
+    let mut part = Vec::new(alloc);
+    // A vector refuses bytes only where it can't grow.
+    match print_run(&mut part, &mut text, outcomes, learnt, replies, answers) {
+        Ok(()) => Ok(text),
+        Err(_) => Err(AllocError),
+    }
+}
+
+/// Hands on the transcript of a run behind what waits, in parts for which there is room.
+pub(crate) fn print_run<K: Sink>(
+    part: &mut Vec<u8>,
+    sink: &mut K,
+    outcomes: &[StepOutcome],
+    learnt: &[LearntEntry],
+    replies: &[Replied],
+    answers: &[Answered],
+) -> io::Result<()>
+    ensures handed { OnOk result (TakesInParts K.takes sink.old (part.old.items ++ transcript_of outcomes.now
+        (record { learnt = learnt.now; replies = replies.now; answers = answers.now })) sink.new) }
+    ensures refused { OnErr result (K.HasFailed sink.new) }
+{
     let mut unprinted = Unprinted {
         learnt,
         replies,
         answers,
     };
     for outcome in outcomes {
-        // A vector refuses bytes only where it can't grow.
-        if let Err(_) = unprinted.print(&mut text, *outcome) {
-            return Err(AllocError);
-        }
+        unprinted.print(part, sink, *outcome)?;
     }
-    Ok(text)
+    hand_on(part, sink)
 }
 
 /// The entries of a run that have no line yet.
@@ -64,10 +86,17 @@ impl<'a> Model for Unprinted<'a> {
 
 impl<'a> Unprinted<'a> {
     /// Adds the lines of the outcome, and takes the entries that it brought.
-    fn print(&mut self, text: &mut Vec<u8>, outcome: StepOutcome) -> io::Result<()>
-        ensures text { OnOk result
-            (text.new.items ≡ text.old.items ++ lines_of_outcome outcome self.old) }
+    #[inline]
+    fn print<K: Sink>(
+        &mut self,
+        part: &mut Vec<u8>,
+        sink: &mut K,
+        outcome: StepOutcome,
+    ) -> io::Result<()>
+        ensures added { OnOk result (Adds K.takes sink.old part.old.items (lines_of_outcome outcome self.old)
+            sink.new part.new.items) }
         ensures left { OnOk result (self.new ≡ entries_after outcome self.old) }
+        ensures refused { OnErr result (K.HasFailed sink.new) }
     {
         match outcome {
             StepOutcome::Done { learnt, replies } => {
@@ -75,22 +104,22 @@ impl<'a> Unprinted<'a> {
                 if learnt == 0 && replies == 0 {
                     return Ok(());
                 }
-                print_learnt(text, take_first(&mut self.learnt, learnt))?;
-                print_replies(text, take_first(&mut self.replies, replies))
+                print_learnt(part, sink, take_first(&mut self.learnt, learnt))?;
+                print_replies(part, sink, take_first(&mut self.replies, replies))
             }
             StepOutcome::Restored {
                 node,
                 position,
                 replies,
             } => {
-                print_restore(text, node, position)?;
-                print_replies(text, take_first(&mut self.replies, replies))
+                print_restore(part, sink, node, position)?;
+                print_replies(part, sink, take_first(&mut self.replies, replies))
             }
-            StepOutcome::Answered => print_answers(text, take_first(&mut self.answers, 1)),
+            StepOutcome::Answered => { print_answers(part, sink, take_first(&mut self.answers, 1)) }
             StepOutcome::Lost => Ok(()),
-            StepOutcome::Refused(node, fault) => print_refusal(text, node, fault),
-            StepOutcome::Stopped(node, fault) => print_stop(text, node, fault),
-            StepOutcome::Round(node, end) => print_round(text, node, end),
+            StepOutcome::Refused(node, fault) => print_refusal(part, sink, node, fault),
+            StepOutcome::Stopped(node, fault) => print_stop(part, sink, node, fault),
+            StepOutcome::Round(node, end) => print_round(part, sink, node, end),
         }
     }
 }

@@ -1,51 +1,80 @@
 //! A run of a schedule.
 
-ghost use Rattle.std.specs.Prelude.{◌≡◌, ◌≢◌, IfErr, IfOk, MatchResult, OnErr, vec_len};
+ghost use Rattle.std.specs.Prelude.{◌≡◌, ◌≢◌, ◌++◌, IfErr, IfOk, MatchResult, OnErr, OnOk, vec_len};
 ghost use Rattle.world_model.specs.Flushing.{IsStart};
 ghost use Rattle.world.specs.Seen.{world_of};
 ghost use Rattle.world_model.specs.Starting.{AreOver};
 ghost use Rattle.world_model.specs.Staying.{StaysSafe};
 ghost use Rattle.replay.specs.Runs.{EndsAt, EndsOver, ActionIsDone, ActionIsRefused, IsReplay, IsRunOver, RunIsStopped, Leads, ReplayEnds, RunFails};
+ghost use Rattle.replay.specs.AsRead.{AreDoneAsRead, EndsAsRead};
 ghost use Rattle.replay.specs.Runs.{RunsTo, told_of};
+ghost use Rattle.replay.specs.Parts.{TakesInParts};
 
 use super::replayed::Replayed;
-use super::report::transcript;
+use super::report::{print_run, transcript};
+use super::sink::Sink;
 use events::WorldFault;
-use schedule::{Action, ReplayCause, ReplayFault, Schedule, ScheduleLine, parse_schedule};
+use schedule::{Action, ReplayCause, ReplayFault, Schedule, ScheduleLine, UnreadSchedule};
 use stable::{MemStable, Scripted, Stable};
 use std::alloc::{AllocError, Global};
-use world::{World, fresh_stores};
+use std::io;
+use world::World;
 
-/// The run that the bytes spell, over records in memory: its transcript, and the world in which it ends.
+/// The world in which the run ends that the bytes spell, over records in memory. Each line is done once it is read, and is not kept.
 ///
 /// The run is safe, to the end or to the line that ends it: records in memory are always honest, whatever faults the
 /// schedule arms.
 ///
-/// Every line is parsed before the first event. An error is the first faulty line; else the first
-/// line that can't be done, as it delivers or drops a frame that was never sent, or its flush meets
-/// the limit; or the line that was reached when memory was wanting. That is the line which was
-/// parsed or done just then, the first line of the schedule for the start of the nodes, and the last
-/// one for the transcript.
-pub fn replay(alloc: Global, bytes: &[u8]) -> Result<Replayed<MemStable>, ReplayFault>
-    ensures transcript { IfOk result (λ replayed.
-        IsReplay (⟦<Scripted<MemStable> as Stable>⟧) bytes.now replayed.text.items) }
-    ensures ended { IfOk result (λ replayed.
-        (replay : IsReplay (⟦<Scripted<MemStable> as Stable>⟧) bytes.now replayed.text.items)
-        × (replay.end ≡ world_of replayed.world)) }
+/// An error is the first faulty line, be it behind one that can't be done; else the first line that can't be done, as it delivers or
+/// drops a frame that was never sent, or its flush meets the limit; or the line that was reached when memory was wanting, which is the
+/// first one of the schedule for the start of the nodes.
+pub fn replay_text(alloc: Global, bytes: &[u8]) -> Result<World<MemStable>, ReplayFault>
+    ensures ended { IfOk result (λ world.
+        (replay : IsReplay (⟦<Scripted<MemStable> as Stable>⟧) bytes.now (told_of (world_of world)))
+        × (replay.end ≡ world_of world)) }
     ensures fault { IfErr result (ReplayEnds (⟦<Scripted<MemStable> as Stable>⟧) bytes.now) }
     ensures nodes_are_there { IfErr result (λ fault. fault.cause ≢ ReplayCause.World WorldFault.NoSuchNode) }
 {
-    let schedule = parse_schedule(alloc, bytes)?;
-    let stores = match fresh_stores(alloc, schedule.nodes()) {
-        Ok(stores) => stores,
-        Err(_) => {
-            return Err(ReplayFault {
-                line: schedule.first(),
-                cause: ReplayCause::World(WorldFault::Memory),
-            });
+    let unread = UnreadSchedule::open(alloc, bytes)?;
+    let first = unread.first();
+    match World::new(alloc, unread.nodes()) {
+        Ok(started) => {
+            let mut world = started;
+            do_unread(alloc, &mut world, unread)?;
+            Ok(world)
         }
-    };
-    run(alloc, schedule, stores)
+        Err(fault) => {
+            unread.see_faultless(alloc)?;
+            Err(ReplayFault {
+                line: first,
+                cause: ReplayCause::World(fault),
+            })
+        }
+    }
+}
+
+/// Does the lines that are left, each once it is read, up to the first that can't be done. It is told once nothing is wrong with any
+/// line behind it.
+fn do_unread<S: Stable>(
+    alloc: Global,
+    world: &mut World<S>,
+    unread: UnreadSchedule,
+) -> Result<(), ReplayFault>
+    ensures ends { MatchResult result
+        (λ _. AreDoneAsRead (⟦<Scripted<S> as Stable>⟧) unread.entry.nodes unread.entry.left (world_of world.old) (world_of world.new))
+        (λ fault. EndsAsRead (⟦<Scripted<S> as Stable>⟧) unread.entry.nodes unread.entry.left (world_of world.old) fault (world_of world.new)) }
+    ensures safe { StaysSafe (⟦<Scripted<S> as Stable>⟧) S.IsHonest (world_of world.new) }
+{
+    // Whoever looks knows that all of it is safe.
+    let _ = world.outcomes();
+    let mut unread = unread;
+    while let Some(line) = unread.next(alloc)? {
+        if let Err(fault) = do_line(alloc, world, line) {
+            unread.see_faultless(alloc)?;
+            return Err(fault);
+        }
+    }
+    Ok(())
 }
 
 /// The schedule's run over these storages, one for each of its nodes, in their order: its transcript, and the world in
@@ -123,12 +152,31 @@ pub fn run_lines<S: Stable + Drop>(
 }
 
 /// The transcript of all that happened in the world.
-fn world_transcript<S: Stable>(alloc: Global, world: &World<S>) -> Result<Vec<u8>, AllocError>
+pub fn world_transcript<S: Stable>(alloc: Global, world: &World<S>) -> Result<Vec<u8>, AllocError>
     ensures told { IfOk result (λ text. text.items ≡ told_of (world_of world.now)) }
     ensures safe { StaysSafe (⟦<Scripted<S> as Stable>⟧) S.IsHonest (world_of world.now) }
 {
     transcript(
         alloc,
+        world.outcomes(),
+        world.learnt(),
+        world.replies(),
+        world.answers(),
+    )
+}
+
+/// Hands on the transcript of all that happened in the world behind what waits, in parts for which there is room.
+pub fn print_transcript<S: Stable, K: Sink>(
+    part: &mut Vec<u8>,
+    sink: &mut K,
+    world: &World<S>,
+) -> io::Result<()>
+    ensures handed { OnOk result (TakesInParts K.takes sink.old (part.old.items ++ told_of (world_of world.now)) sink.new) }
+    ensures refused { OnErr result (K.HasFailed sink.new) }
+{
+    print_run(
+        part,
+        sink,
         world.outcomes(),
         world.learnt(),
         world.replies(),

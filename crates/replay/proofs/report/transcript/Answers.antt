@@ -1,9 +1,9 @@
-use Rattle.std.proofs.Common.{arith}
-use Rattle.std.proofs.lemmas.Grind.{common_steps}
+use Rattle.std.proofs.Common.{Global, Vec, ℕ}
+use Rattle.replay.proofs.Parts.{grows_by}
 use Rattle.replay.proofs.report.transcript.Goals as goal
 
-pub loop-outcome-preserved : goal.loop-outcome-preserved
-loop-outcome-preserved c = grind (arith, common_steps)
-
-pub returns : goal.returns
-returns c = grind (arith, common_steps)
+-- nothing was in the text, and nothing waited
+pub returns-in-Ok : goal.returns-in-Ok
+returns-in-Ok c =
+    rw (c.new-text.ensures.items, c.new-part.ensures.items) at
+    (grows_by (λ (v : Vec ℕ Global). v.items) c.new-text.result c.print_run.new.sink _ c.in-Ok.ensures.handed)
