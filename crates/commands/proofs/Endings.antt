@@ -4,7 +4,7 @@ use Rattle.stable.specs.Script.{Script}
 use Rattle.stable.specs.declared.stable.Stable.{Ghosts}
 use Rattle.replay.specs.Runs.{EndsOver, ReplayEnds}
 use Rattle.schedule.specs.Causes.{memory}
-use Rattle.schedule.specs.Schedules.{IsParseRefusal, IsScheduleOf, Plan}
+use Rattle.schedule.specs.Schedules.{IsParseRefusal, Plan}
 use Rattle.stable.specs.declared.memory.MemStable.{MemStable}
 use Rattle.cluster.specs.Clusters.{ClusterState}
 use Rattle.cluster.specs.declared.transport.Transport.{Ghosts as Transports}

@@ -6,6 +6,7 @@ ghost use Rattle.commands.specs.Failures.{line_text};
 ghost use Rattle.commands.specs.Streams.{Takes, Tells};
 
 use crate::failure::{Failure, device_failure};
+use replay::Sink;
 use std::alloc::Global;
 use std::io::{self, Read, Write};
 use std::marker::Model;
@@ -86,6 +87,19 @@ impl<W: Write> CheckedStream<W> {
         if let Err(_) = failure.tell(&mut self.inner) {
             self.has_failed = true;
         }
+    }
+}
+
+impl<W: Write> Sink for CheckedStream<W> {
+    ghost use Rattle.std.specs.Prelude.{◌≡◌, true};
+    ghost use Rattle.commands.specs.Streams.{Takes};
+
+    ghost takes = { λ old bytes new. Takes W.contents old new bytes };
+
+    ghost HasFailed = { λ stream. stream.has_failed ≡ true };
+
+    fn take(&mut self, bytes: &[u8]) -> io::Result<()> {
+        self.print(bytes)
     }
 }
 

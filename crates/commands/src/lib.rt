@@ -2,7 +2,8 @@
 //!
 //! `replay`, `replay_in_memory`, `loopback` and `check` do one command each, or return how the run ends. A replay's records may be those
 //! that an `Archive` opens, and a loopback's frames go through what a `Binder` binds; both are handed in, and asked once the schedule is
-//! parsed. `specs/Works.antt` and `specs/Archives.antt` define what they produce.
+//! parsed. `print_replay` prints the transcript of a replay in memory part by part. `specs/Works.antt` and `specs/Archives.antt` define
+//! what they produce.
 //!
 //! A `Failure` says why nothing is printed, and has one status and one line. A `CheckedStream` remembers whether it failed, so that a
 //! contract can tell a line that was not written from one that couldn't be, and a file that can't be read from a body that doesn't read
@@ -24,4 +25,4 @@ pub use checked_stream::CheckedStream;
 pub use documents::check;
 pub use failure::{Failure, device_failure};
 pub use loopbacks::loopback;
-pub use replays::{replay, replay_in_memory};
+pub use replays::{print_replay, replay, replay_in_memory};

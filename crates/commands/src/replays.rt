@@ -1,23 +1,72 @@
 //! Replays: a schedule's run over records in memory, or over those that an archive opens.
 
-ghost use Rattle.std.specs.Prelude.{◌≡◌, ◌≢◌, ◌⊎◌, ℕ, List, IfErr, IfOk, vec_len};
+ghost use Rattle.std.specs.Prelude.{◌≡◌, ◌≢◌, ◌⊎◌, ℕ, List, true, IfErr, IfOk, OnOk, vec_len};
 ghost use Rattle.replay.specs.Runs.{IsReplay, IsRunOver, told_of};
 ghost use Rattle.schedule.specs.Schedules.{IsScheduleOf};
 ghost use Rattle.commands.specs.Archives.{EndsKept, HandsNone, HandsOut, IsKept, IsSettledAfter};
+ghost use Rattle.commands.specs.Streams.{Takes};
 ghost use Rattle.commands.specs.Works.{IsUnread, ReplayStops, StopsOver};
 ghost use Rattle.world.specs.Seen.{world_of};
 
 use crate::failures::{replay_failure, run_failure};
-use crate::{Archive, Failure};
-use replay::{replay_text, run, world_transcript};
+use crate::{Archive, CheckedStream, Failure};
+use replay::{print_transcript, replay_text, run, world_transcript};
 use schedule::{Schedule, parse_schedule};
 use stable::{MemStable, Scripted, Stable};
 use std::alloc::Global;
+use std::io::Write;
 use std::mem;
 use wire::Nodes;
 use world::World;
 
-/// The transcript of the schedule that the bytes spell, run over records in memory. Each line is done once it is read.
+/// A part of a transcript has at most this many bytes, but for one that is a longer answer's text.
+const PART: usize = 65_536;
+
+/// Prints the transcript of the schedule that the bytes spell, run over records in memory.
+///
+/// Each line is done once it is read. Nothing is printed before the run has come to its end and there is room for a part; from then on
+/// only the stream can fail.
+pub fn print_replay<O: Write>(
+    alloc: Global,
+    bytes: &[u8],
+    out: &mut CheckedStream<O>,
+) -> Result<(), Failure>
+    ensures printed { OnOk result ((text : List ℕ)
+        × IsReplay (⟦<Scripted<MemStable> as Stable>⟧) bytes.now text × Takes O.contents out.old out.new text) }
+    ensures ends { IfErr result (λ failure. ((out.new ≡ out.old) × (failure ≢ Failure.Memory
+        → ReplayStops (⟦<Scripted<MemStable> as Stable>⟧) bytes.now failure))
+        ⊎ ((failure ≡ Failure.Device) × (text : List ℕ)
+        × IsReplay (⟦<Scripted<MemStable> as Stable>⟧) bytes.now text × (out.new.has_failed ≡ true))) }
+{
+    let world = match replay_text(alloc, bytes) {
+        Ok(world) => world,
+        Err(fault) => return Err(replay_failure(fault)),
+    };
+    let printed = print_world(alloc, &world, out);
+    // The process that prints a transcript ends with it, and the system takes back at once all that it holds. Giving
+    // back hundreds of thousands of frames one by one would cost a good part of the run's time.
+    mem::forget(world);
+    printed
+}
+
+/// Prints the transcript of all that happened in the world, part by part.
+fn print_world<O: Write>(
+    alloc: Global,
+    world: &World<MemStable>,
+    out: &mut CheckedStream<O>,
+) -> Result<(), Failure>
+    ensures printed { OnOk result (Takes O.contents out.old out.new (told_of (world_of world.now))) }
+    ensures ends { IfErr result (λ failure. ((failure ≡ Failure.Memory) × (out.new ≡ out.old))
+        ⊎ ((failure ≡ Failure.Device) × (out.new.has_failed ≡ true))) }
+{
+    let mut part = Vec::with_capacity(alloc, PART)?;
+    match print_transcript(&mut part, out, world) {
+        Ok(()) => Ok(()),
+        Err(_) => Err(Failure::Device),
+    }
+}
+
+/// The transcript of the schedule that the bytes spell, run over records in memory.
 ///
 /// The memory of the world in which the run ended is not given back: it is kept until the process ends.
 pub fn replay_in_memory(alloc: Global, bytes: &[u8]) -> Result<Vec<u8>, Failure>
@@ -38,8 +87,6 @@ fn tell_world(alloc: Global, world: World<MemStable>) -> Result<Vec<u8>, Failure
     ensures memory { IfErr result (λ failure. failure ≡ Failure.Memory) }
 {
     let text = world_transcript(alloc, &world);
-    // The process that asks for a transcript ends with it, and the system takes back at once all that it holds. Giving
-    // back hundreds of thousands of frames one by one would cost a good part of the run's time.
     mem::forget(world);
     Ok(text?)
 }
