@@ -11,7 +11,7 @@ ghost use Rattle.commands.specs.Streams.{Takes, Tells};
 use crate::failures::words_failure;
 use crate::sockets::LocalSockets;
 use args::{Source, Work, job_of};
-use commands::{Archive, CheckedStream, Failure, check, loopback, replay, replay_in_memory};
+use commands::{Archive, CheckedStream, Failure, check, loopback, print_replay, replay};
 use std::io::{Read, Write};
 
 /// Runs the program on the words after its name, and answers its exit status. What it makes, a
@@ -113,11 +113,7 @@ fn run<R: Read, O: Write, A: Archive>(
         Err(fault) => return Err(words_failure(fault)),
     };
     let bytes = read_source(rt, &job.source, input, archive)?;
-    let text = make_text(rt, archive, job.work, job.folder, bytes.as_slice())?;
-    match out.print(text.as_slice()) {
-        Ok(()) => Ok(()),
-        Err(_) => Err(Failure::Device),
-    }
+    print_work(rt, archive, job.work, job.folder, bytes.as_slice(), out)
 }
 
 /// The bytes of the source: all that is left of the input, or what the archive reads under the FILE's name.
@@ -139,24 +135,38 @@ fn read_source<R: Read, A: Archive>(
     }
 }
 
-/// What the work makes of the bytes: a replay with its records in memory, or in the archive where a folder is given for them.
-fn make_text<A: Archive>(
+/// Writes what the work makes of the bytes: a replay with its records in memory, or in the archive where a folder is given for them.
+fn print_work<O: Write, A: Archive>(
     rt: &HostRuntime,
     archive: &mut A,
     work: Work,
     folder: Option<&str>,
     bytes: &[u8],
-) -> Result<Vec<u8>, Failure>
-    ensures makes { IfOk result (λ text. MakesIn (around A.Archive A.Records.Stable)
-        work (text_of folder.entry) bytes.now archive.old text.items archive.new) }
-    ensures ends { IfErr result (λ failure. EndsIn (around A.Archive A.Records.Stable)
-        work (text_of folder.entry) bytes.now archive.old failure archive.new) }
+    out: &mut CheckedStream<O>,
+) -> Result<(), Failure>
+    ensures done { OnOk result ((text : List ℕ) × MakesIn (around A.Archive A.Records.Stable)
+        work (text_of folder.entry) bytes.now archive.old text archive.new × Takes O.contents out.old out.new text) }
+    ensures ends { IfErr result (λ failure. ((out.new ≡ out.old) × EndsIn (around A.Archive A.Records.Stable)
+        work (text_of folder.entry) bytes.now archive.old failure archive.new)
+        ⊎ ((failure ≡ Failure.Device) × (text : List ℕ) × MakesIn (around A.Archive A.Records.Stable)
+        work (text_of folder.entry) bytes.now archive.old text archive.new × (out.new.has_failed ≡ true))) }
     ensures no_usage { IfErr result (λ failure. failure ≢ Failure.Usage) }
 {
     match (work, folder) {
-        (Work::Replay, None) => replay_in_memory(rt.alloc(), bytes),
-        (Work::Replay, Some(folder)) => replay(rt, archive, folder, bytes),
-        (Work::Loopback, _) => loopback(rt, &LocalSockets, bytes),
-        (Work::Check, _) => check(rt.alloc(), bytes),
+        (Work::Replay, None) => print_replay(rt.alloc(), bytes, out),
+        (Work::Replay, Some(folder)) => print_text(replay(rt, archive, folder, bytes)?, out),
+        (Work::Loopback, _) => print_text(loopback(rt, &LocalSockets, bytes)?, out),
+        (Work::Check, _) => print_text(check(rt.alloc(), bytes)?, out),
+    }
+}
+
+/// Writes the text, all of it.
+fn print_text<O: Write>(text: Vec<u8>, out: &mut CheckedStream<O>) -> Result<(), Failure>
+    ensures printed { OnOk result (Takes O.contents out.old out.new text.items) }
+    ensures failed { IfErr result (λ failure. (failure ≡ Failure.Device) × (out.new.has_failed ≡ true)) }
+{
+    match out.print(text.as_slice()) {
+        Ok(()) => Ok(()),
+        Err(_) => Err(Failure::Device),
     }
 }

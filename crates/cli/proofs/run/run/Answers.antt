@@ -1,5 +1,5 @@
-use Rattle.std.proofs.Common.{◌≡◌, ◌≢◌, ◌⊎◌, List, ℕ, inl, inr, refl, rules, sym, ◌∙◌, arith}
-use Rattle.std.proofs.lemmas.Result.{err_from_is_err_and}
+use Rattle.std.proofs.Common.{◌≡◌, ◌≢◌, ◌⊎◌, List, ℕ, inl, inr, refl, rules, arith}
+use Rattle.std.proofs.lemmas.Result.{IfErr-weaker, err_from_is_err_and, on_ok_weaker}
 use Rattle.args.specs.Forms.{NameInput, NameSource, text_of}
 use Rattle.cli.specs.Words.{failure_of}
 use Rattle.commands.specs.Failures.{status_of}
@@ -8,7 +8,7 @@ use Rattle.args.specs.declared.fault.WordsFault.TheVariants as words
 use Rattle.commands.specs.declared.failure.Failure.{Failure}
 use Rattle.commands.specs.declared.failure.Failure.TheVariants.{Usage, Device, Memory}
 use Rattle.args.specs.declared.job.Source.{Source}
-use Rattle.args.specs.declared.job.Source.TheVariants.{Input, File}
+use Rattle.args.specs.declared.job.Source.TheVariants.{Input}
 use Rattle.cli.proofs.run.run.Goals as goal
 
 -- words that don't name the input name a file
@@ -68,31 +68,16 @@ returns-in_err-bytes g c =
       archive_untouched = λ usage. absurd (no_usage _ c.in_err-bytes.ensures.err usage);
     })
 
--- the words' job ends on the bytes that they name
-pub returns-in_err-text : goal.returns-in_err-text
-returns-in_err-text g c =
-    let p = err_from_is_err_and c.from_residual-in_err-text.result c.from_residual-in_err-text.ensures.1 in
-    rw (p.1, p.2) (record {
-      done = tt;
-      faulty = λ one. record {
-        work = c.in-Ok.job.work;
-        folder = text_of c.in-Ok.job.folder;
-        asked = c.in-Ok.ensures.work;
-        kept = c.in-Ok.ensures.folder;
-        source = c.in-Ok.job.source;
-        named = c.in-Ok.ensures.source;
-        bytes = c.as_slice.result.now;
-        read = c.read_source.new.archive;
-        gives = rw c.as_slice.ensures.value c.in_ok-bytes.ensures.gives;
-        ends = c.in_err-text.ensures.ends;
-      };
-      usage = λ usage. absurd (c.in_err-text.ensures.no_usage usage);
-      no_form = λ none. absurd (none c.in-Ok.job.work c.in-Ok.ensures.work);
-      no_form_unread = λ none. absurd (none c.in-Ok.job.work c.in-Ok.ensures.work);
-      untouched = λ other. refl;
-      unprinted = λ other. inl (
-        refl,
-        inr (inr (record {
+-- the words' job is done on the bytes that they name, or ends on them
+pub returns : goal.returns
+returns g c =
+    let result = c.print_work.result in
+    let ends = c.print_work.ensures.ends in
+    let no_usage = c.print_work.ensures.no_usage in
+    record {
+      done = on_ok_weaker result (λ made. (
+        made.0,
+        record {
           work = c.in-Ok.job.work;
           folder = text_of c.in-Ok.job.folder;
           asked = c.in-Ok.ensures.work;
@@ -102,70 +87,66 @@ returns-in_err-text g c =
           bytes = c.as_slice.result.now;
           read = c.read_source.new.archive;
           gives = rw c.as_slice.ensures.value c.in_ok-bytes.ensures.gives;
-          ends = c.in_err-text.ensures.ends;
-        })),
-      );
-      words_come_first = λ usage. absurd (c.in_err-text.ensures.no_usage usage);
+          made = made.1;
+        },
+        made.2,
+      )) c.print_work.ensures.done;
+      faulty = IfErr-weaker result _ _ (λ failure ended one. elim ended [
+        | inl unprinted ↦ record {
+          work = c.in-Ok.job.work;
+          folder = text_of c.in-Ok.job.folder;
+          asked = c.in-Ok.ensures.work;
+          kept = c.in-Ok.ensures.folder;
+          source = c.in-Ok.job.source;
+          named = c.in-Ok.ensures.source;
+          bytes = c.as_slice.result.now;
+          read = c.read_source.new.archive;
+          gives = rw c.as_slice.ensures.value c.in_ok-bytes.ensures.gives;
+          ends = unprinted.1;
+        }
+        | inr failed ↦ absurd (no_fault failure (inl failed.0) one)
+      ]) ends;
+      usage = IfErr-weaker result _ _ (λ failure other usage. absurd (other usage)) no_usage;
+      no_form = λ none. absurd (none c.in-Ok.job.work c.in-Ok.ensures.work);
+      no_form_unread = λ none. absurd (none c.in-Ok.job.work c.in-Ok.ensures.work);
+      untouched = IfErr-weaker result _ _ (λ failure ended other. elim ended [
+        | inl unprinted ↦ unprinted.0
+        | inr failed ↦ absurd (other failed.0)
+      ]) ends;
+      unprinted = IfErr-weaker result _ _ (λ failure ended other. elim ended [
+        | inl unprinted ↦ inl (
+          unprinted.0,
+          inr (inr (record {
+            work = c.in-Ok.job.work;
+            folder = text_of c.in-Ok.job.folder;
+            asked = c.in-Ok.ensures.work;
+            kept = c.in-Ok.ensures.folder;
+            source = c.in-Ok.job.source;
+            named = c.in-Ok.ensures.source;
+            bytes = c.as_slice.result.now;
+            read = c.read_source.new.archive;
+            gives = rw c.as_slice.ensures.value c.in_ok-bytes.ensures.gives;
+            ends = unprinted.1;
+          })),
+        )
+        | inr failed ↦ inr (
+          failed.1,
+          record {
+            work = c.in-Ok.job.work;
+            folder = text_of c.in-Ok.job.folder;
+            asked = c.in-Ok.ensures.work;
+            kept = c.in-Ok.ensures.folder;
+            source = c.in-Ok.job.source;
+            named = c.in-Ok.ensures.source;
+            bytes = c.as_slice.result.now;
+            read = c.read_source.new.archive;
+            gives = rw c.as_slice.ensures.value c.in_ok-bytes.ensures.gives;
+            made = failed.2;
+          },
+          failed.3,
+        )
+      ]) ends;
+      words_come_first = IfErr-weaker result _ _ (λ failure other usage. absurd (other usage)) no_usage;
       file_alone = λ other. c.read_source.ensures.file_alone (no_input _ _ c.in-Ok.ensures.source other);
-      archive_untouched = λ usage. absurd (c.in_err-text.ensures.no_usage usage);
-    })
-
--- or it is done on them, and the text is printed
-pub returns-in-Ok-print : goal.returns-in-Ok-print
-returns-in-Ok-print g c = record {
-  done = (
-    c.as_slice-2.result.now,
-    record {
-      work = c.in-Ok.job.work;
-      folder = text_of c.in-Ok.job.folder;
-      asked = c.in-Ok.ensures.work;
-      kept = c.in-Ok.ensures.folder;
-      source = c.in-Ok.job.source;
-      named = c.in-Ok.ensures.source;
-      bytes = c.as_slice.result.now;
-      read = c.read_source.new.archive;
-      gives = rw c.as_slice.ensures.value c.in_ok-bytes.ensures.gives;
-      made = rw c.as_slice-2.ensures.value c.in_ok-text.ensures.makes;
-    },
-    c.in-Ok-print.ensures.ok,
-  );
-  faulty = tt;
-  usage = tt;
-  no_form = λ none. absurd (none c.in-Ok.job.work c.in-Ok.ensures.work);
-  no_form_unread = λ none. absurd (none c.in-Ok.job.work c.in-Ok.ensures.work);
-  untouched = tt;
-  unprinted = tt;
-  words_come_first = tt;
-  file_alone = λ other. c.read_source.ensures.file_alone (no_input _ _ c.in-Ok.ensures.source other);
-  archive_untouched = tt;
-}
-
--- or the text can't be printed
-pub returns : goal.returns
-returns g c = record {
-  done = tt;
-  faulty = λ one. absurd (no_fault Device (inl refl) one);
-  usage = λ usage. absurd (no_usage Device (inl refl) usage);
-  no_form = λ none. absurd (none c.in-Ok.job.work c.in-Ok.ensures.work);
-  no_form_unread = λ none. absurd (none c.in-Ok.job.work c.in-Ok.ensures.work);
-  untouched = λ other. absurd (other refl);
-  unprinted = λ other. inr (
-    c.as_slice-2.result.now,
-    record {
-      work = c.in-Ok.job.work;
-      folder = text_of c.in-Ok.job.folder;
-      asked = c.in-Ok.ensures.work;
-      kept = c.in-Ok.ensures.folder;
-      source = c.in-Ok.job.source;
-      named = c.in-Ok.ensures.source;
-      bytes = c.as_slice.result.now;
-      read = c.read_source.new.archive;
-      gives = rw c.as_slice.ensures.value c.in_ok-bytes.ensures.gives;
-      made = rw c.as_slice-2.ensures.value c.in_ok-text.ensures.makes;
-    },
-    c.in-Err-print.ensures.err,
-  );
-  words_come_first = λ usage. absurd (no_usage Device (inl refl) usage);
-  file_alone = λ other. c.read_source.ensures.file_alone (no_input _ _ c.in-Ok.ensures.source other);
-  archive_untouched = λ usage. absurd (no_usage Device (inl refl) usage);
-}
+      archive_untouched = IfErr-weaker result _ _ (λ failure other usage. absurd (other usage)) no_usage;
+    }
