@@ -86,6 +86,24 @@ fn odd_names_are_folders(rt: HostRuntime) -> Result<(), Fail> {
     Ok(())
 }
 
+// A faulty line is told before the folder is looked into, however many lines before it could be done: an empty folder stays empty, and
+// records stay as they were.
+#[test]
+fn a_faulty_line_leaves_the_folder(rt: HostRuntime) -> Result<(), Fail> {
+    make_folder(&rt, FOLDER)?;
+    let words = ["replay", "--db", FOLDER, "-"];
+    let schedule = b"nodes 3\ntimeout 0\nflush\nflash\n".as_slice();
+    let faulty = (1, "", "mfpx: line 4 fault 2\n");
+    assert!(rt; ends_so(&rt, &words, schedule, faulty)?);
+    assert_eq!(rt; fs::read_dir(&rt, FOLDER)?.count(), 0);
+    assert!(rt; ends_so(&rt, &words, FIRST_RUN, (0, FIRST_LINES, ""))?);
+    let kept = records_in(&rt, FOLDER)?;
+    assert!(rt; ends_so(&rt, &words, schedule, faulty)?);
+    assert!(rt; kept.as_slice() == records_in(&rt, FOLDER)?.as_slice());
+    fs::remove_dir_all(&rt, FOLDER)?;
+    Ok(())
+}
+
 // A folder that isn't there is a device that fails, and is not made.
 #[test]
 fn a_missing_folder_is_not_made(rt: HostRuntime) -> Result<(), Fail> {

@@ -9,7 +9,7 @@ use cli::command;
 use commands::{Archive, CheckedStream, Failure};
 use record_files::{RecordFolder, System};
 use stable::MemStable;
-use std::alloc::AllocError;
+use std::alloc::{AllocError, Global};
 use std::io::{self, Error, ErrorKind, Read, Write};
 use std::test::Fail;
 use wire::Nodes;
@@ -114,6 +114,36 @@ impl Write for Unflushed {
 
     fn flush(&mut self) -> io::Result<()> {
         Err(Error::from(ErrorKind::BrokenPipe))
+    }
+}
+
+/// A writer that notes the parts that it takes, and fails once it has taken so many.
+#[derive(Drop)]
+struct Parted {
+    most: usize,
+    lengths: Vec<usize>,
+}
+
+impl Parted {
+    fn new(alloc: Global, most: usize) -> Parted {
+        Parted {
+            most,
+            lengths: Vec::new(alloc),
+        }
+    }
+}
+
+impl Write for Parted {
+    fn write(&mut self, buf: &[u8]) -> io::Result<usize> {
+        if self.lengths.len() >= self.most {
+            return Err(Error::from(ErrorKind::BrokenPipe));
+        }
+        self.lengths.push(buf.len())?;
+        Ok(buf.len())
+    }
+
+    fn flush(&mut self) -> io::Result<()> {
+        Ok(())
     }
 }
 
@@ -254,7 +284,45 @@ fn statuses_and_their_lines(rt: HostRuntime) -> Result<(), Fail> {
 #[test]
 fn streams_that_fail(rt: HostRuntime) -> Result<(), Fail> {
     assert!(rt; tells_a_device(&rt, &[], Unreadable, Vec::new(rt.alloc()))?);
-    assert!(rt; tells_a_device(&rt, &[], b"nodes 3\n".as_slice(), Unflushed)?);
+    assert!(rt; tells_a_device(&rt, &[], FIRST_RUN, Unflushed)?);
+    Ok(())
+}
+
+// 4,000 answers of 19 bytes: a part has room for 3,449 of them.
+#[test]
+fn transcripts_go_out_in_parts(rt: HostRuntime) -> Result<(), Fail> {
+    let mut schedule = Vec::new(rt.alloc());
+    schedule.extend_from_slice(b"nodes 3\n")?;
+    for _ in 0..4_000 {
+        schedule.extend_from_slice(b"query 0 count\n")?;
+    }
+    let files = &mut RecordFolder::new(System);
+    let out = Parted::new(rt.alloc(), 2);
+    let (status, out, _err) = run_over(
+        &rt,
+        files,
+        &[],
+        schedule.as_slice(),
+        out,
+        Vec::new(rt.alloc()),
+    )?;
+    assert_eq!(rt; status, 0);
+    assert!(rt; out.lengths.as_slice() == [65_531, 10_469].as_slice());
+    // the second part is not taken
+    let out = Parted::new(rt.alloc(), 1);
+    assert!(rt; tells_a_device(&rt, &[], schedule.as_slice(), out)?);
+    // the run ends at its last line: no part has gone out
+    schedule.extend_from_slice(b"deliver 0\n")?;
+    let out = Parted::new(rt.alloc(), 2);
+    let (status, out, _err) = run_over(
+        &rt,
+        files,
+        &[],
+        schedule.as_slice(),
+        out,
+        Vec::new(rt.alloc()),
+    )?;
+    assert_eq!(rt; (status, out.lengths.len()), (1, 0));
     Ok(())
 }
 
