@@ -1,16 +1,20 @@
 #!/usr/bin/env python3
 """Runs a cluster of mfpxd processes under load, kills them at random and starts them again.
 
-    check/served.py MFPXD [--seconds N] [--seed N] [--nodes N]
+    check/served.py MFPXD [--seconds N] [--seed N] [--nodes N] [--slots N]
 
 Clients submit requests, each the next number of its own, and try again elsewhere where no reply comes. Others ask each node over and
 over. Each answer is compared with every other one to the same query at the same position. At the end all nodes come to one position,
 and each request that was acknowledged is found in each node's documents, once, in order.
 
+A cluster's log has 65,536 slots, so that a cluster ends once its clients saw the position of --slots, and a new one is begun, of the next
+seed, until the seconds have passed. With 65,536 each log is filled, and each client goes on until it is told so.
+
 It ends with 1 where two answers differ, where a request is lost or found twice, or where the nodes don't come to one position.
 """
 import argparse
 import collections
+import itertools
 import json
 import os
 import random
@@ -25,6 +29,13 @@ CLIENTS = 6
 AGAIN = 1.0
 # A feature holds so many instants at most; a client goes on with another one then.
 INSTANTS = 800
+# A log has so many slots. When it is full each request is refused with this code.
+SLOTS = 65_536
+LOG_FULL = "42"
+# So far a log is filled where nothing else is said.
+MOST_SLOTS = 50_000
+# No cluster is begun for less than so many seconds.
+SHORTEST = 10
 
 
 class Nodes:
@@ -120,6 +131,7 @@ class Client:
 
     def __init__(self, number, ports):
         self.id, self.ports, self.number, self.again, self.codes = number, ports, 1, 0, collections.Counter()
+        self.position, self.is_over = 0, False
         self.move()
 
     def move(self):
@@ -138,11 +150,14 @@ class Client:
             if rest[0] != f"{self.id}:{self.number}":
                 continue
             self.codes[f"{word} {rest[1]}"] += 1
+            if word == "reply":
+                self.position = int(rest[2])
+            self.is_over |= word == "refuse" and rest[1] == LOG_FULL
             # 31: it was executed before, and the reply was lost.
             if word == "reply" and rest[1] in ("0", "31"):
                 self.number += 1
                 self.submit()
-        if time.monotonic() - self.at > AGAIN:
+        if not self.is_over and time.monotonic() - self.at > AGAIN:
             self.again += 1
             self.lines.close()
             self.move()
@@ -214,13 +229,20 @@ def ask(port, text):
     return told.decode().rstrip("\n")
 
 
-def run(nodes, seconds):
-    """The load, and kills, for so long."""
+def goes_on(clients, slots):
+    """Whether the log isn't filled so far yet. Where it is to be filled, each client is to be told that it is full."""
+    if slots >= SLOTS:
+        return not all(it.is_over for it in clients)
+    return max(it.position for it in clients) < slots
+
+
+def run(nodes, seconds, slots):
+    """The load, and kills, for so long, or until the log is filled so far."""
     seen = {}
     clients = [Client(number, nodes.ports) for number in range(CLIENTS)]
     watchers = [Watcher(port, seen) for port in nodes.ports]
     end, next_kill, down = time.monotonic() + seconds, time.monotonic() + 3, {}
-    while time.monotonic() < end:
+    while time.monotonic() < end and goes_on(clients, slots):
         for it in clients + watchers:
             it.step()
         now = time.monotonic()
@@ -253,7 +275,8 @@ def come_together(nodes):
             continue
         places = {int(it[4]) for it in told} | {int(it[6]) for it in told}
         waiting = sum(int(it[10]) for it in told)
-        if len(places) == 1 and waiting == 0:
+        # What waits when the log is full is executed never.
+        if len(places) == 1 and (waiting == 0 or places == {SLOTS}):
             return places.pop()
         time.sleep(0.2)
     sys.exit(f"the nodes don't come to one position: {told}")
@@ -274,10 +297,10 @@ def found(nodes, client, position):
     return numbers
 
 
-def judged(nodes, seconds):
+def judged(nodes, seconds, slots=MOST_SLOTS):
     """Runs the load for so long, looks for what was lost or done twice, and answers what there was, in words."""
     try:
-        clients, watchers = run(nodes, seconds)
+        clients, watchers = run(nodes, seconds, slots)
         position = come_together(nodes)
         for client in clients:
             numbers = found(nodes, client, position)
@@ -298,21 +321,31 @@ def judged(nodes, seconds):
     )
 
 
+def run_cluster(given, seed, seconds):
+    """One cluster."""
+    random.seed(seed)
+    with tempfile.TemporaryDirectory() as folder:
+        nodes = Nodes(os.path.abspath(given.mfpxd), given.nodes, folder)
+        try:
+            time.sleep(1)
+            print(f"seed {seed}: {judged(nodes, seconds, given.slots)}", flush=True)
+        finally:
+            nodes.end()
+
+
 def main():
     words = argparse.ArgumentParser(description=__doc__, formatter_class=argparse.RawDescriptionHelpFormatter)
     words.add_argument("mfpxd")
     words.add_argument("--seconds", type=float, default=20)
     words.add_argument("--seed", type=int, default=1)
     words.add_argument("--nodes", type=int, default=3)
+    words.add_argument("--slots", type=int, default=MOST_SLOTS)
     given = words.parse_args()
-    random.seed(given.seed)
-    with tempfile.TemporaryDirectory() as folder:
-        nodes = Nodes(os.path.abspath(given.mfpxd), given.nodes, folder)
-        try:
-            time.sleep(1)
-            print(f"seed {given.seed}: {judged(nodes, given.seconds)}")
-        finally:
-            nodes.end()
+    end = time.monotonic() + given.seconds
+    for seed in itertools.count(given.seed):
+        run_cluster(given, seed, end - time.monotonic())
+        if end - time.monotonic() < SHORTEST:
+            return
 
 
 if __name__ == "__main__":
