@@ -203,13 +203,14 @@ module _ {S D : Type 0} (storages : Ghosts S) (tape : D → List Talk) (Talks : 
       (holds_same [] old (record old { waiting = waiting }) same refl))
 
 module _ {S N : Type 0} (storages : Ghosts S) (carried : N → List Carried) (Carries : N → Type 0) where
-  pub nodes_handing_on : (old : ServerState S) (requests : List RequestState) (now place : ℕ) (packet : List ℕ) (n m : N)
-      → HandsOnFirst now place old.requests requests → HoldsAt (λ (r : RequestState). packet ≡ r.packet) requests place
-      → PassesOnly carried Carries (IsPacketOf packet) n m
+  pub nodes_handing_on : (old : ServerState S) (requests : List RequestState) (now place : ℕ) (leader : Option ℕ) (own : ℕ)
+      (packet : List ℕ) (n m : N) → HandsOnFirst now place old.requests requests
+      → HoldsAt (λ (r : RequestState). packet ≡ r.packet) requests place
+      → PassesOnly carried Carries (IsPacketOf leader own packet) n m
       → ServesNodes storages carried Carries old n (record old { requests = requests }) m
-  nodes_handing_on old requests now place packet n m h at sends = record {
+  nodes_handing_on old requests now place leader own packet n m h at sends = record {
     sent = sends.passed;
-    serves = serves_handing_on storages old requests now place packet sends.passed h at sends.each;
+    serves = serves_handing_on storages old requests now place leader own packet sends.passed h at sends.each;
     carries = sends.passes;
   }
 

@@ -1,4 +1,5 @@
 pub mod Answering
+pub mod Checkpointing
 pub mod ClusterLemmas
 pub mod Coming
 pub mod Counts
@@ -14,6 +15,7 @@ pub mod Parts
 pub mod Passing
 pub mod Pasts
 pub mod Places
+pub mod Ripening
 pub mod Settling
 pub mod Staying
 pub mod Submitted

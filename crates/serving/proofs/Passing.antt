@@ -46,6 +46,15 @@ module _ {T A : Type 0} (tape : T → List A) (Tells : T → Type 0) where
         → PassesOnly tape Tells IsSo a b
     only_one_by a b x is told so = only_one a b x so (record { told = told; passed_ = is })
 
+    pub only_none_by : (a b : T) (passed : List A) → passed ≡ [] → (Tells b → tape b ≡ tape a ++ passed) → (Tells b → Tells a)
+        → PassesOnly tape Tells IsSo a b
+    only_none_by a b passed none is told =
+        record { passed = []; each = All-nil IsSo; passes = passes_as a b passed [] is told none }
+
+    pub only_one_as : (a b : T) (passed : List A) (x : A) → passed ≡ x ∷ [] → (Tells b → tape b ≡ tape a ++ passed)
+        → (Tells b → Tells a) → IsSo x → PassesOnly tape Tells IsSo a b
+    only_one_as a b passed x one is told so = only_one a b x so (passes_as a b passed (x ∷ []) is told one)
+
     pub only_then : (a b c : T) → PassesOnly tape Tells IsSo a b → PassesOnly tape Tells IsSo b c → PassesOnly tape Tells IsSo a c
     only_then a b c h k = record {
       passed = h.passed ++ k.passed;
@@ -155,3 +164,16 @@ module _ {S N D : Type 0} (storages : Ghosts S) (carried : N → List Carried) (
     carries = passes_none carried Carries n;
     talks = passes_none talk Talks d;
   }
+
+  -- ---- and then over one of them, or neither
+  pub over_sent : (a b c : ServerState S) (n m o : N) (d e : D) → ServesOver storages carried Carries talk Talks a n d b m e
+      → ServesNodes storages carried Carries b m c o → ServesOver storages carried Carries talk Talks a n d c o e
+  over_sent a b c n m o d e h k = over_then a b c n m o d e e h (over_nodes b c m o e k)
+
+  pub over_told : (a b c : ServerState S) (n m : N) (d e f : D) → ServesOver storages carried Carries talk Talks a n d b m e
+      → ServesClients storages talk Talks b e c f → ServesOver storages carried Carries talk Talks a n d c m f
+  over_told a b c n m d e f h k = over_then a b c n m m d e f h (over_clients b c m e f k)
+
+  pub over_kept : (a b c : ServerState S) (n m : N) (d e : D) → ServesOver storages carried Carries talk Talks a n d b m e
+      → Serves storages b [] [] c → ServesOver storages carried Carries talk Talks a n d c m e
+  over_kept a b c n m d e h k = over_then a b c n m m d e e h (over_quiet b c m e k)

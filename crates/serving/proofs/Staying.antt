@@ -1,5 +1,5 @@
 -- A node that took its input, or refused it and is still up, is up.
-use Rattle.std.proofs.Common.{◌≡◌, Bool, true, false, Option, Some, None, IfSome, IsSome, MatchBool, Result, Ok, Err, refl, sym, subst, OnOk, ap, ◌∙◌}
+use Rattle.std.proofs.Common.{◌≡◌, Bool, true, false, Option, Some, None, IfSome, IsSome, MatchBool, Result, Ok, Err, refl, sym, subst, OnOk}
 use Rattle.stable.specs.declared.stable.Stable.{Ghosts}
 use Rattle.node_model.specs.Faults.{is_stop_fault}
 use Rattle.node_model.specs.Nodes.{NodeState, RefusesInput, StopsOnInput, TakesInput}
@@ -8,9 +8,7 @@ use Rattle.node_model.specs.Replicas.{ReplicaState}
 use Rattle.node_model.specs.declared.fault.NodeFault.{NodeFault}
 use Rattle.node_model.specs.declared.input.Input.{Input}
 use Rattle.node_model.specs.declared.input.Input.TheVariants as input
-use Rattle.world_model.specs.Lives.{Asked, Happens, Took}
-use Rattle.store.specs.declared.query.Query.{Query}
-use Rattle.life.specs.Telling.{nothing}
+use Rattle.world_model.specs.Lives.{Happens, Took}
 use Rattle.life.specs.Lives.{Does, LifeState, TakesBack, TakesFirst}
 use Rattle.life.specs.declared.fault.LifeFault.{LifeFault}
 use Rattle.life.specs.declared.fault.LifeFault.TheVariants.{Memory, Node}
@@ -87,19 +85,15 @@ module _ {S : Type 0} (storages : Ghosts S) where
   pub stays_then : (a b c : NodeState S) → StaysUp a b → StaysUp b c → StaysUp a c
   stays_then a b c h k = record { stays = λ is. k.stays (h.stays is) }
 
-  pub stays_on : {A E : Type 0} (result : Result A E) (a b : NodeState S) → StaysUp a b → OnOk result (StaysUp a b)
-  stays_on (Ok done) a b h = h
-  stays_on (Err fault) a b h = tt
+  pub stays_same_then : (a b c : NodeState S) → StaysUp a b → c ≡ b → StaysUp a c
+  stays_same_then a b c h same = subst (λ (n : NodeState S). StaysUp a n) (sym same) h
 
   pub stays_then_on : {A E : Type 0} (result : Result A E) (a b c : NodeState S) → StaysUp a b → OnOk result (StaysUp b c)
       → OnOk result (StaysUp a c)
   stays_then_on (Ok done) a b c h k = stays_then a b c h k
   stays_then_on (Err fault) a b c h k = tt
 
-  -- it was asked, and what was held went out
-  pub stays_asked : (old mid new : LifeState S) (query : Query) (result : Result (Unit {0}) LifeFault)
-      → Does storages old (Asked query) result mid → IsRefusal result (Ok None) → new ≡ record mid { held = nothing }
-      → StaysUp old.node new.node
-  stays_asked old mid new query (Ok done) does refusal is =
-      stays_same old.node new.node (ap (λ (l : LifeState S). l.node) is ∙ does.1.happens.2)
-  stays_asked old mid new query (Err fault) does refusal is = absurd (cc)
+-- of any result
+pub stays_on : {A E P : Type 0} (result : Result A E) → P → OnOk result P
+stays_on (Ok done) h = h
+stays_on (Err fault) h = tt

@@ -8,6 +8,7 @@ pub mod Patiences
 pub mod Recovery
 pub mod Refusals
 pub mod Requesting
+pub mod Resting
 pub mod Seen
 pub mod Serving
 pub mod Staying

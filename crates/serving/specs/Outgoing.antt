@@ -1,5 +1,5 @@
 -- What a process lets out in one go: each frame, packet and text is what the life handed out, or what a client wrote.
-use Rattle.std.specs.Prelude.{◌≡◌, ℕ, List, All, Contains}
+use Rattle.std.specs.Prelude.{◌≡◌, ℕ, List, All, Contains, Option, ⊤}
 use Rattle.sessions.specs.SessionReplies.{outcome_code}
 use Rattle.wire.specs.FrameSpelling.{IsFrame}
 use Rattle.wire.specs.declared.frames.envelope.Envelope.{Envelope}
@@ -8,8 +8,10 @@ use Rattle.world_model.specs.declared.lists.Replied.{Replied}
 use Rattle.clients.specs.AnswerLines.{answer_line, text_line}
 use Rattle.clients.specs.declared.answer.ClientAnswer.TheVariants as answer
 use Rattle.serving.specs.declared.claims.Claim.{Claim}
+use Rattle.serving.specs.HandingOn.{IsHandedTo}
 use Rattle.serving.specs.Serving.{ServerState}
 use Rattle.serving.specs.Tapes.{Carried, Sent, Arrived, Talk, Heard, Went, Told}
+use Rattle.serving.specs.Turns.{handed_on}
 
 -- one of these frames goes to its receiver
 pub record SpellsOneOf (frames : List Envelope) (to : ℕ) (bytes : List ℕ) : Type 0 where
@@ -22,10 +24,20 @@ abbrev pub IsFrameOf : List Envelope → Carried → Type 0
 IsFrameOf frames (Sent to bytes) = SpellsOneOf frames to bytes
 IsFrameOf frames (Arrived bytes) = ⊥
 
--- this packet goes to some node
-abbrev pub IsPacketOf : List ℕ → Carried → Type 0
-IsPacketOf packet (Sent to bytes) = bytes ≡ packet
-IsPacketOf packet (Arrived bytes) = ⊥
+-- this packet goes to a node to which requests are handed on
+abbrev pub IsPacketOf : Option ℕ → ℕ → List ℕ → Carried → Type 0
+IsPacketOf leader own packet (Sent to bytes) = (bytes ≡ packet) × IsHandedTo leader own to
+IsPacketOf leader own packet (Arrived bytes) = ⊥
+
+-- it came
+abbrev pub IsArrival : Carried → Type 0
+IsArrival (Sent to bytes) = ⊥
+IsArrival (Arrived bytes) = ⊤
+
+-- a request that is sent goes to a node to which requests are handed on
+abbrev pub IsRightlySent : Option ℕ → ℕ → Carried → Type 0
+IsRightlySent leader own (Sent to bytes) = (line : List ℕ) → bytes ≡ handed_on line → IsHandedTo leader own to
+IsRightlySent leader own (Arrived bytes) = ⊤
 
 -- one of these replies is told to a connection that waits for it by one of these claims
 pub record SettlesOneOf (replies : List Replied) (claims : List Claim) (connection : ℕ) (text : List ℕ) : Type 0 where

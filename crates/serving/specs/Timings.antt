@@ -1,5 +1,5 @@
 -- What a process has seen of the run, and what is due by the clock. Times are in milliseconds.
-use Rattle.std.specs.Prelude.{ℕ, ◌==◌, ◌||◌, ◌&&◌, ◌⊎◌, ◌+◌, ◌-◌, ◌<◌, ◌≤◌, ◌^◌, nat_lt, min, max, Bool, true, false, IsTrue, Option, Some, None, List, fold, if◌then◌else◌}
+use Rattle.std.specs.Prelude.{ℕ, ◌==◌, ◌||◌, ◌&&◌, ◌⊎◌, ◌+◌, ◌-◌, ◌<◌, ◌≤◌, ◌^◌, nat_lt, min, max, Bool, true, false, IsTrue, Option, Some, None, List, fold, if◌then◌else◌, option_map}
 use Rattle.synod.specs.Ballots.{rank, rank_of}
 use Rattle.synod.specs.declared.ballot.Ballot.{Ballot}
 use Rattle.synod.specs.declared.vote.Vote.{Vote}
@@ -42,6 +42,10 @@ first_timing own horizon now = record {
   is_wanting = false;
   campaigns = 0;
 }
+
+-- the node that leads, as far as it knows
+abbrev pub leader_in : TimingState → Option ℕ
+leader_in t = option_map (λ ballot. ballot.node) t.highest
 
 -- its patience runs from now on
 abbrev pub renewed : ℕ → TimingState → TimingState

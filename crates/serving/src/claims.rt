@@ -1,6 +1,6 @@
 //! Which connection waits for which reply.
 
-ghost use Rattle.std.specs.Prelude.{◌≡◌, ◌++◌, ◌∷◌, [], ◌↔◌, IsTrue, OnOk, OnErr, count_by, filter, not};
+ghost use Rattle.std.specs.Prelude.{◌≡◌, ◌++◌, ◌∷◌, [], ◌↔◌, IsTrue, OnOk, OnErr, IfNone, MatchOption, count_by, filter, not};
 ghost use Rattle.std.specs.List.{list_any};
 ghost use Rattle.serving.specs.Claiming.{is_for, is_of};
 
@@ -84,6 +84,17 @@ impl Claims {
             .iter()
             .filter(|claim| claim.connection == connection)
             .count()
+    }
+
+    /// The oldest one, which waits no more.
+    pub fn take(&mut self) -> Option<Claim>
+        ensures next { MatchOption result (self.old ≡ []) (λ claim. self.old ≡ claim ∷ self.new) }
+        ensures unchanged { IfNone result (self.new ≡ self.old) }
+    {
+        if self.claims.is_empty() {
+            return None;
+        }
+        Some(self.claims.remove(0))
     }
 
     /// The reply to this request was told: nobody waits for it any more.

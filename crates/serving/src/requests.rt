@@ -84,6 +84,13 @@ impl Requests {
             .retain(|request| !request.is_of(client, number));
     }
 
+    /// None waits any more.
+    pub fn clear(&mut self)
+        ensures { self.new ≡ [] }
+    {
+        self.requests.clear();
+    }
+
     /// How many wait.
     pub fn count(&self) -> usize
         ensures { result ≡ length self.now }

@@ -5,10 +5,12 @@ ghost use Rattle.stable.specs.declared.stable.Stable.{Ghosts};
 ghost use Rattle.node_model.specs.declared.fault.NodeFault.{NodeFault};
 ghost use Rattle.world_model.specs.Lives.{down_over};
 ghost use Rattle.serving.specs.Knowing.{IsPosition};
+ghost use Rattle.serving.specs.Outgoing.{IsArrival, IsRightlySent};
 ghost use Rattle.serving.specs.Owing.{KeepsEachOver};
-ghost use Rattle.serving.specs.Serving.{IsServing, Serves, ServesOver, begun, has_requests};
-ghost use Rattle.serving.specs.Staying.{StaysUp};
-ghost use Rattle.serving.specs.Timings.{IsTimeLeft, first_timing};
+ghost use Rattle.serving.specs.Resting.{IsCheckpointed, Rests};
+ghost use Rattle.serving.specs.Serving.{IsServing, PassesOnly, Serves, ServesOver, begun, has_requests};
+ghost use Rattle.serving.specs.Staying.{StaysUp, WasGiven};
+ghost use Rattle.serving.specs.Timings.{IsTimeLeft, first_timing, leader_in};
 ghost use Rattle.serving.specs.Turns.{IsOfProcess};
 
 mod answers;
@@ -63,6 +65,7 @@ impl<S: Stable + Drop> Server<S> {
         horizon: Horizon,
         now: u64,
     ) -> Server<S>
+        ensures own { result.own ≡ own }
         ensures timing { result.timing ≡ first_timing own horizon now }
         ensures born { (id count : ℕ) (storage : S) → IsBorn S.Stable id count storage (life_of life)
             → (loaded : Result (Unit {0}) NodeFault)
@@ -116,6 +119,9 @@ impl<S: Stable + Drop> Server<S> {
         ensures each { OnOk result (KeepsEachOver D.tape D.Tells self.old.waiting desk.old self.new.waiting desk.new) }
         ensures stays { OnOk result (StaysUp (life_of self.old.life).node (life_of self.new.life).node) }
         ensures due { OnOk result (self.new.waiting.due ≡ []) }
+        ensures rests { OnOk result (Rests (server_of self.new)) }
+        ensures sends { OnOk result (PassesOnly N.tape N.Tells (IsRightlySent (leader_in self.new.timing) self.new.own)
+            network.old network.new) }
     {
         let more_came = self.take(alloc, network, desk, now)?;
         let has_told = self.tell(alloc, network, desk, now)?;
@@ -123,7 +129,7 @@ impl<S: Stable + Drop> Server<S> {
         let position = self.position();
         self.timing.see_position(position, is_asked, now);
         // A connection that was told something may have lines that wait unread.
-        Ok(more_came || has_told)
+        Ok(more_came | has_told)
     }
 
     // Takes frames, lines, and what is due by the clock: whether more may have come.
@@ -138,12 +144,15 @@ impl<S: Stable + Drop> Server<S> {
             (server_of self.new) network.new desk.new }
         ensures each { OnOk result (KeepsEachOver D.tape D.Tells self.old.waiting desk.old self.new.waiting desk.new) }
         ensures stays { OnOk result (StaysUp (life_of self.old.life).node (life_of self.new.life).node) }
+        ensures comes { OnOk result (PassesOnly N.tape N.Tells IsArrival network.old network.new) }
+        ensures checkpoints { OnOk result (IsCheckpointed (life_of self.new.life).node) }
     {
         let more_frames = self.take_frames(alloc, network, now)?;
         let more_lines = self.take_lines(alloc, desk)?;
         self.keep_time(alloc, now)?;
         self.take_own(alloc)?;
-        Ok(more_frames || more_lines)
+        self.keep_records(alloc)?;
+        Ok(more_frames | more_lines)
     }
 
     // Lets out what came of it: whether a client was told anything that it waited for.
@@ -157,14 +166,18 @@ impl<S: Stable + Drop> Server<S> {
         ensures serves { ServesOver S.Stable N.tape N.Tells D.tape D.Tells (server_of self.old) network.old desk.old
             (server_of self.new) network.new desk.new }
         ensures each { OnOk result (KeepsEachOver D.tape D.Tells self.old.waiting desk.old self.new.waiting desk.new) }
-        ensures stays { OnOk result (StaysUp (life_of self.old.life).node (life_of self.new.life).node) }
+        ensures node { OnOk result ((life_of self.new.life).node ≡ (life_of self.old.life).node) }
         ensures due { OnOk result (self.new.waiting.due ≡ []) }
+        ensures rests { OnOk result (IsCheckpointed (life_of self.old.life).node → Rests (server_of self.new)) }
+        ensures sends { OnOk result (PassesOnly N.tape N.Tells (IsRightlySent (leader_in self.new.timing) self.new.own)
+            network.old network.new) }
     {
         let has_replied = self.let_out(alloc, network, desk, now)?;
         let has_answered = self.tell_ripe(alloc, desk)?;
+        let has_refused = self.turn_away(alloc)?;
         self.tell_due(alloc, desk)?;
         self.hand_on(alloc, network, now)?;
-        Ok(has_replied || has_answered)
+        Ok(has_replied | has_answered | has_refused)
     }
 
     // Whether a request waits here. The client that made it may be gone.
@@ -174,7 +187,7 @@ impl<S: Stable + Drop> Server<S> {
         self.waiting.is_for_replies() || self.requests.count() > 0
     }
 
-    // What is due by the clock, and a checkpoint where one is.
+    // What is due by the clock.
     fn keep_time(&mut self, alloc: Global, now: u64) -> Result<(), TurnFault>
         ensures serves { Serves S.Stable (server_of self.old) [] [] (server_of self.new) }
         ensures waits { self.new.waiting ≡ self.old.waiting }
@@ -184,8 +197,7 @@ impl<S: Stable + Drop> Server<S> {
         let position = self.position();
         self.timing.see_position(position, is_asked, now);
         self.campaign_if_due(alloc, position, is_asked, now)?;
-        self.tick_if_due(alloc, position, is_asked, now)?;
-        self.keep_records(alloc, position)
+        self.tick_if_due(alloc, position, is_asked, now)
     }
 
     // A campaign where one is due.
@@ -226,21 +238,24 @@ impl<S: Stable + Drop> Server<S> {
     }
 
     // A checkpoint where one is due, and what it stands for is taken out.
-    fn keep_records(&mut self, alloc: Global, position: u32) -> Result<(), TurnFault>
+    fn keep_records(&mut self, alloc: Global) -> Result<(), TurnFault>
+        ensures checkpoints { OnOk result (IsCheckpointed (life_of self.new.life).node) }
         ensures serves { Serves S.Stable (server_of self.old) [] [] (server_of self.new) }
         ensures waits { self.new.waiting ≡ self.old.waiting }
         ensures stays { OnOk result (StaysUp (life_of self.old.life).node (life_of self.new.life).node) }
     {
-        if !is_checkpoint_due(position, self.life.node().floor()) {
+        if !is_checkpoint_due(self.position(), self.life.node().floor()) {
             return Ok(());
         }
         self.give(alloc, Input::Checkpoint)?;
-        self.give(alloc, Input::Trim)
+        self.give(alloc, Input::Trim)?;
+        Ok(())
     }
 
     // The node takes what the process gives it by itself.
     fn give(&mut self, alloc: Global, input: Input) -> Result<(), TurnFault>
         requires { IsOfProcess input }
+        ensures gives { OnOk result (WasGiven S.Stable (life_of self.old.life).node input (life_of self.new.life).node) }
         ensures serves { Serves S.Stable (server_of self.old) [] [] (server_of self.new) }
         ensures waits { self.new.waiting ≡ self.old.waiting }
         ensures stays { OnOk result (StaysUp (life_of self.old.life).node (life_of self.new.life).node) }

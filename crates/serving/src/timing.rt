@@ -1,7 +1,7 @@
 //! What a process has seen of the run, and what is due by the clock.
 
-ghost use Rattle.std.specs.Prelude.{◌≡◌, ◌≤◌, ◌↔◌, IsTrue, fold, option_map};
-ghost use Rattle.serving.specs.Timings.{above_votes, ballot_seen, campaigned, first_timing, position_seen, promise_seen, seen, slot_seen, time_left, wants, IsCampaignDue, IsTickDue, IsTimeLeft, Resumes};
+ghost use Rattle.std.specs.Prelude.{◌≡◌, ◌≤◌, ◌↔◌, IsTrue, fold};
+ghost use Rattle.serving.specs.Timings.{above_votes, ballot_seen, campaigned, first_timing, leader_in, position_seen, promise_seen, seen, slot_seen, time_left, wants, IsCampaignDue, IsTickDue, IsTimeLeft, Resumes};
 
 use super::campaign::Campaign;
 use super::horizon::Horizon;
@@ -74,7 +74,7 @@ impl Timing {
 
     /// The node that leads, as far as is known.
     pub fn leader(&self) -> Option<u8>
-        ensures { result ≡ option_map (λ ballot. ballot.node) self.now.highest }
+        ensures { result ≡ leader_in self.now }
     {
         self.leader.node()
     }

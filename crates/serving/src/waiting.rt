@@ -121,6 +121,22 @@ impl Waiting {
         self.claims.settle(client, number);
     }
 
+    /// Who has waited longest for a reply waits no more.
+    pub fn take_claim(&mut self) -> Option<Claim>
+        ensures next { MatchOption result (self.old.claims ≡ []) (λ claim. self.old.claims ≡ claim ∷ self.new.claims) }
+        ensures others { self.new ≡ record self.old { claims = self.new.claims } }
+        ensures unchanged { IfNone result (self.new ≡ self.old) }
+    {
+        self.claims.take()
+    }
+
+    /// How many queries are held back.
+    pub fn count_questions(&self) -> usize
+        ensures { result ≡ length self.now.questions }
+    {
+        self.questions.len()
+    }
+
     /// The query is held back until the node is at the position.
     pub fn hold(&mut self, connection: u64, query: Query, from: u32) -> Result<(), AllocError>
         ensures added { OnOk result (self.new ≡ record self.old {

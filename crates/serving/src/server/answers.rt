@@ -1,12 +1,12 @@
 //! What a process tells its clients.
 
-ghost use Rattle.std.specs.Prelude.{◌≡◌, ◌≤◌, ℕ, ◌-◌, ◌∷◌, [], OnOk, length};
+ghost use Rattle.std.specs.Prelude.{◌≡◌, ◌≤◌, ℕ, ◌+◌, ◌-◌, ◌∷◌, [], OnOk, IfOk, MatchBool, length};
 ghost use Rattle.clients.specs.AnswerLines.{text_line};
 ghost use Rattle.serving.specs.Outgoing.{IsReplyIn, IsTextTo, KeepsLess};
 ghost use Rattle.serving.specs.Knowing.{IsPosition};
-ghost use Rattle.serving.specs.Owing.{AllSettled, KeepsEachOver, reply_told};
-ghost use Rattle.serving.specs.Serving.{PassesOnly, ServesClients, asking};
-ghost use Rattle.serving.specs.Staying.{StaysUp};
+ghost use Rattle.serving.specs.Owing.{AllSettled, KeepsEach, KeepsEachOver, reply_told};
+ghost use Rattle.serving.specs.Resting.{IsFull, KeepsRequests, NoneIsRipe};
+ghost use Rattle.serving.specs.Serving.{PassesOnly, Serves, ServesClients, asking};
 ghost use Rattle.serving.specs.Tapes.{HasPassed, Told};
 
 use super::Server;
@@ -15,8 +15,10 @@ use crate::desk::Desk;
 use crate::fault::{TurnFault, refusal};
 use crate::waiting::{Due, Question};
 use clients::ClientAnswer;
+use node_model::NodeFault;
 use stable::Stable;
 use std::alloc::Global;
+use synod::SLOTS;
 use world_model::{Answered, Replied};
 
 impl<S: Stable + Drop> Server<S> {
@@ -53,10 +55,11 @@ impl<S: Stable + Drop> Server<S> {
     ) -> Result<bool, TurnFault>
         ensures serves { ServesClients S.Stable D.tape D.Tells (server_of self.old) desk.old (server_of self.new) desk.new }
         ensures each { OnOk result (KeepsEachOver D.tape D.Tells self.old.waiting desk.old self.new.waiting desk.new) }
-        ensures stays { OnOk result (StaysUp (life_of self.old.life).node (life_of self.new.life).node) }
+        ensures node { OnOk result ((life_of self.new.life).node ≡ (life_of self.old.life).node) }
+        ensures ripe { OnOk result (NoneIsRipe (life_of self.new.life).node self.new.waiting.questions) }
     {
         let mut has_told = false;
-        'questions: for _ in 0..u64::MAX {
+        'questions: for _ in 0..self.waiting.count_questions() {
             if !self.tell_next_ripe(alloc, desk)? {
                 return Ok(has_told);
             }
@@ -69,7 +72,10 @@ impl<S: Stable + Drop> Server<S> {
     fn tell_next_ripe<D: Desk>(&mut self, alloc: Global, desk: &mut D) -> Result<bool, TurnFault>
         ensures serves { ServesClients S.Stable D.tape D.Tells (server_of self.old) desk.old (server_of self.new) desk.new }
         ensures each { OnOk result (KeepsEachOver D.tape D.Tells self.old.waiting desk.old self.new.waiting desk.new) }
-        ensures stays { OnOk result (StaysUp (life_of self.old.life).node (life_of self.new.life).node) }
+        ensures node { OnOk result ((life_of self.new.life).node ≡ (life_of self.old.life).node) }
+        ensures less { IfOk result (λ has_told. MatchBool has_told
+            (length self.new.waiting.questions + 1 ≡ length self.old.waiting.questions)
+            (NoneIsRipe (life_of self.new.life).node self.new.waiting.questions)) }
     {
         let position = self.position();
         let Some(question) = self.waiting.ripe(position) else {
@@ -79,11 +85,59 @@ impl<S: Stable + Drop> Server<S> {
         Ok(true)
     }
 
+    // Where the whole log is executed, no request that waits is executed any more: who waits for one is told that it is refused, as a
+    // new one is. Whether anybody was.
+    pub(super) fn turn_away(&mut self, alloc: Global) -> Result<bool, TurnFault>
+        ensures serves { Serves S.Stable (server_of self.old) [] [] (server_of self.new) }
+        ensures each { OnOk result (KeepsEach [] self.old.waiting self.new.waiting) }
+        ensures life { self.new.life ≡ self.old.life }
+        ensures questions { self.new.waiting.questions ≡ self.old.waiting.questions }
+        ensures full { OnOk result (IsFull (life_of self.new.life).node → (self.new.waiting.claims ≡ []) × (self.new.requests ≡ [])) }
+    {
+        if self.position() < SLOTS {
+            return Ok(false);
+        }
+        let has_waited = self.waiting.is_for_replies();
+        'claims: for _ in 0..self.waiting.claims().len() {
+            self.turn_away_next(alloc)?;
+        }
+        self.requests.clear();
+        Ok(has_waited)
+    }
+
+    // Who has waited longest for a reply is to be told that the request is refused: whether anybody waits.
+    fn turn_away_next(&mut self, alloc: Global) -> Result<bool, TurnFault>
+        requires { IsFull (life_of self.old.life).node }
+        ensures serves { Serves S.Stable (server_of self.old) [] [] (server_of self.new) }
+        ensures each { OnOk result (KeepsEach [] self.old.waiting self.new.waiting) }
+        ensures life { self.new.life ≡ self.old.life }
+        ensures questions { self.new.waiting.questions ≡ self.old.waiting.questions }
+        ensures less { OnOk result (length self.new.waiting.claims ≡ length self.old.waiting.claims - 1) }
+    {
+        let Some(claim) = self.waiting.take_claim() else {
+            return Ok(false);
+        };
+        let answer = ClientAnswer::Refused {
+            client: claim.client,
+            number: claim.number,
+            code: NodeFault::LogFull.code(),
+        };
+        let line = answer.spell(alloc)?;
+        self.waiting.add_due(Due::Line {
+            connection: claim.connection,
+            line,
+        })?;
+        Ok(true)
+    }
+
     // What is due is told in the order of the lines.
     pub(super) fn tell_due<D: Desk>(&mut self, alloc: Global, desk: &mut D) -> Result<(), TurnFault>
         ensures serves { ServesClients S.Stable D.tape D.Tells (server_of self.old) desk.old (server_of self.new) desk.new }
         ensures each { OnOk result (KeepsEachOver D.tape D.Tells self.old.waiting desk.old self.new.waiting desk.new) }
-        ensures stays { OnOk result (StaysUp (life_of self.old.life).node (life_of self.new.life).node) }
+        ensures node { OnOk result ((life_of self.new.life).node ≡ (life_of self.old.life).node) }
+        ensures ripe { OnOk result (NoneIsRipe (life_of self.old.life).node self.old.waiting.questions
+            → NoneIsRipe (life_of self.new.life).node self.new.waiting.questions) }
+        ensures requests { KeepsRequests (server_of self.old) (server_of self.new) }
         ensures told { OnOk result (self.new.waiting.due ≡ []) }
     {
         'due: for _ in 0..self.waiting.count_due() {
@@ -96,7 +150,10 @@ impl<S: Stable + Drop> Server<S> {
     fn tell_next_due<D: Desk>(&mut self, alloc: Global, desk: &mut D) -> Result<bool, TurnFault>
         ensures serves { ServesClients S.Stable D.tape D.Tells (server_of self.old) desk.old (server_of self.new) desk.new }
         ensures each { OnOk result (KeepsEachOver D.tape D.Tells self.old.waiting desk.old self.new.waiting desk.new) }
-        ensures stays { OnOk result (StaysUp (life_of self.old.life).node (life_of self.new.life).node) }
+        ensures node { OnOk result ((life_of self.new.life).node ≡ (life_of self.old.life).node) }
+        ensures ripe { OnOk result (NoneIsRipe (life_of self.old.life).node self.old.waiting.questions
+            → NoneIsRipe (life_of self.new.life).node self.new.waiting.questions) }
+        ensures requests { KeepsRequests (server_of self.old) (server_of self.new) }
         ensures less { OnOk result (length self.new.waiting.due ≡ length self.old.waiting.due - 1) }
     {
         let Some(what) = self.waiting.take_due() else {
@@ -127,7 +184,10 @@ impl<S: Stable + Drop> Server<S> {
             self.new.waiting desk.new) }
         ensures asked { (position : ℕ) → IsPosition (life_of self.old.life).node position → question.from ≤ position
             → self.new.waiting ≡ self.old.waiting }
-        ensures stays { OnOk result (StaysUp (life_of self.old.life).node (life_of self.new.life).node) }
+        ensures node { OnOk result ((life_of self.new.life).node ≡ (life_of self.old.life).node) }
+        ensures ripe { OnOk result (NoneIsRipe (life_of self.old.life).node self.old.waiting.questions
+            → NoneIsRipe (life_of self.new.life).node self.new.waiting.questions) }
+        ensures requests { KeepsRequests (server_of self.old) (server_of self.new) }
         ensures due { self.new.waiting.due ≡ self.old.waiting.due }
     {
         if self.position() < question.from {

@@ -5,7 +5,8 @@ ghost use Rattle.node_model.specs.declared.input.Input.TheVariants as input;
 ghost use Rattle.clients.specs.ClientLines.{IsClientLine};
 ghost use Rattle.clients.specs.declared.line.ClientLine.TheVariants as client_line;
 ghost use Rattle.serving.specs.Knowing.{IsLastNumber};
-ghost use Rattle.serving.specs.Serving.{Serves, ServesNodes};
+ghost use Rattle.serving.specs.Outgoing.{IsArrival};
+ghost use Rattle.serving.specs.Serving.{PassesOnly, Serves, ServesNodes};
 ghost use Rattle.serving.specs.Staying.{StaysUp};
 ghost use Rattle.serving.specs.Tapes.{Arrived};
 ghost use Rattle.serving.specs.Turns.{handed_on};
@@ -35,6 +36,7 @@ impl<S: Stable + Drop> Server<S> {
         ensures serves { ServesNodes S.Stable N.tape N.Tells (server_of self.old) network.old (server_of self.new) network.new }
         ensures waits { self.new.waiting ≡ self.old.waiting }
         ensures stays { OnOk result (StaysUp (life_of self.old.life).node (life_of self.new.life).node) }
+        ensures comes { OnOk result (PassesOnly N.tape N.Tells IsArrival network.old network.new) }
     {
         'frames: for _ in 0..MOST_IN_A_TURN {
             if !self.take_next_frame(alloc, network, now)? {
@@ -54,6 +56,7 @@ impl<S: Stable + Drop> Server<S> {
         ensures serves { ServesNodes S.Stable N.tape N.Tells (server_of self.old) network.old (server_of self.new) network.new }
         ensures waits { self.new.waiting ≡ self.old.waiting }
         ensures stays { OnOk result (StaysUp (life_of self.old.life).node (life_of self.new.life).node) }
+        ensures comes { OnOk result (PassesOnly N.tape N.Tells IsArrival network.old network.new) }
     {
         let came = network.poll(alloc)?;
         let Some(bytes) = came else {

@@ -1,10 +1,10 @@
 //! What a process sends to the other nodes.
 
 ghost use Rattle.std.specs.Prelude.{◌≡◌, ◌∷◌, [], OnOk};
-ghost use Rattle.serving.specs.Outgoing.{IsFrameOf, IsPacketOf};
+ghost use Rattle.serving.specs.Outgoing.{IsFrameOf, IsPacketOf, IsRightlySent};
 ghost use Rattle.serving.specs.Owing.{AllSettled, KeepsEachOver};
 ghost use Rattle.serving.specs.Serving.{PassesOnly, ServesNodes, ServesOver};
-ghost use Rattle.serving.specs.Staying.{StaysUp};
+ghost use Rattle.serving.specs.Timings.{leader_in};
 
 use super::Server;
 use crate::desk::Desk;
@@ -32,7 +32,8 @@ impl<S: Stable + Drop> Server<S> {
             (server_of self.new) network.new desk.new }
         ensures each { OnOk result (KeepsEachOver D.tape D.Tells self.old.waiting desk.old self.new.waiting desk.new) }
         ensures settled { OnOk result (AllSettled (life_of self.old.life).held.replies self.new.waiting.claims) }
-        ensures stays { OnOk result (StaysUp (life_of self.old.life).node (life_of self.new.life).node) }
+        ensures node { OnOk result ((life_of self.new.life).node ≡ (life_of self.old.life).node) }
+        ensures frames { OnOk result (PassesOnly N.tape N.Tells (IsFrameOf (life_of self.old.life).held.frames) network.old network.new) }
     {
         let Told {
             frames,
@@ -87,7 +88,11 @@ impl<S: Stable + Drop> Server<S> {
     ) -> Result<(), TurnFault>
         ensures serves { ServesNodes S.Stable N.tape N.Tells (server_of self.old) network.old (server_of self.new) network.new }
         ensures waits { self.new.waiting ≡ self.old.waiting }
-        ensures stays { OnOk result (StaysUp (life_of self.old.life).node (life_of self.new.life).node) }
+        ensures life { self.new.life ≡ self.old.life }
+        ensures knows { (self.new.timing ≡ self.old.timing) × (self.new.own ≡ self.old.own) }
+        ensures none { self.old.requests ≡ [] → self.new.requests ≡ [] }
+        ensures sends { OnOk result (PassesOnly N.tape N.Tells (IsRightlySent (leader_in self.old.timing) self.old.own)
+            network.old network.new) }
     {
         'packets: for _ in 0..u64::MAX {
             if !self.hand_on_next(alloc, network, now)? {
@@ -106,7 +111,11 @@ impl<S: Stable + Drop> Server<S> {
     ) -> Result<bool, TurnFault>
         ensures serves { ServesNodes S.Stable N.tape N.Tells (server_of self.old) network.old (server_of self.new) network.new }
         ensures waits { self.new.waiting ≡ self.old.waiting }
-        ensures stays { OnOk result (StaysUp (life_of self.old.life).node (life_of self.new.life).node) }
+        ensures life { self.new.life ≡ self.old.life }
+        ensures knows { (self.new.timing ≡ self.old.timing) × (self.new.own ≡ self.old.own) }
+        ensures none { self.old.requests ≡ [] → self.new.requests ≡ [] }
+        ensures sends { OnOk result (PassesOnly N.tape N.Tells (IsRightlySent (leader_in self.old.timing) self.old.own)
+            network.old network.new) }
     {
         let Some(place) = self.requests.next_due(now) else {
             return Ok(false);
@@ -122,7 +131,7 @@ impl<S: Stable + Drop> Server<S> {
         network: &mut N,
         packet: &[u8],
     ) -> Result<(), TurnFault>
-        ensures { PassesOnly N.tape N.Tells (IsPacketOf packet.now) network.old network.new }
+        ensures { PassesOnly N.tape N.Tells (IsPacketOf (leader_in self.now.timing) self.now.own packet.now) network.old network.new }
     {
         let leader = self.timing.leader();
         'nodes: for node in 0..self.nodes.count() {

@@ -14,7 +14,8 @@ use Rattle.serving.proofs.KeepingEach.{keeps_held}
 use Rattle.serving.proofs.KeepingEachOver.{each_quiet, on_told}
 use Rattle.serving.proofs.Submitted.{asked_is_last}
 use Rattle.clients.specs.AnswerLines.{text_line}
-use Rattle.serving.proofs.Staying.{stays_asked, stays_itself, stays_on}
+use Rattle.serving.proofs.Ripening.{node_asked, none_ripe_held, none_ripe_same}
+use Rattle.serving.proofs.Staying.{stays_on}
 use Rattle.serving.proofs.server.Server.answer.Goals as goal
 
 pub returns-in_err-hold-clause-serves : goal.returns-in_err-hold-clause-serves
@@ -67,19 +68,37 @@ returns-clause-each g c =
     (subst (λ (o : Option NodeFault). IsRefusal c.ask.result (Ok o)) c.in_default.is c.in_ok-fault.ensures)
     (c.deref.ensures.value ∙ ap (λ (t : ToldLists). t.answers) c.hand_out-told.ensures.told) (sym c.in-None.ensures.value))
 
-pub returns-then-position-question-clause-stays : goal.returns-then-position-question-clause-stays
-returns-then-position-question-clause-stays g c =
-    stays_itself g.S.Stable (life_of c.args.self.now.life).node
-
-pub returns-in-Some-last-clause-stays : goal.returns-in-Some-last-clause-stays
-returns-in-Some-last-clause-stays g c =
-    stays_on g.S.Stable c.tell_answer.result _ _
-    (stays_asked g.S.Stable (life_of c.args.self.now.life) (life_of c.ask.new.self) (life_of c.hand_out-told.new.self) c.args.question.query c.ask.result
-    c.ask.ensures (subst (λ (o : Option NodeFault). IsRefusal c.ask.result (Ok o)) c.in_default.is c.in_ok-fault.ensures)
+pub returns-in-Some-last-clause-node : goal.returns-in-Some-last-clause-node
+returns-in-Some-last-clause-node g c =
+    stays_on c.tell_answer.result
+    (node_asked g.S.Stable (life_of c.args.self.now.life) (life_of c.ask.new.self) (life_of c.hand_out-told.new.self) c.args.question.query
+    c.ask.result c.ask.ensures (subst (λ (o : Option NodeFault). IsRefusal c.ask.result (Ok o)) c.in_default.is c.in_ok-fault.ensures)
     c.hand_out-told.ensures.left)
 
-pub returns-clause-stays : goal.returns-clause-stays
-returns-clause-stays g c =
-    stays_asked g.S.Stable (life_of c.args.self.now.life) (life_of c.ask.new.self) (life_of c.hand_out-told.new.self) c.args.question.query c.ask.result
-    c.ask.ensures (subst (λ (o : Option NodeFault). IsRefusal c.ask.result (Ok o)) c.in_default.is c.in_ok-fault.ensures)
+pub returns-clause-node : goal.returns-clause-node
+returns-clause-node g c =
+    node_asked g.S.Stable (life_of c.args.self.now.life) (life_of c.ask.new.self) (life_of c.hand_out-told.new.self) c.args.question.query
+    c.ask.result c.ask.ensures (subst (λ (o : Option NodeFault). IsRefusal c.ask.result (Ok o)) c.in_default.is c.in_ok-fault.ensures)
     c.hand_out-told.ensures.left
+
+pub returns-then-position-question-clause-ripe : goal.returns-then-position-question-clause-ripe
+returns-then-position-question-clause-ripe g c =
+    none_ripe_held (life_of c.args.self.now.life).node c.position.result c.args.question c.args.self.now.waiting.questions
+    c.hold.new.self.questions c.position.ensures c.if-position-question.true (ap (λ (w : WaitingState). w.questions) c.in_ok-hold.ensures.added)
+
+pub returns-in-Some-last-clause-ripe : goal.returns-in-Some-last-clause-ripe
+returns-in-Some-last-clause-ripe g c =
+    stays_on c.tell_answer.result
+    (none_ripe_same (life_of c.args.self.now.life).node (life_of c.hand_out-told.new.self).node c.args.self.now.waiting.questions
+    c.args.self.now.waiting.questions
+    (node_asked g.S.Stable (life_of c.args.self.now.life) (life_of c.ask.new.self) (life_of c.hand_out-told.new.self) c.args.question.query
+    c.ask.result c.ask.ensures (subst (λ (o : Option NodeFault). IsRefusal c.ask.result (Ok o)) c.in_default.is c.in_ok-fault.ensures)
+    c.hand_out-told.ensures.left) refl)
+
+pub returns-clause-ripe : goal.returns-clause-ripe
+returns-clause-ripe g c =
+    none_ripe_same (life_of c.args.self.now.life).node (life_of c.hand_out-told.new.self).node c.args.self.now.waiting.questions
+    c.args.self.now.waiting.questions
+    (node_asked g.S.Stable (life_of c.args.self.now.life) (life_of c.ask.new.self) (life_of c.hand_out-told.new.self) c.args.question.query
+    c.ask.result c.ask.ensures (subst (λ (o : Option NodeFault). IsRefusal c.ask.result (Ok o)) c.in_default.is c.in_ok-fault.ensures)
+    c.hand_out-told.ensures.left) refl

@@ -2,6 +2,7 @@ use Rattle.std.proofs.Common.{refl}
 use Rattle.serving.specs.Seen.{server_of}
 use Rattle.serving.proofs.Coming.{serves_given}
 use Rattle.life.specs.Seen.{life_of}
+use Rattle.serving.proofs.Checkpointing.{was_given}
 use Rattle.serving.proofs.Staying.{stays_taking}
 use Rattle.serving.proofs.server.Server.give.Goals as goal
 
@@ -16,4 +17,9 @@ returns-clause-serves g c =
 pub returns-clause-stays : goal.returns-clause-stays
 returns-clause-stays g c =
     stays_taking g.S.Stable (life_of c.args.self.now.life) (life_of c.take.new.self) c.args.input c.take.result c.in_ok-refusal.field-0
+    c.take.ensures c.in_ok-refusal.ensures
+
+pub returns-clause-gives : goal.returns-clause-gives
+returns-clause-gives g c =
+    was_given g.S.Stable (life_of c.args.self.now.life) (life_of c.take.new.self) c.args.input c.take.result c.in_ok-refusal.field-0
     c.take.ensures c.in_ok-refusal.ensures

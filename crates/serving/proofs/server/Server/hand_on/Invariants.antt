@@ -1,12 +1,17 @@
-use Rattle.std.proofs.Common.{◌≡◌}
+use Rattle.std.proofs.Common.{◌≡◌, []}
+use Rattle.serving.specs.Outgoing.{IsRightlySent}
 use Rattle.serving.specs.Seen.{server_of}
-use Rattle.serving.specs.Serving.{ServesNodes}
-use Rattle.life.specs.Seen.{life_of}
-use Rattle.serving.specs.Staying.{StaysUp}
+use Rattle.serving.specs.Serving.{PassesOnly, ServesNodes}
+use Rattle.serving.specs.Timings.{leader_in}
 use Rattle.serving.proofs.server.Server.hand_on.Given as goal
 
 abbrev pub invariant-packets : goal.invariant-packets
 invariant-packets g l =
     ServesNodes g.S.Stable g.N.Network.tape g.N.Network.Tells (server_of l.initial.self) l.initial.network (server_of l.self) l.network
     × (l.self.waiting ≡ l.initial.self.waiting)
-    × StaysUp (life_of l.initial.self.life).node (life_of l.self.life).node
+    × (l.self.life ≡ l.initial.self.life)
+    × (l.self.timing ≡ l.initial.self.timing)
+    × (l.self.own ≡ l.initial.self.own)
+    × (l.initial.self.requests ≡ [] → l.self.requests ≡ [])
+    × PassesOnly g.N.Network.tape g.N.Network.Tells (IsRightlySent (leader_in l.initial.self.timing) l.initial.self.own) l.initial.network
+    l.network

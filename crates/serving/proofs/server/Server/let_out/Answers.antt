@@ -6,9 +6,11 @@ use Rattle.serving.proofs.Answering.{over_letting_out}
 use Rattle.serving.proofs.Holding.{less_itself}
 use Rattle.serving.proofs.Passing.{only_none}
 use Rattle.world_model.specs.declared.lists.Replied.{Replied}
+use Rattle.wire.specs.declared.frames.envelope.Envelope.{Envelope}
+use Rattle.serving.specs.Outgoing.{IsFrameOf}
 use Rattle.serving.specs.Owing.{AllSettled, KeepsEachOver}
+use Rattle.serving.specs.Serving.{PassesOnly}
 use Rattle.serving.specs.Waitings.{WaitingState}
-use Rattle.serving.proofs.Staying.{stays_same}
 use Rattle.serving.proofs.server.Server.let_out.Goals as goal
 
 pub returns-in_err-send_frames-clause-serves : goal.returns-in_err-send_frames-clause-serves
@@ -42,7 +44,12 @@ returns-clause-settled g c =
     subst (λ (rs : List Replied). AllSettled rs c.tell_replies.new.self.waiting.claims)
     (c.as_slice-2.ensures.value ∙ ap (λ (t : ToldLists). t.replies) c.hand_out-frames.ensures.told) c.in_ok-tell_replies.ensures.settled
 
-pub returns-clause-stays : goal.returns-clause-stays
-returns-clause-stays g c =
-    stays_same g.S.Stable _ _ (ap (λ l. (life_of l).node) c.tell_replies.ensures.life ∙ ap (λ s. s.life.node) c.send_frames.ensures.same
-    ∙ ap (λ l. l.node) c.hand_out-frames.ensures.left)
+pub returns-clause-node : goal.returns-clause-node
+returns-clause-node g c =
+    ap (λ l. (life_of l).node) c.tell_replies.ensures.life ∙ ap (λ s. s.life.node) c.send_frames.ensures.same
+    ∙ ap (λ l. l.node) c.hand_out-frames.ensures.left
+
+pub returns-clause-frames : goal.returns-clause-frames
+returns-clause-frames g c =
+    subst (λ (fs : List Envelope). PassesOnly g.N.Network.tape g.N.Network.Tells (IsFrameOf fs) c.args.network.now c.send_frames.new.network)
+    (c.as_slice.ensures.value ∙ ap (λ (t : ToldLists). t.frames) c.hand_out-frames.ensures.told) c.send_frames.ensures.sends

@@ -1,7 +1,8 @@
 use Rattle.std.proofs.Common.{ℕ, List, [], ◌∷◌, Ok, ap, sym, ◌∙◌}
 use Rattle.serving.specs.Seen.{server_of}
 use Rattle.serving.specs.Tapes.{Arrived, came_in}
-use Rattle.serving.proofs.Passing.{nodes_polled, nodes_polled_none, nodes_quiet, nodes_then}
+use Rattle.serving.specs.Outgoing.{IsArrival}
+use Rattle.serving.proofs.Passing.{nodes_polled, nodes_polled_none, nodes_quiet, nodes_then, only_none_by, only_one_as}
 use Rattle.serving.proofs.Staying.{stays_itself, stays_then}
 use Rattle.life.specs.Seen.{life_of}
 use Rattle.serving.proofs.server.Server.take_next_frame.Goals as goal
@@ -41,3 +42,14 @@ returns-in_default-clause-stays g c =
 pub returns-clause-stays : goal.returns-clause-stays
 returns-clause-stays g c =
     stays_then g.S.Stable _ _ _ c.in_ok-take_frame.ensures.stays c.in_ok-take_own.ensures.stays
+
+pub returns-in_default-clause-comes : goal.returns-in_default-clause-comes
+returns-in_default-clause-comes g c =
+    only_none_by g.N.Network.tape g.N.Network.Tells IsArrival _ _ (came_in c.poll.result) (ap came_in (c.in_ok-came.was ∙ ap Ok c.in_default.is))
+    c.poll.ensures.tape c.poll.ensures.told
+
+pub returns-clause-comes : goal.returns-clause-comes
+returns-clause-comes g c =
+    only_one_as g.N.Network.tape g.N.Network.Tells IsArrival c.args.network.now c.poll.new.self (came_in c.poll.result) (Arrived c.as_slice.result.now)
+    (ap came_in (c.in_ok-came.was ∙ ap Ok c.in-Some.is) ∙ ap (λ (b : List ℕ). Arrived b ∷ []) (sym c.as_slice.ensures.value))
+    c.poll.ensures.tape c.poll.ensures.told tt

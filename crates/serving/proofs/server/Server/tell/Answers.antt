@@ -1,58 +1,83 @@
-use Rattle.serving.proofs.Passing.{over_clients, over_nodes, over_then}
-use Rattle.serving.proofs.KeepingEachOver.{each_then, each_waits}
-use Rattle.serving.proofs.Staying.{stays_then}
-use Rattle.std.proofs.Common.{ap, ◌∙◌}
+use Rattle.std.proofs.Common.{sym, subst, ap, ◌∙◌}
+use Rattle.life.specs.Seen.{life_of}
+use Rattle.serving.specs.Resting.{IsCheckpointed, IsFull}
 use Rattle.serving.specs.Waitings.{WaitingState}
+use Rattle.serving.proofs.HandingOn.{rightly_behind}
+use Rattle.serving.proofs.KeepingEachOver.{each_quiet, each_then, each_waits}
+use Rattle.serving.proofs.Passing.{over_kept, over_sent, over_told}
+use Rattle.serving.proofs.Ripening.{none_ripe_same}
 use Rattle.serving.proofs.server.Server.tell.Goals as goal
 
 pub returns-in_err-has_answered-clause-serves : goal.returns-in_err-has_answered-clause-serves
 returns-in_err-has_answered-clause-serves g c =
-    over_then g.S.Stable g.N.Network.tape g.N.Network.Tells g.D.Desk.tape g.D.Desk.Tells _ _ _ _ _ _ _ _ _ c.let_out.ensures.serves (over_clients g.S.Stable g.N.Network.tape g.N.Network.Tells g.D.Desk.tape g.D.Desk.Tells _ _ c.let_out.new.network _ _ c.tell_ripe.ensures.serves)
+    over_told g.S.Stable g.N.Network.tape g.N.Network.Tells g.D.Desk.tape g.D.Desk.Tells _ _ _ _ _ _ _ _
+    (c.let_out.ensures.serves) c.tell_ripe.ensures.serves
+
+pub returns-in_err-has_refused-clause-serves : goal.returns-in_err-has_refused-clause-serves
+returns-in_err-has_refused-clause-serves g c =
+    over_kept g.S.Stable g.N.Network.tape g.N.Network.Tells g.D.Desk.tape g.D.Desk.Tells _ _ _ _ _ _ _
+    (over_told g.S.Stable g.N.Network.tape g.N.Network.Tells g.D.Desk.tape g.D.Desk.Tells _ _ _ _ _ _ _ _
+    (c.let_out.ensures.serves) c.tell_ripe.ensures.serves) c.turn_away.ensures.serves
 
 pub returns-in_err-tell_due-clause-serves : goal.returns-in_err-tell_due-clause-serves
 returns-in_err-tell_due-clause-serves g c =
-    over_then g.S.Stable g.N.Network.tape g.N.Network.Tells g.D.Desk.tape g.D.Desk.Tells _ _ _ _ _ _ _ _ _ (over_then g.S.Stable g.N.Network.tape g.N.Network.Tells g.D.Desk.tape g.D.Desk.Tells _ _ _ _ _ _ _ _ _ c.let_out.ensures.serves (over_clients g.S.Stable g.N.Network.tape g.N.Network.Tells g.D.Desk.tape g.D.Desk.Tells _ _ c.let_out.new.network _ _ c.tell_ripe.ensures.serves)) (over_clients g.S.Stable g.N.Network.tape g.N.Network.Tells g.D.Desk.tape g.D.Desk.Tells _ _ c.let_out.new.network _ _ c.tell_due.ensures.serves)
+    over_told g.S.Stable g.N.Network.tape g.N.Network.Tells g.D.Desk.tape g.D.Desk.Tells _ _ _ _ _ _ _ _
+    (over_kept g.S.Stable g.N.Network.tape g.N.Network.Tells g.D.Desk.tape g.D.Desk.Tells _ _ _ _ _ _ _
+    (over_told g.S.Stable g.N.Network.tape g.N.Network.Tells g.D.Desk.tape g.D.Desk.Tells _ _ _ _ _ _ _ _
+    (c.let_out.ensures.serves) c.tell_ripe.ensures.serves) c.turn_away.ensures.serves) c.tell_due.ensures.serves
 
 pub returns-in_err-hand_on-clause-serves : goal.returns-in_err-hand_on-clause-serves
 returns-in_err-hand_on-clause-serves g c =
-    over_then g.S.Stable g.N.Network.tape g.N.Network.Tells g.D.Desk.tape g.D.Desk.Tells _ _ _ _ _ _ _ _ _ (over_then g.S.Stable g.N.Network.tape g.N.Network.Tells g.D.Desk.tape g.D.Desk.Tells _ _ _ _ _ _ _ _ _ (over_then g.S.Stable g.N.Network.tape g.N.Network.Tells g.D.Desk.tape g.D.Desk.Tells _ _ _ _ _ _ _ _ _ c.let_out.ensures.serves (over_clients g.S.Stable g.N.Network.tape g.N.Network.Tells g.D.Desk.tape g.D.Desk.Tells _ _ c.let_out.new.network _ _ c.tell_ripe.ensures.serves)) (over_clients g.S.Stable g.N.Network.tape g.N.Network.Tells g.D.Desk.tape g.D.Desk.Tells _ _ c.let_out.new.network _ _ c.tell_due.ensures.serves)) (over_nodes g.S.Stable g.N.Network.tape g.N.Network.Tells g.D.Desk.tape g.D.Desk.Tells _ _ _ _ c.tell_due.new.desk c.hand_on.ensures.serves)
+    over_sent g.S.Stable g.N.Network.tape g.N.Network.Tells g.D.Desk.tape g.D.Desk.Tells _ _ _ _ _ _ _ _
+    (over_told g.S.Stable g.N.Network.tape g.N.Network.Tells g.D.Desk.tape g.D.Desk.Tells _ _ _ _ _ _ _ _
+    (over_kept g.S.Stable g.N.Network.tape g.N.Network.Tells g.D.Desk.tape g.D.Desk.Tells _ _ _ _ _ _ _
+    (over_told g.S.Stable g.N.Network.tape g.N.Network.Tells g.D.Desk.tape g.D.Desk.Tells _ _ _ _ _ _ _ _
+    (c.let_out.ensures.serves) c.tell_ripe.ensures.serves) c.turn_away.ensures.serves) c.tell_due.ensures.serves) c.hand_on.ensures.serves
 
-pub returns-then-has_replied-clause-serves : goal.returns-then-has_replied-clause-serves
-returns-then-has_replied-clause-serves g c =
-    over_then g.S.Stable g.N.Network.tape g.N.Network.Tells g.D.Desk.tape g.D.Desk.Tells _ _ _ _ _ _ _ _ _ (over_then g.S.Stable g.N.Network.tape g.N.Network.Tells g.D.Desk.tape g.D.Desk.Tells _ _ _ _ _ _ _ _ _ (over_then g.S.Stable g.N.Network.tape g.N.Network.Tells g.D.Desk.tape g.D.Desk.Tells _ _ _ _ _ _ _ _ _ c.let_out.ensures.serves (over_clients g.S.Stable g.N.Network.tape g.N.Network.Tells g.D.Desk.tape g.D.Desk.Tells _ _ c.let_out.new.network _ _ c.tell_ripe.ensures.serves)) (over_clients g.S.Stable g.N.Network.tape g.N.Network.Tells g.D.Desk.tape g.D.Desk.Tells _ _ c.let_out.new.network _ _ c.tell_due.ensures.serves)) (over_nodes g.S.Stable g.N.Network.tape g.N.Network.Tells g.D.Desk.tape g.D.Desk.Tells _ _ _ _ c.tell_due.new.desk c.hand_on.ensures.serves)
+pub returns-clause-serves : goal.returns-clause-serves
+returns-clause-serves g c =
+    over_sent g.S.Stable g.N.Network.tape g.N.Network.Tells g.D.Desk.tape g.D.Desk.Tells _ _ _ _ _ _ _ _
+    (over_told g.S.Stable g.N.Network.tape g.N.Network.Tells g.D.Desk.tape g.D.Desk.Tells _ _ _ _ _ _ _ _
+    (over_kept g.S.Stable g.N.Network.tape g.N.Network.Tells g.D.Desk.tape g.D.Desk.Tells _ _ _ _ _ _ _
+    (over_told g.S.Stable g.N.Network.tape g.N.Network.Tells g.D.Desk.tape g.D.Desk.Tells _ _ _ _ _ _ _ _
+    (c.let_out.ensures.serves) c.tell_ripe.ensures.serves) c.turn_away.ensures.serves) c.tell_due.ensures.serves) c.hand_on.ensures.serves
 
-pub returns-else-has_replied-clause-serves : goal.returns-else-has_replied-clause-serves
-returns-else-has_replied-clause-serves g c =
-    over_then g.S.Stable g.N.Network.tape g.N.Network.Tells g.D.Desk.tape g.D.Desk.Tells _ _ _ _ _ _ _ _ _ (over_then g.S.Stable g.N.Network.tape g.N.Network.Tells g.D.Desk.tape g.D.Desk.Tells _ _ _ _ _ _ _ _ _ (over_then g.S.Stable g.N.Network.tape g.N.Network.Tells g.D.Desk.tape g.D.Desk.Tells _ _ _ _ _ _ _ _ _ c.let_out.ensures.serves (over_clients g.S.Stable g.N.Network.tape g.N.Network.Tells g.D.Desk.tape g.D.Desk.Tells _ _ c.let_out.new.network _ _ c.tell_ripe.ensures.serves)) (over_clients g.S.Stable g.N.Network.tape g.N.Network.Tells g.D.Desk.tape g.D.Desk.Tells _ _ c.let_out.new.network _ _ c.tell_due.ensures.serves)) (over_nodes g.S.Stable g.N.Network.tape g.N.Network.Tells g.D.Desk.tape g.D.Desk.Tells _ _ _ _ c.tell_due.new.desk c.hand_on.ensures.serves)
-
-pub returns-then-has_replied-clause-each : goal.returns-then-has_replied-clause-each
-returns-then-has_replied-clause-each g c =
+pub returns-clause-each : goal.returns-clause-each
+returns-clause-each g c =
     each_waits g.D.Desk.tape g.D.Desk.Tells _ _ _ _ _
     (each_then g.D.Desk.tape g.D.Desk.Tells _ _ _ _ _ _
+    (each_then g.D.Desk.tape g.D.Desk.Tells _ _ _ _ _ _
     (each_then g.D.Desk.tape g.D.Desk.Tells _ _ _ _ _ _ c.in_ok-has_replied.ensures.each c.tell_ripe.ensures.serves.talks.told c.in_ok-has_answered.ensures.each)
+    (λ tells. tells) (each_quiet g.D.Desk.tape g.D.Desk.Tells _ _ c.tell_ripe.new.desk c.in_ok-has_refused.ensures.each))
     c.tell_due.ensures.serves.talks.told c.in_ok-tell_due.ensures.each)
     c.hand_on.ensures.waits
 
-pub returns-else-has_replied-clause-each : goal.returns-else-has_replied-clause-each
-returns-else-has_replied-clause-each g c =
-    each_waits g.D.Desk.tape g.D.Desk.Tells _ _ _ _ _
-    (each_then g.D.Desk.tape g.D.Desk.Tells _ _ _ _ _ _
-    (each_then g.D.Desk.tape g.D.Desk.Tells _ _ _ _ _ _ c.in_ok-has_replied.ensures.each c.tell_ripe.ensures.serves.talks.told c.in_ok-has_answered.ensures.each)
-    c.tell_due.ensures.serves.talks.told c.in_ok-tell_due.ensures.each)
-    c.hand_on.ensures.waits
+pub returns-clause-node : goal.returns-clause-node
+returns-clause-node g c =
+    ap (λ l. (life_of l).node) c.hand_on.ensures.life ∙ c.in_ok-tell_due.ensures.node ∙ ap (λ l. (life_of l).node) c.turn_away.ensures.life ∙ c.in_ok-has_answered.ensures.node ∙ c.in_ok-has_replied.ensures.node
 
-pub returns-then-has_replied-clause-stays : goal.returns-then-has_replied-clause-stays
-returns-then-has_replied-clause-stays g c =
-    stays_then g.S.Stable _ _ _ (stays_then g.S.Stable _ _ _ (stays_then g.S.Stable _ _ _ c.in_ok-has_replied.ensures.stays c.in_ok-has_answered.ensures.stays) c.in_ok-tell_due.ensures.stays) c.in_ok-hand_on.ensures.stays
-
-pub returns-else-has_replied-clause-stays : goal.returns-else-has_replied-clause-stays
-returns-else-has_replied-clause-stays g c =
-    stays_then g.S.Stable _ _ _ (stays_then g.S.Stable _ _ _ (stays_then g.S.Stable _ _ _ c.in_ok-has_replied.ensures.stays c.in_ok-has_answered.ensures.stays) c.in_ok-tell_due.ensures.stays) c.in_ok-hand_on.ensures.stays
-
-pub returns-then-has_replied-clause-due : goal.returns-then-has_replied-clause-due
-returns-then-has_replied-clause-due g c =
+pub returns-clause-due : goal.returns-clause-due
+returns-clause-due g c =
     ap (λ (w : WaitingState). w.due) c.hand_on.ensures.waits ∙ c.in_ok-tell_due.ensures.told
 
-pub returns-else-has_replied-clause-due : goal.returns-else-has_replied-clause-due
-returns-else-has_replied-clause-due g c =
-    ap (λ (w : WaitingState). w.due) c.hand_on.ensures.waits ∙ c.in_ok-tell_due.ensures.told
+pub returns-clause-rests : goal.returns-clause-rests
+returns-clause-rests g c =
+    λ checkpointed.
+    let node = ap (λ l. (life_of l).node) c.hand_on.ensures.life ∙ c.in_ok-tell_due.ensures.node ∙ ap (λ l. (life_of l).node) c.turn_away.ensures.life ∙ c.in_ok-has_answered.ensures.node ∙ c.in_ok-has_replied.ensures.node in
+    let same = ap (λ l. (life_of l).node) c.hand_on.ensures.life ∙ c.in_ok-tell_due.ensures.node in
+    record {
+      ripe = none_ripe_same _ _ _ _ (ap (λ l. (life_of l).node) c.hand_on.ensures.life) (ap (λ (w : WaitingState). w.questions) c.hand_on.ensures.waits)
+          (c.in_ok-tell_due.ensures.ripe
+          (none_ripe_same _ _ _ _ (ap (λ l. (life_of l).node) c.turn_away.ensures.life) c.turn_away.ensures.questions c.in_ok-has_answered.ensures.ripe));
+      checkpointed = subst (λ n. IsCheckpointed n) (sym node) checkpointed;
+      full = λ full.
+          let none = c.in_ok-has_refused.ensures.full (subst (λ n. IsFull n) same full) in (
+            ap (λ (w : WaitingState). w.claims) c.hand_on.ensures.waits ∙ c.tell_due.ensures.requests.0 ∙ none.0,
+            c.hand_on.ensures.none (c.tell_due.ensures.requests.1 ∙ none.1),
+          );
+    }
+
+pub returns-clause-sends : goal.returns-clause-sends
+returns-clause-sends g c =
+    rightly_behind g.N.Network.tape g.N.Network.Tells _ _ _ _ _ _ _ _ c.hand_on.ensures.knows.0 c.hand_on.ensures.knows.1
+    c.in_ok-has_replied.ensures.frames c.in_ok-hand_on.ensures.sends

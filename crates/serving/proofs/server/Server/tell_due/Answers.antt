@@ -1,17 +1,17 @@
-use Rattle.std.proofs.Common.{refl, arith}
+use Rattle.std.proofs.Common.{refl, ◌∙◌, arith}
 use Rattle.serving.specs.Seen.{server_of}
 use Rattle.serving.proofs.KeepingEachOver.{each_still, each_then}
 use Rattle.serving.proofs.Passing.{clients_none, clients_then}
-use Rattle.serving.proofs.Staying.{stays_itself, stays_then}
-use Rattle.life.specs.Seen.{life_of}
 use Rattle.serving.proofs.server.Server.tell_due.Goals as goal
 
 pub due-init : goal.due-init
 due-init g c = (
   clients_none g.S.Stable g.D.Desk.tape g.D.Desk.Tells (server_of c.args.self.now) c.args.desk.now,
   each_still g.D.Desk.tape g.D.Desk.Tells c.args.self.now.waiting c.args.self.now.waiting c.args.desk.now refl,
-  stays_itself g.S.Stable (life_of c.args.self.now.life).node,
+  refl,
   omega arith,
+  λ ripe. ripe,
+  (refl, refl),
 )
 
 pub returns-in_err-tell_next_due-clause-serves : goal.returns-in_err-tell_next_due-clause-serves
@@ -22,6 +22,11 @@ due-preserved g c = (
   clients_then g.S.Stable g.D.Desk.tape g.D.Desk.Tells _ _ _ _ _ _ c.due.invariant.0 c.tell_next_due.ensures.serves,
   each_then g.D.Desk.tape g.D.Desk.Tells _ _ _ _ _ _ c.due.invariant.1 c.tell_next_due.ensures.serves.talks.told
       c.in_ok-tell_next_due.ensures.each,
-  stays_then g.S.Stable _ _ _ c.due.invariant.2 c.in_ok-tell_next_due.ensures.stays,
+  c.in_ok-tell_next_due.ensures.node ∙ c.due.invariant.2,
   omega (arith, c.due.invariant.3, c.in_ok-tell_next_due.ensures.less),
+  λ ripe. c.in_ok-tell_next_due.ensures.ripe (c.due.invariant.4 ripe),
+  (
+    c.tell_next_due.ensures.requests.0 ∙ c.due.invariant.5.0,
+    c.tell_next_due.ensures.requests.1 ∙ c.due.invariant.5.1,
+  ),
 )

@@ -5,8 +5,6 @@ use Rattle.serving.proofs.KeepingEachOver.{each_asked, each_said, each_still}
 use Rattle.std.proofs.Common.{[], ◌∷◌, ap, ◌∙◌, ℕ, List, length, arith}
 use Rattle.serving.specs.Tapes.{Told}
 use Rattle.serving.specs.declared.waiting.Due.{Due}
-use Rattle.serving.proofs.Staying.{stays_itself}
-use Rattle.life.specs.Seen.{life_of}
 use Rattle.serving.specs.Waitings.{WaitingState}
 use Rattle.serving.proofs.server.Server.tell_next_due.Goals as goal
 
@@ -50,14 +48,6 @@ returns-in_ok-answer-in-Answer-clause-each g c =
     each_asked g.D.Desk.tape g.D.Desk.Tells c.args.self.now.waiting c.take_due.new.self c.answer.new.self.waiting c.in-Answer.question c.args.desk.now c.answer.new.desk
     (c.in-Some.ensures.next ∙ ap (λ (w : Due). w ∷ c.take_due.new.self.due) c.in-Answer.is) c.in-Some.ensures.others
     c.in_ok-answer-in-Answer.ensures.each
-
-pub returns-in_default-clause-stays : goal.returns-in_default-clause-stays
-returns-in_default-clause-stays g c =
-    stays_itself g.S.Stable (life_of c.args.self.now.life).node
-
-pub returns-in_ok-tell-in-Line-clause-stays : goal.returns-in_ok-tell-in-Line-clause-stays
-returns-in_ok-tell-in-Line-clause-stays g c =
-    stays_itself g.S.Stable (life_of c.args.self.now.life).node
 
 pub returns-in_default-clause-less : goal.returns-in_default-clause-less
 returns-in_default-clause-less g c =

@@ -2,9 +2,10 @@ use Rattle.serving.specs.Seen.{server_of}
 use Rattle.serving.proofs.Answering.{clients_ripening, clients_still}
 use Rattle.serving.proofs.KeepingEach.{keeps_ripe}
 use Rattle.serving.proofs.KeepingEachOver.{each_quiet, each_still, each_then}
-use Rattle.std.proofs.Common.{◌∷◌}
+use Rattle.std.proofs.Common.{◌∷◌, ap, arith, length, refl}
+use Rattle.serving.specs.Waitings.{WaitingState}
 use Rattle.serving.specs.declared.waiting.Due.TheVariants as due
-use Rattle.serving.proofs.Staying.{stays_itself}
+use Rattle.serving.proofs.Ripening.{none_ripe_at, none_ripe_same, one_less}
 use Rattle.life.specs.Seen.{life_of}
 use Rattle.serving.proofs.server.Server.tell_next_ripe.Goals as goal
 
@@ -34,6 +35,19 @@ returns-clause-each g c =
     (keeps_ripe c.args.self.now.waiting c.ripe.new.self c.position-position.result c.in-Some.question c.in-Some.ensures.first c.in-Some.ensures.others))
     c.answer.ensures.serves.talks.told c.in_ok-answer.ensures.each
 
-pub returns-in_default-clause-stays : goal.returns-in_default-clause-stays
-returns-in_default-clause-stays g c =
-    stays_itself g.S.Stable (life_of c.args.self.now.life).node
+pub returns-in_default-clause-less : goal.returns-in_default-clause-less
+returns-in_default-clause-less g c =
+    none_ripe_same (life_of c.args.self.now.life).node (life_of c.args.self.now.life).node c.args.self.now.waiting.questions
+    c.ripe.new.self.questions refl (ap (λ (w : WaitingState). w.questions) c.in_default.ensures.unchanged)
+    (none_ripe_at (life_of c.args.self.now.life).node c.position-position.result c.args.self.now.waiting.questions
+    c.position-position.ensures c.in_default.ensures.none)
+
+pub returns-clause-less : goal.returns-clause-less
+returns-clause-less g c =
+    omega (
+      arith,
+      one_less c.position-position.result c.args.self.now.waiting.questions c.ripe.new.self.questions c.in-Some.question
+          c.in-Some.ensures.first,
+      ap (λ (w : WaitingState). length w.questions)
+          (c.answer.ensures.asked c.position-position.result c.position-position.ensures c.in-Some.ensures.first.ripe),
+    )

@@ -1,0 +1,57 @@
+use Rattle.std.proofs.Common.{ℕ, List, refl, sym, ap, subst, ◌∙◌, [], arith, length}
+use Rattle.serving.specs.declared.claims.Claim.{Claim}
+use Rattle.life.specs.Seen.{life_of}
+use Rattle.serving.specs.Resting.{IsFull}
+use Rattle.serving.specs.Seen.{server_of}
+use Rattle.serving.proofs.KeepingEach.{keeps_none}
+use Rattle.serving.proofs.Leading.{serves_none, serves_then}
+use Rattle.serving.proofs.Ripening.{full_at, keeps_quietly, not_full_below, nothing_left, serves_clearing}
+use Rattle.serving.proofs.server.Server.turn_away.Goals as goal
+
+pub returns-then-position-lt-SLOTS-clause-serves : goal.returns-then-position-lt-SLOTS-clause-serves
+returns-then-position-lt-SLOTS-clause-serves g c = serves_none g.S.Stable (server_of c.args.self.now)
+
+pub returns-then-position-lt-SLOTS-clause-each : goal.returns-then-position-lt-SLOTS-clause-each
+returns-then-position-lt-SLOTS-clause-each g c = keeps_none c.args.self.now.waiting c.args.self.now.waiting refl
+
+pub returns-then-position-lt-SLOTS-clause-full : goal.returns-then-position-lt-SLOTS-clause-full
+returns-then-position-lt-SLOTS-clause-full g c =
+    λ full. absurd (not_full_below (life_of c.args.self.now.life).node c.position.result c.position.ensures c.if-position-lt-SLOTS.true full)
+
+pub claims-init : goal.claims-init
+claims-init g c = (
+  serves_none g.S.Stable (server_of c.args.self.now),
+  keeps_none c.args.self.now.waiting c.args.self.now.waiting refl,
+  refl,
+  refl,
+  omega arith,
+)
+
+pub turn_away_next-requires : goal.turn_away_next-requires
+turn_away_next-requires g c =
+    subst (λ l. IsFull (life_of l).node) (sym c.claims.invariant.2)
+    (full_at (life_of c.args.self.now.life).node c.position.result c.position.ensures (omega (arith, c.if-position-lt-SLOTS.false)))
+
+pub returns-in_err-turn_away_next-clause-serves : goal.returns-in_err-turn_away_next-clause-serves
+returns-in_err-turn_away_next-clause-serves g c =
+    serves_then g.S.Stable _ _ _ [] [] [] [] c.claims.invariant.0 c.turn_away_next.ensures.serves
+
+pub claims-preserved : goal.claims-preserved
+claims-preserved g c = (
+  serves_then g.S.Stable _ _ _ [] [] [] [] c.claims.invariant.0 c.turn_away_next.ensures.serves,
+  keeps_quietly _ _ _ c.claims.invariant.1 c.in_ok-turn_away_next.ensures.each,
+  c.turn_away_next.ensures.life ∙ c.claims.invariant.2,
+  c.turn_away_next.ensures.questions ∙ c.claims.invariant.3,
+  omega (arith, c.claims.invariant.4, c.in_ok-turn_away_next.ensures.less),
+)
+
+pub returns-clause-serves : goal.returns-clause-serves
+returns-clause-serves g c =
+    serves_then g.S.Stable _ _ _ [] [] [] [] c.claims.invariant.0 (serves_clearing g.S.Stable _ _ refl refl c.clear.ensures)
+
+pub returns-clause-full : goal.returns-clause-full
+returns-clause-full g c = λ full. (
+  nothing_left _ _ c.claims.counter c.claims.invariant.4
+      (omega (arith, ap {B = ℕ} (λ (cs : List Claim). length cs) c.claims-end.ensures)),
+  c.clear.ensures,
+)
