@@ -156,6 +156,7 @@ fn write_end(end: RoundEnd, line: &mut [u8], from: usize) -> usize
             write_named(b"stopped ", u64::from(member.value()), line, from)
         }
         RoundEnd::TooLow(promised) => {
+            let promised = promised.ballot();
             let start = write_number(u64::from(promised.node), line, from);
             let start = write_byte(b'.', line, start);
             write_named(b"low ", promised.round, line, start)

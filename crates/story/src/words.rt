@@ -189,6 +189,7 @@ pub(crate) fn push_end(text: &mut Vec<u8>, end: RoundEnd) -> io::Result<()>
             write!(text, "node {member} has stopped")
         }
         RoundEnd::TooLow(promised) => {
+            let promised = promised.ballot();
             let (round, node) = (promised.round, promised.node);
             write!(text, "ballot {round}.{node} was promised")
         }

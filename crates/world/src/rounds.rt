@@ -13,7 +13,7 @@ use stable::{Scripted, Stable};
 use std::alloc::Global;
 use synod::{Ballot, Slot};
 use wire::{Envelope, Frame, LastOpened, Message, NodeId};
-use world_model::RoundEnd;
+use world_model::{PackedBallot, RoundEnd};
 
 impl<S: Stable> Inner<S> {
     ghost use Rattle.world.specs.Inner.{inner_of};
@@ -183,7 +183,7 @@ impl<S: Stable> Inner<S> {
             return Ok(Err(RoundEnd::Stopped(down)));
         }
         match refusal {
-            Some(promised) => Ok(Err(RoundEnd::TooLow(promised))),
+            Some(promised) => Ok(Err(RoundEnd::TooLow(PackedBallot::of(promised)))),
             None => Ok(Ok(accepts)),
         }
     }

@@ -8,3 +8,5 @@ pub mod Progress
 pub mod SoundSteps
 pub mod PromisesKept
 pub mod Weaving
+-- a ballot in nine bytes
+pub mod PackedBallotLemmas

@@ -6,6 +6,7 @@ pub mod Memberships
 pub mod Flushing
 pub mod HandedOn
 pub mod Outputs
+pub mod PackedBallots
 pub mod Progress
 pub mod Protocol
 pub mod Reaching

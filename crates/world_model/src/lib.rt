@@ -8,6 +8,7 @@ mod explanation;
 mod laws;
 mod lists;
 mod lives;
+mod packed_ballot;
 mod round_end;
 
 pub use explanation::{one_log_explains, start_keeps_lists, steps_keep_lists};
@@ -20,4 +21,5 @@ pub use lives::{
     a_start_is_a_load, lives_are_a_run, lives_go_on, lives_tell_the_same, one_list_explains_lives,
     reached_worlds_are_safe,
 };
+pub use packed_ballot::PackedBallot;
 pub use round_end::RoundEnd;

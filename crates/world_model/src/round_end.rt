@@ -1,7 +1,8 @@
 //! How a round by hand ends.
 
+use super::packed_ballot::PackedBallot;
 use node_model::NodeFault;
-use synod::{Ballot, Slot};
+use synod::Slot;
 use wire::NodeId;
 
 /// How a round by hand ended.
@@ -19,7 +20,7 @@ pub enum RoundEnd {
     /// A member went down on the way, which ended the round at once.
     Stopped(NodeId),
     /// Some members had promised more. This is the greatest promise that they told.
-    TooLow(Ballot),
+    TooLow(PackedBallot),
     /// All that was sent has come. The slot is the position at which the node began.
     Decided(Slot),
 }

@@ -106,7 +106,7 @@ returns-in-Some-2 g c = record {
 
 -- some refuse
 pub returns-in-Some-refusal : goal.returns-in-Some-refusal
-returns-in-Some-refusal g c = record {
+returns-in-Some-refusal g c = rw c.of.ensures (record {
   goes_on = tt;
   ends = λ old comes.
       let st = scripted g.S.Stable in
@@ -130,7 +130,7 @@ returns-in-Some-refusal g c = record {
   accepts_sent = tt;
   part = tt;
   memory = tt;
-}
+})
 
 -- none refuses
 pub returns-in-None : goal.returns-in-None
