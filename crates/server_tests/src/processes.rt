@@ -20,6 +20,8 @@ struct Process {
     server: Server<RecordFile>,
     post: Post,
     counter: Counter,
+    // How many turns said that more may have come.
+    busy: u64,
 }
 
 impl Process {
@@ -37,6 +39,7 @@ impl Process {
             server: Server::new(alloc, life, id, nodes, Horizon::none(), now),
             post: Post::new(alloc),
             counter: Counter::new(alloc),
+            busy: 0,
         })
     }
 
@@ -46,8 +49,12 @@ impl Process {
             ⟦<Counter as Desk>⟧.Tells (server_of self.old.server) self.old.post self.old.counter (server_of self.new.server)
             self.new.post self.new.counter }
     {
-        self.server
+        let is_busy = self
+            .server
             .turn(alloc, &mut self.post, &mut self.counter, now)?;
+        if is_busy {
+            self.busy = self.busy.saturating_add(1);
+        }
         Ok(())
     }
 }
@@ -165,6 +172,14 @@ impl Trio {
         match self.processes.get(number) {
             Some(Some(process)) => process.counter.told(alloc, connection),
             _ => Ok(Vec::new(alloc)),
+        }
+    }
+
+    /// How many turns of the node's process said that more may have come.
+    pub(crate) fn busy(&self, number: usize) -> u64 {
+        match self.processes.get(number) {
+            Some(Some(process)) => process.busy,
+            _ => 0,
         }
     }
 

@@ -1,6 +1,7 @@
 //! What clients of three processes are told.
 
 use crate::processes::Trio;
+use serving::MOST_IN_A_TURN;
 use std::fs;
 use std::test::Fail;
 
@@ -111,6 +112,31 @@ fn a_node_comes_back_over_its_records(rt: HostRuntime) -> Result<(), Fail> {
         trio.told(alloc, 2, 3)?.as_slice(),
         b"last 7 2\nanswer 2 count 0\n".as_slice()
     );
+    fs::remove_dir_all(&rt, FOLDER)?;
+    Ok(())
+}
+
+#[test]
+fn a_turn_says_whether_more_may_have_come(rt: HostRuntime) -> Result<(), Fail> {
+    const FOLDER: &str = "servers_busy";
+    let alloc = rt.alloc();
+    let mut trio = Trio::start(&rt, FOLDER)?;
+    trio.pass(alloc, 100)?;
+    assert_eq!(rt; trio.busy(1), 0);
+    // As many lines as a turn takes: it can't tell whether there are more.
+    for _ in 0..MOST_IN_A_TURN {
+        trio.write(alloc, 1, 4, "nonsense")?;
+    }
+    trio.pass(alloc, 100)?;
+    assert_eq!(rt; trio.busy(1), 1);
+    // Who was told a reply, or the answer to a query that was held back, may have lines that wait unread.
+    trio.write(alloc, 1, 4, "query count from 1")?;
+    trio.pass(alloc, 100)?;
+    assert_eq!(rt; trio.busy(1), 1);
+    trio.write(alloc, 0, 5, "submit 7 1 remove bus-7")?;
+    trio.pass(alloc, 3_000)?;
+    assert_eq!(rt; trio.busy(0), 1);
+    assert_eq!(rt; trio.busy(1), 2);
     fs::remove_dir_all(&rt, FOLDER)?;
     Ok(())
 }
