@@ -172,37 +172,55 @@ def catch_up(nodes, slots):
         time.sleep(0.005)
 
 
+def time_requests(nodes, etcd, seconds):
+    """Prints the requests a second of both, idle time, and how long a failover takes."""
+    time.sleep(5)
+    for count in (1, 32):
+        ours, theirs = [], []
+        for turn in range(TURNS):
+            ours.append(load([Line(nodes.ports[i % 3], i) for i in range(count)], seconds))
+            if etcd:
+                theirs.append(load([Put(etcd.ports[i % 3], 100 * turn + i) for i in range(count)], seconds))
+        rate = told(f"mfpxd, {count} connections", ours)
+        if etcd:
+            print(f"ratio {rate / told(f'etcd, {count} connections', theirs):.2f}", flush=True)
+    before = [used(it) for it in nodes.running]
+    time.sleep(10)
+    print("idle, processor seconds in 10:", *(f"{used(it) - was:.2f}" for it, was in zip(nodes.running, before)), flush=True)
+    print("failover:", *(f"{it:.0f} ms" for it in fail_over(nodes)), flush=True)
+
+
+def end(cluster):
+    for it in cluster.running:
+        if it:
+            it.kill()
+            it.wait()
+
+
 def main():
     words = argparse.ArgumentParser(description=__doc__, formatter_class=argparse.RawDescriptionHelpFormatter)
     words.add_argument("mfpxd")
     words.add_argument("--seconds", type=float, default=3)
     words.add_argument("--slots", type=int, default=20000)
     given = words.parse_args()
+    program = os.path.abspath(given.mfpxd)
     with tempfile.TemporaryDirectory(dir=os.getcwd()) as folder:
-        nodes = Nodes(os.path.abspath(given.mfpxd), 3, folder)
-        etcd = Etcd(folder) if shutil.which("etcd") else None
+        nodes, etcd = Nodes(program, 3, folder), Etcd(folder) if shutil.which("etcd") else None
+        try:
+            time_requests(nodes, etcd, given.seconds)
+        finally:
+            end(nodes)
+            if etcd:
+                end(etcd)
+    # A log of its own, as 60,000 slots are nearly all of one.
+    with tempfile.TemporaryDirectory(dir=os.getcwd()) as folder:
+        nodes = Nodes(program, 3, folder)
         try:
             time.sleep(5)
-            for count in (1, 32):
-                ours, theirs = [], []
-                for turn in range(TURNS):
-                    ours.append(load([Line(nodes.ports[i % 3], i) for i in range(count)], given.seconds))
-                    if etcd:
-                        theirs.append(load([Put(etcd.ports[i % 3], 100 * turn + i) for i in range(count)], given.seconds))
-                rate = told(f"mfpxd, {count} connections", ours)
-                if etcd:
-                    print(f"ratio {rate / told(f'etcd, {count} connections', theirs):.2f}", flush=True)
-            before = [used(it) for it in nodes.running]
-            time.sleep(10)
-            print("idle, processor seconds in 10:", *(f"{used(it) - was:.2f}" for it, was in zip(nodes.running, before)), flush=True)
-            print("failover:", *(f"{it:.0f} ms" for it in fail_over(nodes)), flush=True)
             seconds, slots = catch_up(nodes, given.slots)
             print(f"a node that was down for {slots} slots caught up in {seconds:.2f} s", flush=True)
         finally:
-            for it in [*nodes.running, *(etcd.running if etcd else [])]:
-                if it:
-                    it.kill()
-                    it.wait()
+            end(nodes)
 
 
 if __name__ == "__main__":
