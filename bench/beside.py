@@ -7,6 +7,7 @@ Prints a row for each FILE as docs/PERFORMANCE.md has them: instructions (callgr
 and peak memory, each as ours, the other's, and their quotient, which is above 1 where ours takes less. Status 1: the two printed
 different bytes for a FILE. It needs valgrind.
 """
+import hashlib
 import os
 import re
 import statistics
@@ -47,7 +48,8 @@ def timed(programs, file):
                 _, status, used = os.wait4(child.pid, 0)
                 child.returncode = os.waitstatus_to_exitcode(status)
                 out.seek(0)
-                printed[i] = (child.returncode, out.read())
+                # (no more of it is held, as a child's peak begins with what this process has)
+                printed[i] = (child.returncode, hashlib.file_digest(out, "sha256").digest())
             seconds[i] = min(seconds[i], used.ru_utime + used.ru_stime)
             megabytes[i] = max(megabytes[i], used.ru_maxrss / 1024)
     return printed, seconds, megabytes
