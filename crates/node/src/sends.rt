@@ -37,9 +37,9 @@ pub fn send_to_all(
     ensures { OnOk result (sends.new.items ≡ sends.old.items ++ to_all from nodes message.now) }
 {
     let last = nodes.count() - 1;
-    let frame = Frame::shared(alloc, from, nodes.node(last), message)?;
+    let frame = Frame::of(alloc, from, nodes.node(last), message)?;
     for value in 0..last {
-        sends.push(frame.to_node(alloc, nodes.node(value))?)?;
+        sends.push(frame.to_node(nodes.node(value))?)?;
     }
     sends.push(frame)?;
     Ok(())
@@ -57,11 +57,11 @@ pub fn send_to_others(
     ensures { OnOk result (sends.new.items
         ≡ sends.old.items ++ filter (λ e. not (has_node set.now e.to)) (to_all from nodes message.now)) }
 {
-    let frame = Frame::shared(alloc, from, from, message)?;
+    let frame = Frame::of(alloc, from, from, message)?;
     for value in 0..nodes.count() {
         let to = nodes.node(value);
         if !set.contains(to) {
-            sends.push(frame.to_node(alloc, to)?)?;
+            sends.push(frame.to_node(to)?)?;
         }
     }
     Ok(())

@@ -3,15 +3,8 @@ use Rattle.std.specs.Prelude.{◌≡◌, ℕ, List, Result, Ok, Err, Option, Som
 use Rattle.wire.specs.FrameReading.{frame_in}
 use Rattle.wire.specs.declared.frames.envelope.Envelope.{Envelope}
 use Rattle.wire.specs.declared.frames.fault.WireFault.{WireFault}
-use Rattle.wire.specs.declared.frames.spelled.Spelled.{Spelled}
-use Rattle.wire.specs.declared.frames.spelled.Spelled.TheVariants.{Alone, Shared}
 use Rattle.wire.specs.declared.frames.message.Message.{Message}
 use Rattle.wire.specs.declared.frames.message.Message.TheVariants.{Accepted, Ask}
-
--- the bytes of a frame, its own or shared
-abbrev pub bytes_in : Spelled → List ℕ
-bytes_in (Alone bytes) = bytes.items
-bytes_in (Shared bytes) = bytes.value.items
 
 -- what was read; where nothing was, a question stands for it
 abbrev pub read_or_ask : Result Envelope WireFault → Envelope

@@ -17,7 +17,6 @@ mod position;
 mod promise;
 mod promise_reader;
 mod records;
-mod spelled;
 mod value_reader;
 mod value_writer;
 

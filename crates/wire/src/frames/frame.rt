@@ -4,7 +4,7 @@ ghost use Rattle.std.specs.Prelude.{◌≡◌, ◌≤◌, Some, IfSome, IfOk, Is
 ghost use Rattle.sessions.specs.declared.command.Command.{Command};
 ghost use Rattle.synod.specs.declared.vote.Vote.{Vote};
 ghost use Rattle.wire.specs.FrameSpelling.{IsFrame, Fits, VoteFits, vote_bytes};
-ghost use Rattle.wire.specs.Framing.{Carries, readdressed, voted_slot};
+ghost use Rattle.wire.specs.Framing.{Carries, envelope_in, readdressed, voted_slot};
 ghost use Rattle.wire.specs.Puts.{TakesMemory};
 ghost use Rattle.wire.specs.declared.frames.message.Message.TheVariants as message;
 
@@ -13,7 +13,6 @@ use super::encoder::{spell, spell_decided};
 use super::envelope::{Envelope, LONGEST_FRAME};
 use super::kind::Kind;
 use super::message::Message;
-use super::spelled::Spelled;
 use super::value_reader::read_slot;
 use crate::{NodeId, Nodes, Slot};
 use fields::Input;
@@ -29,7 +28,7 @@ const RECEIVER: usize = 5;
 /// An envelope on its way. Its bytes were spelled once, for one receiver, and the frames of one message to several nodes share them.
 /// Contracts see the envelope.
 pub struct Frame {
-    spelled: Spelled,
+    spelled: Rc<Vec<u8>>,
     to: NodeId,
 }
 
@@ -44,14 +43,14 @@ impl Drop for Frame {
 impl Model for Frame {
     ghost use Rattle.wire.specs.FrameSpelling.{IsFrame};
     ghost use Rattle.wire.specs.declared.frames.envelope.Envelope.{Envelope};
-    ghost use Rattle.wire.specs.Framing.{bytes_in, envelope_in, readdressed};
+    ghost use Rattle.wire.specs.Framing.{envelope_in, readdressed};
 
     ghost Value = { Envelope };
 
-    ghost view = { λ f. readdressed (envelope_in (bytes_in f.spelled)) f.to };
+    ghost view = { λ f. readdressed (envelope_in f.spelled.value.items) f.to };
 
     // The bytes spell their envelope among the nodes of the largest run.
-    ghost invariant = { λ f. IsFrame 7 (bytes_in f.spelled) (envelope_in (bytes_in f.spelled)) };
+    ghost invariant = { λ f. IsFrame 7 f.spelled.value.items (envelope_in f.spelled.value.items) };
 }
 
 impl Frame {
@@ -65,10 +64,7 @@ impl Frame {
         ensures { IfOk result (λ frame. frame ≡ record { from = from; to = to; message = message.now }) }
     {
         let bytes = spell(alloc, from, to, message)?;
-        Ok(Frame {
-            spelled: Spelled::Alone(bytes),
-            to,
-        })
+        Frame::carrying(alloc, to, bytes)
     }
 
     /// The frame that tells a node what is decided at a slot. The command is only looked at.
@@ -81,32 +77,26 @@ impl Frame {
     ) -> Result<Frame, AllocError>
         ensures { IfOk result (λ frame. frame ≡ record { from = from; to = to; message = message.Decided slot command.now }) }
     {
-        let bytes = spell_decided(alloc, from, to, slot, command)?;
-        let spelled = Spelled::Alone(bytes);
-        Ok(Frame { to, spelled })
+        let decided = spell_decided(alloc, from, to, slot, command)?;
+        Frame::carrying(alloc, to, decided)
     }
 
-    /// The same frame, of a message that goes to other nodes as well: they share its bytes.
-    pub fn shared(
-        alloc: Global,
-        from: NodeId,
-        to: NodeId,
-        message: &Message,
-    ) -> Result<Frame, AllocError>
-        ensures { IfOk result (λ frame. frame ≡ record { from = from; to = to; message = message.now }) }
+    // The frame that carries the bytes of a message to a node.
+    fn carrying(alloc: Global, to: NodeId, bytes: Vec<u8>) -> Result<Frame, AllocError>
+        requires { IsFrame 7 bytes.items (envelope_in bytes.items) }
+        ensures { IfOk result (λ frame. frame ≡ readdressed (envelope_in bytes.items) to) }
     {
-        let bytes = spell(alloc, from, to, message)?;
         Ok(Frame {
-            spelled: Spelled::shared(alloc, bytes)?,
+            spelled: Rc::new(alloc, bytes)?,
             to,
         })
     }
 
-    /// The frame that carries the same message from the same node to another. Nothing is spelled anew.
-    pub fn to_node(&self, alloc: Global, to: NodeId) -> Result<Frame, AllocError>
+    /// The frame that carries the same message from the same node to another. Nothing is spelled anew: they share the bytes.
+    pub fn to_node(&self, to: NodeId) -> Result<Frame, AllocError>
         ensures { IfOk result (λ frame. frame ≡ readdressed self.now to) }
     {
-        let spelled = self.spelled.again(alloc)?;
+        let spelled = self.spelled.clone()?;
         Ok(Frame { spelled, to })
     }
 
@@ -114,7 +104,7 @@ impl Frame {
     pub fn bytes(&self, alloc: Global) -> Result<Vec<u8>, AllocError>
         ensures { IfOk result (λ bytes. IsFrame 7 bytes.items self.now) }
     {
-        let mut bytes = self.spelled.bytes().to_vec(alloc)?;
+        let mut bytes = self.spelled.as_slice().to_vec(alloc)?;
         bytes[RECEIVER] = self.to.value();
         Ok(bytes)
     }
@@ -126,7 +116,7 @@ impl Frame {
         ensures room { vec_capacity buffer.old ≤ vec_capacity buffer.new }
     {
         buffer.clear();
-        let _ = buffer.extend_from_slice(self.spelled.bytes());
+        let _ = buffer.extend_from_slice(self.spelled.as_slice());
         buffer[RECEIVER] = self.to.value();
     }
 
@@ -134,7 +124,7 @@ impl Frame {
     pub fn sender(&self) -> NodeId
         ensures { result ≡ self.now.from }
     {
-        match self.spelled.bytes() {
+        match self.spelled.as_slice() {
             [_, _, _, _, from, ..] => match NodeId::new(*from) {
                 Some(node) => node,
                 None => unreachable!(),
@@ -157,7 +147,7 @@ impl Frame {
     pub fn voted_slot(&self) -> Option<Slot>
         ensures { result ≡ voted_slot self.now.message }
     {
-        match self.spelled.bytes() {
+        match self.spelled.as_slice() {
             [_, _, _, kind, _, _, body @ ..] => {
                 if *kind == Kind::Accepted.byte() {
                     slot_of_vote(body)
@@ -169,11 +159,11 @@ impl Frame {
         }
     }
 
-    /// Its bytes, where it shares them with the frames of the same message to other nodes.
-    pub(super) fn shared_bytes(&self) -> Option<&Rc<Vec<u8>>>
-        ensures { IfSome result (λ bytes. Carries bytes.now.value.items self.now) }
+    /// The bytes that the frames of the same message to other nodes share with it.
+    pub(super) fn spelled(&self) -> &Rc<Vec<u8>>
+        ensures { Carries result.now.value.items self.now }
     {
-        self.spelled.shared_bytes()
+        &self.spelled
     }
 
     /// The envelope, decoded from the bytes.
@@ -182,7 +172,7 @@ impl Frame {
         ensures fits { IfOk result (Fits 7) }
         ensures in_place { ¬ TakesMemory self.now.message → IsOk result }
     {
-        match decode(alloc, self.spelled.bytes(), largest_run()) {
+        match decode(alloc, self.spelled.as_slice(), largest_run()) {
             Ok(mut envelope) => {
                 envelope.to = self.receiver();
                 Ok(envelope)

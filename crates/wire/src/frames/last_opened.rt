@@ -13,19 +13,19 @@ use std::alloc::{AllocError, Global};
 use std::marker::Model;
 use std::rc::Rc;
 
-/// The envelope that was opened last, and its frame's bytes where other frames share them: those that go to further nodes are mostly
-/// opened next, and then nothing is decoded again. Contracts see the envelope.
+/// The envelope that was opened last, and its frame's bytes: the frames of the same message to further nodes are mostly opened next, and
+/// then nothing is decoded again. Contracts see the envelope.
 pub struct LastOpened {
     envelope: Envelope,
-    shared: Option<Rc<Vec<u8>>>,
+    spelled: Option<Rc<Vec<u8>>>,
 }
 
 // By hand, so that a crate that drops one proves nothing of what lies within.
 impl Drop for LastOpened {
     fn drop(self) {
-        let LastOpened { envelope, shared } = self;
+        let LastOpened { envelope, spelled } = self;
         drop(envelope);
-        drop(shared);
+        drop(spelled);
     }
 }
 
@@ -39,7 +39,7 @@ impl Model for LastOpened {
     ghost view = { λ last. last.envelope };
 
     // The bytes that are held carry it.
-    ghost invariant = { λ last. IfSome last.shared (λ bytes. Carries bytes.value.items last.envelope) };
+    ghost invariant = { λ last. IfSome last.spelled (λ spelled. Carries spelled.value.items last.envelope) };
 }
 
 impl LastOpened {
@@ -54,7 +54,7 @@ impl LastOpened {
                     slot: Slot::first(),
                 },
             },
-            shared: None,
+            spelled: None,
         }
     }
 
@@ -77,10 +77,10 @@ impl LastOpened {
     fn readdress(&mut self, frame: &Frame) -> bool
         ensures { IsTrue result → self.new ≡ frame.now }
     {
-        let (Some(held), Some(shared)) = (&self.shared, frame.shared_bytes()) else {
+        let Some(held) = &self.spelled else {
             return false;
         };
-        if held.as_slice() != shared.as_slice() {
+        if held.as_slice() != frame.spelled().as_slice() {
             return false;
         }
         self.envelope.to = frame.receiver();
@@ -94,11 +94,8 @@ impl LastOpened {
     {
         let envelope = frame.open(alloc)?;
         // Where too many share the bytes, they aren't held.
-        let shared = match frame.shared_bytes() {
-            Some(bytes) => bytes.clone().ok(),
-            None => None,
-        };
-        *self = LastOpened { envelope, shared };
+        let spelled = frame.spelled().clone().ok();
+        *self = LastOpened { envelope, spelled };
         Ok(())
     }
 }

@@ -1,8 +1,9 @@
+use Rattle.std.proofs.Common.{rules}
 use Rattle.wire.proofs.FrameSeen.{carries, is_of_what_it_shows}
 use Rattle.wire.proofs.frames.frame.Frame.of.Goals as goal
 
-pub invariant_of-result : goal.invariant_of-result
-invariant_of-result c = is_of_what_it_shows _ _ c.in_ok-bytes.ensures.frame
+pub carrying-requires : goal.carrying-requires
+carrying-requires c = is_of_what_it_shows _ _ c.in_ok-bytes.ensures.frame
 
 pub returns : goal.returns
-returns c = carries _ _ c.in_ok-bytes.ensures.frame
+returns c = search (rules, carries _ _ c.in_ok-bytes.ensures.frame)
