@@ -59,9 +59,12 @@ bare_form = let a = new_app (codes "mfpxview") in record a {
   };
 }
 
+-- with the commands that read one file and write none
+abbrev pub file_forms : App
+file_forms = with_subcommand (with_subcommand bare_form (file_form (codes "why")).top) run_form.top
+
 abbrev pub forms : App
-forms = with_subcommand (with_subcommand (with_subcommand (with_subcommand (with_subcommand bare_form (file_form (codes "why")).top)
-    run_form.top) draw_form.top) map_form.top) audit_form.top
+forms = with_subcommand (with_subcommand (with_subcommand file_forms draw_form.top) map_form.top) audit_form.top
 
 -- ---- what words ask for
 -- the name of the command that was given

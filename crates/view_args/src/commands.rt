@@ -3,7 +3,7 @@
 ghost use Rattle.std.specs.Prelude.{◌≡◌, IfOk, false};
 ghost use Rattle.clap.specs.Words.{app_of, rule_of};
 ghost use Rattle.clap.specs.declared.builder.command.Command.TheViews.{out-Command};
-ghost use Rattle.view_args.specs.Forms.{audit_form, bare_form, draw_form, file_form, flag, forms, map_form, option, output, progress, run_form, transcripts};
+ghost use Rattle.view_args.specs.Forms.{audit_form, bare_form, draw_form, file_form, file_forms, flag, forms, map_form, option, output, progress, run_form, transcripts};
 
 use clap::{Arg, ArgAction, Command};
 use std::alloc::{AllocError, Global};
@@ -12,22 +12,25 @@ use std::alloc::{AllocError, Global};
 pub(crate) fn program<'a>(alloc: Global) -> Result<Command<'a>, AllocError>
     ensures { IfOk result (λ command. app_of command ≡ forms) }
 {
+    file_program(alloc)?
+        .subcommand(draw_command(alloc)?)?
+        .subcommand(map_command(alloc)?)?
+        .subcommand(audit_command(alloc)?)
+}
+
+/// The program with the commands that write no file and read one.
+fn file_program<'a>(alloc: Global) -> Result<Command<'a>, AllocError>
+    ensures { IfOk result (λ command. app_of command ≡ file_forms) }
+{
     let why = file_command(
         alloc,
         "why",
         "What is wrong with a schedule or a document",
         "A schedule; or a document, if its name ends in .json or .mfjson or it begins with {. - is standard input",
     )?;
-    let run = run_command(alloc)?;
-    let draw = draw_command(alloc)?;
-    let map = map_command(alloc)?;
-    let audit = audit_command(alloc)?;
     bare_program(alloc)
         .subcommand(why)?
-        .subcommand(run)?
-        .subcommand(draw)?
-        .subcommand(map)?
-        .subcommand(audit)
+        .subcommand(run_command(alloc)?)
 }
 
 /// The program without its commands.

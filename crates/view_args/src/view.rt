@@ -2,7 +2,7 @@
 
 /// What is to be seen, and of which file. A FILE of `-` is standard input, and an output of `-` standard output. Of the longer ones it is
 /// told on standard error how far they are, where `progress` says so.
-#[derive(Debug, Drop, PartialEq, Eq)]
+#[derive(Debug, Drop)]
 pub enum View<'a> {
     /// What is wrong with a schedule or a document.
     Why {
