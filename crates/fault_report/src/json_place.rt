@@ -24,7 +24,10 @@ impl<'a> Spot<'a> {
 
     /// Whether the value begins with this byte.
     pub(crate) fn begins_with(&self, byte: u8) -> bool {
-        self.text.get(self.at) == Some(&byte)
+        match self.text.get(self.at) {
+            Some(first) => *first == byte,
+            None => false,
+        }
     }
 
     /// Whether the value is written so.

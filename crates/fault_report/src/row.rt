@@ -34,6 +34,9 @@ pub(crate) struct Row {
     pub forms: &'static [Form],
 }
 
+/// The word by which a row is found, how the line is written, and what its words have to be.
+type NamedRow = (&'static str, &'static str, &'static [Form]);
+
 const DELIVER: &[Form] = &[Form::Known, Form::Frame];
 
 const FLUSH: &[Form] = &[Form::Known];
@@ -120,57 +123,55 @@ const GET: &[Form] = &[Form::Known, Form::Node, Form::Known, Form::Id];
 
 const COUNT: &[Form] = &[Form::Known, Form::Node, Form::Known];
 
+/// The lines that are neither submissions nor queries, by their first words.
+const PLAIN_ROWS: &[NamedRow] = &[
+    ("deliver", "deliver K", DELIVER),
+    ("drop", "drop K", DELIVER),
+    ("flush", "flush", FLUSH),
+    ("timeout", "timeout NODE", TICK),
+    ("tick", "tick NODE", TICK),
+    ("checkpoint", "checkpoint NODE", TICK),
+    ("trim", "trim NODE", TICK),
+    ("restart", "restart NODE", TICK),
+    ("fault", "fault NODE HOW", FAULT),
+    ("round", "round NODE NODE ..", ROUND),
+];
+
+/// Submissions, by the word that says of what.
+const SUBMIT_ROWS: &[NamedRow] = &[
+    ("put", "submit NODE CLIENT NUMBER put JSON", PUT),
+    (
+        "append",
+        "submit NODE CLIENT NUMBER append ID DATETIME X Y",
+        APPEND,
+    ),
+    ("remove", "submit NODE CLIENT NUMBER remove ID", REMOVE),
+];
+
+/// Queries, by the word that says for what.
+const QUERY_ROWS: &[NamedRow] = &[
+    ("at", "query NODE at ID DATETIME", AT),
+    ("cut", "query NODE cut ID BEGIN END", CUT),
+    ("ever", "query NODE ever ID BEGIN END X0 Y0 X1 Y1", EVER),
+    ("always", "query NODE always ID BEGIN END X0 Y0 X1 Y1", EVER),
+    ("within", "query NODE within BEGIN END X0 Y0 X1 Y1", WITHIN),
+    ("get", "query NODE get ID", GET),
+    ("count", "query NODE count", COUNT),
+];
+
 /// The row of a line that begins with these words, where there is one.
 pub(crate) fn row_of(words: &[Word<'_>]) -> Option<Row> {
     let first = words.first()?.text;
     match first {
-        b"submit" => submit_row_of(words.get(4)?.text),
-        b"query" => query_row_of(words.get(2)?.text),
-        other => plain_row_of(other),
+        b"submit" => named_row(SUBMIT_ROWS, words.get(4)?.text),
+        b"query" => named_row(QUERY_ROWS, words.get(2)?.text),
+        other => named_row(PLAIN_ROWS, other),
     }
 }
 
-/// The row of a line that begins with this word.
-fn plain_row_of(word: &[u8]) -> Option<Row> {
-    let (usage, forms) = match word {
-        b"deliver" => ("deliver K", DELIVER),
-        b"drop" => ("drop K", DELIVER),
-        b"flush" => ("flush", FLUSH),
-        b"timeout" => ("timeout NODE", TICK),
-        b"tick" => ("tick NODE", TICK),
-        b"checkpoint" => ("checkpoint NODE", TICK),
-        b"trim" => ("trim NODE", TICK),
-        b"restart" => ("restart NODE", TICK),
-        b"fault" => ("fault NODE HOW", FAULT),
-        b"round" => ("round NODE NODE ..", ROUND),
-        _ => return None,
-    };
-    Some(Row { usage, forms })
-}
-
-/// The row of a submission of which this word says what it is.
-fn submit_row_of(word: &[u8]) -> Option<Row> {
-    let (usage, forms) = match word {
-        b"put" => ("submit NODE CLIENT NUMBER put JSON", PUT),
-        b"append" => ("submit NODE CLIENT NUMBER append ID DATETIME X Y", APPEND),
-        b"remove" => ("submit NODE CLIENT NUMBER remove ID", REMOVE),
-        _ => return None,
-    };
-    Some(Row { usage, forms })
-}
-
-/// The row of a query of which this word says what it is.
-fn query_row_of(word: &[u8]) -> Option<Row> {
-    let (usage, forms) = match word {
-        b"at" => ("query NODE at ID DATETIME", AT),
-        b"cut" => ("query NODE cut ID BEGIN END", CUT),
-        b"ever" => ("query NODE ever ID BEGIN END X0 Y0 X1 Y1", EVER),
-        b"always" => ("query NODE always ID BEGIN END X0 Y0 X1 Y1", EVER),
-        b"within" => ("query NODE within BEGIN END X0 Y0 X1 Y1", WITHIN),
-        b"get" => ("query NODE get ID", GET),
-        b"count" => ("query NODE count", COUNT),
-        _ => return None,
-    };
+/// The row of this name.
+fn named_row(rows: &'static [NamedRow], word: &[u8]) -> Option<Row> {
+    let (_, usage, forms) = rows.iter().find(|row| row.0.as_bytes() == word)?;
     Some(Row { usage, forms })
 }
 
