@@ -89,6 +89,23 @@ fn requests_are_handed_on_to_who_leads(rt: HostRuntime) -> Result<(), Fail> {
 }
 
 #[test]
+fn a_node_campaigns_when_its_patience_ends(rt: HostRuntime) -> Result<(), Fail> {
+    const FOLDER: &str = "servers_patience";
+    let alloc = rt.alloc();
+    let mut trio = Trio::start(&rt, FOLDER)?;
+    // Nobody asks for anything.
+    trio.pass(alloc, 5_000)?;
+    assert_eq!(rt; trio.campaigns(), 0);
+    trio.write(alloc, 0, 1, "submit 7 1 remove bus-7")?;
+    trio.pass(alloc, 300)?;
+    assert_eq!(rt; trio.campaigns(), 0);
+    trio.pass(alloc, 10)?;
+    assert_eq!(rt; trio.campaigns(), 1);
+    fs::remove_dir_all(&rt, FOLDER)?;
+    Ok(())
+}
+
+#[test]
 fn a_node_comes_back_over_its_records(rt: HostRuntime) -> Result<(), Fail> {
     const FOLDER: &str = "servers_back";
     let alloc = rt.alloc();
