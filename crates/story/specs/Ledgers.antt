@@ -37,12 +37,13 @@ pub record IsKept (l : Ledger) : Type 0 where
   pub passages : length l.passages.items ≡ (counted l).frames
   pub searched : AreSearched (world_of l.world).waiting (length (world_of l.world).frames) l.lowest
 
--- and all is counted that is there
+-- and all is counted that is there; there is a flag for each frame, too
 pub record IsComplete (l : Ledger) : Type 0 where
   pub lines : BeginInOrder l.lines.items (length l.steps.items)
   pub counts : NeverFall l.steps.items
   pub ends : counted l ≡ counts_of (world_of l.world)
   pub passages : length l.passages.items ≡ length (world_of l.world).frames
+  pub waiting : length (world_of l.world).waiting ≡ length (world_of l.world).frames
 
 -- a run stands where it stood: its lines, its fault and its world are the same
 pub record StandsStill (old new : Ledger) : Type 0 where

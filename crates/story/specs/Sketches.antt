@@ -1,6 +1,6 @@
 -- What a picture of a run shows.
 use Rattle.std.specs.Prelude.{◌≡◌, ℕ, List, Option, length}
-use Rattle.diagram.specs.Pictures.{ShowsAsked}
+use Rattle.diagram.specs.Pictures.{IsWhole, ShowsAsked}
 use Rattle.diagram.specs.declared.scene.Scene.{Scene}
 use Rattle.world.specs.Seen.{world_of}
 use Rattle.story.specs.declared.account.Account.{Account}
@@ -18,6 +18,7 @@ pub record IsSceneOf (l : Ledger) (s : Scene) : Type 0 where
 pub record IsSketched (l : Ledger) (from to : Option ℕ) (text : List ℕ) : Type 0 where
   pub scene : Scene
   pub is : IsSceneOf l scene
+  pub whole : IsWhole scene
   pub shown : ShowsAsked scene from to text
 
 pub record IsSketchOf (l : Ledger) (from to : Option ℕ) (a : Account) : Type 0 where

@@ -19,6 +19,7 @@ returns-in-Ok-clause-complete c =
       counts = falls_noted _ _ s e c.requires.counts within;
       ends = ends_noted _ _ s e ∙ c.count_lists-ends.ensures;
       passages = passages ∙ ap (λ (k : Counts). k.frames) c.count_lists-ends.ensures;
+      waiting = c.requires.searched.one_each;
     }
 
 pub returns-in-Ok-clause-kept : goal.returns-in-Ok-clause-kept
