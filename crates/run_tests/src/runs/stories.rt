@@ -108,6 +108,15 @@ fn a_flush_without_end_names_what_waits(rt: HostRuntime) -> Result<(), Fail> {
 }
 
 #[test]
+fn a_frame_that_was_delivered_came(rt: HostRuntime) -> Result<(), Fail> {
+    let ledger = follow(rt.alloc(), ROUNDS)?;
+    let passages = ledger.passages.as_slice();
+    assert!(rt; passages.first().and_then(|passage| passage.came).is_some());
+    assert!(rt; passages.get(2).and_then(|passage| passage.came).is_none());
+    Ok(())
+}
+
+#[test]
 fn a_round_is_parted_into_its_deliveries(rt: HostRuntime) -> Result<(), Fail> {
     let alloc = rt.alloc();
     let ledger = follow(alloc, b"nodes 3\nsubmit 0 7 1 remove bus-7\nround 0 0 1\n")?;
