@@ -41,6 +41,15 @@ const OBJECTS: &str = "\
 {\"line\":7,\"what\":\"fault\",\"code\":51,\"meaning\":\"no frame of this number was sent\",\"frames\":18,\"waiting\":[]}
 ";
 
+const WELL: &[u8] = b"nodes 3\nquery 0 count\ntimeout 0\n";
+
+const WELL_WORDS: &str = "     1  nodes 3
+     2  query 0 count
+        node 0 answers at position 0: count 0
+     3  timeout 0
+        frames sent: 3, from number 0 on
+";
+
 // One frame of the first campaign came, one was dropped, and the second one's wait.
 const ROUNDS: &[u8] = b"\
 nodes 3
@@ -104,6 +113,13 @@ fn a_flush_without_end_names_what_waits(rt: HostRuntime) -> Result<(), Fail> {
             .as_str()
             .contains("\n        frames that wait: 10000 to 20001\n")
     );
+    Ok(())
+}
+
+#[test]
+fn a_run_that_ends_well_tells_no_fault(rt: HostRuntime) -> Result<(), Fail> {
+    let words = text_of(rt.alloc(), WELL, Form::Words, false)?;
+    assert_eq!(rt; words.as_str(), WELL_WORDS);
     Ok(())
 }
 
