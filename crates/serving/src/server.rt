@@ -3,6 +3,7 @@
 ghost use Rattle.std.specs.Prelude.{◌≡◌, [], OnOk, Result};
 ghost use Rattle.stable.specs.declared.stable.Stable.{Ghosts};
 ghost use Rattle.node_model.specs.declared.fault.NodeFault.{NodeFault};
+ghost use Rattle.node_model.specs.declared.input.Input.TheVariants as input;
 ghost use Rattle.world_model.specs.Lives.{down_over};
 ghost use Rattle.serving.specs.Knowing.{IsPosition};
 ghost use Rattle.serving.specs.Outgoing.{IsArrival, IsRightlySent};
@@ -10,7 +11,7 @@ ghost use Rattle.serving.specs.Owing.{KeepsEachOver};
 ghost use Rattle.serving.specs.Resting.{IsCheckpointed, Rests};
 ghost use Rattle.serving.specs.Serving.{IsServing, PassesOnly, Serves, ServesOver, begun, has_requests};
 ghost use Rattle.serving.specs.Staying.{StaysUp, WasGiven};
-ghost use Rattle.serving.specs.Timings.{IsTimeLeft, first_timing, leader_in};
+ghost use Rattle.serving.specs.Timings.{IsCampaignDue, IsTickDue, IsTimeLeft, campaigned, first_timing, leader_in};
 ghost use Rattle.serving.specs.Turns.{IsOfProcess};
 
 mod answers;
@@ -66,6 +67,7 @@ impl<S: Stable + Drop> Server<S> {
         now: u64,
     ) -> Server<S>
         ensures own { result.own ≡ own }
+        ensures nodes { result.nodes ≡ nodes }
         ensures timing { result.timing ≡ first_timing own horizon now }
         ensures born { (id count : ℕ) (storage : S) → IsBorn S.Stable id count storage (life_of life)
             → (loaded : Result (Unit {0}) NodeFault)
@@ -211,6 +213,11 @@ impl<S: Stable + Drop> Server<S> {
         ensures serves { Serves S.Stable (server_of self.old) [] [] (server_of self.new) }
         ensures waits { self.new.waiting ≡ self.old.waiting }
         ensures stays { OnOk result (StaysUp (life_of self.old.life).node (life_of self.new.life).node) }
+        ensures due { OnOk result (IsCampaignDue position is_asked now self.old.timing
+            → WasGiven S.Stable (life_of self.old.life).node input.Timeout (life_of self.new.life).node
+            × (self.new.timing ≡ campaigned now self.old.timing)) }
+        ensures idle { ¬ IsCampaignDue position is_asked now self.old.timing
+            → (self.new.life ≡ self.old.life) × (self.new.timing ≡ self.old.timing) }
     {
         if !self.timing.is_campaign_due(position, is_asked, now) {
             return Ok(());
@@ -230,6 +237,11 @@ impl<S: Stable + Drop> Server<S> {
         ensures serves { Serves S.Stable (server_of self.old) [] [] (server_of self.new) }
         ensures waits { self.new.waiting ≡ self.old.waiting }
         ensures stays { OnOk result (StaysUp (life_of self.old.life).node (life_of self.new.life).node) }
+        ensures due { OnOk result (IsTickDue position is_asked now self.old.timing
+            → WasGiven S.Stable (life_of self.old.life).node input.Tick (life_of self.new.life).node
+            × (self.new.timing ≡ record self.old.timing { ticked = now })) }
+        ensures idle { ¬ IsTickDue position is_asked now self.old.timing
+            → (self.new.life ≡ self.old.life) × (self.new.timing ≡ self.old.timing) }
     {
         if !self.timing.tick(position, is_asked, now) {
             return Ok(());
@@ -256,6 +268,7 @@ impl<S: Stable + Drop> Server<S> {
     fn give(&mut self, alloc: Global, input: Input) -> Result<(), TurnFault>
         requires { IsOfProcess input }
         ensures gives { OnOk result (WasGiven S.Stable (life_of self.old.life).node input (life_of self.new.life).node) }
+        ensures knows { self.new.timing ≡ self.old.timing }
         ensures serves { Serves S.Stable (server_of self.old) [] [] (server_of self.new) }
         ensures waits { self.new.waiting ≡ self.old.waiting }
         ensures stays { OnOk result (StaysUp (life_of self.old.life).node (life_of self.new.life).node) }

@@ -1,6 +1,6 @@
 //! What the clients of a process write.
 
-ghost use Rattle.std.specs.Prelude.{◌≡◌, ◌∷◌, [], OnOk};
+ghost use Rattle.std.specs.Prelude.{◌≡◌, ◌∷◌, [], OnOk, length, min};
 ghost use Rattle.clients.specs.AnswerLines.{answer_line};
 ghost use Rattle.clients.specs.ClientLines.{IsClientFault, IsClientLine};
 ghost use Rattle.clients.specs.declared.line.ClientLine.TheVariants as client_line;
@@ -10,6 +10,7 @@ ghost use Rattle.serving.specs.Serving.{Serves, ServesClients};
 ghost use Rattle.serving.specs.Staying.{StaysUp};
 ghost use Rattle.serving.specs.Submitting.{IsSubmitted};
 ghost use Rattle.serving.specs.Tapes.{Heard, heard};
+ghost use Rattle.serving.specs.Timings.{leader_in};
 ghost use Rattle.serving.specs.Turns.{IsPlain, first_position};
 
 use super::arrivals::input_of;
@@ -220,7 +221,11 @@ impl<S: Stable + Drop> Server<S> {
 
     // How far the node is.
     fn status(&self) -> Status
-        ensures { IsPosition (life_of self.now.life).node result.position }
+        ensures position { IsPosition (life_of self.now.life).node result.position }
+        ensures node { result.node ≡ self.now.own }
+        ensures horizon { result.horizon ≡ self.now.timing.horizon }
+        ensures leader { result.leader ≡ leader_in self.now.timing }
+        ensures waiting { result.waiting ≡ min 255 (length self.now.requests) }
     {
         Status {
             node: self.own.value(),

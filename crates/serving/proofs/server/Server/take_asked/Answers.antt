@@ -17,7 +17,7 @@ ask-requires g c =
 
 pub owe-requires : goal.owe-requires
 owe-requires g c =
-    status (life_of c.args.self.now.life).node c.status-status.result refl c.status-status.ensures (just_written c.args.connection c.args.text.now client_line.Status
+    status (life_of c.args.self.now.life).node c.status-status.result refl c.status-status.ensures.position (just_written c.args.connection c.args.text.now client_line.Status
     (subst (λ (a : ClientLine). IsClientLine c.args.text.now a) c.in-Status.is c.requires)) refl
 
 pub owe-requires-in-Last : goal.owe-requires-in-Last
